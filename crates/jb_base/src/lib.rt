@@ -1,13 +1,30 @@
-// A library with one function.
+//! What every layer of the board speaks of: byte strings, names, numbers in files, subfields, users, the rules of an
+//! area, and the limits of the JAM message base proposal (revision 1) and of this board.
+//!
+//! The layers above may rely on these: a [`Bytes`] is seen by contracts as a list of bytes, a [`Name`] likewise; numbers
+//! in files are little-endian (JAM, "Data types"); want of memory is [`OutOfMemory`] and is merged with no other answer.
 #![tactic(auto)]
 
-ghost use Rattle.std.specs.Prelude.{◌≡◌};
-ghost use Rattle.jb_base.specs.Echo.{echo_of};
+mod area;
+mod bytes;
+mod limits;
+mod memory;
+mod name;
+mod number;
+mod subfield;
+mod user;
 
-// The `ensures` clause is the contract: what `echo` returns is `echo_of` of its argument, a definition
-// in `specs/Echo.antt`, which a caller's clause can cite too.
-pub fn echo(x: usize) -> usize
-    ensures { result ≡ echo_of x }
-{
-    x
-}
+pub use area::{AreaRules, Kind, Rule};
+pub use bytes::Bytes;
+pub use limits::{
+    HEADERS_CEILING, INDEX_CEILING, JOURNAL_CEILING, LAST_POSTED_NUMBER, LASTREAD_CEILING,
+    MOST_ADDRESS_BYTES, MOST_AREAS, MOST_COPIED_MSGID_BYTES, MOST_LINE_BYTES, MOST_MARKS,
+    MOST_NAME_BYTES, MOST_NODES, MOST_POSTED_TEXT_BYTES, MOST_SESSION_BYTES, MOST_SLOTS,
+    MOST_SLOTS_TOGETHER, MOST_SUBFIELD_BYTES, MOST_SUBJECT_BYTES, MOST_TEXT_BYTES, MOST_USERS,
+    SHADOW_CEILING, TEXTS_CEILING,
+};
+pub use memory::OutOfMemory;
+pub use name::Name;
+pub use number::{get_u16, get_u32, put_u16, put_u32};
+pub use subfield::Subfield;
+pub use user::User;
