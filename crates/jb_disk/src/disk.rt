@@ -1,0 +1,53 @@
+//! The trait of a device with six files.
+ghost use Rattle.std.specs.Prelude.{◌≡◌, ◌+◌, ◌≤◌, length, take, drop, IfOk, OnOk};
+ghost use Rattle.std.specs.Option.{ForSome, option_map};
+ghost use Rattle.jb_disk.specs.Files.{ceiling_of, written};
+ghost use Rattle.jb_disk.specs.Device.{Device, OnlyReads, Tears, Resizes, Syncs, IsPast, FailsBy, TellsAnImage};
+
+use crate::FileId;
+
+/// The device did not do it. Where that was no call past a file's end, its count of faults rose.
+#[derive(Clone, Copy, Debug, PartialEq, Eq)]
+pub struct DiskFailed;
+
+/// Six files that are read, written, resized and synced. No call waits, and none takes memory of its caller.
+pub trait Disk {
+    /// Its count of faults, and where it tells them what the files hold and what a crash may leave.
+    ghost device: { Self → Device };
+
+    /// The length of a file in bytes; a file that is not there has length 0.
+    fn len(&mut self, file: FileId) -> Result<u64, DiskFailed>
+        ensures found { IfOk result (λ len. ForSome (device self.old).contents (λ files. len ≡ length (files file))) }
+        ensures kept { OnlyReads (device self.old) (device self.new) }
+        ensures cause { FailsBy ⊥ (device self.old) (device self.new) result };
+
+    /// Fills the slice with the bytes from a place on. A read past the end is refused.
+    fn read_at(&mut self, file: FileId, at: u64, into: &mut [u8]) -> Result<(), DiskFailed>
+        ensures found { OnOk result (ForSome (device self.old).contents (λ files.
+            into.new ≡ take (length into.old) (drop at (files file)))) }
+        ensures kept { OnlyReads (device self.old) (device self.new) }
+        ensures cause { FailsBy (IsPast (device self.old).contents file (at + length into.old)) (device self.old) (device self.new) result };
+
+    /// Writes over what is there. A write past the end is refused and changes nothing. Until a sync of this file a crash
+    /// may leave any bytes in the range.
+    fn write_at(&mut self, file: FileId, at: u64, bytes: &[u8]) -> Result<(), DiskFailed>
+        ensures ok { OnOk result ((device self.new).contents ≡ option_map (written file at bytes.now) (device self.old).contents) }
+        ensures changed { Tears file at (length bytes.now) (device self.old) (device self.new) }
+        ensures past { IsPast (device self.old).contents file (at + length bytes.now) → OnlyReads (device self.old) (device self.new) }
+        ensures cause { FailsBy (IsPast (device self.old).contents file (at + length bytes.now)) (device self.old) (device self.new) result };
+
+    /// Sets a file's length. Which bytes a growth brings is left open. Until a sync a crash may leave any length between,
+    /// and any bytes at or past the lesser one.
+    fn set_len(&mut self, file: FileId, len: u64) -> Result<(), DiskFailed>
+        requires { len ≤ ceiling_of file }
+        ensures changed { Resizes file len (device self.old) (device self.new) result }
+        ensures cause { FailsBy ⊥ (device self.old) (device self.new) result };
+
+    /// Makes a file durable: from here on a crash leaves of it what a read gives.
+    fn sync(&mut self, file: FileId) -> Result<(), DiskFailed>
+        ensures changed { Syncs file (device self.old) (device self.new) result }
+        ensures cause { FailsBy ⊥ (device self.old) (device self.new) result };
+
+    /// What is read now is one of the images, and a disk that tells images tells its contents.
+    ghost told: { (disk : Self) → TellsAnImage (device disk) };
+}

@@ -1,0 +1,12 @@
+//! The six files of an area as a device: what a read gives, and what a crash may leave.
+//!
+//! The layers above are generic over [`Disk`] and are proved once. A disk may tell what its files hold and what a crash at
+//! each moment may leave ([`MemDisk`] does), or tell nothing, as one over real files must; every clause on contents and
+//! crashes holds where the disk tells, every clause on faults always.
+#![tactic(auto)]
+
+mod disk;
+mod file;
+
+pub use disk::{Disk, DiskFailed};
+pub use file::FileId;
