@@ -14,4 +14,4 @@ mod signature;
 pub use fixed::{FIXED_HEADER_BYTES, FixedHeader, RESERVED_BYTES, decode_fixed, encode_fixed};
 pub use index::{EMPTY_SLOT, INDEX_RECORD_BYTES, IndexRecord, decode_index, encode_index};
 pub use lastread::{MARK_RECORD_BYTES, MarkRecord, decode_mark, encode_mark};
-pub use message::{MESSAGE_HEADER_BYTES, MessageHeader, REVISION, decode_message};
+pub use message::{MESSAGE_HEADER_BYTES, MessageHeader, REVISION, decode_message, encode_message};

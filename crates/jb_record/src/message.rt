@@ -1,7 +1,7 @@
 //! The message header (JAM, "Message header").
 ghost use Rattle.std.specs.Prelude.{◌≡◌, ◌↔◌, IsSome, IfSome};
 
-use crate::signature::is_signed;
+use crate::signature::{is_signed, SIGNATURE};
 use jb_base::{get_u16, get_u32, put_u16, put_u32};
 
 /// Bytes of a message header, without its subfields.
@@ -72,4 +72,33 @@ pub fn decode_message(bytes: &[u8]) -> Option<MessageHeader>
         password: get_u32(bytes, 68),
         cost: get_u32(bytes, 72),
     })
+}
+
+/// The bytes of a message header.
+#[tactic(auto, unfolding(crate::specs::Message::message_header_bytes))]
+pub fn encode_message(value: &MessageHeader) -> [u8; 76]
+    ensures { result ≡ message_header_bytes value.now }
+{
+    let mut bytes = [0; MESSAGE_HEADER_BYTES];
+    bytes[..4].copy_from_slice(&SIGNATURE);
+    put_u16(&mut bytes, 4, REVISION);
+    put_u16(&mut bytes, 6, value.reserved);
+    put_u32(&mut bytes, 8, value.subfields);
+    put_u32(&mut bytes, 12, value.times_read);
+    put_u32(&mut bytes, 16, value.msgid_crc);
+    put_u32(&mut bytes, 20, value.reply_crc);
+    put_u32(&mut bytes, 24, value.reply_to);
+    put_u32(&mut bytes, 28, value.reply_first);
+    put_u32(&mut bytes, 32, value.reply_next);
+    put_u32(&mut bytes, 36, value.written);
+    put_u32(&mut bytes, 40, value.received);
+    put_u32(&mut bytes, 44, value.processed);
+    put_u32(&mut bytes, 48, value.number);
+    put_u32(&mut bytes, 52, value.attribute);
+    put_u32(&mut bytes, 56, value.attribute2);
+    put_u32(&mut bytes, 60, value.offset);
+    put_u32(&mut bytes, 64, value.text_len);
+    put_u32(&mut bytes, 68, value.password);
+    put_u32(&mut bytes, 72, value.cost);
+    bytes
 }
