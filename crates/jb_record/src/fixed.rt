@@ -21,12 +21,13 @@ pub struct FixedHeader {
     pub reserved: [u8; 1000],
 }
 
-ghost use Rattle.jb_record.specs.Fixed.{fixed_header_bytes, IsFixedHeader};
+ghost use Rattle.jb_record.specs.Fixed.{FitsFixedHeader, fixed_header_of, fixed_header_bytes, IsFixedHeader};
 
 /// The header of which these are the bytes; `None` exactly where there are not 1,024 of them, or the signature is another.
-#[tactic(auto, unfolding(crate::specs::Fixed::fixed_header_bytes))]
+#[tactic(auto, unfolding(crate::specs::Fixed::fixed_header_of, crate::specs::Fixed::fixed_header_bytes))]
 pub fn decode_fixed(bytes: &[u8]) -> Option<FixedHeader>
-    ensures found { IfSome result (λ header. bytes.now ≡ fixed_header_bytes header) }
+    ensures found { IfSome result (λ header. header ≡ fixed_header_of bytes.now) }
+    ensures spelled { IfSome result (λ header. bytes.now ≡ fixed_header_bytes header) }
     ensures some { IsSome result ↔ IsFixedHeader bytes.now }
 {
     if bytes.len() != FIXED_HEADER_BYTES {
@@ -47,10 +48,18 @@ pub fn decode_fixed(bytes: &[u8]) -> Option<FixedHeader>
     })
 }
 
-/// The bytes of a fixed header.
-#[tactic(auto, unfolding(crate::specs::Fixed::fixed_header_bytes))]
+/// The bytes of a fixed header; read again they give the same value.
 pub fn encode_fixed(value: &FixedHeader) -> [u8; 1024]
-    ensures { result ≡ fixed_header_bytes value.now }
+    ensures exact { result ≡ fixed_header_bytes value.now }
+    ensures back { fixed_header_of result ≡ value.now }
+{
+    spell(value)
+}
+
+#[tactic(auto, unfolding(crate::specs::Fixed::fixed_header_bytes))]
+fn spell(value: &FixedHeader) -> [u8; 1024]
+    ensures exact { result ≡ fixed_header_bytes value.now }
+    ensures fits { FitsFixedHeader value.now }
 {
     let mut bytes = [0; FIXED_HEADER_BYTES];
     bytes[..4].copy_from_slice(&SIGNATURE);

@@ -15,12 +15,13 @@ pub struct IndexRecord {
     pub offset: u32,
 }
 
-ghost use Rattle.jb_record.specs.Index.{index_record_bytes};
+ghost use Rattle.jb_record.specs.Index.{FitsIndexRecord, index_record_of, index_record_bytes};
 
 /// The record of which these are the bytes; `None` exactly where there are not 8 of them.
-#[tactic(auto, unfolding(crate::specs::Index::index_record_bytes))]
+#[tactic(auto, unfolding(crate::specs::Index::index_record_of, crate::specs::Index::index_record_bytes))]
 pub fn decode_index(bytes: &[u8]) -> Option<IndexRecord>
-    ensures found { IfSome result (λ entry. bytes.now ≡ index_record_bytes entry) }
+    ensures found { IfSome result (λ entry. entry ≡ index_record_of bytes.now) }
+    ensures spelled { IfSome result (λ entry. bytes.now ≡ index_record_bytes entry) }
     ensures some { IsSome result ↔ (length bytes.now ≡ 8) }
 {
     if bytes.len() != INDEX_RECORD_BYTES {
@@ -32,10 +33,18 @@ pub fn decode_index(bytes: &[u8]) -> Option<IndexRecord>
     })
 }
 
-/// The bytes of an index record.
-#[tactic(auto, unfolding(crate::specs::Index::index_record_bytes))]
+/// The bytes of an index record; read again they give the same value.
 pub fn encode_index(value: &IndexRecord) -> [u8; 8]
-    ensures { result ≡ index_record_bytes value.now }
+    ensures exact { result ≡ index_record_bytes value.now }
+    ensures back { index_record_of result ≡ value.now }
+{
+    spell(value)
+}
+
+#[tactic(auto, unfolding(crate::specs::Index::index_record_bytes))]
+fn spell(value: &IndexRecord) -> [u8; 8]
+    ensures exact { result ≡ index_record_bytes value.now }
+    ensures fits { FitsIndexRecord value.now }
 {
     let mut bytes = [0; 8];
     put_u32(&mut bytes, 0, value.user_crc);

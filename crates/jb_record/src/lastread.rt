@@ -15,12 +15,13 @@ pub struct MarkRecord {
     pub high: u32,
 }
 
-ghost use Rattle.jb_record.specs.Lastread.{lastread_record_bytes};
+ghost use Rattle.jb_record.specs.Lastread.{FitsMarkRecord, lastread_record_of, lastread_record_bytes};
 
 /// The record of which these are the bytes; `None` exactly where there are not 16 of them.
-#[tactic(auto, unfolding(crate::specs::Lastread::lastread_record_bytes))]
+#[tactic(auto, unfolding(crate::specs::Lastread::lastread_record_of, crate::specs::Lastread::lastread_record_bytes))]
 pub fn decode_mark(bytes: &[u8]) -> Option<MarkRecord>
-    ensures found { IfSome result (λ mark. bytes.now ≡ lastread_record_bytes mark) }
+    ensures found { IfSome result (λ mark. mark ≡ lastread_record_of bytes.now) }
+    ensures spelled { IfSome result (λ mark. bytes.now ≡ lastread_record_bytes mark) }
     ensures some { IsSome result ↔ (length bytes.now ≡ 16) }
 {
     if bytes.len() != MARK_RECORD_BYTES {
@@ -34,10 +35,18 @@ pub fn decode_mark(bytes: &[u8]) -> Option<MarkRecord>
     })
 }
 
-/// The bytes of a lastread record.
-#[tactic(auto, unfolding(crate::specs::Lastread::lastread_record_bytes))]
+/// The bytes of a lastread record; read again they give the same value.
 pub fn encode_mark(value: &MarkRecord) -> [u8; 16]
-    ensures { result ≡ lastread_record_bytes value.now }
+    ensures exact { result ≡ lastread_record_bytes value.now }
+    ensures back { lastread_record_of result ≡ value.now }
+{
+    spell(value)
+}
+
+#[tactic(auto, unfolding(crate::specs::Lastread::lastread_record_bytes))]
+fn spell(value: &MarkRecord) -> [u8; 16]
+    ensures exact { result ≡ lastread_record_bytes value.now }
+    ensures fits { FitsMarkRecord value.now }
 {
     let mut bytes = [0; 16];
     put_u32(&mut bytes, 0, value.user_crc);

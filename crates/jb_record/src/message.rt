@@ -1,7 +1,7 @@
 //! The message header (JAM, "Message header").
 ghost use Rattle.std.specs.Prelude.{◌≡◌, ◌↔◌, IsSome, IfSome};
 
-use crate::signature::{is_signed, SIGNATURE};
+use crate::signature::{SIGNATURE, is_signed};
 use jb_base::{get_u16, get_u32, put_u16, put_u32};
 
 /// Bytes of a message header, without its subfields.
@@ -34,13 +34,14 @@ pub struct MessageHeader {
     pub cost: u32,
 }
 
-ghost use Rattle.jb_record.specs.Message.{message_header_bytes, IsMessageHeader};
+ghost use Rattle.jb_record.specs.Message.{FitsMessageHeader, message_header_of, message_header_bytes, IsMessageHeader};
 
 /// The header of which these are the bytes; `None` exactly where there are not 76 of them, the signature is another, or the
 /// Revision is not 1.
-#[tactic(auto, unfolding(crate::specs::Message::message_header_bytes))]
+#[tactic(auto, unfolding(crate::specs::Message::message_header_of, crate::specs::Message::message_header_bytes))]
 pub fn decode_message(bytes: &[u8]) -> Option<MessageHeader>
-    ensures found { IfSome result (λ header. bytes.now ≡ message_header_bytes header) }
+    ensures found { IfSome result (λ header. header ≡ message_header_of bytes.now) }
+    ensures spelled { IfSome result (λ header. bytes.now ≡ message_header_bytes header) }
     ensures some { IsSome result ↔ IsMessageHeader bytes.now }
 {
     if bytes.len() != MESSAGE_HEADER_BYTES {
@@ -74,10 +75,18 @@ pub fn decode_message(bytes: &[u8]) -> Option<MessageHeader>
     })
 }
 
-/// The bytes of a message header.
-#[tactic(auto, unfolding(crate::specs::Message::message_header_bytes))]
+/// The bytes of a message header; read again they give the same value.
 pub fn encode_message(value: &MessageHeader) -> [u8; 76]
-    ensures { result ≡ message_header_bytes value.now }
+    ensures exact { result ≡ message_header_bytes value.now }
+    ensures back { message_header_of result ≡ value.now }
+{
+    spell(value)
+}
+
+#[tactic(auto, unfolding(crate::specs::Message::message_header_bytes))]
+fn spell(value: &MessageHeader) -> [u8; 76]
+    ensures exact { result ≡ message_header_bytes value.now }
+    ensures fits { FitsMessageHeader value.now }
 {
     let mut bytes = [0; MESSAGE_HEADER_BYTES];
     bytes[..4].copy_from_slice(&SIGNATURE);

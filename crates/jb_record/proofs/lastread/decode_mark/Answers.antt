@@ -4,8 +4,8 @@ use Rattle.jb_record.specs.Lastread.{lastread_record_bytes}
 use Rattle.jb_record.proofs.Spelled.{spelled_whole}
 use Rattle.jb_record.proofs.lastread.decode_mark.Goals as goal
 
-pub returns-clause-found : goal.returns-clause-found
+pub returns-clause-spelled : goal.returns-clause-spelled
 unfolding lastread_record_bytes
-returns-clause-found c =
+returns-clause-spelled c =
     spelled_whole (ulong c.get_u32.result ∷ ulong c.get_u32-2.result ∷ ulong c.get_u32-3.result ∷ ulong c.get_u32-4.result ∷ []) c.args.bytes.now (λ k. (c.type_inv.bytes k).fits)
     (c.get_u32.ensures, (c.get_u32-2.ensures, (c.get_u32-3.ensures, (c.get_u32-4.ensures, tt)))) c.if-bytes-ne-MARK_RECORD_BYTES.false

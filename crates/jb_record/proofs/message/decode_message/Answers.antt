@@ -1,14 +1,37 @@
 use Rattle.std.proofs.Common.{[], ◌∷◌, rules}
 use Rattle.jb_record.specs.Fields.{ushort, ulong, signature}
-use Rattle.jb_record.specs.Message.{message_header_bytes}
+use Rattle.jb_record.specs.Message.{message_header_of, message_header_bytes}
 use Rattle.jb_record.proofs.Spelled.{spelled_all}
 use Rattle.jb_record.proofs.message.decode_message.Goals as goal
 
-pub returns-clause-found : goal.returns-clause-found
+pub returns-clause-spelled : goal.returns-clause-spelled
 unfolding message_header_bytes
-returns-clause-found c =
+returns-clause-spelled c =
     let fields =
     ushort 1 ∷ ushort c.get_u16-2.result ∷ ulong c.get_u32.result ∷ ulong c.get_u32-2.result ∷ ulong c.get_u32-3.result ∷ ulong c.get_u32-4.result ∷ ulong c.get_u32-5.result ∷ ulong c.get_u32-6.result ∷ ulong c.get_u32-7.result ∷ ulong c.get_u32-8.result ∷ ulong c.get_u32-9.result ∷ ulong c.get_u32-10.result ∷ ulong c.get_u32-11.result ∷ ulong c.get_u32-12.result ∷ ulong c.get_u32-13.result ∷ ulong c.get_u32-14.result ∷ ulong c.get_u32-15.result ∷ ulong c.get_u32-16.result ∷ ulong c.get_u32-17.result ∷ [] in
     spelled_all signature fields c.args.bytes.now (λ k. (c.type_inv.bytes k).fits) (search rules)
     (search rules, (c.get_u16-2.ensures, (c.get_u32.ensures, (c.get_u32-2.ensures, (c.get_u32-3.ensures, (c.get_u32-4.ensures, (c.get_u32-5.ensures, (c.get_u32-6.ensures, (c.get_u32-7.ensures, (c.get_u32-8.ensures, (c.get_u32-9.ensures, (c.get_u32-10.ensures, (c.get_u32-11.ensures, (c.get_u32-12.ensures, (c.get_u32-13.ensures, (c.get_u32-14.ensures, (c.get_u32-15.ensures, (c.get_u32-16.ensures, (c.get_u32-17.ensures, tt)))))))))))))))))))
     c.if-bytes-ne-MESSAGE_HEADER_BYTES.false
+
+pub returns-clause-found : goal.returns-clause-found
+unfolding message_header_of
+returns-clause-found c = λ i. record {
+  reserved = c.get_u16-2.ensures i;
+  subfields = c.get_u32.ensures i;
+  times_read = c.get_u32-2.ensures i;
+  msgid_crc = c.get_u32-3.ensures i;
+  reply_crc = c.get_u32-4.ensures i;
+  reply_to = c.get_u32-5.ensures i;
+  reply_first = c.get_u32-6.ensures i;
+  reply_next = c.get_u32-7.ensures i;
+  written = c.get_u32-8.ensures i;
+  received = c.get_u32-9.ensures i;
+  processed = c.get_u32-10.ensures i;
+  number = c.get_u32-11.ensures i;
+  attribute = c.get_u32-12.ensures i;
+  attribute2 = c.get_u32-13.ensures i;
+  offset = c.get_u32-14.ensures i;
+  text_len = c.get_u32-15.ensures i;
+  password = c.get_u32-16.ensures i;
+  cost = c.get_u32-17.ensures i;
+}
