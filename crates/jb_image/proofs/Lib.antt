@@ -1,0 +1,2 @@
+pub mod CompactLemmas
+pub mod SlotsSoFar

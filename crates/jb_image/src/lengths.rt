@@ -1,0 +1,37 @@
+//! The lengths of an area's files.
+ghost use Rattle.std.specs.Prelude.{◌≤◌, IfOk, IfErr};
+ghost use Rattle.std.specs.Option.{ForSome};
+ghost use Rattle.jb_disk.specs.Device.{OnlyReads};
+ghost use Rattle.jb_image.specs.Answers.{FaultRose};
+ghost use Rattle.jb_image.specs.Lengths.{AreLengths};
+
+use crate::error::ReadError;
+use jb_disk::{Disk, FileId};
+
+/// How many bytes the files have.
+#[derive(Clone, Copy, Debug)]
+pub(crate) struct Lengths {
+    pub(crate) headers: u64,
+    pub(crate) texts: u64,
+    pub(crate) index: u64,
+    pub(crate) lastread: u64,
+    pub(crate) journal: u64,
+}
+
+impl Lengths {
+    /// Asks the disk for all of them.
+    pub(crate) fn of<D: Disk>(disk: &mut D) -> Result<Lengths, ReadError>
+        ensures found { IfOk result (λ lengths. ForSome (D.device disk.old).contents (AreLengths lengths)) }
+        ensures kept { OnlyReads (D.device disk.old) (D.device disk.new) }
+        ensures later { (D.device disk.old).faults ≤ (D.device disk.new).faults }
+        ensures cause { IfErr result (FaultRose (D.device disk.old).faults (D.device disk.new).faults) }
+    {
+        Ok(Lengths {
+            headers: disk.len(FileId::Jhr)?,
+            texts: disk.len(FileId::Jdt)?,
+            index: disk.len(FileId::Jdx)?,
+            lastread: disk.len(FileId::Jlr)?,
+            journal: disk.len(FileId::Jnl)?,
+        })
+    }
+}
