@@ -1,11 +1,12 @@
 -- The subfields of a message header, as bytes: LoID, HiID and length of the data, then the data (JAM, "SubFields").
-use Rattle.std.specs.Prelude.{◌≡◌, ℕ, ◌^◌, ◌<◌, List, [], ◌∷◌, ◌++◌, length, take, drop}
+use Rattle.std.specs.Prelude.{◌≡◌, ℕ, ◌^◌, ◌<◌, List, [], ◌∷◌, ◌++◌, length, take, drop, All}
 use Rattle.jb_base.specs.Number.{number_bytes}
 use Rattle.jb_base.specs.declared.subfield.Subfield.{Subfield}
 
 -- the bytes of one subfield
 abbrev pub one_subfield : Subfield → List ℕ
-one_subfield field = number_bytes 2 field.id ++ number_bytes 2 field.hi ++ number_bytes 4 (length field.bytes) ++ field.bytes
+one_subfield field =
+    number_bytes 2 field.id ++ number_bytes 2 field.hi ++ number_bytes 4 (length field.bytes) ++ field.bytes
 
 -- the bytes of subfields, one after another
 abbrev pub subfield_bytes : List Subfield → List ℕ
@@ -18,9 +19,10 @@ pub record IsSubfield (field : Subfield) : Type 0 where
   pub hi : field.hi < 2 ^ 16
   pub size : length field.bytes < 2 ^ 32
 
--- these subfields have these bytes
-abbrev pub IsSubfieldList : List Subfield → List ℕ → Type 0
-IsSubfieldList fields bytes = subfield_bytes fields ≡ bytes
+-- these are subfields, and these are their bytes
+pub record IsSubfieldList (fields : List Subfield) (bytes : List ℕ) : Type 0 where
+  pub each : All IsSubfield fields
+  pub spelled : subfield_bytes fields ≡ bytes
 
 -- the bytes before this place belong to a list, bytes remain, and no beginning of them is one subfield
 pub record IsCutAt (bytes : List ℕ) (at : ℕ) : Type 0 where
