@@ -1,0 +1,5 @@
+pub mod Fields
+pub mod Fixed
+pub mod Index
+pub mod Lastread
+pub mod Message
