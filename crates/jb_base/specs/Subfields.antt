@@ -1,5 +1,6 @@
 -- The subfields of a message header, as bytes: LoID, HiID and length of the data, then the data (JAM, "SubFields").
-use Rattle.std.specs.Prelude.{◌≡◌, ℕ, ◌^◌, ◌<◌, List, [], ◌∷◌, ◌++◌, length, take, drop, All}
+use Rattle.std.specs.Prelude.{◌≡◌, ℕ, ◌^◌, ◌<◌, List, [], ◌∷◌, ◌++◌, length, take, drop, All, Option, find, ◌==◌}
+use Rattle.std.specs.Option.{option_map}
 use Rattle.jb_base.specs.Number.{number_bytes}
 use Rattle.jb_base.specs.declared.subfield.Subfield.{Subfield}
 
@@ -30,3 +31,7 @@ pub record IsCutAt (bytes : List ℕ) (at : ℕ) : Type 0 where
   pub before : IsSubfieldList fields (take at bytes)
   pub remain : at < length bytes
   pub cut : (field : Subfield) (rest : List ℕ) → IsSubfield field → drop at bytes ≡ one_subfield field ++ rest → ⊥
+
+-- the data of the first subfield with this LoID
+abbrev pub first_of : ℕ → List Subfield → Option (List ℕ)
+first_of id fields = option_map (λ field. field.bytes) (find (λ field. field.id == id) fields)

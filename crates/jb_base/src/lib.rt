@@ -26,5 +26,5 @@ pub use limits::{
 pub use memory::OutOfMemory;
 pub use name::Name;
 pub use number::{get_u16, get_u32, put_u16, put_u32};
-pub use subfield::Subfield;
+pub use subfield::{MSGID, RECEIVER_NAME, REPLYID, SENDER_NAME, SUBJECT, Subfield, Subfields};
 pub use user::User;

@@ -1,5 +1,5 @@
 //! Numbers in files: two or four bytes, the lowest first (JAM, "Data types").
-ghost use Rattle.std.specs.Prelude.{◌≡◌, ◌+◌, ◌≤◌, ◌++◌, length, take, drop};
+ghost use Rattle.std.specs.Prelude.{◌≡◌, ◌+◌, ◌^◌, ◌<◌, ◌≤◌, length};
 ghost use Rattle.jb_base.specs.Number.{number_at, with_number};
 
 /// The number of two bytes at a place.
@@ -21,7 +21,8 @@ pub fn get_u32(bytes: &[u8], at: usize) -> u32
 /// Writes a number of two bytes at a place.
 pub fn put_u16(bytes: &mut [u8], at: usize, value: u16)
     requires { at + 2 ≤ length bytes.old }
-    ensures { bytes.new ≡ with_number 2 at value bytes.old }
+    ensures exact { bytes.new ≡ with_number 2 at value bytes.old }
+    ensures fits { value < 2 ^ 16 }
 {
     bytes[at] = (value % 256) as u8;
     bytes[at + 1] = (value / 256) as u8;
@@ -30,7 +31,8 @@ pub fn put_u16(bytes: &mut [u8], at: usize, value: u16)
 /// Writes a number of four bytes at a place.
 pub fn put_u32(bytes: &mut [u8], at: usize, value: u32)
     requires { at + 4 ≤ length bytes.old }
-    ensures { bytes.new ≡ with_number 4 at value bytes.old }
+    ensures exact { bytes.new ≡ with_number 4 at value bytes.old }
+    ensures fits { value < 2 ^ 32 }
 {
     bytes[at] = (value % 256) as u8;
     bytes[at + 1] = (value / 256 % 256) as u8;

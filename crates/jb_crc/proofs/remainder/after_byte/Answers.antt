@@ -1,4 +1,4 @@
-use Rattle.std.proofs.Common.{[], sym, ◌∙◌, ap, bit_xor, ◌/◌}
+use Rattle.std.proofs.Common.{[], sym}
 use Rattle.jb_crc.proofs.Remainders.{crc_from-cons}
 use Rattle.jb_crc.proofs.remainder.after_byte.Goals as goal
 

@@ -1,4 +1,4 @@
-use Rattle.std.proofs.Common.{◌≡◌, ◌<◌, ◌+◌, ◌*◌, bit_xor, ◌∙◌, ap, arith}
+use Rattle.std.proofs.Common.{◌<◌, ◌+◌, ◌*◌, bit_xor, ◌∙◌, ap, arith}
 use Rattle.std.proofs.lemmas.Nat.{xor_of_8}
 use Rattle.jb_base.specs.Crc.{crc_bits}
 use Rattle.jb_crc.specs.Share.{share_of}
