@@ -1,0 +1,16 @@
+-- What reading subfields answers.
+use Rattle.std.specs.Prelude.{◌≡◌, ◌⊎◌, ⊤, List, ℕ, Result, Ok, Err}
+use Rattle.jb_base.specs.declared.subfield.Subfield.{Subfield}
+use Rattle.jb_base.specs.Subfields.{IsCutAt, IsSubfieldList}
+use Rattle.jb_subfield.specs.declared.error.SubfieldError.{SubfieldError}
+use Rattle.jb_subfield.specs.declared.error.SubfieldError.TheVariants.{Cut, OutOfMemory}
+
+-- the list whose bytes these are, or the place of the first subfield that is not whole, or want of memory
+abbrev pub IsReading : List ℕ → Result (List Subfield) SubfieldError → Type 0
+IsReading bytes (Ok fields) = IsSubfieldList fields bytes
+IsReading bytes (Err (Cut at)) = IsCutAt bytes at
+IsReading bytes (Err OutOfMemory) = ⊤
+
+-- the one answer, unless memory runs out
+abbrev pub IsUnlessMemory : Result (List Subfield) SubfieldError → Result (List Subfield) SubfieldError → Type 0
+IsUnlessMemory result wanted = (result ≡ wanted) ⊎ (result ≡ Err OutOfMemory)

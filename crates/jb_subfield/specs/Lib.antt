@@ -1,0 +1,4 @@
+pub mod Answer
+pub mod FirstOf
+pub mod Laws
+pub mod Whole
