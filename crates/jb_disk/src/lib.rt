@@ -5,8 +5,16 @@
 //! crashes holds where the disk tells, every clause on faults always.
 #![tactic(auto)]
 
+mod call;
 mod disk;
 mod file;
+mod memory;
+mod six;
 
+pub use call::Call;
 pub use disk::{Disk, DiskFailed};
 pub use file::FileId;
+pub use memory::MemDisk;
+
+#[cfg(test)]
+mod tests;
