@@ -1,3 +1,4 @@
+pub mod Crash
 pub mod Device
 pub mod FileLaws
 pub mod Files
@@ -5,3 +6,4 @@ pub mod ImageLaws
 pub mod Images
 pub mod Memory
 pub mod MemoryLaws
+pub mod Trace

@@ -10,6 +10,7 @@ mod disk;
 mod file;
 mod memory;
 mod six;
+mod trace;
 
 pub use call::Call;
 pub use disk::{Disk, DiskFailed};

@@ -82,14 +82,14 @@ impl Six {
     }
 }
 
-fn overwrite(file: &mut Vec<u8>, at: usize, bytes: &[u8])
+pub(crate) fn overwrite(file: &mut Vec<u8>, at: usize, bytes: &[u8])
     requires { at + length bytes.now ≤ length file.old.items }
     ensures { file.new.items ≡ overwritten at bytes.now file.old.items }
 {
     file[at..at + bytes.len()].copy_from_slice(bytes);
 }
 
-fn resize(file: &mut Vec<u8>, len: usize) -> Result<(), OutOfMemory>
+pub(crate) fn resize(file: &mut Vec<u8>, len: usize) -> Result<(), OutOfMemory>
     ensures ok { OnOk result (file.new.items ≡ of_length len file.old.items) }
     ensures err { OnErr result (file.new.items ≡ file.old.items) }
 {

@@ -1,5 +1,6 @@
 use crate::{Disk, DiskFailed, FileId, MemDisk};
 use jb_base::Bytes;
+use std::test::Fail;
 
 // Six empty files.
 fn empty_files(rt: HostRuntime) -> [Bytes; 6] {
