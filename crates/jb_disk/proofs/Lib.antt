@@ -1,2 +1,3 @@
+mod CrashLemmas
 mod MemoryLemmas
 mod TraceLemmas

@@ -146,3 +146,21 @@ present-kept first f old now before after is was here others file =
       | inr other ↦ others file other
     ] in
     kept ∙ was file ∙ sym (ap (λ (calls : List Call). contents_after first (reverse calls) file) is)
+
+-- one file's bytes are these now, and they have changed so
+changed-so : (f : FileId) (change : List ℕ → List ℕ → Type 0) (bytes : List ℕ) (old new : Files) → new f ≡ bytes → ((other : FileId) → other ≢ f → new other ≡ old other) → change (old f) bytes → InFile f change old new
+changed-so f change bytes old new here others changed = record { here = subst (change (old f)) (sym here) changed; others = others }
+
+-- bytes written over a file are a write that was tried
+pub torn-written : (f : FileId) (at : ℕ) (bytes : List ℕ) (old new : Files) → at + length bytes ≤ length (old f) → new f ≡ overwritten at bytes (old f)
+    → ((other : FileId) → other ≢ f → new other ≡ old other) → InFile f (MayTear at (length bytes)) old new
+torn-written f at bytes old new within here others =
+    changed-so f (MayTear at (length bytes)) (overwritten at bytes (old f)) old new here others (left-overwritten at bytes (just_synced (old f)) (old f) within (left-synced (old f)))
+
+-- a file of another length is a change of length that was tried
+pub cut-so : (f : FileId) (len : ℕ) (old new : Files) → new f ≡ of_length len (old f) → ((other : FileId) → other ≢ f → new other ≡ old other) → InFile f (MayCut len) old new
+cut-so f len old new here others = changed-so f (MayCut len) (of_length len (old f)) old new here others (left-resized len (just_synced (old f)) (old f) (left-synced (old f)))
+
+-- and that was done
+pub resized-so : (f : FileId) (len : ℕ) (old new : Files) → new f ≡ of_length len (old f) → ((other : FileId) → other ≢ f → new other ≡ old other) → InFile f (IsResized len) old new
+resized-so f len old new here others = changed-so f (IsResized len) (of_length len (old f)) old new here others (resized-of_length len (old f))

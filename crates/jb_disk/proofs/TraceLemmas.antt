@@ -1,17 +1,20 @@
 -- What is kept of one file after one call more.
 use Rattle.std.specs.declared.alloc.Global.{Global}
-use Rattle.std.proofs.Common.{Vec, ◌≡◌, ◌≢◌, ◌⊎◌, inl, inr, ℕ, ◌+◌, ◌<◌, ◌≤◌, List, [], ◌∷◌, ◌++◌, length, refl, sym, ◌∙◌, ap, subst, arith, true, false, Bool}
-use Rattle.std.specs.Prelude.{nat_le, if◌then◌else◌, ◌&&◌}
+use Rattle.std.proofs.Common.{Vec, ◌≡◌, ◌≢◌, ℕ, ◌+◌, ◌<◌, List, [], ◌∷◌, ◌++◌, length, refl, sym, ◌∙◌, ap, subst, true, false, Bool}
+use Rattle.std.proofs.Common.{take, get_or, add-one}
+use Rattle.std.proofs.Math.Seq.{take-suc}
+use Rattle.std.specs.Prelude.{reverse, nat_le, if◌then◌else◌, ◌&&◌}
 use Rattle.jb_disk.specs.declared.file.FileId.{FileId}
 use Rattle.jb_disk.specs.declared.call.Call.{Call}
 use Rattle.jb_disk.specs.declared.call.Call.TheVariants.{Wrote, Resized}
 use Rattle.jb_disk.specs.declared.trace.Trace.{Trace}
 use Rattle.jb_disk.specs.Files.{Files, number_of, with_file, overwritten}
-use Rattle.jb_disk.specs.Images.{Unsynced, torn, cut}
+use Rattle.jb_disk.specs.Images.{Unsynced, just_synced, torn, cut}
 use Rattle.jb_disk.specs.Memory.{of_length, contents_after, images_after}
 use Rattle.jb_disk.specs.FileLaws.{number-injective, with_file-here, with_file-other}
+use Rattle.jb_disk.specs.MemoryLaws.{newest}
 use Rattle.jb_disk.specs.ImageLaws.{with_image-here, with_image-other}
-use Rattle.jb_disk.specs.Trace.{IsTrace, Follows}
+use Rattle.jb_disk.specs.Trace.{IsTrace, Follows, HasFollowed}
 
 -- the file that may be replaced
 replaced-here : (b : Bool) (f : FileId) (bytes : List ℕ) (files : Files) → (if b then with_file f bytes files else files) f ≡ (if b then bytes else files f)
@@ -47,3 +50,16 @@ follows-resized f other len done old new is step = subst (λ (g : FileId). Follo
     subst (λ (u : Unsynced). IsTrace u (contents_after first (Resized other len done ∷ earlier) other) new) (sym (with_image-here other (cut len) (images_after first earlier)))
     (subst (λ (l : List ℕ). IsTrace (cut len (images_after first earlier other)) l new) (sym (replaced-here done other (of_length len (contents_after first earlier other)) (contents_after first earlier)))
     (step (images_after first earlier other) (contents_after first earlier other) was)))
+
+-- before any call
+pub followed-first : (f : FileId) (bytes : List ℕ) (trace : Trace) → IsTrace (just_synced bytes) bytes trace → HasFollowed f bytes [] trace
+followed-first f bytes trace was = λ first is. subst (λ (l : List ℕ). IsTrace (just_synced l) l trace) (sym is) was
+
+-- after one call more of a list
+pub followed-more : (f : FileId) (bytes : List ℕ) (calls : List Call) (k : ℕ) (call : Call) (old new : Trace) → k < length calls → call ≡ get_or calls k call
+    → HasFollowed f bytes (take k calls) old → Follows f call old new → HasFollowed f bytes (take (k + 1) calls) new
+followed-more f bytes calls k call old new low is was step = λ first same.
+    let more : take (k + 1) calls ≡ take k calls ++ call ∷ [] =
+    ap (λ (n : ℕ). take n calls) (add-one k) ∙ take-suc calls k call low ∙ ap (λ (x : Call). take k calls ++ x ∷ []) (sym is) in
+    subst (λ (l : List Call). IsTrace (images_after first l f) (contents_after first l f) new) (sym (newest (take k calls) call (take (k + 1) calls) more))
+    (step first (reverse (take k calls)) (was first same))

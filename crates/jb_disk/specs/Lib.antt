@@ -6,4 +6,6 @@ pub mod ImageLaws
 pub mod Images
 pub mod Memory
 pub mod MemoryLaws
+pub mod Moments
+pub mod Steady
 pub mod Trace

@@ -1,5 +1,5 @@
 -- What is kept of one file while a list of calls is gone through.
-use Rattle.std.specs.Prelude.{◌≡◌, ℕ, ◌<◌, List, ◌∷◌, length, slice_index}
+use Rattle.std.specs.Prelude.{◌≡◌, ℕ, ◌<◌, List, ◌∷◌, length, reverse, slice_index}
 use Rattle.jb_disk.specs.declared.file.FileId.{FileId}
 use Rattle.jb_disk.specs.declared.call.Call.{Call}
 use Rattle.jb_disk.specs.declared.trace.Trace.{Trace}
@@ -20,3 +20,7 @@ pub record IsTrace (file : Unsynced) (contents : List ℕ) (trace : Trace) : Typ
 abbrev pub Follows : FileId → Call → Trace → Trace → Type 0
 Follows file call old new = (first : Files) (earlier : List Call) → IsTrace (images_after first earlier file) (contents_after first earlier file) old
     → IsTrace (images_after first (call ∷ earlier) file) (contents_after first (call ∷ earlier) file) new
+
+-- it is kept of a file that held these bytes at first, after these calls in order
+abbrev pub HasFollowed : FileId → List ℕ → List Call → Trace → Type 0
+HasFollowed file bytes calls trace = (first : Files) → first file ≡ bytes → IsTrace (images_after first (reverse calls) file) (contents_after first (reverse calls) file) trace

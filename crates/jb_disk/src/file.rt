@@ -1,7 +1,6 @@
 //! The names of the six files.
 ghost use Rattle.std.specs.Prelude.{◌≡◌};
 
-
 /// A file of an area: headers, texts, index and lastread records (JAM, "Files"), and this board's journal and shadow of
 /// the texts.
 #[derive(Clone, Copy, Debug, PartialEq, Eq)]

@@ -10,12 +10,14 @@ mod disk;
 mod file;
 mod memory;
 mod six;
+mod steady;
 mod trace;
 
 pub use call::Call;
 pub use disk::{Disk, DiskFailed};
 pub use file::FileId;
 pub use memory::MemDisk;
+pub use steady::SteadyDisk;
 
 #[cfg(test)]
 mod tests;

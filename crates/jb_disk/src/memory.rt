@@ -3,9 +3,13 @@ ghost use Rattle.std.specs.Prelude.{◌≡◌, ◌+◌, ◌<◌, ◌≤◌, ◌�
 ghost use Rattle.jb_base.specs.Fault.{Rose};
 ghost use Rattle.jb_disk.specs.Memory.{listed, device_of, fresh_device, IsQuiet};
 ghost use Rattle.jb_disk.specs.MemoryLaws.{tells_an_image};
+ghost use Rattle.jb_disk.specs.Images.{IsImage};
+ghost use Rattle.jb_disk.specs.Moments.{MightLeave};
+ghost use Rattle.jb_disk.specs.Crash.{IsPicked, images_at, contents_at};
 
 use crate::call::Call;
 use crate::six::Six;
+use crate::trace::Trace;
 use crate::{Disk, DiskFailed, FileId};
 use jb_base::{Bytes, OutOfMemory};
 use std::alloc::Global;
@@ -37,6 +41,9 @@ impl Model for MemDisk {
 }
 
 impl MemDisk {
+    ghost use Rattle.jb_disk.specs.declared.file.FileId.{FileId};
+    ghost use Rattle.jb_disk.specs.Memory.{contents_after};
+
     /// A disk with these files, all of them synced. It fails the calls with these numbers, from 1; every call counts.
     pub fn new(alloc: Global, files: [Bytes; 6], failing: Vec<u64>) -> Result<MemDisk, OutOfMemory>
         ensures first { IfOk result (λ disk. disk.first ≡ files) }
@@ -54,13 +61,52 @@ impl MemDisk {
         })
     }
 
-    ghost use Rattle.jb_disk.specs.Memory.{contents_after};
-
     /// What a file holds now. This is no call of the disk.
     pub fn file(&self, file: FileId) -> &[u8]
         ensures { result.now ≡ contents_after (listed self.now.first) (reverse self.now.calls) file }
     {
         self.present.file(file)
+    }
+
+    /// How many calls have been made.
+    pub fn calls(&self) -> u64
+        ensures { result ≡ length self.now.calls }
+    {
+        self.calls.len() as u64
+    }
+
+    /// A synced disk with the files that a crash after the first so many calls might have left, by the pick: 0 as they were
+    /// synced, 1 as they were written, 2 with the greatest length and 0xA5 in each byte that was left open, 3 as they were
+    /// written but cut to the least length.
+    pub fn crashed(&self, after: u64, pick: u8) -> Result<MemDisk, OutOfMemory>
+        requires within { after ≤ length self.now.calls }
+        requires known { pick ≤ 3 }
+        ensures fresh { IfOk result (λ disk. device_of disk ≡ fresh_device (listed disk.first)) }
+        ensures found { IfOk result (λ disk. (file : FileId) → IsPicked pick (images_at after self.now file) (contents_at after self.now file) (listed disk.first file)) }
+        ensures image { IfOk result (λ disk. IsImage (images_at after self.now) (listed disk.first)) }
+        ensures crash { IfOk result (λ disk. MightLeave (device_of self.now).moments (listed disk.first)) }
+    {
+        let after = after as usize;
+        let files = [
+            self.left(FileId::Jhr, after, pick)?,
+            self.left(FileId::Jdt, after, pick)?,
+            self.left(FileId::Jdx, after, pick)?,
+            self.left(FileId::Jlr, after, pick)?,
+            self.left(FileId::Jnl, after, pick)?,
+            self.left(FileId::Ndt, after, pick)?,
+        ];
+        MemDisk::new(self.alloc, files, Vec::new(self.alloc))
+    }
+
+    // What a crash after so many calls might have left of one file.
+    fn left(&self, file: FileId, after: usize, pick: u8) -> Result<Bytes, OutOfMemory>
+        requires within { after ≤ length self.now.calls }
+        requires known { pick ≤ 3 }
+        ensures { IfOk result (λ bytes. IsPicked pick (images_at after self.now file) (contents_at after self.now file) bytes) }
+    {
+        let first = self.first[file.number() as usize].as_slice();
+        let trace = Trace::of(self.alloc, file, first, &self.calls[..after])?;
+        trace.picked(pick)
     }
 }
 

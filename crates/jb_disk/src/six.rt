@@ -1,5 +1,5 @@
 //! Six files in memory, with no device behind them.
-ghost use Rattle.std.specs.Prelude.{◌≡◌, ◌≢◌, ◌+◌, ◌≤◌, length, IfOk, OnOk, OnErr};
+ghost use Rattle.std.specs.Prelude.{◌≡◌, ◌≢◌, ◌+◌, ◌≤◌, [], length, IfOk, OnOk, OnErr};
 ghost use Rattle.jb_disk.specs.Files.{overwritten};
 ghost use Rattle.jb_disk.specs.Memory.{of_length, listed};
 
@@ -32,6 +32,20 @@ impl Six {
             jlr: files[3].as_slice().to_vec(alloc)?,
             jnl: files[4].as_slice().to_vec(alloc)?,
             ndt: files[5].as_slice().to_vec(alloc)?,
+        })
+    }
+
+    /// Six empty files, each with room for so many bytes.
+    pub(crate) fn with_room(alloc: Global, room: usize) -> Result<Six, OutOfMemory>
+        ensures { IfOk result (λ six. (file : FileId) → files_of six file ≡ []) }
+    {
+        Ok(Six {
+            jhr: Vec::with_capacity(alloc, room)?,
+            jdt: Vec::with_capacity(alloc, room)?,
+            jdx: Vec::with_capacity(alloc, room)?,
+            jlr: Vec::with_capacity(alloc, room)?,
+            jnl: Vec::with_capacity(alloc, room)?,
+            ndt: Vec::with_capacity(alloc, room)?,
         })
     }
 

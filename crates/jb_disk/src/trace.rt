@@ -4,12 +4,12 @@ ghost use Rattle.jb_disk.specs.Files.{overwritten};
 ghost use Rattle.jb_disk.specs.Images.{Unsynced, just_synced, torn, cut};
 ghost use Rattle.jb_disk.specs.Memory.{of_length};
 ghost use Rattle.jb_disk.specs.Crash.{IsPicked};
-ghost use Rattle.jb_disk.specs.Trace.{IsTrace, Follows};
+ghost use Rattle.jb_disk.specs.Trace.{IsTrace, Follows, HasFollowed};
 
+use crate::FileId;
 use crate::call::Call;
 use crate::memory::passes;
 use crate::six::{overwrite, resize};
-use crate::FileId;
 use jb_base::{Bytes, OutOfMemory};
 use std::alloc::Global;
 
@@ -39,19 +39,49 @@ impl Trace {
         })
     }
 
+    /// What a file has been through that was synced with these bytes and then saw these calls.
+    pub(crate) fn of(
+        alloc: Global,
+        file: FileId,
+        first: &[u8],
+        calls: &[Call],
+    ) -> Result<Trace, OutOfMemory>
+        ensures { IfOk result (λ trace. HasFollowed file first.now calls.now trace) }
+    {
+        let mut trace = Trace::new(alloc, first)?;
+        for call in calls {
+            trace.follow(alloc, file, call)?;
+        }
+        Ok(trace)
+    }
+
     /// One call more.
-    pub(crate) fn follow(&mut self, alloc: Global, file: FileId, call: &Call) -> Result<(), OutOfMemory>
+    pub(crate) fn follow(
+        &mut self,
+        alloc: Global,
+        file: FileId,
+        call: &Call,
+    ) -> Result<(), OutOfMemory>
         ensures { OnOk result (Follows file call.now self.old self.new) }
     {
         match call {
             Call::NoChange => Ok(()),
-            Call::Wrote { file: other, at, bytes, done } => {
+            Call::Wrote {
+                file: other,
+                at,
+                bytes,
+                done,
+            } => {
                 if file.number() == other.number() {
                     self.write(*at, bytes.as_slice(), *done);
                 }
                 Ok(())
             }
-            Call::Resized { file: other, len, done } => {
+            Call::Resized {
+                file: other,
+                len,
+                done,
+            } => {
                 if file.number() == other.number() {
                     self.resize(*len as usize, *done)?;
                 }

@@ -1,4 +1,4 @@
-use Rattle.std.proofs.Common.{◌≡◌, ◌≢◌, List, ℕ, rules, sym, subst}
+use Rattle.std.proofs.Common.{◌≡◌, ◌≢◌, rules, sym, subst}
 use Rattle.jb_disk.specs.declared.call.Call.{Call}
 use Rattle.jb_disk.specs.Files.{number_of}
 use Rattle.jb_disk.specs.Trace.{Follows}
