@@ -9,6 +9,8 @@ mod call;
 mod disk;
 mod file;
 mod memory;
+mod piece;
+mod redo;
 mod six;
 mod steady;
 mod trace;
@@ -17,6 +19,8 @@ pub use call::Call;
 pub use disk::{Disk, DiskFailed};
 pub use file::FileId;
 pub use memory::MemDisk;
+pub use piece::{Length, Piece, PieceHead};
+pub use redo::Redo;
 pub use steady::SteadyDisk;
 
 #[cfg(test)]
