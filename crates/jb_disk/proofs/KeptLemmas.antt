@@ -1,8 +1,7 @@
 -- What stands in the buffer stays as more is put behind it.
-use Rattle.std.proofs.Common.{◌≡◌, inl, inr, zero, suc, ℕ, ◌+◌, ◌-◌, ◌<◌, ◌≤◌, List, [], ◌∷◌, ◌++◌, length, get_or, map, take, drop, refl, sym, ◌∙◌, ap, subst, arith, true, false, Bool, length-append}
+use Rattle.std.proofs.Common.{◌≡◌, ℕ, ◌+◌, ◌≤◌, List, [], ◌∷◌, ◌++◌, length, map, refl, ◌∙◌, ap, arith, true, false, Bool, length-append}
 use Rattle.std.specs.Prelude.{All, slice_range, sum_by, if◌then◌else◌}
-use Rattle.std.proofs.lemmas.Bool.{cases_Bool}
-use Rattle.std.proofs.lemmas.List.{places, same_lists, map-append, drop-append-le, take-append-le, length-drop}
+use Rattle.std.proofs.lemmas.List.{places, same_lists, map-append}
 use Rattle.std.proofs.lemmas.List.Sums.{sum_by-cons, sum_by_push}
 use Rattle.std.proofs.lemmas.List.Elements.{All-head, All-tail, All-cons, All-append, All-nil}
 use Rattle.jb_disk.specs.declared.file.FileId.{FileId}

@@ -1,4 +1,4 @@
-use Rattle.std.proofs.Common.{◌≡◌, arith, ap}
+use Rattle.std.proofs.Common.{arith, ap}
 use Rattle.jb_disk.specs.Change.{Change, held_by}
 use Rattle.jb_disk.proofs.KeptLemmas.{sizes}
 use Rattle.jb_disk.proofs.redo.Redo.clear.Goals as goal

@@ -1,4 +1,4 @@
-use Rattle.std.proofs.Common.{◌≡◌, ◌<◌, ◌+◌, ◌^◌, arith, ap, length, List, ◌++◌, ◌∷◌, [], refl, rules, ◌∙◌}
+use Rattle.std.proofs.Common.{◌≡◌, ◌<◌, ◌^◌, arith, ap, length, List, ◌++◌, ◌∷◌, [], refl, rules, ◌∙◌}
 use Rattle.std.proofs.lemmas.Grind.{common_steps}
 use Rattle.jb_disk.specs.Change.{Change}
 use Rattle.jb_disk.specs.declared.piece.Piece.{Piece}
