@@ -1,3 +1,13 @@
+pub mod Change
+pub mod Crash
 pub mod Device
+pub mod FileLaws
 pub mod Files
+pub mod ImageLaws
 pub mod Images
+pub mod Kept
+pub mod Memory
+pub mod MemoryLaws
+pub mod Moments
+pub mod Steady
+pub mod Trace

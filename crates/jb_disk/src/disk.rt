@@ -5,10 +5,20 @@ ghost use Rattle.jb_disk.specs.Files.{ceiling_of, written};
 ghost use Rattle.jb_disk.specs.Device.{Device, OnlyReads, Tears, Resizes, Syncs, IsPast, FailsBy, TellsAnImage};
 
 use crate::FileId;
+use std::error::Error;
+use std::fmt;
 
 /// The device did not do it. Where that was no call past a file's end, its count of faults rose.
 #[derive(Clone, Copy, Debug, PartialEq, Eq)]
 pub struct DiskFailed;
+
+impl fmt::Display for DiskFailed {
+    fn fmt<W: fmt::Write>(&self, f: &mut fmt::Formatter<W>) -> fmt::Result {
+        write!(f, "the disk failed")
+    }
+}
+
+impl Error for DiskFailed {}
 
 /// Six files that are read, written, resized and synced. No call waits, and none takes memory of its caller.
 pub trait Disk {

@@ -5,8 +5,23 @@
 //! crashes holds where the disk tells, every clause on faults always.
 #![tactic(auto)]
 
+mod call;
 mod disk;
 mod file;
+mod memory;
+mod piece;
+mod redo;
+mod six;
+mod steady;
+mod trace;
 
+pub use call::Call;
 pub use disk::{Disk, DiskFailed};
 pub use file::FileId;
+pub use memory::MemDisk;
+pub use piece::{Length, Piece, PieceHead};
+pub use redo::Redo;
+pub use steady::SteadyDisk;
+
+#[cfg(test)]
+mod tests;

@@ -1,0 +1,4 @@
+mod CrashLemmas
+mod KeptLemmas
+mod MemoryLemmas
+mod TraceLemmas

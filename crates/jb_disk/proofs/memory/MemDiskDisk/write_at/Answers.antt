@@ -1,0 +1,20 @@
+use Rattle.std.proofs.Common.{◌≡◌, length, rules, sym, ap, subst, true, ◌+◌, ◌≤◌, List, ℕ, ◌∙◌, not}
+use Rattle.jb_disk.specs.Files.{overwritten}
+use Rattle.jb_disk.specs.Memory.{listed, files_of}
+use Rattle.jb_disk.proofs.MemoryLemmas.{tears, present-wrote}
+use Rattle.jb_disk.proofs.memory.MemDiskDisk.write_at.Goals as goal
+
+pub returns-clause-changed : goal.returns-clause-changed
+returns-clause-changed c =
+    let size : length c.in-Ok.copy.items ≡ length c.args.bytes.now = search rules in
+    tears c.args.self.now c.self.inside.first c.self.inside.calls.items c.note.new.calls.items c.self.inside.faults c.note.new.faults c.args.file c.args.at c.in-Ok.copy (length c.args.bytes.now) _ c.self.view_is size c.in_ok-note.ensures.ok
+
+pub invariant_of-self-2 : goal.invariant_of-self-2
+invariant_of-self-2 c =
+    let same : c.in-Ok.copy.items ≡ c.args.bytes.now = search rules in
+    let size : length c.in-Ok.copy.items ≡ length c.args.bytes.now = search rules in
+    let within : c.args.at + length c.args.bytes.now ≤ length (files_of c.self.inside.present c.args.file) = search rules in
+    let so : not c.fails-fails.result ≡ true = search rules in
+    let fits : c.args.at + length c.in-Ok.copy.items ≤ length (files_of c.self.inside.present c.args.file) = subst (λ (n : ℕ). c.args.at + n ≤ length (files_of c.self.inside.present c.args.file)) (sym size) within in
+    let here : files_of c.overwrite.new.self c.args.file ≡ overwritten c.args.at c.in-Ok.copy.items (files_of c.self.inside.present c.args.file) = c.overwrite.ensures.here ∙ ap (λ (l : List ℕ). overwritten c.args.at l (files_of c.self.inside.present c.args.file)) (sym same) in
+    present-wrote (listed c.self.inside.first) c.args.file c.args.at c.in-Ok.copy _ c.self.inside.calls.items c.note.new.calls.items (files_of c.self.inside.present) (files_of c.overwrite.new.self) c.in_ok-note.ensures.ok so c.self.invariant fits here c.overwrite.ensures.others

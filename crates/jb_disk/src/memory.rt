@@ -1,0 +1,233 @@
+//! Six files in memory that tell what a crash at each moment may leave.
+ghost use Rattle.std.specs.Prelude.{◌≡◌, ◌+◌, ◌<◌, ◌≤◌, ◌↔◌, IsTrue, ◌++◌, [], ◌∷◌, length, reverse, IfOk, OnOk, OnErr};
+ghost use Rattle.jb_base.specs.Fault.{Rose};
+ghost use Rattle.jb_disk.specs.Memory.{listed, device_of, fresh_device, IsQuiet};
+ghost use Rattle.jb_disk.specs.MemoryLaws.{tells_an_image};
+ghost use Rattle.jb_disk.specs.Images.{IsImage};
+ghost use Rattle.jb_disk.specs.Moments.{MightLeave};
+ghost use Rattle.jb_disk.specs.Crash.{IsPicked, images_at, contents_at};
+
+use crate::call::Call;
+use crate::six::Six;
+use crate::trace::Trace;
+use crate::{Disk, DiskFailed, FileId};
+use jb_base::{Bytes, OutOfMemory};
+use std::alloc::Global;
+use std::marker::Model;
+
+/// Six files in memory. The disk keeps all its calls, so that it tells every image that the trait allows, and it fails
+/// those whose numbers it was given: such a call changes nothing of what is read, and a crash may leave it half made.
+/// Want of memory is a fault of the device.
+#[derive(Debug, Drop)]
+pub struct MemDisk {
+    alloc: Global,
+    first: [Bytes; 6],
+    present: Six,
+    calls: Vec<Call>,
+    failing: Vec<u64>,
+    faults: u64,
+}
+
+impl Model for MemDisk {
+    ghost use Rattle.std.specs.Prelude.{◌≡◌, reverse};
+    ghost use Rattle.jb_disk.specs.declared.file.FileId.{FileId};
+    ghost use Rattle.jb_disk.specs.Memory.{Recording, listed, files_of, contents_after};
+
+    ghost Value = { Recording };
+
+    ghost view = { λ disk. record { first = disk.first; calls = disk.calls.items; faults = disk.faults } };
+
+    ghost invariant = { λ disk. (file : FileId) → files_of disk.present file ≡ contents_after (listed disk.first) (reverse disk.calls.items) file };
+}
+
+impl MemDisk {
+    ghost use Rattle.jb_disk.specs.declared.file.FileId.{FileId};
+    ghost use Rattle.jb_disk.specs.Memory.{contents_after};
+
+    /// A disk with these files, all of them synced. It fails the calls with these numbers, from 1; every call counts.
+    pub fn new(alloc: Global, files: [Bytes; 6], failing: Vec<u64>) -> Result<MemDisk, OutOfMemory>
+        ensures first { IfOk result (λ disk. disk.first ≡ files) }
+        ensures none { IfOk result (λ disk. disk.calls ≡ []) }
+        ensures fresh { IfOk result (λ disk. device_of disk ≡ fresh_device (listed files)) }
+    {
+        let present = Six::copy(alloc, &files)?;
+        Ok(MemDisk {
+            alloc,
+            first: files,
+            present,
+            calls: Vec::new(alloc),
+            failing,
+            faults: 0,
+        })
+    }
+
+    /// What a file holds now. This is no call of the disk.
+    pub fn file(&self, file: FileId) -> &[u8]
+        ensures { result.now ≡ contents_after (listed self.now.first) (reverse self.now.calls) file }
+    {
+        self.present.file(file)
+    }
+
+    /// How many calls have been made.
+    pub fn calls(&self) -> u64
+        ensures { result ≡ length self.now.calls }
+    {
+        self.calls.len() as u64
+    }
+
+    /// A synced disk with the files that a crash after the first so many calls might have left, by the pick: 0 as they were
+    /// synced, 1 as they were written, 2 with the greatest length and 0xA5 in each byte that was left open, 3 as they were
+    /// written but cut to the least length.
+    pub fn crashed(&self, after: u64, pick: u8) -> Result<MemDisk, OutOfMemory>
+        requires within { after ≤ length self.now.calls }
+        requires known { pick ≤ 3 }
+        ensures fresh { IfOk result (λ disk. device_of disk ≡ fresh_device (listed disk.first)) }
+        ensures found { IfOk result (λ disk. (file : FileId) → IsPicked pick (images_at after self.now file) (contents_at after self.now file) (listed disk.first file)) }
+        ensures image { IfOk result (λ disk. IsImage (images_at after self.now) (listed disk.first)) }
+        ensures crash { IfOk result (λ disk. MightLeave (device_of self.now).moments (listed disk.first)) }
+    {
+        let after = after as usize;
+        let files = [
+            self.left(FileId::Jhr, after, pick)?,
+            self.left(FileId::Jdt, after, pick)?,
+            self.left(FileId::Jdx, after, pick)?,
+            self.left(FileId::Jlr, after, pick)?,
+            self.left(FileId::Jnl, after, pick)?,
+            self.left(FileId::Ndt, after, pick)?,
+        ];
+        MemDisk::new(self.alloc, files, Vec::new(self.alloc))
+    }
+
+    // What a crash after so many calls might have left of one file.
+    fn left(&self, file: FileId, after: usize, pick: u8) -> Result<Bytes, OutOfMemory>
+        requires within { after ≤ length self.now.calls }
+        requires known { pick ≤ 3 }
+        ensures { IfOk result (λ bytes. IsPicked pick (images_at after self.now file) (contents_at after self.now file) bytes) }
+    {
+        let first = self.first[file.number() as usize].as_slice();
+        let trace = Trace::of(self.alloc, file, first, &self.calls[..after])?;
+        trace.picked(pick)
+    }
+}
+
+impl Disk for MemDisk {
+    ghost device = { device_of };
+
+    fn len(&mut self, file: FileId) -> Result<u64, DiskFailed> {
+        let fails = fails(&self.failing, &self.calls);
+        note(&mut self.calls, Call::NoChange, &mut self.faults)?;
+        if fails {
+            return Err(fault(&mut self.faults));
+        }
+        Ok(self.present.file(file).len() as u64)
+    }
+
+    fn read_at(&mut self, file: FileId, at: u64, into: &mut [u8]) -> Result<(), DiskFailed> {
+        let fails = fails(&self.failing, &self.calls);
+        if passes(self.present.file(file).len(), at, into.len()) {
+            return Err(refuse(&mut self.calls));
+        }
+        note(&mut self.calls, Call::NoChange, &mut self.faults)?;
+        if fails {
+            return Err(fault(&mut self.faults));
+        }
+        let from = at as usize;
+        into.copy_from_slice(&self.present.file(file)[from..from + into.len()]);
+        Ok(())
+    }
+
+    fn write_at(&mut self, file: FileId, at: u64, bytes: &[u8]) -> Result<(), DiskFailed> {
+        let fails = fails(&self.failing, &self.calls);
+        if passes(self.present.file(file).len(), at, bytes.len()) {
+            return Err(refuse(&mut self.calls));
+        }
+        let Ok(copy) = bytes.to_vec(self.alloc) else {
+            return Err(fault(&mut self.faults));
+        };
+        let call = Call::Wrote {
+            file,
+            at,
+            bytes: copy,
+            done: !fails,
+        };
+        note(&mut self.calls, call, &mut self.faults)?;
+        if fails {
+            return Err(fault(&mut self.faults));
+        }
+        self.present.overwrite(file, at as usize, bytes);
+        Ok(())
+    }
+
+    fn set_len(&mut self, file: FileId, len: u64) -> Result<(), DiskFailed> {
+        let fails = fails(&self.failing, &self.calls);
+        let before = self.calls.len();
+        let call = Call::Resized {
+            file,
+            len,
+            done: !fails,
+        };
+        note(&mut self.calls, call, &mut self.faults)?;
+        if fails {
+            return Err(fault(&mut self.faults));
+        }
+        if self.present.resize(file, len as usize).is_err() {
+            self.calls.truncate(before);
+            return Err(fault(&mut self.faults));
+        }
+        Ok(())
+    }
+
+    fn sync(&mut self, file: FileId) -> Result<(), DiskFailed> {
+        if fails(&self.failing, &self.calls) {
+            note(&mut self.calls, Call::NoChange, &mut self.faults)?;
+            return Err(fault(&mut self.faults));
+        }
+        note(&mut self.calls, Call::Synced { file }, &mut self.faults)?;
+        Ok(())
+    }
+
+    ghost told = { tells_an_image };
+}
+
+// Whether the range ends past the file's end.
+pub(crate) fn passes(len: usize, at: u64, count: usize) -> bool
+    ensures { IsTrue result ↔ (len < at + count) }
+{
+    count > len || at > (len - count) as u64
+}
+
+// Whether the call that comes now is one that fails.
+fn fails(failing: &[u64], calls: &[Call]) -> bool {
+    failing.contains(&(calls.len() as u64 + 1))
+}
+
+// One fault more.
+pub(crate) fn fault(faults: &mut u64) -> DiskFailed
+    ensures rose { Rose faults.old faults.new }
+    ensures later { faults.old ≤ faults.new }
+{
+    *faults = faults.saturating_add(1);
+    DiskFailed
+}
+
+// A call past an end is no fault. Where there is no memory to keep it, it is not kept.
+fn refuse(calls: &mut Vec<Call>) -> DiskFailed
+    ensures { IsQuiet calls.old.items calls.new.items }
+{
+    let _ = calls.push(Call::NoChange);
+    DiskFailed
+}
+
+// Keeps a call.
+fn note(calls: &mut Vec<Call>, call: Call, faults: &mut u64) -> Result<(), DiskFailed>
+    ensures ok { OnOk result (calls.new.items ≡ calls.old.items ++ call ∷ []) }
+    ensures err { OnErr result (calls.new.items ≡ calls.old.items) }
+    ensures quiet { OnOk result (faults.new ≡ faults.old) }
+    ensures counted { OnErr result (Rose faults.old faults.new) }
+    ensures later { faults.old ≤ faults.new }
+{
+    match calls.push(call) {
+        Ok(()) => Ok(()),
+        Err(_) => Err(fault(faults)),
+    }
+}

@@ -1,0 +1,39 @@
+//! The parts of a change: lengths and pieces.
+
+use crate::FileId;
+use jb_base::Bytes;
+
+/// A file's new length in bytes.
+#[derive(Clone, Copy, Debug, PartialEq, Eq)]
+pub struct Length {
+    pub file: FileId,
+    pub len: u32,
+}
+
+/// Bytes that are written into a file: given ones, or some that another file holds.
+#[derive(Debug, Drop)]
+pub enum Piece {
+    Bytes {
+        file: FileId,
+        at: u32,
+        bytes: Bytes,
+    },
+    Copy {
+        from: FileId,
+        from_at: u32,
+        to: FileId,
+        to_at: u32,
+        len: u32,
+    },
+}
+
+/// A piece without its bytes. Where it is no copy, `from` is `to` and `from_at` is 0.
+#[derive(Clone, Copy, Debug, PartialEq, Eq)]
+pub struct PieceHead {
+    pub copy: bool,
+    pub from: FileId,
+    pub from_at: u32,
+    pub to: FileId,
+    pub to_at: u32,
+    pub len: u32,
+}

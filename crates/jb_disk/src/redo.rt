@@ -1,0 +1,174 @@
+//! A change of files that is to be done as a whole.
+ghost use Rattle.std.specs.Prelude.{◌≡◌, ◌+◌, ◌<◌, ◌≤◌, ◌^◌, [], ◌∷◌, ◌++◌, Some, length, sum_by, slice_get, OnOk};
+ghost use Rattle.std.specs.Option.{option_map};
+ghost use Rattle.jb_disk.specs.declared.piece.Piece.TheVariants.{Bytes, Copy};
+ghost use Rattle.jb_disk.specs.Change.{head_of, bytes_of, held_by, HasRoom, Spends, SameLists};
+
+use crate::{FileId, Length, PieceHead};
+use jb_base::OutOfMemory;
+use std::alloc::Global;
+use std::marker::Model;
+
+/// New lengths and pieces, with spare room for more. The bytes of all pieces stand in one buffer, one after another, so
+/// that a change made anew in the same room takes no memory.
+#[derive(Debug, Drop)]
+pub struct Redo {
+    lengths: Vec<Length>,
+    kept: Vec<Kept>,
+    buffer: Vec<u8>,
+}
+
+/// A piece, and where its bytes begin in the buffer.
+#[derive(Clone, Copy, Debug)]
+pub(crate) struct Kept {
+    head: PieceHead,
+    start: usize,
+}
+
+impl Model for Redo {
+    ghost use Rattle.jb_disk.specs.Change.{Change};
+
+    ghost Value = { Change };
+
+    ghost use Rattle.jb_disk.specs.Kept.{change_of, IsKept};
+
+    ghost view = { change_of };
+
+    ghost invariant = { IsKept };
+}
+
+impl Redo {
+    /// A change of nothing, with no room.
+    pub fn new(alloc: Global) -> Redo
+        ensures lengths { result.lengths ≡ [] }
+        ensures pieces { result.pieces ≡ [] }
+    {
+        Redo {
+            lengths: Vec::new(alloc),
+            kept: Vec::new(alloc),
+            buffer: Vec::new(alloc),
+        }
+    }
+
+    /// Makes room for so many lengths, pieces and bytes of pieces more. A change has fewer than 2^32 pieces: room for more
+    /// is refused as memory is.
+    pub fn reserve(&mut self, lengths: u32, pieces: u32, bytes: u64) -> Result<(), OutOfMemory>
+        ensures ok { OnOk result (HasRoom lengths pieces bytes self.new) }
+        ensures same { SameLists self.old self.new }
+        ensures kept { Spends 0 0 0 self.old self.new }
+    {
+        if pieces > u32::MAX - self.kept.len() as u32 {
+            return Err(OutOfMemory);
+        }
+        self.lengths.reserve(lengths as usize)?;
+        self.kept.reserve(pieces as usize)?;
+        self.buffer.reserve(bytes as usize)?;
+        Ok(())
+    }
+
+    /// Takes out all that it holds. The room stays.
+    pub fn clear(&mut self)
+        ensures lengths { self.new.lengths ≡ [] }
+        ensures pieces { self.new.pieces ≡ [] }
+        ensures spare_lengths { self.new.spare_lengths ≡ self.old.spare_lengths + length self.old.lengths }
+        ensures spare_pieces { self.new.spare_pieces ≡ self.old.spare_pieces + length self.old.pieces }
+        ensures spare_bytes { self.new.spare_bytes ≡ self.old.spare_bytes + held_by self.old.pieces }
+    {
+        self.lengths.clear();
+        self.kept.clear();
+        self.buffer.clear();
+    }
+
+    /// A new length behind the others.
+    pub fn put_len(&mut self, entry: Length)
+        requires { 0 < self.old.spare_lengths }
+        ensures lengths { self.new.lengths ≡ self.old.lengths ++ entry ∷ [] }
+        ensures pieces { self.new.pieces ≡ self.old.pieces }
+        ensures room { Spends 1 0 0 self.old self.new }
+    {
+        let Ok(()) = self.lengths.push(entry) else {
+            unreachable!()
+        };
+    }
+
+    /// A piece with its bytes behind the others.
+    pub fn put_bytes(&mut self, file: FileId, at: u32, bytes: &[u8])
+        requires some { 0 < self.old.spare_pieces }
+        requires fits { length bytes.now ≤ self.old.spare_bytes }
+        requires short { length bytes.now < 2 ^ 32 }
+        ensures lengths { self.new.lengths ≡ self.old.lengths }
+        ensures pieces { self.new.pieces ≡ self.old.pieces ++ Bytes file at bytes.now ∷ [] }
+        ensures room { Spends 0 1 (length bytes.now) self.old self.new }
+    {
+        let head = PieceHead {
+            copy: false,
+            from: file,
+            from_at: 0,
+            to: file,
+            to_at: at,
+            len: bytes.len() as u32,
+        };
+        let start = self.buffer.len();
+        let Ok(()) = self.buffer.extend_from_slice(bytes) else {
+            unreachable!()
+        };
+        let Ok(()) = self.kept.push(Kept { head, start }) else {
+            unreachable!()
+        };
+    }
+
+    /// A piece that is copied from a file, behind the others.
+    pub fn put_copy(&mut self, from: FileId, from_at: u32, to: FileId, to_at: u32, len: u32)
+        requires { 0 < self.old.spare_pieces }
+        ensures lengths { self.new.lengths ≡ self.old.lengths }
+        ensures pieces { self.new.pieces ≡ self.old.pieces ++ Copy from from_at to to_at len ∷ [] }
+        ensures room { Spends 0 1 0 self.old self.new }
+    {
+        let head = PieceHead {
+            copy: true,
+            from,
+            from_at,
+            to,
+            to_at,
+            len,
+        };
+        let start = self.buffer.len();
+        let Ok(()) = self.kept.push(Kept { head, start }) else {
+            unreachable!()
+        };
+    }
+
+    /// The new lengths in order.
+    pub fn lengths(&self) -> &[Length]
+        ensures { result.now ≡ self.now.lengths }
+    {
+        &self.lengths
+    }
+
+    /// How many pieces there are.
+    pub fn pieces(&self) -> u32
+        ensures { result ≡ length self.now.pieces }
+    {
+        self.kept.len() as u32
+    }
+
+    /// A piece without its bytes, by its number from 0.
+    pub fn head(&self, k: u32) -> PieceHead
+        requires { k < length self.now.pieces }
+        ensures { Some result ≡ option_map head_of (slice_get self.now.pieces k) }
+    {
+        self.kept[k as usize].head
+    }
+
+    /// The bytes of a piece, by its number from 0. A copy has none.
+    pub fn bytes(&self, k: u32) -> &[u8]
+        requires { k < length self.now.pieces }
+        ensures { Some result.now ≡ option_map bytes_of (slice_get self.now.pieces k) }
+    {
+        let kept = &self.kept[k as usize];
+        if kept.head.copy {
+            return &self.buffer[..0];
+        }
+        &self.buffer[kept.start..kept.start + kept.head.len as usize]
+    }
+}
