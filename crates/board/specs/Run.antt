@@ -1,0 +1,78 @@
+-- A whole run of the program: what is asked of the host, what is printed, and the status.
+use Rattle.std.specs.Prelude.{◌≡◌, ◌⊎◌, ℕ, ◌<◌, ◌≤◌, List, length, Option, Some, None, Result, Ok, Err}
+use Rattle.std.specs.Option.{ForSome}
+use Rattle.jb_base.specs.Fault.{Rose}
+use Rattle.jb_base.specs.declared.limits.TheConstants.{MOST_SLOTS}
+use Rattle.jb_disk.specs.Device.{Device, OnlyReads}
+use Rattle.jb_disk.specs.Files.{Files}
+use Rattle.jb_disk.specs.declared.file.FileId.TheVariants.{Jhr}
+use Rattle.jb_host.specs.Desk.{Desk, Disks, Place, has_disk, with_place, asked_disk, and_call}
+use Rattle.jb_host.specs.Wire.{Wire, Begins, Sends}
+use Rattle.jb_image.specs.Compact.{IsCompact}
+use Rattle.board.specs.declared.fault.Fault.{Fault}
+use Rattle.board.specs.declared.fault.Fault.TheVariants.{Words, ShortHeader, NotYet, StoreFault, HostFault, OutOfMemory}
+use Rattle.board.specs.Faults.{line_of, status_of}
+use Rattle.board.specs.Tool.{IsListing}
+use Rattle.board.specs.Words.{CommandLine, list_base, command_line_of}
+
+-- what a run answers: the text to print, or why it is refused
+abbrev pub Answer : Type 0
+Answer = Result (List ℕ) Fault
+
+-- the answer of `list` over the disk of the base, before it and after it
+abbrev pub ListsDisk : Device → Device → Answer → Type 0
+ListsDisk before after (Ok text) = ForSome before.contents (λ files. IsListing files text)
+ListsDisk before after (Err ShortHeader) = ForSome before.contents (λ files. length (files Jhr) < 1024)
+ListsDisk before after (Err NotYet) = ForSome before.contents (λ files. (1024 ≤ length (files Jhr)) × (IsCompact MOST_SLOTS files → ⊥))
+ListsDisk before after (Err StoreFault) = Rose before.faults after.faults
+ListsDisk before after (Err OutOfMemory) = Unit {0}
+ListsDisk before after (Err Words) = ⊥
+ListsDisk before after (Err HostFault) = ⊥
+
+-- the disk was handed out, only read, and put back
+pub record UsesDisk (dir name : List ℕ) (disks : Disks) (after : Option Disks) (answer : Answer) : Type 0 where
+  pub before : Device
+  pub then : Device
+  pub was : disks dir name ≡ has_disk before
+  pub back : after ≡ Some (with_place dir name (has_disk then) disks)
+  pub kept : OnlyReads before then
+  pub later : before.faults ≤ then.faults
+  pub answers : ListsDisk before then answer
+
+-- no disk was handed out, and why
+abbrev pub GetsNoDisk : Desk → Desk → Answer → Type 0
+GetsNoDisk old new answer =
+    (new.disks ≡ old.disks) × (((answer ≡ Err HostFault) × Rose old.faults new.faults) ⊎ (answer ≡ Err OutOfMemory))
+
+-- the run of `list DIR NAME`: one call of the host, for that disk alone
+pub record ListsBase (dir name : List ℕ) (old new : Desk) (answer : Answer) : Type 0 where
+  pub calls : (new.calls ≡ and_call (asked_disk dir name) old.calls) ⊎ ((answer ≡ Err OutOfMemory) × (new.calls ≡ old.calls))
+  pub disk : GetsNoDisk old new answer ⊎ ForSome old.disks (λ disks. UsesDisk dir name disks new.disks answer)
+  pub cause : answer ≡ Err HostFault → Rose old.faults new.faults
+  pub later : old.faults ≤ new.faults
+
+-- the run of these words, if they are a command line
+abbrev pub AnswersWords : Option CommandLine → Desk → Desk → Answer → Type 0
+AnswersWords None old new answer = (answer ≡ Err Words) × (new.calls ≡ old.calls) × (new.disks ≡ old.disks) × (new.faults ≡ old.faults)
+AnswersWords (Some (list_base dir name)) old new answer = ListsBase dir name old new answer
+
+-- these bytes were sent, or a beginning of them where the console failed
+abbrev pub IsSent : Wire → Wire → List ℕ → Type 0
+IsSent old new bytes = Sends old.sent bytes new.sent ⊎ (Rose old.faults new.faults × ((front : List ℕ) × Begins front bytes × Sends old.sent front new.sent))
+
+-- the answer is printed, and this is the status
+abbrev pub IsPrinted : Answer → ℕ → Wire → Wire → Type 0
+IsPrinted (Ok text) status old new =
+    ((status ≡ 0) × Sends old.sent text new.sent)
+        ⊎ ((status ≡ 5) × Rose old.faults new.faults × ((front : List ℕ) × Begins front text × Sends old.sent front new.sent))
+IsPrinted (Err fault) status old new = (status ≡ status_of fault) × IsSent old new (line_of fault)
+
+-- a whole run
+pub record HasRun (words : List (List ℕ)) (old new : Desk) (status : ℕ) : Type 0 where
+  pub answer : Answer
+  pub answers : AnswersWords (command_line_of words) old new answer
+  pub console : Wire
+  pub console_is : old.console ≡ Some console
+  pub console_after : Wire
+  pub console_back : new.console ≡ Some console_after
+  pub printed : IsPrinted answer status console console_after

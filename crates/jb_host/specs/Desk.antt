@@ -1,0 +1,75 @@
+-- What is known of a host before and after a call.
+use Rattle.std.specs.Prelude.{◌≡◌, ℕ, ◌≤◌, bytes_eq, ◌&&◌, List, [], ◌∷◌, ◌++◌, Option, if◌then◌else◌}
+use Rattle.std.specs.Option.{ForSome, option_map}
+use Rattle.jb_base.specs.Fault.{Rose}
+use Rattle.jb_disk.specs.Device.{Device}
+use Rattle.jb_host.specs.declared.host.HostError.{HostError}
+use Rattle.jb_host.specs.declared.host.HostError.TheVariants.{Failed, OutOfMemory}
+use Rattle.jb_host.specs.Wire.{Wire}
+
+-- a call that a host tells: it was asked for the disk of a base, by folder and name
+pub data HostCall : Type 0 where
+  asked_disk : List ℕ → List ℕ → HostCall
+
+-- what a host has at a folder and a name: no disk, one that it handed out, or this one
+pub data Place : Type 0 where
+  no_disk : Place
+  handed_out : Place
+  has_disk : Device → Place
+
+-- the disks of a host, by folder and name
+abbrev pub Disks : Type 0
+Disks = List ℕ → List ℕ → Place
+
+-- the same disks, but for one place
+abbrev pub with_place : List ℕ → List ℕ → Place → Disks → Disks
+with_place dir name place disks other_dir other_name =
+    if bytes_eq other_dir dir && bytes_eq other_name name then place else disks other_dir other_name
+
+-- a host, as its user sees it
+pub record Desk : Type 0 where
+  -- how often it has failed
+  pub faults : ℕ
+  -- the calls for disks that it answered other than for want of memory, in order, where it tells them
+  pub calls : Option (List HostCall)
+  -- its disks, where it tells them
+  pub disks : Option Disks
+  -- the console, while it is not out
+  pub console : Option Wire
+
+-- a call more, where the host tells them
+abbrev pub and_call : HostCall → Option (List HostCall) → Option (List HostCall)
+and_call call calls = option_map (λ earlier. earlier ++ call ∷ []) calls
+
+-- a disk was handed out: the one that was there
+pub record GivesDisk (dir name : List ℕ) (device : Device) (old new : Desk) : Type 0 where
+  pub was : ForSome old.disks (λ disks. disks dir name ≡ has_disk device)
+  pub out : new.disks ≡ option_map (with_place dir name handed_out) old.disks
+  pub calls : new.calls ≡ and_call (asked_disk dir name) old.calls
+  pub console : new.console ≡ old.console
+  pub later : old.faults ≤ new.faults
+
+-- the calls that a host tells after it refused one
+abbrev pub calls_after : HostError → HostCall → Option (List HostCall) → Option (List HostCall)
+calls_after Failed call calls = and_call call calls
+calls_after OutOfMemory call calls = calls
+
+-- the cause of a refusal
+abbrev pub HasHostCause : HostError → Desk → Desk → Type 0
+HasHostCause Failed old new = Rose old.faults new.faults
+HasHostCause OutOfMemory old new = Unit {0}
+
+-- no disk was handed out, and why
+pub record KeepsDisks (dir name : List ℕ) (error : HostError) (old new : Desk) : Type 0 where
+  pub disks : new.disks ≡ old.disks
+  pub calls : new.calls ≡ calls_after error (asked_disk dir name) old.calls
+  pub console : new.console ≡ old.console
+  pub later : old.faults ≤ new.faults
+  pub cause : HasHostCause error old new
+
+-- a disk that was handed out for this place is there again
+pub record TakesBack (dir name : List ℕ) (device : Device) (old new : Desk) : Type 0 where
+  pub back : ForSome old.disks (λ disks. disks dir name ≡ handed_out → new.disks ≡ option_map (with_place dir name (has_disk device)) old.disks)
+  pub calls : new.calls ≡ old.calls
+  pub console : new.console ≡ old.console
+  pub faults : new.faults ≡ old.faults

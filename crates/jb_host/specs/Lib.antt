@@ -1,0 +1,4 @@
+pub mod Desk
+pub mod Memory
+pub mod Shelves
+pub mod Wire

@@ -1,0 +1,44 @@
+-- The disks and calls of a host in memory.
+use Rattle.std.specs.Prelude.{◌≡◌, ℕ, ◌<◌, bytes_eq, ◌&&◌, Bool, true, false, List, [], ◌∷◌, ◌++◌, length, map, slice_index_or, Option, Some, None, if◌then◌else◌}
+use Rattle.std.specs.Option.{option_map}
+use Rattle.jb_disk.specs.Memory.{Recording, device_of}
+use Rattle.jb_host.specs.declared.memory_host.DiskCall.{DiskCall}
+use Rattle.jb_host.specs.declared.memory_host.MemHost.{MemHost}
+use Rattle.jb_host.specs.declared.memory_host.Shelf.{Shelf}
+use Rattle.jb_host.specs.Desk.{Desk, Disks, HostCall, Place, asked_disk, handed_out, has_disk, no_disk}
+use Rattle.jb_host.specs.Memory.{memory_wire}
+use Rattle.jb_host.specs.Wire.{Wire}
+
+-- the shelf has this folder and name
+abbrev pub is_for : List ℕ → List ℕ → Shelf → Bool
+is_for dir name shelf = bytes_eq dir shelf.dir && bytes_eq name shelf.name
+
+-- what stands on a shelf
+abbrev pub stands_on : Option Recording → Place
+stands_on None = handed_out
+stands_on (Some disk) = has_disk (device_of disk)
+
+-- what the shelves hold, by folder and name: the first shelf with them tells
+abbrev pub shelved : List Shelf → Disks
+shelved [] dir name = no_disk
+shelved (shelf ∷ shelves) dir name = if is_for dir name shelf then stands_on shelf.disk else shelved shelves dir name
+
+-- the place of the first shelf with this folder and name, or none has them
+abbrev pub IsAt : List Shelf → List ℕ → List ℕ → Option ℕ → Type 0
+IsAt shelves dir name None = (k : ℕ) (d : Shelf) → k < length shelves → is_for dir name (slice_index_or shelves k d) ≡ false
+IsAt shelves dir name (Some k) =
+    (k < length shelves) × ((d : Shelf) → is_for dir name (slice_index_or shelves k d) ≡ true)
+        × ((j : ℕ) (d : Shelf) → j < k → is_for dir name (slice_index_or shelves j d) ≡ false)
+
+-- a host in memory, which tells all
+abbrev pub memory_desk : MemHost → Desk
+memory_desk host = record {
+  faults = host.faults;
+  calls = Some (map (λ (call : DiskCall). asked_disk call.dir call.name) host.calls.items);
+  disks = Some (shelved host.shelves.items);
+  console = option_map memory_wire host.console;
+}
+
+-- a host with this console, no disk and no call
+abbrev pub empty_desk : Wire → Desk
+empty_desk console = record { faults = 0; calls = Some []; disks = Some (shelved []); console = Some console }

@@ -1,0 +1,44 @@
+//! The trait of a host.
+ghost use Rattle.std.specs.Prelude.{◌≡◌, Some, None, IsSome, IfOk, IfErr};
+ghost use Rattle.jb_disk.specs.Device.{Device};
+ghost use Rattle.jb_host.specs.Desk.{Desk, GivesDisk, KeepsDisks, TakesBack};
+
+use crate::Link;
+use jb_disk::Disk;
+
+/// Why a host did not do it. Its disks and its console are as before.
+#[derive(Clone, Copy, Debug, PartialEq, Eq)]
+pub enum HostError {
+    /// The host has no such thing, or its surroundings refused; its count of faults rose.
+    Failed,
+    /// The allocator gave no memory.
+    OutOfMemory,
+}
+
+/// The surroundings of a program: disks by folder and name, and one console.
+pub trait Host {
+    type Disk: Disk + Drop;
+    type Link: Link;
+
+    /// Its count of faults, its console while that is not out, and where it tells them its calls and its disks.
+    ghost desk: { Self → Desk };
+
+    /// The disk of the base with this name in this folder.
+    fn disk(&mut self, dir: &str, name: &str) -> Result<Self::Disk, HostError>
+        ensures ok { IfOk result (λ disk. GivesDisk dir.now name.now (Self.Disk.device disk) (desk self.old) (desk self.new)) }
+        ensures err { IfErr result (λ error. KeepsDisks dir.now name.now error (desk self.old) (desk self.new)) };
+
+    /// Takes a disk back that was handed out for this folder and name.
+    fn put_back(&mut self, dir: &str, name: &str, disk: Self::Disk)
+        ensures { TakesBack dir.now name.now (Self.Disk.device disk) (desk self.old) (desk self.new) };
+
+    /// Hands the console out.
+    fn console(&mut self) -> Self::Link
+        requires { IsSome (desk self.old).console }
+        ensures was { (desk self.old).console ≡ Some (Self.Link.wire result) }
+        ensures out { desk self.new ≡ record (desk self.old) { console = None } };
+
+    /// Takes the console back.
+    fn put_console(&mut self, link: Self::Link)
+        ensures { desk self.new ≡ record (desk self.old) { console = Some (Self.Link.wire link) } };
+}
