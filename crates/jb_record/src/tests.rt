@@ -12,6 +12,12 @@ const HEADER: [u8; 140] = *b"JAM\0\x01\0\0\0\x40\0\0\0\0\0\0\0\x53\x1F\xD7\xCB\x
 /// The bytes before the reserved ones of the fixed header of an empty base, made at 1,000,000,000 seconds.
 const FIXED: [u8; 24] = *b"JAM\0\x00\xCA\x9A\x3B\0\0\0\0\0\0\0\0\xFF\xFF\xFF\xFF\x01\0\0\0";
 
+/// A header in which each byte behind the Revision is the number of its place.
+const PLACES: [u8; 76] = *b"JAM\0\x01\0\x06\x07\x08\x09\x0A\x0B\x0C\x0D\x0E\x0F\x10\x11\x12\x13\
+    \x14\x15\x16\x17\x18\x19\x1A\x1B\x1C\x1D\x1E\x1F\x20\x21\x22\x23\x24\x25\x26\x27\
+    \x28\x29\x2A\x2B\x2C\x2D\x2E\x2F\x30\x31\x32\x33\x34\x35\x36\x37\x38\x39\x3A\x3B\
+    \x3C\x3D\x3E\x3F\x40\x41\x42\x43\x44\x45\x46\x47\x48\x49\x4A\x4B";
+
 #[test]
 fn the_header_of_one_message_is_read_and_written(rt: HostRuntime) -> Result<(), Fail> {
     let header = decode_message(&HEADER[..76]).ok_or("no header")?;
@@ -88,67 +94,73 @@ fn index_and_lastread_records_are_read_and_written(rt: HostRuntime) -> Result<()
 
 #[test]
 fn each_field_of_a_message_header_has_its_place(rt: HostRuntime) -> Result<(), Fail> {
-    let mut bytes = [0; MESSAGE_HEADER_BYTES];
-    bytes[..6].copy_from_slice(&HEADER[..6]);
-    bytes[6..8].copy_from_slice(b"\x07\x06");
-    for (at, byte) in bytes.iter_mut().enumerate().skip(8) {
-        *byte = at as u8;
-    }
-    let header = decode_message(&bytes).ok_or("no header")?;
-    assert_eq!(rt; header.reserved, 0x0607);
+    let header = decode_message(&PLACES).ok_or("no header")?;
+    assert_eq!(rt; header.reserved, 0x0706);
     let numbers = [
-        (8, header.subfields),
-        (12, header.times_read),
-        (16, header.msgid_crc),
-        (20, header.reply_crc),
-        (24, header.reply_to),
-        (28, header.reply_first),
-        (32, header.reply_next),
-        (36, header.written),
-        (40, header.received),
-        (44, header.processed),
-        (48, header.number),
-        (52, header.attribute),
-        (56, header.attribute2),
-        (60, header.offset),
-        (64, header.text_len),
-        (68, header.password),
-        (72, header.cost),
+        (header.subfields, 0x0B0A_0908),
+        (header.times_read, 0x0F0E_0D0C),
+        (header.msgid_crc, 0x1312_1110),
+        (header.reply_crc, 0x1716_1514),
+        (header.reply_to, 0x1B1A_1918),
+        (header.reply_first, 0x1F1E_1D1C),
+        (header.reply_next, 0x2322_2120),
+        (header.written, 0x2726_2524),
+        (header.received, 0x2B2A_2928),
+        (header.processed, 0x2F2E_2D2C),
+        (header.number, 0x3332_3130),
+        (header.attribute, 0x3736_3534),
+        (header.attribute2, 0x3B3A_3938),
+        (header.offset, 0x3F3E_3D3C),
+        (header.text_len, 0x4342_4140),
+        (header.password, 0x4746_4544),
+        (header.cost, 0x4B4A_4948),
     ];
-    for (at, number) in numbers {
-        assert_eq!(rt; number, 0x0302_0100 + 0x0101_0101 * at, "the field at {at}");
+    for (number, want) in numbers {
+        assert_eq!(rt; number, want);
     }
+    assert_eq!(rt; encode_message(&header).as_slice(), PLACES.as_slice());
     Ok(())
 }
 
 #[test]
 fn another_length_signature_or_revision_is_no_record(rt: HostRuntime) {
-    for (at, byte) in [
-        (0, 0x6A),
-        (1, 0x61),
-        (2, 0x6D),
-        (3, 0x01),
-        (4, 0x00),
-        (4, 0x02),
-        (5, 0x01),
-    ] {
-        let mut bytes = HEADER;
-        bytes[at] = byte;
-        assert_eq!(rt; decode_message(&bytes[..76]), None, "{byte} at {at}");
+    let beginnings: [&[u8; 6]; 7] = [
+        b"jAM\0\x01\0",
+        b"JaM\0\x01\0",
+        b"JAm\0\x01\0",
+        b"JAM \x01\0",
+        b"JAM\0\0\0",
+        b"JAM\0\x02\0",
+        b"JAM\0\x01\x01",
+    ];
+    let mut header = PLACES;
+    for beginning in beginnings {
+        header[..6].copy_from_slice(beginning);
+        assert_eq!(rt; decode_message(&header), None, "{beginning:?}");
     }
-    for len in [0, 4, 75, 77, 140] {
-        assert_eq!(rt; decode_message(&HEADER[..len]), None, "{len} bytes");
+    let lengths: [&[u8]; 5] = [b"", b"JAM\0", &HEADER[..75], &HEADER[..77], &HEADER];
+    for bytes in lengths {
+        assert_eq!(rt; decode_message(bytes), None, "{} bytes", bytes.len());
     }
     let mut bytes = [0; 1_025];
     bytes[..24].copy_from_slice(&FIXED);
-    for len in [0, 24, 1_023, 1_025] {
-        assert!(rt; decode_fixed(&bytes[..len]).is_none(), "{len} bytes");
+    let lengths: [&[u8]; 4] = [b"JAM\0", &FIXED, &bytes[..1_023], &bytes];
+    for bytes in lengths {
+        assert!(rt; decode_fixed(bytes).is_none(), "{} bytes", bytes.len());
     }
     assert!(rt; decode_fixed(&bytes[..1_024]).is_some());
     bytes[3] = 0x20;
     assert!(rt; decode_fixed(&bytes[..1_024]).is_none());
-    for len in [0, 7, 9, 15, 17, 32] {
-        assert!(rt; decode_index(&bytes[..len]).is_none(), "{len} bytes");
-        assert!(rt; decode_mark(&bytes[..len]).is_none(), "{len} bytes");
+    let lengths: [&[u8]; 6] = [
+        b"",
+        &FIXED[..7],
+        &FIXED[..9],
+        &FIXED[..15],
+        &FIXED[..17],
+        &FIXED,
+    ];
+    for bytes in lengths {
+        assert!(rt; decode_index(bytes).is_none(), "{} bytes", bytes.len());
+        assert!(rt; decode_mark(bytes).is_none(), "{} bytes", bytes.len());
     }
 }
