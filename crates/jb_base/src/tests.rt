@@ -76,9 +76,9 @@ fn the_first_subfield_of_a_kind_counts(rt: HostRuntime) -> Result<(), Fail> {
     }
     assert_eq!(rt; fields.as_slice().len(), 4);
     assert_eq!(rt; fields.first(6), Some(b"abc".as_slice()));
-    assert_eq!(rt; fields.first(5), Some(b"".as_slice()));
+    assert_eq!(rt; fields.first(5).map(|bytes| bytes.len()), Some(0));
     for absent in [SENDER_NAME, RECEIVER_NAME, MSGID] {
-        assert_eq!(rt; fields.first(absent), None, "{absent}");
+        assert!(rt; fields.first(absent).is_none(), "{absent}");
     }
     Ok(())
 }
