@@ -49,3 +49,6 @@ pub const MOST_NODES: u32 = 32;
 pub const MOST_AREAS: u32 = 255;
 /// Users of a board.
 pub const MOST_USERS: u32 = 1_024;
+
+/// Entries at which the history of an area takes no further call; the call that reached it may have left one more.
+pub const MOST_ENTRIES: u64 = 4_611_686_018_427_387_904;

@@ -7,6 +7,8 @@
 mod loaded;
 mod mark;
 mod message;
+#[cfg(test)]
+mod tests;
 
 pub use loaded::{Loaded, LoadedMessage, LoadedSlot, LoadedSlots};
 pub use mark::{Mark, Marks};

@@ -5,7 +5,7 @@ use jb_base::{get_u32, put_u32};
 
 /// Bytes of an index record.
 pub const INDEX_RECORD_BYTES: usize = 8;
-/// The place that an index record of an empty slot has.
+/// The place that an index record of an empty slot has; a written one has the same bits for its CRC.
 pub const EMPTY_SLOT: u32 = 0xFFFF_FFFF;
 
 /// An index record: the `jam_crc` of the receiver's name, and the place of the header in .JHR.
