@@ -1,0 +1,6 @@
+pub mod Addresses
+pub mod Beginnings
+pub mod Doubling
+pub mod OneAnswer
+pub mod Serials
+pub mod Written
