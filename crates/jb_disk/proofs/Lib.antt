@@ -1,4 +1,6 @@
 mod CrashLemmas
 mod KeptLemmas
 mod MemoryLemmas
+pub mod RunLemmas
+pub mod StepLemmas
 mod TraceLemmas

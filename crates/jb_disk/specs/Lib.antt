@@ -9,5 +9,7 @@ pub mod Kept
 pub mod Memory
 pub mod MemoryLaws
 pub mod Moments
+pub mod Runs
 pub mod Steady
+pub mod Steps
 pub mod Trace

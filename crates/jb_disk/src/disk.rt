@@ -2,7 +2,8 @@
 ghost use Rattle.std.specs.Prelude.{◌≡◌, ◌+◌, ◌≤◌, length, take, drop, IfOk, OnOk};
 ghost use Rattle.std.specs.Option.{ForSome, option_map};
 ghost use Rattle.jb_disk.specs.Files.{ceiling_of, written};
-ghost use Rattle.jb_disk.specs.Device.{Device, OnlyReads, Tears, Resizes, Syncs, IsPast, FailsBy, TellsAnImage};
+ghost use Rattle.jb_disk.specs.Device.{Device, OnlyReads, Tears, Resizes, Syncs, IsPast, FailsBy, TellsAnImage, and_then};
+ghost use Rattle.jb_disk.specs.Images.{torn, cut, with_image};
 
 use crate::FileId;
 use std::error::Error;
@@ -41,8 +42,12 @@ pub trait Disk {
     /// Writes over what is there. A write past the end is refused and changes nothing. Until a sync of this file a crash
     /// may leave any bytes in the range.
     fn write_at(&mut self, file: FileId, at: u64, bytes: &[u8]) -> Result<(), DiskFailed>
+        // What is read, and what a crash may leave.
         ensures ok { OnOk result ((device self.new).contents ≡ option_map (written file at bytes.now) (device self.old).contents) }
         ensures changed { Tears file at (length bytes.now) (device self.old) (device self.new) }
+        ensures crash { OnOk result ((device self.new).moments ≡ and_then (with_image file (torn at (length bytes.now))) (device self.old).moments) }
+
+        // A range past the end, or a fault.
         ensures past { IsPast (device self.old).contents file (at + length bytes.now) → OnlyReads (device self.old) (device self.new) }
         ensures cause { FailsBy (IsPast (device self.old).contents file (at + length bytes.now)) (device self.old) (device self.new) result };
 
@@ -51,6 +56,7 @@ pub trait Disk {
     fn set_len(&mut self, file: FileId, len: u64) -> Result<(), DiskFailed>
         requires { len ≤ ceiling_of file }
         ensures changed { Resizes file len (device self.old) (device self.new) result }
+        ensures crash { OnOk result ((device self.new).moments ≡ and_then (with_image file (cut len)) (device self.old).moments) }
         ensures cause { FailsBy ⊥ (device self.old) (device self.new) result };
 
     /// Makes a file durable: from here on a crash leaves of it what a read gives.

@@ -81,8 +81,12 @@ impl MemDisk {
     pub fn crashed(&self, after: u64, pick: u8) -> Result<MemDisk, OutOfMemory>
         requires within { after ≤ length self.now.calls }
         requires known { pick ≤ 3 }
+
+        // The disk holds what the pick asks for, synced.
         ensures fresh { IfOk result (λ disk. device_of disk ≡ fresh_device (listed disk.first)) }
         ensures found { IfOk result (λ disk. (file : FileId) → IsPicked pick (images_at after self.now file) (contents_at after self.now file) (listed disk.first file)) }
+
+        // A crash after so many calls might have left that.
         ensures image { IfOk result (λ disk. IsImage (images_at after self.now) (listed disk.first)) }
         ensures crash { IfOk result (λ disk. MightLeave (device_of self.now).moments (listed disk.first)) }
     {

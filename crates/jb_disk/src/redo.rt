@@ -70,6 +70,8 @@ impl Redo {
     pub fn clear(&mut self)
         ensures lengths { self.new.lengths ≡ [] }
         ensures pieces { self.new.pieces ≡ [] }
+
+        // What it held is room now.
         ensures spare_lengths { self.new.spare_lengths ≡ self.old.spare_lengths + length self.old.lengths }
         ensures spare_pieces { self.new.spare_pieces ≡ self.old.spare_pieces + length self.old.pieces }
         ensures spare_bytes { self.new.spare_bytes ≡ self.old.spare_bytes + held_by self.old.pieces }
@@ -96,6 +98,8 @@ impl Redo {
         requires some { 0 < self.old.spare_pieces }
         requires fits { length bytes.now ≤ self.old.spare_bytes }
         requires short { length bytes.now < 2 ^ 32 }
+
+        // The piece is the last one, and costs no more room than its own.
         ensures lengths { self.new.lengths ≡ self.old.lengths }
         ensures pieces { self.new.pieces ≡ self.old.pieces ++ Bytes file at bytes.now ∷ [] }
         ensures room { Spends 0 1 (length bytes.now) self.old self.new }

@@ -1,0 +1,37 @@
+-- Runs of calls of a disk, and what a crash at any moment of one may leave.
+use Rattle.std.specs.Prelude.{◌≡◌, List, [], ◌∷◌, ◌++◌}
+use Rattle.std.specs.Option.{ForSome}
+use Rattle.jb_disk.specs.Files.{Files}
+use Rattle.jb_disk.specs.Images.{Images, IsImage}
+use Rattle.jb_disk.specs.Device.{Device}
+
+-- a crash leaves only files with this property
+abbrev pub Leaves : (Files → Type 0) → Images → Type 0
+Leaves property images = (files : Files) → IsImage images files → property files
+
+-- so it is at the newest of these moments
+abbrev pub LeavesNow : (Files → Type 0) → List Images → Type 0
+LeavesNow property [] = Unit {0}
+LeavesNow property (now ∷ earlier) = Leaves property now
+
+-- so it is at each of them
+abbrev pub LeavesAlways : (Files → Type 0) → List Images → Type 0
+LeavesAlways property [] = Unit {0}
+LeavesAlways property (now ∷ earlier) = Leaves property now × LeavesAlways property earlier
+
+-- moments have come, and a crash at each of them leaves only files with this property
+pub record Runs (property : Files → Type 0) (old new : List Images) : Type 0 where
+  pub later : List Images
+  pub since : new ≡ later ++ old
+  pub only : LeavesAlways property later
+
+-- a crash at any moment from the old device to the new one leaves only files with this property
+pub record LeavesOnly (old new : Device) (property : Files → Type 0) : Type 0 where
+  pub first : LeavesNow property old.moments
+  pub run : Runs property old.moments new.moments
+
+-- what is read keeps this property, and so does what a crash may leave, at each moment of the run
+pub record Keeps (property : Files → Type 0) (old new : Device) : Type 0 where
+  pub told : ForSome old.contents property → ForSome new.contents property
+  pub images : LeavesNow property old.moments → LeavesNow property new.moments
+  pub run : LeavesNow property old.moments → Runs property old.moments new.moments
