@@ -1,7 +1,7 @@
 //! The six files of a base in their folder, with the system's own errors.
 
 use crate::real::RealFile;
-use crate::spelling::paths;
+use crate::spelling;
 use jb_base::OutOfMemory;
 use jb_disk::FileId;
 use std::alloc::Global;
@@ -9,12 +9,11 @@ use std::fs::File;
 use std::io;
 use std::rt::Files;
 
-/// The paths and the files, by the number of the file.
+/// The files, by their numbers.
 #[derive(Drop)]
 pub(crate) struct Folder<R: Files<File = File> + Drop> {
     rt: R,
     folder: String,
-    paths: [String; 6],
     files: [RealFile; 6],
     is_synced: bool,
 }
@@ -27,53 +26,44 @@ impl<R: Files<File = File> + Drop> Folder<R> {
         name: &str,
     ) -> Result<Folder<R>, OutOfMemory> {
         let dir = if dir.is_empty() { "." } else { dir };
-        let paths = paths(&rt, alloc, dir, name)?;
+        let files = spelling::files(&rt, alloc, dir, name)?;
         let folder = format!(in alloc; "{dir}")?;
         Ok(Folder {
             rt,
             folder,
-            paths,
-            files: [
-                RealFile::new(),
-                RealFile::new(),
-                RealFile::new(),
-                RealFile::new(),
-                RealFile::new(),
-                RealFile::new(),
-            ],
+            files,
             is_synced: false,
         })
     }
 
     pub(crate) fn len(&mut self, file: FileId) -> io::Result<u64> {
         let n = file.number() as usize;
-        self.files[n].len(&self.rt, self.paths[n].as_str())
+        self.files[n].len(&self.rt)
     }
 
     pub(crate) fn read_at(&mut self, file: FileId, at: u64, into: &mut [u8]) -> io::Result<()> {
         let n = file.number() as usize;
-        self.files[n].read_at(&self.rt, self.paths[n].as_str(), at, into)
+        self.files[n].read_at(&self.rt, at, into)
     }
 
     pub(crate) fn write_at(&mut self, file: FileId, at: u64, bytes: &[u8]) -> io::Result<()> {
         let n = file.number() as usize;
-        self.files[n].write_at(&self.rt, self.paths[n].as_str(), at, bytes)
+        self.files[n].write_at(&self.rt, at, bytes)
     }
 
     /// Makes the file where it is not there; then its name is in the folder for good before this answers.
     pub(crate) fn set_len(&mut self, file: FileId, len: u64) -> io::Result<()> {
         let n = file.number() as usize;
-        if self.files[n].make(&self.rt, self.paths[n].as_str())? {
-            self.is_synced = false;
-        }
-        self.files[n].set_len(&self.rt, self.paths[n].as_str(), len)?;
+        let is_new = self.files[n].make(&self.rt)?;
+        self.is_synced = self.is_synced && !is_new;
+        self.files[n].set_len(&self.rt, len)?;
         self.sync_names()
     }
 
     /// A file that is not there is as it is for good.
     pub(crate) fn sync(&mut self, file: FileId) -> io::Result<()> {
         let n = file.number() as usize;
-        if self.files[n].sync(&self.rt, self.paths[n].as_str())? {
+        if self.files[n].sync(&self.rt)? {
             self.sync_names()?;
         }
         Ok(())

@@ -6,9 +6,10 @@ use std::os::unix::fs::FileExt;
 use std::rt::Files;
 use std::{fs, io};
 
-/// A file of the system, by the path that each call is given anew.
+/// A file of the system, which may not be there.
 #[derive(Drop)]
 pub(crate) struct RealFile {
+    path: String,
     open: Open,
     has_failed_sync: bool,
 }
@@ -22,16 +23,25 @@ enum Open {
 }
 
 impl RealFile {
-    pub(crate) fn new() -> RealFile {
+    pub(crate) fn new(path: String) -> RealFile {
         RealFile {
+            path,
             open: Open::Closed,
             has_failed_sync: false,
         }
     }
 
+    /// Whether something has its name, whether it can be read or not.
+    pub(crate) fn has_name<R: Files>(&self, rt: &R) -> bool {
+        match fs::metadata(rt, self.path.as_str()) {
+            Ok(_) => true,
+            Err(error) => error.kind() != io::ErrorKind::NotFound,
+        }
+    }
+
     /// Its length, or 0 where it is not there.
-    pub(crate) fn len<R: Files<File = File>>(&mut self, rt: &R, path: &str) -> io::Result<u64> {
-        match self.readable(rt, path)? {
+    pub(crate) fn len<R: Files<File = File>>(&mut self, rt: &R) -> io::Result<u64> {
+        match self.readable(rt)? {
             Some(file) => Ok(file.metadata()?.len()),
             None => Ok(0),
         }
@@ -41,12 +51,11 @@ impl RealFile {
     pub(crate) fn read_at<R: Files<File = File>>(
         &mut self,
         rt: &R,
-        path: &str,
         at: u64,
         into: &mut [u8],
     ) -> io::Result<()> {
-        within(self.len(rt, path)?, at, into.len())?;
-        match self.readable(rt, path)? {
+        within(self.len(rt)?, at, into.len())?;
+        match self.readable(rt)? {
             Some(file) => file.read_exact_at(into, at),
             None => Ok(()),
         }
@@ -56,39 +65,33 @@ impl RealFile {
     pub(crate) fn write_at<R: Files<File = File>>(
         &mut self,
         rt: &R,
-        path: &str,
         at: u64,
         bytes: &[u8],
     ) -> io::Result<()> {
-        within(self.len(rt, path)?, at, bytes.len())?;
-        match self.writable(rt, path)? {
+        within(self.len(rt)?, at, bytes.len())?;
+        match self.writable(rt)? {
             Some(file) => file.write_all_at(bytes, at),
             None => Ok(()),
         }
     }
 
     /// Makes an empty file where none is there, and says whether it did.
-    pub(crate) fn make<R: Files<File = File>>(&mut self, rt: &R, path: &str) -> io::Result<bool> {
-        if self.readable(rt, path)?.is_some() {
+    pub(crate) fn make<R: Files<File = File>>(&mut self, rt: &R) -> io::Result<bool> {
+        if self.readable(rt)?.is_some() {
             return Ok(false);
         }
         let file = OpenOptions::new()
             .read(true)
             .write(true)
             .create_new(true)
-            .open(rt, path)?;
+            .open(rt, self.path.as_str())?;
         self.open = Open::ToWrite(apart(file)?);
         Ok(true)
     }
 
     /// Sets the length of a file that is there.
-    pub(crate) fn set_len<R: Files<File = File>>(
-        &mut self,
-        rt: &R,
-        path: &str,
-        len: u64,
-    ) -> io::Result<()> {
-        match self.writable(rt, path)? {
+    pub(crate) fn set_len<R: Files<File = File>>(&mut self, rt: &R, len: u64) -> io::Result<()> {
+        match self.writable(rt)? {
             Some(file) => file.set_len(len),
             None => Err(io::ErrorKind::NotFound.into()),
         }
@@ -96,11 +99,11 @@ impl RealFile {
 
     /// Sends what it holds to the device, and says whether it is there. The system may have dropped what a failed sync did
     /// not write, and would call the next one done; so each later one fails too.
-    pub(crate) fn sync<R: Files<File = File>>(&mut self, rt: &R, path: &str) -> io::Result<bool> {
+    pub(crate) fn sync<R: Files<File = File>>(&mut self, rt: &R) -> io::Result<bool> {
         if self.has_failed_sync {
             return Err(io::ErrorKind::Other.into());
         }
-        let Some(file) = self.readable(rt, path)? else {
+        let Some(file) = self.readable(rt)? else {
             return Ok(false);
         };
         let answer = file.sync_all();
@@ -110,26 +113,21 @@ impl RealFile {
     }
 
     // The file as it is open, or opened to be read; none where it is not there.
-    fn readable<R: Files<File = File>>(
-        &mut self,
-        rt: &R,
-        path: &str,
-    ) -> io::Result<Option<&File>> {
-        if matches!(self.open, Open::Closed) && is_there(rt, path)? {
-            self.open = Open::ToRead(apart(File::open(rt, path)?)?);
+    fn readable<R: Files<File = File>>(&mut self, rt: &R) -> io::Result<Option<&File>> {
+        if matches!(self.open, Open::Closed) && is_there(rt, self.path.as_str())? {
+            self.open = Open::ToRead(apart(File::open(rt, self.path.as_str())?)?);
         }
         Ok(self.file())
     }
 
     // The file opened to be written too; none where it is not there.
-    fn writable<R: Files<File = File>>(
-        &mut self,
-        rt: &R,
-        path: &str,
-    ) -> io::Result<Option<&File>> {
+    fn writable<R: Files<File = File>>(&mut self, rt: &R) -> io::Result<Option<&File>> {
         let is_open = matches!(self.open, Open::ToWrite(_));
-        if !is_open && is_there(rt, path)? {
-            let file = OpenOptions::new().read(true).write(true).open(rt, path)?;
+        if !is_open && is_there(rt, self.path.as_str())? {
+            let file = OpenOptions::new()
+                .read(true)
+                .write(true)
+                .open(rt, self.path.as_str())?;
             self.open = Open::ToWrite(apart(file)?);
         }
         Ok(self.file())

@@ -53,7 +53,10 @@ fn what_was_written_is_there_anew(rt: HostRuntime) -> Result<(), Fail> {
     assert_eq!(rt; bytes, *b"3xyz");
     assert_eq!(rt; disk.read_at(FileId::Jnl, 5, &mut bytes), Err(DiskFailed));
     disk.set_len(FileId::Jnl, 4)?;
-    assert_eq!(rt; fs::read(&rt, "written/A.JNL")?.as_slice(), b"123x".as_slice());
+    assert_eq!(rt;
+        fs::read(&rt, "written/A.JNL")?.as_slice(),
+        b"123x".as_slice()
+    );
     fs::remove_dir_all(&rt, "written")?;
     Ok(())
 }
@@ -91,7 +94,10 @@ fn a_base_that_may_only_be_read_is_read(rt: HostRuntime) -> Result<(), Fail> {
     disk.read_at(FileId::Jhr, 1, &mut bytes)?;
     assert_eq!(rt; bytes, *b"AM");
     disk.sync(FileId::Jhr)?;
-    let may_write = fs::OpenOptions::new().write(true).open(&rt, "kept/A.jhr").is_ok();
+    let may_write = fs::OpenOptions::new()
+        .write(true)
+        .open(&rt, "kept/A.jhr")
+        .is_ok();
     assert_eq!(rt; disk.write_at(FileId::Jhr, 0, b"j").is_ok(), may_write);
     assert_eq!(rt; disk.len(FileId::Jhr), Ok(3));
     fs::remove_dir_all(&rt, "kept")?;
