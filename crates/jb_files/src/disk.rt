@@ -1,0 +1,75 @@
+//! The disk over real files.
+ghost use Rattle.std.specs.Prelude.{◌≡◌, ◌≤◌, IfOk, OnOk, OnErr};
+ghost use Rattle.jb_base.specs.Fault.{Rose};
+
+use crate::folder::Folder;
+use jb_base::OutOfMemory;
+use jb_disk::{Disk, DiskFailed, FileId};
+use std::alloc::Global;
+use std::fs::File;
+use std::io;
+use std::rt::Files;
+
+/// The files `NAME.JHR`, `NAME.JDT`, `NAME.JDX`, `NAME.JLR`, `NAME.JNL` and `NAME.NDT` of one folder, or all in lower case.
+/// Each is opened once to be read, where a call first asks for it, and once more to be written.
+#[derive(Drop)]
+pub struct FolderDisk<R: Files<File = File> + Drop> {
+    folder: Folder<R>,
+    faults: u64,
+}
+
+impl<R: Files<File = File> + Drop> FolderDisk<R> {
+    ghost use Rattle.jb_files.specs.Folder.{silent_device};
+
+    /// The base of this name in a folder, which is the current one where its text is empty. Neither has to be there. The
+    /// extensions are spelled as those of the header file that is there, upper case before lower case.
+    pub fn new(rt: R, alloc: Global, dir: &str, name: &str) -> Result<FolderDisk<R>, OutOfMemory>
+        ensures { IfOk result (λ disk. disk.faults ≡ 0) }
+    {
+        let folder = Folder::new(rt, alloc, dir, name)?;
+        Ok(FolderDisk { folder, faults: 0 })
+    }
+}
+
+impl<R: Files<File = File> + Drop> Disk for FolderDisk<R> {
+    ghost use Rattle.jb_files.specs.Folder.{silent_device, tells_nothing};
+
+    ghost device = { λ disk. silent_device disk.faults };
+
+    fn len(&mut self, file: FileId) -> Result<u64, DiskFailed> {
+        counted(&mut self.faults, self.folder.len(file))
+    }
+
+    fn read_at(&mut self, file: FileId, at: u64, into: &mut [u8]) -> Result<(), DiskFailed> {
+        counted(&mut self.faults, self.folder.read_at(file, at, into))
+    }
+
+    fn write_at(&mut self, file: FileId, at: u64, bytes: &[u8]) -> Result<(), DiskFailed> {
+        counted(&mut self.faults, self.folder.write_at(file, at, bytes))
+    }
+
+    fn set_len(&mut self, file: FileId, len: u64) -> Result<(), DiskFailed> {
+        counted(&mut self.faults, self.folder.set_len(file, len))
+    }
+
+    fn sync(&mut self, file: FileId) -> Result<(), DiskFailed> {
+        counted(&mut self.faults, self.folder.sync(file))
+    }
+
+    ghost told = { λ disk. tells_nothing disk.faults };
+}
+
+// The answer, with an error counted.
+fn counted<T: Drop>(faults: &mut u64, answer: io::Result<T>) -> Result<T, DiskFailed>
+    ensures ok { OnOk result (faults.new ≡ faults.old) }
+    ensures err { OnErr result (Rose faults.old faults.new) }
+    ensures later { faults.old ≤ faults.new }
+{
+    match answer {
+        Ok(value) => Ok(value),
+        Err(_) => {
+            *faults = faults.saturating_add(1);
+            Err(DiskFailed)
+        }
+    }
+}

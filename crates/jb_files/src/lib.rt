@@ -1,0 +1,15 @@
+//! The six files of an area as real files in a folder: the trusted edge below the journal.
+//!
+//! Contracts see how often a call failed, and nothing of what the files hold. The spelling of the extensions is that of
+//! the header file that is there.
+#![tactic(auto)]
+
+mod disk;
+mod folder;
+mod real;
+mod spelling;
+
+pub use disk::FolderDisk;
+
+#[cfg(test)]
+mod tests;

@@ -1,0 +1,168 @@
+//! One file of the system: opened to be read, and anew to be written where that is first asked.
+
+use std::fs::{File, OpenOptions};
+use std::os::fd::AsRawFd;
+use std::os::unix::fs::FileExt;
+use std::rt::Files;
+use std::{fs, io};
+
+/// A file of the system, which may not be there.
+#[derive(Drop)]
+pub(crate) struct RealFile {
+    path: String,
+    open: Open,
+    has_failed_sync: bool,
+}
+
+// How far it is open.
+#[derive(Drop)]
+enum Open {
+    Closed,
+    ToRead(File),
+    ToWrite(File),
+}
+
+impl RealFile {
+    pub(crate) fn new(path: String) -> RealFile {
+        RealFile {
+            path,
+            open: Open::Closed,
+            has_failed_sync: false,
+        }
+    }
+
+    /// Whether something has its name, whether it can be read or not.
+    pub(crate) fn has_name<R: Files>(&self, rt: &R) -> bool {
+        match fs::metadata(rt, self.path.as_str()) {
+            Ok(_) => true,
+            Err(error) => error.kind() != io::ErrorKind::NotFound,
+        }
+    }
+
+    /// Its length, or 0 where it is not there.
+    pub(crate) fn len<R: Files<File = File>>(&mut self, rt: &R) -> io::Result<u64> {
+        match self.readable(rt)? {
+            Some(file) => Ok(file.metadata()?.len()),
+            None => Ok(0),
+        }
+    }
+
+    /// Fills the slice from a place on. A range that passes the end is an error.
+    pub(crate) fn read_at<R: Files<File = File>>(
+        &mut self,
+        rt: &R,
+        at: u64,
+        into: &mut [u8],
+    ) -> io::Result<()> {
+        within(self.len(rt)?, at, into.len())?;
+        match self.readable(rt)? {
+            Some(file) => file.read_exact_at(into, at),
+            None => Ok(()),
+        }
+    }
+
+    /// Writes over what is there. A range that passes the end is an error, and nothing is written.
+    pub(crate) fn write_at<R: Files<File = File>>(
+        &mut self,
+        rt: &R,
+        at: u64,
+        bytes: &[u8],
+    ) -> io::Result<()> {
+        within(self.len(rt)?, at, bytes.len())?;
+        match self.writable(rt)? {
+            Some(file) => file.write_all_at(bytes, at),
+            None => Ok(()),
+        }
+    }
+
+    /// Makes an empty file where none is there, and says whether it did.
+    pub(crate) fn make<R: Files<File = File>>(&mut self, rt: &R) -> io::Result<bool> {
+        if self.readable(rt)?.is_some() {
+            return Ok(false);
+        }
+        let file = OpenOptions::new()
+            .read(true)
+            .write(true)
+            .create_new(true)
+            .open(rt, self.path.as_str())?;
+        self.open = Open::ToWrite(apart(file)?);
+        Ok(true)
+    }
+
+    /// Sets the length of a file that is there.
+    pub(crate) fn set_len<R: Files<File = File>>(&mut self, rt: &R, len: u64) -> io::Result<()> {
+        match self.writable(rt)? {
+            Some(file) => file.set_len(len),
+            None => Err(io::ErrorKind::NotFound.into()),
+        }
+    }
+
+    /// Sends what it holds to the device, and says whether it is there. The system may have dropped what a failed sync did
+    /// not write, and would call the next one done; so each later one fails too.
+    pub(crate) fn sync<R: Files<File = File>>(&mut self, rt: &R) -> io::Result<bool> {
+        if self.has_failed_sync {
+            return Err(io::ErrorKind::Other.into());
+        }
+        let Some(file) = self.readable(rt)? else {
+            return Ok(false);
+        };
+        let answer = file.sync_all();
+        self.has_failed_sync = answer.is_err();
+        answer?;
+        Ok(true)
+    }
+
+    // The file as it is open, or opened to be read; none where it is not there.
+    fn readable<R: Files<File = File>>(&mut self, rt: &R) -> io::Result<Option<&File>> {
+        if matches!(self.open, Open::Closed) && is_there(rt, self.path.as_str())? {
+            self.open = Open::ToRead(apart(File::open(rt, self.path.as_str())?)?);
+        }
+        Ok(self.file())
+    }
+
+    // The file opened to be written too; none where it is not there.
+    fn writable<R: Files<File = File>>(&mut self, rt: &R) -> io::Result<Option<&File>> {
+        let is_open = matches!(self.open, Open::ToWrite(_));
+        if !is_open && is_there(rt, self.path.as_str())? {
+            let file = OpenOptions::new()
+                .read(true)
+                .write(true)
+                .open(rt, self.path.as_str())?;
+            self.open = Open::ToWrite(apart(file)?);
+        }
+        Ok(self.file())
+    }
+
+    fn file(&self) -> Option<&File> {
+        match &self.open {
+            Open::Closed => None,
+            Open::ToRead(file) | Open::ToWrite(file) => Some(file),
+        }
+    }
+}
+
+// Whether a regular file has this name. Anything else there is an error, since opening it might wait or read nothing.
+fn is_there<R: Files>(rt: &R, path: &str) -> io::Result<bool> {
+    match fs::metadata(rt, path) {
+        Ok(found) if found.is_file() => Ok(true),
+        Ok(_) => Err(io::ErrorKind::Unsupported.into()),
+        Err(error) if error.kind() == io::ErrorKind::NotFound => Ok(false),
+        Err(error) => Err(error),
+    }
+}
+
+// What is meant for a standard stream that was closed must not land in a file of the base.
+fn apart(file: File) -> io::Result<File> {
+    if file.as_raw_fd() <= 2 {
+        return file.try_clone();
+    }
+    Ok(file)
+}
+
+// Whether a range ends within a file of this length.
+fn within(len: u64, at: u64, count: usize) -> io::Result<()> {
+    match at.checked_add(count as u64) {
+        Some(end) if end <= len => Ok(()),
+        _ => Err(io::ErrorKind::UnexpectedEof.into()),
+    }
+}
