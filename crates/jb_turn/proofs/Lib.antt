@@ -1,0 +1,5 @@
+pub mod Histories
+pub mod TurnKeeps
+pub mod Places
+pub mod Out
+pub mod Callers
