@@ -3,3 +3,4 @@ pub mod TurnKeeps
 pub mod Places
 pub mod Out
 pub mod Callers
+pub mod Sums
