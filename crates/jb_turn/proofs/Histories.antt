@@ -1,15 +1,15 @@
 -- Lemmas on histories, rows and views.
-use Rattle.std.proofs.Common.{◌≡◌, ◌≢◌, ◌⊎◌, ℕ, zero, suc, ◌+◌, ◌<◌, ◌≤◌, Bool, true, false, List, [], ◌∷◌, ◌++◌, length, set, sym, refl, ap, ◌∙◌, subst, ⊎_elim, inl, inr, arith, append_assoc, length-set, Option, Some, None}
+use Rattle.std.proofs.Common.{◌≡◌, ◌≢◌, ◌⊎◌, ℕ, zero, suc, ◌+◌, ◌<◌, ◌≤◌, false, List, [], ◌∷◌, ◌++◌, length, set, sym, refl, ap, ◌∙◌, subst, ⊎_elim, inl, inr, arith, append_assoc, Option}
 use Rattle.std.proofs.lemmas.List.{append-nil}
 use mathlib.Core.Option.{some, some-injective, some-ne-none}
 use native.Mathlib.Decide.{ℕ_discrete}
 use lib.ListN.{get_elem?}
-use Rattle.atomic_table.proofs.Lists.{at_set, set_here, set_else, at_longer}
+use Rattle.atomic_table.proofs.Lists.{set_here, set_else, at_longer}
 use Rattle.jb_turn.specs.declared.view.Row.{Row}
 use Rattle.jb_turn.specs.declared.view.View.{View}
 use Rattle.jb_turn.specs.declared.view.Stage.{Stage}
 use Rattle.jb_turn.specs.declared.view.Stage.TheVariants.{Idle, Waits, Came}
-use Rattle.jb_turn.specs.Rows.{Begins, Has, calls, is_at, when, row, view_of, head_row}
+use Rattle.jb_turn.specs.Rows.{Begins, Has, calls, is_at, when}
 use Rattle.jb_turn.specs.Rule.{weight, waiting, IsLongest, IsOut}
 
 abbrev pick : {P : Type 0} → Dec P → ℕ → ℕ → ℕ

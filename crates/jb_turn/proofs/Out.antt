@@ -1,27 +1,15 @@
 -- What a seat knows between the load that told it that its turn has come and the addition that ends the turn.
-use Rattle.std.proofs.Common.{◌≡◌, ◌≢◌, ◌⊎◌, ℕ, zero, suc, ◌+◌, ◌%◌, ◌^◌, ◌<◌, ◌≤◌, Bool, true, false, List, [], ◌∷◌, ◌++◌, map, length, get_or, set, sym, refl, ap, ◌∙◌, subst, ⊎_elim, inl, inr, arith, append_assoc, length-set, length-append, Option, Some, None}
+use Rattle.std.proofs.Common.{◌≡◌, ℕ, ◌+◌, ◌%◌, ◌^◌, List, [], ◌∷◌, sym, refl, ap, ◌∙◌, subst, Option, Some, None}
 use Rattle.std.specs.Prelude.{IsSome}
-use Rattle.std.proofs.lemmas.List.{append-nil}
-use mathlib.Core.Logic.{dite}
-use mathlib.Core.Option.{none, some, some-injective, some-ne-none}
-use mathlib.Core.Option as maybe
-use native.Mathlib.Decide.{ℕ_discrete}
-use lib.ListN.{get_elem?}
-use lib.Seq.{set-get_or}
-use Rattle.atomic_table.specs.Table.{State, Me, step, Act, keeps, takes, gives, stepped, Allows, Splits, Joins, opening, Seen, Final, Valid, carried_after, homes_after, put_back, rest}
-use Rattle.atomic_table.proofs.Lists.{at_set, set_here, set_else, set_again, at_longer, at_last, one_turn}
-use Rattle.jb_turn.specs.declared.view.Row.{Row}
+use mathlib.Core.Option.{none}
+use Rattle.atomic_table.specs.Table.{Me, step, Allows, rest}
 use Rattle.jb_turn.specs.declared.view.View.{View}
 use Rattle.jb_turn.specs.declared.view.Stage.{Stage}
-use Rattle.jb_turn.specs.declared.view.Stage.TheVariants.{Idle, Waits, Came}
-use Rattle.jb_turn.specs.Rows.{Begins, Has, calls, is_at, when, row, view_of, head_row, IsOwn, StandsFrom}
-use Rattle.jb_turn.specs.Rule.{Home, weight, waiting, IsLongest, IsOut, IsHome, IsRow, IsStage, IsSeat, HasOwn, TurnRule}
-use Rattle.jb_turn.specs.Whole.{HasAll, HasNode, Fits, IsWhole}
-use Rattle.jb_turn.specs.Steps.{ticket, seen, noted, given, listed, maker, maker_no_more, newcomer, both, spent, Draws, Arrives, Comes, Notes, Gives, Counts}
+use Rattle.jb_turn.specs.declared.view.Stage.TheVariants.{Came}
+use Rattle.jb_turn.specs.Rows.{view_of, head_row, StandsFrom}
+use Rattle.jb_turn.specs.Rule.{TurnRule}
+use Rattle.jb_turn.specs.Steps.{ticket, seen, Arrives, Gives, Counts}
 use Rattle.jb_turn.proofs.TurnKeeps.{counts, gives_back}
-use Rattle.jb_turn.proofs.Places.{has_reverse, has_reversed}
-use Rattle.std.proofs.Common.{reverse}
-use Rattle.jb_turn.proofs.Histories.{put, put_here, put_else, passed, passed_on, passed_not, begins_self, begins_longer, only_has, none_has, at_less, at_end, has_left, has_right, has_either, calls_snoc, calls_other, calls_none, waiting_set, waiting_snoc, waiting_most, same_at, longest_set, out_set}
 
 module _ (S O E Q : Type 0) (stands : S → O → List E → Type 0) (caller : E → Option ℕ) where
   abbrev Knows : Type 0
@@ -58,4 +46,3 @@ module _ (S O E Q : Type 0) (stands : S → O → List E → Type 0) (caller : E
       → Allows (TurnRule stands caller first seats) slots id m 1 (λ n. (n + 1) % 2 ^ 64) (Gives refusal (step slots 1 1 0 none) m)
   gives_out seats slots id me m refusal one t is x held now st = subst (λ (z : Me (Option S) (View O E Q)). Allows (TurnRule stands caller first seats) slots id z 1 (λ n. (n + 1) % 2 ^ 64) (Gives refusal (step slots 1 1 0 none) z)) (sym now)
       (gives_back S O E Q stands caller first seats slots id (me.0, (0, Some x) ∷ rest me.1) refusal one t is x (ap (λ (c : List (ℕ × Option S)). (0, Some x) ∷ rest c) held) st)
-

@@ -1,5 +1,5 @@
 -- Lists read by two words, rows of seats, and the list that a `Vec` leaves as it is popped.
-use Rattle.std.proofs.Common.{◌≡◌, ◌≢◌, ◌⊎◌, ℕ, zero, suc, ◌+◌, ◌<◌, ◌≤◌, List, [], ◌∷◌, ◌++◌, map, reverse, length, get_or, sym, refl, ap, ◌∙◌, subst, ⊎_elim, inl, inr, arith, Option, Some, None}
+use Rattle.std.proofs.Common.{◌≡◌, ◌⊎◌, ℕ, zero, suc, ◌+◌, ◌<◌, List, [], ◌∷◌, ◌++◌, map, reverse, length, sym, refl, ap, ◌∙◌, subst, ⊎_elim, inl, inr, arith, Option, Some}
 use Rattle.std.specs.Prelude.{slice_get}
 use mathlib.Core.Option.{some, some-injective, some-ne-none}
 use lib.ListN.{get_elem?}
@@ -9,7 +9,7 @@ use Rattle.atomic_table.specs.declared.shared.Seat.{Seat}
 use Rattle.jb_turn.specs.declared.view.View.{View}
 use Rattle.jb_turn.specs.declared.view.Stage.TheVariants.{Idle}
 use Rattle.jb_turn.specs.Rows.{Has, row, view_of, head_row}
-use Rattle.jb_turn.proofs.Histories.{has_left, has_right, has_either, only_has, none_has}
+use Rattle.jb_turn.proofs.Histories.{has_left, has_right, has_either, none_has}
 
 reverse_front : {A : Type 0} (xs : List A) (a : A) → reverse xs ++ a ∷ [] ≡ reverse (a ∷ xs)
 reverse_front xs a = sym (reverse-append (a ∷ []) xs)

@@ -1,23 +1,21 @@
 -- Each step keeps the rule of the turn.
-use Rattle.std.proofs.Common.{◌≡◌, ◌≢◌, ◌⊎◌, ℕ, zero, suc, ◌+◌, ◌%◌, ◌^◌, ◌<◌, ◌≤◌, Bool, true, false, List, [], ◌∷◌, ◌++◌, map, length, get_or, set, sym, refl, ap, ◌∙◌, subst, ⊎_elim, inl, inr, arith, append_assoc, length-set, length-append, Option, Some, None}
-use Rattle.std.specs.Prelude.{IsSome}
+use Rattle.std.proofs.Common.{◌≡◌, ◌≢◌, ◌⊎◌, ℕ, ◌+◌, ◌%◌, ◌^◌, ◌<◌, ◌≤◌, List, [], ◌∷◌, ◌++◌, map, length, get_or, set, sym, refl, ap, ◌∙◌, subst, ⊎_elim, inl, inr, arith, length-set, length-append, Option, Some}
 use Rattle.std.proofs.lemmas.List.{append-nil}
 use mathlib.Core.Logic.{dite}
-use mathlib.Core.Option.{none, some, some-injective, some-ne-none}
-use mathlib.Core.Option as maybe
+use mathlib.Core.Option.{none, some, some-injective}
 use native.Mathlib.Decide.{ℕ_discrete}
 use lib.ListN.{get_elem?}
 use lib.Seq.{set-get_or}
-use Rattle.atomic_table.specs.Table.{State, Me, step, Act, keeps, takes, gives, stepped, Allows, Splits, Joins, opening, Seen, Final, Valid, carried_after, homes_after, put_back, rest}
-use Rattle.atomic_table.proofs.Lists.{at_set, set_here, set_else, set_again, at_longer, at_last, one_turn}
+use Rattle.atomic_table.specs.Table.{State, Me, step, Act, keeps, takes, gives, stepped, Allows, Splits, Joins, opening, Seen, Final, Valid, carried_after, put_back, rest}
+use Rattle.atomic_table.proofs.Lists.{at_set, set_here, set_else, set_again, at_longer, one_turn}
 use Rattle.jb_turn.specs.declared.view.Row.{Row}
 use Rattle.jb_turn.specs.declared.view.View.{View}
 use Rattle.jb_turn.specs.declared.view.Stage.{Stage}
 use Rattle.jb_turn.specs.declared.view.Stage.TheVariants.{Idle, Waits, Came}
-use Rattle.jb_turn.specs.Rows.{Begins, Has, calls, is_at, when, row, view_of, head_row, IsOwn, StandsFrom}
+use Rattle.jb_turn.specs.Rows.{Has, calls, is_at, when, row, view_of, head_row, IsOwn, StandsFrom}
 use Rattle.jb_turn.specs.Rule.{Home, weight, waiting, IsLongest, IsOut, IsHome, IsRow, IsStage, IsSeat, HasOwn, TurnRule}
-use Rattle.jb_turn.specs.Whole.{HasAll, HasNode, Fits, IsWhole}
-use Rattle.jb_turn.specs.Steps.{ticket, seen, noted, given, listed, maker, maker_no_more, newcomer, both, spent, Draws, Arrives, Comes, Notes, Gives, Counts}
+use Rattle.jb_turn.specs.Whole.{HasAll, IsWhole}
+use Rattle.jb_turn.specs.Steps.{ticket, seen, noted, given, maker, maker_no_more, newcomer, both, spent, Draws, Arrives, Comes, Notes, Gives, Counts}
 use Rattle.jb_turn.proofs.Places.{has_reverse, has_reversed}
 use Rattle.std.proofs.Common.{reverse}
 use Rattle.jb_turn.proofs.Histories.{put, put_here, put_else, passed, passed_on, passed_not, begins_self, begins_longer, only_has, none_has, at_less, at_end, has_left, has_right, has_either, calls_snoc, calls_other, calls_none, waiting_set, waiting_snoc, waiting_most, same_at, longest_set, out_set}
@@ -74,34 +72,39 @@ module _ (S O E Q : Type 0) (stands : S → O → List E → Type 0) (caller : E
       let w : V = view_of (Waits r.next) me.0.rows me.0.made in let mine = r.each id me.0 at in let whose' : ℕ → ℕ = put r.whose r.next id in
       let sum = waiting_set s.views id me.0 w at in let none_yet : weight me.0.stage ≡ 0 = ap weight idle in let line = r.queue in
       let longer : r.serving + waiting (set s.views id w) ≡ r.next + 1 = omega arith in
-      let ahead : r.serving ≤ r.next = omega arith in
-      (w, keeps, tt, record {
-        log = r.log;
-        serving = r.serving;
-        next = r.next + 1;
-        whose = whose';
-        owner = r.owner;
-        few = r.few;
-        words_are = ap (λ (ws : List ℕ). set ws 0 ((get_or ws 0 0 + 1) % 18446744073709551616)) r.words_are ∙ ap (λ (k : ℕ). k ∷ r.serving % 18446744073709551616 ∷ length r.log ∷ []) (next_word r.next);
-        queue = longer;
-        room = subst (λ (k : ℕ). k ≤ seats) (sym (length-set s.views id w)) r.room;
-        unmade = unmade_set r.log s.views id w r.unmade;
-        each = each_set s.views id w r.log s.homes r.serving (r.next + 1) whose' r.owner record {
-          rows = mine.rows;
-          owned = mine.owned;
-          stage = (ahead, omega arith, put_here r.whose r.next id);
-          own = inl (owns r.owner id me.0 one mine.own);
-          maker = mine.maker;
-        } (λ j v other there. let o = r.each j v there in record {
-          rows = o.rows;
-          owned = o.owned;
-          stage = draw_else r.log s.homes r.serving r.next r.whose j id v.rows v.stage o.stage;
-          own = o.own;
-          maker = o.maker;
-        });
-        state = ⊎_elim (λ (h : IsHome stands first r.log s.homes). inl h) (λ (h : IsOut r.serving s.views). inr (out_set r.serving s.views id me.0 w at (λ e. absurd (cc (idle, e))) h)) r.state;
-        longest = longest_set r.log s.views id me.0 w at (λ q h. h) r.longest;
-      }, (r.next, ap (λ (ws : List ℕ). get_or ws 0 0) r.words_are, refl))
+      let ahead : r.serving ≤ r.next = omega arith in (
+        w,
+        keeps,
+        tt,
+        record {
+          log = r.log;
+          serving = r.serving;
+          next = r.next + 1;
+          whose = whose';
+          owner = r.owner;
+          few = r.few;
+          words_are = ap (λ (ws : List ℕ). set ws 0 ((get_or ws 0 0 + 1) % 18446744073709551616)) r.words_are ∙ ap (λ (k : ℕ). k ∷ r.serving % 18446744073709551616 ∷ length r.log ∷ []) (next_word r.next);
+          queue = longer;
+          room = subst (λ (k : ℕ). k ≤ seats) (sym (length-set s.views id w)) r.room;
+          unmade = unmade_set r.log s.views id w r.unmade;
+          each = each_set s.views id w r.log s.homes r.serving (r.next + 1) whose' r.owner record {
+            rows = mine.rows;
+            owned = mine.owned;
+            stage = (ahead, omega arith, put_here r.whose r.next id);
+            own = inl (owns r.owner id me.0 one mine.own);
+            maker = mine.maker;
+          } (λ j v other there. let o = r.each j v there in record {
+            rows = o.rows;
+            owned = o.owned;
+            stage = draw_else r.log s.homes r.serving r.next r.whose j id v.rows v.stage o.stage;
+            own = o.own;
+            maker = o.maker;
+          });
+          state = ⊎_elim (λ (h : IsHome stands first r.log s.homes). inl h) (λ (h : IsOut r.serving s.views). inr (out_set r.serving s.views id me.0 w at (λ e. absurd (cc (idle, e))) h)) r.state;
+          longest = longest_set r.log s.views id me.0 w at (λ q h. h) r.longest;
+        },
+        (r.next, ap (λ (ws : List ℕ). get_or ws 0 0) r.words_are, refl),
+      )
 
   -- a seat that steps and changes nothing
   unmoved : (seats i id : ℕ) (me : Sat) (s : St) → Rule seats s → get_elem? s.views id ≡ some me.0 → Rule seats (stepped s i (get_or s.words i 0) id me.1 me.0 keeps)
@@ -133,34 +136,39 @@ module _ (S O E Q : Type 0) (stands : S → O → List E → Type 0) (caller : E
       let place : IsStage r.log s.homes r.serving r.next r.whose id me.0.rows (Waits t) = subst (IsStage r.log s.homes r.serving r.next r.whose id me.0.rows) is mine.stage in
       let sum = waiting_set s.views id me.0 w at in let was : weight me.0.stage ≡ 1 = ap weight is in let line = r.queue in
       let out : set s.homes 0 none ≡ none ∷ [] = ap (λ (h : Homes). set h 0 none) full in
-      let here : get_elem? (set s.views id w) id ≡ some w = set_here s.views id w (at_less s.views id me.0 at) in
-      (w, takes 0 (Some x), ap (λ (h : Homes). get_elem? h 0) full, record {
-        log = r.log;
-        serving = r.serving;
-        next = r.next;
-        whose = r.whose;
-        owner = r.owner;
-        few = r.few;
-        words_are = ap (λ (ws : List ℕ). set ws 1 (get_or ws 1 0)) r.words_are;
-        queue = omega arith;
-        room = subst (λ (k : ℕ). k ≤ seats) (sym (length-set s.views id w)) r.room;
-        unmade = unmade_set r.log s.views id w r.unmade;
-        each = each_set s.views id w r.log (set s.homes 0 none) r.serving r.next r.whose r.owner record {
-          rows = λ q h. subst (IsRow caller first r.log (length s.views)) (only_has (seen r0 r.log) q h) record { opening = old.opening; begins = begins_self r.log; mine = old.mine; seen = old.mine; made_before = old.made_before };
-          owned = λ q h. subst (λ (z : Row O E Q). r.owner z.node ≡ id) (only_has (seen r0 r.log) q h) (mine.owned r0 (has_head me.0 one));
-          stage = (serves, place.1, place.2, out, λ q h. ap (λ (z : Row O E Q). z.front) (sym (only_has (seen r0 r.log) q h)));
-          own = inl (owns r.owner id me.0 one mine.own);
-          maker = mine.maker;
-        } (λ j v other there. let o = r.each j v there in record {
-          rows = o.rows;
-          owned = o.owned;
-          stage = take_else r.log s.homes (set s.homes 0 none) x r.serving r.next r.whose j v.rows v.stage full o.stage;
-          own = o.own;
-          maker = o.maker;
-        });
-        state = inr (id, w, here, ap (λ (u : ℕ). let c : Stage = Came u in c) (sym serves));
-        longest = (id, w, seen r0 r.log, here, (0, refl), refl);
-      }, (r.log, x, ap (λ (c : List (ℕ × Option S)). (w, (0, Some x) ∷ c)) empty, old.begins, old.mine, subst (λ (o : Option O). StandsFrom stands o x r.log) (sym old.opening) st))
+      let here : get_elem? (set s.views id w) id ≡ some w = set_here s.views id w (at_less s.views id me.0 at) in (
+        w,
+        takes 0 (Some x),
+        ap (λ (h : Homes). get_elem? h 0) full,
+        record {
+          log = r.log;
+          serving = r.serving;
+          next = r.next;
+          whose = r.whose;
+          owner = r.owner;
+          few = r.few;
+          words_are = ap (λ (ws : List ℕ). set ws 1 (get_or ws 1 0)) r.words_are;
+          queue = omega arith;
+          room = subst (λ (k : ℕ). k ≤ seats) (sym (length-set s.views id w)) r.room;
+          unmade = unmade_set r.log s.views id w r.unmade;
+          each = each_set s.views id w r.log (set s.homes 0 none) r.serving r.next r.whose r.owner record {
+            rows = λ q h. subst (IsRow caller first r.log (length s.views)) (only_has (seen r0 r.log) q h) record { opening = old.opening; begins = begins_self r.log; mine = old.mine; seen = old.mine; made_before = old.made_before };
+            owned = λ q h. subst (λ (z : Row O E Q). r.owner z.node ≡ id) (only_has (seen r0 r.log) q h) (mine.owned r0 (has_head me.0 one));
+            stage = (serves, place.1, place.2, out, λ q h. ap (λ (z : Row O E Q). z.front) (sym (only_has (seen r0 r.log) q h)));
+            own = inl (owns r.owner id me.0 one mine.own);
+            maker = mine.maker;
+          } (λ j v other there. let o = r.each j v there in record {
+            rows = o.rows;
+            owned = o.owned;
+            stage = take_else r.log s.homes (set s.homes 0 none) x r.serving r.next r.whose j v.rows v.stage full o.stage;
+            own = o.own;
+            maker = o.maker;
+          });
+          state = inr (id, w, here, ap (λ (u : ℕ). let c : Stage = Came u in c) (sym serves));
+          longest = (id, w, seen r0 r.log, here, (0, refl), refl);
+        },
+        (r.log, x, ap (λ (c : List (ℕ × Option S)). (w, (0, Some x) ∷ c)) empty, old.begins, old.mine, subst (λ (o : Option O). StandsFrom stands o x r.log) (sym old.opening) st),
+      )
   comes_now seats id me s r one empty at t is serves (inr (j, v, there, came)) =
       let mine : IsStage r.log s.homes r.serving r.next r.whose id me.0.rows (Waits t) = subst (IsStage r.log s.homes r.serving r.next r.whose id me.0.rows) is (r.each id me.0 at).stage in
       let his : IsStage r.log s.homes r.serving r.next r.whose j v.rows (Came r.serving) = subst (IsStage r.log s.homes r.serving r.next r.whose j v.rows) came (r.each j v there).stage in
@@ -174,9 +182,9 @@ module _ (S O E Q : Type 0) (stands : S → O → List E → Type 0) (caller : E
   comes seats slots id me one waits empty s r deep at small =
       let found : get_or s.words 1 0 ≡ r.serving % 18446744073709551616 = ap (λ (ws : List ℕ). get_or ws 1 0) r.words_are in
       dite (ℕ_discrete (get_or s.words 1 0) (ticket me.0.stage % 18446744073709551616))
-        (λ hit. let d = comes_now seats id me s r one empty at (ticket me.0.stage) waits (served seats id me s r at (ticket me.0.stage) waits (sym found ∙ hit)) r.state in
-            (d.0, d.1, d.2, d.3, ((λ _. d.4), λ miss. absurd (miss hit))))
-        (λ miss. (me.0, keeps, tt, unmoved seats 1 id me s r at, ((λ hit. absurd (miss hit)), λ _. refl)))
+      (λ hit. let d = comes_now seats id me s r one empty at (ticket me.0.stage) waits (served seats id me s r at (ticket me.0.stage) waits (sym found ∙ hit)) r.state in
+      (d.0, d.1, d.2, d.3, ((λ _. d.4), λ miss. absurd (miss hit))))
+      (λ miss. (me.0, keeps, tt, unmoved seats 1 id me s r at, ((λ hit. absurd (miss hit)), λ _. refl)))
 
   came_at : (seats id : ℕ) (me : Sat) (s : St) (r : Rule seats s) → get_elem? s.views id ≡ some me.0 → (t : ℕ) → me.0.stage ≡ Came t → IsStage r.log s.homes r.serving r.next r.whose id me.0.rows (Came t)
   came_at seats id me s r at t is = subst (IsStage r.log s.homes r.serving r.next r.whose id me.0.rows) is (r.each id me.0 at).stage
@@ -202,44 +210,51 @@ module _ (S O E Q : Type 0) (stands : S → O → List E → Type 0) (caller : E
       let sum = waiting_set s.views id me.0 w at in let line = r.queue in let more = length-append r.log (e ∷ []) in
       let fits : (length r.log + 1) % 18446744073709551616 ≡ length log' = omega arith in
       let here : get_elem? (set s.views id w) id ≡ some w = set_here s.views id w (at_less s.views id me.0 at) in
-      let full_front : r0.front ++ e ∷ [] ≡ log' = ap (λ (l : List E). l ++ e ∷ []) whole in
-      (w, keeps, tt, record {
-        log = log';
-        serving = r.serving;
-        next = r.next;
-        whose = r.whose;
-        owner = r.owner;
-        few = r.few;
-        words_are = ap (λ (ws : List ℕ). set ws 2 ((get_or ws 2 0 + 1) % 18446744073709551616)) r.words_are ∙ ap (λ (k : ℕ). r.next % 18446744073709551616 ∷ r.serving % 18446744073709551616 ∷ k ∷ []) fits;
-        queue = omega arith;
-        room = subst (λ (k : ℕ). k ≤ seats) (sym (length-set s.views id w)) r.room;
-        unmade = unmade_set log' s.views id w (λ n h. let le = old.made_before in calls_other caller n r.log e (own n (λ eq. omega arith)) ∙ r.unmade n h);
-        each = each_set s.views id w log' s.homes r.serving r.next r.whose r.owner record {
-          rows = λ q h. subst (IsRow caller first log' (length s.views)) (only_has (noted caller r0 e) q h) record {
-            opening = old.opening;
-            begins = ([], sym full_front ∙ sym (append-nil (r0.front ++ e ∷ [])));
-            mine = calls_snoc caller r0.node r.log e ∙ ap (λ (m : List E). m ++ when (is_at r0.node (caller e)) e) old.mine;
-            seen = calls_snoc caller r0.node r0.front e ∙ ap (λ (m : List E). m ++ when (is_at r0.node (caller e)) e) old.seen;
-            made_before = old.made_before };
-          owned = λ q h. subst (λ (z : Row O E Q). r.owner z.node ≡ id) (only_has (noted caller r0 e) q h) (mine.owned r0 has);
-          stage = subst (IsStage log' s.homes r.serving r.next r.whose id (noted caller r0 e ∷ [])) (sym is) (place.0, place.1, place.2, place.3, λ q h. ap (λ (z : Row O E Q). z.front) (sym (only_has (noted caller r0 e) q h)) ∙ full_front);
-          own = inl (owns r.owner id me.0 one mine.own);
-          maker = mine.maker;
-        } (λ j v other there. let o = r.each j v there in record {
-          rows = λ q h. let p = o.rows q h in record {
-            opening = p.opening;
-            begins = begins_longer q.front r.log (e ∷ []) p.begins;
-            mine = calls_other caller q.node r.log e (own q.node (λ eq. other (sym (o.owned q h) ∙ (ap r.owner eq ∙ mine.owned r0 has)))) ∙ p.mine;
-            seen = p.seen;
-            made_before = p.made_before };
-          owned = o.owned;
-          stage = note_else r.log log' s.homes r.serving r.next r.whose j id v.rows v.stage (ap r.whose place.0 ∙ place.2) other o.stage;
-          own = o.own;
-          maker = o.maker;
-        });
-        state = ⊎_elim (λ (h : IsHome stands first r.log s.homes). let full : s.homes ≡ some (Some h.0) ∷ [] = h.1 in let out : s.homes ≡ none ∷ [] = place.3 in absurd (cc (full, out))) (λ (h : IsOut r.serving s.views). inr (out_set r.serving s.views id me.0 w at (λ x. x) h)) r.state;
-        longest = (id, w, noted caller r0 e, here, (0, refl), full_front);
-      }, λ e' named'. let same : e ≡ e' = cc (named, named') in ap (λ (z : E). (view_of me.0.stage (noted caller r0 z ∷ []) me.0.made, me.1)) same)
+      let full_front : r0.front ++ e ∷ [] ≡ log' = ap (λ (l : List E). l ++ e ∷ []) whole in (
+        w,
+        keeps,
+        tt,
+        record {
+          log = log';
+          serving = r.serving;
+          next = r.next;
+          whose = r.whose;
+          owner = r.owner;
+          few = r.few;
+          words_are = ap (λ (ws : List ℕ). set ws 2 ((get_or ws 2 0 + 1) % 18446744073709551616)) r.words_are ∙ ap (λ (k : ℕ). r.next % 18446744073709551616 ∷ r.serving % 18446744073709551616 ∷ k ∷ []) fits;
+          queue = omega arith;
+          room = subst (λ (k : ℕ). k ≤ seats) (sym (length-set s.views id w)) r.room;
+          unmade = unmade_set log' s.views id w (λ n h. let le = old.made_before in calls_other caller n r.log e (own n (λ eq. omega arith)) ∙ r.unmade n h);
+          each = each_set s.views id w log' s.homes r.serving r.next r.whose r.owner record {
+            rows = λ q h. subst (IsRow caller first log' (length s.views)) (only_has (noted caller r0 e) q h) record {
+              opening = old.opening;
+              begins = ([], sym full_front ∙ sym (append-nil (r0.front ++ e ∷ [])));
+              mine = calls_snoc caller r0.node r.log e ∙ ap (λ (m : List E). m ++ when (is_at r0.node (caller e)) e) old.mine;
+              seen = calls_snoc caller r0.node r0.front e ∙ ap (λ (m : List E). m ++ when (is_at r0.node (caller e)) e) old.seen;
+              made_before = old.made_before;
+            };
+            owned = λ q h. subst (λ (z : Row O E Q). r.owner z.node ≡ id) (only_has (noted caller r0 e) q h) (mine.owned r0 has);
+            stage = subst (IsStage log' s.homes r.serving r.next r.whose id (noted caller r0 e ∷ [])) (sym is) (place.0, place.1, place.2, place.3, λ q h. ap (λ (z : Row O E Q). z.front) (sym (only_has (noted caller r0 e) q h)) ∙ full_front);
+            own = inl (owns r.owner id me.0 one mine.own);
+            maker = mine.maker;
+          } (λ j v other there. let o = r.each j v there in record {
+            rows = λ q h. let p = o.rows q h in record {
+              opening = p.opening;
+              begins = begins_longer q.front r.log (e ∷ []) p.begins;
+              mine = calls_other caller q.node r.log e (own q.node (λ eq. other (sym (o.owned q h) ∙ (ap r.owner eq ∙ mine.owned r0 has)))) ∙ p.mine;
+              seen = p.seen;
+              made_before = p.made_before;
+            };
+            owned = o.owned;
+            stage = note_else r.log log' s.homes r.serving r.next r.whose j id v.rows v.stage (ap r.whose place.0 ∙ place.2) other o.stage;
+            own = o.own;
+            maker = o.maker;
+          });
+          state = ⊎_elim (λ (h : IsHome stands first r.log s.homes). let full : s.homes ≡ some (Some h.0) ∷ [] = h.1 in let out : s.homes ≡ none ∷ [] = place.3 in absurd (cc (full, out))) (λ (h : IsOut r.serving s.views). inr (out_set r.serving s.views id me.0 w at (λ x. x) h)) r.state;
+          longest = (id, w, noted caller r0 e, here, (0, refl), full_front);
+        },
+        λ e' named'. let same : e ≡ e' = cc (named, named') in ap (λ (z : E). (view_of me.0.stage (noted caller r0 z ∷ []) me.0.made, me.1)) same,
+      )
 
   give_else : (log : List E) (homes homes' : Homes) (serving next : ℕ) (whose : ℕ → ℕ) (j id : ℕ) (rows : List (Row O E Q)) (st : Stage) → whose serving ≡ id → j ≢ id → IsStage log homes serving next whose j rows st
       → IsStage log homes' (serving + 1) next whose j rows st
@@ -256,34 +271,39 @@ module _ (S O E Q : Type 0) (stands : S → O → List E → Type 0) (caller : E
       let whole : r0.front ≡ r.log = place.4 r0 has in
       let sum = waiting_set s.views id me.0 w at in let was : weight me.0.stage ≡ 1 = ap weight is in let line = r.queue in
       let full : put_back s.homes me.1 ≡ some (Some x) ∷ [] = ap (put_back s.homes) held ∙ ap (λ (h : Homes). set h 0 (some (Some x))) place.3 in
-      let here : get_elem? (set s.views id w) id ≡ some w = set_here s.views id w (at_less s.views id me.0 at) in
-      (w, gives, tt, record {
-        log = r.log;
-        serving = r.serving + 1;
-        next = r.next;
-        whose = r.whose;
-        owner = r.owner;
-        few = r.few;
-        words_are = ap (λ (ws : List ℕ). set ws 1 ((get_or ws 1 0 + 1) % 18446744073709551616)) r.words_are ∙ ap (λ (k : ℕ). r.next % 18446744073709551616 ∷ k ∷ length r.log ∷ []) (next_word r.serving);
-        queue = omega arith;
-        room = subst (λ (k : ℕ). k ≤ seats) (sym (length-set s.views id w)) r.room;
-        unmade = unmade_set r.log s.views id w r.unmade;
-        each = each_set s.views id w r.log (put_back s.homes me.1) (r.serving + 1) r.next r.whose r.owner record {
-          rows = λ q h. subst (IsRow caller first r.log (length s.views)) (only_has (given r0 refusal) q h) record { opening = old.opening; begins = old.begins; mine = old.mine; seen = old.seen; made_before = old.made_before };
-          owned = λ q h. subst (λ (z : Row O E Q). r.owner z.node ≡ id) (only_has (given r0 refusal) q h) (mine.owned r0 has);
-          stage = tt;
-          own = inl (owns r.owner id me.0 one mine.own);
-          maker = mine.maker;
-        } (λ j v other there. let o = r.each j v there in record {
-          rows = o.rows;
-          owned = o.owned;
-          stage = give_else r.log s.homes (put_back s.homes me.1) r.serving r.next r.whose j id v.rows v.stage (ap r.whose place.0 ∙ place.2) other o.stage;
-          own = o.own;
-          maker = o.maker;
-        });
-        state = inl (x, full, subst (stands x first) whole (subst (λ (o : Option O). StandsFrom stands o x r0.front) old.opening st));
-        longest = (id, w, given r0 refusal, here, (0, refl), whole);
-      }, ap (λ (c : List (ℕ × Option S)). (w, rest c)) held)
+      let here : get_elem? (set s.views id w) id ≡ some w = set_here s.views id w (at_less s.views id me.0 at) in (
+        w,
+        gives,
+        tt,
+        record {
+          log = r.log;
+          serving = r.serving + 1;
+          next = r.next;
+          whose = r.whose;
+          owner = r.owner;
+          few = r.few;
+          words_are = ap (λ (ws : List ℕ). set ws 1 ((get_or ws 1 0 + 1) % 18446744073709551616)) r.words_are ∙ ap (λ (k : ℕ). r.next % 18446744073709551616 ∷ k ∷ length r.log ∷ []) (next_word r.serving);
+          queue = omega arith;
+          room = subst (λ (k : ℕ). k ≤ seats) (sym (length-set s.views id w)) r.room;
+          unmade = unmade_set r.log s.views id w r.unmade;
+          each = each_set s.views id w r.log (put_back s.homes me.1) (r.serving + 1) r.next r.whose r.owner record {
+            rows = λ q h. subst (IsRow caller first r.log (length s.views)) (only_has (given r0 refusal) q h) record { opening = old.opening; begins = old.begins; mine = old.mine; seen = old.seen; made_before = old.made_before };
+            owned = λ q h. subst (λ (z : Row O E Q). r.owner z.node ≡ id) (only_has (given r0 refusal) q h) (mine.owned r0 has);
+            stage = tt;
+            own = inl (owns r.owner id me.0 one mine.own);
+            maker = mine.maker;
+          } (λ j v other there. let o = r.each j v there in record {
+            rows = o.rows;
+            owned = o.owned;
+            stage = give_else r.log s.homes (put_back s.homes me.1) r.serving r.next r.whose j id v.rows v.stage (ap r.whose place.0 ∙ place.2) other o.stage;
+            own = o.own;
+            maker = o.maker;
+          });
+          state = inl (x, full, subst (stands x first) whole (subst (λ (o : Option O). StandsFrom stands o x r0.front) old.opening st));
+          longest = (id, w, given r0 refusal, here, (0, refl), whole);
+        },
+        ap (λ (c : List (ℕ × Option S)). (w, rest c)) held,
+      )
 
   grown : (log : List E) (made : ℕ) (q : Row O E Q) → IsRow caller first log made q → IsRow caller first log (made + 1) q
   grown log made q p = let le = p.made_before in record { opening = p.opening; begins = p.begins; mine = p.mine; seen = p.seen; made_before = omega arith }
@@ -300,14 +320,14 @@ module _ (S O E Q : Type 0) (stands : S → O → List E → Type 0) (caller : E
       let sum = waiting_set s.views id v left at in let sum' = waiting_snoc part right in let line = r.queue in
       let Seat' : ℕ → V → Type 0 = λ j u. IsSeat caller first r.log s.homes (n + 1) r.serving r.next r.whose owner' j u in
       let old : (j : ℕ) (u : V) → get_elem? s.views j ≡ some u → (0 < u.made → ⊥) ⊎ (j ≡ id) → (made' : ℕ) → (j ≢ id → made' ≡ u.made) → (j ≡ id → made' ≡ 0) → Seat' j (view_of u.stage u.rows made') = λ j u there who made' keeps_made drops_made.
-        let o = r.each j u there in let inside : j < n = at_less s.views j u there in record {
-          rows = λ q h. grown r.log n q (o.rows q h);
-          owned = λ q h. let le = (o.rows q h).made_before in put_else r.owner (n + 1) n q.node (λ e. omega arith) ∙ o.owned q h;
-          stage = o.stage;
-          own = ⊎_elim (λ (h : r.owner (j + 1) ≡ j). inl (put_else r.owner (n + 1) n (j + 1) (λ e. omega arith) ∙ h)) (λ (h : (u.rows ≡ []) × (u.stage ≡ Idle)). inr h) o.own;
-          maker = λ some. dite (ℕ_discrete j id) (λ e. let z : made' ≡ 0 = drops_made e in absurd (omega arith))
-              (λ ne. let z : made' ≡ u.made = keeps_made ne in let m = o.maker (omega arith) in absurd (ne (omega arith)));
-        } in
+      let o = r.each j u there in let inside : j < n = at_less s.views j u there in record {
+        rows = λ q h. grown r.log n q (o.rows q h);
+        owned = λ q h. let le = (o.rows q h).made_before in put_else r.owner (n + 1) n q.node (λ e. omega arith) ∙ o.owned q h;
+        stage = o.stage;
+        own = ⊎_elim (λ (h : r.owner (j + 1) ≡ j). inl (put_else r.owner (n + 1) n (j + 1) (λ e. omega arith) ∙ h)) (λ (h : (u.rows ≡ []) × (u.stage ≡ Idle)). inr h) o.own;
+        maker = λ some. dite (ℕ_discrete j id) (λ e. let z : made' ≡ 0 = drops_made e in absurd (omega arith))
+            (λ ne. let z : made' ≡ u.made = keeps_made ne in let m = o.maker (omega arith) in absurd (ne (omega arith)));
+      } in
       record {
         log = r.log;
         serving = r.serving;
@@ -321,9 +341,9 @@ module _ (S O E Q : Type 0) (stands : S → O → List E → Type 0) (caller : E
         unmade = λ m h. r.unmade m (omega arith);
         each = λ j u e. subst (λ (k : ℕ). IsSeat caller first r.log s.homes k r.serving r.next r.whose owner' j u) (sym long)
             (⊎_elim (λ (in_part : get_elem? part j ≡ some u).
-              ⊎_elim (λ (t : (j ≡ id) × (left ≡ u)). subst (λ (z : ℕ × V). Seat' z.0 z.1) (λ i. (sym t.0 i, t.1 i)) (old id v at (inr refl) 0 (λ ne. absurd (ne refl)) (λ _. refl)))
-              (λ (t : (j ≢ id) × (get_elem? s.views j ≡ some u)). old j u t.1 (inl (λ some. let m = (r.each j u t.1).maker some in t.0 (omega arith))) u.made (λ _. refl) (λ e'. absurd (t.0 e')))
-              (at_set s.views id j left u in_part))
+            ⊎_elim (λ (t : (j ≡ id) × (left ≡ u)). subst (λ (z : ℕ × V). Seat' z.0 z.1) (λ i. (sym t.0 i, t.1 i)) (old id v at (inr refl) 0 (λ ne. absurd (ne refl)) (λ _. refl)))
+            (λ (t : (j ≢ id) × (get_elem? s.views j ≡ some u)). old j u t.1 (inl (λ some. let m = (r.each j u t.1).maker some in t.0 (omega arith))) u.made (λ _. refl) (λ e'. absurd (t.0 e')))
+            (at_set s.views id j left u in_part))
             (λ (t : (j ≡ length part) × (right ≡ u)). let here : j ≡ n = t.0 ∙ part_long in subst (Seat' j) t.1 record {
               rows = λ q h. subst (IsRow caller first r.log (n + 1)) (only_has fresh q h) record { opening = known.opening; begins = known.begins; mine = none_yet; seen = calls_none caller (v.made + 1) r0.front r.log known.begins none_yet; made_before = omega arith };
               owned = λ q h. subst (λ (z : Row O E Q). owner' z.node ≡ j) (only_has fresh q h) (ap (λ (k : ℕ). owner' (k + 1)) made_is ∙ (put_here r.owner (n + 1) n ∙ sym here));
@@ -389,7 +409,7 @@ module _ (S O E Q : Type 0) (stands : S → O → List E → Type 0) (caller : E
       longest_join r here at there (j, z, q, place, has, is) =
           dite (ℕ_discrete j id) (λ e. (id, both v u, q, here, has_left v.rows u.rows q (subst (λ (y : V). Has y.rows q) (sym (same_at s.views id j v z at place e)) has), is))
           (λ ne. dite (ℕ_discrete j other) (λ e. (id, both v u, q, here, has_right v.rows u.rows q (subst (λ (y : V). Has y.rows q) (sym (same_at s.views other j u z there place e)) has), is))
-            (λ ne'. (j, z, q, set_else (set s.views id (both v u)) other j spent ne' ∙ (set_else s.views id j (both v u) ne ∙ place), has, is)))
+          (λ ne'. (j, z, q, set_else (set s.views id (both v u)) other j spent ne' ∙ (set_else s.views id j (both v u) ne ∙ place), has, is)))
 
   -- the turn begins with the state in its place, no entry and one seat
   pub starts : (seats : ℕ) (x : S) (slots : List (Option S)) → 0 < seats → seats ≤ 33 → slots ≡ Some x ∷ [] → stands x first [] → Rule seats (opening (0 ∷ 0 ∷ 0 ∷ []) slots (maker first))
@@ -425,9 +445,11 @@ module _ (S O E Q : Type 0) (stands : S → O → List E → Type 0) (caller : E
       gone j u ne there = let inside : j < length s.views = at_less s.views j u there in let room = r.room in let has = all (j + 1) (omega arith) (omega arith) in
           let owned : r.owner (j + 1) ≡ id = ap r.owner (sym has.2) ∙ (r.each id v at).owned has.0 has.1 in
           ⊎_elim (λ (h : r.owner (j + 1) ≡ j). absurd (ne (sym h ∙ owned))) (λ (h : (u.rows ≡ []) × (u.stage ≡ Idle)). h) (r.each j u there).own
+
       nobody : IsOut r.serving s.views → ⊥
       nobody (j, u, there, came) = dite (ℕ_discrete j id) (λ e. let same : v ≡ u = same_at s.views id j v u at there e in let clash : Idle ≡ Came r.serving = sym idle ∙ (ap (λ (z : V). z.stage) same ∙ came) in cc clash)
           (λ ne. let g = gone j u ne there in let clash : Idle ≡ Came r.serving = sym g.1 ∙ came in cc clash)
+
       mine_too : (j : ℕ) (u : V) → get_elem? s.views j ≡ some u → (q : Row O E Q) → Has u.rows q → Has v.rows q
       mine_too j u there q has = dite (ℕ_discrete j id) (λ e. subst (λ (z : V). Has z.rows q) (sym (same_at s.views id j v u at there e)) has)
           (λ ne. let g = gone j u ne there in absurd (none_has q (subst (λ (l : List (Row O E Q)). Has l q) g.0 has)))

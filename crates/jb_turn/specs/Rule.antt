@@ -1,5 +1,5 @@
 -- The rule of the turn: what always holds of the table's words, the state's place and the views of all seats together.
-use Rattle.std.specs.Prelude.{◌≡◌, ◌≢◌, ◌⊎◌, ℕ, zero, suc, ◌+◌, ◌%◌, ◌^◌, ◌<◌, ◌≤◌, List, [], ◌∷◌, ◌++◌, length, Option, Some, None}
+use Rattle.std.specs.Prelude.{◌≡◌, ◌⊎◌, ℕ, ◌+◌, ◌%◌, ◌^◌, ◌<◌, ◌≤◌, List, [], ◌∷◌, length, Option, Some}
 use mathlib.Core.Option.{some}
 use mathlib.Core.Option as maybe
 use lib.ListN.{get_elem?}
@@ -8,7 +8,7 @@ use Rattle.jb_turn.specs.declared.view.Row.{Row}
 use Rattle.jb_turn.specs.declared.view.View.{View}
 use Rattle.jb_turn.specs.declared.view.Stage.{Stage}
 use Rattle.jb_turn.specs.declared.view.Stage.TheVariants.{Idle, Waits, Came}
-use Rattle.jb_turn.specs.Rows.{Begins, Has, calls, row, view_of}
+use Rattle.jb_turn.specs.Rows.{Begins, Has, calls}
 
 -- the place of the state, as the table sees it: the state is there, or the place was emptied, or it is out with a seat
 abbrev pub Home : Type 0 → Type 0
@@ -84,23 +84,20 @@ module _ {S O E Q : Type 0} (stands : S → O → List E → Type 0) (caller : E
     pub next : ℕ
     pub whose : ℕ → ℕ
     pub owner : ℕ → ℕ
-
     -- The words are the ticket that is drawn next and the one that is served, modulo 2^64, and the length of the history.
     pub words_are : s.words ≡ next % 2 ^ 64 ∷ serving % 2 ^ 64 ∷ length log ∷ []
-
     -- The tickets that are out are those from the one that is served up to the one that is drawn next: as many views have a
     -- ticket, each of them (`each`, its stage) one from there that no other view has. There are at most 33.
     pub queue : serving + waiting s.views ≡ next
     pub room : length s.views ≤ seats
     pub few : seats ≤ 33
-
     -- Only the view with the ticket that is served may have the state out (`each`, its stage), and whenever the state is
-    -- in its place it stands for the history. So it is out exactly with that view.
+    -- in its place it stands for the history. So it is out exactly with that view. An entry is one addition to the word
+    -- of the length, made by the seat that has the state out; the state stands for the history again, with the entry, before
+    -- it can be put back.
     pub state : IsHome stands first log s.homes ⊎ IsOut serving s.views
-
     -- The history is the longest front, and every front is a prefix of it (`each`, its rows).
     pub longest : IsLongest log s.views
-
     -- The n-th seat that was made has node n until another takes it in, no two views have one node, and the history's
     -- calls of a view's nodes stand in its front and are its own (`each`). No entry has a node that was not made.
     pub each : (j : ℕ) (v : View O E Q) → get_elem? s.views j ≡ some v → IsSeat caller first log s.homes (length s.views) serving next whose owner j v

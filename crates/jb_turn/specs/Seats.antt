@@ -1,5 +1,5 @@
 -- What contracts see of a turn and of its seats.
-use Rattle.std.specs.Prelude.{◌≡◌, ℕ, ◌+◌, List, [], ◌∷◌, length, map, Option, Some, None}
+use Rattle.std.specs.Prelude.{◌≡◌, ℕ, ◌+◌, List, [], ◌∷◌, length, map, slice_get, Option, Some, None}
 use Rattle.atomic_table.specs.Seated.{TableId}
 use Rattle.jb_turn.specs.declared.view.Row.{Row}
 use Rattle.jb_turn.specs.declared.view.Stage.TheVariants.{Idle, Came}
@@ -46,6 +46,7 @@ module _ {S O E Q : Type 0} where
   abbrev pub turn_of : Seat S O E Q → TurnId
   turn_of s = s.place.table_id
 
+  -- the turn itself
   abbrev pub id_of : Turn S O E Q → TurnId
   id_of t = t.table.shared.table_id
 
@@ -72,6 +73,10 @@ module _ {S O E Q : Type 0} where
   -- what the seat at place k of a new turn knows
   abbrev pub IsNew : O → ℕ → Seat S O E Q → Type 0
   IsNew first k s = (node s ≡ k + 1) × (opening s ≡ Some first) × (front s ≡ []) × (mine s ≡ []) × (remarks s ≡ [])
+
+  -- the seats of a new turn, each at the place before its number
+  abbrev pub AreNew : O → List (Seat S O E Q) → Type 0
+  AreNew first seats = (k : ℕ) (s : Seat S O E Q) → slice_get seats k ≡ Some s → IsNew first k s
 
 module _ {O E Q : Type 0} where
   -- what a resting seat knows

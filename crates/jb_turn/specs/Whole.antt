@@ -1,5 +1,5 @@
 -- What closing shows of the rows of all seats, and which number is missing.
-use Rattle.std.specs.Prelude.{◌≡◌, ℕ, ◌+◌, ◌<◌, ◌≤◌, List, Option, Some}
+use Rattle.std.specs.Prelude.{◌≡◌, ℕ, ◌<◌, ◌≤◌, List, Option, Some}
 use Rattle.jb_turn.specs.declared.view.Row.{Row}
 use Rattle.jb_turn.specs.Rows.{Begins, Has, calls}
 

@@ -8,9 +8,9 @@ use std::marker::PhantomData;
 use std::snapshot::Snapshot;
 
 /// What is fixed when a turn is made.
-pub struct Key<S> {
-    pub seats: u64,
-    pub first: Snapshot<S>,
+pub(crate) struct Key<S> {
+    pub(crate) seats: u64,
+    pub(crate) first: Snapshot<S>,
 }
 
 impl<S> Drop for Key<S> {
@@ -19,7 +19,7 @@ impl<S> Drop for Key<S> {
     }
 }
 
-pub struct Ruled;
+pub(crate) struct Ruled;
 
 impl<S: Kept<O, E>, O, E, Q> TableRule<Option<S>, View<O, E, Q>, Key<S>> for Ruled {
     ghost use Rattle.jb_turn.specs.Rule.{TurnRule};

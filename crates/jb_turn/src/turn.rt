@@ -2,7 +2,7 @@
 ghost use Rattle.std.specs.Prelude.{◌≡◌, ℕ, ◌+◌, ◌^◌, ◌<◌, ◌≤◌, List, [], ◌∷◌, ◌++◌, map, length, slice_get, Some, None, All, IfOk, IfErr, OnOk, MatchOption, IsTrue, ◌↔◌};
 ghost use Rattle.jb_turn.specs.Rows.{Begins, IsOwn, StandsFrom, calls};
 ghost use Rattle.jb_turn.specs.Steps.{seen, noted, given};
-ghost use Rattle.jb_turn.specs.Seats.{node, opening, front, mine, row_of, rows_of, turn_of, id_of, seats_of, resting_row, resting_turn, IsResting, Rests, Holds, IsNew};
+ghost use Rattle.jb_turn.specs.Seats.{node, opening, front, mine, row_of, rows_of, turn_of, id_of, seats_of, resting_row, resting_turn, IsResting, Rests, Holds, AreNew};
 ghost use Rattle.jb_turn.specs.Whole.{HasAll, HasNode, IsLowestMissing, IsWhole};
 
 use crate::kept::{Kept, NamesEntry, NamesRemark};
@@ -16,11 +16,13 @@ use std::sync::Wait;
 
 // The words of the table.
 const TICKET: usize = 0;
+
 const SERVING: usize = 1;
+
 const COUNT: usize = 2;
 
 impl<O, E, Q> RestingSeat<O, E, Q> {
-    /// The seat again, for a turn over `S`.
+    /// The seat itself, for a turn over `S`.
     pub fn wake<S>(self) -> Seat<S, O, E, Q>
         ensures same { (turn_of result ≡ resting_turn self) × (row_of result ≡ resting_row self) }
         ensures rests { IsResting result }
@@ -70,7 +72,8 @@ fn has_node<S, O, E, Q>(seats: &[Seat<S, O, E, Q>], number: u32) -> bool
 
 fn first_missing<S, O, E, Q>(seats: &[Seat<S, O, E, Q>], count: u32) -> Option<u32>
     requires { count ≤ 33 }
-    ensures { MatchOption result (HasAll (rows_of seats.now) count) (IsLowestMissing (rows_of seats.now) count) }
+    ensures { MatchOption result (HasAll (rows_of seats.now) count)
+        (IsLowestMissing (rows_of seats.now) count) }
 {
     for number in 1..count + 1 {
         if !has_node(seats, number) {
@@ -81,7 +84,9 @@ fn first_missing<S, O, E, Q>(seats: &[Seat<S, O, E, Q>], count: u32) -> Option<u
 }
 
 impl<S: Kept<O, E>, O, E, Q> Turn<S, O, E, Q> {
-    /// A turn over the state, with so many seats, from 1 to 33. `Err` hands the state back for want of memory.
+    /// A turn over the state, with so many seats, from 1 to 33. Its history is empty.
+    ///
+    /// `Err` hands the state back, for want of memory alone.
     pub fn new(
         alloc: Global,
         state: S,
@@ -93,7 +98,7 @@ impl<S: Kept<O, E>, O, E, Q> Turn<S, O, E, Q> {
         // So many seats were made. The one at place k has node k + 1, rests, and knows the opening alone.
         ensures count { IfOk result (λ r. (seats_of r.0 ≡ seats) × (length r.1.items ≡ seats)) }
         ensures rests { IfOk result (λ r. All (Rests r.0) r.1.items) }
-        ensures fresh { IfOk result (λ r. (k : ℕ) (s : _) → slice_get r.1.items k ≡ Some s → IsNew (S.opening state) k s) }
+        ensures fresh { IfOk result (λ r. AreNew (S.opening state) r.1.items) }
 
         // Without memory nothing was made.
         ensures err { IfErr result (λ s. s ≡ state) }
@@ -129,10 +134,11 @@ impl<S: Kept<O, E>, O, E, Q> Turn<S, O, E, Q> {
         }
     }
 
-    /// Waits for the turn, and takes the state. It is never refused.
+    /// Draws a ticket, waits until its turn has come, and takes the state. It is never refused.
     ///
-    /// The waiting thread looks, yields and looks again, with a growing pause. With 32 seats that wait at once, each hand
-    /// over is seen by 32 looking threads of which one goes on, so a turn that is held long costs the others their cores.
+    /// A waiting thread looks at one word, first with short pauses and then with a yield to the system between two looks. It
+    /// does not sleep: with 32 seats, 31 threads may look while one has the state, each for as long as the queue before it
+    /// takes, and a hand-over waits until the system lets the next thread run. So keep a turn short.
     pub fn take<R: Wait>(&self, rt: &R, seat: &mut Seat<S, O, E, Q>) -> Held<S>
         requires seat { Rests self.now seat.old }
 
@@ -160,7 +166,9 @@ impl<S: Kept<O, E>, O, E, Q> Turn<S, O, E, Q> {
         unreachable!()
     }
 
-    /// Adds the entry that `J` names to the history, and raises the count by one.
+    /// Adds the entry that `J` names to the history, and raises the count by one: one atomic addition.
+    ///
+    /// Until the state stands for the history with this entry, it cannot be given back.
     pub fn note<J: NamesEntry<E>>(&self, seat: &mut Seat<S, O, E, Q>, held: &mut Held<S>)
         requires seat { Holds self.now seat.old held.old.count }
         requires fits { held.old.count ≤ 2 ^ 62 }
@@ -174,7 +182,9 @@ impl<S: Kept<O, E>, O, E, Q> Turn<S, O, E, Q> {
         ensures kept { held.new.state ≡ held.old.state }
         ensures count { held.new.count ≡ held.old.count + 1 }
     {
-        self.table.shared.fetch_add::<Note<J>>(&mut seat.place, COUNT, 1);
+        self.table
+            .shared
+            .fetch_add::<Note<J>>(&mut seat.place, COUNT, 1);
         held.count += 1;
     }
 
@@ -192,11 +202,12 @@ impl<S: Kept<O, E>, O, E, Q> Turn<S, O, E, Q> {
         shared.fetch_add::<Give<J>>(&mut seat.place, SERVING, 1);
     }
 
-    /// Ends the turn, where all its seats are there, and gives the state. Else the turn and the seats come back with the
-    /// lowest number, from 1, whose seat is missing.
+    /// Ends the turn where all its seats are there, and gives the state. It takes no memory.
+    ///
+    /// `Err` hands the turn and the seats back with the lowest number, from 1, whose seat is not among them.
     pub fn close(
         self,
-        seats: Vec<Seat<S, O, E, Q>>,
+        mut seats: Vec<Seat<S, O, E, Q>>,
     ) -> Result<S, (Turn<S, O, E, Q>, Vec<Seat<S, O, E, Q>>, u32)>
         requires seats { All (Rests self) seats.items }
 
@@ -211,7 +222,6 @@ impl<S: Kept<O, E>, O, E, Q> Turn<S, O, E, Q> {
         if let Some(number) = first_missing(seats.as_slice(), self.seats) {
             return Err((self, seats, number));
         }
-        let mut seats = seats;
         let Some(last) = seats.pop() else {
             unreachable!()
         };

@@ -1,4 +1,4 @@
-use Rattle.std.proofs.Common.{◌≡◌, ℕ, ◌<◌, map}
+use Rattle.std.proofs.Common.{ℕ, ◌<◌}
 use Rattle.jb_turn.specs.Seats.{rows_of}
 use Rattle.jb_turn.specs.Whole.{HasNode}
 use Rattle.jb_turn.proofs.turn.first_missing.Given as goal

@@ -1,10 +1,9 @@
-use Rattle.std.proofs.Common.{rules, ◌≡◌, ℕ, ◌+◌, ◌<◌, List, map, length, arith, sym, refl, ap, ◌∙◌, ⊎_elim, subst}
+use Rattle.std.proofs.Common.{◌≡◌, ℕ, ◌+◌, ◌<◌, List, length, arith, sym, refl, ap, ◌∙◌}
 use mathlib.Core.Logic.{dite}
 use mathlib.Core.Option.{some, some-injective}
 use native.Mathlib.Decide.{ℕ_discrete}
 use lib.ListN.{get_elem?}
 use Rattle.atomic_table.proofs.Lists.{at_index}
-use Rattle.jb_turn.specs.Rows.{Has}
 use Rattle.jb_turn.specs.Seats.{row_of, rows_of, node}
 use Rattle.jb_turn.specs.Whole.{HasNode}
 use Rattle.jb_turn.specs.declared.seat.Seat.{Seat}

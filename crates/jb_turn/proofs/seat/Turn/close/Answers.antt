@@ -1,7 +1,6 @@
-use Rattle.std.proofs.Common.{rules, ◌≡◌, ℕ, ◌+◌, ◌<◌, ◌≤◌, List, [], ◌∷◌, ◌++◌, map, reverse, length, Some, None, arith, sym, refl, ap, ◌∙◌, subst, append_assoc, length-append}
+use Rattle.std.proofs.Common.{rules, ◌≡◌, ◌<◌, [], ◌∷◌, ◌++◌, reverse, length, Some, arith, sym, refl, ap, ◌∙◌, subst, append_assoc, length-append}
 use Rattle.std.specs.Prelude.{IsSome}
 use Rattle.std.proofs.lemmas.List.Elements.{All-pop}
-use Rattle.jb_turn.specs.declared.view.Stage.TheVariants.{Idle}
 use Rattle.jb_turn.specs.Seats.{row_of, rows_of, turn_of, IsResting}
 use Rattle.jb_turn.specs.Whole.{HasAll, IsLowestMissing, IsWhole}
 use Rattle.jb_turn.proofs.Places.{rows_joined, rows_left, same_some}
@@ -24,9 +23,13 @@ join_seat-requires g c = let old = c.loop-seat.invariant in let seat = c.in-Some
     let known = All-pop (λ s. (turn_of s ≡ c.args.self.table.shared.table_id) × IsResting s) c.loop-seat.seats.items c.pop-in-loop-seat.new.self.items (Some seat) c.in-Some-pop-2.ensures.items old.left in
     let is = known.1 in
     let some_row : 0 < length c.loop-seat.place.me.0.rows = old.some in
-    let e = c.into_place-other.ensures in let other = c.into_place-other.result in
-    (old.seated, ap (λ s. s.table_id) e ∙ is.0, ap (λ s. s.me.1) e ∙ is.1.1, search rules,
-      joins g.row.S.Denot g.row.O.Denot g.row.E.Denot g.row.Q.Denot g.S.Kept.stands g.S.Kept.caller _ _ _ c.loop-seat.place.me.0 _ other.me.0 (λ e'. let z = ap length e' in absurd (omega (arith, z, some_row))) old.stage (ap (λ s. s.me.0.stage) e ∙ is.1.0))
+    let e = c.into_place-other.ensures in let other = c.into_place-other.result in (
+      old.seated,
+      ap (λ s. s.table_id) e ∙ is.0,
+      ap (λ s. s.me.1) e ∙ is.1.1,
+      search rules,
+      joins g.row.S.Denot g.row.O.Denot g.row.E.Denot g.row.Q.Denot g.S.Kept.stands g.S.Kept.caller _ _ _ c.loop-seat.place.me.0 _ other.me.0 (λ e'. let z = ap length e' in absurd (omega (arith, z, some_row))) old.stage (ap (λ s. s.me.0.stage) e ∙ is.1.0),
+    )
 
 pub loop-seat-preserved : goal.loop-seat-preserved
 loop-seat-preserved g c = let old = c.loop-seat.invariant in let rest = old.taken.0 in let seat = c.in-Some-pop-2.seat in let now = c.join_seat.ensures.2 in

@@ -13,7 +13,7 @@ invariant-loop-seat g l = record {
   empty : l.place.me.1 ≡ [];
   some : 0 < length l.place.me.0.rows;
   left : All (λ s. (turn_of s ≡ l.fn.self.table.shared.table_id) × IsResting s) l.seats.items;
-  taken : (rest : List (Seat g.row.S.Denot g.row.O.Denot g.row.E.Denot g.row.Q.Denot)) × (l.fn.seats.items ≡ l.seats.items ++ rest) × (l.place.me.0.rows ≡ reverse (map row_of rest))
+  taken : (rest : List (Seat g.row.S.Denot g.row.O.Denot g.row.E.Denot g.row.Q.Denot)) × (l.fn.seats.items ≡ l.seats.items ++ rest) × (l.place.me.0.rows ≡ reverse (map row_of rest));
 }
 
 abbrev pub decreases-loop-seat : goal.decreases-loop-seat

@@ -1,6 +1,6 @@
-use Rattle.std.proofs.Common.{rules, ◌≡◌, ℕ, ◌+◌, ◌^◌, ◌<◌, ◌≤◌, List, [], ◌∷◌, ◌++◌, map, length, slice_get, Some, None, ap, sym, refl, ◌∙◌, subst, arith}
+use Rattle.std.proofs.Common.{rules, ◌≡◌, [], ◌∷◌, length, Some, ap, ◌∙◌}
 use Rattle.std.proofs.lemmas.List.Elements.{All-push}
-use Rattle.jb_turn.specs.declared.view.Stage.TheVariants.{Idle, Waits, Came}
+use Rattle.jb_turn.specs.declared.view.Stage.TheVariants.{Idle}
 use Rattle.jb_turn.specs.Rows.{row, view_of}
 use Rattle.jb_turn.specs.Steps.{maker_no_more, newcomer}
 use Rattle.jb_turn.specs.Seats.{IsNew, IsResting, turn_of}
@@ -26,7 +26,7 @@ loop-node-preserved g c = let old = c.loop-node.invariant in let now = c.split_s
       room = search rules;
       rests = rw c.push_reserved-in-loop-node.ensures.items (All-push (λ s. (turn_of s ≡ c.in-Ok-new.table.shared.table_id) × IsResting s) c.loop-node.all.items _ old.rests (search rules, (ap (λ m. m.0.stage) left, ap (λ m. m.1) left)));
       each = rw c.push_reserved-in-loop-node.ensures.items (each_end (λ k s. IsNew first k s) c.loop-node.all.items _ old.each
-        (is_new first (length c.loop-node.all.items) c.loop-node.node 0 c.split_seat-next.new.seat left (search rules)));
+          (is_new first (length c.loop-node.all.items) c.loop-node.node 0 c.split_seat-next.new.seat left (search rules)));
     }
 
 pub returns-after-loop-node-clause-rests : goal.returns-after-loop-node-clause-rests
@@ -36,4 +36,4 @@ returns-after-loop-node-clause-rests g c = let old = c.loop-node.invariant in
 pub returns-after-loop-node-clause-fresh : goal.returns-after-loop-node-clause-fresh
 returns-after-loop-node-clause-fresh g c = let old = c.loop-node.invariant in let first = g.S.Kept.opening c.args.state in
     rw c.push_reserved-in-Ok-new.ensures.items (each_end (λ k s. IsNew first k s) c.loop-node.all.items _ old.each
-      (is_new first (length c.loop-node.all.items) c.loop-node.node c.loop-node.node c.loop-node.place old.view (search rules)))
+    (is_new first (length c.loop-node.all.items) c.loop-node.node c.loop-node.node c.loop-node.place old.view (search rules)))

@@ -13,5 +13,5 @@ invariant-loop-node g l = record {
   count : length l.all.items + 1 ≡ l.node;
   room : l.seats ≤ vec_capacity l.all;
   rests : All (λ s. (turn_of s ≡ l.table.shared.table_id) × IsResting s) l.all.items;
-  each : (k : ℕ) (s : _) → slice_get l.all.items k ≡ Some s → IsNew (g.S.Kept.opening l.fn.state) k s
+  each : (k : ℕ) (s : _) → slice_get l.all.items k ≡ Some s → IsNew (g.S.Kept.opening l.fn.state) k s;
 }

@@ -1,6 +1,4 @@
-use Rattle.std.proofs.Common.{rules, ◌≡◌, ℕ, ◌+◌, ◌^◌, ◌<◌, ◌≤◌, List, [], ◌∷◌, ◌++◌, map, length, slice_get, Some, None, ap, sym, refl, ◌∙◌, subst, arith}
-use Rattle.jb_turn.specs.Rows.{Begins, calls, is_at, when, head_row, IsOwn, Has}
-use Rattle.jb_turn.specs.declared.view.Stage.TheVariants.{Idle, Waits, Came}
+use Rattle.std.proofs.Common.{rules}
 use Rattle.jb_turn.proofs.TurnKeeps.{notes}
 use Rattle.jb_turn.proofs.seat.Turn.note.Goals as goal
 

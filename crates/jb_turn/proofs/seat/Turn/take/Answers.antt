@@ -1,5 +1,4 @@
-use Rattle.std.proofs.Common.{rules, ◌≡◌, ◌%◌, ◌^◌, ◌∙◌}
-use Rattle.jb_turn.specs.Steps.{ticket, Arrives}
+use Rattle.std.proofs.Common.{rules, ◌∙◌}
 use Rattle.jb_turn.proofs.TurnKeeps.{draws, comes}
 use Rattle.jb_turn.proofs.Out.{out_with, taken_is, counts_out, holds_out}
 use Rattle.jb_turn.proofs.seat.Turn.take.Goals as goal

@@ -9,5 +9,5 @@ invariant-loop g l = record {
   stage : l.seat.place.me.0.stage ≡ Waits (ticket l.seat.place.me.0.stage);
   drawn : l.ticket ≡ ticket l.seat.place.me.0.stage % 2 ^ 64;
   empty : l.seat.place.me.1 ≡ [];
-  rows : l.seat.place.me.0.rows ≡ l.fn.seat.place.me.0.rows
+  rows : l.seat.place.me.0.rows ≡ l.fn.seat.place.me.0.rows;
 }
