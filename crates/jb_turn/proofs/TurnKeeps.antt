@@ -13,7 +13,7 @@ use Rattle.jb_turn.specs.declared.view.View.{View}
 use Rattle.jb_turn.specs.declared.view.Stage.{Stage}
 use Rattle.jb_turn.specs.declared.view.Stage.TheVariants.{Idle, Waits, Came}
 use Rattle.jb_turn.specs.Rows.{Has, calls, is_at, when, row, view_of, head_row, IsOwn, StandsFrom}
-use Rattle.jb_turn.specs.Rule.{Home, weight, waiting, IsLongest, IsOut, IsHome, IsRow, IsStage, IsSeat, HasOwn, TurnRule}
+use Rattle.jb_turn.specs.Rule.{Home, IsMade, weight, waiting, IsLongest, IsOut, IsHome, IsRow, IsStage, IsSeat, HasOwn, TurnRule}
 use Rattle.jb_turn.specs.Whole.{HasAll, IsWhole}
 use Rattle.jb_turn.specs.Steps.{ticket, seen, noted, given, maker, maker_no_more, newcomer, both, spent, Draws, Arrives, Comes, Notes, Gives, Counts}
 use Rattle.jb_turn.proofs.Places.{has_reverse, has_reversed}
@@ -51,8 +51,8 @@ module _ (S O E Q : Type 0) (stands : S → O → List E → Type 0) (caller : E
       (⊎_elim (λ (t : (j ≡ id) × (w ≡ v)). subst (λ (z : ℕ × V). IsSeat caller first log' homes' (length views) serving' next' whose' owner' z.0 z.1) (λ i. (sym t.0 i, t.1 i)) mine)
       (λ (t : (j ≢ id) × (get_elem? views j ≡ some v)). others j v t.0 t.1) (at_set views id j w v e))
 
-  unmade_set : (log : List E) (views : List V) (id : ℕ) (w : V) → ((n : ℕ) → length views < n → calls caller n log ≡ []) → (n : ℕ) → length (set views id w) < n → calls caller n log ≡ []
-  unmade_set log views id w un n h = un n (subst (λ (k : ℕ). k < n) (length-set views id w) h)
+  unmade_set : (log : List E) (views : List V) (id : ℕ) (w : V) → ((n : ℕ) → (IsMade (length views) n → ⊥) → calls caller n log ≡ []) → (n : ℕ) → (IsMade (length (set views id w)) n → ⊥) → calls caller n log ≡ []
+  unmade_set log views id w un n h = un n (subst (λ (k : ℕ). IsMade k n → ⊥) (length-set views id w) h)
 
   abbrev IsOne : V → Type 0
   IsOne v = v.rows ≡ head_row v.rows ∷ []
@@ -224,7 +224,7 @@ module _ (S O E Q : Type 0) (stands : S → O → List E → Type 0) (caller : E
           words_are = ap (λ (ws : List ℕ). set ws 2 ((get_or ws 2 0 + 1) % 18446744073709551616)) r.words_are ∙ ap (λ (k : ℕ). r.next % 18446744073709551616 ∷ r.serving % 18446744073709551616 ∷ k ∷ []) fits;
           queue = omega arith;
           room = subst (λ (k : ℕ). k ≤ seats) (sym (length-set s.views id w)) r.room;
-          unmade = unmade_set log' s.views id w (λ n h. let le = old.made_before in calls_other caller n r.log e (own n (λ eq. omega arith)) ∙ r.unmade n h);
+          unmade = unmade_set log' s.views id w (λ n h. calls_other caller n r.log e (own n (λ eq. h (subst (IsMade (length s.views)) (sym eq) old.made_before))) ∙ r.unmade n h);
           each = each_set s.views id w log' s.homes r.serving r.next r.whose r.owner record {
             rows = λ q h. subst (IsRow caller first log' (length s.views)) (only_has (noted caller r0 e) q h) record {
               opening = old.opening;
@@ -306,14 +306,14 @@ module _ (S O E Q : Type 0) (stands : S → O → List E → Type 0) (caller : E
       )
 
   grown : (log : List E) (made : ℕ) (q : Row O E Q) → IsRow caller first log made q → IsRow caller first log (made + 1) q
-  grown log made q p = let le = p.made_before in record { opening = p.opening; begins = p.begins; mine = p.mine; seen = p.seen; made_before = omega arith }
+  grown log made q p = let le : q.node ≤ made = p.made_before.1 in record { opening = p.opening; begins = p.begins; mine = p.mine; seen = p.seen; made_before = (p.made_before.0, omega arith) }
 
   -- S7
   pub cuts : (seats id : ℕ) (v : V) → IsOne v → 0 < v.made → v.made < seats → Splits (Rule seats) id v (maker_no_more v) (newcomer v)
   cuts seats id v one some_made few_made s r at =
       let n : ℕ = length s.views in let left : V = maker_no_more v in let right : V = newcomer v in let part : List V = set s.views id left in let views' : List V = part ++ right ∷ [] in
       let mine = r.each id v at in let is = mine.maker some_made in let made_is : v.made ≡ n = is.0 in let last : id + 1 ≡ n = is.1 in
-      let r0 : Row O E Q = head_row v.rows in let known = mine.rows r0 (has_head v one) in let fresh : Row O E Q = row (v.made + 1) r0.opening r0.front [] [] in let none_yet : calls caller (v.made + 1) r.log ≡ [] = r.unmade (v.made + 1) (omega arith) in
+      let r0 : Row O E Q = head_row v.rows in let known = mine.rows r0 (has_head v one) in let fresh : Row O E Q = row (v.made + 1) r0.opening r0.front [] [] in let none_yet : calls caller (v.made + 1) r.log ≡ [] = r.unmade (v.made + 1) (λ (is_made : IsMade n (v.made + 1)). let le : v.made + 1 ≤ n = is_made.1 in omega arith) in
       let part_long : length part ≡ n = length-set s.views id left in
       let long : length views' ≡ n + 1 = omega (arith, length-append part (right ∷ [])) in
       let owner' : ℕ → ℕ = put r.owner (n + 1) n in
@@ -322,7 +322,7 @@ module _ (S O E Q : Type 0) (stands : S → O → List E → Type 0) (caller : E
       let old : (j : ℕ) (u : V) → get_elem? s.views j ≡ some u → (0 < u.made → ⊥) ⊎ (j ≡ id) → (made' : ℕ) → (j ≢ id → made' ≡ u.made) → (j ≡ id → made' ≡ 0) → Seat' j (view_of u.stage u.rows made') = λ j u there who made' keeps_made drops_made.
       let o = r.each j u there in let inside : j < n = at_less s.views j u there in record {
         rows = λ q h. grown r.log n q (o.rows q h);
-        owned = λ q h. let le = (o.rows q h).made_before in put_else r.owner (n + 1) n q.node (λ e. omega arith) ∙ o.owned q h;
+        owned = λ q h. let le : q.node ≤ n = (o.rows q h).made_before.1 in put_else r.owner (n + 1) n q.node (λ e. omega arith) ∙ o.owned q h;
         stage = o.stage;
         own = ⊎_elim (λ (h : r.owner (j + 1) ≡ j). inl (put_else r.owner (n + 1) n (j + 1) (λ e. omega arith) ∙ h)) (λ (h : (u.rows ≡ []) × (u.stage ≡ Idle)). inr h) o.own;
         maker = λ some. dite (ℕ_discrete j id) (λ e. let z : made' ≡ 0 = drops_made e in absurd (omega arith))
@@ -338,14 +338,14 @@ module _ (S O E Q : Type 0) (stands : S → O → List E → Type 0) (caller : E
         words_are = r.words_are;
         queue = omega arith;
         room = omega arith;
-        unmade = λ m h. r.unmade m (omega arith);
+        unmade = λ m h. r.unmade m (λ (is_made : IsMade n m). let le : m ≤ n = is_made.1 in h (is_made.0, omega arith));
         each = λ j u e. subst (λ (k : ℕ). IsSeat caller first r.log s.homes k r.serving r.next r.whose owner' j u) (sym long)
             (⊎_elim (λ (in_part : get_elem? part j ≡ some u).
             ⊎_elim (λ (t : (j ≡ id) × (left ≡ u)). subst (λ (z : ℕ × V). Seat' z.0 z.1) (λ i. (sym t.0 i, t.1 i)) (old id v at (inr refl) 0 (λ ne. absurd (ne refl)) (λ _. refl)))
             (λ (t : (j ≢ id) × (get_elem? s.views j ≡ some u)). old j u t.1 (inl (λ some. let m = (r.each j u t.1).maker some in t.0 (omega arith))) u.made (λ _. refl) (λ e'. absurd (t.0 e')))
             (at_set s.views id j left u in_part))
             (λ (t : (j ≡ length part) × (right ≡ u)). let here : j ≡ n = t.0 ∙ part_long in subst (Seat' j) t.1 record {
-              rows = λ q h. subst (IsRow caller first r.log (n + 1)) (only_has fresh q h) record { opening = known.opening; begins = known.begins; mine = none_yet; seen = calls_none caller (v.made + 1) r0.front r.log known.begins none_yet; made_before = omega arith };
+              rows = λ q h. subst (IsRow caller first r.log (n + 1)) (only_has fresh q h) record { opening = known.opening; begins = known.begins; mine = none_yet; seen = calls_none caller (v.made + 1) r0.front r.log known.begins none_yet; made_before = (omega arith, omega arith) };
               owned = λ q h. subst (λ (z : Row O E Q). owner' z.node ≡ j) (only_has fresh q h) (ap (λ (k : ℕ). owner' (k + 1)) made_is ∙ (put_here r.owner (n + 1) n ∙ sym here));
               stage = tt;
               own = inl (ap (λ (k : ℕ). owner' (k + 1)) here ∙ (put_here r.owner (n + 1) n ∙ sym here));
@@ -376,7 +376,7 @@ module _ (S O E Q : Type 0) (stands : S → O → List E → Type 0) (caller : E
         words_are = r.words_are;
         queue = omega arith;
         room = subst (λ (k : ℕ). k ≤ seats) (sym long) r.room;
-        unmade = λ n h. r.unmade n (subst (λ (k : ℕ). k < n) long h);
+        unmade = λ n h. r.unmade n (subst (λ (k : ℕ). IsMade k n → ⊥) long h);
         each = each_set views1 other spent r.log s.homes r.serving r.next r.whose owner' record {
           rows = λ q h. absurd (none_has q h);
           owned = λ q h. absurd (none_has q h);
@@ -425,7 +425,7 @@ module _ (S O E Q : Type 0) (stands : S → O → List E → Type 0) (caller : E
     room = omega arith;
     unmade = λ n h. refl;
     each = λ j v at. let here : j < 1 = at_less (m ∷ []) j v at in let at_0 : 0 ≡ j = omega arith in subst (λ (z : ℕ × V). IsSeat caller first [] (map some slots) 1 0 0 (λ _. 0) (λ _. 0) z.0 z.1) (λ i. (at_0 i, only_has m v (j, at) i)) record {
-      rows = λ q h. subst (IsRow caller first [] 1) (only_has only q h) record { opening = refl; begins = ([], refl); mine = refl; seen = refl; made_before = omega arith };
+      rows = λ q h. subst (IsRow caller first [] 1) (only_has only q h) record { opening = refl; begins = ([], refl); mine = refl; seen = refl; made_before = (omega arith, omega arith) };
       owned = λ q h. refl;
       stage = tt;
       own = inl refl;

@@ -20,6 +20,10 @@ weight Idle = 0
 weight (Waits t) = 1
 weight (Came t) = 1
 
+-- the nodes that were made are numbered from 1 up to their number
+abbrev pub IsMade : ℕ → ℕ → Type 0
+IsMade made n = (0 < n) × (n ≤ made)
+
 module _ {O E Q : Type 0} where
   -- how many views have a ticket
   abbrev pub waiting : List (View O E Q) → ℕ
@@ -37,7 +41,7 @@ module _ {O E Q : Type 0} where
     -- and they all stand in its front
     pub seen : calls caller r.node r.front ≡ r.mine
     -- the node was made
-    pub made_before : r.node ≤ made
+    pub made_before : IsMade made r.node
 
   -- the seat at place j still has the node that it was made with, or another seat took it in and it has none
   abbrev pub HasOwn : (ℕ → ℕ) → ℕ → View O E Q → Type 0
@@ -101,4 +105,4 @@ module _ {S O E Q : Type 0} (stands : S → O → List E → Type 0) (caller : E
     -- The n-th seat that was made has node n until another takes it in, no two views have one node, and the history's
     -- calls of a view's nodes stand in its front and are its own (`each`). No entry has a node that was not made.
     pub each : (j : ℕ) (v : View O E Q) → get_elem? s.views j ≡ some v → IsSeat caller first log s.homes (length s.views) serving next whose owner j v
-    pub unmade : (n : ℕ) → length s.views < n → calls caller n log ≡ []
+    pub unmade : (n : ℕ) → (IsMade (length s.views) n → ⊥) → calls caller n log ≡ []
