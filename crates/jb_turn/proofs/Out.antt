@@ -23,6 +23,7 @@ module _ (S O E Q : Type 0) (stands : S → O → List E → Type 0) (caller : E
   head_of [] = None
   head_of (x ∷ xs) = x.1
 
+  -- what is taken out of the place is a state
   pub taken_is : (t : ℕ) (me m : Knows) (y : Option S) → Arrives stands caller t me m → m.1 ≡ (0, y) ∷ rest m.1 → IsSome y
   unfolding head_of
   taken_is t me m y (log, x, is, more, more2, more3) got = let e : (0, Some x) ∷ [] ≡ (0, y) ∷ rest m.1 = ap (λ (z : Knows). z.1) (sym is) ∙ got in let same : Some x ≡ y = ap (λ (l : List (ℕ × Option S)). head_of l) e in subst IsSome same refl
@@ -30,6 +31,7 @@ module _ (S O E Q : Type 0) (stands : S → O → List E → Type 0) (caller : E
   abbrev emptied : Knows → Knows
   emptied m = (m.0, (0, None) ∷ rest m.1)
 
+  -- after the exchange and the look at the count the seat holds the turn
   pub holds_out : (t : ℕ) (me m m' m2 : Knows) → Arrives stands caller t me m → m' ≡ emptied m → m2 ≡ m' → (m2.0.stage ≡ Came (ticket m2.0.stage)) × (m2.1 ≡ (0, None) ∷ [])
   holds_out t me m m' m2 (log, x, is, more, more2, more3) now then_ = let e : m2 ≡ emptied m = then_ ∙ now in let came : m2.0.stage ≡ Came t = ap (λ (z : Knows). z.0.stage) e ∙ ap (λ (z : Knows). z.0.stage) is in
       (came ∙ ap (λ (u : ℕ). let c : Stage = Came u in c) (sym (ap ticket came)), ap (λ (z : Knows). z.1) e ∙ ap (λ (z : Knows). (0, None) ∷ rest z.1) is)
@@ -38,11 +40,13 @@ module _ (S O E Q : Type 0) (stands : S → O → List E → Type 0) (caller : E
   abbrev IsOne : View O E Q → Type 0
   IsOne v = v.rows ≡ head_row v.rows ∷ []
 
+  -- the look at the count may be made after the exchange
   pub counts_out : (seats slots id t : ℕ) (me m m' : Me (Option S) (View O E Q)) → Arrives stands caller t me m → m' ≡ emptied S O E Q stands caller m → Allows (TurnRule stands caller first seats) slots id m' 2 (λ n. n) (Counts (step slots 2 0 0 none) m')
   counts_out seats slots id t me m m' (log, x, is, more, more2, more3) now = let view : m'.0 ≡ view_of (Came t) (seen (head_row me.0.rows) log ∷ []) me.0.made = ap (λ (z : Me (Option S) (View O E Q)). z.0) now ∙ ap (λ (z : Me (Option S) (View O E Q)). z.0) is in
       counts S O E Q stands caller first seats slots id m' (subst IsOne (sym view) refl) t (ap (λ (z : View O E Q). z.stage) view)
 
-  pub gives_out : (seats slots id : ℕ) (me m : Me (Option S) (View O E Q)) (refusal : Option Q) → IsOne me.0 → (t : ℕ) → me.0.stage ≡ Came t → (x : S) → me.1 ≡ (0, None) ∷ [] → m ≡ (me.0, (0, Some x) ∷ rest me.1) → StandsFrom stands (head_row me.0.rows).opening x (head_row me.0.rows).front
-      → Allows (TurnRule stands caller first seats) slots id m 1 (λ n. (n + 1) % 2 ^ 64) (Gives refusal (step slots 1 1 0 none) m)
-  gives_out seats slots id me m refusal one t is x held now st = subst (λ (z : Me (Option S) (View O E Q)). Allows (TurnRule stands caller first seats) slots id z 1 (λ n. (n + 1) % 2 ^ 64) (Gives refusal (step slots 1 1 0 none) z)) (sym now)
-      (gives_back S O E Q stands caller first seats slots id (me.0, (0, Some x) ∷ rest me.1) refusal one t is x (ap (λ (c : List (ℕ × Option S)). (0, Some x) ∷ rest c) held) st)
+  -- the turn may be given after the exchange that puts the state back
+  pub gives_out : (seats slots id : ℕ) (me m : Me (Option S) (View O E Q)) (remark : Option Q) → IsOne me.0 → (t : ℕ) → me.0.stage ≡ Came t → (x : S) → me.1 ≡ (0, None) ∷ [] → m ≡ (me.0, (0, Some x) ∷ rest me.1) → StandsFrom stands (head_row me.0.rows).opening x (head_row me.0.rows).front
+      → Allows (TurnRule stands caller first seats) slots id m 1 (λ n. (n + 1) % 2 ^ 64) (Gives remark (step slots 1 1 0 none) m)
+  gives_out seats slots id me m remark one t is x held now st = subst (λ (z : Me (Option S) (View O E Q)). Allows (TurnRule stands caller first seats) slots id z 1 (λ n. (n + 1) % 2 ^ 64) (Gives remark (step slots 1 1 0 none) z)) (sym now)
+      (gives_back S O E Q stands caller first seats slots id (me.0, (0, Some x) ∷ rest me.1) remark one t is x (ap (λ (c : List (ℕ × Option S)). (0, Some x) ∷ rest c) held) st)

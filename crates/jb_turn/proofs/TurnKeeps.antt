@@ -13,12 +13,12 @@ use Rattle.jb_turn.specs.declared.view.View.{View}
 use Rattle.jb_turn.specs.declared.view.Stage.{Stage}
 use Rattle.jb_turn.specs.declared.view.Stage.TheVariants.{Idle, Waits, Came}
 use Rattle.jb_turn.specs.Rows.{Has, calls, is_at, when, row, view_of, head_row, IsOwn, StandsFrom}
-use Rattle.jb_turn.specs.Rule.{Home, IsMade, weight, waiting, IsLongest, IsOut, IsHome, IsRow, IsStage, IsSeat, HasOwn, TurnRule}
+use Rattle.jb_turn.specs.Rule.{Home, IsMade, HasTicket, weight, waiting, IsLongest, IsOut, IsHome, IsRow, IsStage, IsSeat, HasOwn, TurnRule}
 use Rattle.jb_turn.specs.Whole.{HasAll, IsWhole}
 use Rattle.jb_turn.specs.Steps.{ticket, seen, noted, given, maker, maker_no_more, newcomer, both, spent, Draws, Arrives, Comes, Notes, Gives, Counts}
 use Rattle.jb_turn.proofs.Places.{has_reverse, has_reversed}
 use Rattle.std.proofs.Common.{reverse}
-use Rattle.jb_turn.proofs.Histories.{put, put_here, put_else, passed, passed_on, passed_not, begins_self, begins_longer, only_has, none_has, at_less, at_end, has_left, has_right, has_either, calls_snoc, calls_other, calls_none, waiting_set, waiting_snoc, waiting_most, same_at, longest_set, out_set}
+use Rattle.jb_turn.proofs.Histories.{put, put_here, put_else, passed, passed_on, passed_not, begins_self, begins_longer, only_has, none_has, at_less, at_end, has_left, has_right, has_either, calls_snoc, calls_other, calls_none, waiting_set, waiting_snoc, waiting_most, same_at, longest_set, out_set, drawn_set, drawn_longer, drawn_next}
 
 abbrev M64 : ℕ
 M64 = 18446744073709551616
@@ -66,7 +66,7 @@ module _ (S O E Q : Type 0) (stands : S → O → List E → Type 0) (caller : E
   draw_else log homes serving next whose j id rows (Waits t) h = let old : t < next = h.1 in (h.0, omega arith, put_else whose next id t (λ e. omega arith) ∙ h.2)
   draw_else log homes serving next whose j id rows (Came t) h = let old : t < next = h.1 in (h.0, omega arith, put_else whose next id t (λ e. omega arith) ∙ h.2, h.3, h.4)
 
-  -- S1
+  -- drawing a ticket
   pub draws : (seats slots id : ℕ) (me : Sat) → IsOne me.0 → me.0.stage ≡ Idle → Allows (Rule seats) slots id me 0 (λ n. (n + 1) % 2 ^ 64) (Draws (step slots 0 1 0 none) me)
   draws seats slots id me one idle s r deep at small =
       let w : V = view_of (Waits r.next) me.0.rows me.0.made in let mine = r.each id me.0 at in let whose' : ℕ → ℕ = put r.whose r.next id in
@@ -84,6 +84,8 @@ module _ (S O E Q : Type 0) (stands : S → O → List E → Type 0) (caller : E
           owner = r.owner;
           few = r.few;
           words_are = ap (λ (ws : List ℕ). set ws 0 ((get_or ws 0 0 + 1) % 18446744073709551616)) r.words_are ∙ ap (λ (k : ℕ). k ∷ r.serving % 18446744073709551616 ∷ length r.log ∷ []) (next_word r.next);
+          drawn = λ u a b. drawn_next r.whose (set s.views id w) id r.next w (set_here s.views id w (at_less s.views id me.0 at)) refl u
+              (λ ne. drawn_set r.whose s.views id me.0 w at u (λ h. absurd (subst (HasTicket u) idle h)) (r.drawn u a (omega arith)));
           queue = longer;
           room = subst (λ (k : ℕ). k ≤ seats) (sym (length-set s.views id w)) r.room;
           unmade = unmade_set r.log s.views id w r.unmade;
@@ -127,7 +129,7 @@ module _ (S O E Q : Type 0) (stands : S → O → List E → Type 0) (caller : E
   take_else log homes homes' x serving next whose j rows (Waits t) full h = h
   take_else log homes homes' x serving next whose j rows (Came t) full h = let out : homes ≡ none ∷ [] = h.3 in absurd (cc (full, out))
 
-  -- S2 where the turn has come
+  -- the look that finds the seat's own ticket served, and takes the state with it
   comes_now : (seats id : ℕ) (me : Sat) (s : St) (r : Rule seats s) → IsOne me.0 → me.1 ≡ [] → get_elem? s.views id ≡ some me.0 → (t : ℕ) → me.0.stage ≡ Waits t → r.serving ≡ t
       → (IsHome stands first r.log s.homes ⊎ IsOut r.serving s.views)
       → (w : V) × (a : Act (Option S)) × Valid s.homes me.1 a × Rule seats (stepped s 1 (get_or s.words 1 0) id me.1 w a) × Arrives stands caller t me (w, carried_after me.1 a)
@@ -148,6 +150,7 @@ module _ (S O E Q : Type 0) (stands : S → O → List E → Type 0) (caller : E
           owner = r.owner;
           few = r.few;
           words_are = ap (λ (ws : List ℕ). set ws 1 (get_or ws 1 0)) r.words_are;
+          drawn = λ u a b. drawn_set r.whose s.views id me.0 w at u (λ h. subst (HasTicket u) is h) (r.drawn u a b);
           queue = omega arith;
           room = subst (λ (k : ℕ). k ≤ seats) (sym (length-set s.views id w)) r.room;
           unmade = unmade_set r.log s.views id w r.unmade;
@@ -177,7 +180,7 @@ module _ (S O E Q : Type 0) (stands : S → O → List E → Type 0) (caller : E
       let clash : Waits t ≡ Came r.serving = sym is ∙ (ap (λ (z : V). z.stage) same ∙ came) in
       absurd (cc clash)
 
-  -- S2
+  -- a look at the ticket that is served
   pub comes : (seats slots id : ℕ) (me : Sat) → IsOne me.0 → me.0.stage ≡ Waits (ticket me.0.stage) → me.1 ≡ [] → Allows (Rule seats) slots id me 1 (λ n. n) (Comes stands caller (step slots 1 0 0 none) me)
   comes seats slots id me one waits empty s r deep at small =
       let found : get_or s.words 1 0 ≡ r.serving % 18446744073709551616 = ap (λ (ws : List ℕ). get_or ws 1 0) r.words_are in
@@ -189,7 +192,7 @@ module _ (S O E Q : Type 0) (stands : S → O → List E → Type 0) (caller : E
   came_at : (seats id : ℕ) (me : Sat) (s : St) (r : Rule seats s) → get_elem? s.views id ≡ some me.0 → (t : ℕ) → me.0.stage ≡ Came t → IsStage r.log s.homes r.serving r.next r.whose id me.0.rows (Came t)
   came_at seats id me s r at t is = subst (IsStage r.log s.homes r.serving r.next r.whose id me.0.rows) is (r.each id me.0 at).stage
 
-  -- COUNT, while the state is out with the seat
+  -- a look at the count while the state is out with the seat
   pub counts : (seats slots id : ℕ) (me : Sat) → IsOne me.0 → (t : ℕ) → me.0.stage ≡ Came t → Allows (Rule seats) slots id me 2 (λ n. n) (Counts (step slots 2 0 0 none) me)
   counts seats slots id me one t is s r deep at small =
       (me.0, keeps, tt, unmoved seats 2 id me s r at, (refl, ap (λ (ws : List ℕ). get_or ws 2 0) r.words_are ∙ ap length (sym ((came_at seats id me s r at t is).4 (head_row me.0.rows) (has_head me.0 one)))))
@@ -200,7 +203,7 @@ module _ (S O E Q : Type 0) (stands : S → O → List E → Type 0) (caller : E
   note_else log log' homes serving next whose j id rows (Waits t) is other h = h
   note_else log log' homes serving next whose j id rows (Came t) is other h = absurd (other (sym h.2 ∙ (ap whose (sym h.0) ∙ is)))
 
-  -- S5
+  -- noting an entry
   pub notes : (seats slots id : ℕ) (me : Sat) (picked : Option E) → IsOne me.0 → (t : ℕ) → me.0.stage ≡ Came t → (e : E) → picked ≡ Some e → IsOwn caller (head_row me.0.rows).node e → length (head_row me.0.rows).front ≤ 2 ^ 62
       → Allows (Rule seats) slots id me 2 (λ n. (n + 1) % 2 ^ 64) (Notes caller picked (step slots 2 1 0 none) me)
   notes seats slots id me picked one t is e named own few s r deep at small =
@@ -222,6 +225,7 @@ module _ (S O E Q : Type 0) (stands : S → O → List E → Type 0) (caller : E
           owner = r.owner;
           few = r.few;
           words_are = ap (λ (ws : List ℕ). set ws 2 ((get_or ws 2 0 + 1) % 18446744073709551616)) r.words_are ∙ ap (λ (k : ℕ). r.next % 18446744073709551616 ∷ r.serving % 18446744073709551616 ∷ k ∷ []) fits;
+          drawn = λ u a b. drawn_set r.whose s.views id me.0 w at u (λ h. h) (r.drawn u a b);
           queue = omega arith;
           room = subst (λ (k : ℕ). k ≤ seats) (sym (length-set s.views id w)) r.room;
           unmade = unmade_set log' s.views id w (λ n h. calls_other caller n r.log e (own n (λ eq. h (subst (IsMade (length s.views)) (sym eq) old.made_before))) ∙ r.unmade n h);
@@ -262,11 +266,11 @@ module _ (S O E Q : Type 0) (stands : S → O → List E → Type 0) (caller : E
   give_else log homes homes' serving next whose j id rows (Waits t) is other h = let apart : t ≢ serving = λ e. other (sym h.2 ∙ (ap whose e ∙ is)) in let a : serving ≤ t = h.0 in (omega arith, h.1, h.2)
   give_else log homes homes' serving next whose j id rows (Came t) is other h = absurd (other (sym h.2 ∙ (ap whose (sym h.0) ∙ is)))
 
-  -- S6
-  pub gives_back : (seats slots id : ℕ) (me : Sat) (refusal : Option Q) → IsOne me.0 → (t : ℕ) → me.0.stage ≡ Came t → (x : S) → me.1 ≡ (0, Some x) ∷ [] → StandsFrom stands (head_row me.0.rows).opening x (head_row me.0.rows).front
-      → Allows (Rule seats) slots id me 1 (λ n. (n + 1) % 2 ^ 64) (Gives refusal (step slots 1 1 0 none) me)
-  gives_back seats slots id me refusal one t is x held st s r deep at small =
-      let r0 : Row O E Q = head_row me.0.rows in let w : V = view_of Idle (given r0 refusal ∷ []) me.0.made in
+  -- giving the turn back, with the state that stands for the history
+  pub gives_back : (seats slots id : ℕ) (me : Sat) (remark : Option Q) → IsOne me.0 → (t : ℕ) → me.0.stage ≡ Came t → (x : S) → me.1 ≡ (0, Some x) ∷ [] → StandsFrom stands (head_row me.0.rows).opening x (head_row me.0.rows).front
+      → Allows (Rule seats) slots id me 1 (λ n. (n + 1) % 2 ^ 64) (Gives remark (step slots 1 1 0 none) me)
+  gives_back seats slots id me remark one t is x held st s r deep at small =
+      let r0 : Row O E Q = head_row me.0.rows in let w : V = view_of Idle (given r0 remark ∷ []) me.0.made in
       let mine = r.each id me.0 at in let has = has_head me.0 one in let old = mine.rows r0 has in let place = came_at seats id me s r at t is in
       let whole : r0.front ≡ r.log = place.4 r0 has in
       let sum = waiting_set s.views id me.0 w at in let was : weight me.0.stage ≡ 1 = ap weight is in let line = r.queue in
@@ -283,12 +287,13 @@ module _ (S O E Q : Type 0) (stands : S → O → List E → Type 0) (caller : E
           owner = r.owner;
           few = r.few;
           words_are = ap (λ (ws : List ℕ). set ws 1 ((get_or ws 1 0 + 1) % 18446744073709551616)) r.words_are ∙ ap (λ (k : ℕ). r.next % 18446744073709551616 ∷ k ∷ length r.log ∷ []) (next_word r.serving);
+          drawn = λ u a b. drawn_set r.whose s.views id me.0 w at u (λ h. let had : t ≡ u = subst (HasTicket u) is h in let served_now : r.serving ≡ t = place.0 in absurd (omega arith)) (r.drawn u (omega arith) b);
           queue = omega arith;
           room = subst (λ (k : ℕ). k ≤ seats) (sym (length-set s.views id w)) r.room;
           unmade = unmade_set r.log s.views id w r.unmade;
           each = each_set s.views id w r.log (put_back s.homes me.1) (r.serving + 1) r.next r.whose r.owner record {
-            rows = λ q h. subst (IsRow caller first r.log (length s.views)) (only_has (given r0 refusal) q h) record { opening = old.opening; begins = old.begins; mine = old.mine; seen = old.seen; made_before = old.made_before };
-            owned = λ q h. subst (λ (z : Row O E Q). r.owner z.node ≡ id) (only_has (given r0 refusal) q h) (mine.owned r0 has);
+            rows = λ q h. subst (IsRow caller first r.log (length s.views)) (only_has (given r0 remark) q h) record { opening = old.opening; begins = old.begins; mine = old.mine; seen = old.seen; made_before = old.made_before };
+            owned = λ q h. subst (λ (z : Row O E Q). r.owner z.node ≡ id) (only_has (given r0 remark) q h) (mine.owned r0 has);
             stage = tt;
             own = inl (owns r.owner id me.0 one mine.own);
             maker = mine.maker;
@@ -300,7 +305,7 @@ module _ (S O E Q : Type 0) (stands : S → O → List E → Type 0) (caller : E
             maker = o.maker;
           });
           state = inl (x, full, subst (stands x first) whole (subst (λ (o : Option O). StandsFrom stands o x r0.front) old.opening st));
-          longest = (id, w, given r0 refusal, here, (0, refl), whole);
+          longest = (id, w, given r0 remark, here, (0, refl), whole);
         },
         ap (λ (c : List (ℕ × Option S)). (w, rest c)) held,
       )
@@ -308,7 +313,7 @@ module _ (S O E Q : Type 0) (stands : S → O → List E → Type 0) (caller : E
   grown : (log : List E) (made : ℕ) (q : Row O E Q) → IsRow caller first log made q → IsRow caller first log (made + 1) q
   grown log made q p = let le : q.node ≤ made = p.made_before.1 in record { opening = p.opening; begins = p.begins; mine = p.mine; seen = p.seen; made_before = (p.made_before.0, omega arith) }
 
-  -- S7
+  -- making a seat
   pub cuts : (seats id : ℕ) (v : V) → IsOne v → 0 < v.made → v.made < seats → Splits (Rule seats) id v (maker_no_more v) (newcomer v)
   cuts seats id v one some_made few_made s r at =
       let n : ℕ = length s.views in let left : V = maker_no_more v in let right : V = newcomer v in let part : List V = set s.views id left in let views' : List V = part ++ right ∷ [] in
@@ -336,6 +341,7 @@ module _ (S O E Q : Type 0) (stands : S → O → List E → Type 0) (caller : E
         owner = owner';
         few = r.few;
         words_are = r.words_are;
+        drawn = λ u a b. drawn_longer r.whose part (right ∷ []) u (drawn_set r.whose s.views id v left at u (λ h. h) (r.drawn u a b));
         queue = omega arith;
         room = omega arith;
         unmade = λ m h. r.unmade m (λ (is_made : IsMade n m). let le : m ≤ n = is_made.1 in h (is_made.0, omega arith));
@@ -355,7 +361,7 @@ module _ (S O E Q : Type 0) (stands : S → O → List E → Type 0) (caller : E
         longest = let o = longest_set r.log s.views id v left at (λ q h. h) r.longest in (o.0, o.1, o.2, at_longer part (right ∷ []) o.0 o.1 o.3, o.4, o.5);
       }
 
-  -- S8
+  -- taking in a seat
   pub joins : (seats id : ℕ) (v : V) (other : ℕ) (u : V) → (v.rows ≡ [] → ⊥) → v.stage ≡ Idle → u.stage ≡ Idle → Joins (Rule seats) id v other u (both v u) spent
   joins seats id v other u some_row idle idle' s r at apart there' =
       let w : V = both v u in let views1 : List V = set s.views id w in let views2 : List V = set views1 other spent in
@@ -374,6 +380,7 @@ module _ (S O E Q : Type 0) (stands : S → O → List E → Type 0) (caller : E
         owner = owner';
         few = r.few;
         words_are = r.words_are;
+        drawn = λ t a b. drawn_set r.whose views1 other u spent there' t (λ h. absurd (subst (HasTicket t) idle' h)) (drawn_set r.whose s.views id v w at t (λ h. h) (r.drawn t a b));
         queue = omega arith;
         room = subst (λ (k : ℕ). k ≤ seats) (sym long) r.room;
         unmade = λ n h. r.unmade n (subst (λ (k : ℕ). IsMade k n → ⊥) long h);
@@ -421,6 +428,7 @@ module _ (S O E Q : Type 0) (stands : S → O → List E → Type 0) (caller : E
     owner = λ _. 0;
     few = few;
     words_are = refl;
+    drawn = λ u a b. absurd (omega arith);
     queue = omega arith;
     room = omega arith;
     unmade = λ n h. refl;
@@ -454,6 +462,7 @@ module _ (S O E Q : Type 0) (stands : S → O → List E → Type 0) (caller : E
       mine_too j u there q has = dite (ℕ_discrete j id) (λ e. subst (λ (z : V). Has z.rows q) (sym (same_at s.views id j v u at there e)) has)
           (λ ne. let g = gone j u ne there in absurd (none_has q (subst (λ (l : List (Row O E Q)). Has l q) g.0 has)))
 
+  -- a seat is made where as many were made as the view says
   pub cuts_at : (seats id n : ℕ) (v : V) (made : v.made ≡ n) → IsOne v → 0 < n → n < seats → Splits (Rule seats) id v (maker_no_more v) (newcomer v)
   cuts_at seats id n v made one positive few = cuts seats id v one (omega arith) (omega arith)
 

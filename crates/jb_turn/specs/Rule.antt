@@ -20,6 +20,12 @@ weight Idle = 0
 weight (Waits t) = 1
 weight (Came t) = 1
 
+-- the seat has this ticket
+abbrev pub HasTicket : ℕ → Stage → Type 0
+HasTicket t Idle = ⊥
+HasTicket t (Waits u) = u ≡ t
+HasTicket t (Came u) = u ≡ t
+
 -- the nodes that were made are numbered from 1 up to their number
 abbrev pub IsMade : ℕ → ℕ → Type 0
 IsMade made n = (0 < n) × (n ≤ made)
@@ -29,6 +35,10 @@ module _ {O E Q : Type 0} where
   abbrev pub waiting : List (View O E Q) → ℕ
   waiting [] = 0
   waiting (v ∷ vs) = weight v.stage + waiting vs
+
+  -- the ticket is out with the seat that it was drawn by
+  abbrev pub IsDrawn : (ℕ → ℕ) → List (View O E Q) → ℕ → Type 0
+  IsDrawn whose views t = (v : View O E Q) × (get_elem? views (whose t) ≡ some v) × HasTicket t v.stage
 
   -- what is known of a node is true of the history
   pub record IsRow (caller : E → Option ℕ) (first : O) (log : List E) (made : ℕ) (r : Row O E Q) : Type 0 where
@@ -90,8 +100,9 @@ module _ {S O E Q : Type 0} (stands : S → O → List E → Type 0) (caller : E
     pub owner : ℕ → ℕ
     -- The words are the ticket that is drawn next and the one that is served, modulo 2^64, and the length of the history.
     pub words_are : s.words ≡ next % 2 ^ 64 ∷ serving % 2 ^ 64 ∷ length log ∷ []
-    -- The tickets that are out are those from the one that is served up to the one that is drawn next: as many views have a
-    -- ticket, each of them (`each`, its stage) one from there that no other view has. There are at most 33.
+    -- The tickets that are out are those from the one that is served up to the one that is drawn next: each of these is
+    -- with one view, and as many views have a ticket. There are at most 33.
+    pub drawn : (t : ℕ) → serving ≤ t → t < next → IsDrawn whose s.views t
     pub queue : serving + waiting s.views ≡ next
     pub room : length s.views ≤ seats
     pub few : seats ≤ 33
