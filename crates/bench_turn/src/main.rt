@@ -7,14 +7,14 @@
 
 mod contest;
 
-use crate::contest::{Figures, through_lock, through_turn};
+use crate::contest::{through_lock, through_turn};
 use std::{env, io};
 
 fn main(rt: HostRuntime) -> io::Result<()> {
     let mut words = env::args(&rt)?;
     words.next();
     let rounds = words.next().and_then(|word| word.parse::<u32>().ok());
-    let Some(rounds) = rounds else {
+    let Some(rounds @ 1..) = rounds else {
         println!(rt; "usage: bench_turn ROUNDS")?;
         return Ok(());
     };
