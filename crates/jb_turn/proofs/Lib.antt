@@ -1,0 +1,6 @@
+pub mod Histories
+pub mod TurnKeeps
+pub mod Places
+pub mod Out
+pub mod Callers
+pub mod Sums

@@ -1,0 +1,12 @@
+-- A sum with one number more.
+use Rattle.std.proofs.Common.{◌≡◌, sum_by, ℕ, ◌+◌, List, [], ◌∷◌, ◌++◌, Option, arith, ap, subst, sym}
+use Rattle.std.proofs.lemmas.List.Sums.{sum_by-append}
+use Rattle.jb_turn.specs.Rows.{StandsFrom}
+use Rattle.jb_turn.specs.Sums.{stands_for_sum}
+use Rattle.jb_turn.proofs.Callers.{stands_on}
+
+-- the number grew by what was added
+pub one_more : (opening opening' : Option ℕ) (n n' : ℕ) (log log' : List (ℕ × ℕ)) (node amount : ℕ) → opening' ≡ opening → n' ≡ n + amount → log' ≡ log ++ (node, amount) ∷ [] → StandsFrom stands_for_sum opening n log → StandsFrom stands_for_sum opening' n' log'
+one_more opening opening' n n' log log' node amount same grown longer here =
+    subst (λ o. StandsFrom stands_for_sum o n' log') (sym same) (stands_on stands_for_sum opening n n' log log'
+    (λ first old. omega (arith, old, grown, ap (λ l. sum_by (λ e. e.1) l) longer, sum_by-append (λ (e : ℕ × ℕ). e.1) log ((node, amount) ∷ []))) here)

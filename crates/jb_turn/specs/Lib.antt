@@ -1,0 +1,6 @@
+pub mod Rows
+pub mod Rule
+pub mod Steps
+pub mod Seats
+pub mod Whole
+pub mod Sums
