@@ -4,8 +4,8 @@ use crate::{Options, exchanges_end};
 use jb_telnet::Event;
 use std::test::Fail;
 
-/// How an option was brought to where it stands: what the caller said before.
-const FRESH: &[Event] = &[];
+/// What the caller said before: nothing, so that the option stands as it did at first.
+const FRESH: Option<Event> = None;
 
 /// What the caller says, and what the board sends.
 type Heard = (Event, &'static [u8]);
@@ -13,7 +13,7 @@ type Heard = (Event, &'static [u8]);
 #[test]
 fn each_event_is_answered_by_the_table_in_each_state(rt: HostRuntime) {
     // What was said before, the event with its answer, and a later event whose answer tells the new state.
-    let rows: [(&[Event], Heard, Heard); 24] = [
+    let rows: [(Option<Event>, Heard, Heard); 24] = [
         // Offered, on and off, for the board's echo.
         (
             FRESH,
@@ -21,12 +21,12 @@ fn each_event_is_answered_by_the_table_in_each_state(rt: HostRuntime) {
             (Event::Dont(1), b"\xff\xfc\x01"),
         ),
         (
-            &[Event::Dont(1)],
+            Some(Event::Dont(1)),
             (Event::Do(1), b"\xff\xfb\x01"),
             (Event::Dont(1), b"\xff\xfc\x01"),
         ),
         (
-            &[Event::Do(1)],
+            Some(Event::Do(1)),
             (Event::Do(1), b""),
             (Event::Dont(1), b"\xff\xfc\x01"),
         ),
@@ -36,12 +36,12 @@ fn each_event_is_answered_by_the_table_in_each_state(rt: HostRuntime) {
             (Event::Do(1), b"\xff\xfb\x01"),
         ),
         (
-            &[Event::Do(1)],
+            Some(Event::Do(1)),
             (Event::Dont(1), b"\xff\xfc\x01"),
             (Event::Do(1), b"\xff\xfb\x01"),
         ),
         (
-            &[Event::Dont(1)],
+            Some(Event::Dont(1)),
             (Event::Dont(1), b""),
             (Event::Do(1), b"\xff\xfb\x01"),
         ),
@@ -52,12 +52,12 @@ fn each_event_is_answered_by_the_table_in_each_state(rt: HostRuntime) {
             (Event::Dont(3), b"\xff\xfc\x03"),
         ),
         (
-            &[Event::Dont(3)],
+            Some(Event::Dont(3)),
             (Event::Do(3), b"\xff\xfb\x03"),
             (Event::Dont(3), b"\xff\xfc\x03"),
         ),
         (
-            &[Event::Do(3)],
+            Some(Event::Do(3)),
             (Event::Do(3), b""),
             (Event::Dont(3), b"\xff\xfc\x03"),
         ),
@@ -67,12 +67,12 @@ fn each_event_is_answered_by_the_table_in_each_state(rt: HostRuntime) {
             (Event::Do(3), b"\xff\xfb\x03"),
         ),
         (
-            &[Event::Do(3)],
+            Some(Event::Do(3)),
             (Event::Dont(3), b"\xff\xfc\x03"),
             (Event::Do(3), b"\xff\xfb\x03"),
         ),
         (
-            &[Event::Dont(3)],
+            Some(Event::Dont(3)),
             (Event::Dont(3), b""),
             (Event::Do(3), b"\xff\xfb\x03"),
         ),
@@ -83,12 +83,12 @@ fn each_event_is_answered_by_the_table_in_each_state(rt: HostRuntime) {
             (Event::Wont(3), b"\xff\xfe\x03"),
         ),
         (
-            &[Event::Will(3)],
+            Some(Event::Will(3)),
             (Event::Will(3), b""),
             (Event::Wont(3), b"\xff\xfe\x03"),
         ),
         (
-            &[Event::Will(3)],
+            Some(Event::Will(3)),
             (Event::Wont(3), b"\xff\xfe\x03"),
             (Event::Will(3), b"\xff\xfd\x03"),
         ),
@@ -130,8 +130,8 @@ fn each_event_is_answered_by_the_table_in_each_state(rt: HostRuntime) {
     ];
     for (before, (event, answer), (later, told)) in rows {
         let mut options = Options::new();
-        for said in before {
-            let _ = options.step(*said);
+        if let Some(said) = before {
+            let _ = options.step(said);
         }
         assert_eq!(rt;
             options.step(event).as_slice(),
