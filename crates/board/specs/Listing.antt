@@ -21,7 +21,7 @@ shown_field id fields = map shown_byte (unwrap_or (first_of id fields) [])
 abbrev pub message_line : ℕ → List Subfield → List ℕ
 message_line number fields =
     number_column number ++ codes "  " ++ shown_field SENDER_NAME fields ++ codes " > " ++ shown_field RECEIVER_NAME fields
-        ++ codes "  " ++ shown_field SUBJECT fields ++ 10 ∷ []
+    ++ codes "  " ++ shown_field SUBJECT fields ++ 10 ∷ []
 
 -- the line of a slot, where it is live
 abbrev pub slot_line : ℕ → SlotState → List ℕ

@@ -64,7 +64,7 @@ IsSent old new bytes = Sends old.sent bytes new.sent ⊎ (Rose old.faults new.fa
 abbrev pub IsPrinted : Answer → ℕ → Wire → Wire → Type 0
 IsPrinted (Ok text) status old new =
     ((status ≡ 0) × Sends old.sent text new.sent)
-        ⊎ ((status ≡ 5) × Rose old.faults new.faults × ((front : List ℕ) × Begins front text × Sends old.sent front new.sent))
+    ⊎ ((status ≡ 5) × Rose old.faults new.faults × ((front : List ℕ) × Begins front text × Sends old.sent front new.sent))
 IsPrinted (Err fault) status old new = (status ≡ status_of fault) × IsSent old new (line_of fault)
 
 -- a whole run

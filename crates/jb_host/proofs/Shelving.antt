@@ -43,10 +43,10 @@ first_set : (dir name : List ℕ) (shelf now : Shelf) (rest : List Shelf) (other
     → shelved (now ∷ rest) other_dir other_name ≡ with_place dir name (stands_on now.disk) (shelved (shelf ∷ rest)) other_dir other_name
 first_set dir name shelf now rest other_dir other_name is same_dir same_name =
     let key : is_for other_dir other_name now ≡ is_for other_dir other_name shelf =
-        ap (λ (d : List ℕ). bytes_eq other_dir d && bytes_eq other_name now.name) same_dir ∙ ap (λ (n : List ℕ). bytes_eq other_dir shelf.dir && bytes_eq other_name n) same_name in
+    ap (λ (d : List ℕ). bytes_eq other_dir d && bytes_eq other_name now.name) same_dir ∙ ap (λ (n : List ℕ). bytes_eq other_dir shelf.dir && bytes_eq other_name n) same_name in
     let same = same_key dir name shelf other_dir other_name is in
     ap (λ (b : Bool). if b then stands_on now.disk else shelved rest other_dir other_name) (key ∙ same)
-        ∙ twice (bytes_eq other_dir dir && bytes_eq other_name name) (is_for other_dir other_name shelf) (stands_on now.disk) (stands_on shelf.disk) (shelved rest other_dir other_name) same
+    ∙ twice (bytes_eq other_dir dir && bytes_eq other_name name) (is_for other_dir other_name shelf) (stands_on now.disk) (stands_on shelf.disk) (shelved rest other_dir other_name) same
 
 -- a shelf is changed: the place that it is for holds what stands there now, every other the same
 shelved_at : (dir name : List ℕ) (shelves : List Shelf) (k : ℕ) (now d : Shelf) (other_dir other_name : List ℕ) → k < length shelves
@@ -60,11 +60,11 @@ shelved_at dir name (shelf ∷ rest) (suc k) now d other_dir other_name within i
     let inner = shelved_at dir name rest k now d other_dir other_name (omega arith) is (λ j low. before (suc j) (omega arith)) same_dir same_name in
     let key = bytes_eq other_dir dir && bytes_eq other_name name in
     ap (λ (p : Place). if is_for other_dir other_name shelf then stands_on shelf.disk else p) inner
-        ∙ swapped key (is_for other_dir other_name shelf) (stands_on now.disk) (stands_on shelf.disk) (shelved rest other_dir other_name)
-            (λ asked. let both = and_parts _ _ asked in
-                ap (λ (e : List ℕ). bytes_eq e shelf.dir && bytes_eq other_name shelf.name) ((bytes_eq-Decides other_dir dir).0 both.0)
-                    ∙ ap (λ (n : List ℕ). bytes_eq dir shelf.dir && bytes_eq n shelf.name) ((bytes_eq-Decides other_name name).0 both.1)
-                    ∙ before 0 (omega arith))
+    ∙ swapped key (is_for other_dir other_name shelf) (stands_on now.disk) (stands_on shelf.disk) (shelved rest other_dir other_name)
+    (λ asked. let both = and_parts _ _ asked in
+    ap (λ (e : List ℕ). bytes_eq e shelf.dir && bytes_eq other_name shelf.name) ((bytes_eq-Decides other_dir dir).0 both.0)
+    ∙ ap (λ (n : List ℕ). bytes_eq dir shelf.dir && bytes_eq n shelf.name) ((bytes_eq-Decides other_name name).0 both.1)
+    ∙ before 0 (omega arith))
 
 -- the same, of all places at once
 pub shelved-set : (dir name : List ℕ) (shelves : List Shelf) (k : ℕ) (now d : Shelf) → k < length shelves

@@ -28,7 +28,7 @@ abbrev pub IsAt : List Shelf → List ℕ → List ℕ → Option ℕ → Type 0
 IsAt shelves dir name None = (k : ℕ) (d : Shelf) → k < length shelves → is_for dir name (slice_index_or shelves k d) ≡ false
 IsAt shelves dir name (Some k) =
     (k < length shelves) × ((d : Shelf) → is_for dir name (slice_index_or shelves k d) ≡ true)
-        × ((j : ℕ) (d : Shelf) → j < k → is_for dir name (slice_index_or shelves j d) ≡ false)
+    × ((j : ℕ) (d : Shelf) → j < k → is_for dir name (slice_index_or shelves j d) ≡ false)
 
 -- a host in memory, which tells all
 abbrev pub memory_desk : MemHost → Desk

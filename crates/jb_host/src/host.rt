@@ -18,6 +18,7 @@ pub enum HostError {
 /// The surroundings of a program: disks by folder and name, and one console.
 pub trait Host {
     type Disk: Disk + Drop;
+
     type Link: Link;
 
     /// Its count of faults, its console while that is not out, and where it tells them its calls and its disks.

@@ -8,12 +8,12 @@ mod host;
 mod link;
 mod memory;
 mod memory_host;
-
+mod real;
 mod sending;
 
 pub use host::{Host, HostError};
 pub use link::{Link, LinkFailed};
 pub use memory::MemLink;
 pub use memory_host::MemHost;
-
+pub use real::{ConsoleLink, RealHost};
 pub use sending::send;

@@ -89,7 +89,6 @@ fn put_on(shelves: &mut Vec<Shelf>, dir: &[u8], name: &[u8], disk: MemDisk)
 
 impl MemHost {
     ghost use Rattle.jb_host.specs.Shelves.{memory_desk, empty_desk};
-
     ghost use Rattle.jb_host.specs.Memory.{memory_wire};
     ghost use Rattle.jb_host.specs.Desk.{and_call, asked_disk};
 
@@ -167,6 +166,7 @@ impl MemHost {
 
 impl Host for MemHost {
     type Disk = MemDisk;
+
     type Link = MemLink;
 
     ghost use Rattle.jb_host.specs.Shelves.{memory_desk};

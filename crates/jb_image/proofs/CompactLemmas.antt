@@ -54,28 +54,30 @@ loads_compact limit files fixed lengths count slots loaded are header same is re
     let base_in = ap (λ (f : FixedHeader). f.base) same in
     let size : length loaded.slots ≡ count = ap length slots_is ∙ read.count_is in
     let no_marks : length loaded.marks ≡ 0 = ap length marks_is in
-    let no_bytes : length (files Jlr) ≡ 0 = sym are.lastread ∙ is.no_marks in
-    (record {
-      header = header;
-      fixed = fixed_is ∙ same;
-      base = subst (λ (n : ℕ). 1 ≤ n) (sym base_is) is.base;
-      numbers = omega (arith, is.numbers);
-      index = omega (arith, are.index, is.index);
-      slots = subst (AreSlotsOf files) (sym slots_is) slots_of;
-      apart = subst (AllPairs AreApart) (sym slots_is) read.apart;
-      lastread = omega arith;
-      marks = λ k d low. absurd (omega arith);
-      few_marks = omega arith;
-      headers_len = headers_len ∙ are.headers;
-      texts_len = texts_len ∙ are.texts;
-    }, record {
-      header = header;
-      base = subst (λ (n : ℕ). 1 ≤ n) base_in is.base;
-      count = count;
-      index = sym are.index ∙ is.index;
-      few_slots = is.few_slots;
-      numbers = subst (λ (n : ℕ). n + count ≤ 4294967295) base_in is.numbers;
-      in_order = in_order;
-      no_marks = no_items (files Jlr) no_bytes;
-      closed = subst (λ (n : ℕ). n ≤ 16) are.journal is.closed;
-    })
+    let no_bytes : length (files Jlr) ≡ 0 = sym are.lastread ∙ is.no_marks in (
+      record {
+        header = header;
+        fixed = fixed_is ∙ same;
+        base = subst (λ (n : ℕ). 1 ≤ n) (sym base_is) is.base;
+        numbers = omega (arith, is.numbers);
+        index = omega (arith, are.index, is.index);
+        slots = subst (AreSlotsOf files) (sym slots_is) slots_of;
+        apart = subst (AllPairs AreApart) (sym slots_is) read.apart;
+        lastread = omega arith;
+        marks = λ k d low. absurd (omega arith);
+        few_marks = omega arith;
+        headers_len = headers_len ∙ are.headers;
+        texts_len = texts_len ∙ are.texts;
+      },
+      record {
+        header = header;
+        base = subst (λ (n : ℕ). 1 ≤ n) base_in is.base;
+        count = count;
+        index = sym are.index ∙ is.index;
+        few_slots = is.few_slots;
+        numbers = subst (λ (n : ℕ). n + count ≤ 4294967295) base_in is.numbers;
+        in_order = in_order;
+        no_marks = no_items (files Jlr) no_bytes;
+        closed = subst (λ (n : ℕ). n ≤ 16) are.journal is.closed;
+      },
+    )

@@ -77,8 +77,8 @@ told_next files k at slots entry read headers_len texts_len count_is told here i
     let offset_is : (entry_in files k).offset ≡ read.message.header_at = ap (λ (e : IndexRecord). e.offset) same ∙ sym is.at in
     let owner_is : (entry_in files k).user_crc ≡ read.message.owner = ap (λ (e : IndexRecord). e.user_crc) same ∙ sym is.owner in
     let behind : place_of files (suc k) ≡ read.end =
-        ap (λ (n : ℕ). n + 76 + (header_in files n).subfields) offset_is
-            ∙ ap (λ (n : ℕ). read.message.header_at + 76 + n) (sym (subfields_len files read.message live)) ∙ sym is.end in
+    ap (λ (n : ℕ). n + 76 + (header_in files n).subfields) offset_is
+    ∙ ap (λ (n : ℕ). read.message.header_at + 76 + n) (sym (subfields_len files read.message live)) ∙ sym is.end in
     record {
       here = sym (ap (place_of files) (add-one k) ∙ behind);
       slots_of = slots_of_next files k slots (Live read.message) count_is told.slots_of (owner_is, offset_is, live);

@@ -100,17 +100,14 @@ pub record Loads (files : Files) (loaded : Loaded) : Type 0 where
   pub fixed : fixed_of loaded ≡ fixed_in files
   pub base : 1 ≤ loaded.base
   pub numbers : loaded.base + length loaded.slots ≤ 4294967295
-
   -- the index, and the headers that it names
   pub index : length (files Jdx) ≡ 8 * length loaded.slots
   pub slots : (k : ℕ) (d : LoadedSlot) → k < length loaded.slots → HasSlot files (entry_in files k) (slice_index_or loaded.slots k d)
   pub apart : AllPairs AreApart loaded.slots
-
   -- the marks
   pub lastread : length (files Jlr) ≡ 16 * length loaded.marks
   pub marks : (k : ℕ) (d : Mark) → k < length loaded.marks → mark_record (slice_index_or loaded.marks k d) ≡ mark_in files k
   pub few_marks : length loaded.marks ≤ MOST_MARKS
-
   -- the lengths
   pub headers_len : loaded.headers_len ≡ length (files Jhr)
   pub texts_len : loaded.texts_len ≡ length (files Jdt)

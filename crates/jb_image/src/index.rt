@@ -19,7 +19,11 @@ use jb_record::{FIXED_HEADER_BYTES, INDEX_RECORD_BYTES, IndexRecord, decode_inde
 use std::alloc::Global;
 
 /// The whole index, of this length.
-pub(crate) fn read_index<D: Disk>(alloc: Global, disk: &mut D, len: u64) -> Result<Vec<u8>, ReadError>
+pub(crate) fn read_index<D: Disk>(
+    alloc: Global,
+    disk: &mut D,
+    len: u64,
+) -> Result<Vec<u8>, ReadError>
     requires { ForSome (D.device disk.old).contents (λ files. length (files index_file) ≡ len) }
     ensures size { IfOk result (λ index. vec_len index ≡ len) }
     ensures found { IfOk result (λ index. ForSome (D.device disk.old).contents (λ files. index.items ≡ files index_file)) }

@@ -5,7 +5,6 @@
 //! order are read it answers [`OpenError::NotYet`] where the base is not compact.
 #![tactic(auto)]
 
-
 mod error;
 mod index;
 mod lengths;
@@ -13,5 +12,5 @@ mod message;
 mod opening;
 mod place;
 
-pub use opening::decode;
 pub use error::OpenError;
+pub use opening::decode;

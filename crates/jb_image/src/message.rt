@@ -23,7 +23,11 @@ use jb_subfield::SubfieldError;
 use std::alloc::Global;
 
 /// The message header at a place of .JHR, if one stands there.
-fn read_header<D: Disk>(disk: &mut D, at: u32, lengths: &Lengths) -> Result<Option<MessageHeader>, ReadError>
+fn read_header<D: Disk>(
+    disk: &mut D,
+    at: u32,
+    lengths: &Lengths,
+) -> Result<Option<MessageHeader>, ReadError>
     requires { ForSome (D.device disk.old).contents (AreLengths lengths.now) }
     ensures found { IfOk result (λ header. IfSome header (λ header. ForSome (D.device disk.old).contents (λ files.
         HasHeader files at × (header ≡ header_in files at)))) }
@@ -41,7 +45,12 @@ fn read_header<D: Disk>(disk: &mut D, at: u32, lengths: &Lengths) -> Result<Opti
 }
 
 /// The subfields that stand at a place of .JHR in so many bytes, if these are a list of subfields.
-fn read_subfields<D: Disk>(alloc: Global, disk: &mut D, at: u32, len: u32) -> Result<Option<Subfields>, ReadError>
+fn read_subfields<D: Disk>(
+    alloc: Global,
+    disk: &mut D,
+    at: u32,
+    len: u32,
+) -> Result<Option<Subfields>, ReadError>
     requires few { len ≤ 262_144 }
     requires inside { ForSome (D.device disk.old).contents (λ files. at + len ≤ length (files headers)) }
     ensures size { IfOk result (λ list. IfSome list (λ fields. length (subfield_bytes fields) ≡ len)) }
@@ -90,7 +99,11 @@ fn is_live(at: u32, header: &MessageHeader, lengths: &Lengths) -> bool
 {
     header.attribute & DELETED == 0
         && header.subfields <= MOST_SUBFIELD_BYTES
-        && is_within(lengths.headers, at, MESSAGE_HEADER_BYTES as u32 + header.subfields)
+        && is_within(
+            lengths.headers,
+            at,
+            MESSAGE_HEADER_BYTES as u32 + header.subfields,
+        )
         && is_text_within(lengths.texts, header.offset, header.text_len)
 }
 

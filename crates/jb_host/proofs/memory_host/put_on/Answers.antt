@@ -11,7 +11,7 @@ returns-in-Some c = λ out.
     let at = rw c.as_slice.ensures.value at c.in-Some.ensures in
     let d = c.index_mut.result.now in
     shelved-set c.args.dir.now c.args.name.now c.args.shelves.now.items c.in-Some.k _ d at.0 (at.1 d) (λ j low. at.2 j d low)
-        (ap (λ (s : Shelf). s.dir) c.index_mut.ensures.value) (ap (λ (s : Shelf). s.name) c.index_mut.ensures.value)
+    (ap (λ (s : Shelf). s.dir) c.index_mut.ensures.value) (ap (λ (s : Shelf). s.name) c.index_mut.ensures.value)
 
 pub returns-in_default : goal.returns-in_default
 returns-in_default c = λ out.

@@ -19,6 +19,6 @@ returns-clause-out c =
     let at = rw c.as_slice.ensures.value at c.in_ok-k.ensures in
     let d = c.index_mut.result.now in
     let set_is = shelved-set c.args.dir.now c.args.name.now c.args.shelves.now.items c.in_ok-k.k c.take_off-taken.new.shelf d at.0 (at.1 d) (λ j low. at.2 j d low)
-        (c.take_off-taken.ensures.dir ∙ ap (λ (s : Shelf). s.dir) c.index_mut.ensures.value) (c.take_off-taken.ensures.name ∙ ap (λ (s : Shelf). s.name) c.index_mut.ensures.value) in
+    (c.take_off-taken.ensures.dir ∙ ap (λ (s : Shelf). s.dir) c.index_mut.ensures.value) (c.take_off-taken.ensures.name ∙ ap (λ (s : Shelf). s.name) c.index_mut.ensures.value) in
     let out = set_is ∙ ap (λ o. with_place c.args.dir.now c.args.name.now (stands_on o) (shelved c.args.shelves.now.items)) c.take_off-taken.ensures.out in
     if_some {A = Recording} c.take_off-taken.result _ out

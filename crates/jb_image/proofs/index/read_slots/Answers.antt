@@ -19,11 +19,11 @@ loop-k-preserved g c =
     let found = rw c.in-Some.is at c.in_ok-read.ensures.found in
     let live = rw c.in-Some.is at c.in_ok-read.ensures.live in
     AreSoFar-next _ _ _ c.args.lengths.now.headers c.args.lengths.now.texts c.loop-k.k c.loop-k.at c.loop-k.slots _ c.entry_at-entry.result c.in-Some.read
-        c.loop-k.invariant c.read_message.ensures.kept c.read_message.ensures.later c.if-entry-at.false found c.in_ok-push.ensures.ok
-        (λ files contents_is. (
-            ap (λ (l : List ℕ). index_record_of (bytes_at (8 * c.loop-k.k) 8 l)) (sym (c.requires.index files contents_is)) ∙ sym c.entry_at-entry.ensures,
-            live files (c.loop-k.invariant.kept.contents ∙ contents_is)
-        ))
+    c.loop-k.invariant c.read_message.ensures.kept c.read_message.ensures.later c.if-entry-at.false found c.in_ok-push.ensures.ok
+    (λ files contents_is. (
+      ap (λ (l : List ℕ). index_record_of (bytes_at (8 * c.loop-k.k) 8 l)) (sym (c.requires.index files contents_is)) ∙ sym c.entry_at-entry.ensures,
+      live files (c.loop-k.invariant.kept.contents ∙ contents_is),
+    ))
 
 pub returns-clause-slots : goal.returns-clause-slots
 returns-clause-slots g c = λ files contents_is. (c.loop-k.invariant.told files contents_is).slots_of

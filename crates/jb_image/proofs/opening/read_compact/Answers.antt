@@ -12,7 +12,7 @@ pub returns-in_default-2-clause-none : goal.returns-in_default-2-clause-none
 returns-in_default-2-clause-none g c = λ files contents_is compact.
     let none = rw c.in_default-2.is at c.in_ok-slots.ensures.none in
     none files (c.read_index.ensures.kept.contents ∙ c.read_fixed.ensures.kept.contents ∙ contents_is)
-        (compact_in_order _ files _ _ _ (c.requires.lengths files contents_is) c.in-Some-compact_count.ensures.found compact)
+    (compact_in_order _ files _ _ _ (c.requires.lengths files contents_is) c.in-Some-compact_count.ensures.found compact)
 
 pub returns-clause-loads : goal.returns-clause-loads
 returns-clause-loads g c = λ files contents_is.
@@ -22,5 +22,5 @@ returns-clause-loads g c = λ files contents_is.
     let in_order = rw c.in-Some-2.is at c.in_ok-slots.ensures.in_order in
     let now = c.read_index.ensures.kept.contents ∙ c.read_fixed.ensures.kept.contents ∙ contents_is in
     loads_compact _ files _ c.args.lengths.now _ _ c.loaded_of.result (c.requires.lengths files contents_is) (fixed files contents_is).0 (fixed files contents_is).1
-        c.in-Some-compact_count.ensures.found found (slots_of files now) (in_order files now)
-        c.loaded_of.ensures.fixed c.loaded_of.ensures.slots c.loaded_of.ensures.marks c.loaded_of.ensures.headers_len c.loaded_of.ensures.texts_len
+    c.in-Some-compact_count.ensures.found found (slots_of files now) (in_order files now)
+    c.loaded_of.ensures.fixed c.loaded_of.ensures.slots c.loaded_of.ensures.marks c.loaded_of.ensures.headers_len c.loaded_of.ensures.texts_len

@@ -1,0 +1,111 @@
+//! The real surroundings: standard input and output, and bases in folders. Nothing is assumed of them: they tell no bytes.
+ghost use Rattle.std.specs.Prelude.{◌≡◌, ℕ, None, Some};
+ghost use Rattle.std.specs.Option.{option_map};
+ghost use Rattle.jb_host.specs.Real.{silent_wire, silent_desk};
+
+use crate::host::{Host, HostError};
+use crate::link::{Link, LinkFailed};
+use jb_files::FolderDisk;
+use std::alloc::Global;
+use std::fs::File;
+use std::io::Read;
+use std::rt::Files;
+
+/// Standard input and output as a link.
+#[derive(Drop)]
+pub struct ConsoleLink<R: Input + Print> {
+    rt: R,
+    reader: R::Reader,
+    faults: u64,
+    ends: u64,
+    unsent: u64,
+}
+
+impl<R: Input + Print> ConsoleLink<R> {
+    /// The console of this process.
+    pub fn new(rt: R) -> ConsoleLink<R> {
+        let reader = rt.reader();
+        ConsoleLink {
+            rt,
+            reader,
+            faults: 0,
+            ends: 0,
+            unsent: 0,
+        }
+    }
+}
+
+impl<R: Input + Print> Link for ConsoleLink<R> {
+    ghost wire = { λ link. silent_wire link.faults link.ends link.unsent };
+
+    fn read(&mut self, into: &mut [u8]) -> Result<usize, LinkFailed> {
+        let Ok(n) = self.reader.read(into) else {
+            self.faults = self.faults.saturating_add(1);
+            return Err(LinkFailed);
+        };
+        if n == 0 {
+            self.ends = self.ends.saturating_add(1);
+        }
+        Ok(n)
+    }
+
+    fn write(&mut self, bytes: &[u8]) -> Result<usize, LinkFailed> {
+        if let Ok(n) = self.rt.write_some(bytes) {
+            if n > 0 || bytes.is_empty() {
+                return Ok(n);
+            }
+        }
+        self.faults = self.faults.saturating_add(1);
+        self.unsent = self.unsent.saturating_add(1);
+        Err(LinkFailed)
+    }
+}
+
+/// The host of a process: bases in folders of its file system, and its standard input and output.
+#[derive(Drop)]
+pub struct RealHost<R: Files<File = File> + Input + Print + Clone + Drop> {
+    rt: R,
+    alloc: Global,
+    console: Option<ConsoleLink<R>>,
+    faults: u64,
+}
+
+impl<R: Files<File = File> + Input + Print + Clone + Drop> RealHost<R> {
+    /// The surroundings that this runtime reaches.
+    pub fn new(rt: R, console: R, alloc: Global) -> RealHost<R> {
+        RealHost {
+            rt,
+            alloc,
+            console: Some(ConsoleLink::new(console)),
+            faults: 0,
+        }
+    }
+}
+
+impl<R: Files<File = File> + Input + Print + Clone + Drop> Host for RealHost<R> {
+    type Disk = FolderDisk<R>;
+
+    type Link = ConsoleLink<R>;
+
+    ghost desk = { λ host. silent_desk host.faults (option_map (λ link. silent_wire link.faults link.ends link.unsent) host.console) };
+
+    fn disk(&mut self, dir: &str, name: &str) -> Result<FolderDisk<R>, HostError> {
+        let Ok(rt) = self.rt.clone() else {
+            return Err(HostError::OutOfMemory);
+        };
+        match FolderDisk::new(rt, self.alloc, dir, name) {
+            Ok(disk) => Ok(disk),
+            Err(_) => Err(HostError::OutOfMemory),
+        }
+    }
+
+    fn put_back(&mut self, _dir: &str, _name: &str, _disk: FolderDisk<R>) {}
+
+    fn console(&mut self) -> ConsoleLink<R> {
+        self.console.take().unwrap()
+    }
+
+    fn put_console(&mut self, link: ConsoleLink<R>) {
+        self.console = Some(link);
+    }
+}
