@@ -1,20 +1,19 @@
 //! The program `board`: the tools of an operator of JAM message bases.
 //!
-//! [`top::board`] is the whole program over any host; `main` gives it the real one. Its contract says, for every list of
-//! words, what is asked of the host, what is printed and with which status the program ends (`specs/Run.antt`).
+//! `top::board` is the whole program over any host; `main` gives it the real one. Its contract says, for every list of
+//! words, what is asked of the host, what is printed, and with which status the program ends (`specs/Run.antt`).
 #![tactic(auto)]
 
 mod command;
 mod fault;
 mod listing;
-#[cfg(test)]
-mod tests;
 mod tool;
 mod top;
 
 use jb_host::RealHost;
+use std::env;
+use std::io;
 use std::process::ExitCode;
-use std::{env, io};
 
 /// The words after the program's name.
 fn words(rt: &HostRuntime) -> io::Result<Vec<String>> {
@@ -30,6 +29,6 @@ fn main(rt: HostRuntime) -> ExitCode {
         return ExitCode::from(fault::Fault::OutOfMemory.status());
     };
     let alloc = rt.alloc();
-    let mut host = RealHost::new(rt);
+    let mut host = RealHost::new(rt, rt, alloc);
     ExitCode::from(top::board(alloc, words.as_slice(), &mut host))
 }

@@ -1,4 +1,3 @@
 pub mod Answer
-pub mod FirstOf
 pub mod Laws
 pub mod Whole

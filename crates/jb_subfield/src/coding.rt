@@ -5,9 +5,9 @@ ghost use Rattle.jb_base.specs.declared.subfield.Subfield.{Subfield};
 ghost use Rattle.jb_subfield.specs.Answer.{IsReading, IsUnlessMemory};
 ghost use Rattle.jb_subfield.specs.Laws.{HasOneListAtMost, IsPrefixFree};
 
+use crate::SubfieldError;
 use crate::part::first_part;
-use crate::{SubfieldError, Subfields};
-use jb_base::{Bytes, OutOfMemory, Subfield};
+use jb_base::{Bytes, OutOfMemory, Subfield, Subfields};
 use std::alloc::Global;
 
 /// The bytes of these subfields, one after another.

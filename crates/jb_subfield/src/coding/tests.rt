@@ -16,17 +16,13 @@ fn reads_a_list_and_writes_the_same_bytes(rt: HostRuntime) -> Result<(), Fail> {
         kinds.as_slice(),
         [(2, 0, 4), (2000, 0x1234, 0), (6, 0, 3)].as_slice()
     );
-    assert_eq!(rt; fields.first(6), Some(b"abc".as_slice()));
-    assert_eq!(rt; fields.first(2000), Some(b"".as_slice()));
-    assert_eq!(rt; fields.first(3), None);
-    let copy = Subfields::copy(rt.alloc(), fields.as_slice())?;
-    assert_eq!(rt; encode(rt.alloc(), copy.as_slice())?.as_slice(), LIST);
+    assert_eq!(rt; encode(rt.alloc(), fields.as_slice())?.as_slice(), LIST);
     Ok(())
 }
 
 #[test]
 fn reads_no_bytes_as_no_subfields(rt: HostRuntime) -> Result<(), Fail> {
-    assert!(rt; decode(rt.alloc(), b"")?.is_empty());
+    assert!(rt; decode(rt.alloc(), b"")?.as_slice().is_empty());
     assert!(rt; encode(rt.alloc(), Subfields::new(rt.alloc()).as_slice())?.is_empty());
     Ok(())
 }

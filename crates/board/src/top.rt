@@ -1,0 +1,74 @@
+//! The program over any host.
+ghost use Rattle.std.specs.Prelude.{◌≡◌, ◌≤◌, IsSome, map, Some};
+ghost use Rattle.std.specs.String.{string_bytes};
+ghost use Rattle.board.specs.Run.{AnswersWords, HasRun, IsPrinted, ListsBase};
+ghost use Rattle.board.specs.Words.{command_line_of};
+
+use crate::command::{ListWords, command};
+use crate::fault::Fault;
+use crate::tool::list;
+use jb_base::Bytes;
+use jb_host::{Host, HostError, Link, send};
+use std::alloc::Global;
+
+/// What `list` answers over the disk that the host has for the base; the disk is put back.
+fn list_base<H: Host>(alloc: Global, line: &ListWords<'_>, host: &mut H) -> Result<Bytes, Fault>
+    ensures found { ListsBase line.now.dir.now line.now.name.now (H.desk host.old) (H.desk host.new) result }
+    ensures console { (H.desk host.new).console ≡ (H.desk host.old).console }
+{
+    let mut disk = match host.disk(line.dir, line.name) {
+        Ok(disk) => disk,
+        Err(HostError::Failed) => return Err(Fault::HostFault),
+        Err(HostError::OutOfMemory) => return Err(Fault::OutOfMemory),
+    };
+    let answer = list(alloc, &mut disk);
+    host.put_back(line.dir, line.name, disk);
+    match answer {
+        Ok(text) => Ok(text),
+        Err(error) => Err(error.into()),
+    }
+}
+
+/// What these words are answered.
+fn answer<H: Host>(alloc: Global, words: &[String], host: &mut H) -> Result<Bytes, Fault>
+    ensures found { AnswersWords (command_line_of (map string_bytes words.now)) (H.desk host.old) (H.desk host.new) result }
+    ensures console { (H.desk host.new).console ≡ (H.desk host.old).console }
+{
+    match command(words) {
+        Some(line) => list_base(alloc, &line, host),
+        None => Err(Fault::Words),
+    }
+}
+
+/// Prints an answer, and says how the program ends.
+fn print<L: Link>(console: &mut L, answer: &Result<Bytes, Fault>) -> u8
+    ensures { IsPrinted answer.now result (L.wire console.old) (L.wire console.new) }
+{
+    match answer {
+        Ok(text) => match send(console, text.as_slice()) {
+            Ok(()) => 0,
+            Err(_) => Fault::HostFault.status(),
+        },
+        Err(fault) => {
+            let _ = send(console, fault.line().as_bytes());
+            fault.status()
+        }
+    }
+}
+
+/// The whole program: answers the words, prints on the host's console, and gives the exit status.
+///
+/// 0: done and printed whole. 1: the words are no command line. 3: the base is refused. 4: its disk failed. 5: the host or
+/// the console failed. 6: want of memory. Under a status other than 0 the console has one line that begins with `fault`, or,
+/// where the console itself failed, a beginning of what was to be printed. The host is asked for the disk of the base alone,
+/// once, and has it back when the call returns.
+pub fn board<H: Host>(alloc: Global, words: &[String], host: &mut H) -> u8
+    requires { IsSome (H.desk host.old).console }
+    ensures { HasRun (map string_bytes words.now) (H.desk host.old) (H.desk host.new) result }
+{
+    let answer = answer(alloc, words, host);
+    let mut console = host.console();
+    let status = print(&mut console, &answer);
+    host.put_console(console);
+    status
+}
