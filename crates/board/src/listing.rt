@@ -1,5 +1,5 @@
 //! The listing of a base.
-ghost use Rattle.std.specs.Prelude.{◌≡◌, ◌+◌, ◌≤◌, ◌^◌, ◌<◌, ◌++◌, ℕ, List, IfOk, OnOk, length, map, unwrap_or};
+ghost use Rattle.std.specs.Prelude.{◌≡◌, ◌+◌, ◌≤◌, ◌^◌, ◌<◌, ◌++◌, ℕ, List, IfOk, OnOk, length, map, replicate, unwrap_or};
 ghost use Rattle.jb_base.specs.Subfields.{first_of};
 ghost use Rattle.jb_model.specs.State.{state_of, slot_state};
 ghost use Rattle.board.specs.Listing.{listing_of, message_line, number_column, shown_byte, shown_field, slot_line};
@@ -35,15 +35,24 @@ fn append_field(text: &mut Bytes, fields: &Subfields, id: u16) -> Result<(), Out
     }
 }
 
+/// Puts so many spaces behind a text.
+fn append_spaces(text: &mut Bytes, count: usize) -> Result<(), OutOfMemory>
+    ensures { OnOk result (text.new ≡ text.old ++ replicate count 32) }
+{
+    for _place in 0..count {
+        text.append(b" ")?;
+    }
+    Ok(())
+}
+
 /// Puts a number behind a text, right in 8 places.
 fn append_number(alloc: Global, text: &mut Bytes, number: u32) -> Result<(), OutOfMemory>
     ensures { OnOk result (text.new ≡ text.old ++ number_column number) }
 {
     let digits = format!(in alloc; "{number}")?;
-    for _place in digits.len()..8 {
-        text.append(b" ")?;
-    }
-    text.append(digits.as_bytes())
+    append_spaces(text, 8usize.saturating_sub(digits.len()))?;
+    text.append(digits.as_bytes())?;
+    Ok(())
 }
 
 /// Puts the line of a message behind a text.
@@ -57,7 +66,8 @@ fn append_message(alloc: Global, text: &mut Bytes, number: u32, fields: &Subfiel
     append_field(text, fields, RECEIVER_NAME)?;
     text.append(b"  ")?;
     append_field(text, fields, SUBJECT)?;
-    text.append(b"\n")
+    text.append(b"\n")?;
+    Ok(())
 }
 
 /// Puts the line of a slot behind a text, where it is live.

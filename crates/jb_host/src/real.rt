@@ -1,5 +1,5 @@
 //! The real surroundings: standard input and output, and bases in folders. Nothing is assumed of them: they tell no bytes.
-ghost use Rattle.std.specs.Prelude.{◌≡◌, ℕ, None, Some};
+ghost use Rattle.std.specs.Prelude.{IsSome};
 ghost use Rattle.std.specs.Option.{option_map};
 ghost use Rattle.jb_host.specs.Real.{silent_wire, silent_desk};
 
@@ -72,7 +72,9 @@ pub struct RealHost<R: Files<File = File> + Input + Print + Clone + Drop> {
 
 impl<R: Files<File = File> + Input + Print + Clone + Drop> RealHost<R> {
     /// The surroundings that this runtime reaches.
-    pub fn new(rt: R, console: R, alloc: Global) -> RealHost<R> {
+    pub fn new(rt: R, console: R, alloc: Global) -> RealHost<R>
+        ensures console { IsSome result.console }
+    {
         RealHost {
             rt,
             alloc,

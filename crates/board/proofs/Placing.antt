@@ -1,0 +1,63 @@
+-- A disk that was handed out, used and put back.
+use Rattle.std.proofs.Common.{◌≡◌, ℕ, ◌≤◌, Bool, true, false, ◌&&◌, List, Some, ap, sym, ◌∙◌, refl, subst}
+use Rattle.std.specs.Prelude.{bytes_eq, if◌then◌else◌, Option, Err, IsErrOf}
+use Rattle.std.specs.Option.{ForSome, option_map}
+use Rattle.std.proofs.lemmas.Slice.Eq.{bytes_eq-Decides}
+use Rattle.jb_base.specs.Fault.{Rose}
+use Rattle.jb_disk.specs.Device.{Device, OnlyReads}
+use Rattle.jb_host.specs.Desk.{Desk, Disks, GivesDisk, Place, TakesBack, handed_out, has_disk, with_place}
+use Rattle.jb_image.specs.declared.error.OpenError.{OpenError}
+use Rattle.jb_image.specs.declared.error.OpenError.TheVariants.{ShortHeader, StoreFault, OutOfMemory, NotYet}
+use Rattle.board.specs.declared.fault.Fault.TheVariants.{HostFault}
+use Rattle.board.specs.Faults.{open_fault}
+use Rattle.board.specs.Run.{Answer, ListsDisk, UsesDisk}
+use Rattle.board.specs.Tool.{ListsAs}
+
+-- the place that was changed
+here : (dir name : List ℕ) (place : Place) (disks : Disks) → with_place dir name place disks dir name ≡ place
+here dir name place disks =
+    let same : (bytes_eq dir dir && bytes_eq name name) ≡ true =
+        ap (λ (b : Bool). b && bytes_eq name name) ((bytes_eq-Decides dir dir).1 refl) ∙ (bytes_eq-Decides name name).1 refl in
+    ap (λ (b : Bool). if b then place else disks dir name) same
+
+-- a choice made twice by one test
+once : {A : Type 0} (b : Bool) (x y z : A) → (if b then x else (if b then y else z)) ≡ (if b then x else z)
+once true x y z = refl
+once false x y z = refl
+
+-- a place that is changed twice
+twice_changed : (dir name : List ℕ) (first second : Place) (disks : Disks) → with_place dir name second (with_place dir name first disks) ≡ with_place dir name second disks
+twice_changed dir name first second disks =
+    λ i. λ other_dir other_name. once (bytes_eq other_dir dir && bytes_eq other_name name) second first (disks other_dir other_name) i
+
+-- a disk that is put back after it was used
+pub used_disk : (dir name : List ℕ) (before after : Device) (old mid new : Desk) (answer : Answer) → GivesDisk dir name before old mid → TakesBack dir name after mid new
+    → OnlyReads before after → before.faults ≤ after.faults → ListsDisk before after answer
+    → ForSome old.disks (λ disks. UsesDisk dir name disks new.disks answer)
+used_disk dir name before after old mid new answer given back kept later answers = λ disks told.
+    let out : mid.disks ≡ Some (with_place dir name handed_out disks) = given.out ∙ ap (option_map (with_place dir name handed_out)) told in
+    let returned = back.back (with_place dir name handed_out disks) out (here dir name handed_out disks) in
+    record {
+      before = before;
+      then = after;
+      was = given.was disks told;
+      back = returned ∙ ap (option_map (with_place dir name (has_disk after))) out ∙ ap (λ (d : Disks). Some d) (twice_changed dir name handed_out (has_disk after) disks);
+      kept = kept;
+      later = later;
+      answers = answers;
+    }
+
+-- what `list` answers where the base is not opened, as the answer of the run
+pub lists_error : (before after : Device) (error : OpenError) → ForSome before.contents (λ files. ListsAs files (Err error))
+    → (IsErrOf {T = List ℕ} (Err error) StoreFault → Rose before.faults after.faults) → ListsDisk before after (Err (open_fault error))
+lists_error before after ShortHeader answers fault = answers
+lists_error before after StoreFault answers fault = fault refl
+lists_error before after OutOfMemory answers fault = tt
+lists_error before after NotYet answers fault = answers
+
+-- a base that is not opened is no fault of the host
+pub no_host_fault : (error : OpenError) → open_fault error ≡ HostFault → ⊥
+no_host_fault ShortHeader is = cc
+no_host_fault StoreFault is = cc
+no_host_fault OutOfMemory is = cc
+no_host_fault NotYet is = cc
