@@ -17,7 +17,7 @@ use Rattle.board.specs.Tool.{ListsAs}
 here : (dir name : List ℕ) (place : Place) (disks : Disks) → with_place dir name place disks dir name ≡ place
 here dir name place disks =
     let same : (bytes_eq dir dir && bytes_eq name name) ≡ true =
-        ap (λ (b : Bool). b && bytes_eq name name) ((bytes_eq-Decides dir dir).1 refl) ∙ (bytes_eq-Decides name name).1 refl in
+    ap (λ (b : Bool). b && bytes_eq name name) ((bytes_eq-Decides dir dir).1 refl) ∙ (bytes_eq-Decides name name).1 refl in
     ap (λ (b : Bool). if b then place else disks dir name) same
 
 -- a choice made twice by one test

@@ -56,7 +56,12 @@ fn append_number(alloc: Global, text: &mut Bytes, number: u32) -> Result<(), Out
 }
 
 /// Puts the line of a message behind a text.
-fn append_message(alloc: Global, text: &mut Bytes, number: u32, fields: &Subfields) -> Result<(), OutOfMemory>
+fn append_message(
+    alloc: Global,
+    text: &mut Bytes,
+    number: u32,
+    fields: &Subfields,
+) -> Result<(), OutOfMemory>
     ensures { OnOk result (text.new ≡ text.old ++ message_line number fields.now) }
 {
     append_number(alloc, text, number)?;
@@ -71,7 +76,12 @@ fn append_message(alloc: Global, text: &mut Bytes, number: u32, fields: &Subfiel
 }
 
 /// Puts the line of a slot behind a text, where it is live.
-fn append_slot(alloc: Global, text: &mut Bytes, number: u32, slot: &LoadedSlot) -> Result<(), OutOfMemory>
+fn append_slot(
+    alloc: Global,
+    text: &mut Bytes,
+    number: u32,
+    slot: &LoadedSlot,
+) -> Result<(), OutOfMemory>
     ensures { OnOk result ((texts : List ℕ) → text.new ≡ text.old ++ slot_line number (slot_state texts slot.now)) }
 {
     match slot {

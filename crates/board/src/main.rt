@@ -7,13 +7,14 @@
 mod command;
 mod fault;
 mod listing;
+#[cfg(test)]
+mod tests;
 mod tool;
 mod top;
 
 use jb_host::RealHost;
-use std::env;
-use std::io;
 use std::process::ExitCode;
+use std::{env, io};
 
 /// The words after the program's name.
 fn words(rt: &HostRuntime) -> io::Result<Vec<String>> {

@@ -8,8 +8,8 @@ grown before now text first second now_is before_is = now_is ∙ ap (λ (l : Lis
 pub returns : goal.returns
 returns c =
     grown _ _ _ _ _ c.in_ok-append-4.ensures.ok
-        (grown _ _ _ _ _ c.in_ok-append_field-3.ensures
-            (grown _ _ _ _ _ c.in_ok-append-3.ensures.ok
-                (grown _ _ _ _ _ c.in_ok-append_field-2.ensures
-                    (grown _ _ _ _ _ c.in_ok-append-2.ensures.ok
-                        (grown _ _ _ _ _ c.in_ok-append_field.ensures (grown _ _ _ _ _ c.in_ok-append.ensures.ok c.in_ok-append_number.ensures))))))
+    (grown _ _ _ _ _ c.in_ok-append_field-3.ensures
+    (grown _ _ _ _ _ c.in_ok-append-3.ensures.ok
+    (grown _ _ _ _ _ c.in_ok-append_field-2.ensures
+    (grown _ _ _ _ _ c.in_ok-append-2.ensures.ok
+    (grown _ _ _ _ _ c.in_ok-append_field.ensures (grown _ _ _ _ _ c.in_ok-append.ensures.ok c.in_ok-append_number.ensures))))))

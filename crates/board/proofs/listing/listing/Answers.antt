@@ -7,15 +7,15 @@ use Rattle.board.proofs.listing.listing.Goals as goal
 
 pub loop-slot-preserved : goal.loop-slot-preserved
 loop-slot-preserved c = (
-    omega (arith, c.loop-slot.invariant.0),
-    λ texts.
-        let items = c.as_slice-slot-items.result.now in
-        let F : List LoadedSlot → List ℕ = λ l. c.loop-slot.text ++ lines_from c.loop-slot.number (map (slot_state texts) l) in
-        let more = at_drop_more F items c.loop-slot.slot-index c.slot-item.result c.loop-slot-test.true in
-        let behind = lines_from (c.loop-slot.number + 1) (map (slot_state texts) (drop (c.loop-slot.slot-index + 1) items)) in
-        ap (λ (l : List ℕ). l ++ behind) (c.in_ok-append_slot.ensures texts)
-            ∙ append_assoc c.loop-slot.text (slot_line c.loop-slot.number (slot_state texts c.slot-item.result)) behind
-            ∙ ap (λ (s : LoadedSlot). F (s ∷ drop (c.loop-slot.slot-index + 1) items)) c.slot-item.is ∙ sym more ∙ c.loop-slot.invariant.1 texts
+  omega (arith, c.loop-slot.invariant.0),
+  λ texts.
+      let items = c.as_slice-slot-items.result.now in
+      let F : List LoadedSlot → List ℕ = λ l. c.loop-slot.text ++ lines_from c.loop-slot.number (map (slot_state texts) l) in
+      let more = at_drop_more F items c.loop-slot.slot-index c.slot-item.result c.loop-slot-test.true in
+      let behind = lines_from (c.loop-slot.number + 1) (map (slot_state texts) (drop (c.loop-slot.slot-index + 1) items)) in
+      ap (λ (l : List ℕ). l ++ behind) (c.in_ok-append_slot.ensures texts)
+      ∙ append_assoc c.loop-slot.text (slot_line c.loop-slot.number (slot_state texts c.slot-item.result)) behind
+      ∙ ap (λ (s : LoadedSlot). F (s ∷ drop (c.loop-slot.slot-index + 1) items)) c.slot-item.is ∙ sym more ∙ c.loop-slot.invariant.1 texts,
 )
 
 pub returns : goal.returns

@@ -1,0 +1,234 @@
+//! Whole runs over a host in memory: what is printed, and with which status they end.
+ghost use Rattle.std.specs.Prelude.{IfOk, IsSome};
+ghost use Rattle.jb_host.specs.Shelves.{memory_desk};
+
+use crate::top::board;
+use jb_base::Bytes;
+use jb_disk::MemDisk;
+use jb_host::{MemHost, MemLink};
+use std::alloc::Global;
+use std::process::Abort;
+use std::test::Fail;
+
+/// The fixed header of a base with base number 1, made at 1,000,000,000.
+const FIXED: &[u8] = b"JAM\0\x00\xca\x9a\x3b\0\0\0\0\0\0\0\0\xff\xff\xff\xff\x01\0\0\0";
+/// The message of Test to Hello with the subject abc: 76 bytes and 64 bytes of subfields.
+const MESSAGE: &[u8] =
+    b"JAM\0\x01\0\0\0\x40\0\0\0\0\0\0\0\x53\x1f\xd7\xcb\xff\xff\xff\xff\0\0\0\0\0\0\0\0\0\0\0\0\x00\xca\x9a\x3b\0\0\0\0\0\0\0\0\x01\0\0\0\x01\0\x80\0\0\0\0\0\0\0\0\0\x05\0\0\0\xff\xff\xff\xff\0\0\0\0\x02\0\0\0\x04\0\0\0Test\x03\0\0\0\x05\0\0\0Hello\x04\0\0\0\x14\0\0\x002:5020/1042 01000001\x06\0\0\0\x03\0\0\0abc";
+
+const TEXT: &[u8] = b"Good\r";
+
+const INDEX: &[u8] = b"\x79\x59\xef\xc9\x00\x04\0\0";
+
+const LINE: &[u8] = b"       1  Test > Hello  abc\n";
+
+/// A header file: the fixed header, its reserved bytes, and these bytes behind it.
+fn headers(alloc: Global, behind: &[u8]) -> Result<Bytes, Fail> {
+    let mut bytes = Bytes::copy(alloc, FIXED)?;
+    bytes.append(&[0; 1000])?;
+    bytes.append(behind)?;
+    Ok(bytes)
+}
+
+/// A disk with these files and no others, which fails the calls with these numbers.
+fn disk(
+    alloc: Global,
+    jhr: Bytes,
+    jdt: &[u8],
+    jdx: &[u8],
+    failing: &[u64],
+) -> Result<MemDisk, Fail> {
+    let files = [
+        jhr,
+        Bytes::copy(alloc, jdt)?,
+        Bytes::copy(alloc, jdx)?,
+        Bytes::new(alloc),
+        Bytes::new(alloc),
+        Bytes::new(alloc),
+    ];
+    Ok(MemDisk::new(alloc, files, failing.to_vec(alloc)?)?)
+}
+
+/// A host with the base `general` in the folder `a`, whose console fails the calls with these numbers.
+fn host(alloc: Global, general: MemDisk, failing: &[u64]) -> Result<MemHost, Fail>
+    ensures { IfOk result (λ host. IsSome (memory_desk host).console) }
+{
+    let console = MemLink::new(alloc, Bytes::new(alloc), failing.to_vec(alloc)?);
+    let mut host = MemHost::new(alloc, console, Vec::new(alloc));
+    host.add_disk("a", "general", general)?;
+    Ok(host)
+}
+
+/// These words, of which spaces stand between.
+fn words(alloc: Global, line: &str) -> Result<Vec<String>, Fail> {
+    let mut words = Vec::new(alloc);
+    for word in line.split(' ') {
+        words.push(String::from_str(alloc, word)?)?;
+    }
+    Ok(words)
+}
+
+/// Runs the words, and looks at the status and at what was printed; the disk is back.
+fn check(
+    rt: &impl Abort,
+    alloc: Global,
+    mut host: MemHost,
+    line: &str,
+    status: u8,
+    printed: &[u8],
+) -> Result<(), Fail>
+    requires { IsSome (memory_desk host).console }
+{
+    let words = words(alloc, line)?;
+    let ended = board(alloc, words.as_slice(), &mut host);
+    assert_eq!(rt; ended, status, "at {line}");
+    let Some(console) = host.console_link() else {
+        panic!(rt; "the console is out");
+    };
+    assert!(rt; console.sent() == printed, "at {line}");
+    assert!(rt; host.disk_at("a", "general").is_some());
+    Ok(())
+}
+
+#[test]
+fn lists_the_empty_base_and_the_base_of_one_message(rt: HostRuntime) -> Result<(), Fail> {
+    let alloc = rt.alloc();
+    let empty = disk(alloc, headers(alloc, b"")?, b"", b"", &[])?;
+    check(
+        &rt,
+        alloc,
+        host(alloc, empty, &[])?,
+        "list a general",
+        0,
+        b"",
+    )?;
+    let one = disk(alloc, headers(alloc, MESSAGE)?, TEXT, INDEX, &[])?;
+    check(
+        &rt,
+        alloc,
+        host(alloc, one, &[])?,
+        "list a general",
+        0,
+        LINE,
+    )
+}
+
+#[test]
+fn refuses_a_short_header_and_a_base_that_is_not_compact(rt: HostRuntime) -> Result<(), Fail> {
+    let alloc = rt.alloc();
+    let whole = headers(alloc, b"")?;
+    let short = Bytes::copy(alloc, &whole.as_slice()[..whole.len().min(1023)])?;
+    let one = disk(alloc, short, b"", b"", &[])?;
+    check(
+        &rt,
+        alloc,
+        host(alloc, one, &[])?,
+        "list a general",
+        3,
+        b"fault 3.1 ShortHeader\n",
+    )?;
+    let none = disk(alloc, Bytes::new(alloc), b"", b"", &[])?;
+    check(
+        &rt,
+        alloc,
+        host(alloc, none, &[])?,
+        "list a general",
+        3,
+        b"fault 3.1 ShortHeader\n",
+    )?;
+    let twice = disk(
+        alloc,
+        headers(alloc, MESSAGE)?,
+        TEXT,
+        b"\x79\x59\xef\xc9\x00\x04\0\0\x79\x59\xef\xc9\x00\x04\0\0",
+        &[],
+    )?;
+    check(
+        &rt,
+        alloc,
+        host(alloc, twice, &[])?,
+        "list a general",
+        3,
+        b"fault 3.90 NotYet\n",
+    )
+}
+
+#[test]
+fn a_failing_disk_or_console_ends_the_run_at_each_call(rt: HostRuntime) -> Result<(), Fail> {
+    let alloc = rt.alloc();
+    for call in 1..=9 {
+        let one = disk(alloc, headers(alloc, MESSAGE)?, TEXT, INDEX, &[call])?;
+        check(
+            &rt,
+            alloc,
+            host(alloc, one, &[])?,
+            "list a general",
+            4,
+            b"fault 4 StoreFault\n",
+        )?;
+    }
+    let ten = disk(alloc, headers(alloc, MESSAGE)?, TEXT, INDEX, &[10])?;
+    check(
+        &rt,
+        alloc,
+        host(alloc, ten, &[])?,
+        "list a general",
+        0,
+        LINE,
+    )?;
+    let one = disk(alloc, headers(alloc, MESSAGE)?, TEXT, INDEX, &[])?;
+    check(
+        &rt,
+        alloc,
+        host(alloc, one, &[1])?,
+        "list a general",
+        5,
+        b"",
+    )?;
+    let short = disk(alloc, Bytes::new(alloc), b"", b"", &[])?;
+    check(
+        &rt,
+        alloc,
+        host(alloc, short, &[1])?,
+        "list a general",
+        3,
+        b"",
+    )?;
+    let other = disk(alloc, headers(alloc, MESSAGE)?, TEXT, INDEX, &[])?;
+    check(
+        &rt,
+        alloc,
+        host(alloc, other, &[])?,
+        "list b general",
+        5,
+        b"fault 5 HostFault\n",
+    )
+}
+
+#[test]
+fn refuses_words_that_are_no_command_line(rt: HostRuntime) -> Result<(), Fail> {
+    let alloc = rt.alloc();
+    for line in [
+        "",
+        "list",
+        "list a",
+        "list  general",
+        "list a ",
+        "list a general x",
+        "LIST a general",
+        "lists a general",
+        "--help",
+        "-h",
+    ] {
+        let one = disk(alloc, headers(alloc, MESSAGE)?, TEXT, INDEX, &[])?;
+        check(
+            &rt,
+            alloc,
+            host(alloc, one, &[])?,
+            line,
+            1,
+            b"fault 1 Words\n",
+        )?;
+    }
+    Ok(())
+}
