@@ -54,8 +54,9 @@ impl<R: Files<File = File> + Drop> Folder<R> {
     /// Makes the file where it is not there; then its name is in the folder for good before this answers.
     pub(crate) fn set_len(&mut self, file: FileId, len: u64) -> io::Result<()> {
         let n = file.number() as usize;
-        let is_new = self.files[n].make(&self.rt)?;
-        self.is_synced = self.is_synced && !is_new;
+        let is_new = self.files[n].make(&self.rt);
+        self.is_synced = self.is_synced && matches!(&is_new, Ok(false));
+        let _ = is_new?;
         self.files[n].set_len(&self.rt, len)?;
         self.sync_names()
     }
