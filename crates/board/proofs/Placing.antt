@@ -1,6 +1,6 @@
 -- A disk that was handed out, used and put back.
-use Rattle.std.proofs.Common.{◌≡◌, ℕ, ◌≤◌, Bool, true, false, ◌&&◌, List, Some, ap, sym, ◌∙◌, refl, subst}
-use Rattle.std.specs.Prelude.{bytes_eq, if◌then◌else◌, Option, Err, IsErrOf}
+use Rattle.std.proofs.Common.{◌≡◌, ℕ, ◌≤◌, Bool, true, false, ◌&&◌, List, ap, sym, ◌∙◌, refl, subst}
+use Rattle.std.specs.Prelude.{bytes_eq, if◌then◌else◌, Option, Some, None, Err, IsErrOf, IsSome}
 use Rattle.std.specs.Option.{ForSome, option_map}
 use Rattle.std.proofs.lemmas.Slice.Eq.{bytes_eq-Decides}
 use Rattle.jb_base.specs.Fault.{Rose}
@@ -61,3 +61,8 @@ no_host_fault ShortHeader is = cc
 no_host_fault StoreFault is = cc
 no_host_fault OutOfMemory is = cc
 no_host_fault NotYet is = cc
+
+-- a value that is there is there when it is seen otherwise
+pub still_there : {A B : Type 0} (f : A → B) (o : Option A) → IsSome o → IsSome (option_map f o)
+still_there f None there = there
+still_there f (Some x) there = there

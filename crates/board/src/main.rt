@@ -4,6 +4,8 @@
 //! words, what is asked of the host, what is printed, and with which status the program ends (`specs/Run.antt`).
 #![tactic(auto)]
 
+ghost use Rattle.std.specs.Prelude.{IsSome};
+
 mod command;
 mod fault;
 mod listing;
@@ -26,10 +28,22 @@ fn words(rt: &HostRuntime) -> io::Result<Vec<String>> {
 }
 
 fn main(rt: HostRuntime) -> ExitCode {
-    let Ok(words) = words(&rt) else {
-        return ExitCode::from(fault::Fault::OutOfMemory.status());
-    };
     let alloc = rt.alloc();
     let mut host = RealHost::new(rt, rt, alloc);
-    ExitCode::from(top::board(alloc, words.as_slice(), &mut host))
+    match words(&rt) {
+        Ok(words) => ExitCode::from(top::board(alloc, words.as_slice(), &mut host)),
+        Err(error) => without_words(&rt, &error, &mut host),
+    }
+}
+
+/// The end of a run whose words cannot be read: words that are no UTF-8 are no command line, and else there was no memory.
+fn without_words(rt: &HostRuntime, error: &io::Error, host: &mut RealHost<HostRuntime>) -> ExitCode
+    requires { IsSome host.old.console }
+{
+    if error.kind() == io::ErrorKind::InvalidData {
+        return ExitCode::from(top::board(rt.alloc(), &[], host));
+    }
+    let fault = fault::Fault::OutOfMemory;
+    let _ = rt.print(fault.line());
+    ExitCode::from(fault.status())
 }
