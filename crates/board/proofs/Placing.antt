@@ -8,7 +8,7 @@ use Rattle.jb_disk.specs.Device.{Device, OnlyReads}
 use Rattle.jb_host.specs.Desk.{Desk, Disks, GivesDisk, Place, TakesBack, handed_out, has_disk, with_place}
 use Rattle.jb_image.specs.declared.error.OpenError.{OpenError}
 use Rattle.jb_image.specs.declared.error.OpenError.TheVariants.{ShortHeader, StoreFault, OutOfMemory, NotYet}
-use Rattle.board.specs.declared.fault.Fault.TheVariants.{HostFault}
+use Rattle.board.specs.declared.fault.Fault.TheVariants.{HostFault, Words}
 use Rattle.board.specs.Faults.{open_fault}
 use Rattle.board.specs.Run.{Answer, ListsDisk, UsesDisk}
 use Rattle.board.specs.Tool.{ListsAs}
@@ -61,6 +61,13 @@ no_host_fault ShortHeader is = cc
 no_host_fault StoreFault is = cc
 no_host_fault OutOfMemory is = cc
 no_host_fault NotYet is = cc
+
+-- a base that is not opened is no fault of the words
+pub no_word_fault : (error : OpenError) → open_fault error ≡ Words → ⊥
+no_word_fault ShortHeader is = cc
+no_word_fault StoreFault is = cc
+no_word_fault OutOfMemory is = cc
+no_word_fault NotYet is = cc
 
 -- a value that is there is there when it is seen otherwise
 pub still_there : {A B : Type 0} (f : A → B) (o : Option A) → IsSome o → IsSome (option_map f o)

@@ -49,6 +49,7 @@ pub record ListsBase (dir name : List ℕ) (old new : Desk) (answer : Answer) : 
   pub calls : (new.calls ≡ and_call (asked_disk dir name) old.calls) ⊎ ((answer ≡ Err OutOfMemory) × (new.calls ≡ old.calls))
   pub disk : GetsNoDisk old new answer ⊎ ForSome old.disks (λ disks. UsesDisk dir name disks new.disks answer)
   pub cause : answer ≡ Err HostFault → Rose old.faults new.faults
+  pub known : answer ≡ Err Words → ⊥
   pub later : old.faults ≤ new.faults
 
 -- the run of these words, if they are a command line

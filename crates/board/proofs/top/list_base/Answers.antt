@@ -1,8 +1,8 @@
 use Rattle.std.proofs.Common.{◌≡◌, ◌∙◌, Err, inl, inr, arith, subst, sym}
 use Rattle.board.specs.declared.fault.Fault.{Fault}
-use Rattle.board.specs.declared.fault.Fault.TheVariants.{HostFault}
+use Rattle.board.specs.declared.fault.Fault.TheVariants.{HostFault, Words}
 use Rattle.board.specs.Run.{ListsDisk}
-use Rattle.board.proofs.Placing.{lists_error, no_host_fault, used_disk}
+use Rattle.board.proofs.Placing.{lists_error, no_host_fault, no_word_fault, used_disk}
 use Rattle.board.proofs.top.list_base.Goals as goal
 
 pub returns-in-Ok-answer-clause-found : goal.returns-in-Ok-answer-clause-found
@@ -12,6 +12,7 @@ returns-in-Ok-answer-clause-found g c =
       calls = inl (c.put_back.ensures.calls ∙ given.calls);
       disk = inr (used_disk _ _ _ _ _ _ _ _ given c.put_back.ensures c.list-answer.ensures.kept c.list-answer.ensures.later c.in-Ok-answer.ensures.answer);
       cause = λ is. absurd (cc);
+      known = λ is. cc;
       later = omega (arith, given.later, c.put_back.ensures.faults);
     }
 
@@ -26,5 +27,6 @@ returns-in-Err-clause-found g c =
       calls = inl (c.put_back.ensures.calls ∙ given.calls);
       disk = inr (used_disk _ _ _ _ _ _ _ _ given c.put_back.ensures c.list-answer.ensures.kept c.list-answer.ensures.later answers);
       cause = λ is. let same : c.into.result ≡ HostFault = cc in absurd (no_host_fault c.in-Err.error (sym c.into.ensures ∙ same));
+      known = λ is. let same : c.into.result ≡ Words = cc in no_word_fault c.in-Err.error (sym c.into.ensures ∙ same);
       later = omega (arith, given.later, c.put_back.ensures.faults);
     }
