@@ -1,0 +1,48 @@
+#!/usr/bin/env python3
+"""Writes a compact JAM base of so many messages.
+
+usage: make_base.py DIR NAME COUNT
+
+Each message has a sender, a receiver, a MSGID, a subject and a text of 120 to 219 bytes. The headers stand one behind
+another from the fixed header on (JAM, "Header file", "Message header", "Index file").
+"""
+import struct
+import sys
+import zlib
+
+
+def jam_crc(data):
+    """The CRC of JAM: CRC-32 without its final complement, over the bytes in lower case."""
+    return zlib.crc32(data.lower()) ^ 0xFFFFFFFF
+
+
+def subfield(kind, data):
+    return struct.pack("<HHI", kind, 0, len(data)) + data
+
+
+def write(folder, name, count):
+    names = [b"Ada Lovelace", b"Grace Hopper", b"Edsger Dijkstra", b"Barbara Liskov", b"Tony Hoare"]
+    headers = [b"JAM\0" + struct.pack("<5I", 1_000_000_000, count, count, 0xFFFFFFFF, 1) + bytes(1000)]
+    texts, index, at, text_at = [], [], 1024, 0
+    for n in range(1, count + 1):
+        receiver = names[(n + 1) % 5]
+        msgid = b"2:5020/1042 %08x" % n
+        fields = b"".join([subfield(2, names[n % 5]), subfield(3, receiver), subfield(4, msgid),
+                           subfield(6, b"Message %d of the base" % n)])
+        text = (b"The text of message %d. " % n * 10)[:120 + n % 100]
+        head = b"JAM\0" + struct.pack("<HHIIIIIIIIIIIIIIIII", 1, 0, len(fields), 0, jam_crc(msgid), 0xFFFFFFFF, 0, 0, 0,
+                                      1_000_000_000 + n, 0, 0, n, 0x00800001, 0, text_at, len(text), 0xFFFFFFFF, 0)
+        headers.append(head + fields)
+        texts.append(text)
+        index.append(struct.pack("<II", jam_crc(receiver), at))
+        at += len(head) + len(fields)
+        text_at += len(text)
+    for ending, parts in (("JHR", headers), ("JDT", texts), ("JDX", index), ("JLR", [])):
+        with open(f"{folder}/{name}.{ending}", "wb") as file:
+            file.write(b"".join(parts))
+
+
+if __name__ == "__main__":
+    if len(sys.argv) != 4:
+        sys.exit(__doc__)
+    write(sys.argv[1], sys.argv[2], int(sys.argv[3]))
