@@ -2,8 +2,9 @@
 use crate::{OpenError, decode};
 use jb_base::{Bytes, OutOfMemory};
 use jb_disk::MemDisk;
-use jb_model::{LoadedMessage, LoadedSlot};
+use jb_model::{Loaded, LoadedMessage, LoadedSlot};
 use std::alloc::Global;
+use std::process::Abort;
 use std::test::Fail;
 
 // The fields of the fixed header; 1,000 zeros stand behind them.
@@ -61,6 +62,23 @@ fn answer(alloc: Global, changes: &[Change]) -> Result<Option<OpenError>, OutOfM
     Ok(decode(alloc, &mut disk, 65_000).err())
 }
 
+// What the opening of the base of one message answers where this call of the disk fails, and what the next one answers.
+fn answers_around_a_fault(alloc: Global, call: u64) -> Result<[Option<OpenError>; 2], OutOfMemory> {
+    let failing = vec![in alloc; call; 1]?;
+    let mut disk = MemDisk::new(alloc, base(alloc, MESSAGE, TEXT, INDEX)?, failing)?;
+    let first = decode(alloc, &mut disk, 65_000).err();
+    let second = decode(alloc, &mut disk, 65_000).err();
+    Ok([first, second])
+}
+
+// What the opening answers where .JHR has so many zeros and nothing more.
+fn answer_for_zeros(alloc: Global, len: usize) -> Result<Option<OpenError>, OutOfMemory> {
+    let mut files = base(alloc, b"", b"", b"")?;
+    files[0] = Bytes::from(vec![in alloc; 0; len]?);
+    let mut disk = MemDisk::new(alloc, files, Vec::new(alloc))?;
+    Ok(decode(alloc, &mut disk, 65_000).err())
+}
+
 fn live(slot: &LoadedSlot) -> Option<&LoadedMessage> {
     match slot {
         LoadedSlot::Live(message) => Some(message),
@@ -68,37 +86,46 @@ fn live(slot: &LoadedSlot) -> Option<&LoadedMessage> {
     }
 }
 
-#[test]
-fn a_base_of_one_message_and_an_empty_one_are_loaded(rt: HostRuntime) -> Result<(), Fail> {
-    let alloc = rt.alloc();
-    let files = base(alloc, MESSAGE, TEXT, INDEX)?;
-    let mut disk = MemDisk::new(alloc, files, Vec::new(alloc))?;
-    let loaded = decode(alloc, &mut disk, 65_000)?;
-    assert_eq!(rt;
-        (loaded.created, loaded.counter, loaded.active),
-        (1_000_000_000, 1, 1)
-    );
-    assert_eq!(rt; (loaded.password, loaded.base), (0xFFFF_FFFF, 1));
-    assert_eq!(rt; (loaded.headers_len, loaded.texts_len), (1_164, 5));
-    assert_eq!(rt; loaded.slots.as_slice().len(), 1);
-    let message = live(&loaded.slots.as_slice()[0]).ok_or("not live")?;
+fn check_message(rt: &impl Abort, message: &LoadedMessage) {
     assert_eq!(rt; message.owner, 0xC9EF_5979);
-    assert_eq!(rt;
-        (message.header_at, message.text_at, message.text_len),
-        (1_024, 0, 5)
-    );
+    assert_eq!(rt; message.header_at, 1_024);
+    assert_eq!(rt; message.text_at, 0);
+    assert_eq!(rt; message.text_len, 5);
+    assert_eq!(rt; message.head.msgid_crc, 0xCBD7_1F53);
+    assert_eq!(rt; message.head.attribute, 0x0080_0001);
     assert_eq!(rt; message.subfields.as_slice().len(), 4);
     assert_eq!(rt; message.subfields.first(6), Some(b"abc".as_slice()));
-    assert_eq!(rt;
-        (message.head.msgid_crc, message.head.attribute),
-        (0xCBD7_1F53, 0x0080_0001)
-    );
-    assert_eq!(rt; disk.calls(), 9);
+}
 
-    let mut disk = MemDisk::new(alloc, base(alloc, b"", b"", b"")?, Vec::new(alloc))?;
-    let loaded = decode(alloc, &mut disk, 65_000)?;
+fn check_area(rt: &impl Abort, loaded: &Loaded) {
+    assert_eq!(rt; loaded.created, 1_000_000_000);
+    assert_eq!(rt; loaded.counter, 1);
+    assert_eq!(rt; loaded.active, 1);
+    assert_eq!(rt; loaded.password, 0xFFFF_FFFF);
+    assert_eq!(rt; loaded.base, 1);
+    assert_eq!(rt; loaded.headers_len, 1_164);
+    assert_eq!(rt; loaded.texts_len, 5);
+    assert_eq!(rt; loaded.slots.as_slice().len(), 1);
+}
+
+#[test]
+fn a_base_of_one_message_is_loaded(rt: HostRuntime) -> Result<(), Fail> {
+    let files = base(rt.alloc(), MESSAGE, TEXT, INDEX)?;
+    let mut disk = MemDisk::new(rt.alloc(), files, Vec::new(rt.alloc()))?;
+    let loaded = decode(rt.alloc(), &mut disk, 65_000)?;
+    assert_eq!(rt; disk.calls(), 9);
+    check_area(&rt, &loaded);
+    let slot = loaded.slots.as_slice().first().ok_or("no slot")?;
+    check_message(&rt, live(slot).ok_or("not live")?);
+    Ok(())
+}
+
+#[test]
+fn an_empty_base_is_loaded(rt: HostRuntime) -> Result<(), Fail> {
+    let files = base(rt.alloc(), b"", b"", b"")?;
+    let mut disk = MemDisk::new(rt.alloc(), files, Vec::new(rt.alloc()))?;
+    let loaded = decode(rt.alloc(), &mut disk, 65_000)?;
     assert_eq!(rt; loaded.slots.as_slice().len(), 0);
-    assert_eq!(rt; loaded.headers_len, 1_024);
     Ok(())
 }
 
@@ -133,10 +160,7 @@ fn a_base_that_is_cut_or_not_compact_is_not_loaded(rt: HostRuntime) -> Result<()
     let journal: [Change; 1] = [(4, 0, &[0; 16])];
     assert_eq!(rt; answer(rt.alloc(), &journal)?, None, "a closed journal");
     for len in [0, 1_023] {
-        let mut files = base(rt.alloc(), b"", b"", b"")?;
-        files[0] = Bytes::copy(rt.alloc(), &[0; 1_023][..len])?;
-        let mut disk = MemDisk::new(rt.alloc(), files, Vec::new(rt.alloc()))?;
-        let answer = decode(rt.alloc(), &mut disk, 65_000).err();
+        let answer = answer_for_zeros(rt.alloc(), len)?;
         assert_eq!(rt; answer, Some(OpenError::ShortHeader), "{len} bytes");
     }
     Ok(())
@@ -144,15 +168,9 @@ fn a_base_that_is_cut_or_not_compact_is_not_loaded(rt: HostRuntime) -> Result<()
 
 #[test]
 fn each_failing_call_is_a_fault(rt: HostRuntime) -> Result<(), Fail> {
-    let alloc = rt.alloc();
     for call in 1..10 {
-        let files = base(alloc, MESSAGE, TEXT, INDEX)?;
-        let failing = vec![in alloc; call; 1]?;
-        let mut disk = MemDisk::new(alloc, files, failing)?;
-        let first = decode(alloc, &mut disk, 65_000).err();
-        assert_eq!(rt; first, Some(OpenError::StoreFault), "call {call}");
-        let second = decode(alloc, &mut disk, 65_000).err();
-        assert_eq!(rt; second, None, "after call {call}");
+        let answers = answers_around_a_fault(rt.alloc(), call)?;
+        assert_eq!(rt; answers, [Some(OpenError::StoreFault), None], "call {call}");
     }
     Ok(())
 }
