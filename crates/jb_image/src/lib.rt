@@ -14,3 +14,6 @@ mod place;
 
 pub use error::OpenError;
 pub use opening::decode;
+
+#[cfg(test)]
+mod tests;
