@@ -1,4 +1,5 @@
--- The bases that are opened today: all messages live, one behind another, no lastread record and a closed journal.
+-- The bases that are opened today: all messages live, one behind another, no lastread record, a journal of at most
+-- 16 bytes.
 use Rattle.std.specs.Prelude.{◌≡◌, ℕ, zero, suc, ◌+◌, ◌*◌, ◌<◌, ◌≤◌, List, [], length}
 use Rattle.jb_disk.specs.Files.{Files}
 use Rattle.jb_disk.specs.declared.file.FileId.TheVariants.{Jhr, Jdx, Jlr, Jnl}

@@ -17,7 +17,7 @@ pub enum OpenError {
     /// The allocator gave no memory.
     OutOfMemory,
     /// .JHR is long enough, and the base is not one whose messages are all live and stand one behind another, with no
-    /// lastread record and a closed journal.
+    /// lastread record and a journal of at most 16 bytes.
     NotYet,
 }
 

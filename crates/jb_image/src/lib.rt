@@ -1,7 +1,7 @@
 //! What the files of a JAM base stand for, and the reading of them (JAM, "Header file" to "Lastread file").
 //!
 //! The layer above may rely on this: [`decode`] answers with the area for which the files stand, without its texts, in at
-//! most two device reads a message and three more; it reads no text and keeps no copy of the headers. Until headers in any
+//! most two device reads a message and two more; it reads no text and keeps no copy of the headers. Until headers in any
 //! order are read it answers [`OpenError::NotYet`] where the base is not compact.
 #![tactic(auto)]
 
