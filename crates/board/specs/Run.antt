@@ -57,16 +57,27 @@ abbrev pub AnswersWords : Option CommandLine → Desk → Desk → Answer → Ty
 AnswersWords None old new answer = (answer ≡ Err Words) × (new.calls ≡ old.calls) × (new.disks ≡ old.disks) × (new.faults ≡ old.faults)
 AnswersWords (Some (list_base dir name)) old new answer = ListsBase dir name old new answer
 
+-- a write of the console failed, and only a beginning of these bytes was sent
+pub record Stops (old new : Wire) (bytes : List ℕ) : Type 0 where
+  pub front : List ℕ
+  pub begins : Begins front bytes
+  pub sent : Sends old.sent front new.sent
+  pub unsent : Rose old.unsent new.unsent
+  pub faults : Rose old.faults new.faults
+
+-- nothing was taken of what comes on the console
+pub record KeepsInput (old new : Wire) : Type 0 where
+  pub to_come : new.to_come ≡ old.to_come
+  pub ends : new.ends ≡ old.ends
+
 -- these bytes were sent, or a beginning of them where the console failed
 abbrev pub IsSent : Wire → Wire → List ℕ → Type 0
-IsSent old new bytes = Sends old.sent bytes new.sent ⊎ (Rose old.faults new.faults × ((front : List ℕ) × Begins front bytes × Sends old.sent front new.sent))
+IsSent old new bytes = Sends old.sent bytes new.sent ⊎ Stops old new bytes
 
 -- the answer is printed, and this is the status
 abbrev pub IsPrinted : Answer → ℕ → Wire → Wire → Type 0
-IsPrinted (Ok text) status old new =
-    ((status ≡ 0) × Sends old.sent text new.sent)
-    ⊎ ((status ≡ 5) × Rose old.faults new.faults × ((front : List ℕ) × Begins front text × Sends old.sent front new.sent))
-IsPrinted (Err fault) status old new = (status ≡ status_of fault) × IsSent old new (line_of fault)
+IsPrinted (Ok text) status old new = KeepsInput old new × (((status ≡ 0) × Sends old.sent text new.sent) ⊎ ((status ≡ 5) × Stops old new text))
+IsPrinted (Err fault) status old new = KeepsInput old new × (status ≡ status_of fault) × IsSent old new (line_of fault)
 
 -- a whole run
 pub record HasRun (words : List (List ℕ)) (old new : Desk) (status : ℕ) : Type 0 where

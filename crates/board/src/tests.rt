@@ -16,11 +16,19 @@ const FIXED: &[u8] = b"JAM\0\x00\xca\x9a\x3b\0\0\0\0\0\0\0\0\xff\xff\xff\xff\x01
 const MESSAGE: &[u8] =
     b"JAM\0\x01\0\0\0\x40\0\0\0\0\0\0\0\x53\x1f\xd7\xcb\xff\xff\xff\xff\0\0\0\0\0\0\0\0\0\0\0\0\x00\xca\x9a\x3b\0\0\0\0\0\0\0\0\x01\0\0\0\x01\0\x80\0\0\0\0\0\0\0\0\0\x05\0\0\0\xff\xff\xff\xff\0\0\0\0\x02\0\0\0\x04\0\0\0Test\x03\0\0\0\x05\0\0\0Hello\x04\0\0\0\x14\0\0\x002:5020/1042 01000001\x06\0\0\0\x03\0\0\0abc";
 
+/// A message behind it, from a name with a control character and UTF-8 to Bob, without a subject: 76 and 23 bytes.
+const SECOND: &[u8] =
+    b"JAM\0\x01\0\0\0\x17\0\0\0\0\0\0\0\xff\xff\xff\xff\xff\xff\xff\xff\0\0\0\0\0\0\0\0\0\0\0\0\x00\xca\x9a\x3b\0\0\0\0\0\0\0\0\x02\0\0\0\x01\0\x80\0\0\0\0\0\0\0\0\0\0\0\0\0\xff\xff\xff\xff\0\0\0\0\x02\0\0\0\x04\0\0\0A\x07\xc3\xa9\x03\0\0\0\x03\0\0\0Bob";
+
 const TEXT: &[u8] = b"Good\r";
 
 const INDEX: &[u8] = b"\x79\x59\xef\xc9\x00\x04\0\0";
 
+const INDEX_OF_BOTH: &[u8] = b"\x79\x59\xef\xc9\x00\x04\0\0\x53\x2a\xbb\xe4\x8c\x04\0\0";
+
 const LINE: &[u8] = b"       1  Test > Hello  abc\n";
+
+const BOTH_LINES: &[u8] = b"       1  Test > Hello  abc\n       2  A?\xc3\xa9 > Bob  \n";
 
 /// A header file: the fixed header, its reserved bytes, and these bytes behind it.
 fn headers(alloc: Global, behind: &[u8]) -> Result<Bytes, Fail> {
@@ -68,11 +76,11 @@ fn words(alloc: Global, line: &str) -> Result<Vec<String>, Fail> {
     Ok(words)
 }
 
-/// Runs the words, and looks at the status and at what was printed; the disk is back.
+/// Runs the words of a line, and looks at the status and at what was printed; the disk is back.
 fn check(
     rt: &impl Abort,
     alloc: Global,
-    mut host: MemHost,
+    host: MemHost,
     line: &str,
     status: u8,
     printed: &[u8],
@@ -80,18 +88,32 @@ fn check(
     requires { IsSome (memory_desk host).console }
 {
     let words = words(alloc, line)?;
-    let ended = board(alloc, words.as_slice(), &mut host);
-    assert_eq!(rt; ended, status, "at {line}");
+    check_words(rt, alloc, host, words.as_slice(), status, printed)
+}
+
+/// The same for any words.
+fn check_words(
+    rt: &impl Abort,
+    alloc: Global,
+    mut host: MemHost,
+    words: &[String],
+    status: u8,
+    printed: &[u8],
+) -> Result<(), Fail>
+    requires { IsSome (memory_desk host).console }
+{
+    let ended = board(alloc, words, &mut host);
+    assert_eq!(rt; ended, status, "at {words:?}");
     let Some(console) = host.console_link() else {
         panic!(rt; "the console is out");
     };
-    assert!(rt; console.sent() == printed, "at {line}");
+    assert!(rt; console.sent() == printed, "at {words:?}");
     assert!(rt; host.disk_at("a", "general").is_some());
     Ok(())
 }
 
 #[test]
-fn lists_the_empty_base_and_the_base_of_one_message(rt: HostRuntime) -> Result<(), Fail> {
+fn lists_bases_of_no_message_one_and_two(rt: HostRuntime) -> Result<(), Fail> {
     let alloc = rt.alloc();
     let empty = disk(alloc, headers(alloc, b"")?, b"", b"", &[])?;
     check(
@@ -106,10 +128,21 @@ fn lists_the_empty_base_and_the_base_of_one_message(rt: HostRuntime) -> Result<(
     check(
         &rt,
         alloc,
-        host(alloc, one, &[])?,
+        host(alloc, one, &[2])?,
         "list a general",
         0,
         LINE,
+    )?;
+    let mut messages = headers(alloc, MESSAGE)?;
+    messages.append(SECOND)?;
+    let two = disk(alloc, messages, TEXT, INDEX_OF_BOTH, &[])?;
+    check(
+        &rt,
+        alloc,
+        host(alloc, two, &[])?,
+        "list a general",
+        0,
+        BOTH_LINES,
     )
 }
 
@@ -219,6 +252,9 @@ fn refuses_words_that_are_no_command_line(rt: HostRuntime) -> Result<(), Fail> {
         "lists a general",
         "--help",
         "-h",
+        "help",
+        "--version",
+        "check a general",
     ] {
         let one = disk(alloc, headers(alloc, MESSAGE)?, TEXT, INDEX, &[])?;
         check(
@@ -230,5 +266,14 @@ fn refuses_words_that_are_no_command_line(rt: HostRuntime) -> Result<(), Fail> {
             b"fault 1 Words\n",
         )?;
     }
-    Ok(())
+    let one = disk(alloc, headers(alloc, MESSAGE)?, TEXT, INDEX, &[])?;
+    let none = Vec::new(alloc);
+    check_words(
+        &rt,
+        alloc,
+        host(alloc, one, &[])?,
+        none.as_slice(),
+        1,
+        b"fault 1 Words\n",
+    )
 }

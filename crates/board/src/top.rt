@@ -60,8 +60,8 @@ fn print<L: Link>(console: &mut L, answer: &Result<Bytes, Fault>) -> u8
 ///
 /// 0: done and printed whole. 1: the words are no command line. 3: the base is refused. 4: its disk failed. 5: the host or
 /// the console failed. 6: want of memory. Under a status other than 0 the console has one line that begins with `fault`, or,
-/// where the console itself failed, a beginning of what was to be printed. The host is asked for the disk of the base alone,
-/// once, and has it back when the call returns.
+/// where the console itself failed, a beginning of what was to be printed. Nothing is read from the console. The host is asked
+/// for the disk of the base alone, at most once, and has it back when the call returns.
 pub fn board<H: Host>(alloc: Global, words: &[String], host: &mut H) -> u8
     requires { IsSome (H.desk host.old).console }
     ensures { HasRun (map string_bytes words.now) (H.desk host.old) (H.desk host.new) result }

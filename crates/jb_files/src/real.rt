@@ -35,7 +35,7 @@ impl RealFile {
     pub(crate) fn has_name<R: Files>(&self, rt: &R) -> bool {
         match fs::metadata(rt, self.path.as_str()) {
             Ok(_) => true,
-            Err(error) => error.kind() != io::ErrorKind::NotFound,
+            Err(error) => !is_absent(error.kind()),
         }
     }
 
@@ -141,12 +141,17 @@ impl RealFile {
     }
 }
 
+// Whether nothing has this name: it is not there, or what is called its folder is none.
+fn is_absent(kind: io::ErrorKind) -> bool {
+    matches!(kind, io::ErrorKind::NotFound | io::ErrorKind::NotADirectory)
+}
+
 // Whether a regular file has this name. Anything else there is an error, since opening it might wait or read nothing.
 fn is_there<R: Files>(rt: &R, path: &str) -> io::Result<bool> {
     match fs::metadata(rt, path) {
         Ok(found) if found.is_file() => Ok(true),
         Ok(_) => Err(io::ErrorKind::Unsupported.into()),
-        Err(error) if error.kind() == io::ErrorKind::NotFound => Ok(false),
+        Err(error) if is_absent(error.kind()) => Ok(false),
         Err(error) => Err(error),
     }
 }

@@ -71,7 +71,9 @@ fn what_may_not_be_read_is_a_fault_and_what_is_not_there_is_empty(
         ("odd", "A", Err(DiskFailed)),
         ("odd/A.JHR", "A", Ok(0)),
         ("odd/B", "A", Ok(0)),
+        ("odd/file", "A", Ok(0)),
     ];
+    fs::write(&rt, "odd/file", b"JAM".as_slice())?;
     for (folder, name, len) in cases {
         let mut disk = FolderDisk::new(rt, rt.alloc(), folder, name)?;
         assert_eq!(rt; disk.len(FileId::Jhr), len);

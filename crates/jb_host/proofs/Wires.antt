@@ -1,5 +1,5 @@
 -- Runs of calls of a link.
-use Rattle.std.proofs.Common.{◌≡◌, ℕ, ◌+◌, ◌-◌, ◌≤◌, length, List, [], ◌++◌, take, drop, Option, Some, None, refl, sym, ◌∙◌, ap, append_assoc, append-nil, arith}
+use Rattle.std.proofs.Common.{◌≡◌, ℕ, ◌+◌, ◌-◌, ◌<◌, ◌≤◌, length, List, [], ◌++◌, take, drop, Option, Some, None, refl, sym, ◌∙◌, ap, append_assoc, append-nil, arith}
 use Rattle.std.specs.Option.{option_map}
 use Rattle.std.proofs.lemmas.Grind.{common_steps}
 use Rattle.std.proofs.lemmas.List.{same_lists, places}
@@ -28,8 +28,8 @@ take_then n m xs h = same_lists _ _ (grind (arith, places)) (λ k d h. grind (ar
 pub drop_then : (n m : ℕ) (xs : List ℕ) → m ≤ length xs - n → drop n xs ≡ take m (take (length xs - n) (drop n xs)) ++ drop (n + m) xs
 drop_then n m xs h = same_lists _ _ (grind (arith, places)) (λ k d h. grind (arith, places))
 
-pub begins_take : (n : ℕ) (xs : List ℕ) → Begins (take n xs) xs
-begins_take n xs = record { rest = drop n xs; is = grind (arith, common_steps) }
+pub begins_take : (n : ℕ) (xs : List ℕ) → n < length xs → Begins (take n xs) xs
+begins_take n xs more = record { rest = drop n xs; is = grind (arith, common_steps); more = grind (arith, places) }
 
 pub rose_later : (a b c d : ℕ) → a ≤ b → Rose b c → c ≤ d → Rose a d
 rose_later a b c d before rose after = omega (arith, before, rose, after)

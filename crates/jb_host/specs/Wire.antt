@@ -1,5 +1,5 @@
 -- What is known of a link before and after a call.
-use Rattle.std.specs.Prelude.{◌≡◌, ℕ, List, ◌++◌, Option}
+use Rattle.std.specs.Prelude.{◌≡◌, ◌<◌, ℕ, List, ◌++◌, length, Option}
 use Rattle.std.specs.Option.{option_map}
 
 -- a link, as its user sees it
@@ -23,7 +23,8 @@ Takes before bytes now = before ≡ option_map (λ rest. bytes ++ rest) now
 abbrev pub Sends : Option (List ℕ) → List ℕ → Option (List ℕ) → Type 0
 Sends before bytes now = now ≡ option_map (λ sent. sent ++ bytes) before
 
--- the second list begins with the first
+-- the second list begins with the first, and goes on
 pub record Begins {T : Type 0} (front whole : List T) : Type 0 where
   pub rest : List T
   pub is : whole ≡ front ++ rest
+  pub more : 0 < length rest

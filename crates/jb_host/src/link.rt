@@ -23,6 +23,7 @@ pub trait Link {
 
         // What stays, and the cause of a refusal.
         ensures ends { (wire self.old).ends ≤ (wire self.new).ends }
+        ensures quiet { (result ≡ Ok 0 → 0 < length into.old → ⊥) → (wire self.new).ends ≡ (wire self.old).ends }
         ensures sent { (wire self.new).sent ≡ (wire self.old).sent }
         ensures unsent { (wire self.new).unsent ≡ (wire self.old).unsent }
         ensures cause { HasCause (wire self.old).faults (wire self.new).faults result };

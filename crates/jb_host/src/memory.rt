@@ -85,7 +85,8 @@ impl Link for MemLink {
         }
         let n = fill(into, &self.input.as_slice()[self.at..]);
         self.at += n;
-        if n == 0 {
+        let is_end = n == 0 && !into.is_empty();
+        if is_end {
             self.ends = self.ends.saturating_add(1);
         }
         Ok(n)

@@ -1,5 +1,5 @@
 //! The real surroundings: standard input and output, and bases in folders. Nothing is assumed of them: they tell no bytes.
-ghost use Rattle.std.specs.Prelude.{IsSome};
+ghost use Rattle.std.specs.Prelude.{◌≡◌, IsSome, Some};
 ghost use Rattle.std.specs.Option.{option_map};
 ghost use Rattle.jb_host.specs.Real.{silent_wire, silent_desk};
 
@@ -23,7 +23,9 @@ pub struct ConsoleLink<R: Input + Print> {
 
 impl<R: Input + Print> ConsoleLink<R> {
     /// The console of this process.
-    pub fn new(rt: R) -> ConsoleLink<R> {
+    pub fn new(rt: R) -> ConsoleLink<R>
+        ensures { silent_wire result.faults result.ends result.unsent ≡ silent_wire 0 0 0 }
+    {
         let reader = rt.reader();
         ConsoleLink {
             rt,
@@ -43,7 +45,8 @@ impl<R: Input + Print> Link for ConsoleLink<R> {
             self.faults = self.faults.saturating_add(1);
             return Err(LinkFailed);
         };
-        if n == 0 {
+        let is_end = n == 0 && !into.is_empty();
+        if is_end {
             self.ends = self.ends.saturating_add(1);
         }
         Ok(n)
@@ -74,6 +77,7 @@ impl<R: Files<File = File> + Input + Print + Clone + Drop> RealHost<R> {
     /// The surroundings that this runtime reaches.
     pub fn new(rt: R, console: R, alloc: Global) -> RealHost<R>
         ensures console { IsSome result.console }
+        ensures fresh { silent_desk result.faults (option_map (λ link. silent_wire link.faults link.ends link.unsent) result.console) ≡ silent_desk 0 (Some (silent_wire 0 0 0)) }
     {
         RealHost {
             rt,

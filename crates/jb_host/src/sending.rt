@@ -5,7 +5,7 @@ ghost use Rattle.jb_host.specs.Wire.{Begins, Sends};
 
 use crate::{Link, LinkFailed};
 
-/// Sends all of the bytes, in as many writes as the link needs. After a refusal a beginning of them was sent.
+/// Sends all of the bytes, in as many writes as the link needs. After a refusal a beginning of them was sent, and never all.
 pub fn send<L: Link>(link: &mut L, bytes: &[u8]) -> Result<(), LinkFailed>
     ensures ok { OnOk result (Sends (L.wire link.old).sent bytes.now (L.wire link.new).sent) }
     ensures err { OnErr result ((front : List ℕ) × Begins front bytes.now × Sends (L.wire link.old).sent front (L.wire link.new).sent) }

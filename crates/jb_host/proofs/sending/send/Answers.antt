@@ -7,7 +7,7 @@ use Rattle.jb_host.proofs.sending.send.Goals as goal
 pub returns-in_err-at-clause-err : goal.returns-in_err-at-clause-err
 returns-in_err-at-clause-err g c =
     let p = err_from_is_err_and c.from_residual.result c.from_residual.ensures.1 in
-    rw p.1 (take c.loop-at.at c.args.bytes.now, begins_take c.loop-at.at c.args.bytes.now, rw c.in_err-at.ensures.err c.loop-at.invariant.1)
+    rw p.1 (take c.loop-at.at c.args.bytes.now, begins_take c.loop-at.at c.args.bytes.now c.loop-at-test.true, rw c.in_err-at.ensures.err c.loop-at.invariant.1)
 
 pub loop-at-preserved : goal.loop-at-preserved
 loop-at-preserved g c =

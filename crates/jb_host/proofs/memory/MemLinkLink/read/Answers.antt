@@ -3,8 +3,8 @@ use Rattle.std.proofs.lemmas.List.{places}
 use Rattle.jb_host.proofs.Wires.{drop_then}
 use Rattle.jb_host.proofs.memory.MemLinkLink.read.Goals as goal
 
-pub returns-else-n-eq0-clause-found : goal.returns-else-n-eq0-clause-found
-returns-else-n-eq0-clause-found c =
+pub returns-else-is_end-clause-found : goal.returns-else-is_end-clause-found
+returns-else-is_end-clause-found c =
     let all = c.fill-n.ensures.all in
     let len : length (take (length c.as_slice.result.now - c.fails.new.self.at) (drop c.fails.new.self.at c.as_slice.result.now)) ≡ length c.as_slice.result.now - c.fails.new.self.at = grind (arith, places) in
     let small : c.fill-n.result ≤ length c.as_slice.result.now - c.fails.new.self.at = omega (arith, all, len) in
