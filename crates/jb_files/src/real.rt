@@ -54,10 +54,12 @@ impl RealFile {
         at: u64,
         into: &mut [u8],
     ) -> io::Result<()> {
-        within(self.len(rt)?, at, into.len())?;
+        if into.is_empty() {
+            return within(self.len(rt)?, at, 0);
+        }
         match self.readable(rt)? {
             Some(file) => file.read_exact_at(into, at),
-            None => Ok(()),
+            None => Err(io::ErrorKind::UnexpectedEof.into()),
         }
     }
 
