@@ -83,7 +83,7 @@ impl Figures {
         self.seconds * 1e9 / self.visits
     }
 
-    /// The nanoseconds of a hand-over.
+    /// The nanoseconds of the run for each hand-over, the visits between two of them included.
     pub fn hand_over(&self) -> f64 {
         self.seconds * 1e9 / self.hand_overs
     }

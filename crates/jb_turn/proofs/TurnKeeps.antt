@@ -14,7 +14,7 @@ use Rattle.jb_turn.specs.declared.view.Stage.{Stage}
 use Rattle.jb_turn.specs.declared.view.Stage.TheVariants.{Idle, Waits, Came}
 use Rattle.jb_turn.specs.Rows.{Has, calls, is_at, when, row, view_of, head_row, IsOwn, StandsFrom}
 use Rattle.jb_turn.specs.Rule.{Home, IsMade, HasTicket, weight, waiting, IsLongest, IsOut, IsHome, IsRow, IsStage, IsSeat, HasOwn, TurnRule}
-use Rattle.jb_turn.specs.Whole.{HasAll, IsWhole}
+use Rattle.jb_turn.specs.Whole.{HasAll, HasNode, IsWhole}
 use Rattle.jb_turn.specs.Steps.{ticket, seen, noted, given, maker, maker_no_more, newcomer, both, spent, Draws, Arrives, Comes, Notes, Gives, Counts}
 use Rattle.jb_turn.proofs.Places.{has_reverse, has_reversed}
 use Rattle.std.proofs.Common.{reverse}
@@ -57,8 +57,13 @@ module _ (S O E Q : Type 0) (stands : S → O → List E → Type 0) (caller : E
   abbrev IsOne : V → Type 0
   IsOne v = v.rows ≡ head_row v.rows ∷ []
 
-  owns : (owner : ℕ → ℕ) (id : ℕ) (v : V) → IsOne v → HasOwn owner id v → owner (id + 1) ≡ id
-  owns owner id v one own = ⊎_elim (λ (h : owner (id + 1) ≡ id). h) (λ (h : (v.rows ≡ []) × (v.stage ≡ Idle)). absurd (cc (one, h.0))) own
+  owns : (owner : ℕ → ℕ) (id : ℕ) (v : V) → IsOne v → HasOwn owner id v → (owner (id + 1) ≡ id) × HasNode v.rows (id + 1)
+  owns owner id v one own = ⊎_elim (λ (h : (owner (id + 1) ≡ id) × HasNode v.rows (id + 1)). h) (λ (h : (v.rows ≡ []) × (v.stage ≡ Idle)). absurd (cc (one, h.0))) own
+
+  -- a seat with one row still has its node where the row is another of the same node
+  owns_as : (owner : ℕ → ℕ) (id : ℕ) (v : V) → IsOne v → (q : Row O E Q) → q.node ≡ (head_row v.rows).node → HasOwn owner id v → (owner (id + 1) ≡ id) × HasNode (q ∷ []) (id + 1)
+  owns_as owner id v one q same own = let o = owns owner id v one own in let had = o.1 in
+      let is : head_row v.rows ≡ had.0 = only_has (head_row v.rows) had.0 (subst (λ (l : List (Row O E Q)). Has l had.0) one had.1) in (o.0, (q, (0, refl), same ∙ ap (λ (r : Row O E Q). r.node) is ∙ had.2))
 
   draw_else : (log : List E) (homes : Homes) (serving next : ℕ) (whose : ℕ → ℕ) (j id : ℕ) (rows : List (Row O E Q)) (st : Stage) → IsStage log homes serving next whose j rows st
       → IsStage log homes serving (next + 1) (put whose next id) j rows st
@@ -158,7 +163,7 @@ module _ (S O E Q : Type 0) (stands : S → O → List E → Type 0) (caller : E
             rows = λ q h. subst (IsRow caller first r.log (length s.views)) (only_has (seen r0 r.log) q h) record { opening = old.opening; begins = begins_self r.log; mine = old.mine; seen = old.mine; made_before = old.made_before };
             owned = λ q h. subst (λ (z : Row O E Q). r.owner z.node ≡ id) (only_has (seen r0 r.log) q h) (mine.owned r0 (has_head me.0 one));
             stage = (serves, place.1, place.2, out, λ q h. ap (λ (z : Row O E Q). z.front) (sym (only_has (seen r0 r.log) q h)));
-            own = inl (owns r.owner id me.0 one mine.own);
+            own = inl (owns_as r.owner id me.0 one (seen r0 r.log) refl mine.own);
             maker = mine.maker;
           } (λ j v other there. let o = r.each j v there in record {
             rows = o.rows;
@@ -239,7 +244,7 @@ module _ (S O E Q : Type 0) (stands : S → O → List E → Type 0) (caller : E
             };
             owned = λ q h. subst (λ (z : Row O E Q). r.owner z.node ≡ id) (only_has (noted caller r0 e) q h) (mine.owned r0 has);
             stage = subst (IsStage log' s.homes r.serving r.next r.whose id (noted caller r0 e ∷ [])) (sym is) (place.0, place.1, place.2, place.3, λ q h. ap (λ (z : Row O E Q). z.front) (sym (only_has (noted caller r0 e) q h)) ∙ full_front);
-            own = inl (owns r.owner id me.0 one mine.own);
+            own = inl (owns_as r.owner id me.0 one (noted caller r0 e) refl mine.own);
             maker = mine.maker;
           } (λ j v other there. let o = r.each j v there in record {
             rows = λ q h. let p = o.rows q h in record {
@@ -295,7 +300,7 @@ module _ (S O E Q : Type 0) (stands : S → O → List E → Type 0) (caller : E
             rows = λ q h. subst (IsRow caller first r.log (length s.views)) (only_has (given r0 remark) q h) record { opening = old.opening; begins = old.begins; mine = old.mine; seen = old.seen; made_before = old.made_before };
             owned = λ q h. subst (λ (z : Row O E Q). r.owner z.node ≡ id) (only_has (given r0 remark) q h) (mine.owned r0 has);
             stage = tt;
-            own = inl (owns r.owner id me.0 one mine.own);
+            own = inl (owns_as r.owner id me.0 one (given r0 remark) refl mine.own);
             maker = mine.maker;
           } (λ j v other there. let o = r.each j v there in record {
             rows = o.rows;
@@ -329,7 +334,7 @@ module _ (S O E Q : Type 0) (stands : S → O → List E → Type 0) (caller : E
         rows = λ q h. grown r.log n q (o.rows q h);
         owned = λ q h. let le : q.node ≤ n = (o.rows q h).made_before.1 in put_else r.owner (n + 1) n q.node (λ e. omega arith) ∙ o.owned q h;
         stage = o.stage;
-        own = ⊎_elim (λ (h : r.owner (j + 1) ≡ j). inl (put_else r.owner (n + 1) n (j + 1) (λ e. omega arith) ∙ h)) (λ (h : (u.rows ≡ []) × (u.stage ≡ Idle)). inr h) o.own;
+        own = ⊎_elim (λ (h : (r.owner (j + 1) ≡ j) × HasNode u.rows (j + 1)). inl (put_else r.owner (n + 1) n (j + 1) (λ e. omega arith) ∙ h.0, h.1)) (λ (h : (u.rows ≡ []) × (u.stage ≡ Idle)). inr h) o.own;
         maker = λ some. dite (ℕ_discrete j id) (λ e. let z : made' ≡ 0 = drops_made e in absurd (omega arith))
             (λ ne. let z : made' ≡ u.made = keeps_made ne in let m = o.maker (omega arith) in absurd (ne (omega arith)));
       } in
@@ -354,7 +359,7 @@ module _ (S O E Q : Type 0) (stands : S → O → List E → Type 0) (caller : E
               rows = λ q h. subst (IsRow caller first r.log (n + 1)) (only_has fresh q h) record { opening = known.opening; begins = known.begins; mine = none_yet; seen = calls_none caller (v.made + 1) r0.front r.log known.begins none_yet; made_before = (omega arith, omega arith) };
               owned = λ q h. subst (λ (z : Row O E Q). owner' z.node ≡ j) (only_has fresh q h) (ap (λ (k : ℕ). owner' (k + 1)) made_is ∙ (put_here r.owner (n + 1) n ∙ sym here));
               stage = tt;
-              own = inl (ap (λ (k : ℕ). owner' (k + 1)) here ∙ (put_here r.owner (n + 1) n ∙ sym here));
+              own = inl (ap (λ (k : ℕ). owner' (k + 1)) here ∙ (put_here r.owner (n + 1) n ∙ sym here), (fresh, (0, refl), ap (λ (k : ℕ). k + 1) (made_is ∙ sym here)));
               maker = λ _. (omega arith, omega arith);
             }) (at_end part right u j e));
         state = ⊎_elim (λ (h : IsHome stands first r.log s.homes). inl h) (λ (h : IsOut r.serving s.views). let o = out_set r.serving s.views id v left at (λ x. x) h in inr (o.0, o.1, at_longer part (right ∷ []) o.0 o.1 o.2, o.3)) r.state;
@@ -396,14 +401,14 @@ module _ (S O E Q : Type 0) (stands : S → O → List E → Type 0) (caller : E
               owned = λ q h. ⊎_elim (λ (x : Has v.rows q). let o = mine.owned q x in passed_not r.owner other id q.node (λ e'. back (sym o ∙ e')) ∙ o)
                   (λ (x : Has u.rows q). passed_on r.owner other id q.node (his.owned q x)) (has_either v.rows u.rows q h);
               stage = subst (IsStage r.log s.homes r.serving r.next r.whose id w.rows) (sym idle) tt;
-              own = ⊎_elim (λ (h : r.owner (id + 1) ≡ id). inl (passed_not r.owner other id (id + 1) (λ e'. back (sym h ∙ e')) ∙ h)) (λ (h : (v.rows ≡ []) × (v.stage ≡ Idle)). absurd (some_row h.0)) mine.own;
+              own = ⊎_elim (λ (h : (r.owner (id + 1) ≡ id) × HasNode v.rows (id + 1)). inl (passed_not r.owner other id (id + 1) (λ e'. back (sym h.0 ∙ e')) ∙ h.0, (h.1.0, has_left v.rows u.rows h.1.0 h.1.1, h.1.2))) (λ (h : (v.rows ≡ []) × (v.stage ≡ Idle)). absurd (some_row h.0)) mine.own;
               maker = mine.maker;
             })
             (λ (t : (j ≢ id) × (get_elem? s.views j ≡ some z)). let o = r.each j z t.1 in record {
               rows = o.rows;
               owned = λ q h. let is = o.owned q h in passed_not r.owner other id q.node (λ e'. ne (sym is ∙ e')) ∙ is;
               stage = o.stage;
-              own = ⊎_elim (λ (h : r.owner (j + 1) ≡ j). inl (passed_not r.owner other id (j + 1) (λ e'. ne (sym h ∙ e')) ∙ h)) (λ (h : (z.rows ≡ []) × (z.stage ≡ Idle)). inr h) o.own;
+              own = ⊎_elim (λ (h : (r.owner (j + 1) ≡ j) × HasNode z.rows (j + 1)). inl (passed_not r.owner other id (j + 1) (λ e'. ne (sym h.0 ∙ e')) ∙ h.0, h.1)) (λ (h : (z.rows ≡ []) × (z.stage ≡ Idle)). inr h) o.own;
               maker = o.maker;
             }) (at_set s.views id j w z e)));
         state = ⊎_elim (λ (h : IsHome stands first r.log s.homes). inl h) (λ (h : IsOut r.serving s.views).
@@ -436,7 +441,7 @@ module _ (S O E Q : Type 0) (stands : S → O → List E → Type 0) (caller : E
       rows = λ q h. subst (IsRow caller first [] 1) (only_has only q h) record { opening = refl; begins = ([], refl); mine = refl; seen = refl; made_before = (omega arith, omega arith) };
       owned = λ q h. refl;
       stage = tt;
-      own = inl refl;
+      own = inl (refl, (only, (0, refl), refl));
       maker = λ _. (refl, refl);
     };
     state = inl (x, ap (map some) is, st);
@@ -447,12 +452,12 @@ module _ (S O E Q : Type 0) (stands : S → O → List E → Type 0) (caller : E
   pub closes : (seats id : ℕ) (v : V) (s : St) → Seen (Rule seats) id v s → v.stage ≡ Idle → HasAll v.rows seats → (x : S) × (s.homes ≡ some (Some x) ∷ []) × IsWhole stands caller v.rows x
   closes seats id v s (r, at) idle all = let whole : IsHome stands first r.log s.homes = ⊎_elim (λ (h : IsHome stands first r.log s.homes). h) (λ (h : IsOut r.serving s.views). absurd (nobody h)) r.state in
       let long = r.longest in let q : Row O E Q = long.2 in
-      (whole.0, whole.1, record { first = first; log = r.log; stands_for = whole.2; fits = λ p h. let o = (r.each id v at).rows p h in record { opening = o.opening; begins = o.begins; mine = o.mine; seen = o.seen }; longest = (q, mine_too (long.0) long.1 long.3 q long.4, long.5) })
+      (whole.0, whole.1, record { first = first; log = r.log; stands_for = whole.2; fits = λ p h. let o = (r.each id v at).rows p h in record { opening = o.opening; begins = o.begins; mine = o.mine; seen = o.seen }; others = λ n no. r.unmade n (λ (made : IsMade (length s.views) n). let le : n ≤ length s.views = made.1 in let room = r.room in no (all n made.0 (omega arith))); longest = (q, mine_too (long.0) long.1 long.3 q long.4, long.5) })
     where
       gone : (j : ℕ) (u : V) → j ≢ id → get_elem? s.views j ≡ some u → (u.rows ≡ []) × (u.stage ≡ Idle)
       gone j u ne there = let inside : j < length s.views = at_less s.views j u there in let room = r.room in let has = all (j + 1) (omega arith) (omega arith) in
           let owned : r.owner (j + 1) ≡ id = ap r.owner (sym has.2) ∙ (r.each id v at).owned has.0 has.1 in
-          ⊎_elim (λ (h : r.owner (j + 1) ≡ j). absurd (ne (sym h ∙ owned))) (λ (h : (u.rows ≡ []) × (u.stage ≡ Idle)). h) (r.each j u there).own
+          ⊎_elim (λ (h : (r.owner (j + 1) ≡ j) × HasNode u.rows (j + 1)). absurd (ne (sym h.0 ∙ owned))) (λ (h : (u.rows ≡ []) × (u.stage ≡ Idle)). h) (r.each j u there).own
 
       nobody : IsOut r.serving s.views → ⊥
       nobody (j, u, there, came) = dite (ℕ_discrete j id) (λ e. let same : v ≡ u = same_at s.views id j v u at there e in let clash : Idle ≡ Came r.serving = sym idle ∙ (ap (λ (z : V). z.stage) same ∙ came) in cc clash)
@@ -474,4 +479,4 @@ module _ (S O E Q : Type 0) (stands : S → O → List E → Type 0) (caller : E
       let back : (r : Row O E Q) → Has v.rows r → Has rows r = λ r h. has_reversed rows r (subst (λ (l : List (Row O E Q)). Has l r) is h) in
       let c = closes seats id v s seen_ idle (λ m positive le. let h = all m positive le in (h.0, has h.0 h.1, h.2)) in let x : S = c.0 in let w = c.2 in
       let here : get_elem? slots 0 ≡ some (Some x) = values 0 (Some x) (ap (λ (h : Homes). get_elem? h 0) c.1) in
-      (x, some-injective got (Some x) (sym there ∙ here), record { first = w.first; log = w.log; stands_for = w.stands_for; fits = λ r h. w.fits r (has r h); longest = (w.longest.0, back w.longest.0 w.longest.1, w.longest.2) })
+      (x, some-injective got (Some x) (sym there ∙ here), record { first = w.first; log = w.log; stands_for = w.stands_for; fits = λ r h. w.fits r (has r h); others = λ n no. w.others n (λ h. no (h.0, back h.0 h.1, h.2)); longest = (w.longest.0, back w.longest.0 w.longest.1, w.longest.2) })

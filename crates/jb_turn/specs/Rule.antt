@@ -8,6 +8,7 @@ use Rattle.jb_turn.specs.declared.view.Row.{Row}
 use Rattle.jb_turn.specs.declared.view.View.{View}
 use Rattle.jb_turn.specs.declared.view.Stage.{Stage}
 use Rattle.jb_turn.specs.declared.view.Stage.TheVariants.{Idle, Waits, Came}
+use Rattle.jb_turn.specs.Whole.{HasNode}
 use Rattle.jb_turn.specs.Rows.{Begins, Has, calls}
 
 -- the place of the state, as the table sees it: the state is there, or the place was emptied, or it is out with a seat
@@ -55,7 +56,7 @@ module _ {O E Q : Type 0} where
 
   -- the seat at place j still has the node that it was made with, or another seat took it in and it has none
   abbrev pub HasOwn : (ℕ → ℕ) → ℕ → View O E Q → Type 0
-  HasOwn owner j v = (owner (j + 1) ≡ j) ⊎ ((v.rows ≡ []) × (v.stage ≡ Idle))
+  HasOwn owner j v = ((owner (j + 1) ≡ j) × HasNode v.rows (j + 1)) ⊎ ((v.rows ≡ []) × (v.stage ≡ Idle))
 
   -- the state is out with the seat whose ticket is served
   abbrev pub IsOut : ℕ → List (View O E Q) → Type 0

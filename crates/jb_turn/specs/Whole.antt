@@ -1,5 +1,5 @@
 -- What closing shows of the rows of all seats, and which number is missing.
-use Rattle.std.specs.Prelude.{◌≡◌, ℕ, ◌<◌, ◌≤◌, List, Option, Some}
+use Rattle.std.specs.Prelude.{◌≡◌, ℕ, ◌<◌, ◌≤◌, List, [], Option, Some}
 use Rattle.jb_turn.specs.declared.view.Row.{Row}
 use Rattle.jb_turn.specs.Rows.{Begins, Has, calls}
 
@@ -23,10 +23,12 @@ module _ {O E Q : Type 0} where
     pub mine : calls caller r.node log ≡ r.mine
     pub seen : calls caller r.node r.front ≡ r.mine
 
--- there is one history, the longest front of the rows; the state stands for it from their opening, and each row fits it
+-- there is one history, the longest front of the rows; the state stands for it from their opening, each row fits it, and no
+-- entry is a call of a node that is not among the rows
 pub record IsWhole {S O E Q : Type 0} (stands : S → O → List E → Type 0) (caller : E → Option ℕ) (rows : List (Row O E Q)) (state : S) : Type 0 where
   pub first : O
   pub log : List E
   pub stands_for : stands state first log
   pub fits : (r : Row O E Q) → Has rows r → Fits caller first log r
+  pub others : (n : ℕ) → (HasNode rows n → ⊥) → calls caller n log ≡ []
   pub longest : (r : Row O E Q) × Has rows r × (r.front ≡ log)
