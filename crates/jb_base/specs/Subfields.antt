@@ -1,8 +1,9 @@
 -- The subfields of a message header, as bytes: LoID, HiID and length of the data, then the data (JAM, "SubFields").
-use Rattle.std.specs.Prelude.{◌≡◌, ℕ, ◌^◌, ◌<◌, List, [], ◌∷◌, ◌++◌, length, take, drop, All, Option, find, ◌==◌}
+use Rattle.std.specs.Prelude.{◌≡◌, ℕ, ◌^◌, ◌<◌, List, [], ◌∷◌, ◌++◌, length, take, drop, All, Option, find, unwrap_or, ◌==◌}
 use Rattle.std.specs.Option.{option_map}
 use Rattle.jb_base.specs.Number.{number_bytes}
 use Rattle.jb_base.specs.declared.subfield.Subfield.{Subfield}
+use Rattle.jb_base.specs.declared.subfield.TheConstants.{SENDER_NAME, RECEIVER_NAME}
 
 -- the bytes of one subfield
 abbrev pub one_subfield : Subfield → List ℕ
@@ -35,3 +36,11 @@ pub record IsCutAt (bytes : List ℕ) (at : ℕ) : Type 0 where
 -- the data of the first subfield with this LoID
 abbrev pub first_of : ℕ → List Subfield → Option (List ℕ)
 first_of id fields = option_map (λ field. field.bytes) (find (λ field. field.id == id) fields)
+
+-- the sender's name; without one, the empty name
+abbrev pub sender_of : List Subfield → List ℕ
+sender_of fields = unwrap_or (first_of SENDER_NAME fields) []
+
+-- the receiver's name; without one, the empty name
+abbrev pub receiver_of : List Subfield → List ℕ
+receiver_of fields = unwrap_or (first_of RECEIVER_NAME fields) []

@@ -11,6 +11,19 @@ pub enum Kind {
     Echo,
 }
 
+/// What is done in an area, as its rules tell acts apart.
+#[derive(Clone, Copy, Debug, PartialEq, Eq)]
+pub enum Action {
+    /// A look: at what the area holds, at one message, or a mark of what was read.
+    List,
+    /// A new message.
+    Post,
+    /// A message is killed.
+    Kill,
+    /// A pack or a relink.
+    Tend,
+}
+
 /// The rules that say who may do what, in the order in which they are asked.
 #[derive(Clone, Copy, Debug, PartialEq, Eq)]
 pub enum Rule {

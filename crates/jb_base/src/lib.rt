@@ -1,11 +1,13 @@
 //! What every layer of the board speaks of: byte strings, names, numbers in files, subfields, users, the rules of an
-//! area, and the limits of the JAM message base proposal (revision 1) and of this board.
+//! area and who may do what by them, the bits of a message's attribute, and the limits of the JAM message base proposal
+//! (revision 1) and of this board.
 //!
 //! The layers above may rely on these: a [`Bytes`] is seen by contracts as a list of bytes, a [`Name`] likewise; numbers
 //! in files are little-endian (JAM, "Data types"); want of memory is [`OutOfMemory`] and is merged with no other answer.
 #![tactic(auto)]
 
 mod area;
+mod attribute;
 mod bytes;
 mod limits;
 mod memory;
@@ -16,7 +18,8 @@ mod subfield;
 mod tests;
 mod user;
 
-pub use area::{AreaRules, Kind, Rule};
+pub use area::{Action, AreaRules, Kind, Rule};
+pub use attribute::{DELETED, LOCAL, NODISP, PRIVATE, READ, TYPEECHO, TYPELOCAL};
 pub use bytes::Bytes;
 pub use limits::{
     HEADERS_CEILING, INDEX_CEILING, JOURNAL_CEILING, LAST_POSTED_NUMBER, LASTREAD_CEILING,

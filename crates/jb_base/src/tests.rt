@@ -1,4 +1,4 @@
-//! Numbers, names and lists, with values from outside.
+//! Numbers, names, lists and attributes, with values from outside.
 use crate::*;
 use std::test::Fail;
 
@@ -102,4 +102,22 @@ fn rules_are_copied_whole(rt: HostRuntime) -> Result<(), Fail> {
         (1, 10, 20, 100, 16_000)
     );
     Ok(())
+}
+
+#[test]
+fn attributes_stand_at_the_bits_of_the_standard(rt: HostRuntime) {
+    let bits = [
+        (LOCAL, 0),
+        (PRIVATE, 2),
+        (READ, 3),
+        (TYPELOCAL, 23),
+        (TYPEECHO, 24),
+        (NODISP, 29),
+        (DELETED, 31),
+    ];
+    for (bit, place) in bits {
+        assert_eq!(rt; bit.trailing_zeros(), place);
+        assert_eq!(rt; bit.count_ones(), 1);
+    }
+    assert_eq!(rt; LOCAL | TYPELOCAL, 8_388_609);
 }
