@@ -1,51 +1,53 @@
 -- What each call of a disk in memory does to what it tells.
 use Rattle.std.specs.declared.alloc.Global.{Global}
-use Rattle.std.proofs.Common.{Vec, ◌≡◌, ◌≢◌, inl, inr, ℕ, ◌+◌, ◌≤◌, List, [], ◌∷◌, ◌++◌, length, refl, sym, ◌∙◌, ap, subst, true, false, Bool, le-leb, Result, Ok, Err}
-use Rattle.std.specs.Prelude.{IsErr, OnOk, reverse, nat_le, if◌then◌else◌, ◌&&◌}
-use Rattle.std.proofs.lemmas.Bool.{and_parts, leb-true}
+use Rattle.std.proofs.Common.{Vec, ◌≡◌, ◌≢◌, inl, inr, ℕ, ◌+◌, ◌≤◌, List, [], ◌∷◌, ◌++◌, length, refl, sym, ◌∙◌, ap, subst, true, false, Bool, le-leb, Option, Some, None, Result, Ok, Err}
+use Rattle.std.specs.Prelude.{IsErr, OnOk, OnErr, reverse, nat_le, if◌then◌else◌, ◌&&◌}
 use Rattle.jb_disk.specs.declared.file.FileId.{FileId}
 use Rattle.jb_disk.specs.declared.call.Call.{Call}
 use Rattle.jb_disk.specs.declared.call.Call.TheVariants.{Wrote, Resized}
 use Rattle.jb_disk.specs.Files.{Files, with_file, overwritten, written, InFile, IsResized}
-use Rattle.jb_disk.specs.Images.{IsLeft, just_synced, torn, cut}
-use Rattle.jb_disk.specs.Device.{Device, Tears, Resizes, Syncs}
-use Rattle.jb_disk.specs.Memory.{of_length, contents_after, listed, device_after, Recording, device_of}
-use Rattle.jb_disk.specs.FileLaws.{same_file, with_file-here, with_file-other, InFile-with, InFile-refl, length-of_length}
-use Rattle.jb_disk.specs.ImageLaws.{left-synced, left-torn, left-overwritten, left-cut, left-resized, get-of_length}
+use Rattle.jb_disk.specs.Device.{Device, Turns, Tears, Resizes, Syncs}
+use Rattle.jb_disk.specs.Images.{Images}
+use Rattle.jb_disk.specs.Memory.{of_length, contents_after, images_after, listed, device_after, Recording, device_of}
+use Rattle.jb_disk.specs.FileLaws.{same_file, with_file-here, with_file-other, InFile-with, length-of_length}
+use Rattle.jb_disk.specs.ImageLaws.{get-of_length}
 use Rattle.jb_disk.specs.MemoryLaws.{newest}
 
 -- false is not true
 not_true : false ≡ true → ⊥
 not_true is = cc
 
--- a file that a write was tried on
-abbrev MayTear : ℕ → ℕ → List ℕ → List ℕ → Type 0
-MayTear at len before now = IsLeft (torn at len (just_synced before)) now
+-- no other file reads otherwise after a write that was done or not
+others-wrote : (b : Bool) (f : FileId) (at : ℕ) (bytes : List ℕ) (files : Files) (other : FileId) → other ≢ f → (if b then written f at bytes files else files) other ≡ files other
+others-wrote true f at bytes files other apart = with_file-other f other _ files apart
+others-wrote false f at bytes files other apart = refl
 
--- what is read after a write that was done or not
-tears-here : (b : Bool) (f : FileId) (at : ℕ) (bytes : List ℕ) (files : Files) → (b ≡ true → at + length bytes ≤ length (files f))
-    → InFile f (MayTear at (length bytes)) files (if b then written f at bytes files else files)
-tears-here true f at bytes files within =
-    InFile-with f (overwritten at bytes (files f)) files (MayTear at (length bytes)) (left-overwritten at bytes (just_synced (files f)) (files f) (within refl) (left-synced (files f)))
-tears-here false f at bytes files within = InFile-refl f files (MayTear at (length bytes)) (left-torn at (length bytes) (just_synced (files f)) (files f) (left-synced (files f)))
+-- some moment is one
+some-moment : (now : Images) (earlier : List Images) → (now ∷ earlier) ≡ [] → ⊥
+some-moment now earlier none = cc
+
+-- a disk that tells images is no steady one
+tells-images : {T E : Type 0} (result : Result T E) (now : Images) (earlier : List Images) (P : Type 0) → OnErr result ((now ∷ earlier) ≡ [] → P)
+tells-images (Ok value) now earlier P = tt
+tells-images (Err error) now earlier P = λ none. absurd (some-moment now earlier none)
 
 -- a write that is noted
-tears-noted : (first : Files) (f : FileId) (at : ℕ) (bytes : Vec ℕ Global) (done : Bool) (calls : List Call) (m n : ℕ)
-    → Tears f at (length bytes.items) (device_after first calls m) (device_after first (Wrote f at bytes done ∷ calls) n)
-tears-noted first f at bytes done calls m n = record {
-  contents = tears-here _ f at bytes.items (contents_after first calls) (λ both. leb-true _ _ (and_parts _ _ both).1);
+tears-noted : {T E : Type 0} (result : Result T E) (first : Files) (f : FileId) (at : ℕ) (bytes : Vec ℕ Global) (done : Bool) (calls : List Call) (m n : ℕ)
+    → Tears f at (length bytes.items) (device_after first calls m) (device_after first (Wrote f at bytes done ∷ calls) n) result
+tears-noted result first f at bytes done calls m n = record {
+  tried = record { others = others-wrote _ f at bytes.items (contents_after first calls); steady = tells-images result (images_after first calls) _ _ };
   moments = inr refl;
 }
 
 -- the same, of the disk
-pub tears : (disk : Recording) (first : List (List ℕ)) (old new : List Call) (m n : ℕ) (f : FileId) (at : ℕ) (bytes : Vec ℕ Global) (len : ℕ) (done : Bool)
+pub tears : {T E : Type 0} (result : Result T E) (disk : Recording) (first : List (List ℕ)) (old new : List Call) (m n : ℕ) (f : FileId) (at : ℕ) (bytes : Vec ℕ Global) (len : ℕ) (done : Bool)
     → record { first = first; calls = old; faults = m } ≡ disk → length bytes.items ≡ len → new ≡ old ++ Wrote f at bytes done ∷ []
-    → Tears f at len (device_of disk) (device_of (record { first = first; calls = new; faults = n }))
-tears disk first old new m n f at bytes len done view_is size is =
-    subst (λ (was : Recording). Tears f at len (device_of was) (device_of (record { first = first; calls = new; faults = n }))) view_is
-    (subst (λ (k : ℕ). Tears f at k (device_after (listed first) (reverse old) m) (device_after (listed first) (reverse new) n)) size
-    (subst (λ (calls : List Call). Tears f at (length bytes.items) (device_after (listed first) (reverse old) m) (device_after (listed first) calls n)) (sym (newest old (Wrote f at bytes done) new is))
-    (tears-noted (listed first) f at bytes done (reverse old) m n)))
+    → Tears f at len (device_of disk) (device_of (record { first = first; calls = new; faults = n })) result
+tears result disk first old new m n f at bytes len done view_is size is =
+    subst (λ (was : Recording). Tears f at len (device_of was) (device_of (record { first = first; calls = new; faults = n })) result) view_is
+    (subst (λ (k : ℕ). Tears f at k (device_after (listed first) (reverse old) m) (device_after (listed first) (reverse new) n) result) size
+    (subst (λ (calls : List Call). Tears f at (length bytes.items) (device_after (listed first) (reverse old) m) (device_after (listed first) calls n) result) (sym (newest old (Wrote f at bytes done) new is))
+    (tears-noted result (listed first) f at bytes done (reverse old) m n)))
 
 -- what is read after a change of one file's bytes
 present-with : (f : FileId) (bytes : List ℕ) (before present after : Files) → ((file : FileId) → before file ≡ present file) → after f ≡ bytes → ((other : FileId) → other ≢ f → after other ≡ before other)
@@ -78,15 +80,6 @@ on_ok : {T E : Type 0} (result : Result T E) (P : Type 0) → P → OnOk result 
 on_ok (Ok value) P p = p
 on_ok (Err error) P p = tt
 
--- a file that a change of length was tried on
-abbrev MayCut : ℕ → List ℕ → List ℕ → Type 0
-MayCut len before now = IsLeft (cut len (just_synced before)) now
-
--- what is read after a change of length that was done or not
-cuts-here : (b : Bool) (f : FileId) (len : ℕ) (files : Files) → InFile f (MayCut len) files (if b then with_file f (of_length len (files f)) files else files)
-cuts-here true f len files = InFile-with f (of_length len (files f)) files (MayCut len) (left-resized len (just_synced (files f)) (files f) (left-synced (files f)))
-cuts-here false f len files = InFile-refl f files (MayCut len) (left-cut len (just_synced (files f)) (files f) (left-synced (files f)))
-
 -- a file that was cut or grown
 resized-of_length : (len : ℕ) (old : List ℕ) → IsResized len old (of_length len old)
 resized-of_length len old = record { size = length-of_length len old; same = λ i within low. get-of_length len old i low within }
@@ -98,7 +91,7 @@ resizes-noted result first f len calls m n =
     let files = contents_after first calls in
     record {
       done = on_ok result _ (InFile-with f (of_length len (files f)) files (IsResized len) (resized-of_length len (files f)));
-      tried = cuts-here true f len files;
+      tried = record { others = λ other apart. with_file-other f other _ files apart; steady = tells-images result (images_after first calls) _ _ };
       moments = inr refl;
     }
 
@@ -112,11 +105,16 @@ resizes result disk first old new m n f len done view_is so is =
     (subst (λ (calls : List Call). Resizes f len (device_after (listed first) (reverse old) m) (device_after (listed first) calls n) result) (sym (newest old (Resized f len true) new noted))
     (resizes-noted result (listed first) f len (reverse old) m n))
 
+-- nothing reads otherwise
+others-same : (f : FileId) (contents : Option Files) → Turns (λ before now. (other : FileId) → other ≢ f → now other ≡ before other) contents contents
+others-same f None = tt
+others-same f (Some files) = λ other apart. refl
+
 -- a sync that came to nothing, as the device is told
 syncs-none : {T E : Type 0} (result : Result T E) (device : Device) (n : ℕ) (f : FileId) → IsErr result
     → Syncs f device (record { faults = n; contents = device.contents; moments = device.moments }) result
 syncs-none (Ok value) device n f fails = absurd (not_true fails)
-syncs-none (Err error) device n f fails = record { contents = refl; done = tt; failed = refl }
+syncs-none (Err error) device n f fails = record { kept = tt; done = tt; tried = record { others = others-same f device.contents; steady = λ none. refl }; failed = refl }
 
 -- the same, of the disk
 pub syncs-not : {T E : Type 0} (result : Result T E) (disk : Recording) (first : List (List ℕ)) (old new : List Call) (m n : ℕ) (f : FileId) → IsErr result
@@ -147,20 +145,6 @@ present-kept first f old now before after is was here others file =
     ] in
     kept ∙ was file ∙ sym (ap (λ (calls : List Call). contents_after first (reverse calls) file) is)
 
--- one file's bytes are these now, and they have changed so
-changed-so : (f : FileId) (change : List ℕ → List ℕ → Type 0) (bytes : List ℕ) (old new : Files) → new f ≡ bytes → ((other : FileId) → other ≢ f → new other ≡ old other) → change (old f) bytes → InFile f change old new
-changed-so f change bytes old new here others changed = record { here = subst (change (old f)) (sym here) changed; others = others }
-
--- bytes written over a file are a write that was tried
-pub torn-written : (f : FileId) (at : ℕ) (bytes : List ℕ) (old new : Files) → at + length bytes ≤ length (old f) → new f ≡ overwritten at bytes (old f)
-    → ((other : FileId) → other ≢ f → new other ≡ old other) → InFile f (MayTear at (length bytes)) old new
-torn-written f at bytes old new within here others =
-    changed-so f (MayTear at (length bytes)) (overwritten at bytes (old f)) old new here others (left-overwritten at bytes (just_synced (old f)) (old f) within (left-synced (old f)))
-
--- a file of another length is a change of length that was tried
-pub cut-so : (f : FileId) (len : ℕ) (old new : Files) → new f ≡ of_length len (old f) → ((other : FileId) → other ≢ f → new other ≡ old other) → InFile f (MayCut len) old new
-cut-so f len old new here others = changed-so f (MayCut len) (of_length len (old f)) old new here others (left-resized len (just_synced (old f)) (old f) (left-synced (old f)))
-
--- and that was done
+-- a file of another length is a change of length that was done
 pub resized-so : (f : FileId) (len : ℕ) (old new : Files) → new f ≡ of_length len (old f) → ((other : FileId) → other ≢ f → new other ≡ old other) → InFile f (IsResized len) old new
-resized-so f len old new here others = changed-so f (IsResized len) (of_length len (old f)) old new here others (resized-of_length len (old f))
+resized-so f len old new here others = record { here = subst (IsResized len (old f)) (sym here) (resized-of_length len (old f)); others = others }

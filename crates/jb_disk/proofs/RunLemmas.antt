@@ -1,15 +1,19 @@
 -- How a run of calls goes on.
-use Rattle.std.proofs.Common.{◌≡◌, ◌⊎◌, inl, inr, ℕ, ◌≤◌, List, [], ◌∷◌, ◌++◌, Option, Some, None, refl, sym, ◌∙◌, ap, subst, arith, Result, Ok, Err}
+use Rattle.std.proofs.Common.{◌≡◌, ◌⊎◌, inl, inr, ℕ, ◌+◌, ◌≤◌, length, List, [], ◌∷◌, ◌++◌, Option, Some, None, refl, sym, ◌∙◌, ap, subst, arith, Result, Ok, Err, true, false}
 use Rattle.std.proofs.lemmas.List.{append_assoc}
-use Rattle.std.specs.Option.{ForSome}
+use Rattle.std.specs.Prelude.{IsErr, OnOk}
+use Rattle.std.specs.Option.{ForSome, option_map}
 use Rattle.jb_disk.specs.declared.file.FileId.{FileId}
-use Rattle.jb_disk.specs.Files.{Files, InFile}
+use Rattle.jb_disk.specs.Files.{Files, InFile, IsResized, overwritten, written}
 use Rattle.jb_disk.specs.Images.{Images, just_synced, torn, cut, with_image}
-use Rattle.jb_disk.specs.Device.{Device, OnlyReads, Tears, Resizes, Syncs, MayChange, Turns, TellsAnImage, and_then}
-use Rattle.jb_disk.specs.Moments.{MightLeave}
+use Rattle.jb_disk.specs.Device.{Device, OnlyReads, Tears, Resizes, Syncs, MayChange, Turns, IsPast, FailsBy, TellsAnImage, and_then}
+use Rattle.jb_disk.specs.Moments.{AtEach, IsPossible, MightLeave}
 use Rattle.jb_disk.specs.Steps.{Torn, Cut}
-use Rattle.jb_disk.specs.Runs.{Leaves, LeavesNow, LeavesAlways, Runs, LeavesOnly, Keeps}
-use Rattle.jb_disk.proofs.StepLemmas.{torn-read, cut-read, image-before_write, image-before_cut, image-before_sync, image-synced}
+use Rattle.jb_disk.specs.Runs.{Leaves, LeavesNow, LeavesAlways, Runs, LeavesOnly, Shows, Keeps}
+use Rattle.jb_disk.specs.FileLaws.{InFile-with, length-overwritten}
+use Rattle.jb_disk.specs.ImageLaws.{get-before, get-behind}
+use Rattle.std.proofs.lemmas.Bool.{cases_lt}
+use Rattle.jb_disk.proofs.StepLemmas.{image-before_write, image-before_cut, image-before_sync, image-synced}
 
 -- two stretches of moments
 always-append : (P : Files → Type 0) (later earlier : List Images) → LeavesAlways P later → LeavesAlways P earlier → LeavesAlways P (later ++ earlier)
@@ -45,84 +49,144 @@ moves P change (now ∷ earlier) new (inr more) kept was =
     let here = kept now was in
     (subst (LeavesNow P) (sym more) here, record { later = change now ∷ []; since = more; only = (here, tt) })
 
--- what is read keeps the property too
-turns-kept : (old new : Option Files) (step : Files → Files → Type 0) (P : Files → Type 0) → Turns step old new → ((before after : Files) → P before → step before after → P after) → ForSome old P → ForSome new P
-turns-kept None None step P turns kept here = λ files there. absurd (cc)
-turns-kept None (Some now) step P turns kept here = absurd turns
-turns-kept (Some was) None step P turns kept here = absurd turns
-turns-kept (Some was) (Some now) step P turns kept here = λ files there.
-    let same : now ≡ files = cc in
-    subst P same (kept was now (here was refl) turns)
-
--- the change of one file, as the steps say it
-step-weaken : (f : FileId) (P Q : List ℕ → List ℕ → Type 0) (old new : Files) → ((a b : List ℕ) → P a b → Q a b) → InFile f P old new → InFile f Q old new
-step-weaken f P Q old new weaker was = record { here = weaker (old f) (new f) was.here; others = was.others }
+-- what is read is one of the images, where the disk tells them
+pub told-now : (P : Files → Type 0) (device : Device) (now : Images) (earlier : List Images) → TellsAnImage device → device.moments ≡ now ∷ earlier → LeavesNow P device.moments → ForSome device.contents P
+told-now P device now earlier tells is all files some = subst (LeavesNow P) is all files (tells.read files now earlier some is)
 
 -- nothing is done
 pub keeps-refl : (P : Files → Type 0) (device : Device) → Keeps P device device
-keeps-refl P device = record { told = λ here. here; images = λ all. all; run = λ all. runs-refl P device.moments device.moments refl }
+keeps-refl P device = record { shows = λ all. all; run = λ all. runs-refl P device.moments device.moments refl }
 
 -- one run after another keeps it
 pub keeps-then : (P : Files → Type 0) (a b c : Device) → Keeps P a b → Keeps P b c → Keeps P a c
 keeps-then P a b c first second = record {
-  told = λ here. second.told (first.told here);
-  images = λ all. second.images (first.images all);
-  run = λ all. runs-then P a.moments b.moments c.moments (first.run all) (second.run (first.images all));
+  shows = λ all. second.shows (first.shows all);
+  run = λ all. runs-then P a.moments b.moments c.moments (first.run all) (second.run (first.shows all));
 }
+
+-- what is shown where nothing is read otherwise and a crash leaves the same
+shows-same : (P : Files → Type 0) (old new : Device) → new.contents ≡ old.contents → new.moments ≡ old.moments → Shows P old → Shows P new
+shows-same P old new contents moments all = record { read = λ files there. all.read files (sym contents ∙ there); left = subst (LeavesNow P) (sym moments) all.left }
 
 -- a call that only reads
 pub keeps-reads : (P : Files → Type 0) (old new : Device) → OnlyReads old new → Keeps P old new
 keeps-reads P old new same = record {
-  told = λ here. λ files there. here files (sym same.contents ∙ there);
-  images = λ all. subst (LeavesNow P) (sym same.moments) all;
+  shows = shows-same P old new same.contents same.moments;
   run = λ all. runs-refl P old.moments new.moments same.moments;
 }
 
+-- what is read after a call that was not done
+read-refused : (P : Files → Type 0) (old new : Device) (moments : List Images) → new.moments ≡ moments → TellsAnImage new → (moments ≡ [] → old.moments ≡ []) → (old.moments ≡ [] → new.contents ≡ old.contents)
+    → LeavesNow P new.moments → ForSome old.contents P → ForSome new.contents P
+read-refused P old new [] is tells empty steady left read = λ files there. read files (sym (steady (empty refl)) ∙ there)
+read-refused P old new (now ∷ earlier) is tells empty steady left read = told-now P new now earlier tells is left
+
+-- a disk that told images tells them on
+none-before : (change : Images → Images) (old new : List Images) → MayChange change old new → new ≡ [] → old ≡ []
+none-before change old new (inl same) none = sym same ∙ none
+none-before change [] new (inr more) none = refl
+none-before change (now ∷ earlier) new (inr more) none = absurd (some-moment (change now) (now ∷ earlier) (sym more ∙ none))
+  where
+    some-moment : (first : Images) (rest : List Images) → (first ∷ rest) ≡ [] → ⊥
+    some-moment first rest is = cc
+
+-- false is not true
+not-true : false ≡ true → ⊥
+not-true is = cc
+
+-- a write over bytes that are there
+torn-overwritten : (at : ℕ) (bytes old : List ℕ) → at + length bytes ≤ length old → Torn at (length bytes) old (overwritten at bytes old)
+torn-overwritten at bytes old within = record {
+  size = length-overwritten at bytes old within;
+  below = λ i under. get-before at bytes old within i under;
+  above = λ i over. get-behind at bytes old within i over;
+}
+
+-- a range that was not refused is within the file
+pub within-or-refused : {T E : Type 0} (f : FileId) (end : ℕ) (files : Files) (old new : Device) (result : Result T E) → old.contents ≡ Some files → FailsBy (IsPast old.contents f end) old new result
+    → IsErr result ⊎ (end ≤ length (files f))
+within-or-refused f end files old new result some cause = elim (cases_lt (length (files f)) end) [
+  | inl past ↦ inl (cause.refused (subst (λ (o : Option Files). IsPast o f end) (sym some) past)).0
+  | inr within ↦ inr within
+]
+
+-- what is read after a write
+read-written : {T E : Type 0} (P : Files → Type 0) (f : FileId) (at : ℕ) (bytes : List ℕ) (old new : Device) (result : Result T E) → TellsAnImage new → Tears f at (length bytes) old new result
+    → OnOk result (new.contents ≡ option_map (written f at bytes) old.contents) → FailsBy (IsPast old.contents f (at + length bytes)) old new result
+    → ((before after : Files) → P before → InFile f (Torn at (length bytes)) before after → P after) → LeavesNow P new.moments → ForSome old.contents P → ForSome new.contents P
+read-written P f at bytes old new (Ok value) tells tears done cause kept left read = by_contents old.contents refl
+  where
+    by_contents : (contents : Option Files) → old.contents ≡ contents → ForSome new.contents P
+    by_contents None none = λ files there. let nothing : None ≡ Some files = sym (done ∙ ap (option_map (written f at bytes)) none) ∙ there in absurd (cc)
+    by_contents (Some before) some = λ files there.
+        let same : Some (written f at bytes before) ≡ Some files = sym (done ∙ ap (option_map (written f at bytes)) some) ∙ there in
+        let is : written f at bytes before ≡ files = cc in
+        elim (within-or-refused f (at + length bytes) before old new _ some cause) [
+          | inl refused ↦ absurd (not-true refused)
+          | inr within ↦ subst P is (kept before (written f at bytes before) (read before some) (InFile-with f (overwritten at bytes (before f)) before (Torn at (length bytes)) (torn-overwritten at bytes (before f) within)))
+        ]
+read-written P f at bytes old new (Err error) tells tears done cause kept left read =
+    read-refused P old new new.moments refl tells (none-before _ old.moments new.moments tears.moments) tears.tried.steady left read
+
 -- a write, where any bytes in its range keep the property
-pub keeps-write : (P : Files → Type 0) (f : FileId) (at len : ℕ) (old new : Device) → Tears f at len old new
-    → ((before after : Files) → P before → InFile f (Torn at len) before after → P after) → Keeps P old new
-keeps-write P f at len old new tears kept =
+pub keeps-write : {T E : Type 0} (P : Files → Type 0) (f : FileId) (at : ℕ) (bytes : List ℕ) (old new : Device) (result : Result T E) → TellsAnImage new → Tears f at (length bytes) old new result
+    → OnOk result (new.contents ≡ option_map (written f at bytes) old.contents) → FailsBy (IsPast old.contents f (at + length bytes)) old new result
+    → ((before after : Files) → P before → InFile f (Torn at (length bytes)) before after → P after) → Keeps P old new
+keeps-write P f at bytes old new result tells tears done cause kept =
     let step : LeavesNow P old.moments → LeavesNow P new.moments × Runs P old.moments new.moments =
-    moves P (with_image f (torn at len)) old.moments new.moments tears.moments (λ now was files image.
-    let back = image-before_write f at len now files image in
+    moves P (with_image f (torn at (length bytes))) old.moments new.moments tears.moments (λ now was files image.
+    let back = image-before_write f at (length bytes) now files image in
     kept back.0 files (was back.0 back.1) back.2) in
     record {
-      told = turns-kept old.contents new.contents _ P tears.contents (λ before after was changed. kept before after was (step-weaken f _ (Torn at len) before after (torn-read at len) changed));
-      images = λ all. (step all).0;
-      run = λ all. (step all).1;
+      shows = λ all. record { read = read-written P f at bytes old new result tells tears done cause kept (step all.left).0 all.read; left = (step all.left).0 };
+      run = λ all. (step all.left).1;
     }
 
--- the lengths that a crash may leave, on a disk that tells one of its images
-lengths-between : (device : Device) → TellsAnImage device → (f : FileId) (now : Images) (earlier : List Images) → device.moments ≡ now ∷ earlier → (now f).least ≤ (now f).greatest
-lengths-between device told f now earlier is = between_of device.contents refl
-  where
-    no_moment : (now ∷ earlier) ≡ [] → ⊥
-    no_moment none = cc
+-- the lengths that a crash may leave, where there is an image
+lengths-between : (moments : List Images) → AtEach IsPossible moments → (f : FileId) (now : Images) (earlier : List Images) → moments ≡ now ∷ earlier → (now f).least ≤ (now f).greatest
+lengths-between moments each f now earlier is =
+    let possible = (subst (AtEach IsPossible) is each).0 in
+    let left = possible.image f in
+    let a = left.no_shorter in
+    let b = left.no_longer in
+    omega arith
 
-    between_of : (contents : Option Files) → device.contents ≡ contents → (now f).least ≤ (now f).greatest
-    between_of None none = absurd (no_moment (sym is ∙ told.both none))
-    between_of (Some files) some =
-        let left = told.read files now earlier some is f in
-        let a = left.no_shorter in
-        let b = left.no_longer in
-        omega arith
+-- a file of its new length is one that was cut or grew
+cut-resized : (len : ℕ) (old new : List ℕ) → IsResized len old new → Cut len old new
+cut-resized len old new resized =
+    let size = resized.size in
+    record { no_shorter = omega arith; no_longer = omega arith; below = resized.same }
+
+-- what is read after a change of length
+read-resized : {T E : Type 0} (P : Files → Type 0) (f : FileId) (len : ℕ) (old new : Device) (result : Result T E) → TellsAnImage new → Resizes f len old new result
+    → ((before after : Files) → P before → InFile f (Cut len) before after → P after) → LeavesNow P new.moments → ForSome old.contents P → ForSome new.contents P
+read-resized P f len old new (Ok value) tells resizes kept left read = turned old.contents new.contents resizes.done read
+  where
+    turned : (before after : Option Files) → Turns (InFile f (IsResized len)) before after → ForSome before P → ForSome after P
+    turned None None done here = λ files there. absurd (cc)
+    turned None (Some now) done here = absurd done
+    turned (Some was) None done here = absurd done
+    turned (Some was) (Some now) done here = λ files there.
+        let same : now ≡ files = cc in
+        subst P same (kept was now (here was refl) (record { here = cut-resized len (was f) (now f) done.here; others = done.others }))
+read-resized P f len old new (Err error) tells resizes kept left read =
+    read-refused P old new new.moments refl tells (none-before _ old.moments new.moments resizes.moments) resizes.tried.steady left read
 
 -- a change of length, where any length between and any bytes past the lesser one keep the property
-pub keeps-resize : {T E : Type 0} (P : Files → Type 0) (f : FileId) (len : ℕ) (old new : Device) (result : Result T E) → TellsAnImage old → Resizes f len old new result
+pub keeps-resize : {T E : Type 0} (P : Files → Type 0) (f : FileId) (len : ℕ) (old new : Device) (result : Result T E) → TellsAnImage old → TellsAnImage new → Resizes f len old new result
     → ((before after : Files) → P before → InFile f (Cut len) before after → P after) → Keeps P old new
-keeps-resize P f len old new result tells resizes kept =
+keeps-resize P f len old new result tells_old tells_new resizes kept =
     let step : LeavesNow P old.moments → LeavesNow P new.moments × Runs P old.moments new.moments = moves_cut old.moments refl resizes.moments in
     record {
-      told = turns-kept old.contents new.contents _ P resizes.tried (λ before after was changed. kept before after was (step-weaken f _ (Cut len) before after (cut-read len) changed));
-      images = λ all. (step all).0;
-      run = λ all. (step all).1;
+      shows = λ all. record { read = read-resized P f len old new result tells_new resizes kept (step all.left).0 all.read; left = (step all.left).0 };
+      run = λ all. (step all.left).1;
     }
   where
     moves_cut : (moments : List Images) → old.moments ≡ moments → MayChange (with_image f (cut len)) moments new.moments → LeavesNow P moments → LeavesNow P new.moments × Runs P moments new.moments
     moves_cut moments is (inl same) was = (subst (LeavesNow P) (sym same) was, runs-refl P moments new.moments same)
     moves_cut [] is (inr more) was = (subst (LeavesNow P) (sym more) tt, runs-refl P [] new.moments more)
     moves_cut (now ∷ earlier) is (inr more) was =
-        let between = lengths-between old tells f now earlier is in
+        let between = lengths-between old.moments tells_old.each f now earlier is in
         let here : Leaves P (with_image f (cut len) now) = λ files image. (let back = image-before_cut f len now files between image in kept back.0 files (was back.0 back.1) back.2) in
         (subst (LeavesNow P) (sym more) here, record { later = with_image f (cut len) now ∷ []; since = more; only = (here, tt) })
 
@@ -131,7 +195,7 @@ keeps-synced : (P : Files → Type 0) (f : FileId) (old new : Device) → TellsA
     → ForSome old.contents (λ files. new.moments ≡ and_then (with_image f (λ _. just_synced (files f))) old.moments) → Keeps P old new
 keeps-synced P f old new tells_old tells_new same done =
     let step : LeavesNow P old.moments → LeavesNow P new.moments × Runs P old.moments new.moments = by_contents old.contents refl in
-    record { told = λ here. λ files there. here files (sym same ∙ there); images = λ all. (step all).0; run = λ all. (step all).1 }
+    record { shows = λ all. record { read = λ files there. all.read files (sym same ∙ there); left = (step all.left).0 }; run = λ all. (step all.left).1 }
   where
     by_moments : (files : Files) (moments : List Images) → old.contents ≡ Some files → old.moments ≡ moments → new.moments ≡ and_then (with_image f (λ _. just_synced (files f))) moments
         → LeavesNow P moments → LeavesNow P new.moments × Runs P moments new.moments
@@ -150,8 +214,16 @@ keeps-synced P f old new tells_old tells_new same done =
 
 -- a sync, done or not
 pub keeps-sync : {T E : Type 0} (P : Files → Type 0) (f : FileId) (old new : Device) (result : Result T E) → TellsAnImage old → TellsAnImage new → Syncs f old new result → Keeps P old new
-keeps-sync P f old new (Ok value) tells_old tells_new syncs = keeps-synced P f old new tells_old tells_new syncs.contents syncs.done
-keeps-sync P f old new (Err error) tells_old tells_new syncs = keeps-reads P old new (record { contents = syncs.contents; moments = syncs.failed })
+keeps-sync P f old new (Ok value) tells_old tells_new syncs = keeps-synced P f old new tells_old tells_new syncs.kept syncs.done
+keeps-sync P f old new (Err error) tells_old tells_new syncs =
+    let left : LeavesNow P old.moments → LeavesNow P new.moments = subst (LeavesNow P) (sym syncs.failed) in
+    record {
+      shows = λ all. record {
+        read = read-refused P old new new.moments refl tells_new (λ none. sym syncs.failed ∙ none) syncs.tried.steady (left all.left) all.read;
+        left = left all.left;
+      };
+      run = λ all. runs-refl P old.moments new.moments syncs.failed;
+    }
 
 -- after a sync that was done a crash leaves of the file what was read
 pub durable : (f : FileId) (contents : Files) (old new : Device) → old.contents ≡ Some contents
@@ -163,8 +235,8 @@ durable f contents old new some done = by_moments old.moments (done contents som
     by_moments (now ∷ earlier) more = subst (LeavesNow (λ files. files f ≡ contents f)) (sym more) (λ files image. image-synced f contents now files image)
 
 -- a run that keeps the property leaves only files with it
-pub leaves_only : (P : Files → Type 0) (old new : Device) → LeavesNow P old.moments → Keeps P old new → LeavesOnly old new P
-leaves_only P old new first keeps = record { first = first; run = keeps.run first }
+pub leaves_only : (P : Files → Type 0) (old new : Device) → Shows P old → Keeps P old new → LeavesOnly old new P
+leaves_only P old new first keeps = record { first = first.left; run = keeps.run first }
 
 -- so it is at any moment since, and before that the files were left before
 pub might_leave : (P : Files → Type 0) (a b : List Images) (files : Files) → Runs P a b → MightLeave b files → P files ⊎ MightLeave a files

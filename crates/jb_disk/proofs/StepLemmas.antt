@@ -39,29 +39,6 @@ is-synced bytes left is =
     let size : length left ≡ length bytes = omega arith in
     same_items left bytes size (λ i low. elim (is.same i (omega arith)) [ inl none ↦ absurd none | inr same ↦ same ])
 
--- a write that was tried on what is read
-pub torn-read : (at len : ℕ) (old new : List ℕ) → IsLeft (torn at len (just_synced old)) new → Torn at len old new
-torn-read at len old new left =
-    let a = left.no_shorter in
-    let b = left.no_longer in
-    let size : length new ≡ length old = omega arith in
-    let same : (i : ℕ) → (at ≤ i → i < at + len → ⊥) → slice_index new i ≡ slice_index old i = λ i apart. elim (cases_lt i (length old)) [
-      | inl low ↦ elim (left.same i low) [ inl there ↦ elim there [ inl here ↦ absurd (apart here.0 here.1) | inr none ↦ absurd none ] | inr is ↦ is ]
-      | inr past ↦ get_or_past new i 0 (omega (arith, size)) ∙ sym (get_or_past old i 0 past)
-    ] in
-    record { size = size; below = λ i low. same i (λ from to. omega (arith, from)); above = λ i high. same i (λ from to. omega (arith, to)) }
-
--- a change of length that was tried on what is read
-pub cut-read : (len : ℕ) (old new : List ℕ) → IsLeft (cut len (just_synced old)) new → Cut len old new
-cut-read len old new left =
-    let a = left.no_shorter in
-    let b = left.no_longer in
-    record {
-      no_shorter = omega arith;
-      no_longer = omega arith;
-      below = λ i within low. elim (left.same i (omega arith)) [ inl none ↦ absurd none | inr same ↦ same ];
-    }
-
 -- the file before a write: as synced in the range, as now elsewhere
 before_write : Unsynced → ℕ → ℕ → List ℕ → List ℕ
 before_write u at len now = tabulated (length now) (λ i. if nat_le at i && nat_lt i (at + len) then slice_index u.synced i else slice_index now i)

@@ -1,10 +1,11 @@
 -- What is known of a disk before and after a call.
-use Rattle.std.specs.Prelude.{◌≡◌, ◌⊎◌, ℕ, ◌<◌, ◌≤◌, List, [], ◌∷◌, length, Option, Some, None, Result, IsErr, OnOk, OnErr}
+use Rattle.std.specs.Prelude.{◌≡◌, ◌≢◌, ◌⊎◌, ℕ, ◌<◌, ◌≤◌, List, [], ◌∷◌, length, Option, Some, None, Result, IsErr, OnOk, OnErr}
 use Rattle.std.specs.Option.{ForSome}
 use Rattle.jb_base.specs.Fault.{Rose}
 use Rattle.jb_disk.specs.declared.file.FileId.{FileId}
 use Rattle.jb_disk.specs.Files.{Files, InFile, IsResized}
-use Rattle.jb_disk.specs.Images.{Images, IsImage, IsLeft, just_synced, torn, cut, with_image}
+use Rattle.jb_disk.specs.Images.{Images, IsImage, just_synced, torn, cut, with_image}
+use Rattle.jb_disk.specs.Moments.{AtEach, IsPossible}
 
 -- a disk, as its user sees it
 pub record Device : Type 0 where
@@ -36,21 +37,27 @@ Turns change (Some old) (Some new) = change old new
 Turns change None (Some new) = ⊥
 Turns change (Some old) None = ⊥
 
--- a write that was tried: any bytes in the range, the same elsewhere
-pub record Tears (file : FileId) (at len : ℕ) (old new : Device) : Type 0 where
-  pub contents : Turns (InFile file (λ before now. IsLeft (torn at len (just_synced before)) now)) old.contents new.contents
+-- a call for one file: the others read as before, and where it was not done and no images are told, all does
+pub record TriesOn {T E : Type 0} (file : FileId) (old new : Device) (result : Result T E) : Type 0 where
+  pub others : Turns (λ before now. (other : FileId) → other ≢ file → now other ≡ before other) old.contents new.contents
+  pub steady : OnErr result (old.moments ≡ [] → new.contents ≡ old.contents)
+
+-- a write that was tried: a crash may leave what it might before, or any bytes in the range
+pub record Tears {T E : Type 0} (file : FileId) (at len : ℕ) (old new : Device) (result : Result T E) : Type 0 where
+  pub tried : TriesOn file old new result
   pub moments : MayChange (with_image file (torn at len)) old.moments new.moments
 
 -- a change of length that was tried, and what it made where it was done
 pub record Resizes {T E : Type 0} (file : FileId) (len : ℕ) (old new : Device) (result : Result T E) : Type 0 where
   pub done : OnOk result (Turns (InFile file (IsResized len)) old.contents new.contents)
-  pub tried : Turns (InFile file (λ before now. IsLeft (cut len (just_synced before)) now)) old.contents new.contents
+  pub tried : TriesOn file old new result
   pub moments : MayChange (with_image file (cut len)) old.moments new.moments
 
--- a sync: where it is done, a crash leaves of this file what a read gives
+-- a sync: where it is done, all reads as before, and a crash leaves of this file what a read gives
 pub record Syncs {T E : Type 0} (file : FileId) (old new : Device) (result : Result T E) : Type 0 where
-  pub contents : new.contents ≡ old.contents
+  pub kept : OnOk result (new.contents ≡ old.contents)
   pub done : OnOk result (ForSome old.contents (λ files. new.moments ≡ and_then (with_image file (λ _. just_synced (files file))) old.moments))
+  pub tried : TriesOn file old new result
   pub failed : OnErr result (new.moments ≡ old.moments)
 
 -- a range up to this place passes the file's end, on a disk that tells
@@ -64,7 +71,8 @@ pub record FailsBy {T E : Type 0} (past : Type 0) (old new : Device) (result : R
   pub failed : OnErr result (Rose old.faults new.faults ⊎ past)
   pub refused : past → IsErr result × (new.faults ≡ old.faults)
 
--- what a read gives now is one of the images, and a disk that tells images tells its contents
+-- what a read gives now is one of the images, a disk that tells images tells its contents, and each moment has an image
 pub record TellsAnImage (disk : Device) : Type 0 where
   pub read : (files : Files) (now : Images) (earlier : List Images) → disk.contents ≡ Some files → disk.moments ≡ now ∷ earlier → IsImage now files
   pub both : disk.contents ≡ None → disk.moments ≡ []
+  pub each : AtEach IsPossible disk.moments

@@ -3,6 +3,7 @@ pub mod Crash
 pub mod Device
 pub mod FileLaws
 pub mod Files
+pub mod Gate
 pub mod ImageLaws
 pub mod Images
 pub mod Kept
@@ -10,6 +11,7 @@ pub mod Memory
 pub mod MemoryLaws
 pub mod Moments
 pub mod Runs
+pub mod Silent
 pub mod Steady
 pub mod Steps
 pub mod Trace

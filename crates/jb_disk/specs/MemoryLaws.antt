@@ -9,7 +9,8 @@ use Rattle.jb_disk.specs.declared.call.Call.TheVariants.{NoChange, Wrote, Resize
 use Rattle.jb_disk.specs.Files.{Files, with_file, overwritten, written}
 use Rattle.jb_disk.specs.Images.{Unsynced, Images, IsLeft, IsImage, just_synced, torn, cut, with_image}
 use Rattle.jb_disk.specs.Device.{TellsAnImage}
-use Rattle.jb_disk.specs.Memory.{listed, of_length, contents_after, images_after, Recording, device_of}
+use Rattle.jb_disk.specs.Memory.{listed, of_length, contents_after, images_after, earlier_after, Recording, device_of}
+use Rattle.jb_disk.specs.Moments.{AtEach, IsPossible}
 use Rattle.jb_disk.specs.FileLaws.{same_file, with_file-here, with_file-other}
 use Rattle.jb_disk.specs.ImageLaws.{with_image-here, with_image-other, left-synced, left-torn, left-overwritten, left-cut, left-resized}
 
@@ -56,6 +57,14 @@ image-contents first (Resized file len done ∷ earlier) = image-resized done fi
 image-contents first (Synced file ∷ earlier) =
     image-same file (λ _. just_synced (contents_after first earlier file)) (images_after first earlier) (contents_after first earlier) (image-contents first earlier) (left-synced (contents_after first earlier file))
 
+-- at each moment so far a read gave one of the images
+pub each-possible : (first : Files) (calls : List Call) → AtEach IsPossible (images_after first calls ∷ earlier_after first calls)
+each-possible first [] = (record { files = first; image = image-contents first [] }, tt)
+each-possible first (NoChange ∷ earlier) = each-possible first earlier
+each-possible first (Wrote file at bytes done ∷ earlier) = (record { files = _; image = image-contents first (Wrote file at bytes done ∷ earlier) }, each-possible first earlier)
+each-possible first (Resized file len done ∷ earlier) = (record { files = _; image = image-contents first (Resized file len done ∷ earlier) }, each-possible first earlier)
+each-possible first (Synced file ∷ earlier) = (record { files = _; image = image-contents first (Synced file ∷ earlier) }, each-possible first earlier)
+
 -- the newest of some moments
 abbrev newest_of : List Images → Images → Images
 newest_of [] none = none
@@ -72,6 +81,7 @@ tells_an_image disk =
           let newest : images_after first calls ≡ now = ap (λ (l : List Images). newest_of l now) moments in
           subst (λ (images : Images). IsImage images files) newest (subst (IsImage (images_after first calls)) same (image-contents first calls));
       both = λ contents. absurd (none_told contents);
+      each = each-possible first calls;
     }
   where
     none_told : {A : Type 0} {a : A} → Some a ≡ None → ⊥

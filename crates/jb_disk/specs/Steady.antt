@@ -15,7 +15,7 @@ empty_device = record { faults = 0; contents = Some (λ file. []); moments = [] 
 
 -- it tells no image
 pub tells_no_image : (disk : SteadyDisk) → TellsAnImage (steady_device disk)
-tells_no_image disk = record { read = λ files now earlier contents moments. absurd (no_moment now earlier moments); both = λ contents. cc }
+tells_no_image disk = record { read = λ files now earlier contents moments. absurd (no_moment now earlier moments); both = λ contents. cc; each = tt }
   where
     no_moment : (now : Images) (earlier : List Images) → [] ≡ now ∷ earlier → ⊥
     no_moment now earlier is = cc

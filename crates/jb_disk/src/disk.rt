@@ -40,11 +40,11 @@ pub trait Disk {
         ensures cause { FailsBy (IsPast (device self.old).contents file (at + length into.old)) (device self.old) (device self.new) result };
 
     /// Writes over what is there. A write past the end is refused and changes nothing. Until a sync of this file a crash
-    /// may leave any bytes in the range.
+    /// may leave any bytes in the range. After a fault this file may read as anything that a crash might leave of it.
     fn write_at(&mut self, file: FileId, at: u64, bytes: &[u8]) -> Result<(), DiskFailed>
         // What is read, and what a crash may leave.
         ensures ok { OnOk result ((device self.new).contents ≡ option_map (written file at bytes.now) (device self.old).contents) }
-        ensures changed { Tears file at (length bytes.now) (device self.old) (device self.new) }
+        ensures changed { Tears file at (length bytes.now) (device self.old) (device self.new) result }
         ensures crash { OnOk result ((device self.new).moments ≡ and_then (with_image file (torn at (length bytes.now))) (device self.old).moments) }
 
         // A range past the end, or a fault.
@@ -52,18 +52,19 @@ pub trait Disk {
         ensures cause { FailsBy (IsPast (device self.old).contents file (at + length bytes.now)) (device self.old) (device self.new) result };
 
     /// Sets a file's length. Which bytes a growth brings is left open. Until a sync a crash may leave any length between,
-    /// and any bytes at or past the lesser one.
+    /// and any bytes at or past the lesser one. After a fault this file may read as anything that a crash might leave of it.
     fn set_len(&mut self, file: FileId, len: u64) -> Result<(), DiskFailed>
         requires { len ≤ ceiling_of file }
         ensures changed { Resizes file len (device self.old) (device self.new) result }
         ensures crash { OnOk result ((device self.new).moments ≡ and_then (with_image file (cut len)) (device self.old).moments) }
         ensures cause { FailsBy ⊥ (device self.old) (device self.new) result };
 
-    /// Makes a file durable: from here on a crash leaves of it what a read gives.
+    /// Makes a file durable: from here on a crash leaves of it what a read gives. A fault may have lost what was written
+    /// since the last sync: then this file may read as anything that a crash might leave of it.
     fn sync(&mut self, file: FileId) -> Result<(), DiskFailed>
         ensures changed { Syncs file (device self.old) (device self.new) result }
         ensures cause { FailsBy ⊥ (device self.old) (device self.new) result };
 
-    /// What is read now is one of the images, and a disk that tells images tells its contents.
+    /// What is read now is one of the images, a disk that tells images tells its contents, and each moment has an image.
     ghost told: { (disk : Self) → TellsAnImage (device disk) };
 }

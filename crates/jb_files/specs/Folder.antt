@@ -9,7 +9,7 @@ silent_device faults = record { faults = faults; contents = None; moments = [] }
 
 -- it tells no image
 pub tells_nothing : (faults : ℕ) → TellsAnImage (silent_device faults)
-tells_nothing faults = record { read = λ files now earlier contents moments. absurd (no_contents files contents); both = λ contents. cc }
+tells_nothing faults = record { read = λ files now earlier contents moments. absurd (no_contents files contents); both = λ contents. cc; each = tt }
   where
     no_contents : (files : Files) → None ≡ Some files → ⊥
     no_contents files is = cc
