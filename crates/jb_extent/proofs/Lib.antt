@@ -1,0 +1,4 @@
+pub mod Callers
+pub mod Neighbours
+pub mod Pairs
+pub mod Partners
