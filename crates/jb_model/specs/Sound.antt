@@ -1,5 +1,6 @@
 -- A loaded area that fits its own lengths.
-use Rattle.std.specs.Prelude.{◌≡◌, ◌⊎◌, ℕ, ◌+◌, ◌<◌, ◌≤◌, length, All, AllPairs}
+use Rattle.std.specs.Prelude.{◌≡◌, ◌⊎◌, ℕ, ◌+◌, ◌<◌, ◌≤◌, length, All, AllPairs, bit_and}
+use Rattle.jb_base.specs.declared.attribute.TheConstants.{DELETED}
 use Rattle.jb_base.specs.declared.limits.TheConstants.{HEADERS_CEILING, TEXTS_CEILING, MOST_MARKS, MOST_SUBFIELD_BYTES, MOST_TEXT_BYTES}
 use Rattle.jb_base.specs.Subfields.{subfield_bytes}
 use Rattle.jb_model.specs.declared.loaded.Loaded.{Loaded}
@@ -28,8 +29,9 @@ pub record IsTextWithin (texts_len at len : ℕ) : Type 0 where
   pub short : len ≤ MOST_TEXT_BYTES
   pub placed : (len ≡ 0) ⊎ ((at + len ≤ texts_len) × (at + len ≤ TEXTS_CEILING))
 
--- a live message lies within files of these lengths
+-- a live message, not marked as killed, lies within files of these lengths
 pub record IsMessageWithin (headers_len texts_len : ℕ) (message : LoadedMessage) : Type 0 where
+  pub live : bit_and message.head.attribute DELETED ≡ 0
   pub few_bytes : length (subfield_bytes message.subfields) ≤ MOST_SUBFIELD_BYTES
   pub header : IsWithin headers_len message.header_at (76 + length (subfield_bytes message.subfields))
   pub text : IsTextWithin texts_len message.text_at message.text_len
@@ -40,8 +42,9 @@ IsSlotWithin headers_len texts_len Empty = Unit {0}
 IsSlotWithin headers_len texts_len (Killed header_at) = IsWithin headers_len header_at 76
 IsSlotWithin headers_len texts_len (Live message) = IsMessageWithin headers_len texts_len message
 
--- a loaded area of at most so many slots, whose headers lie apart within its lengths
+-- a loaded area of at most so many slots, whose headers lie apart within its lengths, behind the fixed header
 pub record IsSound (limit : ℕ) (loaded : Loaded) : Type 0 where
+  pub fixed : 1024 ≤ loaded.headers_len
   pub base : 1 ≤ loaded.base
   pub numbers : loaded.base + length loaded.slots ≤ 4294967295
   pub few_slots : length loaded.slots ≤ limit

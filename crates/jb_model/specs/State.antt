@@ -1,5 +1,6 @@
 -- The state of an area: a numbered list of slots, with marks and the fields of the fixed header.
-use Rattle.std.specs.Prelude.{ℕ, ◌+◌, ◌≤◌, List, length, take, drop, map, All}
+use Rattle.std.specs.Prelude.{◌≡◌, bit_and, ℕ, ◌+◌, ◌≤◌, List, length, take, drop, map, All}
+use Rattle.jb_base.specs.declared.attribute.TheConstants.{DELETED}
 use Rattle.jb_base.specs.declared.limits.TheConstants.{MOST_MARKS, MOST_SUBFIELD_BYTES, MOST_TEXT_BYTES}
 use Rattle.jb_base.specs.declared.subfield.Subfield.{Subfield}
 use Rattle.jb_base.specs.Subfields.{subfield_bytes}
@@ -40,12 +41,17 @@ pub record AreaState : Type 0 where
 abbrev pub next_number : AreaState → ℕ
 next_number state = state.base + length state.slots
 
--- a live message's subfields and text are no longer than a base may have them
+-- a live message that a base may have: its subfields and its text are not too long, and no bit says that it is killed
+pub record IsMessageInRange (message : LiveMessage) : Type 0 where
+  pub few_bytes : length (subfield_bytes message.subfields) ≤ MOST_SUBFIELD_BYTES
+  pub short_text : length message.text ≤ MOST_TEXT_BYTES
+  pub live : bit_and message.head.attribute DELETED ≡ 0
+
+-- what a number names is in range
 abbrev pub IsSlotInRange : SlotState → Type 0
 IsSlotInRange no_message = Unit {0}
 IsSlotInRange killed_message = Unit {0}
-IsSlotInRange (live_message message) =
-    (length (subfield_bytes message.subfields) ≤ MOST_SUBFIELD_BYTES) × (length message.text ≤ MOST_TEXT_BYTES)
+IsSlotInRange (live_message message) = IsMessageInRange message
 
 -- a state that a base of so many slots may have
 pub record IsWellFormed (limit : ℕ) (state : AreaState) : Type 0 where

@@ -1,15 +1,26 @@
 //! What an area is: a plain numbered list of slots, with marks of what its users have read.
 //!
 //! The layers above may rely on the definitions in `specs/`: the state of an area, when it is well formed, and the form in
-//! which it is loaded, without its texts.
+//! which it is loaded, without its texts; what a user sees; the reply links; the reply to each command and the state after
+//! it; and the history of an area, legal where each entry follows from those before it.
 #![tactic(auto)]
 
+mod area;
+mod command;
+mod entry;
+mod links;
 mod loaded;
 mod mark;
 mod message;
+mod reply;
 #[cfg(test)]
 mod tests;
 
+pub use area::{Area, Message, Slot, Slots};
+pub use command::{Asked, Command, Field};
+pub use entry::{Entry, Outcome};
+pub use links::Links;
 pub use loaded::{Loaded, LoadedMessage, LoadedSlot, LoadedSlots};
 pub use mark::{Mark, Marks};
-pub use message::{DELETED, Head};
+pub use message::Head;
+pub use reply::{Letter, Reply};

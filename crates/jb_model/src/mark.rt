@@ -54,4 +54,19 @@ impl Marks {
         self.items.push(mark)?;
         Ok(())
     }
+
+    /// The marks as a `Vec`. It takes no memory.
+    pub fn into_vec(self) -> Vec<Mark>
+        ensures { result.items ≡ self }
+    {
+        self.items
+    }
+}
+
+impl From<Vec<Mark>> for Marks {
+    ghost from_gives = { λ items marks. marks ≡ items.items };
+
+    fn from(items: Vec<Mark>) -> Marks {
+        Marks { items }
+    }
 }

@@ -1,8 +1,5 @@
 //! The fields of a message that its header carries.
 
-/// Attribute: the message is killed (JAM, "Attribute", MSG_DELETED).
-pub const DELETED: u32 = 0x8000_0000;
-
 /// The header's fields, but for its lengths, its place of the text and its number: TimesRead, MSGIDcrc, REPLYcrc, ReplyTo,
 /// Reply1st, ReplyNext, DateWritten, DateReceived, DateProcessed, Attribute, Attribute2, PasswordCRC and Cost of the
 /// standard, and the two reserved bytes. Dates are seconds since 1970; 0 is no message and no date.

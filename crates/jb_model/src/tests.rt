@@ -59,6 +59,32 @@ fn slots_stand_in_the_order_of_their_numbers(rt: HostRuntime) -> Result<(), Fail
 }
 
 #[test]
+fn an_area_is_a_base_and_its_slots_and_marks(rt: HostRuntime) -> Result<(), Fail> {
+    let message = Message {
+        head: HEAD,
+        subfields: Subfields::new(rt.alloc()),
+        text: Bytes::copy(rt.alloc(), b"Good\r")?,
+    };
+    let mut slots = Slots::new(rt.alloc());
+    slots.push(Slot::Empty)?;
+    slots.push(Slot::Killed)?;
+    slots.push(Slot::Live(message))?;
+    let area = Area {
+        base: 3,
+        slots,
+        marks: Marks::new(rt.alloc()),
+    };
+    let mut texts = Vec::new(rt.alloc());
+    for (number, slot) in (area.base..).zip(area.slots.as_slice()) {
+        if let Slot::Live(message) = slot {
+            texts.push((number, message.text.len()))?;
+        }
+    }
+    assert_eq!(rt; texts.as_slice(), [(5, 5)].as_slice());
+    Ok(())
+}
+
+#[test]
 fn marks_stand_in_the_order_of_the_lastread_file(rt: HostRuntime) -> Result<(), Fail> {
     let first = Mark {
         user_crc: 0x2780_81F3,
@@ -78,10 +104,4 @@ fn marks_stand_in_the_order_of_the_lastread_file(rt: HostRuntime) -> Result<(), 
     marks.push(second)?;
     assert_eq!(rt; marks.as_slice(), [first, second].as_slice());
     Ok(())
-}
-
-#[test]
-fn a_killed_message_has_the_highest_attribute(rt: HostRuntime) {
-    assert_eq!(rt; HEAD.attribute & DELETED, 0);
-    assert_eq!(rt; 0x8080_0001 & DELETED, 0x8000_0000);
 }

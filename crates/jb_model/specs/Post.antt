@@ -1,0 +1,178 @@
+-- A message is posted.
+use Rattle.std.specs.Prelude.{ℕ, zero, suc, ◌+◌, ◌-◌, ◌*◌, ◌/◌, ◌%◌, ◌^◌, min, nat_lt, nat_le, Bool, not, ◌&&◌, ◌==◌, List, [], ◌∷◌, ◌++◌, Option, Some, None, is_none, option_map, option_to_list, option_and_then, length, map, slice_set, if◌then◌else◌}
+use Rattle.std.specs.Char.{digit_char}
+use Rattle.jb_base.specs.Access.{first_refusal}
+use Rattle.jb_base.specs.Crc.{jam_crc_of}
+use Rattle.jb_base.specs.declared.area.Action.TheVariants.{Post as Posting}
+use Rattle.jb_base.specs.declared.area.AreaRules.{AreaRules}
+use Rattle.jb_base.specs.declared.area.Kind.{Kind}
+use Rattle.jb_base.specs.declared.area.Kind.TheVariants.{Local, Echo}
+use Rattle.jb_base.specs.declared.attribute.TheConstants.{LOCAL, PRIVATE, TYPELOCAL, TYPEECHO}
+use Rattle.jb_base.specs.declared.limits.TheConstants.{HEADERS_CEILING, LAST_POSTED_NUMBER, MOST_COPIED_MSGID_BYTES, MOST_NAME_BYTES, MOST_POSTED_TEXT_BYTES, MOST_SUBJECT_BYTES, TEXTS_CEILING}
+use Rattle.jb_base.specs.declared.subfield.Subfield.{Subfield}
+use Rattle.jb_base.specs.declared.subfield.TheConstants.{SENDER_NAME, RECEIVER_NAME, MSGID, REPLYID, SUBJECT}
+use Rattle.jb_base.specs.declared.user.User.{User}
+use Rattle.jb_model.specs.Answered.{Answered, counted, unless_denied, unless_refused}
+use Rattle.jb_model.specs.Links.{last_reply_of, linkables_of, parent_for}
+use Rattle.jb_model.specs.Live.{message_at}
+use Rattle.jb_model.specs.Message.{header_length, msgid_of}
+use Rattle.jb_model.specs.State.{AreaState, LiveMessage, SlotState, live_message, next_number}
+use Rattle.jb_model.specs.Visible.{visible_at}
+use Rattle.jb_model.specs.declared.command.Field.TheVariants.{To, Subject, Text}
+use Rattle.jb_model.specs.declared.message.Head.{Head}
+use Rattle.jb_model.specs.declared.reply.Reply.{Reply}
+use Rattle.jb_model.specs.declared.reply.Reply.TheVariants.{EmptyName, HeadersFull, NoMessage, NumbersSpent, Posted, SlotsFull, TextFull, TooLong}
+
+-- what the user wrote, to whom, in reply to which number or to 0, and whether it is private
+pub record Draft : Type 0 where
+  pub to : List ℕ
+  pub subject : List ℕ
+  pub text : List ℕ
+  pub reply_to : ℕ
+  pub private : Bool
+
+-- a part of the draft is empty or too long
+abbrev pub draft_refusal : Draft → Option Reply
+draft_refusal draft =
+    if length draft.to == 0 then Some (EmptyName To)
+    else if nat_lt MOST_NAME_BYTES (length draft.to) then Some (TooLong To (length draft.to))
+    else if nat_lt MOST_SUBJECT_BYTES (length draft.subject) then Some (TooLong Subject (length draft.subject))
+    else if nat_lt MOST_POSTED_TEXT_BYTES (length draft.text) then Some (TooLong Text (length draft.text))
+    else None
+
+-- the draft answers a message that the user does not see
+abbrev pub answer_refusal : AreaRules → AreaState → User → Draft → Option Reply
+answer_refusal rules state user draft =
+    if not (draft.reply_to == 0) && is_none (visible_at rules user state draft.reply_to) then Some (NoMessage draft.reply_to) else None
+
+-- a length in bytes as a reply tells it: the greatest number of eight bytes where it is larger
+abbrev pub told_length : ℕ → ℕ
+told_length len = min len (2 ^ 64 - 1)
+
+-- the area has no further number, no slot, or no room in its files for this message
+abbrev pub room_refusal : AreaRules → AreaState → LiveMessage → Option Reply
+room_refusal rules state message =
+    if nat_lt LAST_POSTED_NUMBER (next_number state) then Some (NumbersSpent (next_number state))
+    else if nat_le rules.slots (length state.slots) then Some (SlotsFull rules.slots)
+    else if nat_lt HEADERS_CEILING (state.headers_len + header_length message)
+    then Some (HeadersFull (told_length (state.headers_len + header_length message)))
+    else if nat_lt TEXTS_CEILING (state.texts_len + length message.text)
+    then Some (TextFull (told_length (state.texts_len + length message.text)))
+    else None
+
+-- so many digits of a number in base 16, in lower case, the lowest last
+abbrev pub hex_digits : ℕ → ℕ → List ℕ
+hex_digits zero number = []
+hex_digits (suc width) number = hex_digits width (number / 16) ++ digit_char (number % 16) ∷ []
+
+-- the MSGID of a posted message: the area's address, a space, and a serial of the area's ordinal and the number
+abbrev pub posted_msgid : AreaRules → ℕ → List ℕ
+posted_msgid rules number = rules.address ++ 32 ∷ hex_digits 8 (rules.ordinal * 2 ^ 24 + number)
+
+-- the id, where it is not too long to be copied
+abbrev pub if_copied : List ℕ → Option (List ℕ)
+if_copied id = if nat_le (length id) MOST_COPIED_MSGID_BYTES then Some id else None
+
+-- the REPLYID of an answer: the MSGID of the message that it answers, where that has one that is copied
+abbrev pub posted_replyid : AreaState → ℕ → Option (List ℕ)
+posted_replyid state reply_to = option_and_then if_copied (option_and_then (λ answered. msgid_of answered.subfields) (message_at state reply_to))
+
+-- the parent of the message that is posted
+abbrev pub posted_parent : AreaState → ℕ → ℕ
+posted_parent state reply_to =
+    parent_for (linkables_of state) (next_number state) (posted_replyid state reply_to) reply_to
+
+-- the attribute bit of an area's kind
+abbrev pub kind_attribute : Kind → ℕ
+kind_attribute Local = TYPELOCAL
+kind_attribute Echo = TYPEECHO
+
+-- LOCAL and the area's kind, and PRIVATE where it is asked
+abbrev pub posted_attribute : AreaRules → Bool → ℕ
+posted_attribute rules private = LOCAL + kind_attribute rules.kind + (if private then PRIVATE else 0)
+
+-- the CRC of an id, all bits set where there is none
+abbrev pub id_crc : Option (List ℕ) → ℕ
+id_crc None = 0xFFFFFFFF
+id_crc (Some id) = jam_crc_of id
+
+-- a subfield with HiID 0
+abbrev pub plain_field : ℕ → List ℕ → Subfield
+plain_field id bytes = record { id = id; hi = 0; bytes = bytes }
+
+-- the subfields of a posted message, in their order
+abbrev pub posted_subfields : AreaRules → AreaState → User → Draft → List Subfield
+posted_subfields rules state user draft =
+    (plain_field SENDER_NAME user.name ∷ plain_field RECEIVER_NAME draft.to ∷ plain_field MSGID (posted_msgid rules (next_number state)) ∷ [])
+    ++ map (plain_field REPLYID) (option_to_list (posted_replyid state draft.reply_to))
+    ++ plain_field SUBJECT draft.subject ∷ []
+
+-- the header's fields of a posted message: it is local, unread, and answers its parent
+abbrev pub posted_head : AreaRules → AreaState → ℕ → Draft → Head
+posted_head rules state moment draft = record {
+  reserved = 0;
+  times_read = 0;
+  msgid_crc = jam_crc_of (posted_msgid rules (next_number state));
+  reply_crc = id_crc (posted_replyid state draft.reply_to);
+  reply_to = posted_parent state draft.reply_to;
+  reply_first = 0;
+  reply_next = 0;
+  written = moment;
+  received = 0;
+  processed = 0;
+  attribute = posted_attribute rules draft.private;
+  attribute2 = 0;
+  password = 0xFFFFFFFF;
+  cost = 0;
+}
+
+-- the message that is posted, under the CRC of its receiver's name
+abbrev pub posted_message : AreaRules → AreaState → User → ℕ → Draft → LiveMessage
+posted_message rules state user moment draft = record {
+  owner = jam_crc_of draft.to;
+  head = posted_head rules state moment draft;
+  subfields = posted_subfields rules state user draft;
+  text = draft.text;
+}
+
+-- the slots with this message in the place of the one that the number names, where there is one
+abbrev pub slots_with : AreaState → ℕ → Option LiveMessage → List SlotState
+slots_with state number None = state.slots
+slots_with state number (Some message) = slice_set state.slots (number - state.base) (live_message message)
+
+-- the message with another first reply
+abbrev pub with_first_reply : ℕ → LiveMessage → LiveMessage
+with_first_reply number message = record message { head = record message.head { reply_first = number } }
+
+-- the message with another next reply
+abbrev pub with_next_reply : ℕ → LiveMessage → LiveMessage
+with_next_reply number message = record message { head = record message.head { reply_next = number } }
+
+-- the slots as a new reply to this parent leaves them: the parent names it where it has no live reply, else its last reply does
+abbrev pub spliced_slots : AreaState → ℕ → ℕ → List SlotState
+spliced_slots state parent number =
+    let last = last_reply_of (linkables_of state) parent in
+    if parent == 0 then state.slots
+    else if last == 0 then slots_with state parent (option_map (with_first_reply number) (message_at state parent))
+    else slots_with state last (option_map (with_next_reply number) (message_at state last))
+
+-- the area with this message at its end
+abbrev pub posted_state : AreaState → LiveMessage → AreaState
+posted_state state message = counted (record state {
+  slots = spliced_slots state message.head.reply_to (next_number state) ++ live_message message ∷ [];
+  headers_len = state.headers_len + header_length message;
+  texts_len = state.texts_len + length message.text;
+})
+
+-- the message has the next number
+abbrev pub post_done : AreaState → LiveMessage → Answered
+post_done state message = record { reply = Posted (next_number state); state = posted_state state message }
+
+-- a post of this draft
+abbrev pub post_step : AreaRules → AreaState → User → ℕ → Draft → Answered
+post_step rules state user moment draft =
+    unless_denied state (first_refusal user rules Posting None)
+    (unless_refused state (draft_refusal draft)
+    (unless_refused state (answer_refusal rules state user draft)
+    (unless_refused state (room_refusal rules state (posted_message rules state user moment draft))
+    (post_done state (posted_message rules state user moment draft)))))
