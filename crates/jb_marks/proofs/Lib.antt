@@ -1,0 +1,3 @@
+pub mod MarkLemmas
+pub mod OrderLemmas
+pub mod SetLaws

@@ -1,0 +1,104 @@
+//! The index of the marks: their places, in the order of their pairs and then of the places.
+ghost use Rattle.std.specs.Prelude.{◌≡◌, ◌+◌, ◌*◌, ◌^◌, ◌<◌, ◌≤◌, [], ◌∷◌, ◌++◌, length, nat_lt, IfOk, vec_len, vec_capacity};
+ghost use Rattle.std.specs.Ordering.{nat_cmp};
+ghost use Rattle.jb_base.specs.declared.limits.TheConstants.{MOST_MARKS};
+ghost use Rattle.jb_marks.specs.Order.{EndsSearch, IsGapFor, IsOrdered, IsSplit, pair_in, pair_number, place_number};
+
+use jb_base::OutOfMemory;
+use jb_model::Mark;
+use std::alloc::Global;
+use std::cmp::Ordering;
+
+/// The pair of the mark at a place. Beyond the marks it is a pair of zeros, which is never asked for.
+fn pair_at(items: &[Mark], place: u32) -> (u32, u32)
+    ensures { result ≡ pair_in items.now place }
+{
+    match items.get(place as usize) {
+        Some(mark) => (mark.user_crc, mark.user_id),
+        None => (0, 0),
+    }
+}
+
+/// How two places stand to one another in the index.
+fn compare(items: &[Mark], one: u32, other: u32) -> Ordering
+    ensures { result ≡ nat_cmp (place_number items.now one) (place_number items.now other) }
+{
+    pair_at(items, one)
+        .cmp(&pair_at(items, other))
+        .then(one.cmp(&other))
+}
+
+/// Whether a place stands in the index before all places of this pair.
+fn is_before(items: &[Mark], place: u32, user_crc: u32, user_id: u32) -> bool
+    ensures { result ≡ nat_lt (place_number items.now place) (pair_number user_crc user_id * 2 ^ 32) }
+{
+    pair_at(items, place) < (user_crc, user_id)
+}
+
+/// The index of these marks. Its cost is that of sorting them.
+pub(crate) fn ordered_places(alloc: Global, items: &[Mark]) -> Result<Vec<u32>, OutOfMemory>
+    requires { length items.now ≤ MOST_MARKS }
+    ensures { IfOk result (λ order. IsOrdered items.now order.items) }
+{
+    let mut order = Vec::with_capacity(alloc, items.len())?;
+    for place in 0..items.len() as u32 {
+        order.push(place)?;
+    }
+    order.sort_unstable_by(|one, other| compare(items, *one, *other));
+    Ok(order)
+}
+
+/// How many places in the index stand before all places of this pair.
+fn count_before(items: &[Mark], order: &[u32], user_crc: u32, user_id: u32) -> usize
+    requires { IsOrdered items.now order.now }
+    ensures { IsSplit items.now order.now (pair_number user_crc user_id) result }
+{
+    order.partition_point(|place| is_before(items, *place, user_crc, user_id))
+}
+
+/// The place of the first mark of this pair; or else where in the index the place of one would stand.
+pub(crate) fn search(
+    items: &[Mark],
+    order: &[u32],
+    user_crc: u32,
+    user_id: u32,
+) -> Result<usize, usize>
+    requires ordered { IsOrdered items.now order.now }
+    requires few { length items.now ≤ MOST_MARKS }
+    ensures { EndsSearch user_crc user_id items.now order.now result }
+{
+    let at = count_before(items, order, user_crc, user_id);
+    let Some(place) = order.get(at) else {
+        return Err(at);
+    };
+    if pair_at(items, *place) == (user_crc, user_id) {
+        Ok(*place as usize)
+    } else {
+        Err(at)
+    }
+}
+
+/// Puts a mark of a new pair behind the others, and its place into the index, in the room that both have.
+pub(crate) fn append(items: &mut Vec<Mark>, order: &mut Vec<u32>, at: usize, mark: Mark)
+    requires ordered { IsOrdered items.old.items order.old.items }
+    requires few { length items.old.items < MOST_MARKS }
+    requires gap { IsGapFor mark.user_crc mark.user_id items.old.items order.old.items at }
+    requires marks_room { vec_len items.old < vec_capacity items.old }
+    requires index_room { vec_len order.old < vec_capacity order.old }
+
+    // The mark goes last, and the index is that of the marks again.
+    ensures marks { items.new.items ≡ items.old.items ++ mark ∷ [] }
+    ensures ordered { IsOrdered items.new.items order.new.items }
+
+    // The room beside it stays.
+    ensures marks_room { vec_capacity items.old ≤ vec_capacity items.new }
+    ensures index_room { vec_capacity order.old ≤ vec_capacity order.new }
+{
+    let place = items.len() as u32;
+    let Ok(()) = order.insert(at, place) else {
+        unreachable!()
+    };
+    let Ok(()) = items.push(mark) else {
+        unreachable!()
+    };
+}
