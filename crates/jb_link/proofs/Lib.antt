@@ -1,0 +1,12 @@
+pub mod LiveLemmas
+pub mod RangeLemmas
+pub mod ReplyLemmas
+pub mod ParentLemmas
+pub mod PlanLemmas
+pub mod ThreadLemmas
+pub mod ChangeLemmas
+pub mod EachLemmas
+pub mod PostLemmas
+pub mod PostingLemmas
+pub mod SpliceLemmas
+pub mod Theorems

@@ -1,0 +1,96 @@
+-- The parents of messages by their places, and the ids that are met on the way.
+use Rattle.std.proofs.Common.{◌≡◌, ℕ, ◌+◌, ◌<◌, ◌≤◌, Bool, true, false, ◌&&◌, ◌==◌, cond, List, [], ◌∷◌, ◌++◌, Option, Some, None, find, length, take, slice_get, get_or, length-take, refl, sym, ◌∙◌, ap, arith, ne_eqb}
+use Rattle.std.proofs.lemmas.Grind.{common_steps, take_at_read}
+use Rattle.std.proofs.lemmas.List.Folds.{find-append}
+use Rattle.std.specs.Borrow.{Bor}
+use Rattle.std.specs.BTreeMap.{BTreeMap}
+use Rattle.std.specs.Option.{option_or}
+use Rattle.jb_model.specs.Links.{Linkable, is_id, number_or_0, parent_at, parent_for, parent_of, parent_or_0}
+use Rattle.jb_model.specs.Message.{msgid_of, replyid_of}
+use Rattle.jb_model.specs.declared.loaded.LoadedMessage.{LoadedMessage}
+use Rattle.jb_model.specs.declared.loaded.LoadedSlot.{LoadedSlot}
+use Rattle.jb_model.specs.declared.loaded.LoadedSlot.TheVariants.{Empty, Killed, Live}
+use Rattle.jb_link.specs.Ids.{HasLowest, KeepsLowest, number_of}
+use Rattle.jb_link.specs.Parents.{AreParents}
+use Rattle.jb_link.specs.Slots.{linkables_from, loaded_linkable, msgid_in}
+use Rattle.jb_link.proofs.LiveLemmas.{find_below, find_numbered, linkable_in, linkables_from-append}
+use Rattle.jb_link.proofs.RangeLemmas.{found_from}
+
+-- the parent at a place without a live message is 0
+pub parent_of_no_message : (base k : ℕ) (slots : List LoadedSlot) (slot : LoadedSlot) → slice_get slots k ≡ Some slot → ((message : LoadedMessage) → slot ≡ Live message → ⊥)
+    → 0 ≡ parent_at (linkables_from base slots) (base + k)
+parent_of_no_message base k slots Empty at other = sym (ap (parent_or_0 (linkables_from base slots)) (find_numbered k base (base + k) slots refl ∙ ap (linkable_in (base + k)) at))
+parent_of_no_message base k slots (Killed header_at) at other = sym (ap (parent_or_0 (linkables_from base slots)) (find_numbered k base (base + k) slots refl ∙ ap (linkable_in (base + k)) at))
+parent_of_no_message base k slots (Live message) at other = absurd (other message refl)
+
+-- the parent at the place of a live message is its parent
+pub parent_of_message : (base k : ℕ) (slots : List LoadedSlot) (message : LoadedMessage) → slice_get slots k ≡ Some (Live message)
+    → parent_at (linkables_from base slots) (base + k) ≡ parent_of (linkables_from base slots) (loaded_linkable (base + k) message)
+parent_of_message base k slots message at = ap (parent_or_0 (linkables_from base slots)) (find_numbered k base (base + k) slots refl ∙ ap (linkable_in (base + k)) at)
+
+-- with a REPLYID it is the lowest with that id below
+pub parent_by_lowest : (base k result : ℕ) (slots : List LoadedSlot) (message : LoadedMessage) (numbers : BTreeMap (Bor (List ℕ)) ℕ) (id : List ℕ)
+    → slice_get slots k ≡ Some (Live message) → Some id ≡ replyid_of message.subfields
+    → HasLowest numbers (linkables_from base (take k slots)) → result ≡ number_of numbers id
+    → result ≡ parent_at (linkables_from base slots) (base + k)
+parent_by_lowest base k result slots message numbers id at reply lowest is =
+    is ∙ lowest id ∙ ap number_or_0 (sym (find_below (λ one. is_id id one.msgid) k base (base + k) slots refl))
+    ∙ ap (λ r. parent_for (linkables_from base slots) (base + k) r message.head.reply_to) reply
+    ∙ sym (parent_of_message base k slots message at)
+
+-- without one it is the kept number, where it is live below
+pub parent_by_kept : (base k result : ℕ) (slots : List LoadedSlot) (message : LoadedMessage)
+    → slice_get slots k ≡ Some (Live message) → None ≡ replyid_of message.subfields
+    → result ≡ number_or_0 (find (λ one. one.number == message.head.reply_to) (linkables_from base (take k slots)))
+    → result ≡ parent_at (linkables_from base slots) (base + k)
+parent_by_kept base k result slots message at reply is =
+    is ∙ ap number_or_0 (sym (find_below (λ one. one.number == message.head.reply_to) k base (base + k) slots refl))
+    ∙ ap (λ r. parent_for (linkables_from base slots) (base + k) r message.head.reply_to) reply
+    ∙ sym (parent_of_message base k slots message at)
+
+-- one more live message, or none, behind others
+pub one_more : (base k : ℕ) (slots : List LoadedSlot) (slot : LoadedSlot) → k < length slots → slot ≡ get_or slots k slot
+    → linkables_from base (take (k + 1) slots) ≡ linkables_from base (take k slots) ++ linkables_from (base + k) (slot ∷ [])
+one_more base k slots slot within read =
+    let front : length (take k slots) ≡ k = omega (arith, length-take {A = LoadedSlot}) in
+    ap (linkables_from base) ((take_at_read slots k slot within).1 ∙ ap (λ s. take k slots ++ s ∷ []) (sym read))
+    ∙ linkables_from-append base (take k slots) (slot ∷ [])
+    ∙ ap (λ n. linkables_from base (take k slots) ++ linkables_from (base + n) (slot ∷ [])) front
+
+-- the lowest numbers with one more slot
+pub lowest_step : (base k : ℕ) (slots : List LoadedSlot) (slot : LoadedSlot) (old new : BTreeMap (Bor (List ℕ)) ℕ) → 1 ≤ base → k < length slots → slot ≡ get_or slots k slot
+    → HasLowest old (linkables_from base (take k slots)) → KeepsLowest old new (base + k) slot → HasLowest new (linkables_from base (take (k + 1) slots))
+lowest_step base k slots slot old new one within read before keeps = λ id.
+    let r : Linkable → Bool = λ x. is_id id x.msgid in
+    let lower : Option Linkable = find r (linkables_from base (take k slots)) in
+    keeps id
+    ∙ ap (λ n. cond (is_id id (msgid_in (Some slot)) && (n == 0)) (base + k) n) (before id)
+    ∙ step_case id slot (find r (linkables_from base (take k slots))) (λ x found. let from : base ≤ x.number = found_from r base (take k slots) x found in omega arith)
+    ∙ ap number_or_0 (sym (ap (find r) (one_more base k slots slot within read) ∙ find-append r (linkables_from base (take k slots)) (linkables_from (base + k) (slot ∷ []))))
+  where
+    live_case : (b : Bool) (message : LoadedMessage) → cond (b && true) (base + k) 0 ≡ number_or_0 (cond b (Some (loaded_linkable (base + k) message)) None)
+    live_case true message = refl
+    live_case false message = refl
+
+    and_false : (b : Bool) → (b && false) ≡ false
+    and_false true = refl
+    and_false false = refl
+
+    step_case : (id : List ℕ) (slot : LoadedSlot) (lower : Option Linkable) → ((x : Linkable) → lower ≡ Some x → 1 ≤ x.number)
+        → cond (is_id id (msgid_in (Some slot)) && (number_or_0 lower == 0)) (base + k) (number_or_0 lower)
+        ≡ number_or_0 (option_or lower (find (λ x. is_id id x.msgid) (linkables_from (base + k) (slot ∷ []))))
+    step_case id slot (Some x) above =
+        let taken : (x.number == 0) ≡ false = ne_eqb x.number 0 (λ e. let h : 1 ≤ x.number = above x refl in omega arith) in
+        ap (λ b. cond (is_id id (msgid_in (Some slot)) && b) (base + k) x.number) taken
+        ∙ ap (λ b. cond b (base + k) x.number) (and_false (is_id id (msgid_in (Some slot))))
+    step_case id Empty None above = refl
+    step_case id (Killed header_at) None above = refl
+    step_case id (Live message) None above = live_case (is_id id (msgid_of message.subfields)) message
+
+-- the parents with one more
+pub parents_step : (live : List Linkable) (base k parent : ℕ) (parents : List ℕ) → AreParents live base k parents → parent ≡ parent_at live (base + k)
+    → AreParents live base (k + 1) (parents ++ parent ∷ [])
+parents_step live base k parent parents h is = record {
+  len = grind (arith, common_steps, h.len);
+  each = λ place below. grind (arith, common_steps, h.len, h.each place);
+}

@@ -1,0 +1,68 @@
+//! What is answered for many messages at once, over a `Vec`.
+ghost use Rattle.std.specs.Prelude.{◌≡◌};
+
+use jb_model::Links;
+use std::marker::Model;
+
+/// The links of each live message, in rising order of the numbers. Contracts see the list of them.
+#[derive(Debug, Drop)]
+pub struct Plan {
+    items: Vec<Links>,
+}
+
+impl Model for Plan {
+    ghost use Rattle.std.specs.Prelude.{List};
+    ghost use Rattle.jb_model.specs.declared.links.Links.{Links};
+
+    ghost Value = { List Links };
+
+    ghost view = { λ p. p.items.items };
+}
+
+impl Plan {
+    /// The links, in order.
+    pub fn as_slice(&self) -> &[Links]
+        ensures { result.now ≡ self.now }
+    {
+        self.items.as_slice()
+    }
+}
+
+impl From<Vec<Links>> for Plan {
+    ghost from_gives = { λ items plan. plan ≡ items.items };
+
+    fn from(items: Vec<Links>) -> Plan {
+        Plan { items }
+    }
+}
+
+/// Numbers of messages, in rising order. Contracts see the list of them.
+#[derive(Debug, Drop)]
+pub struct Numbers {
+    items: Vec<u32>,
+}
+
+impl Model for Numbers {
+    ghost use Rattle.std.specs.Prelude.{List, ℕ};
+
+    ghost Value = { List ℕ };
+
+    ghost view = { λ n. n.items.items };
+}
+
+impl Numbers {
+    /// The numbers, in order.
+    pub fn as_slice(&self) -> &[u32]
+        ensures { result.now ≡ self.now }
+    {
+        self.items.as_slice()
+    }
+}
+
+impl From<Vec<u32>> for Numbers {
+    ghost from_gives = { λ items numbers. numbers ≡ items.items };
+
+    fn from(items: Vec<u32>) -> Numbers {
+        Numbers { items }
+    }
+}
