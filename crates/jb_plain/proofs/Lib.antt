@@ -1,0 +1,5 @@
+pub mod FitLaws
+pub mod Lists
+pub mod SeenLaws
+pub mod SmallLaws
+pub mod Walks

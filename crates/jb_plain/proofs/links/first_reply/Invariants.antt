@@ -1,0 +1,7 @@
+use Rattle.std.proofs.Common.{◌≡◌, ◌+◌, drop}
+use Rattle.jb_model.specs.Links.{is_reply_to}
+use Rattle.jb_plain.specs.Walk.{found_in, linkables_from}
+use Rattle.jb_plain.proofs.links.first_reply.Given as goal
+
+abbrev pub invariant-loop-slot : goal.invariant-loop-slot
+invariant-loop-slot l = (l.one ≡ l.base + l.slot-index) × (found_in (is_reply_to (linkables_from l.base l.slots) l.number) l.one (drop l.slot-index l.slots) ≡ found_in (is_reply_to (linkables_from l.base l.slots) l.number) l.base l.slots)

@@ -1,0 +1,46 @@
+-- The changes of a command, one after another.
+use Rattle.std.specs.Prelude.{ℕ, List, [], ◌∷◌, ◌++◌, ◌+◌, ◌-◌, drop, map, Option, option_map, option_to_list, min, ◌^◌}
+use Rattle.jb_model.specs.Live.{message_at}
+use Rattle.jb_model.specs.Pack.{emptied}
+use Rattle.jb_model.specs.Tight.{headers_together, texts_together}
+use Rattle.jb_base.specs.declared.subfield.Subfield.{Subfield}
+use Rattle.jb_base.specs.declared.subfield.TheConstants.{SENDER_NAME, RECEIVER_NAME, MSGID, REPLYID, SUBJECT}
+use Rattle.jb_base.specs.declared.user.User.{User}
+use Rattle.jb_model.specs.Post.{Draft, plain_field, slots_with, spliced_slots}
+use Rattle.jb_model.specs.Relink.{relinked_slots}
+use Rattle.jb_model.specs.State.{AreaState, LiveMessage}
+use Rattle.jb_plain.specs.declared.post.Draft.{Draft as LentDraft}
+
+-- the area with its links written
+abbrev pub relinked_area : AreaState → AreaState
+relinked_area state = record state { slots = relinked_slots state }
+
+-- the area with a reply to this parent named by its neighbour
+abbrev pub spliced_area : AreaState → ℕ → ℕ → AreaState
+spliced_area state parent number = record state { slots = spliced_slots state parent number }
+
+-- the area with the message of a number changed, where there is one
+abbrev pub renamed_area : AreaState → ℕ → (LiveMessage → LiveMessage) → AreaState
+renamed_area state named change = record state { slots = slots_with state named (option_map change (message_at state named)) }
+
+-- the area without its first slots and without killed messages
+abbrev pub cut_area : AreaState → ℕ → AreaState
+cut_area state front = record state { base = state.base + front; slots = map emptied (drop front state.slots) }
+
+-- the area with files that hold just its messages
+abbrev pub tightened_area : AreaState → AreaState
+tightened_area state = record state {
+  headers_len = min (1024 + headers_together state.slots) (2 ^ 64 - 1);
+  texts_len = min (texts_together state.slots) (2 ^ 64 - 1);
+}
+
+-- what a user wrote, as the definitions see it
+abbrev pub draft_of : LentDraft → Draft
+draft_of draft = record { to = draft.to.now; subject = draft.subject.now; text = draft.text.now; reply_to = draft.reply_to; private = draft.private }
+
+-- the subfields of a posted message with these ids
+abbrev pub fields_with : User → Draft → List ℕ → Option (List ℕ) → List Subfield
+fields_with user draft msgid replyid =
+    (plain_field SENDER_NAME user.name ∷ plain_field RECEIVER_NAME draft.to ∷ plain_field MSGID msgid ∷ [])
+    ++ map (plain_field REPLYID) (option_to_list replyid)
+    ++ plain_field SUBJECT draft.subject ∷ []

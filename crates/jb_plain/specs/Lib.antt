@@ -1,0 +1,5 @@
+pub mod Changes
+pub mod Fit
+pub mod Seen
+pub mod Small
+pub mod Walk

@@ -1,0 +1,27 @@
+//! The plain, slow program of an area: it runs a list of commands over an area as a plain value, and its contract is the
+//! definition of what each command answers and does.
+//!
+//! Faster bodies are compared with it in tests. It keeps no index and sorts nothing: each question walks over all slots, a
+//! CRC goes bit by bit, and the links of an area of n messages cost n³ looks at messages.
+#![tactic(auto)]
+
+mod crc;
+mod fit;
+mod held;
+mod kill;
+mod links;
+mod mark;
+mod message;
+mod pack;
+mod post;
+mod read;
+mod relink;
+mod rule;
+mod run;
+mod slots;
+mod state;
+#[cfg(test)]
+mod tests;
+
+pub use fit::may_run;
+pub use run::{Replies, run_slow};

@@ -1,0 +1,105 @@
+//! What a message says of itself, and who sees it.
+ghost use Rattle.std.specs.Prelude.{◌≡◌, IfOk, IfSome, option_map, unwrap_or, []};
+ghost use Rattle.std.specs.Borrow.{Bor};
+ghost use Rattle.jb_access.specs.Parties.{envelope};
+ghost use Rattle.jb_base.specs.Subfields.{first_of};
+ghost use Rattle.jb_model.specs.Live.{message_at};
+ghost use Rattle.jb_model.specs.Message.{envelope_of, letter_of};
+ghost use Rattle.jb_model.specs.Tight.{owned};
+ghost use Rattle.jb_model.specs.Visible.{is_shown, visible_at};
+ghost use Rattle.jb_plain.specs.Seen.{HasAt, seen, with_head};
+
+use crate::held::PlainState;
+use jb_access::{Action, Parties, allowed};
+use jb_base::{
+    AreaRules, Bytes, MSGID, Name, OutOfMemory, RECEIVER_NAME, REPLYID, SENDER_NAME, SUBJECT,
+    Subfields, User,
+};
+use jb_model::{Head, Letter, Message, Slot};
+use std::alloc::Global;
+
+/// The data of the first subfield of a kind, empty where there is none.
+pub(crate) fn field(subfields: &Subfields, id: u16) -> &[u8]
+    ensures { result.now ≡ unwrap_or (first_of id subfields.now) [] }
+{
+    match subfields.first(id) {
+        Some(bytes) => bytes,
+        None => &[],
+    }
+}
+
+/// The parties of a message, and its attributes.
+pub(crate) fn parties(message: &Message) -> Parties<'_>
+    ensures { envelope result ≡ envelope_of (owned message.now) }
+{
+    Parties {
+        from: field(&message.subfields, SENDER_NAME),
+        to: field(&message.subfields, RECEIVER_NAME),
+        attribute: message.head.attribute,
+    }
+}
+
+/// Whether the user sees the live message.
+pub(crate) fn shown(rules: &AreaRules, user: &User, message: &Message) -> bool
+    ensures { result ≡ is_shown rules.now user.now (owned message.now) }
+{
+    allowed(user, rules, Action::List, Some(parties(message))).is_ok()
+}
+
+/// The live message that a number names.
+pub(crate) fn message_at(state: &PlainState, number: u32) -> Option<&Message>
+    ensures named { option_map (λ (m : Bor _). owned m.now) result ≡ message_at (seen state.now) number }
+    ensures placed { IfSome result (λ m. HasAt state.now number m.now) }
+{
+    if number < state.base {
+        return None;
+    }
+    match state.slots.get((number - state.base) as usize) {
+        Some(Slot::Live(message)) => Some(message),
+        _ => None,
+    }
+}
+
+/// The live message that a number names, where the user sees it.
+pub(crate) fn visible_at<'a>(
+    rules: &AreaRules,
+    user: &User,
+    state: &'a PlainState,
+    number: u32,
+) -> Option<&'a Message>
+    ensures named { option_map (λ (m : Bor _). owned m.now) result ≡ visible_at rules.now user.now (seen state.now) number }
+    ensures placed { IfSome result (λ m. HasAt state.now number m.now) }
+{
+    let message = message_at(state, number)?;
+    if shown(rules, user, message) {
+        Some(message)
+    } else {
+        None
+    }
+}
+
+/// The message as it is shown, with these fields in its header.
+pub(crate) fn letter(
+    alloc: Global,
+    number: u32,
+    head: Head,
+    message: &Message,
+) -> Result<Letter, OutOfMemory>
+    ensures { IfOk result (λ letter. letter ≡ letter_of number (with_head head (owned message.now))) }
+{
+    let fields = &message.subfields;
+    Ok(Letter {
+        number,
+        from: Name::copy(alloc, field(fields, SENDER_NAME))?,
+        to: Name::copy(alloc, field(fields, RECEIVER_NAME))?,
+        subject: Bytes::copy(alloc, field(fields, SUBJECT))?,
+        msgid: Bytes::copy(alloc, field(fields, MSGID))?,
+        reply: Bytes::copy(alloc, field(fields, REPLYID))?,
+        written: head.written,
+        attribute: head.attribute,
+        reply_to: head.reply_to,
+        reply_first: head.reply_first,
+        reply_next: head.reply_next,
+        text: Bytes::copy(alloc, message.text.as_slice())?,
+    })
+}

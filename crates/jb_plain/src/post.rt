@@ -1,0 +1,339 @@
+//! A message is posted.
+ghost use Rattle.std.specs.Prelude.{◌≡◌, ◌+◌, ◌<◌, ◌≤◌, ◌++◌, ◌∷◌, [], IfOk, OnOk, Some, length, option_map};
+ghost use Rattle.std.specs.Borrow.{Bor};
+ghost use Rattle.std.specs.Char.{digit_char};
+ghost use Rattle.jb_model.specs.Message.{header_length};
+ghost use Rattle.jb_model.specs.Post.{answer_refusal, draft_refusal, hex_digits, id_crc, plain_field, post_step, posted_attribute, posted_message, posted_msgid, posted_replyid, posted_state, room_refusal, with_first_reply, with_next_reply};
+ghost use Rattle.jb_model.specs.State.{next_number};
+ghost use Rattle.jb_model.specs.Tight.{owned};
+ghost use Rattle.jb_plain.specs.Changes.{draft_of, fields_with, renamed_area, spliced_area};
+ghost use Rattle.jb_plain.specs.Seen.{seen};
+
+use crate::crc::crc;
+use crate::held::PlainState;
+use crate::links::{last_reply, parent_with};
+use crate::message::{message_at, visible_at};
+use crate::rule::denied;
+use crate::slots::headed_length;
+use jb_access::Action;
+use jb_base::{
+    AreaRules, Bytes, HEADERS_CEILING, Kind, LAST_POSTED_NUMBER, LOCAL, MOST_COPIED_MSGID_BYTES,
+    MOST_NAME_BYTES, MOST_POSTED_TEXT_BYTES, MOST_SUBJECT_BYTES, MSGID, OutOfMemory, PRIVATE,
+    RECEIVER_NAME, REPLYID, SENDER_NAME, SUBJECT, Subfield, Subfields, TEXTS_CEILING, TYPEECHO,
+    TYPELOCAL, User,
+};
+use jb_model::{Field, Head, Message, Reply, Slot};
+use std::alloc::Global;
+
+/// What a user wrote.
+#[derive(Clone, Copy, Debug)]
+pub(crate) struct Draft<'a> {
+    pub(crate) to: &'a [u8],
+    pub(crate) subject: &'a [u8],
+    pub(crate) text: &'a [u8],
+    pub(crate) reply_to: u32,
+    pub(crate) private: bool,
+}
+
+/// The refusal of a part that is too long.
+fn too_long(field: Field, bytes: &[u8]) -> Option<Reply>
+    ensures { result ≡ Some (Reply.TooLong field (length bytes.now)) }
+{
+    Some(Reply::TooLong {
+        field,
+        length: bytes.len() as u64,
+    })
+}
+
+/// Why a draft is refused: a part of it is empty or too long.
+fn unfit(draft: Draft<'_>) -> Option<Reply>
+    ensures { result ≡ draft_refusal (draft_of draft.entry) }
+{
+    if draft.to.is_empty() {
+        Some(Reply::EmptyName { field: Field::To })
+    } else if draft.to.len() > MOST_NAME_BYTES {
+        too_long(Field::To, draft.to)
+    } else if draft.subject.len() > MOST_SUBJECT_BYTES {
+        too_long(Field::Subject, draft.subject)
+    } else if draft.text.len() > MOST_POSTED_TEXT_BYTES {
+        too_long(Field::Text, draft.text)
+    } else {
+        None
+    }
+}
+
+/// Why a draft is refused: it answers a message that the user does not see.
+fn unanswered(rules: &AreaRules, state: &PlainState, user: &User, draft: Draft<'_>) -> Option<Reply>
+    ensures { result ≡ answer_refusal rules.now (seen state.now) user.now (draft_of draft.entry) }
+{
+    if draft.reply_to == 0 {
+        return None;
+    }
+    if visible_at(rules, user, state, draft.reply_to).is_none() {
+        return Some(Reply::NoMessage {
+            number: draft.reply_to,
+        });
+    }
+    None
+}
+
+/// Why there is no room for the message.
+fn no_room(rules: &AreaRules, state: &PlainState, message: &Message) -> Option<Reply>
+    ensures { result ≡ room_refusal rules.now (seen state.now) (owned message.now) }
+{
+    let headers = state
+        .headers_len
+        .saturating_add(headed_length(&message.subfields));
+    let texts = state.texts_len.saturating_add(message.text.len() as u64);
+    let next = state.next();
+    if next > LAST_POSTED_NUMBER {
+        Some(Reply::NumbersSpent { next })
+    } else if state.slots.len() >= rules.slots as usize {
+        Some(Reply::SlotsFull { slots: rules.slots })
+    } else if headers > HEADERS_CEILING {
+        Some(Reply::HeadersFull { length: headers })
+    } else if texts > TEXTS_CEILING {
+        Some(Reply::TextFull { length: texts })
+    } else {
+        None
+    }
+}
+
+/// A digit of base 16, in lower case.
+fn digit(value: u32) -> u8
+    requires { value < 16 }
+    ensures { result ≡ digit_char value }
+{
+    if value < 10 {
+        b'0' + value as u8
+    } else {
+        b'a' + (value - 10) as u8
+    }
+}
+
+/// The eight digits of a serial number.
+fn serial_digits(serial: u32) -> [u8; 8]
+    ensures { result ≡ hex_digits 8 serial }
+{
+    [
+        digit(serial / 0x1000_0000),
+        digit(serial / 0x100_0000 % 16),
+        digit(serial / 0x10_0000 % 16),
+        digit(serial / 0x1_0000 % 16),
+        digit(serial / 0x1000 % 16),
+        digit(serial / 0x100 % 16),
+        digit(serial / 0x10 % 16),
+        digit(serial % 16),
+    ]
+}
+
+/// The MSGID of the message that is posted under this number.
+fn msgid_of(alloc: Global, rules: &AreaRules, number: u32) -> Result<Bytes, OutOfMemory>
+    requires { number ≤ LAST_POSTED_NUMBER }
+    ensures { IfOk result (λ id. id ≡ posted_msgid rules.now number) }
+{
+    let serial = u32::from(rules.ordinal) * 0x100_0000 + number;
+    let mut id = Bytes::copy(alloc, rules.address.as_slice())?;
+    id.append(b" ")?;
+    id.append(&serial_digits(serial))?;
+    Ok(id)
+}
+
+/// The REPLYID of an answer to a number: the MSGID that the message has there, where it is copied.
+fn replyid_of(state: &PlainState, reply_to: u32) -> Option<&[u8]>
+    ensures { option_map (λ (b : Bor _). b.now) result ≡ posted_replyid (seen state.now) reply_to }
+{
+    let answered = message_at(state, reply_to)?;
+    let id = answered.subfields.first(MSGID)?;
+    if id.len() <= MOST_COPIED_MSGID_BYTES {
+        Some(id)
+    } else {
+        None
+    }
+}
+
+/// Puts a subfield with HiID 0 behind the others.
+fn put_field(
+    alloc: Global,
+    subfields: &mut Subfields,
+    id: u16,
+    bytes: &[u8],
+) -> Result<(), OutOfMemory>
+    ensures { OnOk result (subfields.new ≡ subfields.old ++ plain_field id bytes.now ∷ []) }
+{
+    let bytes = Bytes::copy(alloc, bytes)?;
+    subfields.push(Subfield { id, hi: 0, bytes })
+}
+
+/// The subfields of the message that is posted.
+fn subfields_of(
+    alloc: Global,
+    user: &User,
+    draft: Draft<'_>,
+    msgid: &[u8],
+    replyid: Option<&[u8]>,
+) -> Result<Subfields, OutOfMemory>
+    ensures { IfOk result (λ fields. fields ≡ fields_with user.now (draft_of draft.entry) msgid.now (option_map (λ (b : Bor _). b.now) replyid.entry)) }
+{
+    let mut subfields = Subfields::new(alloc);
+    put_field(alloc, &mut subfields, SENDER_NAME, user.name.as_slice())?;
+    put_field(alloc, &mut subfields, RECEIVER_NAME, draft.to)?;
+    put_field(alloc, &mut subfields, MSGID, msgid)?;
+    if let Some(replyid) = replyid {
+        put_field(alloc, &mut subfields, REPLYID, replyid)?;
+    }
+    put_field(alloc, &mut subfields, SUBJECT, draft.subject)?;
+    Ok(subfields)
+}
+
+/// The attributes of the message that is posted.
+fn attribute_of(rules: &AreaRules, private: bool) -> u32
+    ensures { result ≡ posted_attribute rules.now private }
+{
+    let kind = match rules.kind {
+        Kind::Local => TYPELOCAL,
+        Kind::Echo => TYPEECHO,
+    };
+    LOCAL + kind + if private { PRIVATE } else { 0 }
+}
+
+/// The CRC of an id, all bits set where there is none.
+fn crc_of_id(id: Option<&[u8]>) -> u32
+    ensures { result ≡ id_crc (option_map (λ (b : Bor _). b.now) id.entry) }
+{
+    match id {
+        Some(id) => crc(id),
+        None => u32::MAX,
+    }
+}
+
+/// The message that is posted.
+fn message_of(
+    alloc: Global,
+    rules: &AreaRules,
+    state: &PlainState,
+    user: &User,
+    moment: u32,
+    draft: Draft<'_>,
+) -> Result<Message, OutOfMemory>
+    requires { next_number (seen state.now) ≤ LAST_POSTED_NUMBER }
+    ensures { IfOk result (λ message. owned message ≡ posted_message rules.now (seen state.now) user.now moment (draft_of draft.entry)) }
+{
+    let number = state.next();
+    let msgid = msgid_of(alloc, rules, number)?;
+    let replyid = replyid_of(state, draft.reply_to);
+    let head = Head {
+        reserved: 0,
+        times_read: 0,
+        msgid_crc: crc(msgid.as_slice()),
+        reply_crc: crc_of_id(replyid),
+        reply_to: parent_with(&state.slots, state.base, number, replyid, draft.reply_to),
+        reply_first: 0,
+        reply_next: 0,
+        written: moment,
+        received: 0,
+        processed: 0,
+        attribute: attribute_of(rules, draft.private),
+        attribute2: 0,
+        password: u32::MAX,
+        cost: 0,
+    };
+    let subfields = subfields_of(alloc, user, draft, msgid.as_slice(), replyid)?;
+    let text = Bytes::copy(alloc, draft.text)?;
+    Ok(Message {
+        head,
+        subfields,
+        text,
+    })
+}
+
+/// Makes a number the first reply of a message.
+fn name_first(state: &mut PlainState, named: u32, number: u32)
+    ensures { seen state.new ≡ renamed_area (seen state.old) named (with_first_reply number) }
+{
+    if let Some(message) = message_at(state, named) {
+        let head = Head {
+            reply_first: number,
+            ..message.head
+        };
+        state.put_head(named, head);
+    }
+}
+
+/// Makes a number the next reply behind a message.
+fn name_next(state: &mut PlainState, named: u32, number: u32)
+    ensures { seen state.new ≡ renamed_area (seen state.old) named (with_next_reply number) }
+{
+    if let Some(message) = message_at(state, named) {
+        let head = Head {
+            reply_next: number,
+            ..message.head
+        };
+        state.put_head(named, head);
+    }
+}
+
+/// Lets the neighbour of a new reply to this parent name it: the parent where it has no live reply, else its last reply.
+fn splice(state: &mut PlainState, parent: u32, number: u32)
+    ensures { seen state.new ≡ spliced_area (seen state.old) parent number }
+{
+    if parent == 0 {
+        return;
+    }
+    let last = last_reply(&state.slots, state.base, parent);
+    if last == 0 {
+        name_first(state, parent, number);
+    } else {
+        name_next(state, last, number);
+    }
+}
+
+/// Puts the message behind the others.
+fn append(state: &mut PlainState, message: Message) -> Result<(), OutOfMemory>
+    requires numbers { next_number (seen state.old) ≤ LAST_POSTED_NUMBER }
+    requires headers { (seen state.old).headers_len + header_length (owned message) ≤ HEADERS_CEILING }
+    requires texts { (seen state.old).texts_len + length message.text ≤ TEXTS_CEILING }
+    ensures { OnOk result (seen state.new ≡ posted_state (seen state.old) (owned message)) }
+{
+    let number = state.next();
+    let headers = headed_length(&message.subfields);
+    let texts = message.text.len() as u64;
+    splice(state, message.head.reply_to, number);
+    state.slots.push(Slot::Live(message))?;
+    state.headers_len += headers;
+    state.texts_len += texts;
+    state.count();
+    Ok(())
+}
+
+/// A message is posted.
+pub(crate) fn post(
+    alloc: Global,
+    rules: &AreaRules,
+    state: &mut PlainState,
+    user: &User,
+    moment: u32,
+    draft: Draft<'_>,
+) -> Result<Reply, OutOfMemory>
+    ensures { IfOk result (λ reply. record { reply = reply; state = seen state.new } ≡ post_step rules.now (seen state.old) user.now moment (draft_of draft.entry)) }
+{
+    if let Some(rule) = denied(user, rules, Action::Post) {
+        return Ok(Reply::Denied { rule });
+    }
+    if let Some(refusal) = unfit(draft) {
+        return Ok(refusal);
+    }
+    if let Some(refusal) = unanswered(rules, state, user, draft) {
+        return Ok(refusal);
+    }
+    let number = state.next();
+    if number > LAST_POSTED_NUMBER {
+        return Ok(Reply::NumbersSpent { next: number });
+    }
+    let message = message_of(alloc, rules, state, user, moment, draft)?;
+    if let Some(refusal) = no_room(rules, state, &message) {
+        return Ok(refusal);
+    }
+    append(state, message)?;
+    Ok(Reply::Posted { number })
+}
