@@ -1,0 +1,12 @@
+pub mod ApplyLemmas
+pub mod CopyLemmas
+pub mod FieldLemmas
+pub mod OneReading
+pub mod PieceLemmas
+pub mod RecordLemmas
+pub mod SizeLemmas
+pub mod SpanLemmas
+pub mod Spelling
+mod StandardFacts
+pub mod WalkLemmas
+pub mod WayLemmas

@@ -1,0 +1,22 @@
+-- What the reading and the applying of a record answer, and why.
+use Rattle.std.specs.Prelude.{ℕ, Result, Ok, Err}
+use Rattle.jb_base.specs.Fault.{Rose}
+use Rattle.jb_disk.specs.Files.{Files}
+use Rattle.jb_redo.specs.declared.error.RecordError.{RecordError}
+use Rattle.jb_redo.specs.declared.error.RecordError.TheVariants.{Bad, StoreFault}
+use Rattle.jb_redo.specs.Reading.{HasRecord, IsBadAt}
+
+-- a refusal says of the files that they hold no record, and where
+abbrev pub RefusesFor : Files → RecordError → Type 0
+RefusesFor files (Bad at) = IsBadAt files at
+RefusesFor files StoreFault = Unit {0}
+
+-- the answer to whether there is a record; a fault says nothing of the files
+abbrev pub AnswersFor : {T : Type 0} → Files → Result T RecordError → Type 0
+AnswersFor files (Ok value) = HasRecord files
+AnswersFor files (Err error) = RefusesFor files error
+
+-- a fault has its cause: the disk's count rose
+abbrev pub FaultRose : ℕ → ℕ → RecordError → Type 0
+FaultRose before now (Bad at) = Unit {0}
+FaultRose before now StoreFault = Rose before now

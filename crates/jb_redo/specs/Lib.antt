@@ -1,0 +1,9 @@
+pub mod Answers
+pub mod Applying
+pub mod Laws
+pub mod OnTheWay
+pub mod Reading
+pub mod Record
+pub mod Replay
+pub mod Rules
+pub mod Walk

@@ -1,0 +1,108 @@
+-- What is known of a record while it is walked through.
+use Rattle.std.specs.Prelude.{◌≡◌, ◌⊎◌, ℕ, ◌+◌, ◌^◌, ◌<◌, ◌≤◌, List, ◌∷◌, ◌++◌, length, take, drop, slice_index, All}
+use Rattle.jb_base.specs.Number.{number_bytes}
+use Rattle.jb_disk.specs.declared.file.FileId.{FileId}
+use Rattle.jb_disk.specs.declared.file.FileId.TheVariants.{Jdt, Jnl, Ndt}
+use Rattle.jb_disk.specs.declared.piece.Length.{Length}
+use Rattle.jb_disk.specs.declared.piece.Piece.{Piece}
+use Rattle.jb_disk.specs.Files.{Files, number_of, ceiling_of}
+use Rattle.jb_redo.specs.declared.part.Front.{Front}
+use Rattle.jb_redo.specs.declared.part.Front.TheVariants.{Bytes, Copy}
+use Rattle.jb_redo.specs.declared.part.Part.{Part}
+use Rattle.jb_redo.specs.declared.sizes.Sizes.{Sizes}
+use Rattle.jb_redo.specs.Reading.{BeginsWith, Beginning, Lengths, Pieces, beginning_bytes, IsLegalBeginning, record_part}
+use Rattle.jb_redo.specs.Rules.{sizes_of, new_sizes, IsLegalPiece}
+use Rattle.jb_redo.specs.Record.{piece_bytes}
+use Rattle.jb_redo.specs.Replay.{target_of, span_of}
+
+-- the length that is kept of a file
+abbrev pub size_in : Sizes → FileId → ℕ
+size_in sizes file = slice_index sizes.by_file (number_of file)
+
+-- these are the lengths of the files
+abbrev pub AreSizes : Sizes → Files → Type 0
+AreSizes sizes files = (file : FileId) → size_in sizes file ≡ length (files file)
+
+-- the bytes of the journal from a place on
+abbrev pub journal_from : Files → ℕ → List ℕ
+journal_from files at = drop at (files Jnl)
+
+-- the journal holds this beginning of a record, up to this place
+pub record IsReadTo (files : Files) (beginning : Beginning) (at : ℕ) : Type 0 where
+  pub legal : IsLegalBeginning (sizes_of files) beginning
+  pub spelled : record_part files ≡ beginning_bytes beginning ++ journal_from files at
+  pub place : at ≡ 16 + length (beginning_bytes beginning)
+
+-- so many lengths are read, up to this place; files of later ones have at least this number; the files end there then
+pub record HasLengthsTo (files : Files) (count read least at : ℕ) (ends : Sizes) : Type 0 where
+  pub lengths : List Length
+  pub size : length lengths ≡ read
+  pub read_to : IsReadTo files (Lengths count lengths) at
+  pub below : All (λ entry. number_of entry.file < least) lengths
+  pub no_less : (number : ℕ) → All (λ entry. number_of entry.file < number) lengths → least ≤ number
+  pub ends_are : size_in ends ≡ new_sizes lengths (sizes_of files)
+
+-- the record's lengths are read up to this place, and the files end there then
+pub record HasLengths (files : Files) (at : ℕ) (ends : Sizes) : Type 0 where
+  pub lengths : List Length
+  pub read_to : IsReadTo files (Lengths (length lengths) lengths) at
+  pub ends_are : size_in ends ≡ new_sizes lengths (sizes_of files)
+
+-- a length that was kept before, or one that a file may be given
+abbrev pub AreWithin : Sizes → Sizes → Type 0
+AreWithin sizes ends = (file : FileId)
+    → (size_in ends file ≡ size_in sizes file) ⊎ (number_of file < 4) × (size_in ends file ≤ ceiling_of file)
+
+-- the twelve bytes before what a piece brings with it: kind, files, a zero byte, place and length
+abbrev pub front_bytes : Front → List ℕ
+front_bytes (Bytes to at len) = 0 ∷ number_of to ∷ 0 ∷ 0 ∷ number_bytes 4 at ++ number_bytes 4 len
+front_bytes (Copy at len) = 1 ∷ number_of Jdt ∷ number_of Ndt ∷ 0 ∷ number_bytes 4 at ++ number_bytes 4 len
+
+-- its numbers fit their bytes, and it goes into a file of the base
+abbrev pub IsLegalFront : Front → Type 0
+IsLegalFront (Bytes to at len) = (at < 2 ^ 32) × (len < 2 ^ 32) × (number_of to < 4)
+IsLegalFront (Copy at len) = (at < 2 ^ 32) × (len < 2 ^ 32)
+
+-- a piece at this place of the journal, whose bytes stand behind its front
+abbrev pub given_part_of : ℕ → FileId → ℕ → ℕ → Part
+given_part_of at to to_at len =
+    record { from = Jnl; from_at = at + 12; to = to; to_at = to_at; len = len; behind = at + 12 + len }
+
+-- a copy at this place, behind whose front the place copied from stands
+abbrev pub copied_part_of : ℕ → ℕ → ℕ → ℕ → Part
+copied_part_of at from_at to_at len =
+    record { from = Ndt; from_at = from_at; to = Jdt; to_at = to_at; len = len; behind = at + 16 }
+
+-- the lengths that are kept of the files that no record changes
+pub record AreFixedSizes (sizes : Sizes) (files : Files) : Type 0 where
+  pub journal : size_in sizes Jnl ≡ length (files Jnl)
+  pub shadow : size_in sizes Ndt ≡ length (files Ndt)
+
+-- a legal piece stands at this place of the journal, and this part tells where its bytes are and where they go
+pub record IsPartAt (files : Files) (ends : Sizes) (at : ℕ) (part : Part) : Type 0 where
+  pub piece : Piece
+  pub legal : IsLegalPiece (sizes_of files) (size_in ends) piece
+  pub begins : BeginsWith (journal_from files at) (piece_bytes piece)
+  pub behind : part.behind ≡ at + length (piece_bytes piece)
+  pub target : part.to ≡ target_of piece
+  pub span : span_of files piece ≡ record { at = part.to_at; bytes = take part.len (drop part.from_at (files part.from)) }
+  pub inside : part.from_at + part.len ≤ length (files part.from)
+
+-- no legal piece stands there
+abbrev pub HasNoPieceAt : Files → Sizes → ℕ → Type 0
+HasNoPieceAt files ends at = (piece : Piece) → IsLegalPiece (sizes_of files) (size_in ends) piece
+    → BeginsWith (journal_from files at) (piece_bytes piece) → ⊥
+
+-- some of so many pieces are read up to this place, behind lengths after which the files end there
+pub record HasPiecesTo (files : Files) (count read at : ℕ) (ends : Sizes) : Type 0 where
+  pub lengths : List Length
+  pub pieces : List Piece
+  pub size : length pieces ≡ read
+  pub read_to : IsReadTo files (Pieces lengths count pieces) at
+  pub ends_are : size_in ends ≡ new_sizes lengths (sizes_of files)
+
+-- all pieces are read up to this place
+pub record HasPieces (files : Files) (at : ℕ) : Type 0 where
+  pub count : ℕ
+  pub ends : Sizes
+  pub all : HasPiecesTo files count count at ends

@@ -1,0 +1,233 @@
+//! The applying of the journal's record.
+ghost use Rattle.std.specs.Prelude.{◌≡◌, ◌+◌, ◌^◌, ◌<◌, ◌≤◌, Some, length, OnOk, OnErr, IfErr, IfOk, List, take, drop};
+ghost use Rattle.std.specs.Option.{ForSome, option_map};
+ghost use Rattle.jb_base.specs.Fault.{Rose};
+ghost use Rattle.jb_disk.specs.declared.file.FileId.{FileId};
+ghost use Rattle.jb_disk.specs.declared.piece.Length.{Length};
+ghost use Rattle.jb_disk.specs.declared.piece.Piece.{Piece};
+ghost use Rattle.jb_disk.specs.Device.{Turns};
+ghost use Rattle.jb_disk.specs.Files.{Files, number_of, written, InFile, IsResized};
+ghost use Rattle.jb_disk.specs.Runs.{Keeps};
+ghost use Rattle.jb_redo.specs.Applying.{IsSound, HasRoom, copied, copied_chunk, AreResized, pieced, KeepsInRange, KeepsWay, ArePieced, HasPieced, IsFault};
+ghost use Rattle.jb_redo.specs.Answers.{FaultRose};
+ghost use Rattle.jb_redo.specs.Laws.{HasOneReplayAtMost, ReplayOnTheWay};
+ghost use Rattle.jb_redo.specs.Reading.{HasRecord};
+ghost use Rattle.jb_redo.specs.Replay.{IsAppliedTo};
+ghost use Rattle.jb_redo.specs.OnTheWay.{IsOnTheWay};
+ghost use Rattle.jb_redo.specs.Rules.{sizes_of, new_sizes};
+ghost use Rattle.jb_redo.specs.Walk.{size_in, AreSizes, AreWithin, HasLengths};
+
+use crate::RecordError;
+use crate::field::{has_mark, read_number};
+use crate::lengths::{NewLengths, read_lengths};
+use crate::part::Part;
+use crate::piece::read_part;
+use crate::sizes::Sizes;
+use crate::testing::END;
+use jb_disk::{Disk, DiskFailed, FileId};
+
+/// Bytes that go from file to file at once.
+const CHUNK_BYTES: usize = 4_096;
+
+/// Copies so many bytes of a part as the chunk has, behind those that are copied.
+fn copy_chunk<D: Disk>(
+    disk: &mut D,
+    part: &Part,
+    done: u64,
+    chunk: &mut [u8],
+) -> Result<(), DiskFailed>
+    requires sound { IsSound part.now }
+    requires behind { done + length chunk.old ≤ part.now.len }
+    requires room { ForSome (D.device disk.old).contents (HasRoom part.now) }
+
+    // What a read gives then.
+    ensures size { length chunk.new ≡ length chunk.old }
+    ensures ok { OnOk result ((D.device disk.new).contents
+        ≡ option_map (copied_chunk part.now done (length chunk.old)) (D.device disk.old).contents) }
+
+    // What a crash leaves, and why it is refused.
+    ensures images { KeepsInRange part.now.to (part.now.to_at + done) (length chunk.old) (D.device disk.old) (D.device disk.new) }
+    ensures later { (D.device disk.old).faults ≤ (D.device disk.new).faults }
+    ensures cause { OnErr result (Rose (D.device disk.old).faults (D.device disk.new).faults) }
+{
+    disk.read_at(part.from, part.from_at + done, chunk)?;
+    disk.write_at(part.to, part.to_at + done, chunk)
+}
+
+/// Copies all bytes of a part.
+fn copy_part<D: Disk>(disk: &mut D, part: &Part) -> Result<(), DiskFailed>
+    requires sound { IsSound part.now }
+    requires room { ForSome (D.device disk.old).contents (HasRoom part.now) }
+
+    // What a read gives then.
+    ensures ok { OnOk result ((D.device disk.new).contents
+        ≡ option_map (copied part.now part.now.len) (D.device disk.old).contents) }
+
+    // What a crash leaves, and why it is refused.
+    ensures images { KeepsInRange part.now.to part.now.to_at part.now.len (D.device disk.old) (D.device disk.new) }
+    ensures later { (D.device disk.old).faults ≤ (D.device disk.new).faults }
+    ensures cause { OnErr result (Rose (D.device disk.old).faults (D.device disk.new).faults) }
+{
+    let mut buffer = [0; CHUNK_BYTES];
+    let mut done = 0;
+    while done < part.len {
+        let count = (part.len - done).min(CHUNK_BYTES as u64);
+        copy_chunk(disk, part, done, &mut buffer[..count as usize])?;
+        done += count;
+    }
+    Ok(())
+}
+
+/// Sets the length of one file, where it is a new one.
+fn set_one<D: Disk>(
+    disk: &mut D,
+    file: FileId,
+    sizes: &Sizes,
+    ends: &Sizes,
+) -> Result<(), DiskFailed>
+    requires within { AreWithin sizes.now ends.now }
+    requires size { ForSome (D.device disk.old).contents (λ files.
+        size_in sizes.now file ≡ length (files file)) }
+
+    // What a read gives then.
+    ensures ok { OnOk result (Turns (InFile file (IsResized (size_in ends.now file)))
+        (D.device disk.old).contents (D.device disk.new).contents) }
+
+    // What a crash leaves, and why it is refused.
+    ensures images { (lengths : List Length) (pieces : List Piece) (start : Files)
+        → new_sizes lengths (sizes_of start) file ≡ size_in ends.now file
+        → Keeps (IsOnTheWay lengths pieces start) (D.device disk.old) (D.device disk.new) }
+    ensures later { (D.device disk.old).faults ≤ (D.device disk.new).faults }
+    ensures cause { OnErr result (Rose (D.device disk.old).faults (D.device disk.new).faults) }
+{
+    let len = ends.get(file);
+    if len == sizes.get(file) {
+        return Ok(());
+    }
+    disk.set_len(file, len)
+}
+
+/// Sets the lengths of the files of the base, where they are new.
+fn set_lengths<D: Disk>(disk: &mut D, sizes: &Sizes, ends: &Sizes) -> Result<(), DiskFailed>
+    requires within { AreWithin sizes.now ends.now }
+    requires sizes { ForSome (D.device disk.old).contents (AreSizes sizes.now) }
+
+    // What a read gives then.
+    ensures ok { OnOk result (Turns (AreResized ends.now) (D.device disk.old).contents (D.device disk.new).contents) }
+
+    // What a crash leaves, and why it is refused.
+    ensures images { (lengths : List Length) (pieces : List Piece) (start : Files)
+        → ((file : FileId) → new_sizes lengths (sizes_of start) file ≡ size_in ends.now file)
+        → Keeps (IsOnTheWay lengths pieces start) (D.device disk.old) (D.device disk.new) }
+    ensures later { (D.device disk.old).faults ≤ (D.device disk.new).faults }
+    ensures cause { OnErr result (Rose (D.device disk.old).faults (D.device disk.new).faults) }
+{
+    set_one(disk, FileId::Jhr, sizes, ends)?;
+    set_one(disk, FileId::Jdt, sizes, ends)?;
+    set_one(disk, FileId::Jdx, sizes, ends)?;
+    set_one(disk, FileId::Jlr, sizes, ends)?;
+    Ok(())
+}
+
+/// Writes the record's pieces over the files, which have their new lengths, and gives the place behind them.
+fn apply_pieces<D: Disk>(disk: &mut D, lengths: &NewLengths) -> Result<u64, RecordError>
+    requires lengths { ForSome (D.device disk.old).contents (λ files.
+        HasLengths files lengths.now.at lengths.now.ends) }
+    requires sized { ForSome (D.device disk.old).contents (AreSizes lengths.now.ends) }
+    requires record { ForSome (D.device disk.old).contents HasRecord }
+
+    // What a read gives then.
+    ensures ok { IfOk result (λ at. Turns (λ files now. HasPieced files at lengths.now.ends now)
+        (D.device disk.old).contents (D.device disk.new).contents) }
+
+    // What a crash leaves, and why it is refused.
+    ensures images { KeepsWay (D.device disk.old) (D.device disk.new) }
+    ensures fault { IfErr result (λ error. ForSome (D.device disk.old).contents (λ _. IsFault error)) }
+    ensures later { (D.device disk.old).faults ≤ (D.device disk.new).faults }
+    ensures cause { IfErr result (FaultRose (D.device disk.old).faults (D.device disk.new).faults) }
+{
+    let end = lengths.ends.get(FileId::Jnl);
+    let mut at = lengths.at;
+    let Some(count) = read_number(disk, end, at)? else {
+        return Err(RecordError::Bad { at });
+    };
+    at += 4;
+    for _ in 0..count {
+        let Some(part) = read_part(disk, &lengths.ends, &lengths.ends, at)? else {
+            return Err(RecordError::Bad { at });
+        };
+        copy_part(disk, &part)?;
+        at = part.behind;
+    }
+    Ok(at)
+}
+
+/// Writes the record's pieces over the files, which have their new lengths, up to the record's end.
+fn write_pieces<D: Disk>(disk: &mut D, lengths: &NewLengths) -> Result<(), RecordError>
+    requires lengths { ForSome (D.device disk.old).contents (λ files.
+        HasLengths files lengths.now.at lengths.now.ends) }
+    requires sized { ForSome (D.device disk.old).contents (AreSizes lengths.now.ends) }
+    requires record { ForSome (D.device disk.old).contents HasRecord }
+
+    // What a read gives then.
+    ensures ok { OnOk result (Turns ArePieced (D.device disk.old).contents (D.device disk.new).contents) }
+
+    // What a crash leaves, and why it is refused.
+    ensures images { KeepsWay (D.device disk.old) (D.device disk.new) }
+    ensures fault { IfErr result (λ error. ForSome (D.device disk.old).contents (λ _. IsFault error)) }
+    ensures later { (D.device disk.old).faults ≤ (D.device disk.new).faults }
+    ensures cause { IfErr result (FaultRose (D.device disk.old).faults (D.device disk.new).faults) }
+{
+    let at = apply_pieces(disk, lengths)?;
+    if !has_mark(disk, lengths.ends.get(FileId::Jnl), at, &END)? {
+        return Err(RecordError::Bad { at });
+    }
+    Ok(())
+}
+
+/// The journal's record, done.
+fn apply<D: Disk>(disk: &mut D) -> Result<(), RecordError>
+    requires { ForSome (D.device disk.old).contents HasRecord }
+
+    // What a read gives then.
+    ensures ok { OnOk result (ForSome (D.device disk.old).contents (λ files.
+        IsAppliedTo files (D.device disk.new).contents)) }
+
+    // What a crash leaves, and why it is refused.
+    ensures images { KeepsWay (D.device disk.old) (D.device disk.new) }
+    ensures fault { IfErr result (λ error. ForSome (D.device disk.old).contents (λ _. IsFault error)) }
+    ensures later { (D.device disk.old).faults ≤ (D.device disk.new).faults }
+    ensures cause { IfErr result (FaultRose (D.device disk.old).faults (D.device disk.new).faults) }
+{
+    let sizes = Sizes::of(disk)?;
+    let lengths = read_lengths(disk, &sizes)?;
+    set_lengths(disk, &sizes, &lengths.ends)?;
+    write_pieces(disk, &lengths)
+}
+
+/// Does what the journal's record says: sets the new lengths, then writes the pieces in order, through a buffer of
+/// 4,096 bytes. It takes no memory, syncs nothing and leaves the gate as it is.
+///
+/// Where the disk tells its files they are to hold a record, as [`test_record`](crate::test_record) answers.
+/// `StoreFault` may come at any point. After it, and after a crash at any moment, the journal still holds the record,
+/// and applying it again comes to the same files, where each byte past an old end is written by some piece. `Bad` comes
+/// only from a disk that tells nothing, when it reads otherwise than before. Six questions for a length; a read for each
+/// field and two for a copy; a change of each new length; a read and a write for each 4,096 bytes of a piece.
+pub fn apply_record<D: Disk>(disk: &mut D) -> Result<(), RecordError>
+    requires { ForSome (D.device disk.old).contents HasRecord }
+
+    // What a read gives then.
+    ensures ok { OnOk result (ForSome (D.device disk.old).contents (λ files.
+        IsAppliedTo files (D.device disk.new).contents)) }
+
+    // What a crash leaves at each moment: files on their way, which replay as those at the start.
+    ensures images { KeepsWay (D.device disk.old) (D.device disk.new) }
+    ensures same { ReplayOnTheWay × HasOneReplayAtMost }
+
+    // Why it is refused.
+    ensures fault { IfErr result (λ error. ForSome (D.device disk.old).contents (λ _. IsFault error)) }
+    ensures later { (D.device disk.old).faults ≤ (D.device disk.new).faults }
+    ensures cause { IfErr result (FaultRose (D.device disk.old).faults (D.device disk.new).faults) }
+{
+    apply(disk)
+}

@@ -1,0 +1,99 @@
+//! The reading of one field of the journal.
+ghost use Rattle.std.specs.Prelude.{◌≡◌, ◌+◌, ◌^◌, ◌<◌, ◌≤◌, ℕ, IfOk, IfSome, IfNone, IsTrue, OnErr, length, take, drop, true, false};
+ghost use Rattle.std.specs.Option.{ForSome};
+ghost use Rattle.jb_base.specs.Fault.{Rose};
+ghost use Rattle.jb_base.specs.Number.{number_bytes};
+ghost use Rattle.jb_disk.specs.Device.{OnlyReads};
+ghost use Rattle.jb_disk.specs.declared.file.FileId.TheVariants.{Jnl as journal};
+ghost use Rattle.jb_redo.specs.Reading.{BeginsWith};
+ghost use Rattle.jb_redo.specs.Walk.{journal_from};
+
+use crate::decode::{decode_number, is_same};
+use jb_disk::{Disk, DiskFailed, FileId};
+
+/// Fills the slice with the bytes of the journal from a place on, if the journal, which ends at `end`, has so many.
+pub(crate) fn read_bytes<D: Disk>(
+    disk: &mut D,
+    end: u64,
+    at: u64,
+    into: &mut [u8],
+) -> Result<bool, DiskFailed>
+    requires some { 0 < length into.old }
+    requires end { ForSome (D.device disk.old).contents (λ files. end ≡ length (files journal)) }
+
+    // The bytes, where they are there.
+    ensures size { length into.new ≡ length into.old }
+    ensures within { IfOk result (λ yes. yes ≡ true → at + length into.old ≤ end) }
+    ensures found { IfOk result (λ yes. yes ≡ true → ForSome (D.device disk.old).contents (λ files.
+        BeginsWith (journal_from files at) into.new)) }
+    ensures none { IfOk result (λ yes. yes ≡ false → ForSome (D.device disk.old).contents (λ files.
+        length (journal_from files at) < length into.old)) }
+
+    // The disk is only read.
+    ensures kept { OnlyReads (D.device disk.old) (D.device disk.new) }
+    ensures later { (D.device disk.old).faults ≤ (D.device disk.new).faults }
+    ensures cause { OnErr result (Rose (D.device disk.old).faults (D.device disk.new).faults) }
+{
+    if at > end || end - at < into.len() as u64 {
+        return Ok(false);
+    }
+    disk.read_at(FileId::Jnl, at, into)?;
+    Ok(true)
+}
+
+/// The number at a place of the journal, if four bytes are there.
+pub(crate) fn read_number<D: Disk>(
+    disk: &mut D,
+    end: u64,
+    at: u64,
+) -> Result<Option<u32>, DiskFailed>
+    requires { ForSome (D.device disk.old).contents (λ files. end ≡ length (files journal)) }
+
+    // The number, where it is whole.
+    ensures within { IfOk result (λ some. IfSome some (λ number. at + 4 ≤ end)) }
+    ensures fits { IfOk result (λ some. IfSome some (λ number. number < 2 ^ 32)) }
+    ensures found { IfOk result (λ some. IfSome some (λ number.
+        ForSome (D.device disk.old).contents (λ files.
+        BeginsWith (journal_from files at) (number_bytes 4 number)))) }
+    ensures none { IfOk result (λ some. IfNone some (ForSome (D.device disk.old).contents (λ files.
+        length (journal_from files at) < 4))) }
+
+    // The disk is only read.
+    ensures kept { OnlyReads (D.device disk.old) (D.device disk.new) }
+    ensures later { (D.device disk.old).faults ≤ (D.device disk.new).faults }
+    ensures cause { OnErr result (Rose (D.device disk.old).faults (D.device disk.new).faults) }
+{
+    let mut bytes = [0; 4];
+    if !read_bytes(disk, end, at, &mut bytes)? {
+        return Ok(None);
+    }
+    Ok(Some(decode_number(&bytes)))
+}
+
+/// Whether these four bytes stand at a place of the journal.
+pub(crate) fn has_mark<D: Disk>(
+    disk: &mut D,
+    end: u64,
+    at: u64,
+    mark: &[u8; 4],
+) -> Result<bool, DiskFailed>
+    requires { ForSome (D.device disk.old).contents (λ files. end ≡ length (files journal)) }
+
+    // The mark, where it stands there.
+    ensures within { IfOk result (λ yes. yes ≡ true → at + 4 ≤ end) }
+    ensures found { IfOk result (λ yes. yes ≡ true → ForSome (D.device disk.old).contents (λ files.
+        BeginsWith (journal_from files at) mark.now)) }
+    ensures none { IfOk result (λ yes. yes ≡ false → ForSome (D.device disk.old).contents (λ files.
+        BeginsWith (journal_from files at) mark.now → ⊥)) }
+
+    // The disk is only read.
+    ensures kept { OnlyReads (D.device disk.old) (D.device disk.new) }
+    ensures later { (D.device disk.old).faults ≤ (D.device disk.new).faults }
+    ensures cause { OnErr result (Rose (D.device disk.old).faults (D.device disk.new).faults) }
+{
+    let mut bytes = [0; 4];
+    if !read_bytes(disk, end, at, &mut bytes)? {
+        return Ok(false);
+    }
+    Ok(is_same(&bytes, mark))
+}

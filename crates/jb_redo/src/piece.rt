@@ -1,0 +1,84 @@
+//! The reading of one piece of a record.
+ghost use Rattle.std.specs.Prelude.{◌≡◌, ◌≢◌, ◌+◌, ◌<◌, ◌≤◌, IfOk, IfSome, IfNone, OnErr};
+ghost use Rattle.std.specs.Option.{ForSome};
+ghost use Rattle.jb_base.specs.Fault.{Rose};
+ghost use Rattle.jb_disk.specs.Device.{OnlyReads};
+ghost use Rattle.jb_disk.specs.declared.file.FileId.TheVariants.{Jnl as journal};
+ghost use Rattle.jb_redo.specs.Applying.{IsSound};
+ghost use Rattle.jb_redo.specs.Reading.{BeginsWith};
+ghost use Rattle.jb_redo.specs.declared.part.Front.TheVariants.{Copy as copy};
+ghost use Rattle.jb_redo.specs.Walk.{size_in, journal_from, front_bytes, AreFixedSizes, IsPartAt, HasNoPieceAt};
+
+use crate::field::{read_bytes, read_number};
+use crate::part::{FRONT_BYTES, Front, Part, copied_part, decode_front, given_part};
+use crate::sizes::Sizes;
+use jb_disk::{Disk, DiskFailed, FileId};
+
+/// The copy with this front at a place of the journal, if it is whole and stays within the files.
+fn read_copy<D: Disk>(
+    disk: &mut D,
+    sizes: &Sizes,
+    ends: &Sizes,
+    at: u64,
+    to_at: u32,
+    len: u32,
+) -> Result<Option<Part>, DiskFailed>
+    requires front { at + 12 ≤ size_in sizes.now journal }
+    requires sizes { ForSome (D.device disk.old).contents (AreFixedSizes sizes.now) }
+    requires begins { ForSome (D.device disk.old).contents (λ files.
+        BeginsWith (journal_from files at) (front_bytes (copy to_at len))) }
+
+    // The copy, where one stands there.
+    ensures within { IfOk result (λ some. IfSome some (λ part. part.behind ≤ size_in sizes.now journal)) }
+    ensures sound { IfOk result (λ some. IfSome some IsSound) }
+    ensures found { IfOk result (λ some. IfSome some (λ part. ForSome (D.device disk.old).contents (λ files.
+        IsPartAt files ends.now at part))) }
+    ensures none { IfOk result (λ some. IfNone some (ForSome (D.device disk.old).contents (λ files.
+        HasNoPieceAt files ends.now at))) }
+
+    // The disk is only read.
+    ensures kept { OnlyReads (D.device disk.old) (D.device disk.new) }
+    ensures later { (D.device disk.old).faults ≤ (D.device disk.new).faults }
+    ensures cause { OnErr result (Rose (D.device disk.old).faults (D.device disk.new).faults) }
+{
+    let end = sizes.get(FileId::Jnl);
+    let Some(from_at) = read_number(disk, end, at + FRONT_BYTES as u64)? else {
+        return Ok(None);
+    };
+    Ok(copied_part(sizes, ends, at, from_at, to_at, len))
+}
+
+/// The piece at a place of the journal, if one stands there that is whole and keeps the rules: over files that end now
+/// as `sizes` says, and as `ends` says once the record's lengths are set.
+pub(crate) fn read_part<D: Disk>(
+    disk: &mut D,
+    sizes: &Sizes,
+    ends: &Sizes,
+    at: u64,
+) -> Result<Option<Part>, DiskFailed>
+    requires { ForSome (D.device disk.old).contents (AreFixedSizes sizes.now) }
+
+    // The piece, where one stands there.
+    ensures within { IfOk result (λ some. IfSome some (λ part. part.behind ≤ size_in sizes.now journal)) }
+    ensures sound { IfOk result (λ some. IfSome some IsSound) }
+    ensures found { IfOk result (λ some. IfSome some (λ part. ForSome (D.device disk.old).contents (λ files.
+        IsPartAt files ends.now at part))) }
+    ensures none { IfOk result (λ some. IfNone some (ForSome (D.device disk.old).contents (λ files.
+        HasNoPieceAt files ends.now at))) }
+
+    // The disk is only read.
+    ensures kept { OnlyReads (D.device disk.old) (D.device disk.new) }
+    ensures later { (D.device disk.old).faults ≤ (D.device disk.new).faults }
+    ensures cause { OnErr result (Rose (D.device disk.old).faults (D.device disk.new).faults) }
+{
+    let end = sizes.get(FileId::Jnl);
+    let mut bytes = [0; FRONT_BYTES];
+    if !read_bytes(disk, end, at, &mut bytes)? {
+        return Ok(None);
+    }
+    match decode_front(&bytes) {
+        Some(Front::Bytes { to, at: to_at, len }) => Ok(given_part(end, ends, at, to, to_at, len)),
+        Some(Front::Copy { at: to_at, len }) => read_copy(disk, sizes, ends, at, to_at, len),
+        None => Ok(None),
+    }
+}

@@ -1,0 +1,49 @@
+//! The lengths of the six files.
+ghost use Rattle.std.specs.Prelude.{◌≡◌, ◌≤◌, ◌^◌, ◌<◌, IfOk, OnErr};
+ghost use Rattle.std.specs.Option.{ForSome};
+ghost use Rattle.jb_base.specs.Fault.{Rose};
+ghost use Rattle.jb_disk.specs.Device.{OnlyReads};
+ghost use Rattle.jb_redo.specs.Rules.{with_size};
+ghost use Rattle.jb_redo.specs.Walk.{AreSizes, size_in};
+
+use jb_disk::{Disk, DiskFailed, FileId, Length};
+
+/// How many bytes each file has, by the file's number.
+#[derive(Clone, Copy, Debug)]
+pub(crate) struct Sizes {
+    by_file: [u64; 6],
+}
+
+impl Sizes {
+    /// Asks the disk for all of them.
+    pub(crate) fn of<D: Disk>(disk: &mut D) -> Result<Sizes, DiskFailed>
+        ensures found { IfOk result (λ sizes. ForSome (D.device disk.old).contents (AreSizes sizes)) }
+        ensures kept { OnlyReads (D.device disk.old) (D.device disk.new) }
+        ensures later { (D.device disk.old).faults ≤ (D.device disk.new).faults }
+        ensures cause { OnErr result (Rose (D.device disk.old).faults (D.device disk.new).faults) }
+    {
+        let by_file = [
+            disk.len(FileId::Jhr)?,
+            disk.len(FileId::Jdt)?,
+            disk.len(FileId::Jdx)?,
+            disk.len(FileId::Jlr)?,
+            disk.len(FileId::Jnl)?,
+            disk.len(FileId::Ndt)?,
+        ];
+        Ok(Sizes { by_file })
+    }
+
+    /// The length of a file.
+    pub(crate) fn get(&self, file: FileId) -> u64
+        ensures { result ≡ size_in self.now file }
+    {
+        self.by_file[file.number() as usize]
+    }
+
+    /// Keeps a new length of a file.
+    pub(crate) fn set(&mut self, entry: Length)
+        ensures { size_in self.new ≡ with_size entry (size_in self.old) }
+    {
+        self.by_file[entry.file.number() as usize] = entry.len as u64;
+    }
+}

@@ -1,0 +1,88 @@
+//! Whether the journal holds a record.
+ghost use Rattle.std.specs.Prelude.{◌≡◌, ◌≤◌, ◌<◌, ◌^◌, IfOk, IfErr, IsErrOf};
+ghost use Rattle.std.specs.Option.{ForSome};
+ghost use Rattle.jb_base.specs.Fault.{Rose};
+ghost use Rattle.jb_disk.specs.Device.{OnlyReads};
+ghost use Rattle.jb_redo.specs.Answers.{AnswersFor, FaultRose, RefusesFor};
+ghost use Rattle.jb_redo.specs.Laws.{HasOneBadPlaceAtMost, HasOneRecordAtMost, HasRecordOrBadPlace};
+ghost use Rattle.jb_redo.specs.Walk.{AreSizes, HasLengths, HasPieces};
+
+use crate::RecordError;
+use crate::field::{has_mark, read_number};
+use crate::lengths::{NewLengths, read_lengths};
+use crate::piece::read_part;
+use crate::sizes::Sizes;
+use jb_disk::{Disk, FileId};
+
+/// The bytes with which a record ends.
+pub(crate) const END: [u8; 4] = *b"JBJE";
+
+/// The place behind the record's pieces, if all of them keep the rules.
+fn test_pieces<D: Disk>(
+    disk: &mut D,
+    sizes: &Sizes,
+    lengths: &NewLengths,
+) -> Result<u64, RecordError>
+    requires sizes { ForSome (D.device disk.old).contents (AreSizes sizes.now) }
+    requires lengths { ForSome (D.device disk.old).contents (λ files.
+        HasLengths files lengths.now.at lengths.now.ends) }
+
+    // The place, or the one of the field that is cut off or breaks a rule.
+    ensures found { IfOk result (λ at. ForSome (D.device disk.old).contents (λ files.
+        HasPieces files at)) }
+    ensures refused { IfErr result (λ error. ForSome (D.device disk.old).contents (λ files.
+        RefusesFor files error)) }
+
+    // The disk is only read.
+    ensures kept { OnlyReads (D.device disk.old) (D.device disk.new) }
+    ensures later { (D.device disk.old).faults ≤ (D.device disk.new).faults }
+    ensures cause { IfErr result (FaultRose (D.device disk.old).faults (D.device disk.new).faults) }
+{
+    let mut at = lengths.at;
+    let Some(count) = read_number(disk, sizes.get(FileId::Jnl), at)? else {
+        return Err(RecordError::Bad { at });
+    };
+    at += 4;
+    for _ in 0..count {
+        let Some(part) = read_part(disk, sizes, &lengths.ends, at)? else {
+            return Err(RecordError::Bad { at });
+        };
+        at = part.behind;
+    }
+    Ok(at)
+}
+
+/// The journal's record, walked through.
+fn walk_record<D: Disk>(disk: &mut D) -> Result<(), RecordError>
+    ensures answer { ForSome (D.device disk.old).contents (λ files. AnswersFor files result) }
+    ensures kept { OnlyReads (D.device disk.old) (D.device disk.new) }
+    ensures later { (D.device disk.old).faults ≤ (D.device disk.new).faults }
+    ensures cause { IfErr result (FaultRose (D.device disk.old).faults (D.device disk.new).faults) }
+{
+    let sizes = Sizes::of(disk)?;
+    let lengths = read_lengths(disk, &sizes)?;
+    let at = test_pieces(disk, &sizes, &lengths)?;
+    if !has_mark(disk, sizes.get(FileId::Jnl), at, &END)? {
+        return Err(RecordError::Bad { at });
+    }
+    Ok(())
+}
+
+/// Whether .JNL holds, from byte 16 on, a record over the files as they are.
+///
+/// `Bad` names the place in .JNL of the first field that is cut off by the file's end or breaks a rule of the record; a
+/// piece with its bytes is one field. Bytes behind the record's end are not looked at, and neither is the gate. Six
+/// questions for a length; then a read for each field and two for a copy, none of them longer than 12 bytes. It takes no
+/// memory.
+pub fn test_record<D: Disk>(disk: &mut D) -> Result<(), RecordError>
+    // What the files say, where the disk tells them: they hold one record, or there is one place where it stops.
+    ensures answer { ForSome (D.device disk.old).contents (λ files. AnswersFor files result) }
+    ensures one { HasOneRecordAtMost × HasOneBadPlaceAtMost × HasRecordOrBadPlace }
+
+    // On every disk.
+    ensures kept { OnlyReads (D.device disk.old) (D.device disk.new) }
+    ensures later { (D.device disk.old).faults ≤ (D.device disk.new).faults }
+    ensures cause { IfErr result (FaultRose (D.device disk.old).faults (D.device disk.new).faults) }
+{
+    walk_record(disk)
+}
