@@ -1,0 +1,194 @@
+-- Pieces written one after another.
+use Rattle.std.proofs.Common.{◌≡◌, ◌≢◌, inl, inr, zero, suc, ℕ, ◌+◌, ◌<◌, ◌≤◌, List, [], ◌∷◌, All, length, take, drop, get_or, refl, ap, sym, ◌∙◌, subst, arith, Option, Some, None, true, false, length-drop}
+use Rattle.std.specs.Prelude.{slice_get}
+use Rattle.std.specs.Option.{ForSome, option_map}
+use Rattle.std.proofs.lemmas.Bool.{cases_eq}
+use Rattle.std.proofs.lemmas.List.{drop_more, length-take-le}
+use Rattle.std.proofs.lemmas.List.Elements.{All-head, All-tail}
+use Rattle.std.proofs.lemmas.Option.{slice_get-get_or}
+use Rattle.jb_disk.specs.declared.file.FileId.{FileId}
+use Rattle.jb_disk.specs.declared.file.FileId.TheVariants.{Jhr, Jdt, Ndt}
+use Rattle.jb_disk.specs.declared.piece.Length.{Length}
+use Rattle.jb_disk.specs.declared.piece.Piece.{Piece}
+use Rattle.jb_disk.specs.declared.piece.Piece.TheVariants.{Bytes, Copy}
+use Rattle.jb_disk.specs.declared.piece.PieceHead.{PieceHead}
+use Rattle.jb_disk.specs.Change.{head_of, bytes_of}
+use Rattle.jb_disk.specs.Files.{Files, number_of, overwritten, written}
+use Rattle.jb_disk.specs.FileLaws.{with_file-here, with_file-other, number-injective}
+use Rattle.jb_disk.specs.Steps.{IsCovered, patched, Span}
+use Rattle.jb_disk.specs.Device.{Device}
+use Rattle.jb_disk.specs.Runs.{Keeps}
+use Rattle.jb_disk.proofs.RunLemmas.{keeps-refl, keeps-then}
+use Rattle.jb_redo.specs.OnTheWay.{IsOnTheWay}
+use Rattle.jb_redo.specs.Replay.{target_of, span_of, spans_in}
+use Rattle.jb_redo.specs.Rules.{sizes_of, new_sizes, IsLegalPiece, IsLegal}
+use Rattle.jb_redo.proofs.SpanLemmas.{spans_in-here, spans_in-other, spans_same, legal_target}
+use Rattle.jb_journal.specs.Applying.{with_piece, with_pieces, HasPlace, IsWrittenBy}
+use Rattle.jb_journal.specs.Spelling.{nth_piece}
+use Rattle.jb_journal.specs.Writing.{copied}
+use Rattle.jb_journal.proofs.Told.{option_map-twice, length-written, told_back}
+
+-- true is not false
+not-false : true ≡ false → ⊥
+not-false is = cc
+
+-- a piece by its number, whatever stands behind the list
+pub head-at : (pieces : List Piece) (k : ℕ) (d : Piece) (head : PieceHead) → k < length pieces → Some head ≡ option_map head_of (slice_get pieces k) → head ≡ head_of (get_or pieces k d)
+head-at pieces k d head low is =
+    let there = slice_get-get_or pieces k d low in
+    let both : Some head ≡ Some (head_of (get_or pieces k d)) = is ∙ ap (option_map head_of) there in
+    cc
+
+-- the file into which it is written
+pub target-head : (piece : Piece) → (head_of piece).to ≡ target_of piece
+target-head (Bytes file at bytes) = refl
+target-head (Copy from from_at to to_at len) = refl
+
+-- a copy writes what it copies
+pub copy-written : (piece : Piece) (head : PieceHead) → head ≡ head_of piece → head.copy ≡ true → (files : Files) → copied head.from head.from_at head.to head.to_at head.len files ≡ with_piece piece files
+copy-written (Bytes file at bytes) head is copy files = absurd (not-false (sym copy ∙ ap (λ (h : PieceHead). h.copy) is))
+copy-written (Copy from from_at to to_at len) head is copy files = λ i. copied (is i).from (is i).from_at (is i).to (is i).to_at (is i).len files
+
+-- another piece writes its bytes
+pub bytes-written : (piece : Piece) (head : PieceHead) (bytes : List ℕ) → head ≡ head_of piece → head.copy ≡ false → bytes ≡ bytes_of piece → (files : Files) → written head.to head.to_at bytes files ≡ with_piece piece files
+bytes-written (Bytes file at given) head bytes is copy same files = λ i. written (is i).to (is i).to_at (same i) files
+bytes-written (Copy from from_at to to_at len) head bytes is copy same files = absurd (not-false (sym (ap (λ (h : PieceHead). h.copy) is) ∙ copy))
+
+-- what a copy needs
+pub record CopyRoom (head : PieceHead) (files : Files) : Type 0 where
+  pub apart : head.from ≢ head.to
+  pub source : head.from_at + head.len ≤ length (files head.from)
+  pub target : head.to_at + head.len ≤ length (files head.to)
+
+-- the shadow of the texts is not the texts
+not_texts : (from to : FileId) → from ≡ Ndt → to ≡ Jdt → from ≢ to
+not_texts from to shadow texts same =
+    let five : number_of from ≡ 5 = ap number_of shadow in
+    let one : number_of to ≡ 1 = ap number_of texts in
+    let both : number_of from ≡ number_of to = ap number_of same in
+    omega (arith, five, one, both)
+
+-- a copy that has its place
+pub copy-room : (piece : Piece) (head : PieceHead) (files : Files) → head ≡ head_of piece → head.copy ≡ true → HasPlace files piece → CopyRoom head files
+copy-room (Bytes file at bytes) head files is copy place = absurd (not-false (sym copy ∙ ap (λ (h : PieceHead). h.copy) is))
+copy-room (Copy from from_at to to_at len) head files is copy place = subst (λ (h : PieceHead). CopyRoom h files) (sym is) (record {
+  apart = not_texts from to place.shadow place.texts;
+  source = place.inside;
+  target = place.within;
+})
+
+-- bytes that have their place
+pub bytes-room : (piece : Piece) (head : PieceHead) (bytes : List ℕ) (files : Files) → head ≡ head_of piece → head.copy ≡ false → bytes ≡ bytes_of piece → HasPlace files piece → head.to_at + length bytes ≤ length (files head.to)
+bytes-room (Bytes file at given) head bytes files is copy same place = subst (λ (h : PieceHead). h.to_at + length bytes ≤ length (files h.to)) (sym is) (subst (λ (l : List ℕ). at + length l ≤ length (files file)) (sym same) place.within)
+bytes-room (Copy from from_at to to_at len) head bytes files is copy same place = absurd (not-false (sym (ap (λ (h : PieceHead). h.copy) is) ∙ copy))
+
+-- what is copied has its length
+copy-length : (len from_at : ℕ) (bytes : List ℕ) → from_at + len ≤ length bytes → length (take len (drop from_at bytes)) ≡ len
+copy-length len from_at bytes inside = length-take-le len (drop from_at bytes) (omega (arith, length-drop from_at bytes))
+
+-- what a piece writes ends within its file
+piece-within : (piece : Piece) (files : Files) → HasPlace files piece → (span_of files piece).at + length (span_of files piece).bytes ≤ length (files (target_of piece))
+piece-within (Bytes file at bytes) files place = place.within
+piece-within (Copy from from_at to to_at len) files place =
+    let size = copy-length len from_at (files from) place.inside in
+    omega (arith, size, place.within)
+
+-- a piece of a list is among what is written into its file
+covered-at : (start : Files) (pieces : List Piece) (k : ℕ) (d : Piece) → k < length pieces → IsWrittenBy start pieces (target_of (get_or pieces k d)) (span_of start (get_or pieces k d)).at (length (span_of start (get_or pieces k d)).bytes)
+covered-at start [] k d low i over under = absurd (omega arith)
+covered-at start (piece ∷ pieces) zero d low i over under = subst (λ (l : List Span). IsCovered l i) (sym (spans_in-here start piece pieces (target_of piece) refl)) (inl (over, under))
+covered-at start (piece ∷ pieces) (suc k) d low i over under =
+    let file = target_of (get_or pieces k d) in
+    let rest = covered-at start pieces k d (omega arith) i over under in
+    elim (cases_eq (number_of (target_of piece)) (number_of file)) [
+      | inl here ↦ subst (λ (l : List Span). IsCovered l i) (sym (spans_in-here start piece pieces file here)) (inr rest)
+      | inr apart ↦ subst (λ (l : List Span). IsCovered l i) (sym (spans_in-other start piece pieces file apart)) rest
+    ]
+
+-- so it is of a legal one, by its head
+pub covered-head : (start : Files) (lengths : List Length) (pieces : List Piece) (k : ℕ) (head : PieceHead) → IsLegal (sizes_of start) lengths pieces → k < length pieces → head ≡ head_of (nth_piece pieces k)
+    → IsWrittenBy start pieces head.to head.to_at head.len
+covered-head start lengths pieces k head legal low is =
+    subst (λ (h : PieceHead). IsWrittenBy start pieces h.to h.to_at h.len) (sym is)
+    (by_piece (nth_piece pieces k) (legal.pieces_are.each k (Bytes Jhr 0 []) low) (covered-at start pieces k (Bytes Jhr 0 []) low))
+  where
+    by_piece : (piece : Piece) → IsLegalPiece (sizes_of start) (new_sizes lengths (sizes_of start)) piece → IsWrittenBy start pieces (target_of piece) (span_of start piece).at (length (span_of start piece).bytes)
+        → IsWrittenBy start pieces (head_of piece).to (head_of piece).to_at (head_of piece).len
+    by_piece (Bytes file at bytes) legal covers = covers
+    by_piece (Copy from from_at to to_at len) legal covers = subst (λ (n : ℕ). IsWrittenBy start pieces to to_at n) (copy-length len from_at (start from) legal.inside) covers
+
+-- the length that a head tells
+pub length-head : (piece : Piece) (head : PieceHead) (bytes : List ℕ) → head ≡ head_of piece → head.copy ≡ false → bytes ≡ bytes_of piece → length bytes ≡ head.len
+length-head (Bytes file at given) head bytes is copy same = ap length same ∙ sym (ap (λ (h : PieceHead). h.len) is)
+length-head (Copy from from_at to to_at len) head bytes is copy same = absurd (not-false (sym (ap (λ (h : PieceHead). h.copy) is) ∙ copy))
+
+-- a piece changes no length
+sizes-with : (piece : Piece) (files : Files) → HasPlace files piece → sizes_of (with_piece piece files) ≡ sizes_of files
+sizes-with piece files place = λ i. λ file. length-written (target_of piece) file (span_of files piece).at (span_of files piece).bytes files (piece-within piece files place) i
+
+-- these pieces of all are still to be written
+pub record Putting (initial now : Device) (pieces rest : List Piece) : Type 0 where
+  pub told : option_map (with_pieces rest) now.contents ≡ option_map (with_pieces pieces) initial.contents
+  pub place : ForSome now.contents (λ files. All (HasPlace files) pieces)
+  pub counted : initial.faults ≤ now.faults
+  pub keeps : (lengths : List Length) (start : Files) → IsLegal (sizes_of start) lengths pieces → Keeps (IsOnTheWay lengths pieces start) initial now
+
+-- none is written yet
+pub putting_start : (device : Device) (pieces : List Piece) → ForSome device.contents (λ files. All (HasPlace files) pieces) → Putting device device pieces pieces
+putting_start device pieces place = record { told = refl; place = place; counted = omega arith; keeps = λ lengths start legal. keeps-refl (IsOnTheWay lengths pieces start) device }
+
+-- the place of the next
+pub putting_place : (initial now : Device) (pieces rest : List Piece) (k : ℕ) → Putting initial now pieces rest → k < length pieces → ForSome now.contents (λ files. HasPlace files (nth_piece pieces k))
+putting_place initial now pieces rest k putting low = λ files there. putting.place files there k (Bytes Jhr 0 []) low
+
+-- one piece more
+pub putting_on : (initial now next : Device) (pieces : List Piece) (k : ℕ) → Putting initial now pieces (drop k pieces) → k < length pieces → next.contents ≡ option_map (with_piece (nth_piece pieces k)) now.contents → now.faults ≤ next.faults
+    → ((lengths : List Length) (start : Files) → IsLegal (sizes_of start) lengths pieces → Keeps (IsOnTheWay lengths pieces start) now next) → Putting initial next pieces (drop (k + 1) pieces)
+putting_on initial now next pieces k putting low told later keeps =
+    let piece = nth_piece pieces k in
+    let more : drop k pieces ≡ piece ∷ drop (k + 1) pieces = drop_more pieces k (Bytes Jhr 0 []) low in
+    record {
+      told =
+          ap (option_map (with_pieces (drop (k + 1) pieces))) told
+          ∙ option_map-twice (with_piece piece) (with_pieces (drop (k + 1) pieces)) now.contents
+          ∙ ap (λ (l : List Piece). option_map (with_pieces l) now.contents) (sym more)
+          ∙ putting.told;
+      place = λ files there.
+          let back = told_back now.contents next.contents (with_piece piece) files told there in
+          let was = putting.place back.0 back.1 in
+          let same : sizes_of files ≡ sizes_of back.0 = ap sizes_of back.2 ∙ sizes-with piece back.0 (was k (Bytes Jhr 0 []) low) in
+          subst (λ (sizes : FileId → ℕ). All (IsLegalPiece sizes sizes) pieces) (sym same) was;
+      counted = omega (arith, putting.counted);
+      keeps = λ lengths start legal. keeps-then (IsOnTheWay lengths pieces start) initial now next (putting.keeps lengths start legal) (keeps lengths start legal);
+    }
+
+-- all are written
+pub putting_end : (initial now : Device) (pieces rest : List Piece) → Putting initial now pieces rest → rest ≡ [] → now.contents ≡ option_map (with_pieces pieces) initial.contents
+putting_end initial now pieces rest putting none =
+    sym (same now.contents) ∙ ap (λ (l : List Piece). option_map (with_pieces l) now.contents) (sym none) ∙ putting.told
+  where
+    same : (contents : Option Files) → option_map (with_pieces []) contents ≡ contents
+    same None = refl
+    same (Some files) = refl
+
+-- what the pieces make of one file
+pub pieces-patched : (pieces : List Piece) (sizes ends : FileId → ℕ) (files : Files) (file : FileId) → All (IsLegalPiece sizes ends) pieces → with_pieces pieces files file ≡ patched (spans_in files pieces file) (files file)
+pieces-patched [] sizes ends files file legal = refl
+pieces-patched (piece ∷ pieces) sizes ends files file legal =
+    let rest_legal = All-tail (IsLegalPiece sizes ends) piece pieces legal in
+    let low = legal_target sizes ends piece (All-head (IsLegalPiece sizes ends) piece pieces legal) in
+    let target = target_of piece in
+    let span = span_of files piece in
+    let next = with_piece piece files in
+    let shadow : next Ndt ≡ files Ndt = with_file-other target Ndt _ files (λ is. let five : 5 ≡ number_of target = ap number_of is in omega (arith, low, five)) in
+    let rest : with_pieces pieces next file ≡ patched (spans_in files pieces file) (next file) =
+    pieces-patched pieces sizes ends next file rest_legal ∙ ap (λ (l : List Span). patched l (next file)) (spans_same sizes ends next files pieces file rest_legal shadow) in
+    elim (cases_eq (number_of target) (number_of file)) [
+      | inl here ↦
+          let is : next file ≡ overwritten span.at span.bytes (files file) =
+          subst (λ (f : FileId). next f ≡ overwritten span.at span.bytes (files f)) (number-injective target file here) (with_file-here target (overwritten span.at span.bytes (files target)) files) in
+          rest ∙ ap (patched (spans_in files pieces file)) is ∙ ap (λ (l : List Span). patched l (files file)) (sym (spans_in-here files piece pieces file here))
+      | inr apart ↦
+          let is : next file ≡ files file = with_file-other target file _ files (λ same. apart (ap number_of (sym same))) in
+          rest ∙ ap (patched (spans_in files pieces file)) is ∙ ap (λ (l : List Span). patched l (files file)) (sym (spans_in-other files piece pieces file apart))
+    ]

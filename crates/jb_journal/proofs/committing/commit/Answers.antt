@@ -1,0 +1,69 @@
+use Rattle.std.proofs.Common.{inr}
+use Rattle.jb_disk.proofs.RunLemmas.{runs-then, runs-weaken}
+use Rattle.jb_journal.specs.Commit.{IsBeforeOrAfter, ReplaysTo, changed}
+use Rattle.jb_journal.specs.Stages.{opened}
+use Rattle.jb_journal.proofs.ReadyLemmas.{opened_is, from_opened}
+use Rattle.jb_journal.proofs.OpeningLemmas.{where_told, told_claim, opens_then}
+use Rattle.jb_journal.proofs.CommitLemmas.{before_at_start, under_way, closing_late, told_committed, synced_at_end}
+use Rattle.jb_journal.proofs.committing.commit.Goals as goal
+
+pub returns-in_default-clause-crash : goal.returns-in_default-clause-crash
+returns-in_default-clause-crash g c = λ start there.
+    record { first = before_at_start c.args.redo.now start (g.D.Disk.device c.args.disk.now) (c.requires.ready start there) there c.requires.synced; run = c.begin.ensures.run start there }
+
+pub finish-requires-clause-going : goal.finish-requires-clause-going
+finish-requires-clause-going g c = under_way c.args.redo.now _ _ c.requires.ready c.in-Ok.ensures.told
+
+pub returns-in_default-finish-clause-in_doubt : goal.returns-in_default-finish-clause-in_doubt
+returns-in_default-finish-clause-in_doubt g c = λ start there.
+    let redo = c.args.redo.now in
+    let ready = c.requires.ready start there in
+    closing_late redo start _ ready (c.finish.ensures.late (opened redo start) (opened_is redo start ready) (c.in-Ok.ensures.going start there))
+
+pub returns-in_default-finish-clause-crash : goal.returns-in_default-finish-clause-crash
+returns-in_default-finish-clause-crash g c = λ start there.
+    let redo = c.args.redo.now in
+    let ready = c.requires.ready start there in
+    record {
+      first = before_at_start redo start (g.D.Disk.device c.args.disk.now) ready there c.requires.synced;
+      run = runs-then (IsBeforeOrAfter redo start) _ _ _ (c.begin.ensures.run start there)
+          (runs-weaken (ReplaysTo (changed redo (opened redo start))) (IsBeforeOrAfter redo start) (λ files replays. inr (from_opened redo start ready files replays)) _ _
+          (c.finish.ensures.run (opened redo start) (opened_is redo start ready) (c.in-Ok.ensures.going start there)));
+    }
+
+pub returns-in_default-finish-clause-opening : goal.returns-in_default-finish-clause-opening
+returns-in_default-finish-clause-opening g c = λ start there.
+    let redo = c.args.redo.now in
+    let ready = c.requires.ready start there in
+    where_told _ _ (λ now earlier is. opens_then (ReplaysTo (changed redo start)) _ _ _ (told_claim _ _ now earlier is (c.in-Ok.ensures.opening start there))
+    (runs-weaken (ReplaysTo (changed redo (opened redo start))) (ReplaysTo (changed redo start)) (from_opened redo start ready) _ _
+    (c.finish.ensures.run (opened redo start) (opened_is redo start ready) (c.in-Ok.ensures.going start there))))
+
+pub returns-clause-crash : goal.returns-clause-crash
+returns-clause-crash g c = λ start there.
+    let redo = c.args.redo.now in
+    let ready = c.requires.ready start there in
+    record {
+      first = before_at_start redo start (g.D.Disk.device c.args.disk.now) ready there c.requires.synced;
+      run = runs-then (IsBeforeOrAfter redo start) _ _ _ (c.begin.ensures.run start there)
+          (runs-weaken (ReplaysTo (changed redo (opened redo start))) (IsBeforeOrAfter redo start) (λ files replays. inr (from_opened redo start ready files replays)) _ _
+          (c.finish.ensures.run (opened redo start) (opened_is redo start ready) (c.in-Ok.ensures.going start there)));
+    }
+
+pub returns-clause-opening : goal.returns-clause-opening
+returns-clause-opening g c = λ start there.
+    let redo = c.args.redo.now in
+    let ready = c.requires.ready start there in
+    where_told _ _ (λ now earlier is. opens_then (ReplaysTo (changed redo start)) _ _ _ (told_claim _ _ now earlier is (c.in-Ok.ensures.opening start there))
+    (runs-weaken (ReplaysTo (changed redo (opened redo start))) (ReplaysTo (changed redo start)) (from_opened redo start ready) _ _
+    (c.finish.ensures.run (opened redo start) (opened_is redo start ready) (c.in-Ok.ensures.going start there))))
+
+pub returns-clause-done : goal.returns-clause-done
+returns-clause-done g c =
+    told_committed c.args.redo.now _ _ _ c.requires.ready c.in-Ok.ensures.told c.in-Ok-finish.ensures.silent
+    (λ start there. let ready = c.requires.ready start there in c.in-Ok-finish.ensures.done (opened c.args.redo.now start) (opened_is c.args.redo.now start ready) (c.in-Ok.ensures.going start there))
+
+pub returns-clause-durable : goal.returns-clause-durable
+returns-clause-durable g c =
+    synced_at_end c.args.redo.now _ _ (g.D.Disk.device c.finish.new.disk) c.in-Ok.ensures.told c.in-Ok-finish.ensures.silent
+    (λ start there. let ready = c.requires.ready start there in c.in-Ok-finish.ensures.synced (opened c.args.redo.now start) (opened_is c.args.redo.now start ready) (c.in-Ok.ensures.going start there))

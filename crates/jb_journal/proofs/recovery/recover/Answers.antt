@@ -1,0 +1,108 @@
+use Rattle.std.proofs.Common.{◌≡◌, ◌∙◌, Some}
+use Rattle.jb_disk.proofs.RunLemmas.{runs-refl, runs-then, runs-weaken}
+use Rattle.jb_journal.specs.Recover.{ReplaysAs, MightBe, ReplaysAsAtStart}
+use Rattle.jb_journal.proofs.SyncLemmas.{leaves_map}
+use Rattle.jb_journal.proofs.RecoverLemmas.{shows_first, might_as}
+use Rattle.jb_journal.proofs.recovery.recover.Goals as goal
+
+pub returns-in_err-sync_all-clause-crash : goal.returns-in_err-sync_all-clause-crash
+returns-in_err-sync_all-clause-crash g c = λ was there safe.
+    let d0 = g.D.Disk.device c.args.disk.now in
+    let d1 = g.D.Disk.device c.sync_all.new.disk in
+    let first = d0.moments in
+    let P = ReplaysAsAtStart first in
+    let shows = shows_first d0 (g.met.D.Disk.told c.args.disk.now) in
+    let at_first = leaves_map (MightBe first) P d0.moments (might_as first) shows.left in
+    let run1 = runs-weaken (MightBe first) P (might_as first) d0.moments d1.moments ((c.sync_all.ensures.first first).run shows) in
+    record { first = at_first; run = run1 }
+
+pub returns-in_err-is_gate_open-clause-crash : goal.returns-in_err-is_gate_open-clause-crash
+returns-in_err-is_gate_open-clause-crash g c = λ was there safe.
+    let d0 = g.D.Disk.device c.args.disk.now in
+    let d1 = g.D.Disk.device c.sync_all.new.disk in
+    let first = d0.moments in
+    let P = ReplaysAsAtStart first in
+    let shows = shows_first d0 (g.met.D.Disk.told c.args.disk.now) in
+    let at_first = leaves_map (MightBe first) P d0.moments (might_as first) shows.left in
+    let run1 = runs-weaken (MightBe first) P (might_as first) d0.moments d1.moments ((c.sync_all.ensures.first first).run shows) in
+    let d2 = g.D.Disk.device c.is_gate_open.new.disk in
+    let run2 = runs-then P d0.moments d1.moments d2.moments run1 (runs-refl P d1.moments d2.moments c.is_gate_open.ensures.kept.moments) in
+    record { first = at_first; run = run2 }
+
+pub returns-then-not-branch-clause-crash : goal.returns-then-not-branch-clause-crash
+returns-then-not-branch-clause-crash g c = λ was there safe.
+    let d0 = g.D.Disk.device c.args.disk.now in
+    let d1 = g.D.Disk.device c.sync_all.new.disk in
+    let first = d0.moments in
+    let P = ReplaysAsAtStart first in
+    let shows = shows_first d0 (g.met.D.Disk.told c.args.disk.now) in
+    let at_first = leaves_map (MightBe first) P d0.moments (might_as first) shows.left in
+    let run1 = runs-weaken (MightBe first) P (might_as first) d0.moments d1.moments ((c.sync_all.ensures.first first).run shows) in
+    let d2 = g.D.Disk.device c.is_gate_open.new.disk in
+    let run2 = runs-then P d0.moments d1.moments d2.moments run1 (runs-refl P d1.moments d2.moments c.is_gate_open.ensures.kept.moments) in
+    record { first = at_first; run = run2 }
+
+pub returns-in_err-test_record-clause-crash : goal.returns-in_err-test_record-clause-crash
+returns-in_err-test_record-clause-crash g c = λ was there safe.
+    let d0 = g.D.Disk.device c.args.disk.now in
+    let d1 = g.D.Disk.device c.sync_all.new.disk in
+    let first = d0.moments in
+    let P = ReplaysAsAtStart first in
+    let shows = shows_first d0 (g.met.D.Disk.told c.args.disk.now) in
+    let at_first = leaves_map (MightBe first) P d0.moments (might_as first) shows.left in
+    let run1 = runs-weaken (MightBe first) P (might_as first) d0.moments d1.moments ((c.sync_all.ensures.first first).run shows) in
+    let d2 = g.D.Disk.device c.is_gate_open.new.disk in
+    let run2 = runs-then P d0.moments d1.moments d2.moments run1 (runs-refl P d1.moments d2.moments c.is_gate_open.ensures.kept.moments) in
+    let d3 = g.D.Disk.device c.test_record.new.disk in
+    let run3 = runs-then P d0.moments d2.moments d3.moments run2 (runs-refl P d2.moments d3.moments c.test_record.ensures.kept.moments) in
+    record { first = at_first; run = run3 }
+
+pub returns-in_err-redo_record-clause-crash : goal.returns-in_err-redo_record-clause-crash
+returns-in_err-redo_record-clause-crash g c = λ was there safe.
+    let d0 = g.D.Disk.device c.args.disk.now in
+    let d1 = g.D.Disk.device c.sync_all.new.disk in
+    let first = d0.moments in
+    let P = ReplaysAsAtStart first in
+    let shows = shows_first d0 (g.met.D.Disk.told c.args.disk.now) in
+    let at_first = leaves_map (MightBe first) P d0.moments (might_as first) shows.left in
+    let run1 = runs-weaken (MightBe first) P (might_as first) d0.moments d1.moments ((c.sync_all.ensures.first first).run shows) in
+    let d2 = g.D.Disk.device c.is_gate_open.new.disk in
+    let run2 = runs-then P d0.moments d1.moments d2.moments run1 (runs-refl P d1.moments d2.moments c.is_gate_open.ensures.kept.moments) in
+    let d3 = g.D.Disk.device c.test_record.new.disk in
+    let run3 = runs-then P d0.moments d2.moments d3.moments run2 (runs-refl P d2.moments d3.moments c.test_record.ensures.kept.moments) in
+    let there3 : d3.contents ≡ Some was = c.test_record.ensures.kept.contents ∙ c.is_gate_open.ensures.kept.contents ∙ c.in_ok-sync_all.ensures.kept ∙ there in
+    let d4 = g.D.Disk.device c.redo_record.new.disk in
+    let run4 = runs-then P d0.moments d3.moments d4.moments run3
+    (runs-weaken (ReplaysAs was) P (λ files same. record { was = was; might = shows.read was there; same = same }) d3.moments d4.moments (c.redo_record.ensures.run was there3 safe)) in
+    record { first = at_first; run = run4 }
+
+pub returns-clause-crash : goal.returns-clause-crash
+returns-clause-crash g c = λ was there safe.
+    let d0 = g.D.Disk.device c.args.disk.now in
+    let d1 = g.D.Disk.device c.sync_all.new.disk in
+    let first = d0.moments in
+    let P = ReplaysAsAtStart first in
+    let shows = shows_first d0 (g.met.D.Disk.told c.args.disk.now) in
+    let at_first = leaves_map (MightBe first) P d0.moments (might_as first) shows.left in
+    let run1 = runs-weaken (MightBe first) P (might_as first) d0.moments d1.moments ((c.sync_all.ensures.first first).run shows) in
+    let d2 = g.D.Disk.device c.is_gate_open.new.disk in
+    let run2 = runs-then P d0.moments d1.moments d2.moments run1 (runs-refl P d1.moments d2.moments c.is_gate_open.ensures.kept.moments) in
+    let d3 = g.D.Disk.device c.test_record.new.disk in
+    let run3 = runs-then P d0.moments d2.moments d3.moments run2 (runs-refl P d2.moments d3.moments c.test_record.ensures.kept.moments) in
+    let there3 : d3.contents ≡ Some was = c.test_record.ensures.kept.contents ∙ c.is_gate_open.ensures.kept.contents ∙ c.in_ok-sync_all.ensures.kept ∙ there in
+    let d4 = g.D.Disk.device c.redo_record.new.disk in
+    let run4 = runs-then P d0.moments d3.moments d4.moments run3
+    (runs-weaken (ReplaysAs was) P (λ files same. record { was = was; might = shows.read was there; same = same }) d3.moments d4.moments (c.redo_record.ensures.run was there3 safe)) in
+    record { first = at_first; run = run4 }
+
+pub returns-clause-closed : goal.returns-clause-closed
+returns-clause-closed g c = λ was there safe.
+    let d3 = g.D.Disk.device c.test_record.new.disk in
+    let there3 : d3.contents ≡ Some was = c.test_record.ensures.kept.contents ∙ c.is_gate_open.ensures.kept.contents ∙ c.in_ok-sync_all.ensures.kept ∙ there in
+    c.in_ok-redo_record.ensures.closed was there3 safe
+
+pub returns-clause-durable : goal.returns-clause-durable
+returns-clause-durable g c = λ was there safe.
+    let d3 = g.D.Disk.device c.test_record.new.disk in
+    let there3 : d3.contents ≡ Some was = c.test_record.ensures.kept.contents ∙ c.is_gate_open.ensures.kept.contents ∙ c.in_ok-sync_all.ensures.kept ∙ there in
+    c.in_ok-redo_record.ensures.durable was there3 safe

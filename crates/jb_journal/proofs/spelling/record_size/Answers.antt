@@ -1,0 +1,15 @@
+use Rattle.std.proofs.Common.{◌<◌, length, ap, arith, ◌∙◌}
+use Rattle.jb_journal.specs.Spelling.{size_of}
+use Rattle.jb_journal.proofs.RecordLemmas.{head-nth, more_size, length-record}
+use Rattle.jb_journal.proofs.spelling.record_size.Goals as goal
+
+pub loop-k-init : goal.loop-k-init
+loop-k-init c = omega (arith, length-record c.args.redo.now.lengths c.args.redo.now.pieces, ap length c.lengths.ensures)
+
+pub loop-k-preserved : goal.loop-k-preserved
+loop-k-preserved c =
+    let pieces = c.args.redo.now.pieces in
+    let k = c.loop-k.k in
+    let low : k < length pieces = omega (arith, c.loop-k-test.true, c.pieces-k-end.ensures) in
+    let size = c.piece_size-size.ensures ∙ ap size_of (head-nth pieces k c.head.result low c.head.ensures) in
+    omega (arith, c.loop-k.invariant, more_size pieces k low, size)

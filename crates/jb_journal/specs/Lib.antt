@@ -1,0 +1,9 @@
+pub mod Applying
+pub mod Commit
+pub mod Doubt
+pub mod Opening
+pub mod Prepare
+pub mod Recover
+pub mod Spelling
+pub mod Stages
+pub mod Writing

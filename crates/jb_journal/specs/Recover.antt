@@ -1,0 +1,58 @@
+-- What opening makes of the files that a crash has left.
+use Rattle.std.specs.Prelude.{◌≡◌, ℕ, List, [], ◌∷◌, Some}
+use Rattle.jb_base.specs.Fault.{Rose}
+use Rattle.jb_disk.specs.declared.piece.Length.{Length}
+use Rattle.jb_disk.specs.declared.piece.Piece.{Piece}
+use Rattle.jb_disk.specs.Device.{Device}
+use Rattle.jb_disk.specs.Files.{Files}
+use Rattle.jb_disk.specs.Images.{Images, IsImage}
+use Rattle.jb_disk.specs.Runs.{LeavesNow}
+use Rattle.jb_redo.specs.declared.error.RecordError.{RecordError}
+use Rattle.jb_redo.specs.declared.error.RecordError.TheVariants.{Bad, StoreFault as record_fault}
+use Rattle.jb_disk.specs.Gate.{IsGateOpen}
+use Rattle.jb_redo.specs.Reading.{IsRecordOf, HasRecord, IsBadAt}
+use Rattle.jb_redo.specs.Replay.{IsGrowthCovered}
+use Rattle.jb_journal.specs.declared.error.JournalError.{JournalError}
+use Rattle.jb_journal.specs.declared.error.JournalError.TheVariants.{BadRecord, StoreFault}
+use Rattle.jb_journal.specs.declared.error.Recovered.{Recovered}
+use Rattle.jb_journal.specs.declared.error.Recovered.TheVariants.{Closed, Replayed}
+use Rattle.jb_journal.specs.Commit.{ReplaysTo}
+
+-- a refusal of the record, as one of the journal
+abbrev pub error_of : RecordError → JournalError
+error_of (Bad at) = BadRecord at
+error_of record_fault = StoreFault
+
+-- the answer says how the gate was, and behind an open one stood a record
+abbrev pub IsFound : Recovered → Files → Type 0
+IsFound Closed files = IsGateOpen files → ⊥
+IsFound Replayed files = IsGateOpen files × HasRecord files
+
+-- behind an open gate, the record writes each byte past an old end, as a commit's does
+abbrev pub IsGrowthSafe : Files → Type 0
+IsGrowthSafe files = IsGateOpen files → (lengths : List Length) (pieces : List Piece) → IsRecordOf files lengths pieces → IsGrowthCovered lengths pieces files
+
+-- a refusal for the record has the place, and all is as it was, and synced; one for a fault says nothing of the files
+abbrev pub IsRefusedOver : JournalError → Device → Files → Type 0
+IsRefusedOver (BadRecord at) device was = IsGateOpen was × IsBadAt was at × (device.contents ≡ Some was) × LeavesNow (λ left. left ≡ was) device.moments
+IsRefusedOver StoreFault device was = Unit {0}
+
+-- a fault has its cause: the disk's count rose
+abbrev pub FaultRose : ℕ → ℕ → JournalError → Type 0
+FaultRose before now (BadRecord at) = Unit {0}
+FaultRose before now StoreFault = Rose before now
+
+-- whatever the one files replay to, the others do too
+abbrev pub ReplaysAs : Files → Files → Type 0
+ReplaysAs was files = (base : Files) → ReplaysTo base was → ReplaysTo base files
+
+-- a crash might leave these files now, where that is told
+abbrev pub MightBe : List Images → Files → Type 0
+MightBe [] files = Unit {0}
+MightBe (now ∷ earlier) files = IsImage now files
+
+-- the files replay to what some files replay to that a crash might have left at the start
+pub record ReplaysAsAtStart (first : List Images) (files : Files) : Type 0 where
+  pub was : Files
+  pub might : MightBe first was
+  pub same : ReplaysAs was files

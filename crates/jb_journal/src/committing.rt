@@ -1,0 +1,111 @@
+//! The four stages of a commit.
+ghost use Rattle.std.specs.Prelude.{◌≡◌, ◌≤◌, None, IfErr, OnOk, OnErr};
+ghost use Rattle.std.specs.Option.{ForSome, option_map};
+ghost use Rattle.jb_base.specs.Fault.{Rose};
+ghost use Rattle.jb_disk.specs.Device.{FailsBy};
+ghost use Rattle.jb_disk.specs.Files.{Files};
+ghost use Rattle.jb_disk.specs.Runs.{Shows, Runs, LeavesOnly, IsAllSynced};
+ghost use Rattle.jb_redo.specs.Rules.{AreLegalLengths};
+ghost use Rattle.jb_journal.specs.Commit.{IsWritable, IsReady, IsBeforeOrAfter, ReplaysTo, changed, committed};
+ghost use Rattle.jb_journal.specs.Doubt.{IsEarly, IsInDoubt};
+ghost use Rattle.jb_journal.specs.Opening.{StaysShut, OpensNow, OpensFor, WhereTold, OpensNowFor};
+ghost use Rattle.jb_journal.specs.Stages.{IsOpened, IsGoing, IsClosing, IsUnderWay, closed, opened};
+
+use crate::Stopped;
+use crate::apply::apply;
+use crate::gate::set_gate;
+use crate::stage::stage;
+use jb_disk::{Disk, DiskFailed, Redo};
+
+// Stages 1 and 2: the record, and then the gate open, each synced.
+fn begin<D: Disk>(disk: &mut D, redo: &Redo) -> Result<(), DiskFailed>
+    requires writable { IsWritable redo.now }
+    requires ready { ForSome (D.device disk.old).contents (IsReady redo.now) }
+    requires synced { IsAllSynced (D.device disk.old) }
+    ensures told { OnOk result ((D.device disk.new).contents ≡ option_map (opened redo.now)
+        (D.device disk.old).contents) }
+    ensures going { OnOk result (ForSome (D.device disk.old).contents (λ start.
+        Shows (IsGoing redo.now (opened redo.now start)) (D.device disk.new))) }
+    ensures early { ForSome (D.device disk.old).contents (λ start.
+        Shows (IsEarly redo.now start) (D.device disk.new)) }
+
+    // At each moment of it.
+    ensures run { ForSome (D.device disk.old).contents (λ start.
+        Runs (IsBeforeOrAfter redo.now start) (D.device disk.old).moments
+        (D.device disk.new).moments) }
+    ensures opening { ForSome (D.device disk.old).contents (λ start.
+        WhereTold (D.device disk.old).moments
+        (OpensNowFor result (ReplaysTo (changed redo.now start))
+        (D.device disk.old).moments (D.device disk.new).moments)) }
+    ensures cause { FailsBy ⊥ (D.device disk.old) (D.device disk.new) result }
+{
+    stage(disk, redo)?;
+    set_gate(disk, 1)
+}
+
+/// Stages 3 and 4: the change in the files of the base, and then the gate closed, each synced.
+pub(crate) fn finish<D: Disk>(disk: &mut D, redo: &Redo) -> Result<(), DiskFailed>
+    requires lengths { AreLegalLengths redo.now.lengths }
+    requires going { ForSome (D.device disk.old).contents (IsUnderWay redo.now) }
+
+    // Where the change is under way from some files with an open gate, it is done, or it stays under way.
+    ensures done { OnOk result ((from : Files) → IsOpened redo.now from
+        → Shows (IsGoing redo.now from) (D.device disk.old)
+        → (D.device disk.new).contents ≡ option_map (λ _.
+        closed redo.now from) (D.device disk.old).contents) }
+    ensures silent { OnOk result ((D.device disk.old).contents ≡ None
+        → (D.device disk.new).contents ≡ None) }
+    ensures synced { OnOk result ((from : Files) → IsOpened redo.now from
+        → Shows (IsGoing redo.now from) (D.device disk.old) → IsAllSynced (D.device disk.new)) }
+    ensures late { (from : Files) → IsOpened redo.now from
+        → Shows (IsGoing redo.now from) (D.device disk.old)
+        → Shows (IsClosing redo.now from) (D.device disk.new) }
+    ensures run { (from : Files) → IsOpened redo.now from
+        → Shows (IsGoing redo.now from) (D.device disk.old)
+        → Runs (ReplaysTo (changed redo.now from)) (D.device disk.old).moments
+        (D.device disk.new).moments }
+    ensures cause { FailsBy ⊥ (D.device disk.old) (D.device disk.new) result }
+{
+    apply(disk, redo)?;
+    set_gate(disk, 0)
+}
+
+/// Does the change as a whole, through the journal. A stop at any moment, or a fault, leaves files that [`recover`](crate::recover)
+/// takes to what they were before or to what they are after. Takes no memory.
+///
+/// Stage 1 ends the journal with the record and syncs it, stage 2 writes the gate byte as 1 and syncs it, stage 3 sets the
+/// lengths and writes the pieces in order and syncs each changed file once, and stage 4 writes the gate byte as 0 and syncs
+/// it.
+pub fn commit<D: Disk>(disk: &mut D, redo: &Redo) -> Result<(), Stopped>
+    requires writable { IsWritable redo.now }
+    requires ready { ForSome (D.device disk.old).contents (IsReady redo.now) }
+    requires synced { IsAllSynced (D.device disk.old) }
+
+    // Done: exactly the files that are wanted, all of them synced.
+    ensures done { OnOk result ((D.device disk.new).contents ≡ option_map (committed redo.now)
+        (D.device disk.old).contents) }
+    ensures durable { OnOk result (IsAllSynced (D.device disk.new)) }
+
+    // Stopped: only by a fault, and with what settling is to go on from.
+    ensures cause { OnErr result (Rose (D.device disk.old).faults (D.device disk.new).faults) }
+    ensures later { (D.device disk.old).faults ≤ (D.device disk.new).faults }
+    ensures in_doubt { IfErr result (λ stopped. ForSome (D.device disk.old).contents (λ start.
+        Shows (IsInDoubt stopped redo.now start) (D.device disk.new))) }
+
+    // A crash at any moment leaves files before the change or after it, and those after it from the moment on at which the
+    // gate has come to stand open for good: none where it is stopped early, and one where it is done or stopped late.
+    ensures crash { ForSome (D.device disk.old).contents (λ start.
+        LeavesOnly (D.device disk.old) (D.device disk.new) (IsBeforeOrAfter redo.now start)) }
+    ensures opening { ForSome (D.device disk.old).contents (λ start.
+        WhereTold (D.device disk.old).moments
+        (OpensFor result (ReplaysTo (changed redo.now start)) (D.device disk.old).moments
+        (D.device disk.new).moments)) }
+{
+    let Ok(()) = begin(disk, redo) else {
+        return Err(Stopped::Early);
+    };
+    let Ok(()) = finish(disk, redo) else {
+        return Err(Stopped::Late);
+    };
+    Ok(())
+}

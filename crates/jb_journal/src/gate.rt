@@ -1,0 +1,44 @@
+//! The journal's first byte.
+ghost use Rattle.std.specs.Prelude.{◌≡◌, ◌≤◌, ◌↔◌, IsTrue, ◌∷◌, [], length, IfOk, OnOk};
+ghost use Rattle.std.specs.Option.{ForSome, option_map};
+ghost use Rattle.jb_disk.specs.declared.file.FileId.TheVariants.{Jnl};
+ghost use Rattle.jb_disk.specs.Device.{OnlyReads, FailsBy};
+ghost use Rattle.jb_disk.specs.Files.{Files, written};
+ghost use Rattle.jb_disk.specs.Runs.{LeavesNow, Keeps};
+ghost use Rattle.jb_disk.specs.Gate.{IsGateOpen};
+ghost use Rattle.jb_journal.specs.Stages.{IsAtGate};
+ghost use Rattle.jb_journal.specs.Opening.{WhereTold};
+ghost use Rattle.jb_journal.specs.Writing.{Reaches, WidensFor};
+
+use jb_disk::{Disk, DiskFailed, FileId};
+
+/// Writes the gate byte and syncs it.
+pub(crate) fn set_gate<D: Disk>(disk: &mut D, gate: u8) -> Result<(), DiskFailed>
+    requires { Reaches (D.device disk.old).contents Jnl 1 }
+    ensures told { OnOk result ((D.device disk.new).contents ≡ option_map (written Jnl 0 (gate ∷
+        [])) (D.device disk.old).contents) }
+    ensures durable { OnOk result (ForSome (D.device disk.old).contents (λ files. LeavesNow (λ left.
+        left Jnl ≡ written Jnl 0 (gate ∷ []) files Jnl) (D.device disk.new).moments)) }
+    ensures wide { WhereTold (D.device disk.old).moments (WidensFor result
+        (D.device disk.old).moments (D.device disk.new).moments) }
+    ensures keeps { (base : Files) → Keeps (IsAtGate base) (D.device disk.old) (D.device disk.new) }
+    ensures cause { FailsBy ⊥ (D.device disk.old) (D.device disk.new) result }
+{
+    disk.write_at(FileId::Jnl, 0, &[gate])?;
+    disk.sync(FileId::Jnl)
+}
+
+/// Whether the gate is open.
+pub(crate) fn is_gate_open<D: Disk>(disk: &mut D) -> Result<bool, DiskFailed>
+    ensures found { IfOk result (λ is_open. ForSome (D.device disk.old).contents (λ files.
+        IsTrue is_open ↔ IsGateOpen files)) }
+    ensures kept { OnlyReads (D.device disk.old) (D.device disk.new) }
+    ensures cause { FailsBy ⊥ (D.device disk.old) (D.device disk.new) result }
+{
+    if disk.len(FileId::Jnl)? <= 16 {
+        return Ok(false);
+    }
+    let mut gate = [0];
+    disk.read_at(FileId::Jnl, 0, &mut gate)?;
+    Ok(gate[0] == 1)
+}

@@ -1,0 +1,94 @@
+//! Whether a change that was stopped stands.
+ghost use Rattle.std.specs.Prelude.{◌≡◌, ◌≤◌, ◌↔◌, IsTrue, IfOk, IfErr, OnOk, OnErr};
+ghost use Rattle.std.specs.Option.{ForSome};
+ghost use Rattle.jb_base.specs.Fault.{Rose};
+ghost use Rattle.jb_disk.specs.declared.file.FileId.TheVariants.{Jnl};
+ghost use Rattle.jb_disk.specs.Change.{Change};
+ghost use Rattle.jb_disk.specs.Device.{FailsBy};
+ghost use Rattle.jb_disk.specs.Files.{Files};
+ghost use Rattle.jb_disk.specs.Runs.{LeavesNow, Shows, Keeps, LeavesOnly, IsAllSynced};
+ghost use Rattle.jb_disk.specs.Gate.{IsGateOpen};
+ghost use Rattle.jb_redo.specs.Rules.{AreLegalLengths};
+ghost use Rattle.jb_journal.specs.declared.stopped.Stopped.{Stopped};
+ghost use Rattle.jb_journal.specs.declared.stopped.Stopped.TheVariants.{Early, Late};
+ghost use Rattle.jb_journal.specs.Commit.{IsReady};
+ghost use Rattle.jb_journal.specs.Doubt.{IsInDoubt, HasStopped, DoubtReplays, IsSettledAt, answered};
+
+use crate::Stopped;
+use crate::committing::finish;
+use crate::gate::is_gate_open;
+use crate::preparing::make_head;
+use jb_disk::{Disk, DiskFailed, FileId, Redo};
+
+// Syncs the journal, and tells whether the gate is open.
+fn sync_gate<D: Disk>(disk: &mut D) -> Result<bool, DiskFailed>
+    ensures found { IfOk result (λ is_open. ForSome (D.device disk.old).contents (λ files.
+        IsTrue is_open ↔ IsGateOpen files)) }
+    ensures kept { OnOk result ((D.device disk.new).contents ≡ (D.device disk.old).contents) }
+    ensures durable { OnOk result (ForSome (D.device disk.old).contents (λ files. LeavesNow (λ left.
+        left Jnl ≡ files Jnl) (D.device disk.new).moments)) }
+    ensures keeps { (stopped : Stopped) (change : Change) (start : Files)
+        → Keeps (IsInDoubt stopped change start) (D.device disk.old) (D.device disk.new) }
+    ensures cause { FailsBy ⊥ (D.device disk.old) (D.device disk.new) result }
+{
+    disk.sync(FileId::Jnl)?;
+    is_gate_open(disk)
+}
+
+/// Settles whether the change of a stopped [`commit`](crate::commit) stands, and finishes it where it does. It is given the
+/// same change and where it was stopped; after a refusal it is called again with what that says. Takes no memory.
+///
+/// It begins with a sync of the journal and a read of the gate. An open gate means stages 3 and 4 once more. A closed one
+/// means after a late stop that the change is there, and after an early one that it is not.
+pub fn settle<D: Disk>(disk: &mut D, redo: &Redo, stopped: Stopped) -> Result<bool, Stopped>
+    requires lengths { AreLegalLengths redo.now.lengths }
+    requires in_doubt { ForSome (D.device disk.old).contents (λ files.
+        HasStopped stopped redo.now (D.device disk.old)) }
+
+    // Settled: the files with the change or without it, as it answers, the gate closed, and nothing unsynced.
+    ensures answer { IfOk result (λ stands. (start : Files) → IsReady redo.now start
+        → Shows (IsInDoubt stopped redo.now start) (D.device disk.old)
+        → Shows (IsSettledAt (answered stands redo.now start)) (D.device disk.new)) }
+    ensures durable { OnOk result ((start : Files) → IsReady redo.now start
+        → Shows (IsInDoubt stopped redo.now start) (D.device disk.old)
+        → IsAllSynced (D.device disk.new)) }
+
+    // After an early stop the change stands exactly where the gate was open, and after a late one always.
+    ensures early { IfOk result (λ stands. stopped ≡ Early
+        → ForSome (D.device disk.old).contents (λ files. IsTrue stands ↔ IsGateOpen files)) }
+    ensures late { IfOk result (λ stands. stopped ≡ Late → IsTrue stands) }
+
+    // Stopped again: only by a fault, with the doubt that it says; late stays late, and becomes late by an open gate alone.
+    ensures cause { OnErr result (Rose (D.device disk.old).faults (D.device disk.new).faults) }
+    ensures later { (D.device disk.old).faults ≤ (D.device disk.new).faults }
+    ensures still { IfErr result (λ again. (start : Files) → IsReady redo.now start
+        → Shows (IsInDoubt stopped redo.now start) (D.device disk.old)
+        → Shows (IsInDoubt again redo.now start) (D.device disk.new)) }
+    ensures late_stays { IfErr result (λ again. stopped ≡ Late → again ≡ Late) }
+    ensures late_by { IfErr result (λ again. stopped ≡ Early → again ≡ Late
+        → ForSome (D.device disk.old).contents IsGateOpen) }
+
+    // A crash at any moment leaves what the doubt allows.
+    ensures crash { (start : Files) → IsReady redo.now start
+        → Shows (IsInDoubt stopped redo.now start) (D.device disk.old)
+        → LeavesOnly (D.device disk.old) (D.device disk.new) (DoubtReplays stopped redo.now start) }
+{
+    let Ok(is_open) = sync_gate(disk) else {
+        return Err(stopped);
+    };
+    if is_open {
+        let Ok(()) = finish(disk, redo) else {
+            return Err(Stopped::Late);
+        };
+        return Ok(true);
+    }
+    match stopped {
+        Stopped::Late => Ok(true),
+        Stopped::Early => {
+            let Ok(()) = make_head(disk) else {
+                return Err(Stopped::Early);
+            };
+            Ok(false)
+        }
+    }
+}
