@@ -1,2 +1,9 @@
-pub mod CompactLemmas
+pub mod AreaLemmas
+pub mod FirstTests
+pub mod HeaderExtents
+pub mod Once
+pub mod Opened
+pub mod Refusals
+pub mod FileBytes
 pub mod SlotsSoFar
+pub mod Theorems

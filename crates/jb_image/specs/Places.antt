@@ -1,7 +1,7 @@
 -- Where the records of a base stand in its files (JAM, "Header file", "Message header", "Index file", "Lastread file").
-use Rattle.std.specs.Prelude.{ℕ, ◌*◌, List, take, drop}
+use Rattle.std.specs.Prelude.{ℕ, ◌+◌, ◌*◌, List, take, drop}
 use Rattle.jb_disk.specs.Files.{Files}
-use Rattle.jb_disk.specs.declared.file.FileId.TheVariants.{Jhr, Jdt, Jdx, Jlr}
+use Rattle.jb_disk.specs.declared.file.FileId.TheVariants.{Jhr, Jdx, Jlr}
 use Rattle.jb_record.specs.declared.fixed.FixedHeader.{FixedHeader}
 use Rattle.jb_record.specs.declared.index.IndexRecord.{IndexRecord}
 use Rattle.jb_record.specs.declared.lastread.MarkRecord.{MarkRecord}
@@ -30,3 +30,7 @@ mark_in files k = lastread_record_of (bytes_at (16 * k) 16 (files Jlr))
 -- the message header at a place of .JHR, in bytes
 abbrev pub header_in : Files → ℕ → MessageHeader
 header_in files at = message_header_of (bytes_at at 76 (files Jhr))
+
+-- the subfields of the message whose header stands at this place of .JHR, as bytes
+abbrev pub subfields_in : Files → ℕ → List ℕ
+subfields_in files at = bytes_at (at + 76) (header_in files at).subfields (files Jhr)

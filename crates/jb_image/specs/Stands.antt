@@ -1,7 +1,7 @@
 -- What the files of a JAM base stand for.
-use Rattle.std.specs.Prelude.{◌≡◌, ◌≢◌, ℕ, ◌+◌, ◌*◌, ◌<◌, ◌≤◌, List, length, slice_index_or, AllPairs, bit_and}
+use Rattle.std.specs.Prelude.{◌≡◌, ◌≢◌, ℕ, ◌+◌, ◌*◌, ◌<◌, ◌≤◌, length, slice_index_or, AllPairs, bit_and}
 use Rattle.jb_base.specs.declared.limits.TheConstants.{MOST_MARKS, MOST_SUBFIELD_BYTES}
-use Rattle.jb_base.specs.Subfields.{IsSubfieldList, subfield_bytes}
+use Rattle.jb_base.specs.Subfields.{IsSubfieldList}
 use Rattle.jb_disk.specs.Files.{Files}
 use Rattle.jb_disk.specs.declared.file.FileId.TheVariants.{Jhr, Jdt, Jdx, Jlr}
 use Rattle.jb_model.specs.Sound.{AreApart, IsWithin, IsTextWithin}
@@ -12,7 +12,7 @@ use Rattle.jb_model.specs.declared.loaded.LoadedSlot.{LoadedSlot}
 use Rattle.jb_model.specs.declared.loaded.LoadedSlot.TheVariants.{Empty, Killed, Live}
 use Rattle.jb_model.specs.declared.mark.Mark.{Mark}
 use Rattle.jb_model.specs.declared.message.Head.{Head}
-use Rattle.jb_model.specs.declared.message.TheConstants.{DELETED}
+use Rattle.jb_base.specs.declared.attribute.TheConstants.{DELETED}
 use Rattle.jb_record.specs.declared.fixed.FixedHeader.{FixedHeader}
 use Rattle.jb_record.specs.declared.index.IndexRecord.{IndexRecord}
 use Rattle.jb_record.specs.declared.index.TheConstants.{EMPTY_SLOT}

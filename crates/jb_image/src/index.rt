@@ -1,21 +1,20 @@
-//! The reading of the index and of the slots that it names.
-ghost use Rattle.std.specs.Prelude.{◌≡◌, ◌+◌, ◌*◌, ◌≤◌, ◌<◌, ◌^◌, ℕ, IfOk, IfErr, IfSome, IfNone, length, vec_len};
+//! The index, and the first look at the slots that it names.
+ghost use Rattle.std.specs.Prelude.{◌≡◌, ◌+◌, ◌*◌, ◌<◌, ◌≤◌, IfOk, IfErr, IfSome, IfNone, All, length, vec_len};
 ghost use Rattle.std.specs.Option.{ForSome};
 ghost use Rattle.jb_disk.specs.Device.{OnlyReads};
 ghost use Rattle.jb_disk.specs.declared.file.FileId.TheVariants.{Jdx as index_file};
 ghost use Rattle.jb_record.specs.Index.{index_record_of};
-ghost use Rattle.jb_image.specs.Answers.{FaultRose};
-ghost use Rattle.jb_image.specs.Compact.{IsInOrder};
+ghost use Rattle.jb_image.specs.Answers.{FaultRose, IsDamaged};
 ghost use Rattle.jb_image.specs.Lengths.{AreLengths};
-ghost use Rattle.jb_image.specs.Places.{bytes_at};
-ghost use Rattle.jb_image.specs.Reading.{AreReadSlots, AreSlotsOf};
+ghost use Rattle.jb_image.specs.Places.{bytes_at, entry_in};
+ghost use Rattle.jb_image.specs.Reading.{AreSeen, IsSeenWithin};
 
-use crate::error::ReadError;
+use crate::error::{Damage, ReadError};
+use crate::header::see_slot;
 use crate::lengths::Lengths;
-use crate::message::read_message;
+use crate::seen::SeenSlot;
 use jb_disk::{Disk, FileId};
-use jb_model::{LoadedSlot, LoadedSlots};
-use jb_record::{FIXED_HEADER_BYTES, INDEX_RECORD_BYTES, IndexRecord, decode_index};
+use jb_record::{INDEX_RECORD_BYTES, IndexRecord, decode_index};
 use std::alloc::Global;
 
 /// The whole index, of this length.
@@ -26,7 +25,8 @@ pub(crate) fn read_index<D: Disk>(
 ) -> Result<Vec<u8>, ReadError>
     requires { ForSome (D.device disk.old).contents (λ files. length (files index_file) ≡ len) }
     ensures size { IfOk result (λ index. vec_len index ≡ len) }
-    ensures found { IfOk result (λ index. ForSome (D.device disk.old).contents (λ files. index.items ≡ files index_file)) }
+    ensures found { IfOk result (λ index. ForSome (D.device disk.old).contents (λ files.
+        index.items ≡ files index_file)) }
     ensures kept { OnlyReads (D.device disk.old) (D.device disk.new) }
     ensures later { (D.device disk.old).faults ≤ (D.device disk.new).faults }
     ensures cause { IfErr result (FaultRose (D.device disk.old).faults (D.device disk.new).faults) }
@@ -45,41 +45,55 @@ fn entry_at(index: &[u8], k: usize) -> IndexRecord
     decode_index(&index[at..at + INDEX_RECORD_BYTES]).unwrap()
 }
 
-/// The slots that the index names, if each is a live message and they stand one behind another.
-pub(crate) fn read_slots<D: Disk>(
+/// The slots whose headers were read, in the order of the index, and what is wrong with the next one, if something is.
+#[derive(Debug, Drop)]
+pub(crate) struct Seen {
+    pub(crate) slots: Vec<SeenSlot>,
+    pub(crate) damage: Option<Damage>,
+}
+
+/// The slots of the index up to the first whose header is damaged, as far as that is seen without the subfields. At
+/// most one device read a slot.
+pub(crate) fn see_slots<D: Disk>(
     alloc: Global,
     disk: &mut D,
     index: &[u8],
     lengths: &Lengths,
     count: usize,
-) -> Result<Option<LoadedSlots>, ReadError>
+) -> Result<Seen, ReadError>
     requires all { length index.now ≡ 8 * count }
     requires lengths { ForSome (D.device disk.old).contents (AreLengths lengths.now) }
     requires index { ForSome (D.device disk.old).contents (λ files. index.now ≡ files index_file) }
 
-    // The slots, where all are as they must be.
-    ensures found { IfOk result (λ some. IfSome some (AreReadSlots count lengths.now.headers lengths.now.texts)) }
-    ensures slots { IfOk result (λ some. IfSome some (λ slots. ForSome (D.device disk.old).contents (λ files. AreSlotsOf files slots))) }
-    ensures in_order { IfOk result (λ some. IfSome some (λ _. ForSome (D.device disk.old).contents (λ files. IsInOrder files count))) }
-    ensures none { IfOk result (λ some. IfNone some (ForSome (D.device disk.old).contents (λ files. IsInOrder files count → ⊥))) }
+    // The slots, as far as they are read.
+    ensures within { IfOk result (λ seen. All (IsSeenWithin lengths.now.headers) seen.slots.items) }
+    ensures found { IfOk result (λ seen. ForSome (D.device disk.old).contents (λ files.
+        AreSeen files seen.slots.items)) }
+    ensures whole { IfOk result (λ seen. IfNone seen.damage (length seen.slots.items ≡ count)) }
+    ensures part { IfOk result (λ seen. IfSome seen.damage (λ _. length seen.slots.items < count)) }
+    ensures damaged { IfOk result (λ seen. IfSome seen.damage (λ damage. ForSome (D.device disk.old).contents (λ files.
+        IsDamaged files (entry_in files (length seen.slots.items)) damage))) }
 
     // The disk is only read.
     ensures kept { OnlyReads (D.device disk.old) (D.device disk.new) }
     ensures later { (D.device disk.old).faults ≤ (D.device disk.new).faults }
     ensures cause { IfErr result (FaultRose (D.device disk.old).faults (D.device disk.new).faults) }
 {
-    let mut slots = LoadedSlots::new(alloc);
-    let mut at = FIXED_HEADER_BYTES as u32;
+    let mut slots = Vec::new(alloc);
     for k in 0..count {
         let entry = entry_at(index, k);
-        if entry.offset != at {
-            return Ok(None);
+        match see_slot(disk, &entry, lengths)? {
+            Ok(slot) => slots.push(slot)?,
+            Err(damage) => {
+                return Ok(Seen {
+                    slots,
+                    damage: Some(damage),
+                });
+            }
         }
-        let Some(read) = read_message(alloc, disk, &entry, lengths)? else {
-            return Ok(None);
-        };
-        at = read.end;
-        slots.push(LoadedSlot::Live(read.message))?;
     }
-    Ok(Some(slots))
+    Ok(Seen {
+        slots,
+        damage: None,
+    })
 }

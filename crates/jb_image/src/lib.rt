@@ -1,16 +1,24 @@
 //! What the files of a JAM base stand for, and the reading of them (JAM, "Header file" to "Lastread file").
 //!
-//! The layer above may rely on this: [`decode`] answers with the area for which the files stand, without its texts, in at
-//! most two device reads a message and two more; it reads no text and keeps no copy of the headers. Until headers in any
-//! order are read it answers [`OpenError::NotYet`] where the base is not compact.
+//! The layer above may rely on this: [`decode`] answers with the area for which the files stand, without its texts, or
+//! with the first test that they fail, its number and its place ([`OpenError`]). It makes at most two device reads a
+//! message and four more, and reads no text. Beside what it gives it holds the index and the fields of one header a slot,
+//! and subfields of several messages only once their headers lie apart. Until the journal is recovered it answers
+//! [`OpenError::NotYet`] where the journal's gate is open.
 #![tactic(auto)]
 
 mod error;
+mod fixed;
+mod header;
 mod index;
 mod lengths;
+mod loading;
+mod marks;
 mod message;
 mod opening;
+mod overlap;
 mod place;
+mod seen;
 
 pub use error::OpenError;
 pub use opening::decode;

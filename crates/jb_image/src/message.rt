@@ -1,63 +1,42 @@
-//! The reading of one live message.
-ghost use Rattle.std.specs.Prelude.{◌≡◌, ◌+◌, ◌≤◌, ℕ, IfOk, IfErr, IfSome, IfNone, IsTrue, ◌↔◌, ◌^◌, ◌<◌, length, List};
+//! The second look at a slot: the subfields of a live message, and the place of its text.
+ghost use Rattle.std.specs.Prelude.{◌≡◌, ◌+◌, ◌≤◌, IfOk, IfErr, length};
 ghost use Rattle.std.specs.Option.{ForSome};
 ghost use Rattle.jb_base.specs.Subfields.{IsSubfieldList, subfield_bytes};
-ghost use Rattle.jb_base.specs.declared.subfield.Subfield.{Subfield};
 ghost use Rattle.jb_disk.specs.Device.{OnlyReads};
 ghost use Rattle.jb_disk.specs.declared.file.FileId.TheVariants.{Jhr as headers};
-ghost use Rattle.jb_image.specs.Reading.{IsReadAs};
-ghost use Rattle.jb_model.specs.declared.loaded.LoadedMessage.{LoadedMessage};
-ghost use Rattle.jb_image.specs.Answers.{FaultRose};
+ghost use Rattle.jb_model.specs.Sound.{IsTextWithin};
+ghost use Rattle.jb_record.specs.declared.index.IndexRecord.{IndexRecord};
+ghost use Rattle.jb_image.specs.Answers.{FaultRose, IsDamaged};
 ghost use Rattle.jb_image.specs.Lengths.{AreLengths};
-ghost use Rattle.jb_image.specs.Places.{bytes_at, header_in};
-ghost use Rattle.jb_image.specs.Stands.{HasHeader, IsLiveHeader, IsLiveIn, head_of};
+ghost use Rattle.jb_image.specs.Places.{bytes_at};
+ghost use Rattle.jb_image.specs.Reading.{IsCutBy, IsLoadedFrom, IsSeenAs, IsSeenLive, IsSeenWithin};
+ghost use Rattle.jb_image.specs.Stands.{HasSlot, IsLiveIn, head_of};
 
-use crate::error::ReadError;
+use crate::error::{Damage, ReadError};
 use crate::lengths::Lengths;
-use crate::place::{is_text_within, is_within};
-use jb_base::{MOST_SUBFIELD_BYTES, Subfields};
+use crate::place::is_text_within;
+use crate::seen::{SeenMessage, SeenSlot};
+use jb_base::Subfields;
 use jb_disk::{Disk, FileId};
-use jb_model::{DELETED, Head, LoadedMessage};
-use jb_record::{IndexRecord, MESSAGE_HEADER_BYTES, MessageHeader, decode_message};
+use jb_model::{Head, LoadedMessage, LoadedSlot};
+use jb_record::{MESSAGE_HEADER_BYTES, MessageHeader};
 use jb_subfield::SubfieldError;
 use std::alloc::Global;
 
-/// The message header at a place of .JHR, if one stands there.
-fn read_header<D: Disk>(
-    disk: &mut D,
-    at: u32,
-    lengths: &Lengths,
-) -> Result<Option<MessageHeader>, ReadError>
-    requires { ForSome (D.device disk.old).contents (AreLengths lengths.now) }
-    ensures found { IfOk result (λ header. IfSome header (λ header. ForSome (D.device disk.old).contents (λ files.
-        HasHeader files at × (header ≡ header_in files at)))) }
-    ensures none { IfOk result (λ header. IfNone header (ForSome (D.device disk.old).contents (λ files. HasHeader files at → ⊥))) }
-    ensures kept { OnlyReads (D.device disk.old) (D.device disk.new) }
-    ensures later { (D.device disk.old).faults ≤ (D.device disk.new).faults }
-    ensures cause { IfErr result (FaultRose (D.device disk.old).faults (D.device disk.new).faults) }
-{
-    if !is_within(lengths.headers, at, MESSAGE_HEADER_BYTES as u32) {
-        return Ok(None);
-    }
-    let mut bytes = [0; MESSAGE_HEADER_BYTES];
-    disk.read_at(FileId::Jhr, at as u64, &mut bytes)?;
-    Ok(decode_message(&bytes))
-}
-
-/// The subfields that stand at a place of .JHR in so many bytes, if these are a list of subfields.
+/// The subfields that stand at a place of .JHR in so many bytes, or the place of the first that is cut off.
 fn read_subfields<D: Disk>(
     alloc: Global,
     disk: &mut D,
     at: u32,
     len: u32,
-) -> Result<Option<Subfields>, ReadError>
+) -> Result<Result<Subfields, Damage>, ReadError>
     requires few { len ≤ 262_144 }
     requires inside { ForSome (D.device disk.old).contents (λ files. at + len ≤ length (files headers)) }
-    ensures size { IfOk result (λ list. IfSome list (λ fields. length (subfield_bytes fields) ≡ len)) }
-    ensures found { IfOk result (λ list. IfSome list (λ fields. ForSome (D.device disk.old).contents (λ files.
+    ensures size { IfOk result (λ read. IfOk read (λ fields. length (subfield_bytes fields) ≡ len)) }
+    ensures found { IfOk result (λ read. IfOk read (λ fields. ForSome (D.device disk.old).contents (λ files.
         IsSubfieldList fields (bytes_at at len (files headers))))) }
-    ensures none { IfOk result (λ list. IfNone list (ForSome (D.device disk.old).contents (λ files.
-        (fields : List Subfield) → IsSubfieldList fields (bytes_at at len (files headers)) → ⊥))) }
+    ensures cut { IfOk result (λ read. IfErr read (λ damage. ForSome (D.device disk.old).contents (λ files.
+        IsCutBy (bytes_at at len (files headers)) damage))) }
     ensures kept { OnlyReads (D.device disk.old) (D.device disk.new) }
     ensures later { (D.device disk.old).faults ≤ (D.device disk.new).faults }
     ensures cause { IfErr result (FaultRose (D.device disk.old).faults (D.device disk.new).faults) }
@@ -65,8 +44,8 @@ fn read_subfields<D: Disk>(
     let mut bytes = vec![in alloc; 0; len as usize]?;
     disk.read_at(FileId::Jhr, at as u64, bytes.as_mut_slice())?;
     match jb_subfield::decode(alloc, bytes.as_slice()) {
-        Ok(fields) => Ok(Some(fields)),
-        Err(SubfieldError::Cut { .. }) => Ok(None),
+        Ok(fields) => Ok(Ok(fields)),
+        Err(SubfieldError::Cut { at }) => Ok(Err(Damage::Subfields { at })),
         Err(SubfieldError::OutOfMemory) => Err(ReadError::OutOfMemory),
     }
 }
@@ -93,69 +72,76 @@ fn head_of(header: &MessageHeader) -> Head
     }
 }
 
-/// Whether a header at a place is that of a live message, with its subfields and its text within the files.
-fn is_live(at: u32, header: &MessageHeader, lengths: &Lengths) -> bool
-    ensures { IsTrue result ↔ IsLiveHeader lengths.now.headers lengths.now.texts at header.now }
-{
-    header.attribute & DELETED == 0
-        && header.subfields <= MOST_SUBFIELD_BYTES
-        && is_within(
-            lengths.headers,
-            at,
-            MESSAGE_HEADER_BYTES as u32 + header.subfields,
-        )
-        && is_text_within(lengths.texts, header.offset, header.text_len)
-}
-
-/// A message, and the place behind its header and subfields.
-#[derive(Debug, Drop)]
-pub(crate) struct ReadMessage {
-    pub(crate) message: LoadedMessage,
-    pub(crate) end: u32,
-}
-
-/// The live message that an index record names, if it names one.
-pub(crate) fn read_message<D: Disk>(
+/// The live message whose header was read, with its subfields, or what is wrong with it.
+fn load_message<D: Disk>(
     alloc: Global,
     disk: &mut D,
-    entry: &IndexRecord,
+    seen: &SeenMessage,
     lengths: &Lengths,
-) -> Result<Option<ReadMessage>, ReadError>
-    requires { ForSome (D.device disk.old).contents (AreLengths lengths.now) }
+) -> Result<Result<LoadedMessage, Damage>, ReadError>
+    requires lengths { ForSome (D.device disk.old).contents (AreLengths lengths.now) }
+    requires within { IsSeenWithin lengths.now.headers (SeenSlot.Live seen.now) }
+    ensures found { IfOk result (λ read. IfOk read (λ message.
+        IsLoadedFrom lengths.now.texts (SeenSlot.Live seen.now) (LoadedSlot.Live message))) }
+    ensures live { IfOk result (λ read. IfOk read (λ message. ForSome (D.device disk.old).contents (λ files.
+        (entry : IndexRecord) → IsSeenLive files entry seen.now
+        → (entry.user_crc ≡ message.owner) × IsLiveIn files message))) }
+    ensures damaged { IfOk result (λ read. IfErr read (λ damage. ForSome (D.device disk.old).contents (λ files.
+        (entry : IndexRecord) → IsSeenLive files entry seen.now → IsDamaged files entry damage))) }
+    ensures kept { OnlyReads (D.device disk.old) (D.device disk.new) }
+    ensures later { (D.device disk.old).faults ≤ (D.device disk.new).faults }
+    ensures cause { IfErr result (FaultRose (D.device disk.old).faults (D.device disk.new).faults) }
+{
+    let header = &seen.header;
+    let begin = seen.header_at + MESSAGE_HEADER_BYTES as u32;
+    let subfields = match read_subfields(alloc, disk, begin, header.subfields)? {
+        Ok(subfields) => subfields,
+        Err(damage) => return Ok(Err(damage)),
+    };
+    if !is_text_within(lengths.texts, header.offset, header.text_len) {
+        return Ok(Err(Damage::TextPlace));
+    }
+    Ok(Ok(LoadedMessage {
+        owner: seen.owner,
+        head: head_of(header),
+        subfields,
+        header_at: seen.header_at,
+        text_at: header.offset,
+        text_len: header.text_len,
+    }))
+}
 
-    // The message, where there is one.
-    ensures found { IfOk result (λ some. IfSome some (λ read. IsReadAs entry.now lengths.now.headers lengths.now.texts read)) }
-    ensures live { IfOk result (λ some. IfSome some (λ read. ForSome (D.device disk.old).contents (λ files.
-        IsLiveIn files read.message))) }
-    ensures none { IfOk result (λ some. IfNone some (ForSome (D.device disk.old).contents (λ files.
-        (message : LoadedMessage) → message.header_at ≡ entry.now.offset → IsLiveIn files message → ⊥))) }
+/// The slot whose header was read, or what is wrong with its subfields or the place of its text. At most one device
+/// read.
+pub(crate) fn load_slot<D: Disk>(
+    alloc: Global,
+    disk: &mut D,
+    seen: &SeenSlot,
+    lengths: &Lengths,
+) -> Result<Result<LoadedSlot, Damage>, ReadError>
+    requires lengths { ForSome (D.device disk.old).contents (AreLengths lengths.now) }
+    requires within { IsSeenWithin lengths.now.headers seen.now }
+
+    // The slot, or the first test that it fails.
+    ensures found { IfOk result (λ read. IfOk read (IsLoadedFrom lengths.now.texts seen.now)) }
+    ensures named { IfOk result (λ read. IfOk read (λ slot. ForSome (D.device disk.old).contents (λ files.
+        (entry : IndexRecord) → IsSeenAs files entry seen.now → HasSlot files entry slot))) }
+    ensures damaged { IfOk result (λ read. IfErr read (λ damage. ForSome (D.device disk.old).contents (λ files.
+        (entry : IndexRecord) → IsSeenAs files entry seen.now → IsDamaged files entry damage))) }
 
     // The disk is only read.
     ensures kept { OnlyReads (D.device disk.old) (D.device disk.new) }
     ensures later { (D.device disk.old).faults ≤ (D.device disk.new).faults }
     ensures cause { IfErr result (FaultRose (D.device disk.old).faults (D.device disk.new).faults) }
 {
-    let at = entry.offset;
-    let Some(header) = read_header(disk, at, lengths)? else {
-        return Ok(None);
-    };
-    if !is_live(at, &header, lengths) {
-        return Ok(None);
+    match seen {
+        SeenSlot::Empty => Ok(Ok(LoadedSlot::Empty)),
+        SeenSlot::Killed { header_at } => Ok(Ok(LoadedSlot::Killed {
+            header_at: *header_at,
+        })),
+        SeenSlot::Live(message) => match load_message(alloc, disk, message, lengths)? {
+            Ok(message) => Ok(Ok(LoadedSlot::Live(message))),
+            Err(damage) => Ok(Err(damage)),
+        },
     }
-    let begin = at + MESSAGE_HEADER_BYTES as u32;
-    let Some(subfields) = read_subfields(alloc, disk, begin, header.subfields)? else {
-        return Ok(None);
-    };
-    let message = LoadedMessage {
-        owner: entry.user_crc,
-        head: head_of(&header),
-        subfields,
-        header_at: at,
-        text_at: header.offset,
-        text_len: header.text_len,
-    };
-    Ok(Some(ReadMessage {
-        message,
-        end: begin + header.subfields,
-    }))
 }

@@ -1,63 +1,100 @@
 //! The opening of a base.
-ghost use Rattle.std.specs.Prelude.{◌≡◌, ◌+◌, ◌*◌, ◌≤◌, ℕ, IfOk, IfErr, IfSome, IfNone, IsErrOf, [], length};
+ghost use Rattle.std.specs.Prelude.{◌≡◌, ◌+◌, ◌*◌, ◌≤◌, ℕ, IfOk, IfErr, IfSome, IfNone, IsErrOf, All, AllPairs, length, map};
 ghost use Rattle.std.specs.Option.{ForSome};
 ghost use Rattle.jb_base.specs.Fault.{Rose};
 ghost use Rattle.jb_disk.specs.Device.{OnlyReads};
-ghost use Rattle.jb_disk.specs.declared.file.FileId.TheVariants.{Jhr as headers};
-ghost use Rattle.jb_model.specs.Sound.{IsSound};
-ghost use Rattle.jb_record.specs.Fixed.{IsFixedHeader};
-ghost use Rattle.jb_image.specs.Answers.{AnswersFor, FaultRose};
-ghost use Rattle.jb_image.specs.Compact.{IsCompact};
+ghost use Rattle.jb_disk.specs.declared.file.FileId.TheVariants.{Jdx as index_file};
+ghost use Rattle.jb_extent.specs.Extents.{AreDisjoint};
+ghost use Rattle.jb_model.specs.Sound.{IsSound, IsSlotWithin, AreApart};
+ghost use Rattle.jb_image.specs.Answers.{AnswersFor, FaultRose, IsClosed, IsRefusedBy, OpenFaultRose, OpensTo};
+ghost use Rattle.jb_image.specs.Laws.{HasOneStateAtMost, IsNotRefusedWhereOpen, IsRefusedOnceAtMost};
 ghost use Rattle.jb_image.specs.Lengths.{AreLengths};
-ghost use Rattle.jb_image.specs.Places.{bytes_at, fixed_in};
-ghost use Rattle.jb_image.specs.Reading.{IsCompactCount};
-ghost use Rattle.jb_image.specs.Stands.{Loads, fixed_of};
+ghost use Rattle.jb_image.specs.Places.{entry_in, fixed_in};
+ghost use Rattle.jb_image.specs.Reading.{AreSeen, AreSlotsOf, IsLaterRefusal, IsRefusedAmongSlots, extent_seen};
+ghost use Rattle.jb_image.specs.Stands.{fixed_of};
 
 use crate::OpenError;
 use crate::error::ReadError;
-use crate::index::{read_index, read_slots};
+use crate::fixed::{count_slots, is_gate_open, read_fixed};
+use crate::index::{Seen, read_index, see_slots};
 use crate::lengths::Lengths;
-use jb_disk::{Disk, FileId};
+use crate::loading::{load_slots, test_slots};
+use crate::marks::read_marks;
+use crate::overlap::overlap_of;
+use jb_base::OutOfMemory;
+use jb_disk::Disk;
 use jb_model::{Loaded, LoadedSlots, Marks};
-use jb_record::{FIXED_HEADER_BYTES, FixedHeader, INDEX_RECORD_BYTES, decode_fixed};
+use jb_record::FixedHeader;
 use std::alloc::Global;
 
-/// The fixed header, if one stands at the beginning of .JHR.
-fn read_fixed<D: Disk>(disk: &mut D) -> Result<Option<FixedHeader>, ReadError>
-    requires { ForSome (D.device disk.old).contents (λ files. 1024 ≤ length (files headers)) }
-    ensures found { IfOk result (λ some. IfSome some (λ fixed. ForSome (D.device disk.old).contents (λ files.
-        IsFixedHeader (bytes_at 0 1024 (files headers)) × (fixed ≡ fixed_in files)))) }
-    ensures none { IfOk result (λ some. IfNone some (ForSome (D.device disk.old).contents (λ files.
-        IsFixedHeader (bytes_at 0 1024 (files headers)) → ⊥))) }
+/// The refusal that comes where the slots that were seen are whole: the next one is damaged, or two headers overlap.
+fn later_refusal(alloc: Global, seen: &Seen, base: u32) -> Result<Option<OpenError>, OutOfMemory>
+    requires numbers { base + length seen.now.slots.items ≤ 4_294_967_295 }
+    ensures found { IfOk result (λ some. IfSome some (IsLaterRefusal base seen.now.slots.items seen.now.damage)) }
+    ensures quiet { IfOk result (λ some. IfSome some (λ error. (before now : ℕ) → OpenFaultRose before now error)) }
+    ensures none { IfOk result (λ some. IfNone some (IfNone seen.now.damage
+        (AllPairs AreDisjoint (map extent_seen seen.now.slots.items)))) }
+    ensures whole { IfOk result (λ some. IfNone some (IfSome seen.now.damage (λ _. ⊥))) }
+{
+    if let Some(damage) = seen.damage {
+        let number = base + seen.slots.len() as u32;
+        return Ok(Some(damage.of_number(number)));
+    }
+    match overlap_of(alloc, seen.slots.as_slice())? {
+        Some(overlap) => Ok(Some(OpenError::HeadersOverlap {
+            a: base + overlap.one as u32,
+            b: base + overlap.other as u32,
+        })),
+        None => Ok(None),
+    }
+}
+
+/// The slots that the index names, with the subfields of the live messages; or the first test of a slot that fails.
+///
+/// Where a test fails nothing is kept of the slots before it, so that a base that names one long header again and again
+/// is refused in little memory.
+fn read_slots<D: Disk>(
+    alloc: Global,
+    disk: &mut D,
+    index: &[u8],
+    lengths: &Lengths,
+    base: u32,
+    count: u32,
+) -> Result<LoadedSlots, OpenError>
+    requires all { length index.now ≡ 8 * count }
+    requires numbers { base + count ≤ 4_294_967_295 }
+    requires lengths { ForSome (D.device disk.old).contents (AreLengths lengths.now) }
+    requires base { ForSome (D.device disk.old).contents (λ files. base ≡ (fixed_in files).base) }
+    requires index { ForSome (D.device disk.old).contents (λ files. index.now ≡ files index_file) }
+
+    // The slots.
+    ensures count_is { IfOk result (λ slots. length slots ≡ count) }
+    ensures within { IfOk result (All (IsSlotWithin lengths.now.headers lengths.now.texts)) }
+    ensures apart { IfOk result (AllPairs AreApart) }
+    ensures named { IfOk result (λ slots. ForSome (D.device disk.old).contents (λ files. AreSlotsOf files slots)) }
+    ensures refused { IfErr result (λ error. ForSome (D.device disk.old).contents (λ files.
+        IsRefusedAmongSlots files error)) }
+
+    // The disk is only read.
     ensures kept { OnlyReads (D.device disk.old) (D.device disk.new) }
     ensures later { (D.device disk.old).faults ≤ (D.device disk.new).faults }
-    ensures cause { IfErr result (FaultRose (D.device disk.old).faults (D.device disk.new).faults) }
+    ensures cause { IfErr result (OpenFaultRose (D.device disk.old).faults (D.device disk.new).faults) }
 {
-    let mut bytes = [0; FIXED_HEADER_BYTES];
-    disk.read_at(FileId::Jhr, 0, &mut bytes)?;
-    Ok(decode_fixed(&bytes))
+    let seen = see_slots(alloc, disk, index, lengths, count as usize)?;
+    match later_refusal(alloc, &seen, base)? {
+        Some(later) => {
+            test_slots(alloc, disk, seen.slots.as_slice(), lengths, base)?;
+            Err(later)
+        }
+        None => load_slots(alloc, disk, seen.slots.as_slice(), lengths, base),
+    }
 }
 
-/// How many slots the base has, if its lengths and its base number are those of a compact one.
-fn compact_count(fixed: &FixedHeader, lengths: &Lengths, slots: u32) -> Option<u32>
-    ensures found { IfSome result (λ count. IsCompactCount fixed.now lengths.now slots count) }
-    ensures none { IfNone result ((count : ℕ) → IsCompactCount fixed.now lengths.now slots count → ⊥) }
-{
-    let count = lengths.index / INDEX_RECORD_BYTES as u64;
-    let is_compact = lengths.index % INDEX_RECORD_BYTES as u64 == 0
-        && count <= slots as u64
-        && fixed.base >= 1
-        && fixed.base as u64 + count <= u32::MAX as u64
-        && lengths.lastread == 0
-        && lengths.journal <= 16;
-    if is_compact { Some(count as u32) } else { None }
-}
-
-/// An area with these slots and no marks.
-fn loaded_of(alloc: Global, fixed: &FixedHeader, lengths: &Lengths, slots: LoadedSlots) -> Loaded
+/// An area of these parts.
+fn loaded_of(fixed: &FixedHeader, lengths: &Lengths, slots: LoadedSlots, marks: Marks) -> Loaded
     ensures fixed { fixed_of result ≡ fixed.now }
     ensures slots { result.slots ≡ slots }
-    ensures marks { result.marks ≡ [] }
+    ensures marks { result.marks ≡ marks }
     ensures headers_len { result.headers_len ≡ lengths.now.headers }
     ensures texts_len { result.texts_len ≡ lengths.now.texts }
 {
@@ -69,65 +106,73 @@ fn loaded_of(alloc: Global, fixed: &FixedHeader, lengths: &Lengths, slots: Loade
         reserved: fixed.reserved,
         base: fixed.base,
         slots,
-        marks: Marks::new(alloc),
+        marks,
         headers_len: lengths.headers,
         texts_len: lengths.texts,
     }
 }
 
-/// The area for which the files of a compact base stand, if it is one.
-fn read_compact<D: Disk>(
+/// The area of a base whose journal is closed.
+fn read_area<D: Disk>(
     alloc: Global,
     disk: &mut D,
     lengths: &Lengths,
     limit: u32,
-) -> Result<Option<Loaded>, ReadError>
+) -> Result<Loaded, OpenError>
     requires lengths { ForSome (D.device disk.old).contents (AreLengths lengths.now) }
-    requires long { 1024 ≤ lengths.now.headers }
-    ensures sound { IfOk result (λ some. IfSome some (IsSound limit)) }
-    ensures loads { IfOk result (λ some. IfSome some (λ loaded. ForSome (D.device disk.old).contents (λ files.
-        Loads files loaded × IsCompact limit files))) }
-    ensures none { IfOk result (λ some. IfNone some (ForSome (D.device disk.old).contents (λ files. IsCompact limit files → ⊥))) }
+    requires closed { ForSome (D.device disk.old).contents IsClosed }
+    ensures sound { IfOk result (IsSound limit) }
+    ensures opens { IfOk result (λ loaded. ForSome (D.device disk.old).contents (λ files. OpensTo limit files loaded)) }
+    ensures refused { IfErr result (λ error. ForSome (D.device disk.old).contents (λ files.
+        IsRefusedBy limit files error)) }
 
     // The disk is only read.
     ensures kept { OnlyReads (D.device disk.old) (D.device disk.new) }
     ensures later { (D.device disk.old).faults ≤ (D.device disk.new).faults }
-    ensures cause { IfErr result (FaultRose (D.device disk.old).faults (D.device disk.new).faults) }
+    ensures cause { IfErr result (OpenFaultRose (D.device disk.old).faults (D.device disk.new).faults) }
 {
-    let Some(fixed) = read_fixed(disk)? else {
-        return Ok(None);
-    };
-    let Some(count) = compact_count(&fixed, lengths, limit) else {
-        return Ok(None);
-    };
+    let fixed = read_fixed(disk, lengths, limit)?;
+    let count = count_slots(&fixed, lengths, limit)?;
     let index = read_index(alloc, disk, lengths.index)?;
-    let Some(slots) = read_slots(alloc, disk, index.as_slice(), lengths, count as usize)? else {
-        return Ok(None);
-    };
-    Ok(Some(loaded_of(alloc, &fixed, lengths, slots)))
+    let slots = read_slots(alloc, disk, index.as_slice(), lengths, fixed.base, count)?;
+    let marks = read_marks(alloc, disk, lengths.lastread)?;
+    Ok(loaded_of(&fixed, lengths, slots, marks))
 }
 
-/// The area for which the files stand, of at most so many slots, without its texts.
+/// The area for which the files stand, or the first test that they fail, the gate of the journal before all others.
+fn read_base<D: Disk>(alloc: Global, disk: &mut D, slots: u32) -> Result<Loaded, OpenError>
+    ensures answer { ForSome (D.device disk.old).contents (λ files. AnswersFor slots files result) }
+    ensures sound { IfOk result (IsSound slots) }
+    ensures kept { OnlyReads (D.device disk.old) (D.device disk.new) }
+    ensures later { (D.device disk.old).faults ≤ (D.device disk.new).faults }
+    ensures fault { IsErrOf result OpenError.StoreFault → Rose (D.device disk.old).faults (D.device disk.new).faults }
+{
+    let lengths = Lengths::of(disk)?;
+    if is_gate_open(disk, &lengths)? {
+        return Err(OpenError::NotYet);
+    }
+    read_area(alloc, disk, &lengths, slots)
+}
+
+/// The area for which the files stand, of at most so many slots, without its texts; or the first test that the files
+/// fail, with the number and the place: see [`OpenError`].
 ///
-/// `ShortHeader` comes exactly where .JHR has fewer than 1,024 bytes; else `NotYet` exactly where the base is not compact:
-/// all messages live, one behind another from the fixed header on, no lastread record, and a journal of at most 16 bytes.
-/// Two reads a message and two more, and five questions for a length; no text is read.
+/// Five questions for a length, three reads, one more where the journal has more than 16 bytes, and at most two a slot;
+/// no text is read.
 pub fn decode<D: Disk>(alloc: Global, disk: &mut D, slots: u32) -> Result<Loaded, OpenError>
     // What the files say, where the disk tells them.
     ensures answer { ForSome (D.device disk.old).contents (λ files. AnswersFor slots files result) }
     ensures fault { IsErrOf result OpenError.StoreFault → Rose (D.device disk.old).faults (D.device disk.new).faults }
+
+    // The files have no other answer.
+    ensures alone { HasOneStateAtMost }
+    ensures open { IsNotRefusedWhereOpen }
+    ensures once { IsRefusedOnceAtMost }
 
     // On every disk.
     ensures sound { IfOk result (IsSound slots) }
     ensures kept { OnlyReads (D.device disk.old) (D.device disk.new) }
     ensures later { (D.device disk.old).faults ≤ (D.device disk.new).faults }
 {
-    let lengths = Lengths::of(disk)?;
-    if lengths.headers < FIXED_HEADER_BYTES as u64 {
-        return Err(OpenError::ShortHeader);
-    }
-    match read_compact(alloc, disk, &lengths, slots)? {
-        Some(loaded) => Ok(loaded),
-        None => Err(OpenError::NotYet),
-    }
+    read_base(alloc, disk, slots)
 }

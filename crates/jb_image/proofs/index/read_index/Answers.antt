@@ -1,11 +1,7 @@
-use Rattle.std.proofs.Common.{◌≡◌, ℕ, ◌++◌, List, length, take, drop, ap, sym, ◌∙◌, arith, rules}
-use Rattle.std.proofs.lemmas.List.{take_all, take_at}
+use Rattle.std.proofs.Common.{◌≡◌, ℕ, length, take, ap, sym, ◌∙◌, rules}
 use Rattle.jb_disk.specs.declared.file.FileId.TheVariants.{Jdx}
+use Rattle.jb_image.proofs.FileBytes.{whole_file}
 use Rattle.jb_image.proofs.index.read_index.Goals as goal
-
--- a slice filled with a whole file is the file
-whole_file : (n : ℕ) (new old file : List ℕ) → length new ≡ n → length file ≡ n → new ≡ take n file → take n (new ++ drop (length new) old) ≡ file
-whole_file n new old file size file_size is = take_at new (drop (length new) old) n size ∙ is ∙ take_all n file (omega arith)
 
 pub returns-clause-found : goal.returns-clause-found
 returns-clause-found g c = λ files contents_is.

@@ -1,0 +1,97 @@
+//! The tests of the files as a whole: the gate of the journal, the fixed header, and the lengths.
+ghost use Rattle.std.specs.Prelude.{◌≡◌, ◌+◌, ◌≤◌, ◌↔◌, IsTrue, IfOk, IfErr, length, take};
+ghost use Rattle.std.specs.Option.{ForSome};
+ghost use Rattle.jb_disk.specs.Device.{OnlyReads};
+ghost use Rattle.jb_record.specs.Fixed.{IsFixedHeader};
+ghost use Rattle.jb_disk.specs.declared.file.FileId.TheVariants.{Jhr as headers_file};
+ghost use Rattle.jb_image.specs.Answers.{FaultRose, IsClosed, IsRefusedBy, OpenFaultRose};
+ghost use Rattle.jb_disk.specs.Gate.{IsGateOpen};
+ghost use Rattle.jb_image.specs.Lengths.{AreLengths};
+ghost use Rattle.jb_image.specs.Places.{bytes_at, fixed_in};
+ghost use Rattle.jb_image.specs.Reading.{IsCount, IsMiscounted};
+
+use crate::OpenError;
+use crate::error::ReadError;
+use crate::lengths::Lengths;
+use jb_base::LASTREAD_CEILING;
+use jb_disk::{Disk, FileId};
+use jb_record::{
+    FIXED_HEADER_BYTES, FixedHeader, INDEX_RECORD_BYTES, MARK_RECORD_BYTES, decode_fixed,
+};
+
+/// Bytes of a journal before its record.
+const GATE_BYTES: u64 = 16;
+
+/// Whether a change waits in the journal. At most one device read.
+pub(crate) fn is_gate_open<D: Disk>(disk: &mut D, lengths: &Lengths) -> Result<bool, ReadError>
+    requires { ForSome (D.device disk.old).contents (AreLengths lengths.now) }
+    ensures found { IfOk result (λ answer. ForSome (D.device disk.old).contents (λ files.
+        IsTrue answer ↔ IsGateOpen files)) }
+    ensures kept { OnlyReads (D.device disk.old) (D.device disk.new) }
+    ensures later { (D.device disk.old).faults ≤ (D.device disk.new).faults }
+    ensures cause { IfErr result (FaultRose (D.device disk.old).faults (D.device disk.new).faults) }
+{
+    if lengths.journal <= GATE_BYTES {
+        return Ok(false);
+    }
+    let mut gate = [0; 1];
+    disk.read_at(FileId::Jnl, 0, &mut gate)?;
+    Ok(gate[0] == 1)
+}
+
+/// The fixed header. One device read.
+pub(crate) fn read_fixed<D: Disk>(
+    disk: &mut D,
+    lengths: &Lengths,
+    limit: u32,
+) -> Result<FixedHeader, OpenError>
+    requires lengths { ForSome (D.device disk.old).contents (AreLengths lengths.now) }
+    requires closed { ForSome (D.device disk.old).contents IsClosed }
+    ensures base { IfOk result (λ fixed. 1 ≤ fixed.base) }
+    ensures long { IfOk result (λ _. 1024 ≤ lengths.now.headers) }
+    ensures found { IfOk result (λ fixed. ForSome (D.device disk.old).contents (λ files.
+        IsFixedHeader (bytes_at 0 1024 (files headers_file)) × (fixed ≡ fixed_in files))) }
+    ensures refused { IfErr result (λ error. ForSome (D.device disk.old).contents (λ files.
+        IsRefusedBy limit files error)) }
+    ensures kept { OnlyReads (D.device disk.old) (D.device disk.new) }
+    ensures later { (D.device disk.old).faults ≤ (D.device disk.new).faults }
+    ensures cause { IfErr result (OpenFaultRose (D.device disk.old).faults (D.device disk.new).faults) }
+{
+    if lengths.headers < FIXED_HEADER_BYTES as u64 {
+        return Err(OpenError::ShortHeader);
+    }
+    let mut bytes = [0; FIXED_HEADER_BYTES];
+    disk.read_at(FileId::Jhr, 0, &mut bytes)?;
+    let Some(fixed) = decode_fixed(&bytes) else {
+        return Err(OpenError::BadSignature);
+    };
+    if fixed.base == 0 {
+        return Err(OpenError::BaseZero);
+    }
+    Ok(fixed)
+}
+
+/// How many slots the base has, by the length of its index, if that and the length of the lastread file may be.
+pub(crate) fn count_slots(
+    fixed: &FixedHeader,
+    lengths: &Lengths,
+    limit: u32,
+) -> Result<u32, OpenError>
+    ensures found { IfOk result (IsCount fixed.now lengths.now limit) }
+    ensures refused { IfErr result (IsMiscounted fixed.now lengths.now limit) }
+{
+    if lengths.index % INDEX_RECORD_BYTES as u64 != 0 {
+        return Err(OpenError::IndexLength);
+    }
+    if lengths.lastread % MARK_RECORD_BYTES as u64 != 0 || lengths.lastread > LASTREAD_CEILING {
+        return Err(OpenError::LastreadLength);
+    }
+    let count = lengths.index / INDEX_RECORD_BYTES as u64;
+    if count > limit as u64 {
+        return Err(OpenError::TooManySlots);
+    }
+    if fixed.base as u64 + count > u32::MAX as u64 {
+        return Err(OpenError::NumberRange);
+    }
+    Ok(count as u32)
+}

@@ -1,0 +1,91 @@
+//! The second look at the slots: their tests in order, and their loading.
+ghost use Rattle.std.specs.Prelude.{◌≡◌, ◌+◌, ◌<◌, ◌≤◌, ℕ, IfOk, IfErr, OnOk, All, length};
+ghost use Rattle.std.specs.Option.{ForSome};
+ghost use Rattle.jb_disk.specs.Device.{OnlyReads};
+ghost use Rattle.jb_image.specs.Answers.{OpenFaultRose};
+ghost use Rattle.jb_image.specs.Lengths.{AreLengths};
+ghost use Rattle.jb_image.specs.Places.{entry_in, fixed_in};
+ghost use Rattle.jb_image.specs.Reading.{AreLoadedFrom, AreSeen, AreSlotsOf, IsRefusedBySlot, IsSeenWithin};
+ghost use Rattle.jb_image.specs.Tests.{IsWholeSlot};
+
+use crate::OpenError;
+use crate::lengths::Lengths;
+use crate::message::load_slot;
+use crate::seen::SeenSlot;
+use jb_disk::Disk;
+use jb_model::LoadedSlots;
+use std::alloc::Global;
+
+/// Tests the subfields and the place of the text of each slot that was seen, and keeps nothing of them. At most one
+/// device read a slot.
+pub(crate) fn test_slots<D: Disk>(
+    alloc: Global,
+    disk: &mut D,
+    seen: &[SeenSlot],
+    lengths: &Lengths,
+    base: u32,
+) -> Result<(), OpenError>
+    requires lengths { ForSome (D.device disk.old).contents (AreLengths lengths.now) }
+    requires base { ForSome (D.device disk.old).contents (λ files. base ≡ (fixed_in files).base) }
+    requires seen { ForSome (D.device disk.old).contents (λ files. AreSeen files seen.now) }
+    requires within { All (IsSeenWithin lengths.now.headers) seen.now }
+    requires numbers { base + length seen.now ≤ 4_294_967_295 }
+
+    // All of them are whole, or this one is the first that is damaged.
+    ensures passed { OnOk result (ForSome (D.device disk.old).contents (λ files.
+        (k : ℕ) → k < length seen.now → IsWholeSlot files (entry_in files k))) }
+    ensures refused { IfErr result (λ error. ForSome (D.device disk.old).contents (λ files.
+        IsRefusedBySlot files error)) }
+
+    // The disk is only read.
+    ensures kept { OnlyReads (D.device disk.old) (D.device disk.new) }
+    ensures later { (D.device disk.old).faults ≤ (D.device disk.new).faults }
+    ensures cause { IfErr result (OpenFaultRose (D.device disk.old).faults (D.device disk.new).faults) }
+{
+    let mut number = base;
+    for slot in seen {
+        match load_slot(alloc, disk, slot, lengths)? {
+            Ok(_whole) => number += 1,
+            Err(damage) => return Err(damage.of_number(number)),
+        }
+    }
+    Ok(())
+}
+
+/// The slots that were seen, with the subfields of the live messages; or the first of them that is damaged. At most one
+/// device read a slot.
+pub(crate) fn load_slots<D: Disk>(
+    alloc: Global,
+    disk: &mut D,
+    seen: &[SeenSlot],
+    lengths: &Lengths,
+    base: u32,
+) -> Result<LoadedSlots, OpenError>
+    requires lengths { ForSome (D.device disk.old).contents (AreLengths lengths.now) }
+    requires base { ForSome (D.device disk.old).contents (λ files. base ≡ (fixed_in files).base) }
+    requires seen { ForSome (D.device disk.old).contents (λ files. AreSeen files seen.now) }
+    requires within { All (IsSeenWithin lengths.now.headers) seen.now }
+    requires numbers { base + length seen.now ≤ 4_294_967_295 }
+
+    // All of them, or the first that is damaged.
+    ensures found { IfOk result (AreLoadedFrom lengths.now.texts seen.now) }
+    ensures named { IfOk result (λ slots. ForSome (D.device disk.old).contents (λ files. AreSlotsOf files slots)) }
+    ensures refused { IfErr result (λ error. ForSome (D.device disk.old).contents (λ files.
+        IsRefusedBySlot files error)) }
+
+    // The disk is only read.
+    ensures kept { OnlyReads (D.device disk.old) (D.device disk.new) }
+    ensures later { (D.device disk.old).faults ≤ (D.device disk.new).faults }
+    ensures cause { IfErr result (OpenFaultRose (D.device disk.old).faults (D.device disk.new).faults) }
+{
+    let mut slots = LoadedSlots::new(alloc);
+    let mut number = base;
+    for slot in seen {
+        match load_slot(alloc, disk, slot, lengths)? {
+            Ok(loaded) => slots.push(loaded)?,
+            Err(damage) => return Err(damage.of_number(number)),
+        }
+        number += 1;
+    }
+    Ok(slots)
+}

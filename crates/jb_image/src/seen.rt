@@ -1,0 +1,43 @@
+//! What is kept of a slot from the first look at its header.
+
+ghost use Rattle.std.specs.Prelude.{◌≡◌};
+ghost use Rattle.jb_image.specs.Reading.{extent_seen};
+
+use jb_extent::Extent;
+use jb_record::{MESSAGE_HEADER_BYTES, MessageHeader};
+
+/// A live message whose header was read, and whose subfields lie where they must: the UserCRC of its index record, and
+/// the place and the fields of its header.
+#[derive(Clone, Copy, Debug)]
+pub(crate) struct SeenMessage {
+    pub(crate) owner: u32,
+    pub(crate) header_at: u32,
+    pub(crate) header: MessageHeader,
+}
+
+/// A slot whose header was read.
+#[derive(Clone, Copy, Debug)]
+pub(crate) enum SeenSlot {
+    Empty,
+    Killed { header_at: u32 },
+    Live(SeenMessage),
+}
+
+impl SeenSlot {
+    /// The bytes of .JHR that its header takes.
+    pub(crate) fn extent(&self) -> Extent
+        ensures { result ≡ extent_seen self.now }
+    {
+        match self {
+            SeenSlot::Empty => Extent { start: 0, len: 0 },
+            SeenSlot::Killed { header_at } => Extent {
+                start: *header_at as u64,
+                len: MESSAGE_HEADER_BYTES as u64,
+            },
+            SeenSlot::Live(message) => Extent {
+                start: message.header_at as u64,
+                len: MESSAGE_HEADER_BYTES as u64 + message.header.subfields as u64,
+            },
+        }
+    }
+}
