@@ -1,5 +1,5 @@
 -- One shelf is changed: what the shelves hold then.
-use Rattle.std.proofs.Common.{◌≡◌, ℕ, zero, suc, ◌+◌, ◌<◌, ◌≤◌, Bool, true, false, ◌&&◌, cond, List, [], ◌∷◌, length, set, get_or, ap, sym, ◌∙◌, refl, subst, arith, rules}
+use Rattle.std.proofs.Common.{◌≡◌, ℕ, zero, suc, ◌<◌, ◌≤◌, Bool, true, false, ◌&&◌, List, [], ◌∷◌, length, set, ap, sym, ◌∙◌, refl, subst, arith}
 use Rattle.std.specs.Prelude.{bytes_eq, slice_index_or, if◌then◌else◌, Option, Some, None, IfSome}
 use Rattle.std.proofs.lemmas.Bool.{and_parts, false≢true}
 use Rattle.std.proofs.lemmas.Slice.Eq.{bytes_eq-Decides}
@@ -8,7 +8,7 @@ use Rattle.jb_disk.specs.Memory.{Recording, device_of}
 use Rattle.jb_host.specs.declared.host.HostError.{HostError}
 use Rattle.jb_host.specs.declared.host.HostError.TheVariants.{Failed}
 use Rattle.jb_host.specs.declared.memory_host.Shelf.{Shelf}
-use Rattle.jb_host.specs.Desk.{Desk, Disks, KeepsDisks, Place, has_disk, and_call, asked_disk, no_disk, with_place}
+use Rattle.jb_host.specs.Desk.{Desk, KeepsDisks, Place, has_disk, and_call, asked_disk, no_disk, with_place}
 use Rattle.jb_host.specs.Shelves.{is_for, shelved, stands_on}
 
 -- the shelf of a folder and a name has these

@@ -1,5 +1,5 @@
 -- What links and hosts in memory tell.
-use Rattle.std.specs.Prelude.{ℕ, List, [], drop, Option, Some}
+use Rattle.std.specs.Prelude.{ℕ, List, [], drop, Some}
 use Rattle.jb_host.specs.declared.memory.MemLink.{MemLink}
 use Rattle.jb_host.specs.Wire.{Wire}
 

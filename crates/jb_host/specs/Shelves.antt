@@ -1,11 +1,11 @@
 -- The disks and calls of a host in memory.
-use Rattle.std.specs.Prelude.{◌≡◌, ℕ, ◌<◌, bytes_eq, ◌&&◌, Bool, true, false, List, [], ◌∷◌, ◌++◌, length, map, slice_index_or, Option, Some, None, if◌then◌else◌}
+use Rattle.std.specs.Prelude.{◌≡◌, ℕ, ◌<◌, bytes_eq, ◌&&◌, Bool, true, false, List, [], ◌∷◌, length, map, slice_index_or, Option, Some, None, if◌then◌else◌}
 use Rattle.std.specs.Option.{option_map}
 use Rattle.jb_disk.specs.Memory.{Recording, device_of}
 use Rattle.jb_host.specs.declared.memory_host.DiskCall.{DiskCall}
 use Rattle.jb_host.specs.declared.memory_host.MemHost.{MemHost}
 use Rattle.jb_host.specs.declared.memory_host.Shelf.{Shelf}
-use Rattle.jb_host.specs.Desk.{Desk, Disks, HostCall, Place, asked_disk, handed_out, has_disk, no_disk}
+use Rattle.jb_host.specs.Desk.{Desk, Disks, Place, asked_disk, handed_out, has_disk, no_disk}
 use Rattle.jb_host.specs.Memory.{memory_wire}
 use Rattle.jb_host.specs.Wire.{Wire}
 

@@ -1,4 +1,4 @@
-use Rattle.std.proofs.Common.{◌≡◌, ap, ◌∙◌, arith, rules, subst, sym, List, ℕ, map, Vec, Some, ◌≤◌}
+use Rattle.std.proofs.Common.{ap, ◌∙◌, arith, subst, List, ℕ, map, Vec, Some}
 use Rattle.std.specs.declared.alloc.Global.{Global}
 use Rattle.std.specs.Option.{option_map}
 use Rattle.jb_base.specs.Fault.{Rose}
