@@ -1,17 +1,11 @@
 -- A disk that was handed out, used and put back.
-use Rattle.std.proofs.Common.{◌≡◌, ℕ, ◌≤◌, Bool, true, false, ◌&&◌, List, ap, sym, ◌∙◌, refl, subst}
-use Rattle.std.specs.Prelude.{bytes_eq, if◌then◌else◌, Option, Some, None, Err, IsErrOf, IsSome}
+use Rattle.std.proofs.Common.{◌≡◌, ℕ, ◌≤◌, Bool, true, false, ◌&&◌, List, ap, ◌∙◌, refl}
+use Rattle.std.specs.Prelude.{bytes_eq, if◌then◌else◌, Option, Some, None, IsSome}
 use Rattle.std.specs.Option.{ForSome, option_map}
 use Rattle.std.proofs.lemmas.Slice.Eq.{bytes_eq-Decides}
-use Rattle.jb_base.specs.Fault.{Rose}
 use Rattle.jb_disk.specs.Device.{Device, OnlyReads}
 use Rattle.jb_host.specs.Desk.{Desk, Disks, GivesDisk, Place, TakesBack, handed_out, has_disk, with_place}
-use Rattle.jb_image.specs.declared.error.OpenError.{OpenError}
-use Rattle.jb_image.specs.declared.error.OpenError.TheVariants.{ShortHeader, StoreFault, OutOfMemory, NotYet}
-use Rattle.board.specs.declared.fault.Fault.TheVariants.{HostFault, Words}
-use Rattle.board.specs.Faults.{open_fault}
 use Rattle.board.specs.Run.{Answer, ListsDisk, UsesDisk}
-use Rattle.board.specs.Tool.{ListsAs}
 
 -- the place that was changed
 here : (dir name : List ℕ) (place : Place) (disks : Disks) → with_place dir name place disks dir name ≡ place
@@ -46,28 +40,6 @@ used_disk dir name before after old mid new answer given back kept later answers
       later = later;
       answers = answers;
     }
-
--- what `list` answers where the base is not opened, as the answer of the run
-pub lists_error : (before after : Device) (error : OpenError) → ForSome before.contents (λ files. ListsAs files (Err error))
-    → (IsErrOf {T = List ℕ} (Err error) StoreFault → Rose before.faults after.faults) → ListsDisk before after (Err (open_fault error))
-lists_error before after ShortHeader answers fault = answers
-lists_error before after StoreFault answers fault = fault refl
-lists_error before after OutOfMemory answers fault = tt
-lists_error before after NotYet answers fault = answers
-
--- a base that is not opened is no fault of the host
-pub no_host_fault : (error : OpenError) → open_fault error ≡ HostFault → ⊥
-no_host_fault ShortHeader is = cc
-no_host_fault StoreFault is = cc
-no_host_fault OutOfMemory is = cc
-no_host_fault NotYet is = cc
-
--- a base that is not opened is no fault of the words
-pub no_word_fault : (error : OpenError) → open_fault error ≡ Words → ⊥
-no_word_fault ShortHeader is = cc
-no_word_fault StoreFault is = cc
-no_word_fault OutOfMemory is = cc
-no_word_fault NotYet is = cc
 
 -- a value that is there is there when it is seen otherwise
 pub still_there : {A B : Type 0} (f : A → B) (o : Option A) → IsSome o → IsSome (option_map f o)

@@ -3,7 +3,7 @@ use Rattle.std.specs.Prelude.{ℕ, ◌+◌, ◌-◌, nat_lt, ◌||◌, ◌==◌,
 use Rattle.jb_base.specs.declared.subfield.Subfield.{Subfield}
 use Rattle.jb_base.specs.declared.subfield.TheConstants.{SENDER_NAME, RECEIVER_NAME, SUBJECT}
 use Rattle.jb_base.specs.Subfields.{first_of}
-use Rattle.jb_model.specs.State.{AreaState, LiveMessage, SlotState, no_message, killed_message, live_message}
+use Rattle.jb_model.specs.State.{AreaState, SlotState, no_message, killed_message, live_message}
 
 -- a byte as it is shown: `?` in place of a control character
 abbrev pub shown_byte : ℕ → ℕ

@@ -1,16 +1,16 @@
 -- A whole run of the program: what is asked of the host, what is printed, and the status.
-use Rattle.std.specs.Prelude.{◌≡◌, ◌⊎◌, ℕ, ◌<◌, ◌≤◌, List, length, Option, Some, None, Result, Ok, Err}
+use Rattle.std.specs.Prelude.{◌≡◌, ◌⊎◌, ℕ, ◌≤◌, List, Option, Some, None, Result, Ok, Err}
 use Rattle.std.specs.Option.{ForSome}
 use Rattle.jb_base.specs.Fault.{Rose}
 use Rattle.jb_base.specs.declared.limits.TheConstants.{MOST_SLOTS}
 use Rattle.jb_disk.specs.Device.{Device, OnlyReads}
-use Rattle.jb_disk.specs.Files.{Files}
-use Rattle.jb_disk.specs.declared.file.FileId.TheVariants.{Jhr}
-use Rattle.jb_host.specs.Desk.{Desk, Disks, Place, has_disk, with_place, asked_disk, and_call}
+use Rattle.jb_host.specs.Desk.{Desk, Disks, has_disk, with_place, asked_disk, and_call}
 use Rattle.jb_host.specs.Wire.{Wire, Begins, Sends}
-use Rattle.jb_image.specs.Compact.{IsCompact}
+use Rattle.jb_image.specs.Answers.{IsRefusedBy}
+use Rattle.jb_image.specs.declared.error.OpenError.{OpenError}
+use Rattle.jb_image.specs.declared.error.OpenError.TheVariants.{StoreFault}
 use Rattle.board.specs.declared.fault.Fault.{Fault}
-use Rattle.board.specs.declared.fault.Fault.TheVariants.{Words, ShortHeader, NotYet, StoreFault, HostFault, OutOfMemory}
+use Rattle.board.specs.declared.fault.Fault.TheVariants.{Words, Base, HostFault, OutOfMemory}
 use Rattle.board.specs.Faults.{line_of, status_of}
 use Rattle.board.specs.Tool.{IsListing}
 use Rattle.board.specs.Words.{CommandLine, list_base, command_line_of}
@@ -19,12 +19,15 @@ use Rattle.board.specs.Words.{CommandLine, list_base, command_line_of}
 abbrev pub Answer : Type 0
 Answer = Result (List ℕ) Fault
 
+-- a base that is not opened, and why: what its files hold, or a fault of its disk
+pub record RefusesBase (before after : Device) (error : OpenError) : Type 0 where
+  pub files : ForSome before.contents (λ files. IsRefusedBy MOST_SLOTS files error)
+  pub fault : error ≡ StoreFault → Rose before.faults after.faults
+
 -- the answer of `list` over the disk of the base, before it and after it
 abbrev pub ListsDisk : Device → Device → Answer → Type 0
 ListsDisk before after (Ok text) = ForSome before.contents (λ files. IsListing files text)
-ListsDisk before after (Err ShortHeader) = ForSome before.contents (λ files. length (files Jhr) < 1024)
-ListsDisk before after (Err NotYet) = ForSome before.contents (λ files. (1024 ≤ length (files Jhr)) × (IsCompact MOST_SLOTS files → ⊥))
-ListsDisk before after (Err StoreFault) = Rose before.faults after.faults
+ListsDisk before after (Err (Base error)) = RefusesBase before after error
 ListsDisk before after (Err OutOfMemory) = Unit {0}
 ListsDisk before after (Err Words) = ⊥
 ListsDisk before after (Err HostFault) = ⊥

@@ -1,24 +1,91 @@
 //! How a run that is refused ends: its status and its line on the console.
-ghost use Rattle.std.specs.Prelude.{◌≡◌};
-ghost use Rattle.board.specs.Faults.{line_of, open_fault, status_of};
+ghost use Rattle.std.specs.Prelude.{◌≡◌, ◌≤◌, ◌+◌, ◌++◌, [], ◌∷◌, length};
+ghost use Rattle.board.specs.Faults.{base_line, base_status, line_of, status_of, value_text};
 
+use arrayvec::ArrayString;
+use itoa::Buffer;
 use jb_image::OpenError;
+
+/// A line of at most 80 bytes; it takes no memory.
+pub type Line = ArrayString<80>;
 
 /// Why a run is refused.
 #[derive(Clone, Copy, Debug, PartialEq, Eq)]
 pub enum Fault {
     /// The words are no command line.
     Words,
-    /// The header file has fewer than 1,024 bytes, or is not there.
-    ShortHeader,
-    /// The base is not one that is opened today.
-    NotYet,
-    /// The disk failed.
-    StoreFault,
+    /// The base is not opened: its files are refused, its disk failed, or there was no memory for it.
+    Base(OpenError),
     /// The host or the console failed.
     HostFault,
     /// The allocator gave no memory.
     OutOfMemory,
+}
+
+/// The exit status where a base is not opened.
+fn base_status(error: OpenError) -> u8
+    ensures { result ≡ base_status error }
+{
+    match error {
+        OpenError::StoreFault => 4,
+        OpenError::OutOfMemory => 6,
+        _ => 3,
+    }
+}
+
+/// A line of this name alone.
+fn named(name: &str) -> Line
+    requires { length name.now ≤ 40 }
+    ensures name { result.bytes ≡ name.now }
+{
+    let mut line = Line::new();
+    line.push_str(name);
+    line
+}
+
+/// The line with a value behind it.
+fn and_value(mut line: Line, value: u32) -> Line
+    requires { length line.bytes ≤ 60 }
+    ensures value { result.bytes ≡ line.bytes ++ value_text value }
+    ensures short { length result.bytes ≤ length line.bytes + 11 }
+{
+    let mut digits = Buffer::new();
+    line.push_str(" ");
+    line.push_str(digits.format(value));
+    line
+}
+
+/// The line where a base is not opened, without its end.
+fn base_line(error: OpenError) -> Line
+    ensures line { result.bytes ≡ base_line error }
+    ensures short { length result.bytes ≤ 62 }
+{
+    match error {
+        OpenError::ShortHeader => named("fault 3.1 ShortHeader"),
+        OpenError::BadSignature => named("fault 3.2 BadSignature"),
+        OpenError::BaseZero => named("fault 3.3 BaseZero"),
+        OpenError::IndexLength => named("fault 3.4 IndexLength"),
+        OpenError::LastreadLength => named("fault 3.5 LastreadLength"),
+        OpenError::TooManySlots => named("fault 3.6 TooManySlots"),
+        OpenError::NumberRange => named("fault 3.7 NumberRange"),
+        OpenError::HeaderPlace { number } => and_value(named("fault 3.8 HeaderPlace"), number),
+        OpenError::HeaderSignature { number } => {
+            and_value(named("fault 3.9 HeaderSignature"), number)
+        }
+        OpenError::HeaderRevision { number } => {
+            and_value(named("fault 3.10 HeaderRevision"), number)
+        }
+        OpenError::Subfields { number, at } => {
+            and_value(and_value(named("fault 3.11 Subfields"), number), at)
+        }
+        OpenError::TextPlace { number } => and_value(named("fault 3.12 TextPlace"), number),
+        OpenError::HeadersOverlap { a, b } => {
+            and_value(and_value(named("fault 3.13 HeadersOverlap"), a), b)
+        }
+        OpenError::NotYet => named("fault 3.90 NotYet"),
+        OpenError::StoreFault => named("fault 4 StoreFault"),
+        OpenError::OutOfMemory => named("fault 6 OutOfMemory"),
+    }
 }
 
 impl Fault {
@@ -28,37 +95,33 @@ impl Fault {
     {
         match self {
             Fault::Words => 1,
-            Fault::ShortHeader | Fault::NotYet => 3,
-            Fault::StoreFault => 4,
+            Fault::Base(error) => base_status(error),
             Fault::HostFault => 5,
             Fault::OutOfMemory => 6,
         }
     }
 
     /// The line that is printed.
-    pub fn line(self) -> &'static str
-        ensures { result.now ≡ line_of self }
+    pub fn line(self) -> Line
+        ensures { result.bytes ≡ line_of self }
     {
-        match self {
-            Fault::Words => "fault 1 Words\n",
-            Fault::ShortHeader => "fault 3.1 ShortHeader\n",
-            Fault::NotYet => "fault 3.90 NotYet\n",
-            Fault::StoreFault => "fault 4 StoreFault\n",
-            Fault::HostFault => "fault 5 HostFault\n",
-            Fault::OutOfMemory => "fault 6 OutOfMemory\n",
-        }
+        let mut line = match self {
+            Fault::Words => named("fault 1 Words"),
+            Fault::Base(error) => base_line(error),
+            Fault::HostFault => named("fault 5 HostFault"),
+            Fault::OutOfMemory => named("fault 6 OutOfMemory"),
+        };
+        line.push_str("\n");
+        line
     }
 }
 
 impl From<OpenError> for Fault {
-    ghost from_gives = { λ error fault. fault ≡ open_fault error };
+    ghost use Rattle.board.specs.declared.fault.Fault.TheVariants.{Base};
+
+    ghost from_gives = { λ error fault. fault ≡ Base error };
 
     fn from(error: OpenError) -> Fault {
-        match error {
-            OpenError::ShortHeader => Fault::ShortHeader,
-            OpenError::NotYet => Fault::NotYet,
-            OpenError::StoreFault => Fault::StoreFault,
-            OpenError::OutOfMemory => Fault::OutOfMemory,
-        }
+        Fault::Base(error)
     }
 }

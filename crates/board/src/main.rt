@@ -44,6 +44,7 @@ fn without_words(rt: &HostRuntime, error: &io::Error, host: &mut RealHost<HostRu
         return ExitCode::from(top::board(rt.alloc(), &[], host));
     }
     let fault = fault::Fault::OutOfMemory;
-    let _ = rt.print(fault.line());
+    let line = fault.line();
+    let _ = rt.print(line.as_str());
     ExitCode::from(fault.status())
 }

@@ -26,6 +26,14 @@ const INDEX: &[u8] = b"\x79\x59\xef\xc9\x00\x04\0\0";
 
 const INDEX_OF_BOTH: &[u8] = b"\x79\x59\xef\xc9\x00\x04\0\0\x53\x2a\xbb\xe4\x8c\x04\0\0";
 
+/// A killed header.
+const KILLED: &[u8] =
+    b"JAM\0\x01\0\0\0\x40\0\0\0\0\0\0\0\x53\x1f\xd7\xcb\xff\xff\xff\xff\0\0\0\0\0\0\0\0\0\0\0\0\x00\xca\x9a\x3b\0\0\0\0\0\0\0\0\x03\0\0\0\x01\0\x80\x80\0\0\0\0\0\0\0\0\x05\0\0\0\xff\xff\xff\xff\0\0\0\0";
+
+/// Number 1 at 1,168, an empty slot, a killed one at 1,267, and number 4 at 1,024.
+const INDEX_OF_FOUR: &[u8] =
+    b"\x53\x2a\xbb\xe4\x90\x04\0\0\0\0\0\0\xff\xff\xff\xff\0\0\0\0\xf3\x04\0\0\x79\x59\xef\xc9\x00\x04\0\0";
+
 const LINE: &[u8] = b"       1  Test > Hello  abc\n";
 
 const BOTH_LINES: &[u8] = b"       1  Test > Hello  abc\n       2  A?\xc3\xa9 > Bob  \n";
@@ -55,6 +63,32 @@ fn disk(
         Bytes::new(alloc),
     ];
     Ok(MemDisk::new(alloc, files, failing.to_vec(alloc)?)?)
+}
+
+/// A disk with the base of one message, in which these bytes stand in a file from a place on, and nothing behind them where
+/// there are none.
+fn changed_disk(alloc: Global, number: usize, at: usize, bytes: &[u8]) -> Result<MemDisk, Fail> {
+    let mut files = [
+        headers(alloc, MESSAGE)?,
+        Bytes::copy(alloc, TEXT)?,
+        Bytes::copy(alloc, INDEX)?,
+        Bytes::new(alloc),
+        Bytes::new(alloc),
+        Bytes::new(alloc),
+    ];
+    if let Some(file) = files.get_mut(number) {
+        let old = file.as_slice();
+        let end = if bytes.is_empty() {
+            old.len()
+        } else {
+            at.saturating_add(bytes.len()).min(old.len())
+        };
+        let mut new = Bytes::copy(alloc, &old[..at.min(old.len())])?;
+        new.append(bytes)?;
+        new.append(&old[end..])?;
+        *file = new;
+    }
+    Ok(MemDisk::new(alloc, files, Vec::new(alloc))?)
 }
 
 /// A host with the base `general` in the folder `a`, whose console fails the calls with these numbers.
@@ -147,49 +181,65 @@ fn lists_bases_of_no_message_one_and_two(rt: HostRuntime) -> Result<(), Fail> {
 }
 
 #[test]
-fn refuses_a_short_header_and_a_base_that_is_not_compact(rt: HostRuntime) -> Result<(), Fail> {
+fn lists_the_live_messages_in_the_order_of_their_numbers(rt: HostRuntime) -> Result<(), Fail> {
     let alloc = rt.alloc();
-    let whole = headers(alloc, b"")?;
-    let short = Bytes::copy(alloc, &whole.as_slice()[..whole.len().min(1023)])?;
-    let one = disk(alloc, short, b"", b"", &[])?;
+    let mut messages = headers(alloc, MESSAGE)?;
+    for part in [b"dead".as_slice(), SECOND, KILLED] {
+        messages.append(part)?;
+    }
+    let base = disk(alloc, messages, TEXT, INDEX_OF_FOUR, &[])?;
     check(
         &rt,
         alloc,
-        host(alloc, one, &[])?,
+        host(alloc, base, &[])?,
         "list a general",
-        3,
-        b"fault 3.1 ShortHeader\n",
-    )?;
-    let none = disk(alloc, Bytes::new(alloc), b"", b"", &[])?;
+        0,
+        b"       1  A?\xc3\xa9 > Bob  \n       4  Test > Hello  abc\n",
+    )
+}
+
+#[test]
+fn prints_why_a_base_is_not_opened(rt: HostRuntime) -> Result<(), Fail> {
+    let alloc = rt.alloc();
+    // A file of the base of one message, the bytes that stand in it from a place on, and the line.
+    let cases: [(usize, usize, &[u8], &[u8]); 13] = [
+        (0, 0, b"X", b"fault 3.2 BadSignature\n"),
+        (0, 20, b"\0", b"fault 3.3 BaseZero\n"),
+        (2, 8, b"\0\0\0\0", b"fault 3.4 IndexLength\n"),
+        (3, 0, b"\0", b"fault 3.5 LastreadLength\n"),
+        (0, 20, b"\xff\xff\xff\xff", b"fault 3.7 NumberRange\n"),
+        (2, 5, b"\x03", b"fault 3.8 HeaderPlace 1\n"),
+        (0, 1_024, b"X", b"fault 3.9 HeaderSignature 1\n"),
+        (0, 1_028, b"\x02", b"fault 3.10 HeaderRevision 1\n"),
+        (0, 1_032, b"\x3f", b"fault 3.11 Subfields 1 53\n"),
+        (0, 1_088, b"\x06", b"fault 3.12 TextPlace 1\n"),
+        (2, 8, INDEX, b"fault 3.13 HeadersOverlap 1 2\n"),
+        (4, 0, &[1; 17], b"fault 3.90 NotYet\n"),
+        (0, 1_023, b"", b"fault 3.1 ShortHeader\n"),
+    ];
+    for (number, at, bytes, line) in cases {
+        let changed = changed_disk(alloc, number, at, bytes)?;
+        let host = host(alloc, changed, &[])?;
+        check(&rt, alloc, host, "list a general", 3, line)?;
+    }
+    let mut many = Bytes::copy(alloc, INDEX)?;
+    many.append(vec![in alloc; 0xff; 520_000]?.as_slice())?;
+    let crowded = disk(alloc, headers(alloc, MESSAGE)?, TEXT, many.as_slice(), &[])?;
+    let host = host(alloc, crowded, &[])?;
     check(
         &rt,
         alloc,
-        host(alloc, none, &[])?,
+        host,
         "list a general",
         3,
-        b"fault 3.1 ShortHeader\n",
-    )?;
-    let twice = disk(
-        alloc,
-        headers(alloc, MESSAGE)?,
-        TEXT,
-        b"\x79\x59\xef\xc9\x00\x04\0\0\x79\x59\xef\xc9\x00\x04\0\0",
-        &[],
-    )?;
-    check(
-        &rt,
-        alloc,
-        host(alloc, twice, &[])?,
-        "list a general",
-        3,
-        b"fault 3.90 NotYet\n",
+        b"fault 3.6 TooManySlots\n",
     )
 }
 
 #[test]
 fn a_failing_disk_or_console_ends_the_run_at_each_call(rt: HostRuntime) -> Result<(), Fail> {
     let alloc = rt.alloc();
-    for call in 1..=9 {
+    for call in 1..=10 {
         let one = disk(alloc, headers(alloc, MESSAGE)?, TEXT, INDEX, &[call])?;
         check(
             &rt,
@@ -200,11 +250,11 @@ fn a_failing_disk_or_console_ends_the_run_at_each_call(rt: HostRuntime) -> Resul
             b"fault 4 StoreFault\n",
         )?;
     }
-    let ten = disk(alloc, headers(alloc, MESSAGE)?, TEXT, INDEX, &[10])?;
+    let eleven = disk(alloc, headers(alloc, MESSAGE)?, TEXT, INDEX, &[11])?;
     check(
         &rt,
         alloc,
-        host(alloc, ten, &[])?,
+        host(alloc, eleven, &[])?,
         "list a general",
         0,
         LINE,

@@ -50,7 +50,8 @@ fn print<L: Link>(console: &mut L, answer: &Result<Bytes, Fault>) -> u8
             Err(_) => Fault::HostFault.status(),
         },
         Err(fault) => {
-            let _ = send(console, fault.line().as_bytes());
+            let line = fault.line();
+            let _ = send(console, line.as_str().as_bytes());
             fault.status()
         }
     }

@@ -1,4 +1,4 @@
-use Rattle.std.proofs.Common.{◌≡◌, ℕ, ◌-◌, ◌++◌, List, length, replicate, ap, ◌∙◌, append_assoc, rules, arith}
+use Rattle.std.proofs.Common.{◌≡◌, ℕ, ◌-◌, ◌++◌, List, length, replicate, ap, ◌∙◌, append_assoc, rules}
 use Rattle.std.specs.Prelude.{decimal}
 use Rattle.std.specs.String.{string_bytes, string_len}
 use Rattle.board.proofs.listing.append_number.Goals as goal
