@@ -1,7 +1,7 @@
 //! Small areas with answers from outside, and pseudo-random ones against the plain definitions.
 use crate::{Spliced, changed, is_live, parent, relink_plan, splice, thread};
 use jb_base::{Bytes, MSGID, OutOfMemory, REPLYID, Subfield, Subfields};
-use jb_model::{Head, Links, Loaded, LoadedMessage, LoadedSlot, LoadedSlots, Marks};
+use jb_model::{Head, Links, Loaded, LoadedMarks, LoadedMessage, LoadedSlot, LoadedSlots};
 use std::alloc::Global;
 use std::process::Abort;
 use std::test::Fail;
@@ -71,7 +71,7 @@ fn slot(alloc: Global, row: &Row) -> Result<LoadedSlot, OutOfMemory> {
 
 // An area of these messages from this number on; where there is none, it was killed.
 fn area(alloc: Global, base: u32, rows: &[Option<Row>]) -> Result<Loaded, OutOfMemory> {
-    let mut slots = LoadedSlots::new(alloc);
+    let mut slots = LoadedSlots::new(alloc)?;
     for row in rows {
         slots.push(match row {
             Some(row) => slot(alloc, row)?,
@@ -86,7 +86,7 @@ fn area(alloc: Global, base: u32, rows: &[Option<Row>]) -> Result<Loaded, OutOfM
         reserved: [0; 1000],
         base,
         slots,
-        marks: Marks::new(alloc),
+        marks: LoadedMarks::new(alloc)?,
         headers_len: 1_024,
         texts_len: 0,
     })

@@ -3,6 +3,7 @@ pub mod History
 pub mod Kill
 pub mod Links
 pub mod Live
+pub mod Loaded
 pub mod Marks
 pub mod Message
 pub mod Pack
@@ -11,6 +12,7 @@ pub mod Read
 pub mod Relink
 pub mod Run
 pub mod SetMark
+pub mod Short
 pub mod Sound
 pub mod Standing
 pub mod State

@@ -10,9 +10,13 @@ mod command;
 mod entry;
 mod links;
 mod loaded;
+mod loaded_marks;
+mod look;
 mod mark;
 mod message;
 mod reply;
+mod short;
+mod summary;
 #[cfg(test)]
 mod tests;
 
@@ -21,6 +25,10 @@ pub use command::{Asked, Command, Field};
 pub use entry::{Entry, Outcome};
 pub use links::Links;
 pub use loaded::{Loaded, LoadedMessage, LoadedSlot, LoadedSlots};
+pub use loaded_marks::LoadedMarks;
+pub use look::{Answer, Barred, LookError, Question, SharedFault};
 pub use mark::{Mark, Marks};
 pub use message::Head;
 pub use reply::{Letter, Reply};
+pub use short::Short;
+pub use summary::{Figures, Summaries, Summary};

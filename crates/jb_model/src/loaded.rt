@@ -1,8 +1,11 @@
 //! An area as it is loaded: all of its state but the texts, with the places of headers and texts.
-ghost use Rattle.std.specs.Prelude.{◌≡◌, [], ◌∷◌, ◌++◌, OnOk, OnErr};
+ghost use Rattle.std.specs.Prelude.{◌≡◌, ◌<◌, [], ◌∷◌, ◌++◌, length, slice_index_or, slice_set, IfOk, IsOk, OnOk, OnErr};
+ghost use Rattle.jb_base.specs.declared.limits.TheConstants.{MOST_SLOTS};
+ghost use Rattle.jb_model.specs.Loaded.{slot_with_head};
+ghost use Rattle.jb_model.specs.declared.loaded.LoadedSlot.{LoadedSlot};
 
-use crate::{Head, Marks};
-use jb_base::{OutOfMemory, Subfields};
+use crate::{Head, LoadedMarks};
+use jb_base::{MOST_SLOTS, OutOfMemory, Subfields};
 use std::alloc::Global;
 use std::marker::Model;
 
@@ -27,29 +30,33 @@ pub enum LoadedSlot {
     Live(LoadedMessage),
 }
 
-/// The slots of an area; the slot at place i has the number base plus i. Contracts see the list of them.
+/// The slots of an area; the slot at place i has the number base plus i. Contracts see the list of them. There is always
+/// room for as many as an area may have, [`MOST_SLOTS`], so that a change of an open area takes no memory; room that was
+/// never used costs none.
 #[derive(Debug, Drop)]
 pub struct LoadedSlots {
     items: Vec<LoadedSlot>,
 }
 
 impl Model for LoadedSlots {
-    ghost use Rattle.std.specs.Prelude.{List};
+    ghost use Rattle.std.specs.Prelude.{List, ◌≤◌, vec_capacity};
+    ghost use Rattle.jb_base.specs.declared.limits.TheConstants.{MOST_SLOTS};
     ghost use Rattle.jb_model.specs.declared.loaded.LoadedSlot.{LoadedSlot};
 
     ghost Value = { List LoadedSlot };
 
     ghost view = { λ s. s.items.items };
+
+    ghost invariant = { λ s. MOST_SLOTS ≤ vec_capacity s.items };
 }
 
 impl LoadedSlots {
-    /// None yet. It takes no memory.
-    pub fn new(alloc: Global) -> LoadedSlots
-        ensures { result ≡ [] }
+    /// None yet, and room for all.
+    pub fn new(alloc: Global) -> Result<LoadedSlots, OutOfMemory>
+        ensures { IfOk result (λ slots. slots ≡ []) }
     {
-        LoadedSlots {
-            items: Vec::new(alloc),
-        }
+        let items = Vec::with_capacity(alloc, MOST_SLOTS as usize)?;
+        Ok(LoadedSlots { items })
     }
 
     /// The slots, in the order of their numbers.
@@ -59,13 +66,32 @@ impl LoadedSlots {
         self.items.as_slice()
     }
 
-    /// Puts one behind the others, or for want of memory leaves all as it was.
+    /// Puts one behind the others, or for want of memory leaves all as it was. Below [`MOST_SLOTS`] it takes no memory.
     pub fn push(&mut self, slot: LoadedSlot) -> Result<(), OutOfMemory>
         ensures ok { OnOk result (self.new ≡ self.old ++ slot ∷ []) }
         ensures err { OnErr result (self.new ≡ self.old) }
+        ensures roomy { length self.old < MOST_SLOTS → IsOk result }
     {
         self.items.push(slot)?;
         Ok(())
+    }
+
+    /// Puts another slot in the place of one.
+    pub fn set(&mut self, place: usize, slot: LoadedSlot)
+        requires { place < length self.old }
+        ensures { self.new ≡ slice_set self.old place slot }
+    {
+        self.items[place] = slot;
+    }
+
+    /// Writes these fields into the header of the live message at a place; another slot it leaves as it is.
+    pub fn set_head(&mut self, place: usize, head: Head)
+        requires { place < length self.old }
+        ensures { (d : LoadedSlot) → self.new ≡ slice_set self.old place (slot_with_head head (slice_index_or self.old place d)) }
+    {
+        if let LoadedSlot::Live(message) = &mut self.items[place] {
+            message.head = head;
+        }
     }
 }
 
@@ -80,7 +106,7 @@ pub struct Loaded {
     pub reserved: [u8; 1000],
     pub base: u32,
     pub slots: LoadedSlots,
-    pub marks: Marks,
+    pub marks: LoadedMarks,
     pub headers_len: u64,
     pub texts_len: u64,
 }

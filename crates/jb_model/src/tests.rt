@@ -38,7 +38,7 @@ fn slots_stand_in_the_order_of_their_numbers(rt: HostRuntime) -> Result<(), Fail
         text_at: 0,
         text_len: 5,
     };
-    let mut slots = LoadedSlots::new(rt.alloc());
+    let mut slots = LoadedSlots::new(rt.alloc())?;
     assert!(rt; slots.as_slice().is_empty());
     slots.push(LoadedSlot::Empty)?;
     slots.push(LoadedSlot::Killed { header_at: 1_024 })?;
@@ -103,5 +103,37 @@ fn marks_stand_in_the_order_of_the_lastread_file(rt: HostRuntime) -> Result<(), 
     marks.push(first)?;
     marks.push(second)?;
     assert_eq!(rt; marks.as_slice(), [first, second].as_slice());
+    Ok(())
+}
+
+#[test]
+fn summaries_keep_the_first_bytes_of_long_texts(rt: HostRuntime) -> Result<(), Fail> {
+    let summary = Summary {
+        number: 4,
+        from: Short::of(b"Test"),
+        to: Short::of(b"a name that has more than 36 bytes in it"),
+        subject: Short::of(b""),
+        written: 1_000_000_000,
+        attribute: 0x0080_0001,
+        parent: 1,
+    };
+    let mut summaries = Summaries::new(rt.alloc());
+    summaries.push(summary)?;
+    let list = summaries.as_slice();
+    assert_eq!(rt; list, [summary].as_slice());
+    let lent = [
+        list[0].from.as_slice(),
+        list[0].to.as_slice(),
+        list[0].subject.as_slice(),
+    ];
+    assert_eq!(rt;
+        lent,
+        [
+            b"Test".as_slice(),
+            b"a name that has more than 36 bytes i",
+            b"",
+        ]
+    );
+    assert_eq!(rt; list[0].to.length, 40);
     Ok(())
 }
