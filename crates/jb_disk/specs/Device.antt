@@ -65,11 +65,16 @@ abbrev pub IsPast : Option Files → FileId → ℕ → Type 0
 IsPast None file end = ⊥
 IsPast (Some files) file end = length (files file) < end
 
--- a refusal has a cause: the count rose, or the range passed the file's end, which is refused and raises no count
+-- a disk that tells nothing goes on telling nothing
+abbrev pub StaysSilent : Device → Device → Type 0
+StaysSilent old new = old.contents ≡ None → new.contents ≡ None
+
+-- a refusal has a cause: the count rose, or the range passed the file's end, which raises no count; and a silent disk stays silent
 pub record FailsBy {T E : Type 0} (past : Type 0) (old new : Device) (result : Result T E) : Type 0 where
   pub later : old.faults ≤ new.faults
   pub failed : OnErr result (Rose old.faults new.faults ⊎ past)
   pub refused : past → IsErr result × (new.faults ≡ old.faults)
+  pub silent : StaysSilent old new
 
 -- what a read gives now is one of the images, a disk that tells images tells its contents, and each moment has an image
 pub record TellsAnImage (disk : Device) : Type 0 where

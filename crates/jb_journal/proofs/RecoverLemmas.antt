@@ -1,6 +1,6 @@
 -- A record is done again, and what a crash leaves meanwhile.
 use Rattle.std.proofs.Common.{◌≡◌, ℕ, ◌<◌, List, [], ◌∷◌, length, refl, ap, sym, ◌∙◌, subst, arith, Option, Some}
-use Rattle.std.specs.Prelude.{slice_index}
+use Rattle.std.specs.Prelude.{slice_index, IsSome}
 use Rattle.jb_disk.specs.declared.file.FileId.{FileId}
 use Rattle.jb_disk.specs.declared.file.FileId.TheVariants.{Jhr, Jdt, Jdx, Jlr, Jnl, Ndt}
 use Rattle.jb_disk.specs.declared.piece.Length.{Length}
@@ -131,6 +131,10 @@ module _ (was : Files) (lengths : List Length) (pieces : List Piece) (has : IsRe
     where
       some_same : {a b : Files} → Some a ≡ Some b → a ≡ b
       some_same is = cc
+
+-- what is told is there
+pub told_there : (o : Option Files) (files : Files) → o ≡ Some files → IsSome o
+told_there o files there = subst IsSome (sym there) refl
 
 -- what is told is what is told
 pub one_told : (o : Option Files) (one other : Files) → o ≡ Some one → o ≡ Some other → one ≡ other

@@ -5,7 +5,7 @@ use Rattle.std.specs.Option.{option_map, ForSome}
 use Rattle.std.proofs.lemmas.List.{same_lists, places, get_or_default}
 use Rattle.jb_disk.specs.declared.file.FileId.{FileId}
 use Rattle.jb_disk.specs.Files.{Files, with_file, overwritten, written, IsResized, InFile}
-use Rattle.jb_disk.specs.Device.{Device, IsPast, FailsBy, Turns, and_then}
+use Rattle.jb_disk.specs.Device.{Device, IsPast, FailsBy, StaysSilent, Turns, and_then}
 use Rattle.jb_disk.specs.Images.{just_synced, with_image}
 use Rattle.jb_disk.specs.Runs.{LeavesNow}
 use Rattle.jb_disk.proofs.RunLemmas.{durable}
@@ -19,24 +19,26 @@ not_past (Some files) f end reaches past = omega (arith, reaches files refl, pas
 
 -- a call within a file fails for a fault alone
 pub fails_here : {T E : Type 0} (o : Option Files) (f : FileId) (end : ℕ) (old new : Device) (result : Result T E) → Reaches o f end → FailsBy (IsPast o f end) old new result → FailsBy ⊥ old new result
-fails_here o f end old new (Ok value) reaches cause = record { later = cause.later; failed = tt; refused = λ none. absurd none }
+fails_here o f end old new (Ok value) reaches cause = record { later = cause.later; failed = tt; refused = λ none. absurd none; silent = cause.silent }
 fails_here o f end old new (Err error) reaches cause = record {
   later = cause.later;
   failed = elim cause.failed [ inl rose ↦ inl rose | inr past ↦ absurd (not_past o f end reaches past) ];
   refused = λ none. absurd none;
+  silent = cause.silent;
 }
 
 -- a call that was done, and one after it
-pub fails_then : {T E : Type 0} (a b c : Device) (result : Result T E) → a.faults ≤ b.faults → FailsBy ⊥ b c result → FailsBy ⊥ a c result
-fails_then a b c (Ok value) later cause =
+pub fails_then : {T E : Type 0} (a b c : Device) (result : Result T E) → a.faults ≤ b.faults → StaysSilent a b → FailsBy ⊥ b c result → FailsBy ⊥ a c result
+fails_then a b c (Ok value) later silent cause =
     let after = cause.later in
-    record { later = omega arith; failed = tt; refused = λ none. absurd none }
-fails_then a b c (Err error) later cause =
+    record { later = omega arith; failed = tt; refused = λ none. absurd none; silent = λ none. cause.silent (silent none) }
+fails_then a b c (Err error) later silent cause =
     let after = cause.later in
     record {
       later = omega arith;
       failed = elim cause.failed [ inl rose ↦ inl (omega (arith, rose)) | inr none ↦ absurd none ];
       refused = λ none. absurd none;
+      silent = λ none. cause.silent (silent none);
     }
 
 -- false is not true
@@ -47,7 +49,7 @@ not-true is = cc
 pub fails_as : {T E U F : Type 0} (old new : Device) (first : Result T E) (result : Result U F) → IsErr first → IsErr result → FailsBy ⊥ old new first → FailsBy ⊥ old new result
 fails_as old new (Ok value) result fails err cause = absurd (not-true fails)
 fails_as old new first (Ok value) fails err cause = absurd (not-true err)
-fails_as old new (Err error) (Err other) fails err cause = record { later = cause.later; failed = cause.failed; refused = λ none. absurd none }
+fails_as old new (Err error) (Err other) fails err cause = record { later = cause.later; failed = cause.failed; refused = λ none. absurd none; silent = cause.silent }
 
 -- no call is done that was refused
 pub none_done : {T E : Type 0} (result : Result T E) (P : Type 0) → IsErr result → OnOk result P
@@ -198,12 +200,3 @@ Reaches-resized f len (Some was) (Some now) turns = λ files told.
     let same : now ≡ files = cc in
     let size : length (files f) ≡ len = ap (λ (x : Files). length (x f)) (sym same) ∙ turns.here.size in
     omega (arith, size)
-
--- what tells nothing goes on telling nothing
-pub turns-none : (change : Files → Files → Type 0) (o after : Option Files) → Turns change o after → o ≡ None → after ≡ None
-turns-none change None None turns none = refl
-turns-none change None (Some now) turns none = absurd turns
-turns-none change (Some was) after turns none = absurd (some-none was none)
-  where
-    some-none : (was : Files) → Some was ≡ None → ⊥
-    some-none was is = cc

@@ -1,5 +1,5 @@
 //! Stage 3: the lengths are set, the pieces are written, and the changed files are synced.
-ghost use Rattle.std.specs.Prelude.{◌≡◌, ◌≢◌, ◌<◌, All, List, length, OnOk, None, false};
+ghost use Rattle.std.specs.Prelude.{◌≡◌, ◌≢◌, ◌<◌, All, List, length, OnOk, false};
 ghost use Rattle.std.specs.Option.{option_map, ForSome};
 ghost use Rattle.jb_disk.specs.declared.file.FileId.{FileId};
 ghost use Rattle.jb_disk.specs.declared.piece.Length.{Length};
@@ -156,8 +156,6 @@ pub(crate) fn apply<D: Disk>(disk: &mut D, redo: &Redo) -> Result<(), DiskFailed
         → ForSome (D.device disk.old).contents (IsOnTheWay redo.now.lengths redo.now.pieces start)
         → (D.device disk.new).contents ≡ option_map (λ _.
         applied redo.now.lengths redo.now.pieces start) (D.device disk.old).contents) }
-    ensures silent { OnOk result ((D.device disk.old).contents ≡ None
-        → (D.device disk.new).contents ≡ None) }
     ensures durable { OnOk result ((start : Files)
         → IsLegal (sizes_of start) redo.now.lengths redo.now.pieces
         → Shows (IsOnTheWay redo.now.lengths redo.now.pieces start) (D.device disk.old)

@@ -1,13 +1,13 @@
 //! The four stages of a commit.
-ghost use Rattle.std.specs.Prelude.{◌≡◌, ◌≤◌, None, IfErr, OnOk, OnErr};
+ghost use Rattle.std.specs.Prelude.{◌≡◌, ◌≤◌, IfErr, OnOk, OnErr};
 ghost use Rattle.std.specs.Option.{ForSome, option_map};
 ghost use Rattle.jb_base.specs.Fault.{Rose};
-ghost use Rattle.jb_disk.specs.Device.{FailsBy};
+ghost use Rattle.jb_disk.specs.Device.{FailsBy, StaysSilent};
 ghost use Rattle.jb_disk.specs.Files.{Files};
 ghost use Rattle.jb_disk.specs.Runs.{Shows, Runs, LeavesOnly, IsAllSynced};
 ghost use Rattle.jb_redo.specs.Rules.{AreLegalLengths};
 ghost use Rattle.jb_journal.specs.Commit.{IsWritable, IsReady, IsBeforeOrAfter, ReplaysTo, changed, committed};
-ghost use Rattle.jb_journal.specs.Doubt.{IsEarly, IsInDoubt};
+ghost use Rattle.jb_journal.specs.Doubt.{IsEarly, IsInDoubt, IsSettledAt};
 ghost use Rattle.jb_journal.specs.Opening.{StaysShut, OpensNow, OpensFor, WhereTold, OpensNowFor};
 ghost use Rattle.jb_journal.specs.Stages.{IsOpened, IsGoing, IsClosing, IsUnderWay, closed, opened};
 
@@ -53,8 +53,6 @@ pub(crate) fn finish<D: Disk>(disk: &mut D, redo: &Redo) -> Result<(), DiskFaile
         → Shows (IsGoing redo.now from) (D.device disk.old)
         → (D.device disk.new).contents ≡ option_map (λ _.
         closed redo.now from) (D.device disk.old).contents) }
-    ensures silent { OnOk result ((D.device disk.old).contents ≡ None
-        → (D.device disk.new).contents ≡ None) }
     ensures synced { OnOk result ((from : Files) → IsOpened redo.now from
         → Shows (IsGoing redo.now from) (D.device disk.old) → IsAllSynced (D.device disk.new)) }
     ensures late { (from : Files) → IsOpened redo.now from
@@ -81,10 +79,12 @@ pub fn commit<D: Disk>(disk: &mut D, redo: &Redo) -> Result<(), Stopped>
     requires ready { ForSome (D.device disk.old).contents (IsReady redo.now) }
     requires synced { IsAllSynced (D.device disk.old) }
 
-    // Done: exactly the files that are wanted, all of them synced.
+    // Done: exactly the files that are wanted, all of them synced; so they are settled at those with the change.
     ensures done { OnOk result ((D.device disk.new).contents ≡ option_map (committed redo.now)
         (D.device disk.old).contents) }
     ensures durable { OnOk result (IsAllSynced (D.device disk.new)) }
+    ensures settled { OnOk result (ForSome (D.device disk.old).contents (λ start.
+        Shows (IsSettledAt (changed redo.now start)) (D.device disk.new))) }
 
     // Stopped: only by a fault, and with what settling is to go on from.
     ensures cause { OnErr result (Rose (D.device disk.old).faults (D.device disk.new).faults) }
@@ -100,6 +100,9 @@ pub fn commit<D: Disk>(disk: &mut D, redo: &Redo) -> Result<(), Stopped>
         WhereTold (D.device disk.old).moments
         (OpensFor result (ReplaysTo (changed redo.now start)) (D.device disk.old).moments
         (D.device disk.new).moments)) }
+
+    // A disk that tells nothing goes on telling nothing, whatever is answered.
+    ensures silent { StaysSilent (D.device disk.old) (D.device disk.new) }
 {
     let Ok(()) = begin(disk, redo) else {
         return Err(Stopped::Early);

@@ -1,9 +1,9 @@
 //! A journal is given its head.
-ghost use Rattle.std.specs.Prelude.{◌≡◌, ◌≤◌, replicate, length, None, IfErr, OnOk, OnErr};
+ghost use Rattle.std.specs.Prelude.{◌≡◌, ◌≤◌, replicate, length, IfErr, OnOk, OnErr};
 ghost use Rattle.std.specs.Option.{ForSome, option_map};
 ghost use Rattle.jb_base.specs.Fault.{Rose};
 ghost use Rattle.jb_disk.specs.declared.file.FileId.TheVariants.{Jnl};
-ghost use Rattle.jb_disk.specs.Device.{FailsBy, Turns};
+ghost use Rattle.jb_disk.specs.Device.{FailsBy, StaysSilent, Turns};
 ghost use Rattle.jb_disk.specs.Files.{Files, with_file};
 ghost use Rattle.jb_disk.specs.Runs.{LeavesNow, Shows, Keeps, LeavesOnly, IsAllSynced};
 ghost use Rattle.jb_journal.specs.declared.stopped.Stopped.TheVariants.{Early};
@@ -18,7 +18,6 @@ fn write_head<D: Disk>(disk: &mut D) -> Result<(), DiskFailed>
         16 0)) (D.device disk.old).contents) }
     ensures durable { OnOk result (ForSome (D.device disk.old).contents (λ files. LeavesNow (λ left.
         left Jnl ≡ replicate 16 0) (D.device disk.new).moments)) }
-    ensures silent { (D.device disk.old).contents ≡ None → (D.device disk.new).contents ≡ None }
     ensures keeps { (start : Files) → length (start Jnl) ≤ 16
         → Keeps (IsPreparing start) (D.device disk.old) (D.device disk.new) }
     ensures cause { FailsBy ⊥ (D.device disk.old) (D.device disk.new) result }
@@ -34,7 +33,6 @@ pub(crate) fn make_head<D: Disk>(disk: &mut D) -> Result<(), DiskFailed>
         (D.device disk.new).contents) }
     ensures durable { OnOk result (IsAllSynced (D.device disk.old)
         → IsAllSynced (D.device disk.new)) }
-    ensures silent { (D.device disk.old).contents ≡ None → (D.device disk.new).contents ≡ None }
     ensures keeps { ForSome (D.device disk.old).contents (λ start.
         Keeps (IsPreparing start) (D.device disk.old) (D.device disk.new)) }
     ensures cause { FailsBy ⊥ (D.device disk.old) (D.device disk.new) result }
@@ -65,6 +63,9 @@ pub fn prepare<D: Disk>(disk: &mut D) -> Result<(), Stopped>
         → Shows (IsPreparing start) (D.device disk.new)) }
     ensures crash { ForSome (D.device disk.old).contents (λ start. IsAllSynced (D.device disk.old)
         → LeavesOnly (D.device disk.old) (D.device disk.new) (IsPreparing start)) }
+
+    // A disk that tells nothing goes on telling nothing, whatever is answered.
+    ensures silent { StaysSilent (D.device disk.old) (D.device disk.new) }
 {
     match make_head(disk) {
         Ok(()) => Ok(()),

@@ -1,9 +1,9 @@
 //! What a crash has left is made good.
-ghost use Rattle.std.specs.Prelude.{◌≡◌, ◌≤◌, List, Some, IfOk, IfErr, OnOk};
+ghost use Rattle.std.specs.Prelude.{◌≡◌, ◌≤◌, List, Some, IsSome, IfOk, IfErr, OnOk};
 ghost use Rattle.std.specs.Option.{ForSome};
 ghost use Rattle.jb_disk.specs.declared.piece.Length.{Length};
 ghost use Rattle.jb_disk.specs.declared.piece.Piece.{Piece};
-ghost use Rattle.jb_disk.specs.Device.{FailsBy};
+ghost use Rattle.jb_disk.specs.Device.{FailsBy, StaysSilent};
 ghost use Rattle.jb_disk.specs.Files.{Files};
 ghost use Rattle.jb_disk.specs.Images.{Images};
 ghost use Rattle.jb_disk.specs.Runs.{LeavesNow, Runs, Shows, Keeps, LeavesOnly, IsAllSynced};
@@ -79,11 +79,14 @@ fn redo_record<D: Disk>(disk: &mut D) -> Result<(), JournalError>
         → IsAllSynced (D.device disk.new))) }
     ensures closed { OnOk result (ForSome (D.device disk.old).contents (λ was. IsGrowthSafe was
         → ForSome (D.device disk.new).contents (λ now. IsGateOpen now → ⊥))) }
+    ensures told { OnOk result (ForSome (D.device disk.old).contents (λ was. IsGrowthSafe was
+        → IsSome (D.device disk.new).contents)) }
     ensures run { ForSome (D.device disk.old).contents (λ was. IsGrowthSafe was
         → Runs (ReplaysAs was) (D.device disk.old).moments (D.device disk.new).moments) }
     ensures fault { IfErr result (λ error. ForSome (D.device disk.old).contents (λ was.
         error ≡ StoreFault)) }
     ensures later { (D.device disk.old).faults ≤ (D.device disk.new).faults }
+    ensures silent { StaysSilent (D.device disk.old) (D.device disk.new) }
     ensures cause { IfErr result (FaultRose (D.device disk.old).faults (D.device disk.new).faults) }
 {
     apply_record(disk)?;
@@ -98,7 +101,8 @@ fn redo_record<D: Disk>(disk: &mut D) -> Result<(), JournalError>
 ///
 /// `BadRecord` comes exactly where the gate is open and the journal holds no record, and then nothing is written.
 pub fn recover<D: Disk>(disk: &mut D) -> Result<Recovered, JournalError>
-    // What it found, and the files then: as they were behind a closed gate, and else with the record done.
+    // What it found, and the files then, which are told still: as they were behind a closed gate, and else with the record
+    // done.
     ensures found { IfOk result (λ found. ForSome (D.device disk.old).contents (IsFound found)) }
     ensures done { OnOk result (ForSome (D.device disk.old).contents (λ was. IsGrowthSafe was
         → ForSome (D.device disk.new).contents (Replays was))) }
@@ -106,6 +110,8 @@ pub fn recover<D: Disk>(disk: &mut D) -> Result<Recovered, JournalError>
         → ForSome (D.device disk.new).contents (λ now. IsGateOpen now → ⊥))) }
     ensures durable { OnOk result (ForSome (D.device disk.old).contents (λ was. IsGrowthSafe was
         → IsAllSynced (D.device disk.new))) }
+    ensures told { OnOk result (ForSome (D.device disk.old).contents (λ was. IsGrowthSafe was
+        → IsSome (D.device disk.new).contents)) }
 
     // Why it is refused.
     ensures refused { IfErr result (λ error. ForSome
@@ -117,6 +123,9 @@ pub fn recover<D: Disk>(disk: &mut D) -> Result<Recovered, JournalError>
     ensures crash { ForSome (D.device disk.old).contents (λ was. IsGrowthSafe was
         → LeavesOnly (D.device disk.old) (D.device disk.new) (ReplaysAsAtStart
         (D.device disk.old).moments)) }
+
+    // A disk that tells nothing goes on telling nothing, whatever is answered.
+    ensures silent { StaysSilent (D.device disk.old) (D.device disk.new) }
 {
     sync_all(disk)?;
     if !is_gate_open(disk)? {

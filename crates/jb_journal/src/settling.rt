@@ -4,7 +4,7 @@ ghost use Rattle.std.specs.Option.{ForSome};
 ghost use Rattle.jb_base.specs.Fault.{Rose};
 ghost use Rattle.jb_disk.specs.declared.file.FileId.TheVariants.{Jnl};
 ghost use Rattle.jb_disk.specs.Change.{Change};
-ghost use Rattle.jb_disk.specs.Device.{FailsBy};
+ghost use Rattle.jb_disk.specs.Device.{FailsBy, StaysSilent};
 ghost use Rattle.jb_disk.specs.Files.{Files};
 ghost use Rattle.jb_disk.specs.Runs.{LeavesNow, Shows, Keeps, LeavesOnly, IsAllSynced};
 ghost use Rattle.jb_disk.specs.Gate.{IsGateOpen};
@@ -72,6 +72,9 @@ pub fn settle<D: Disk>(disk: &mut D, redo: &Redo, stopped: Stopped) -> Result<bo
     ensures crash { (start : Files) → IsReady redo.now start
         → Shows (IsInDoubt stopped redo.now start) (D.device disk.old)
         → LeavesOnly (D.device disk.old) (D.device disk.new) (DoubtReplays stopped redo.now start) }
+
+    // A disk that tells nothing goes on telling nothing, whatever is answered.
+    ensures silent { StaysSilent (D.device disk.old) (D.device disk.new) }
 {
     let Ok(is_open) = sync_gate(disk) else {
         return Err(stopped);

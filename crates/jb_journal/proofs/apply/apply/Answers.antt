@@ -1,12 +1,11 @@
-use Rattle.std.proofs.Common.{◌≡◌, List, ap, sym, ◌∙◌, subst}
+use Rattle.std.proofs.Common.{◌≡◌, List, sym, ◌∙◌, subst}
 use Rattle.jb_disk.specs.Device.{Turns}
 use Rattle.jb_disk.specs.Runs.{Keeps}
 use Rattle.jb_disk.specs.declared.piece.Length.{Length}
 use Rattle.jb_disk.proofs.RunLemmas.{keeps-then}
 use Rattle.jb_redo.specs.OnTheWay.{IsOnTheWay}
-use Rattle.jb_journal.specs.Applying.{AreResized, AgreeBelow, with_pieces}
-use Rattle.jb_journal.proofs.Told.{on_ok, on_ok_both, turns-none}
-use Rattle.std.specs.Option.{option_map}
+use Rattle.jb_journal.specs.Applying.{AreResized, AgreeBelow}
+use Rattle.jb_journal.proofs.Told.{on_ok, on_ok_both}
 use Rattle.jb_journal.proofs.SyncLemmas.{leaves_both}
 use Rattle.jb_journal.proofs.ApplyLemmas.{pieces_place, told_applied, same_on_way}
 use Rattle.jb_journal.proofs.apply.apply.Goals as goal
@@ -55,7 +54,3 @@ returns-clause-durable g c =
     leaves_both (IsOnTheWay lengths pieces start) (AgreeBelow 4 final) (λ left. left ≡ final) _
     (λ left way agree. same_on_way lengths pieces start final left legal (shows3.read final there) way agree) shows3.left (durable start shows2 final (sym kept ∙ there)))
     c.sync_changed.ensures.kept c.sync_changed.ensures.durable
-
-pub returns-clause-silent : goal.returns-clause-silent
-returns-clause-silent g c =
-    on_ok c.sync_changed.result _ _ (λ kept. λ none. kept ∙ c.in_ok-put_pieces.ensures.told ∙ ap (option_map (with_pieces c.args.redo.now.pieces)) (turns-none (AreResized c.lengths.result.now) _ _ c.in_ok-set_lengths.ensures.told none)) c.sync_changed.ensures.kept

@@ -5,6 +5,7 @@ use Rattle.jb_journal.specs.Stages.{opened}
 use Rattle.jb_journal.proofs.ReadyLemmas.{opened_is, from_opened}
 use Rattle.jb_journal.proofs.OpeningLemmas.{where_told, told_claim, opens_then}
 use Rattle.jb_journal.proofs.CommitLemmas.{before_at_start, under_way, closing_late, told_committed, synced_at_end}
+use Rattle.jb_journal.proofs.SettleLemmas.{shows_finished}
 use Rattle.jb_journal.proofs.committing.commit.Goals as goal
 
 pub returns-in_default-clause-crash : goal.returns-in_default-clause-crash
@@ -60,10 +61,18 @@ returns-clause-opening g c = λ start there.
 
 pub returns-clause-done : goal.returns-clause-done
 returns-clause-done g c =
-    told_committed c.args.redo.now _ _ _ c.requires.ready c.in-Ok.ensures.told c.in-Ok-finish.ensures.silent
+    told_committed c.args.redo.now _ _ _ c.requires.ready c.in-Ok.ensures.told c.finish.ensures.cause.silent
     (λ start there. let ready = c.requires.ready start there in c.in-Ok-finish.ensures.done (opened c.args.redo.now start) (opened_is c.args.redo.now start ready) (c.in-Ok.ensures.going start there))
 
 pub returns-clause-durable : goal.returns-clause-durable
 returns-clause-durable g c =
-    synced_at_end c.args.redo.now _ _ (g.D.Disk.device c.finish.new.disk) c.in-Ok.ensures.told c.in-Ok-finish.ensures.silent
+    synced_at_end c.args.redo.now _ _ (g.D.Disk.device c.finish.new.disk) c.in-Ok.ensures.told c.finish.ensures.cause.silent
     (λ start there. let ready = c.requires.ready start there in c.in-Ok-finish.ensures.synced (opened c.args.redo.now start) (opened_is c.args.redo.now start ready) (c.in-Ok.ensures.going start there))
+
+pub returns-clause-settled : goal.returns-clause-settled
+returns-clause-settled g c = λ start there.
+    let redo = c.args.redo.now in
+    let ready = c.requires.ready start there in
+    let is = opened_is redo start ready in
+    let going = c.in-Ok.ensures.going start there in
+    shows_finished redo start ready (g.D.Disk.device c.begin.new.disk).contents (g.D.Disk.device c.finish.new.disk) (g.met.D.Disk.told c.finish.new.disk) (c.in-Ok-finish.ensures.done (opened redo start) is going) (c.in-Ok-finish.ensures.synced (opened redo start) is going)

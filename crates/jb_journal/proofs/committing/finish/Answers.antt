@@ -24,15 +24,12 @@ returns-in_err-apply-clause-run g c = λ from is shows.
     runs-weaken (IsGoing c.args.redo.now from) (ReplaysTo (changed c.args.redo.now from)) (going_replays c.args.redo.now from is) _ _ ((c.apply.ensures.keeps from is.has.legal).run shows)
 
 pub set_gate-requires : goal.set_gate-requires
-set_gate-requires g c = gate_room c.args.redo.now _ _ c.in_ok-apply.ensures.silent c.requires.going (λ from is way. c.in_ok-apply.ensures.told from is.has.legal is.grown way)
+set_gate-requires g c = gate_room c.args.redo.now _ _ c.apply.ensures.cause.silent c.requires.going (λ from is way. c.in_ok-apply.ensures.told from is.has.legal is.grown way)
 
 pub returns-clause-done : goal.returns-clause-done
 returns-clause-done g c = on_ok c.set_gate.result _ _ (λ told. λ from is shows.
     told ∙ ap (option_map (written Jnl 0 (0 ∷ []))) (c.in_ok-apply.ensures.told from is.has.legal is.grown shows.read)
     ∙ option_map-twice (λ (files : Files). changed c.args.redo.now from) (written Jnl 0 (0 ∷ [])) _) c.set_gate.ensures.told
-
-pub returns-clause-silent : goal.returns-clause-silent
-returns-clause-silent g c = on_ok c.set_gate.result _ _ (λ told. λ none. told ∙ ap (option_map (written Jnl 0 (0 ∷ []))) (c.in_ok-apply.ensures.silent none)) c.set_gate.ensures.told
 
 pub returns-clause-synced : goal.returns-clause-synced
 returns-clause-synced g c = on_ok_both c.set_gate.result _ _ _ (λ told durable. λ from is shows.

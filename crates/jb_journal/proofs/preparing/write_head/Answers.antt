@@ -3,7 +3,7 @@ use Rattle.jb_disk.specs.declared.file.FileId.TheVariants.{Jnl}
 use Rattle.jb_disk.specs.Files.{with_file}
 use Rattle.jb_disk.proofs.RunLemmas.{keeps-then, keeps-write, keeps-resize, keeps-sync}
 use Rattle.jb_journal.specs.Prepare.{IsPreparing}
-use Rattle.jb_journal.proofs.Told.{told_ended, durable_at, on_ok, turns-none}
+use Rattle.jb_journal.proofs.Told.{told_ended, durable_at, on_ok}
 use Rattle.jb_journal.proofs.PrepareLemmas.{preparing_cut, preparing_torn}
 use Rattle.jb_journal.proofs.preparing.write_head.Goals as goal
 
@@ -36,12 +36,3 @@ pub returns-clause-durable : goal.returns-clause-durable
 returns-clause-durable g c =
     let told = told_ended Jnl 0 16 (replicate 16 0) _ _ _ (λ files is. omega arith) refl c.in_ok-set_len.ensures.changed.done c.in_ok-write_at.ensures.ok in
     on_ok c.sync.result _ _ (λ done. durable_at Jnl (with_file Jnl (replicate 16 0)) _ (g.D.Disk.device c.write_at.new.self) (g.D.Disk.device c.sync.new.self) told done) c.sync.ensures.changed.done
-
-pub returns-in_err-set_len-clause-silent : goal.returns-in_err-set_len-clause-silent
-returns-in_err-set_len-clause-silent g c = λ none. turns-none _ _ _ c.set_len.ensures.changed.tried.others none
-
-pub returns-in_err-write_at-clause-silent : goal.returns-in_err-write_at-clause-silent
-returns-in_err-write_at-clause-silent g c = λ none. turns-none _ _ _ c.write_at.ensures.changed.tried.others (turns-none _ _ _ c.set_len.ensures.changed.tried.others none)
-
-pub returns-clause-silent : goal.returns-clause-silent
-returns-clause-silent g c = λ none. turns-none _ _ _ c.sync.ensures.changed.tried.others (turns-none _ _ _ c.write_at.ensures.changed.tried.others (turns-none _ _ _ c.set_len.ensures.changed.tried.others none))

@@ -9,7 +9,7 @@ use Rattle.jb_journal.specs.Commit.{ReplaysTo, changed}
 use Rattle.jb_journal.specs.Recover.{ReplaysAs}
 use Rattle.jb_journal.specs.Stages.{closed}
 use Rattle.jb_journal.proofs.FinishLemmas.{at_gate, closing_run}
-use Rattle.jb_journal.proofs.RecoverLemmas.{change_of, opened, way_as, change_as, done_open, end_shut, shows_way, shows_done, end_synced, one_told}
+use Rattle.jb_journal.proofs.RecoverLemmas.{change_of, opened, way_as, change_as, done_open, end_shut, shows_way, shows_done, end_synced, one_told, told_there}
 use Rattle.jb_journal.proofs.recovery.redo_record.Goals as goal
 
 pub returns-in_err-apply_record-clause-run : goal.returns-in_err-apply_record-clause-run
@@ -161,3 +161,17 @@ returns-clause-closed g c = λ was there safe.
     let closing = c.close_gate.ensures.keeps (changed change was) in
     let at3 : d3.contents ≡ Some (closed change was) = c.in_ok-close_gate.ensures.told (changed change was) at2 (done_open was l p has.is gate safe) in
     λ now now_is is_open. end_shut was l p has.is gate safe (subst IsGateOpen (sym (one_told d3.contents (closed change was) now at3 now_is)) is_open)
+
+pub returns-clause-told : goal.returns-clause-told
+returns-clause-told g c = λ was there safe.
+    let has = c.requires.record was there in
+    let gate = c.requires.gate was there in
+    let l = has.lengths in
+    let p = has.pieces in
+    let change = change_of was l p has.is gate safe in
+    let d1 = g.D.Disk.device c.apply_record.new.disk in
+    let d2 = g.D.Disk.device c.sync_base.new.disk in
+    let d3 = g.D.Disk.device c.close_gate.new.disk in
+    let at1 : d1.contents ≡ Some (changed change was) = c.in_ok-apply_record.ensures.ok was there l p has.is (safe gate l p has.is) in
+    let at2 : d2.contents ≡ Some (changed change was) = c.in_ok-sync_base.ensures.kept ∙ at1 in
+    told_there d3.contents (closed change was) (c.in_ok-close_gate.ensures.told (changed change was) at2 (done_open was l p has.is gate safe))

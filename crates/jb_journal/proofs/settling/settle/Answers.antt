@@ -133,7 +133,7 @@ returns-in_default-make_head-clause-still g c = λ start ready shows.
     let synced1 = synced_early redo start ready d1 tells1 stopped shows1 durable1 c.in-Early.is in
     let d2 = g.D.Disk.device c.make_head.new.disk in
     let tells2 = g.met.D.Disk.told c.make_head.new.disk in
-    shows_early_again redo start ready d1 d2 tells1 tells2 early1 shut1 synced1 c.make_head.ensures.keeps c.make_head.ensures.silent
+    shows_early_again redo start ready d1 d2 tells1 tells2 early1 shut1 synced1 c.make_head.ensures.keeps c.make_head.ensures.cause.silent
 
 pub returns-in_default-make_head-clause-crash : goal.returns-in_default-make_head-clause-crash
 returns-in_default-make_head-clause-crash g c = λ start ready shows.
@@ -152,7 +152,7 @@ returns-in_default-make_head-clause-crash g c = λ start ready shows.
     let tells2 = g.met.D.Disk.told c.make_head.new.disk in
     record {
       first = doubt_first redo start ready stopped d0 shows;
-      run = head_run redo start ready stopped d0 d1 d2 c.in-Early.is (doubt_run redo start ready stopped d0 d1 keeps shows) (preparing_run redo start ready d1 d2 tells1 tells2 early1 shut1 synced1 c.make_head.ensures.keeps c.make_head.ensures.silent);
+      run = head_run redo start ready stopped d0 d1 d2 c.in-Early.is (doubt_run redo start ready stopped d0 d1 keeps shows) (preparing_run redo start ready d1 d2 tells1 tells2 early1 shut1 synced1 c.make_head.ensures.keeps c.make_head.ensures.cause.silent);
     }
 
 pub returns-in-Ok-make_head-clause-crash : goal.returns-in-Ok-make_head-clause-crash
@@ -172,7 +172,7 @@ returns-in-Ok-make_head-clause-crash g c = λ start ready shows.
     let tells2 = g.met.D.Disk.told c.make_head.new.disk in
     record {
       first = doubt_first redo start ready stopped d0 shows;
-      run = head_run redo start ready stopped d0 d1 d2 c.in-Early.is (doubt_run redo start ready stopped d0 d1 keeps shows) (preparing_run redo start ready d1 d2 tells1 tells2 early1 shut1 synced1 c.make_head.ensures.keeps c.make_head.ensures.silent);
+      run = head_run redo start ready stopped d0 d1 d2 c.in-Early.is (doubt_run redo start ready stopped d0 d1 keeps shows) (preparing_run redo start ready d1 d2 tells1 tells2 early1 shut1 synced1 c.make_head.ensures.keeps c.make_head.ensures.cause.silent);
     }
 
 pub returns-in-Ok-make_head-clause-answer : goal.returns-in-Ok-make_head-clause-answer

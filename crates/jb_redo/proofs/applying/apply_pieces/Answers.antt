@@ -17,6 +17,7 @@ loop-init g c =
     let kept = c.read_number.ensures.kept.contents in
     record {
       later = omega arith;
+      silent = λ none. none;
       told = told_start c.in-Some.count c.args.lengths.now.at c.args.lengths.now.ends (g.D.Disk.device c.read_number.new.disk).contents
           (λ files is. c.requires.lengths files (sym kept ∙ is)) fits (λ files is. found files (sym kept ∙ is));
       images = nothing_keeps (g.D.Disk.device c.read_number.new.disk);
@@ -82,6 +83,7 @@ loop-preserved g c =
     let later = c.copy_part.ensures.later in
     record {
       later = omega arith;
+      silent = λ none. c.copy_part.ensures.silent (c.read_part.ensures.kept.contents ∙ c.loop.invariant.silent none);
       told = told_next c.in-Some.count c.loop.counter c.loop.at c.args.lengths.now.ends (device c.read_number.new.disk).contents (device c.loop.disk).contents
           (λ f here. c.requires.sized f (sym kept ∙ here)) c.loop.invariant.told part sound found (device c.copy_part.new.disk).contents c.loop-test.true
           (rw c.read_part.ensures.kept.contents at c.in_ok-copy_part.ensures.ok);

@@ -10,6 +10,7 @@ loop-done-init g c = record {
   size = search rules;
   few = omega arith;
   later = omega arith;
+  silent = λ none. none;
   told = told_none c.args.part.now (g.D.Disk.device c.args.disk.now).contents;
   images = λ lengths pieces start covers. keeps-refl (IsOnTheWay lengths pieces start) (g.D.Disk.device c.args.disk.now);
 }
@@ -44,6 +45,7 @@ loop-done-preserved g c =
       size = omega (arith, length-append c.copy_chunk.new.chunk (drop c.min-count.result c.loop-done.buffer), length-drop c.min-count.result c.loop-done.buffer, c.copy_chunk.ensures.size, size, count);
       few = omega (arith, count);
       later = omega arith;
+      silent = λ none. c.copy_chunk.ensures.silent (c.loop-done.invariant.silent none);
       told = rw size at (told_more part c.loop-done.done n (g.D.Disk.device c.args.disk.now).contents (g.D.Disk.device c.loop-done.disk).contents (g.D.Disk.device c.copy_chunk.new.disk).contents
           c.requires.sound c.requires.room whole c.loop-done.invariant.told c.in_ok-copy_chunk.ensures.ok);
       images = range_keeps part.to part.to_at part.len (part.to_at + c.loop-done.done) n (g.D.Disk.device c.args.disk.now) (g.D.Disk.device c.loop-done.disk) (g.D.Disk.device c.copy_chunk.new.disk)
