@@ -3,9 +3,10 @@ use Rattle.std.proofs.Common.{◌≡◌, ℕ, ◌≤◌, Bool, true, false, ◌&
 use Rattle.std.specs.Prelude.{bytes_eq, if◌then◌else◌, Option, Some, None, IsSome}
 use Rattle.std.specs.Option.{ForSome, option_map}
 use Rattle.std.proofs.lemmas.Slice.Eq.{bytes_eq-Decides}
-use Rattle.jb_disk.specs.Device.{Device, OnlyReads}
+use Rattle.jb_disk.specs.Device.{Device}
 use Rattle.jb_host.specs.Desk.{Desk, Disks, GivesDisk, Place, TakesBack, handed_out, has_disk, with_place}
-use Rattle.board.specs.Run.{Answer, ListsDisk, UsesDisk}
+use Rattle.board.specs.Run.{UsesDisk}
+use Rattle.board.specs.Tool.{Answer, KeepsReplay, ListsDisk}
 
 -- the place that was changed
 here : (dir name : List ℕ) (place : Place) (disks : Disks) → with_place dir name place disks dir name ≡ place
@@ -26,9 +27,9 @@ twice_changed dir name first second disks =
 
 -- a disk that is put back after it was used
 pub used_disk : (dir name : List ℕ) (before after : Device) (old mid new : Desk) (answer : Answer) → GivesDisk dir name before old mid → TakesBack dir name after mid new
-    → OnlyReads before after → before.faults ≤ after.faults → ListsDisk before after answer
+    → ListsDisk before after answer → KeepsReplay before after → before.faults ≤ after.faults
     → ForSome old.disks (λ disks. UsesDisk dir name disks new.disks answer)
-used_disk dir name before after old mid new answer given back kept later answers = λ disks told.
+used_disk dir name before after old mid new answer given back answers crash later = λ disks told.
     let out : mid.disks ≡ Some (with_place dir name handed_out disks) = given.out ∙ ap (option_map (with_place dir name handed_out)) told in
     let returned = back.back (with_place dir name handed_out disks) out (here dir name handed_out disks) in
     record {
@@ -36,9 +37,9 @@ used_disk dir name before after old mid new answer given back kept later answers
       then = after;
       was = given.was disks told;
       back = returned ∙ ap (option_map (with_place dir name (has_disk after))) out ∙ ap (λ (d : Disks). Some d) (twice_changed dir name handed_out (has_disk after) disks);
-      kept = kept;
-      later = later;
       answers = answers;
+      crash = crash;
+      later = later;
     }
 
 -- a value that is there is there when it is seen otherwise

@@ -2,8 +2,10 @@
 use Rattle.std.specs.Prelude.{ℕ, List, [], ◌∷◌, ◌++◌, codes, decimal}
 use Rattle.jb_image.specs.declared.error.OpenError.{OpenError}
 use Rattle.jb_image.specs.declared.error.OpenError.TheVariants as refused
+use Rattle.jb_journal.specs.declared.error.JournalError.{JournalError}
+use Rattle.jb_journal.specs.declared.error.JournalError.TheVariants.{BadRecord, StoreFault as JournalFault}
 use Rattle.board.specs.declared.fault.Fault.{Fault}
-use Rattle.board.specs.declared.fault.Fault.TheVariants.{Words, Base, HostFault, OutOfMemory}
+use Rattle.board.specs.declared.fault.Fault.TheVariants.{Words, BadJournal, Base, HostFault, OutOfMemory}
 
 -- the exit status of a base that is not opened: 4 a store fault, 6 want of memory, 3 all that its files are refused for
 abbrev pub base_status : OpenError → ℕ
@@ -11,9 +13,10 @@ base_status refused.StoreFault = 4
 base_status refused.OutOfMemory = 6
 base_status _ = 3
 
--- the exit status: 1 words, 3 the base is refused, 4 a store fault, 5 a host fault, 6 want of memory
+-- the exit status: 1 words, 3 the journal or the base is refused, 4 a store fault, 5 a host fault, 6 want of memory
 abbrev pub status_of : Fault → ℕ
 status_of Words = 1
+status_of (BadJournal at) = 3
 status_of (Base error) = base_status error
 status_of HostFault = 5
 status_of OutOfMemory = 6
@@ -37,13 +40,18 @@ base_line (refused.HeaderRevision number) = codes "fault 3.10 HeaderRevision" ++
 base_line (refused.Subfields number at) = codes "fault 3.11 Subfields" ++ value_text number ++ value_text at
 base_line (refused.TextPlace number) = codes "fault 3.12 TextPlace" ++ value_text number
 base_line (refused.HeadersOverlap a b) = codes "fault 3.13 HeadersOverlap" ++ value_text a ++ value_text b
-base_line refused.NotYet = codes "fault 3.90 NotYet"
 base_line refused.StoreFault = codes "fault 4 StoreFault"
 base_line refused.OutOfMemory = codes "fault 6 OutOfMemory"
+
+-- why recovery refuses, as a run that is refused
+abbrev pub fault_of : JournalError → Fault
+fault_of (BadRecord at) = BadJournal at
+fault_of JournalFault = Base refused.StoreFault
 
 -- the line on the console
 abbrev pub line_of : Fault → List ℕ
 line_of Words = codes "fault 1 Words" ++ 10 ∷ []
+line_of (BadJournal at) = codes "fault 3.14 BadJournal" ++ value_text at ++ 10 ∷ []
 line_of (Base error) = base_line error ++ 10 ∷ []
 line_of HostFault = codes "fault 5 HostFault" ++ 10 ∷ []
 line_of OutOfMemory = codes "fault 6 OutOfMemory" ++ 10 ∷ []

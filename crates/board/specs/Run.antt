@@ -1,46 +1,24 @@
 -- A whole run of the program: what is asked of the host, what is printed, and the status.
-use Rattle.std.specs.Prelude.{◌≡◌, ◌⊎◌, ℕ, ◌≤◌, List, Option, Some, None, Result, Ok, Err}
+use Rattle.std.specs.Prelude.{◌≡◌, ◌⊎◌, ℕ, ◌≤◌, List, Option, Some, None, Ok, Err}
 use Rattle.std.specs.Option.{ForSome}
 use Rattle.jb_base.specs.Fault.{Rose}
-use Rattle.jb_base.specs.declared.limits.TheConstants.{MOST_SLOTS}
-use Rattle.jb_disk.specs.Device.{Device, OnlyReads}
+use Rattle.jb_disk.specs.Device.{Device}
 use Rattle.jb_host.specs.Desk.{Desk, Disks, has_disk, with_place, asked_disk, and_call}
 use Rattle.jb_host.specs.Wire.{Wire, Begins, Sends}
-use Rattle.jb_image.specs.Answers.{IsRefusedBy}
-use Rattle.jb_image.specs.declared.error.OpenError.{OpenError}
-use Rattle.jb_image.specs.declared.error.OpenError.TheVariants.{StoreFault}
-use Rattle.board.specs.declared.fault.Fault.{Fault}
-use Rattle.board.specs.declared.fault.Fault.TheVariants.{Words, Base, HostFault, OutOfMemory}
+use Rattle.board.specs.declared.fault.Fault.TheVariants.{Words, HostFault, OutOfMemory}
 use Rattle.board.specs.Faults.{line_of, status_of}
-use Rattle.board.specs.Tool.{IsListing}
+use Rattle.board.specs.Tool.{Answer, ListsDisk, KeepsReplay}
 use Rattle.board.specs.Words.{CommandLine, list_base, command_line_of}
 
--- what a run answers: the text to print, or why it is refused
-abbrev pub Answer : Type 0
-Answer = Result (List ℕ) Fault
-
--- a base that is not opened, and why: what its files hold, or a fault of its disk
-pub record RefusesBase (before after : Device) (error : OpenError) : Type 0 where
-  pub files : ForSome before.contents (λ files. IsRefusedBy MOST_SLOTS files error)
-  pub fault : error ≡ StoreFault → Rose before.faults after.faults
-
--- the answer of `list` over the disk of the base, before it and after it
-abbrev pub ListsDisk : Device → Device → Answer → Type 0
-ListsDisk before after (Ok text) = ForSome before.contents (λ files. IsListing files text)
-ListsDisk before after (Err (Base error)) = RefusesBase before after error
-ListsDisk before after (Err OutOfMemory) = Unit {0}
-ListsDisk before after (Err Words) = ⊥
-ListsDisk before after (Err HostFault) = ⊥
-
--- the disk was handed out, only read, and put back
+-- the disk was handed out, the base recovered and listed, and the disk put back
 pub record UsesDisk (dir name : List ℕ) (disks : Disks) (after : Option Disks) (answer : Answer) : Type 0 where
   pub before : Device
   pub then : Device
   pub was : disks dir name ≡ has_disk before
   pub back : after ≡ Some (with_place dir name (has_disk then) disks)
-  pub kept : OnlyReads before then
-  pub later : before.faults ≤ then.faults
   pub answers : ListsDisk before then answer
+  pub crash : KeepsReplay before then
+  pub later : before.faults ≤ then.faults
 
 -- no disk was handed out, and why
 abbrev pub GetsNoDisk : Desk → Desk → Answer → Type 0

@@ -1,10 +1,11 @@
 //! How a run that is refused ends: its status and its line on the console.
 ghost use Rattle.std.specs.Prelude.{◌≡◌, ◌≤◌, ◌+◌, ◌++◌, [], ◌∷◌, length};
-ghost use Rattle.board.specs.Faults.{base_line, base_status, line_of, status_of, value_text};
+ghost use Rattle.board.specs.Faults.{base_line, base_status, fault_of, line_of, status_of, value_text};
 
 use arrayvec::ArrayString;
 use itoa::Buffer;
 use jb_image::OpenError;
+use jb_journal::JournalError;
 
 /// A line of at most 80 bytes; it takes no memory.
 pub type Line = ArrayString<80>;
@@ -14,6 +15,9 @@ pub type Line = ArrayString<80>;
 pub enum Fault {
     /// The words are no command line.
     Words,
+    /// A change waits in the journal and cannot be done: the field of its record at byte `at` of .JNL is cut off or breaks a
+    /// rule. The files are as they were.
+    BadJournal { at: u64 },
     /// The base is not opened: its files are refused, its disk failed, or there was no memory for it.
     Base(OpenError),
     /// The host or the console failed.
@@ -44,10 +48,19 @@ fn named(name: &str) -> Line
 }
 
 /// The line with a value behind it.
-fn and_value(mut line: Line, value: u32) -> Line
-    requires { length line.bytes ≤ 60 }
+fn and_value(line: Line, value: u32) -> Line
+    requires { length line.bytes ≤ 50 }
     ensures value { result.bytes ≡ line.bytes ++ value_text value }
-    ensures short { length result.bytes ≤ length line.bytes + 11 }
+    ensures short { length result.bytes ≤ length line.bytes + 21 }
+{
+    and_place(line, value as u64)
+}
+
+/// The line with a place in a file behind it.
+fn and_place(mut line: Line, value: u64) -> Line
+    requires { length line.bytes ≤ 50 }
+    ensures value { result.bytes ≡ line.bytes ++ value_text value }
+    ensures short { length result.bytes ≤ length line.bytes + 21 }
 {
     let mut digits = Buffer::new();
     line.push_str(" ");
@@ -58,7 +71,7 @@ fn and_value(mut line: Line, value: u32) -> Line
 /// The line where a base is not opened, without its end.
 fn base_line(error: OpenError) -> Line
     ensures line { result.bytes ≡ base_line error }
-    ensures short { length result.bytes ≤ 62 }
+    ensures short { length result.bytes ≤ 70 }
 {
     match error {
         OpenError::ShortHeader => named("fault 3.1 ShortHeader"),
@@ -82,7 +95,6 @@ fn base_line(error: OpenError) -> Line
         OpenError::HeadersOverlap { a, b } => {
             and_value(and_value(named("fault 3.13 HeadersOverlap"), a), b)
         }
-        OpenError::NotYet => named("fault 3.90 NotYet"),
         OpenError::StoreFault => named("fault 4 StoreFault"),
         OpenError::OutOfMemory => named("fault 6 OutOfMemory"),
     }
@@ -95,6 +107,7 @@ impl Fault {
     {
         match self {
             Fault::Words => 1,
+            Fault::BadJournal { .. } => 3,
             Fault::Base(error) => base_status(error),
             Fault::HostFault => 5,
             Fault::OutOfMemory => 6,
@@ -107,6 +120,7 @@ impl Fault {
     {
         let mut line = match self {
             Fault::Words => named("fault 1 Words"),
+            Fault::BadJournal { at } => and_place(named("fault 3.14 BadJournal"), at),
             Fault::Base(error) => base_line(error),
             Fault::HostFault => named("fault 5 HostFault"),
             Fault::OutOfMemory => named("fault 6 OutOfMemory"),
@@ -123,5 +137,16 @@ impl From<OpenError> for Fault {
 
     fn from(error: OpenError) -> Fault {
         Fault::Base(error)
+    }
+}
+
+impl From<JournalError> for Fault {
+    ghost from_gives = { λ error fault. fault ≡ fault_of error };
+
+    fn from(error: JournalError) -> Fault {
+        match error {
+            JournalError::BadRecord { at } => Fault::BadJournal { at },
+            JournalError::StoreFault => Fault::Base(OpenError::StoreFault),
+        }
     }
 }

@@ -10,6 +10,8 @@ mod command;
 mod fault;
 mod listing;
 #[cfg(test)]
+mod real_files;
+#[cfg(test)]
 mod tests;
 mod tool;
 mod top;

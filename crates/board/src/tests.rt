@@ -4,7 +4,7 @@ ghost use Rattle.jb_host.specs.Shelves.{memory_desk};
 
 use crate::top::board;
 use jb_base::Bytes;
-use jb_disk::MemDisk;
+use jb_disk::{FileId, MemDisk};
 use jb_host::{MemHost, MemLink};
 use std::alloc::Global;
 use std::process::Abort;
@@ -33,6 +33,13 @@ const KILLED: &[u8] =
 /// Number 1 at 1,168, an empty slot, a killed one at 1,267, and number 4 at 1,024.
 const INDEX_OF_FOUR: &[u8] =
     b"\x53\x2a\xbb\xe4\x90\x04\0\0\0\0\0\0\xff\xff\xff\xff\0\0\0\0\xf3\x04\0\0\x79\x59\xef\xc9\x00\x04\0\0";
+
+/// An open gate with no record behind it.
+const EMPTY_CHANGE: &[u8] = &[1, 0, 0, 0, 0, 0, 0, 0, 0, 0, 0, 0, 0, 0, 0, 0, 0];
+
+/// An open gate, and the record of a change that puts `xyz` in place of the subject, at 1,161 of the header file.
+const NEW_SUBJECT: &[u8] =
+    b"\x01\0\0\0\0\0\0\0\0\0\0\0\0\0\0\0JBJ1\0\0\0\0\x01\0\0\0\0\0\0\0\x89\x04\0\0\x03\0\0\0xyzJBJE";
 
 const LINE: &[u8] = b"       1  Test > Hello  abc\n";
 
@@ -66,8 +73,14 @@ fn disk(
 }
 
 /// A disk with the base of one message, in which these bytes stand in a file from a place on, and nothing behind them where
-/// there are none.
-fn changed_disk(alloc: Global, number: usize, at: usize, bytes: &[u8]) -> Result<MemDisk, Fail> {
+/// there are none; it fails the calls with these numbers.
+fn changed_disk(
+    alloc: Global,
+    number: usize,
+    at: usize,
+    bytes: &[u8],
+    failing: &[u64],
+) -> Result<MemDisk, Fail> {
     let mut files = [
         headers(alloc, MESSAGE)?,
         Bytes::copy(alloc, TEXT)?,
@@ -88,7 +101,7 @@ fn changed_disk(alloc: Global, number: usize, at: usize, bytes: &[u8]) -> Result
         new.append(&old[end..])?;
         *file = new;
     }
-    Ok(MemDisk::new(alloc, files, Vec::new(alloc))?)
+    Ok(MemDisk::new(alloc, files, failing.to_vec(alloc)?)?)
 }
 
 /// A host with the base `general` in the folder `a`, whose console fails the calls with these numbers.
@@ -214,11 +227,11 @@ fn prints_why_a_base_is_not_opened(rt: HostRuntime) -> Result<(), Fail> {
         (0, 1_032, b"\x3f", b"fault 3.11 Subfields 1 53\n"),
         (0, 1_088, b"\x06", b"fault 3.12 TextPlace 1\n"),
         (2, 8, INDEX, b"fault 3.13 HeadersOverlap 1 2\n"),
-        (4, 0, &[1; 17], b"fault 3.90 NotYet\n"),
+        (4, 0, EMPTY_CHANGE, b"fault 3.14 BadJournal 16\n"),
         (0, 1_023, b"", b"fault 3.1 ShortHeader\n"),
     ];
     for (number, at, bytes, line) in cases {
-        let changed = changed_disk(alloc, number, at, bytes)?;
+        let changed = changed_disk(alloc, number, at, bytes, &[])?;
         let host = host(alloc, changed, &[])?;
         check(&rt, alloc, host, "list a general", 3, line)?;
     }
@@ -236,10 +249,59 @@ fn prints_why_a_base_is_not_opened(rt: HostRuntime) -> Result<(), Fail> {
     )
 }
 
+/// Runs `list a general` and looks at the status; whether the base now has the new subject behind a closed gate.
+fn lists_with(
+    rt: &impl Abort,
+    alloc: Global,
+    host: &mut MemHost,
+    statuses: &[u8],
+) -> Result<bool, Fail>
+    requires { IsSome (memory_desk host.old).console }
+    ensures { IsSome (memory_desk host.new).console }
+{
+    let words = words(alloc, "list a general")?;
+    let ended = board(alloc, words.as_slice(), host);
+    assert!(rt; statuses.contains(&ended), "status {ended}");
+    let Some(base) = host.disk_at("a", "general") else {
+        panic!(rt; "the disk is out");
+    };
+    let mut wanted = headers(alloc, &MESSAGE[..137])?;
+    wanted.append(b"xyz")?;
+    let mut shut = Bytes::copy(alloc, b"\0")?;
+    shut.append(&NEW_SUBJECT[1..])?;
+    Ok(base.file(FileId::Jhr) == wanted.as_slice() && base.file(FileId::Jnl) == shut.as_slice())
+}
+
+#[test]
+fn lists_the_base_that_its_journal_makes_also_after_a_run_that_was_stopped(
+    rt: HostRuntime,
+) -> Result<(), Fail> {
+    let alloc = rt.alloc();
+    for journal in [b"\x07\0\0\0\0\0\0\0\0\0\0\0\0\0\0\0\0".as_slice(), &[1; 16]] {
+        let shut = changed_disk(alloc, 4, 0, journal, &[])?;
+        check(
+            &rt,
+            alloc,
+            host(alloc, shut, &[])?,
+            "list a general",
+            0,
+            LINE,
+        )?;
+    }
+    for failing in 1..=40 {
+        let disk = changed_disk(alloc, 4, 0, NEW_SUBJECT, &[failing])?;
+        let mut host = host(alloc, disk, &[])?;
+        let _ = lists_with(&rt, alloc, &mut host, &[0, 4])?;
+        assert!(rt; lists_with(&rt, alloc, &mut host, &[0])?, "call {failing}");
+    }
+    Ok(())
+}
+
 #[test]
 fn a_failing_disk_or_console_ends_the_run_at_each_call(rt: HostRuntime) -> Result<(), Fail> {
     let alloc = rt.alloc();
-    for call in 1..=10 {
+    // Six syncs and a question for the journal's length; four lengths; four reads, and one of no bytes.
+    for call in 1..=16 {
         let one = disk(alloc, headers(alloc, MESSAGE)?, TEXT, INDEX, &[call])?;
         check(
             &rt,
@@ -250,11 +312,11 @@ fn a_failing_disk_or_console_ends_the_run_at_each_call(rt: HostRuntime) -> Resul
             b"fault 4 StoreFault\n",
         )?;
     }
-    let eleven = disk(alloc, headers(alloc, MESSAGE)?, TEXT, INDEX, &[11])?;
+    let later = disk(alloc, headers(alloc, MESSAGE)?, TEXT, INDEX, &[17])?;
     check(
         &rt,
         alloc,
-        host(alloc, eleven, &[])?,
+        host(alloc, later, &[])?,
         "list a general",
         0,
         LINE,

@@ -11,7 +11,7 @@ use jb_base::Bytes;
 use jb_host::{Host, HostError, Link, send};
 use std::alloc::Global;
 
-/// What `list` answers over the disk that the host has for the base; the disk is put back.
+/// What `list` answers over the disk that the host has for the base, which is recovered first; the disk is put back.
 fn list_base<H: Host>(alloc: Global, line: &ListWords<'_>, host: &mut H) -> Result<Bytes, Fault>
     ensures found { ListsBase line.now.dir.now line.now.name.now (H.desk host.old) (H.desk host.new) result }
     ensures console { (H.desk host.new).console ≡ (H.desk host.old).console }
@@ -23,10 +23,7 @@ fn list_base<H: Host>(alloc: Global, line: &ListWords<'_>, host: &mut H) -> Resu
     };
     let answer = list(alloc, &mut disk);
     host.put_back(line.dir, line.name, disk);
-    match answer {
-        Ok(text) => Ok(text),
-        Err(error) => Err(error.into()),
-    }
+    answer
 }
 
 /// What these words are answered.

@@ -10,7 +10,7 @@ use Rattle.jb_model.specs.declared.mark.Mark.{Mark}
 use Rattle.jb_record.specs.Fixed.{IsFixedHeader}
 use Rattle.jb_record.specs.declared.fixed.FixedHeader.{FixedHeader}
 use Rattle.jb_image.specs.declared.lengths.Lengths.{Lengths}
-use Rattle.jb_image.specs.Answers.{IsClosed, OpensTo}
+use Rattle.jb_image.specs.Answers.{OpensTo}
 use Rattle.jb_image.specs.Lengths.{AreLengths}
 use Rattle.jb_image.specs.Places.{bytes_at, fixed_in, mark_in}
 use Rattle.jb_image.specs.Reading.{AreMarksIn, AreSlotsOf, IsCount}
@@ -18,17 +18,16 @@ use Rattle.jb_image.specs.Stands.{fixed_of, mark_record}
 
 -- the area that was read is the one that the files hold
 pub opens_to : (limit : ℕ) (files : Files) (fixed : FixedHeader) (lengths : Lengths) (count : ℕ) (slots : List LoadedSlot) (marks : List Mark) (loaded : Loaded)
-    → IsClosed files → AreLengths lengths files → IsFixedHeader (bytes_at 0 1024 (files Jhr)) → fixed ≡ fixed_in files → 1 ≤ fixed.base
+    → AreLengths lengths files → IsFixedHeader (bytes_at 0 1024 (files Jhr)) → fixed ≡ fixed_in files → 1 ≤ fixed.base
     → IsCount fixed lengths limit count → length slots ≡ count → AllPairs AreApart slots → AreSlotsOf files slots → AreMarksIn (files Jlr) marks
     → fixed_of loaded ≡ fixed → loaded.slots ≡ slots → loaded.marks ≡ marks → loaded.headers_len ≡ lengths.headers → loaded.texts_len ≡ lengths.texts
     → OpensTo limit files loaded
-opens_to limit files fixed lengths count slots marks loaded closed are header same is_based is count_is apart named marked fixed_is slots_is marks_is headers_len texts_len =
+opens_to limit files fixed lengths count slots marks loaded are header same is_based is count_is apart named marked fixed_is slots_is marks_is headers_len texts_len =
     let base_is = ap (λ (f : FixedHeader). f.base) fixed_is in
     let size : length loaded.slots ≡ count = ap length slots_is ∙ count_is in
     let marks_size = ap length marks_is in
     let marks_in = marked.size in
     record {
-      closed = closed;
       loads = record {
         header = header;
         fixed = fixed_is ∙ same;

@@ -11,7 +11,6 @@ use Rattle.jb_image.specs.declared.error.Damage.TheVariants as damaged
 use Rattle.jb_image.specs.declared.error.OpenError.{OpenError}
 use Rattle.jb_image.specs.declared.error.OpenError.TheVariants as refused
 use Rattle.jb_image.specs.Answers.{AreFirstOverlap, AreWhole, FailsAsFiles, FailsAsSlot, IsDamaged, IsFirstDamaged, IsRefusedBy, refusal_of}
-use Rattle.jb_disk.specs.Gate.{IsGateOpen}
 use Rattle.jb_image.specs.Laws.{IsNotOfFiles, IsRefusedOnceAtMost}
 use Rattle.jb_image.specs.Overlaps.{ShareByte}
 use Rattle.jb_image.specs.Places.{entry_in, fixed_in, subfields_in}
@@ -20,14 +19,12 @@ use Rattle.jb_image.proofs.Theorems.{opened_undamaged}
 
 -- a refusal for what the files hold
 data Refusal : Type 0 where
-  at_gate : Refusal
   by_files : FileTest → Refusal
   by_slot : ℕ → Damage → Refusal
   by_overlap : ℕ → ℕ → Refusal
 
 -- its answer
 error_of : Refusal → OpenError
-error_of at_gate = refused.NotYet
 error_of (by_files long_enough) = refused.ShortHeader
 error_of (by_files signed) = refused.BadSignature
 error_of (by_files based) = refused.BaseZero
@@ -40,7 +37,6 @@ error_of (by_overlap a b) = refused.HeadersOverlap a b
 
 -- what it says of the files
 abbrev Means : ℕ → Files → Refusal → Type 0
-Means limit files at_gate = IsGateOpen files
 Means limit files (by_files test) = FailsAsFiles limit files test
 Means limit files (by_slot number damage) = FailsAsSlot limit files number damage
 Means limit files (by_overlap a b) = AreWhole limit files × AreFirstOverlap files a b
@@ -54,7 +50,6 @@ record IsMeant (limit : ℕ) (files : Files) (error : OpenError) : Type 0 where
 -- each answer but a fault and want of memory is
 meant : (limit : ℕ) (files : Files) (error : OpenError) → IsRefusedBy limit files error → (IsNotOfFiles error → ⊥) → IsMeant limit files error
 unfolding error_of
-meant limit files refused.NotYet is of = record { refusal = at_gate; means = is; same = refl }
 meant limit files refused.ShortHeader is of = record { refusal = by_files long_enough; means = is; same = refl }
 meant limit files refused.BadSignature is of = record { refusal = by_files signed; means = is; same = refl }
 meant limit files refused.BaseZero is of = record { refusal = by_files based; means = is; same = refl }
@@ -230,21 +225,14 @@ overlap_once files a b c d is is' = elim (cases_lt is.other is'.other) [
 
 -- files are refused for one thing
 refused_for_one : (limit : ℕ) (files : Files) (one other : Refusal) → Means limit files one → Means limit files other → one ≡ other
-refused_for_one limit files at_gate at_gate is is' = refl
-refused_for_one limit files at_gate (by_files test) is is' = absurd (is'.closed is)
-refused_for_one limit files at_gate (by_slot number damage) is is' = absurd (is'.0.closed is)
-refused_for_one limit files at_gate (by_overlap a b) is is' = absurd (is'.0.closed is)
-refused_for_one limit files (by_files test) at_gate is is' = absurd (is.closed is')
 refused_for_one limit files (by_files test) (by_files other) is is' = ap by_files (test_once limit files test other is is')
-refused_for_one limit files (by_files test) (by_slot number damage) is is' = absurd (is.fails (is'.0.passed test))
-refused_for_one limit files (by_files test) (by_overlap a b) is is' = absurd (is.fails (is'.0.passed test))
-refused_for_one limit files (by_slot number damage) at_gate is is' = absurd (is.0.closed is')
-refused_for_one limit files (by_slot number damage) (by_files test) is is' = absurd (is'.fails (is.0.passed test))
+refused_for_one limit files (by_files test) (by_slot number damage) is is' = absurd (is.fails (is'.0 test))
+refused_for_one limit files (by_files test) (by_overlap a b) is is' = absurd (is.fails (is'.0 test))
+refused_for_one limit files (by_slot number damage) (by_files test) is is' = absurd (is'.fails (is.0 test))
 refused_for_one limit files (by_slot number damage) (by_slot other_number other) is is' = slot_once files number other_number damage other is.1 is'.1
 refused_for_one limit files (by_slot number damage) (by_overlap a b) is is' =
     absurd (opened_undamaged files (entry_in files is.1.slot) damage (is'.1.whole is.1.slot is.1.inside) is.1.damaged)
-refused_for_one limit files (by_overlap a b) at_gate is is' = absurd (is.0.closed is')
-refused_for_one limit files (by_overlap a b) (by_files test) is is' = absurd (is'.fails (is.0.passed test))
+refused_for_one limit files (by_overlap a b) (by_files test) is is' = absurd (is'.fails (is.0 test))
 refused_for_one limit files (by_overlap a b) (by_slot number damage) is is' =
     absurd (opened_undamaged files (entry_in files is'.1.slot) damage (is.1.whole is'.1.slot is'.1.inside) is'.1.damaged)
 refused_for_one limit files (by_overlap a b) (by_overlap c d) is is' = overlap_once files a b c d is.1 is'.1

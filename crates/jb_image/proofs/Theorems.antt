@@ -188,7 +188,6 @@ opened_files limit files loaded test opens first = first.fails (opened_passes li
 
 -- files that open to an area are not refused for what they hold
 pub not_refused_where_open : IsNotRefusedWhereOpen
-not_refused_where_open limit files loaded refused.NotYet opens is = absurd (opens.closed is)
 not_refused_where_open limit files loaded refused.ShortHeader opens is = absurd (opened_files limit files loaded _ opens is)
 not_refused_where_open limit files loaded refused.BadSignature opens is = absurd (opened_files limit files loaded _ opens is)
 not_refused_where_open limit files loaded refused.BaseZero opens is = absurd (opened_files limit files loaded _ opens is)

@@ -11,26 +11,19 @@ use Rattle.jb_image.specs.declared.error.Damage.{Damage}
 use Rattle.jb_image.specs.declared.error.Damage.TheVariants.{HeaderPlace, HeaderSignature, HeaderRevision, Subfields, TextPlace}
 use Rattle.jb_image.specs.declared.error.ReadError.{ReadError}
 use Rattle.jb_image.specs.declared.error.ReadError.TheVariants.{StoreFault as FaultInPart, OutOfMemory as NoMemoryForPart}
-use Rattle.jb_disk.specs.Gate.{IsGateOpen}
 use Rattle.jb_image.specs.Overlaps.{IsFirstOverlap}
 use Rattle.jb_image.specs.Places.{fixed_in, entry_in, subfields_in}
 use Rattle.jb_image.specs.Stands.{Loads}
 use Rattle.jb_image.specs.Tests.{FileTest, long_enough, signed, based, index_whole, marks_whole, few_slots, numbers_left, file_rank, PassesAsFiles, header_placed, header_signed, header_revised, subfields_placed, subfields_whole, text_placed, IsFirstInSlot, IsWholeSlot, slots_in}
 
--- no change waits in the journal
-abbrev pub IsClosed : Files → Type 0
-IsClosed files = IsGateOpen files → ⊥
-
 -- of all tests, this one of the files is the first that fails
 pub record FailsAsFiles (limit : ℕ) (files : Files) (test : FileTest) : Type 0 where
-  pub closed : IsClosed files
   pub earlier : (other : FileTest) → file_rank other < file_rank test → PassesAsFiles limit files other
   pub fails : PassesAsFiles limit files test → ⊥
 
 -- the files as a whole pass all of their tests
-pub record AreWhole (limit : ℕ) (files : Files) : Type 0 where
-  pub closed : IsClosed files
-  pub passed : (test : FileTest) → PassesAsFiles limit files test
+abbrev pub AreWhole : ℕ → Files → Type 0
+AreWhole limit files = (test : FileTest) → PassesAsFiles limit files test
 
 -- the first test that this slot fails is the one by which it is damaged so
 abbrev pub IsDamaged : Files → IndexRecord → Damage → Type 0
@@ -63,7 +56,6 @@ pub record AreFirstOverlap (files : Files) (a b : ℕ) : Type 0 where
 
 -- why a base of at most so many slots is not opened
 abbrev pub IsRefusedBy : ℕ → Files → OpenError → Type 0
-IsRefusedBy limit files refused.NotYet = IsGateOpen files
 IsRefusedBy limit files refused.ShortHeader = FailsAsFiles limit files long_enough
 IsRefusedBy limit files refused.BadSignature = FailsAsFiles limit files signed
 IsRefusedBy limit files refused.BaseZero = FailsAsFiles limit files based
@@ -80,9 +72,8 @@ IsRefusedBy limit files (refused.HeadersOverlap a b) = AreWhole limit files × A
 IsRefusedBy limit files refused.StoreFault = Unit {0}
 IsRefusedBy limit files refused.OutOfMemory = Unit {0}
 
--- the files, whose journal is closed, hold this area, and it has at most so many slots
+-- the files hold this area, and it has at most so many slots
 pub record OpensTo (limit : ℕ) (files : Files) (loaded : Loaded) : Type 0 where
-  pub closed : IsClosed files
   pub loads : Loads files loaded
   pub few_slots : length loaded.slots ≤ limit
 

@@ -8,10 +8,10 @@ use jb_base::OutOfMemory;
 use jb_disk::DiskFailed;
 use std::alloc::{AllocError, AllocFailed};
 
-/// Why the files of a base are not opened: the first test that fails. `NotYet` comes before all others; then those of the
-/// files as a whole, in the order in which they stand here; then those of each slot, in the order of the numbers, for one
-/// slot in this order too, but that the place of a live message's subfields is tested behind signature and Revision; then
-/// the overlap. Nothing was written, whichever it is. A number is the base number and the place of the slot in the index.
+/// Why the files of a base are not opened: the first test that fails. First come those of the files as a whole, in the order
+/// in which they stand here; then those of each slot, in the order of the numbers, for one slot in this order too, but that
+/// the place of a live message's subfields is tested behind signature and Revision; then the overlap. Nothing was written,
+/// whichever it is. A number is the base number and the place of the slot in the index.
 #[derive(Clone, Copy, Debug, PartialEq, Eq)]
 pub enum OpenError {
     /// .JHR has fewer than 1,024 bytes, or is not there (JAM, "Header file").
@@ -48,8 +48,6 @@ pub enum OpenError {
     StoreFault,
     /// The allocator gave no memory.
     OutOfMemory,
-    /// The gate of the journal is open: a change waits there to be done again.
-    NotYet,
 }
 
 /// What is wrong with the header that an index record names.

@@ -1,43 +1,21 @@
-//! The tests of the files as a whole: the gate of the journal, the fixed header, and the lengths.
-ghost use Rattle.std.specs.Prelude.{◌≡◌, ◌+◌, ◌≤◌, ◌↔◌, IsTrue, IfOk, IfErr, length, take};
+//! The tests of the files as a whole: the fixed header and the lengths.
+ghost use Rattle.std.specs.Prelude.{◌≡◌, ◌+◌, ◌≤◌, IfOk, IfErr, length, take};
 ghost use Rattle.std.specs.Option.{ForSome};
 ghost use Rattle.jb_disk.specs.Device.{OnlyReads};
 ghost use Rattle.jb_record.specs.Fixed.{IsFixedHeader};
 ghost use Rattle.jb_disk.specs.declared.file.FileId.TheVariants.{Jhr as headers_file};
-ghost use Rattle.jb_image.specs.Answers.{FaultRose, IsClosed, IsRefusedBy, OpenFaultRose};
-ghost use Rattle.jb_disk.specs.Gate.{IsGateOpen};
+ghost use Rattle.jb_image.specs.Answers.{IsRefusedBy, OpenFaultRose};
 ghost use Rattle.jb_image.specs.Lengths.{AreLengths};
 ghost use Rattle.jb_image.specs.Places.{bytes_at, fixed_in};
 ghost use Rattle.jb_image.specs.Reading.{IsCount, IsMiscounted};
 
 use crate::OpenError;
-use crate::error::ReadError;
 use crate::lengths::Lengths;
 use jb_base::LASTREAD_CEILING;
 use jb_disk::{Disk, FileId};
 use jb_record::{
     FIXED_HEADER_BYTES, FixedHeader, INDEX_RECORD_BYTES, MARK_RECORD_BYTES, decode_fixed,
 };
-
-/// Bytes of a journal before its record.
-const GATE_BYTES: u64 = 16;
-
-/// Whether a change waits in the journal. At most one device read.
-pub(crate) fn is_gate_open<D: Disk>(disk: &mut D, lengths: &Lengths) -> Result<bool, ReadError>
-    requires { ForSome (D.device disk.old).contents (AreLengths lengths.now) }
-    ensures found { IfOk result (λ answer. ForSome (D.device disk.old).contents (λ files.
-        IsTrue answer ↔ IsGateOpen files)) }
-    ensures kept { OnlyReads (D.device disk.old) (D.device disk.new) }
-    ensures later { (D.device disk.old).faults ≤ (D.device disk.new).faults }
-    ensures cause { IfErr result (FaultRose (D.device disk.old).faults (D.device disk.new).faults) }
-{
-    if lengths.journal <= GATE_BYTES {
-        return Ok(false);
-    }
-    let mut gate = [0; 1];
-    disk.read_at(FileId::Jnl, 0, &mut gate)?;
-    Ok(gate[0] == 1)
-}
 
 /// The fixed header. One device read.
 pub(crate) fn read_fixed<D: Disk>(
@@ -46,7 +24,6 @@ pub(crate) fn read_fixed<D: Disk>(
     limit: u32,
 ) -> Result<FixedHeader, OpenError>
     requires lengths { ForSome (D.device disk.old).contents (AreLengths lengths.now) }
-    requires closed { ForSome (D.device disk.old).contents IsClosed }
     ensures base { IfOk result (λ fixed. 1 ≤ fixed.base) }
     ensures long { IfOk result (λ _. 1024 ≤ lengths.now.headers) }
     ensures found { IfOk result (λ fixed. ForSome (D.device disk.old).contents (λ files.

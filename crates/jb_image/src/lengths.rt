@@ -15,7 +15,6 @@ pub(crate) struct Lengths {
     pub(crate) texts: u64,
     pub(crate) index: u64,
     pub(crate) lastread: u64,
-    pub(crate) journal: u64,
 }
 
 impl Lengths {
@@ -31,7 +30,6 @@ impl Lengths {
             texts: disk.len(FileId::Jdt)?,
             index: disk.len(FileId::Jdx)?,
             lastread: disk.len(FileId::Jlr)?,
-            journal: disk.len(FileId::Jnl)?,
         })
     }
 }

@@ -2,9 +2,9 @@
 //!
 //! The layer above may rely on this: [`decode`] answers with the area for which the files stand, without its texts, or
 //! with the first test that they fail, its number and its place ([`OpenError`]). It makes at most two device reads a
-//! message and four more, and reads no text. Beside what it gives it holds the index and the fields of one header a slot,
-//! and subfields of several messages only once their headers lie apart. Until the journal is recovered it answers
-//! [`OpenError::NotYet`] where the journal's gate is open.
+//! message and three more, and reads no text. Beside what it gives it holds the index and the fields of one header a slot,
+//! and subfields of several messages only once their headers lie apart. It reads the files as they are: the layer above
+//! first does the change that waits in the journal.
 #![tactic(auto)]
 
 mod error;

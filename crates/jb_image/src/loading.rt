@@ -78,7 +78,7 @@ pub(crate) fn load_slots<D: Disk>(
     ensures later { (D.device disk.old).faults ≤ (D.device disk.new).faults }
     ensures cause { IfErr result (OpenFaultRose (D.device disk.old).faults (D.device disk.new).faults) }
 {
-    let mut slots = LoadedSlots::new(alloc);
+    let mut slots = LoadedSlots::new(alloc)?;
     let mut number = base;
     for slot in seen {
         match load_slot(alloc, disk, slot, lengths)? {

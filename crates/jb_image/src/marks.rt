@@ -12,7 +12,7 @@ ghost use Rattle.jb_image.specs.Stands.{mark_record};
 use crate::error::ReadError;
 use jb_base::OutOfMemory;
 use jb_disk::{Disk, FileId};
-use jb_model::{Mark, Marks};
+use jb_model::{LoadedMarks, Mark};
 use jb_record::{MARK_RECORD_BYTES, decode_mark};
 use std::alloc::Global;
 
@@ -32,11 +32,11 @@ fn mark_at(bytes: &[u8], k: usize) -> Mark
 }
 
 /// The marks that stand in these bytes, one after another.
-fn marks_in(alloc: Global, bytes: &[u8], count: usize) -> Result<Marks, OutOfMemory>
+fn marks_in(alloc: Global, bytes: &[u8], count: usize) -> Result<LoadedMarks, OutOfMemory>
     requires { length bytes.now ≡ 16 * count }
     ensures { IfOk result (AreMarksIn bytes.now) }
 {
-    let mut marks = Marks::new(alloc);
+    let mut marks = LoadedMarks::new(alloc)?;
     for k in 0..count {
         marks.push(mark_at(bytes, k))?;
     }
@@ -44,7 +44,11 @@ fn marks_in(alloc: Global, bytes: &[u8], count: usize) -> Result<Marks, OutOfMem
 }
 
 /// The marks of the area, whose file has this length. One device read.
-pub(crate) fn read_marks<D: Disk>(alloc: Global, disk: &mut D, len: u64) -> Result<Marks, ReadError>
+pub(crate) fn read_marks<D: Disk>(
+    alloc: Global,
+    disk: &mut D,
+    len: u64,
+) -> Result<LoadedMarks, ReadError>
     requires short { len ≤ 1_040_000 }
     requires whole { len % 16 ≡ 0 }
     requires size { ForSome (D.device disk.old).contents (λ files. length (files lastread_file) ≡ len) }

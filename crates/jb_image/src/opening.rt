@@ -6,7 +6,7 @@ ghost use Rattle.jb_disk.specs.Device.{OnlyReads};
 ghost use Rattle.jb_disk.specs.declared.file.FileId.TheVariants.{Jdx as index_file};
 ghost use Rattle.jb_extent.specs.Extents.{AreDisjoint};
 ghost use Rattle.jb_model.specs.Sound.{IsSound, IsSlotWithin, AreApart};
-ghost use Rattle.jb_image.specs.Answers.{AnswersFor, FaultRose, IsClosed, IsRefusedBy, OpenFaultRose, OpensTo};
+ghost use Rattle.jb_image.specs.Answers.{AnswersFor, FaultRose, IsRefusedBy, OpenFaultRose, OpensTo};
 ghost use Rattle.jb_image.specs.Laws.{HasOneStateAtMost, IsNotRefusedWhereOpen, IsRefusedOnceAtMost};
 ghost use Rattle.jb_image.specs.Lengths.{AreLengths};
 ghost use Rattle.jb_image.specs.Places.{entry_in, fixed_in};
@@ -15,7 +15,7 @@ ghost use Rattle.jb_image.specs.Stands.{fixed_of};
 
 use crate::OpenError;
 use crate::error::ReadError;
-use crate::fixed::{count_slots, is_gate_open, read_fixed};
+use crate::fixed::{count_slots, read_fixed};
 use crate::index::{Seen, read_index, see_slots};
 use crate::lengths::Lengths;
 use crate::loading::{load_slots, test_slots};
@@ -23,7 +23,7 @@ use crate::marks::read_marks;
 use crate::overlap::overlap_of;
 use jb_base::OutOfMemory;
 use jb_disk::Disk;
-use jb_model::{Loaded, LoadedSlots, Marks};
+use jb_model::{Loaded, LoadedMarks, LoadedSlots};
 use jb_record::FixedHeader;
 use std::alloc::Global;
 
@@ -91,7 +91,12 @@ fn read_slots<D: Disk>(
 }
 
 /// An area of these parts.
-fn loaded_of(fixed: &FixedHeader, lengths: &Lengths, slots: LoadedSlots, marks: Marks) -> Loaded
+fn loaded_of(
+    fixed: &FixedHeader,
+    lengths: &Lengths,
+    slots: LoadedSlots,
+    marks: LoadedMarks,
+) -> Loaded
     ensures fixed { fixed_of result ≡ fixed.now }
     ensures slots { result.slots ≡ slots }
     ensures marks { result.marks ≡ marks }
@@ -112,7 +117,7 @@ fn loaded_of(fixed: &FixedHeader, lengths: &Lengths, slots: LoadedSlots, marks: 
     }
 }
 
-/// The area of a base whose journal is closed.
+/// The area of a base whose files have these lengths.
 fn read_area<D: Disk>(
     alloc: Global,
     disk: &mut D,
@@ -120,7 +125,6 @@ fn read_area<D: Disk>(
     limit: u32,
 ) -> Result<Loaded, OpenError>
     requires lengths { ForSome (D.device disk.old).contents (AreLengths lengths.now) }
-    requires closed { ForSome (D.device disk.old).contents IsClosed }
     ensures sound { IfOk result (IsSound limit) }
     ensures opens { IfOk result (λ loaded. ForSome (D.device disk.old).contents (λ files. OpensTo limit files loaded)) }
     ensures refused { IfErr result (λ error. ForSome (D.device disk.old).contents (λ files.
@@ -139,7 +143,7 @@ fn read_area<D: Disk>(
     Ok(loaded_of(&fixed, lengths, slots, marks))
 }
 
-/// The area for which the files stand, or the first test that they fail, the gate of the journal before all others.
+/// The area for which the files stand, or the first test that they fail.
 fn read_base<D: Disk>(alloc: Global, disk: &mut D, slots: u32) -> Result<Loaded, OpenError>
     ensures answer { ForSome (D.device disk.old).contents (λ files. AnswersFor slots files result) }
     ensures sound { IfOk result (IsSound slots) }
@@ -148,17 +152,14 @@ fn read_base<D: Disk>(alloc: Global, disk: &mut D, slots: u32) -> Result<Loaded,
     ensures fault { IsErrOf result OpenError.StoreFault → Rose (D.device disk.old).faults (D.device disk.new).faults }
 {
     let lengths = Lengths::of(disk)?;
-    if is_gate_open(disk, &lengths)? {
-        return Err(OpenError::NotYet);
-    }
     read_area(alloc, disk, &lengths, slots)
 }
 
 /// The area for which the files stand, of at most so many slots, without its texts; or the first test that the files
-/// fail, with the number and the place: see [`OpenError`].
+/// fail, with the number and the place: see [`OpenError`]. The journal is not looked at: a change that waits there is to be
+/// done before.
 ///
-/// Five questions for a length, three reads, one more where the journal has more than 16 bytes, and at most two a slot;
-/// no text is read.
+/// Four questions for a length, three reads, and at most two a slot; no text is read.
 pub fn decode<D: Disk>(alloc: Global, disk: &mut D, slots: u32) -> Result<Loaded, OpenError>
     // What the files say, where the disk tells them.
     ensures answer { ForSome (D.device disk.old).contents (λ files. AnswersFor slots files result) }

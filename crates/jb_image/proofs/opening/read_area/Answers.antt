@@ -17,6 +17,6 @@ returns-clause-opens g c = λ files contents_is.
     let by_index = c.read_index.ensures.kept.contents ∙ by_fixed in
     let by_slots = c.read_slots.ensures.kept.contents ∙ by_index in
     opens_to c.args.limit files c.in_ok-fixed.fixed c.args.lengths.now c.in_ok-count.count c.in_ok-slots.slots c.in_ok-marks.marks _
-    (c.requires.closed files contents_is) are fixed.0 fixed.1 c.in_ok-fixed.ensures.base c.in_ok-count.ensures.found
+    are fixed.0 fixed.1 c.in_ok-fixed.ensures.base c.in_ok-count.ensures.found
     c.in_ok-slots.ensures.count_is c.in_ok-slots.ensures.apart (c.in_ok-slots.ensures.named files by_index) (c.in_ok-marks.ensures.found files by_slots)
     c.loaded_of.ensures.fixed c.loaded_of.ensures.slots c.loaded_of.ensures.marks c.loaded_of.ensures.headers_len c.loaded_of.ensures.texts_len
