@@ -1,0 +1,7 @@
+mod AreaLemmas
+mod ByteLemmas
+mod ChangeLemmas
+mod HeaderLemmas
+mod LoadsLemmas
+mod PieceLemmas
+mod ReadingLemmas

@@ -1,0 +1,165 @@
+-- A piece of bytes more in a change.
+use Rattle.std.proofs.Common.{◌≡◌, ◌≢◌, inl, inr, ℕ, ◌+◌, ◌<◌, ◌≤◌, List, [], ◌∷◌, ◌++◌, length, map, filter, ap, ◌∙◌, sym, refl, subst, arith, length-append, append-nil}
+use Rattle.std.specs.Prelude.{◌^◌}
+use Rattle.std.specs.List.{flat_map}
+use Rattle.std.proofs.lemmas.Grind.{flat_map-append}
+use Rattle.std.proofs.lemmas.List.{map-append}
+use Rattle.std.proofs.lemmas.List.Elements.{All-push, filter-append}
+use Rattle.jb_disk.specs.Change.{Change}
+use Rattle.jb_disk.specs.declared.file.FileId.{FileId}
+use Rattle.jb_disk.specs.declared.file.FileId.TheVariants.{Jdt}
+use Rattle.jb_disk.specs.declared.piece.Length.{Length}
+use Rattle.jb_disk.specs.declared.piece.Piece.{Piece}
+use Rattle.jb_disk.specs.declared.piece.Piece.TheVariants.{Bytes}
+use Rattle.jb_disk.specs.Files.{Files, InFile, number_of, overwritten, written}
+use Rattle.jb_disk.specs.FileLaws.{same_file, same_files, InFile-with, with_file-here, with_file-other, number-injective, length-of_length, length-overwritten}
+use Rattle.jb_disk.specs.Memory.{of_length}
+use Rattle.jb_disk.specs.Steps.{Span, Torn, IsCovered, IsWithin, patched}
+use Rattle.jb_image.specs.Stands.{Loads}
+use Rattle.jb_model.specs.declared.loaded.Loaded.{Loaded}
+use Rattle.jb_redo.specs.Record.{record_bytes, length_bytes, piece_bytes}
+use Rattle.jb_redo.specs.Replay.{applied, span_of, spans_in, writes, IsGrowthCovered}
+use Rattle.jb_redo.specs.Rules.{sizes_of, new_sizes, IsLegal, IsLegalPiece}
+use Rattle.jb_redo.proofs.SpanLemmas.{spans_in-here, spans_in-other, spans_within}
+use Rattle.jb_change.specs.Makes.{Makes, done, record_size}
+use Rattle.jb_change.specs.Changing.{Puts, WritesOnly}
+use Rattle.jb_change.proofs.ByteLemmas.{torn-overwritten, torn-then, torn-wider}
+
+-- what two lists of pieces write into a file
+spans-append : (files : Files) (one other : List Piece) (file : FileId) → spans_in files (one ++ other) file ≡ spans_in files one file ++ spans_in files other file
+spans-append files one other file = ap (map (span_of files)) (filter-append (writes file) one other) ∙ map-append (span_of files) (filter (writes file) one) (filter (writes file) other)
+
+-- what is covered stays so
+covered_more : (one other : List Span) (i : ℕ) → IsCovered one i → IsCovered (one ++ other) i
+covered_more [] other i covered = absurd covered
+covered_more (span ∷ one) other i covered = elim covered [ inl here ↦ inl here | inr there ↦ inr (covered_more one other i there) ]
+
+-- one span more, written last
+patched-push : (spans : List Span) (span : Span) (old : List ℕ) → patched (spans ++ span ∷ []) old ≡ overwritten span.at span.bytes (patched spans old)
+patched-push [] span old = refl
+patched-push (first ∷ spans) span old = patched-push spans span (overwritten first.at first.bytes old)
+
+-- spans within a file keep its length
+length-patched : (spans : List Span) (old : List ℕ) → IsWithin spans (length old) → length (patched spans old) ≡ length old
+length-patched [] old within = refl
+length-patched (span ∷ spans) old within =
+    let size = length-overwritten span.at span.bytes old within.0 in
+    length-patched spans (overwritten span.at span.bytes old) (subst (IsWithin spans) (sym size) within.1) ∙ size
+
+-- the length of a record
+length-record : (lengths : List Length) (pieces : List Piece) → length (record_bytes lengths pieces) ≡ 16 + length (flat_map length_bytes lengths) + length (flat_map piece_bytes pieces)
+length-record lengths pieces = simp length-append (omega arith)
+
+-- the length of the files that a record makes
+length-applied : (files : Files) (lengths : List Length) (pieces : List Piece) (file : FileId) → IsLegal (sizes_of files) lengths pieces
+    → length (applied lengths pieces files file) ≡ new_sizes lengths (sizes_of files) file
+length-applied files lengths pieces file legal =
+    let ends = new_sizes lengths (sizes_of files) in
+    let size = length-of_length (ends file) (files file) in
+    length-patched (spans_in files pieces file) (of_length (ends file) (files file))
+    (subst (IsWithin (spans_in files pieces file)) (sym size) (spans_within files ends pieces file legal.pieces_are.each))
+    ∙ size
+
+module _ (file : FileId) (at : ℕ) (bytes : List ℕ) where
+  -- the piece
+  abbrev piece : Piece
+  piece = Bytes file at bytes
+
+  -- what it makes of the file that it is written into
+  applied_here : (lengths : List Length) (pieces : List Piece) (files : Files)
+      → applied lengths (pieces ++ piece ∷ []) files file ≡ written file at bytes (applied lengths pieces files) file
+  applied_here lengths pieces files =
+      let start = of_length (new_sizes lengths (sizes_of files) file) (files file) in
+      ap (λ (spans : List Span). patched spans start) (spans-append files pieces (piece ∷ []) file ∙ ap (λ (spans : List Span). spans_in files pieces file ++ spans) (spans_in-here files piece [] file refl))
+      ∙ patched-push (spans_in files pieces file) (span_of files piece) start
+      ∙ sym (with_file-here file (overwritten at bytes (applied lengths pieces files file)) (applied lengths pieces files))
+
+  -- and of another
+  applied_other : (lengths : List Length) (pieces : List Piece) (files : Files) (other : FileId) → other ≢ file
+      → applied lengths (pieces ++ piece ∷ []) files other ≡ written file at bytes (applied lengths pieces files) other
+  applied_other lengths pieces files other apart =
+      let start = of_length (new_sizes lengths (sizes_of files) other) (files other) in
+      let numbers : number_of file ≢ number_of other = λ is. apart (number-injective other file (sym is)) in
+      ap (λ (spans : List Span). patched spans start) (spans-append files pieces (piece ∷ []) other
+      ∙ ap (λ (spans : List Span). spans_in files pieces other ++ spans) (spans_in-other files piece [] other numbers) ∙ append-nil (spans_in files pieces other))
+      ∙ sym (with_file-other file other (overwritten at bytes (applied lengths pieces files file)) (applied lengths pieces files) apart)
+
+  -- so its bytes are written over what the others make
+  applied_more : (lengths : List Length) (pieces : List Piece) (files : Files) → applied lengths (pieces ++ piece ∷ []) files ≡ written file at bytes (applied lengths pieces files)
+  applied_more lengths pieces files = same_files (applied lengths (pieces ++ piece ∷ []) files) (written file at bytes (applied lengths pieces files)) (λ other. elim (same_file other file) [
+    | inl same ↦ subst (λ (f : FileId). applied lengths (pieces ++ piece ∷ []) files f ≡ written file at bytes (applied lengths pieces files) f) (sym same) (applied_here lengths pieces files)
+    | inr apart ↦ applied_other lengths pieces files other apart
+  ])
+
+  -- it may stand behind the others, where it lies within what they make
+  legal_more : (lengths : List Length) (pieces : List Piece) (files : Files) → number_of file < 4 → at < 2 ^ 32 → length bytes < 2 ^ 32
+      → at + length bytes ≤ length (applied lengths pieces files file) → length (pieces ++ piece ∷ []) < 2 ^ 32
+      → IsLegal (sizes_of files) lengths pieces → IsLegal (sizes_of files) lengths (pieces ++ piece ∷ [])
+  legal_more lengths pieces files of_base place short within few legal = record {
+    lengths_are = legal.lengths_are;
+    pieces_are = record {
+      many = few;
+      each = All-push (IsLegalPiece (sizes_of files) (new_sizes lengths (sizes_of files))) pieces piece legal.pieces_are.each
+          (record { of_base = of_base; place = place; size = short; within = subst (λ (n : ℕ). at + length bytes ≤ n) (length-applied files lengths pieces file legal) within });
+    };
+  }
+
+  module _ (old new : Change) (puts : Puts file at bytes old new) where
+    -- the files after the change
+    pub put_done : (files : Files) → done new files ≡ written file at bytes (done old files)
+    put_done files = (λ i. applied (puts.lengths i) (puts.pieces i) files) ∙ applied_more old.lengths old.pieces files
+
+    -- no byte outside a range in which it lies is another
+    pub put_only : (from len : ℕ) → from ≤ at → at + length bytes ≤ from + len → WritesOnly old new file from len
+    put_only from len low high files room =
+        let now = overwritten at bytes (done old files file) in
+        subst (InFile file (Torn from len) (done old files)) (sym (put_done files)) (InFile-with file now (done old files) (Torn from len)
+        (torn-wider at (length bytes) from len (done old files file) now low high (torn-overwritten at bytes (done old files file) (omega arith))))
+
+    -- the journal's record of it
+    pub put_size : record_size new ≡ record_size old + 12 + length bytes
+    put_size =
+        let one : length (flat_map piece_bytes (piece ∷ [])) ≡ 12 + length bytes = omega (arith, ap length (append-nil bytes)) in
+        let more : length (flat_map piece_bytes (old.pieces ++ piece ∷ [])) ≡ length (flat_map piece_bytes old.pieces) + (12 + length bytes) =
+        ap length (flat_map-append piece_bytes old.pieces (piece ∷ [])) ∙ length-append (flat_map piece_bytes old.pieces) (flat_map piece_bytes (piece ∷ [])) ∙ ap (λ (n : ℕ). length (flat_map piece_bytes old.pieces) + n) one in
+        let before = length-record old.lengths old.pieces in
+        let after = length-record old.lengths (old.pieces ++ piece ∷ []) in
+        (λ i. length (record_bytes (puts.lengths i) (puts.pieces i))) ∙ omega (arith, more, before, after)
+
+    -- it keeps the rules
+    legal_then : (files : Files) → number_of file < 4 → at < 2 ^ 32 → length bytes < 2 ^ 32 → at + length bytes ≤ length (done old files file)
+        → IsLegal (sizes_of files) old.lengths old.pieces → IsLegal (sizes_of files) new.lengths new.pieces
+    legal_then files of_base place short within legal =
+        let few : length (old.pieces ++ piece ∷ []) < 2 ^ 32 = subst (λ (l : List Piece). length l < 2 ^ 32) puts.pieces puts.few in
+        subst (λ (l : List Length). IsLegal (sizes_of files) l new.pieces) (sym puts.lengths)
+        (subst (IsLegal (sizes_of files) old.lengths) (sym puts.pieces) (legal_more old.lengths old.pieces files of_base place short within few legal))
+
+    -- what is covered stays so
+    grown_then : (files : Files) → IsGrowthCovered old.lengths old.pieces files → IsGrowthCovered new.lengths new.pieces files
+    grown_then files grown other i past low =
+        let low_too = subst (λ (l : List Length). i < new_sizes l (sizes_of files) other) puts.lengths low in
+        subst (λ (l : List Piece). IsCovered (spans_in files l other) i) (sym puts.pieces)
+        (subst (λ (l : List Span). IsCovered l i) (sym (spans-append files old.pieces (piece ∷ []) other))
+        (covered_more (spans_in files old.pieces other) (spans_in files (piece ∷ []) other) i (grown other i past low_too)))
+
+    -- what it makes of an area
+    pub put_makes : (from to then : Loaded) (text : List ℕ) → Makes old from to text → number_of file < 4 → file ≢ Jdt → at < 2 ^ 32 → length bytes < 2 ^ 32
+        → ((files : Files) → Loads files to → at + length bytes ≤ length (files file)) → ((files : Files) → Loads files to → Loads (written file at bytes files) then)
+        → Makes new from then text
+    put_makes from to then text makes of_base no_text place short within loads = record {
+      legal = λ files held. legal_then files of_base place short (within (done old files) (makes.loads files held)) (makes.legal files held);
+      grown = λ files held. grown_then files (makes.grown files held);
+      loads = λ files held. subst (λ (f : Files). Loads f then) (sym (put_done files)) (loads (done old files) (makes.loads files held));
+      texts = λ files held. ap (λ (f : Files). f Jdt) (put_done files)
+          ∙ with_file-other file Jdt (overwritten at bytes (done old files file)) (done old files) (λ is. no_text (sym is)) ∙ makes.texts files held;
+    }
+
+-- one small change after another, both within one range
+pub only_then : (file : FileId) (at len : ℕ) (old now new : Change) → WritesOnly old now file at len → WritesOnly now new file at len → WritesOnly old new file at len
+only_then file at len old now new first second files room =
+    let one = first files room in
+    let two = second files (subst (λ (n : ℕ). at + len ≤ n) (sym one.here.size) room) in
+    record {
+      here = torn-then at len (done old files file) (done now files file) (done new files file) one.here two.here;
+      others = λ other apart. two.others other apart ∙ one.others other apart;
+    }
