@@ -1,0 +1,4 @@
+pub mod Behind
+pub mod Laws
+pub mod NewMark
+pub mod Post
