@@ -1,0 +1,10 @@
+pub mod BehindLemmas
+pub mod CountLemmas
+pub mod KillLemmas
+pub mod MarkLemmas
+pub mod NeighbourLemmas
+pub mod PostLemmas
+pub mod ReadLemmas
+pub mod RelinkLemmas
+pub mod SoundLemmas
+pub mod StateLemmas

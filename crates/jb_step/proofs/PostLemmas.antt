@@ -1,0 +1,289 @@
+-- The ways through a post.
+use Rattle.std.proofs.Common.{◌≡◌, inr, ℕ, ◌+◌, ◌<◌, ◌≤◌, Bool, true, false, cond, not, ◌&&◌, ◌==◌, nat_le, nat_lt, ltb-false, leb-false, List, [], ◌++◌, length, Option, Some, None, refl, sym, ◌∙◌, ap, subst, arith, length-set}
+use Rattle.std.specs.Prelude.{is_none, option_and_then}
+use Rattle.std.specs.Option.{option_map}
+use Rattle.std.proofs.lemmas.List.{length-map}
+use Rattle.jb_base.specs.Access.{first_refusal}
+use Rattle.jb_base.specs.Crc.{jam_crc_of}
+use Rattle.jb_base.specs.Subfields.{subfield_bytes}
+use Rattle.jb_base.specs.declared.area.Action.TheVariants.{Post as Posting}
+use Rattle.jb_base.specs.declared.area.AreaRules.{AreaRules}
+use Rattle.jb_base.specs.declared.limits.TheConstants.{HEADERS_CEILING, LAST_POSTED_NUMBER, MOST_ADDRESS_BYTES, MOST_NAME_BYTES, TEXTS_CEILING}
+use Rattle.jb_base.specs.declared.subfield.Subfield.{Subfield}
+use Rattle.jb_base.specs.declared.user.User.{User}
+use Rattle.jb_link.specs.Plan.{loaded_at}
+use Rattle.jb_link.specs.Slots.{linkables}
+use Rattle.jb_link.proofs.LiveLemmas.{linkables_with_texts}
+use Rattle.jb_model.proofs.RangeLaws.{fit_draft, none_of, posted_in_range}
+use Rattle.jb_model.specs.Answered.{Answered, counted, unless_refused}
+use Rattle.jb_model.specs.Links.{parent_for}
+use Rattle.jb_model.specs.Loaded.{header_size, with_message_behind}
+use Rattle.jb_model.specs.Message.{header_length, msgid_of}
+use Rattle.jb_model.specs.Post.{Draft, answer_refusal, draft_refusal, if_copied, post_done, post_step, posted_message, posted_msgid, posted_parent, posted_replyid, room_refusal, told_length}
+use Rattle.jb_model.specs.Sound.{IsSound}
+use Rattle.jb_model.specs.Standing.{is_refusal}
+use Rattle.jb_model.specs.State.{AreaState, IsMessageInRange, LiveMessage, next_number, slot_state, state_of}
+use Rattle.jb_model.specs.declared.loaded.Loaded.{Loaded}
+use Rattle.jb_model.specs.declared.loaded.LoadedMessage.{LoadedMessage}
+use Rattle.jb_model.specs.declared.message.Head.{Head}
+use Rattle.jb_model.specs.declared.reply.Reply.{Reply}
+use Rattle.jb_model.specs.declared.reply.Reply.TheVariants.{HeadersFull, NoMessage, NumbersSpent, Posted, SlotsFull, TextFull}
+use Rattle.jb_step.specs.After.{after_post, live_messages, next_counter}
+use Rattle.jb_step.specs.Draft.{copied_msgid, fields_with, head_with, new_fields, new_message, next_of, parent_behind, post_of}
+use Rattle.jb_step.specs.Neighbour.{HasNeighbour, IsLinkedBy, spliced_state}
+use Rattle.jb_step.specs.Refusal.{IsRefusal}
+use Rattle.jb_step.specs.Post.{HasPlace}
+use Rattle.jb_step.specs.Room.{file_refusal, new_refusal, number_refusal, or_refusal, unseen_refusal}
+use Rattle.jb_step.specs.Seen.{seen_at, with_text}
+use Rattle.jb_step.specs.declared.neighbours.Neighbour.{Neighbour}
+use Rattle.jb_step.proofs.BehindLemmas.{grown, live_behind, sound_behind, state_behind}
+use Rattle.jb_step.proofs.CountLemmas.{counted_state}
+use Rattle.jb_step.proofs.SoundLemmas.{sound_counted}
+use Rattle.jb_step.proofs.StateLemmas.{accepted_way, allowed_way, answer, message_at_loaded, refused_way, visible_at_loaded}
+
+-- the next number
+next_of_state : (texts : List ℕ) (loaded : Loaded) → next_number (state_of texts loaded) ≡ next_of loaded
+next_of_state texts loaded = ap (λ n. loaded.base + n) (length-map loaded.slots (slot_state texts))
+
+-- the id that is copied
+copied_of_state : (texts : List ℕ) (loaded : Loaded) (number : ℕ) → posted_replyid (state_of texts loaded) number ≡ copied_msgid loaded number
+copied_of_state texts loaded number =
+    ap (λ o. option_and_then if_copied (option_and_then (λ (m : LiveMessage). msgid_of m.subfields) o)) (message_at_loaded texts loaded number)
+    ∙ by_found (loaded_at loaded number)
+  where
+    by_found : (found : Option LoadedMessage)
+        → option_and_then if_copied (option_and_then (λ (m : LiveMessage). msgid_of m.subfields) (option_map (with_text texts) found))
+        ≡ option_and_then if_copied (option_and_then (λ (m : LoadedMessage). msgid_of m.subfields) found)
+    by_found None = refl
+    by_found (Some message) = refl
+
+-- the parent
+parent_of_state : (texts : List ℕ) (loaded : Loaded) (number : ℕ) → posted_parent (state_of texts loaded) number ≡ parent_behind loaded number
+parent_of_state texts loaded number =
+    ap (λ live. parent_for live (next_number (state_of texts loaded)) (posted_replyid (state_of texts loaded) number) number) (linkables_with_texts texts loaded.base loaded.slots)
+    ∙ ap (λ n. parent_for (linkables [] loaded) n (posted_replyid (state_of texts loaded) number) number) (next_of_state texts loaded)
+    ∙ ap (λ r. parent_for (linkables [] loaded) (next_of loaded) r number) (copied_of_state texts loaded number)
+
+-- a message with these ids, this number and this parent
+abbrev message_with : AreaRules → User → ℕ → Draft → ℕ → Option (List ℕ) → ℕ → LiveMessage
+message_with rules user moment draft number replyid parent = record {
+  owner = jam_crc_of draft.to;
+  head = head_with rules moment draft (posted_msgid rules number) replyid parent;
+  subfields = fields_with user draft (posted_msgid rules number) replyid;
+  text = draft.text;
+}
+
+-- the new message with its text
+abbrev pub new_live : AreaRules → Loaded → User → ℕ → Draft → LiveMessage
+new_live rules loaded user moment draft =
+    message_with rules user moment draft (next_of loaded) (copied_msgid loaded draft.reply_to) (parent_behind loaded draft.reply_to)
+
+-- it is the message that is posted
+posted_of_state : (texts : List ℕ) (rules : AreaRules) (loaded : Loaded) (user : User) (moment : ℕ) (draft : Draft)
+    → posted_message rules (state_of texts loaded) user moment draft ≡ new_live rules loaded user moment draft
+posted_of_state texts rules loaded user moment draft =
+    ap (λ n. message_with rules user moment draft n (posted_replyid (state_of texts loaded) draft.reply_to) (posted_parent (state_of texts loaded) draft.reply_to)) (next_of_state texts loaded)
+    ∙ ap (λ r. message_with rules user moment draft (next_of loaded) r (posted_parent (state_of texts loaded) draft.reply_to)) (copied_of_state texts loaded draft.reply_to)
+    ∙ ap (message_with rules user moment draft (next_of loaded) (copied_msgid loaded draft.reply_to)) (parent_of_state texts loaded draft.reply_to)
+
+-- whether the message that is answered is seen
+unseen_of_state : (texts : List ℕ) (rules : AreaRules) (loaded : Loaded) (user : User) (draft : Draft)
+    → answer_refusal rules (state_of texts loaded) user draft ≡ unseen_refusal rules loaded user draft
+unseen_of_state texts rules loaded user draft =
+    ap (λ b. cond (not (draft.reply_to == 0) && b) (Some (NoMessage draft.reply_to)) None)
+    (ap is_none (visible_at_loaded texts rules user loaded draft.reply_to) ∙ by_found (seen_at rules user loaded draft.reply_to))
+  where
+    by_found : (found : Option LoadedMessage) → is_none (option_map (with_text texts) found) ≡ is_none found
+    by_found None = refl
+    by_found (Some message) = refl
+
+-- whether there is room
+room_of_state : (texts : List ℕ) (rules : AreaRules) (loaded : Loaded) (message : LiveMessage)
+    → room_refusal rules (state_of texts loaded) message ≡ or_refusal (number_refusal rules loaded) (file_refusal loaded (header_length message) (length message.text))
+room_of_state texts rules loaded message =
+    ap (λ count. cond (nat_lt LAST_POSTED_NUMBER (loaded.base + count)) (Some (NumbersSpent (loaded.base + count)))
+    (cond (nat_le rules.slots count) (Some (SlotsFull rules.slots)) (file_refusal loaded (header_length message) (length message.text))))
+    (length-map loaded.slots (slot_state texts))
+    ∙ split (nat_lt LAST_POSTED_NUMBER (next_of loaded)) (nat_le rules.slots (length loaded.slots)) (file_refusal loaded (header_length message) (length message.text))
+  where
+    split : (spent full : Bool) (rest : Option Reply)
+        → cond spent (Some (NumbersSpent (next_of loaded))) (cond full (Some (SlotsFull rules.slots)) rest)
+        ≡ or_refusal (cond spent (Some (NumbersSpent (next_of loaded))) (cond full (Some (SlotsFull rules.slots)) None)) rest
+    split true full rest = refl
+    split false true rest = refl
+    split false false rest = refl
+
+-- what follows the rules, the draft and the message that is answered
+abbrev room_rest : AreaRules → AreaState → LiveMessage → Answered
+room_rest rules state message = unless_refused state (room_refusal rules state message) (post_done state message)
+
+-- what follows the rules and the draft
+abbrev answer_rest : AreaRules → AreaState → User → ℕ → Draft → Answered
+answer_rest rules state user moment draft =
+    unless_refused state (answer_refusal rules state user draft) (room_rest rules state (posted_message rules state user moment draft))
+
+-- up to the message that is answered
+to_answer : (rules : AreaRules) (state : AreaState) (user : User) (moment : ℕ) (draft : Draft) → first_refusal user rules Posting None ≡ None → draft_refusal draft ≡ None
+    → post_step rules state user moment draft ≡ answer_rest rules state user moment draft
+to_answer rules state user moment draft allowed fit =
+    allowed_way state (first_refusal user rules Posting None) (unless_refused state (draft_refusal draft) (answer_rest rules state user moment draft)) allowed
+    ∙ accepted_way state (draft_refusal draft) (answer_rest rules state user moment draft) fit
+
+-- up to the room
+to_room : (texts : List ℕ) (rules : AreaRules) (loaded : Loaded) (user : User) (moment : ℕ) (draft : Draft) → first_refusal user rules Posting None ≡ None
+    → draft_refusal draft ≡ None → unseen_refusal rules loaded user draft ≡ None
+    → post_step rules (state_of texts loaded) user moment draft
+    ≡ unless_refused (state_of texts loaded) (or_refusal (number_refusal rules loaded) (new_refusal rules loaded user draft))
+    (post_done (state_of texts loaded) (new_live rules loaded user moment draft))
+to_room texts rules loaded user moment draft allowed fit seen =
+    let state : AreaState = state_of texts loaded in
+    to_answer rules state user moment draft allowed fit
+    ∙ accepted_way state (answer_refusal rules state user draft) (room_rest rules state (posted_message rules state user moment draft))
+    (unseen_of_state texts rules loaded user draft ∙ seen)
+    ∙ ap (room_rest rules state) (posted_of_state texts rules loaded user moment draft)
+    ∙ ap (λ o. unless_refused state o (post_done state (new_live rules loaded user moment draft)))
+    (room_of_state texts rules loaded (new_live rules loaded user moment draft))
+
+-- one of two refusals, or another
+refuses_then : (b : Bool) (first : Reply) (rest : Option Reply) (reply : Reply) → is_refusal first ≡ true → (rest ≡ Some reply → is_refusal reply ≡ true)
+    → cond b (Some first) rest ≡ Some reply → is_refusal reply ≡ true
+refuses_then true first rest reply one other is = let same : first ≡ reply = cc in sym (ap is_refusal same) ∙ one
+refuses_then false first rest reply one other is = other is
+
+-- none is no refusal
+refuses_none : (reply : Reply) → None ≡ Some reply → is_refusal reply ≡ true
+refuses_none reply is = absurd (cc)
+
+-- the user does not see what is answered
+pub post_unseen : (rules : AreaRules) (loaded : Loaded) (user : User) (draft : Draft) (reply : Reply) → first_refusal user rules Posting None ≡ None
+    → draft_refusal draft ≡ None → unseen_refusal rules loaded user draft ≡ Some reply → IsRefusal rules loaded user (post_of draft) reply
+post_unseen rules loaded user draft reply allowed fit unseen = record {
+  refusal = refuses_then (not (draft.reply_to == 0) && is_none (seen_at rules user loaded draft.reply_to)) (NoMessage draft.reply_to) None reply refl (refuses_none reply) unseen;
+  step = λ texts moment.
+      to_answer rules (state_of texts loaded) user moment draft allowed fit
+      ∙ refused_way (state_of texts loaded) (answer_refusal rules (state_of texts loaded) user draft) reply
+      (room_rest rules (state_of texts loaded) (posted_message rules (state_of texts loaded) user moment draft)) (unseen_of_state texts rules loaded user draft ∙ unseen);
+}
+
+-- there is no further number or slot
+pub post_numberless : (rules : AreaRules) (loaded : Loaded) (user : User) (draft : Draft) (reply : Reply) → first_refusal user rules Posting None ≡ None
+    → draft_refusal draft ≡ None → unseen_refusal rules loaded user draft ≡ None → number_refusal rules loaded ≡ Some reply → IsRefusal rules loaded user (post_of draft) reply
+post_numberless rules loaded user draft reply allowed fit seen none = record {
+  refusal = refuses_then (nat_lt LAST_POSTED_NUMBER (next_of loaded)) (NumbersSpent (next_of loaded)) _ reply refl
+      (refuses_then (nat_le rules.slots (length loaded.slots)) (SlotsFull rules.slots) None reply refl (refuses_none reply)) none;
+  step = λ texts moment.
+      to_room texts rules loaded user moment draft allowed fit seen
+      ∙ refused_way (state_of texts loaded) (or_refusal (number_refusal rules loaded) (new_refusal rules loaded user draft)) reply
+      (post_done (state_of texts loaded) (new_live rules loaded user moment draft)) (ap (λ o. or_refusal o (new_refusal rules loaded user draft)) none);
+}
+
+-- the files have no room
+pub post_full : (rules : AreaRules) (loaded : Loaded) (user : User) (draft : Draft) (reply : Reply) → first_refusal user rules Posting None ≡ None
+    → draft_refusal draft ≡ None → unseen_refusal rules loaded user draft ≡ None → number_refusal rules loaded ≡ None → new_refusal rules loaded user draft ≡ Some reply
+    → IsRefusal rules loaded user (post_of draft) reply
+post_full rules loaded user draft reply allowed fit seen numbered full =
+    let header : ℕ = 76 + length (subfield_bytes (new_fields rules loaded user draft)) in
+    let text : ℕ = length draft.text in
+    record {
+      refusal = refuses_then (nat_lt HEADERS_CEILING (loaded.headers_len + header)) (HeadersFull (told_length (loaded.headers_len + header))) _ reply refl
+          (refuses_then (nat_lt TEXTS_CEILING (loaded.texts_len + text)) (TextFull (told_length (loaded.texts_len + text))) None reply refl (refuses_none reply)) full;
+      step = λ texts moment.
+          to_room texts rules loaded user moment draft allowed fit seen
+          ∙ refused_way (state_of texts loaded) (or_refusal (number_refusal rules loaded) (new_refusal rules loaded user draft)) reply
+          (post_done (state_of texts loaded) (new_live rules loaded user moment draft)) (ap (λ o. or_refusal o (new_refusal rules loaded user draft)) numbered ∙ full);
+    }
+
+-- nothing refuses the post
+pub record IsAccepted (rules : AreaRules) (loaded : Loaded) (user : User) (draft : Draft) : Type 0 where
+  pub allowed : first_refusal user rules Posting None ≡ None
+  pub fit : draft_refusal draft ≡ None
+  pub seen : unseen_refusal rules loaded user draft ≡ None
+  pub numbered : number_refusal rules loaded ≡ None
+  pub room : new_refusal rules loaded user draft ≡ None
+
+-- the message is posted
+pub post_way : (texts : List ℕ) (rules : AreaRules) (loaded : Loaded) (user : User) (moment : ℕ) (draft : Draft) (neighbour : Option Neighbour)
+    → IsAccepted rules loaded user draft → IsSound rules.slots loaded → length texts ≡ loaded.texts_len
+    → (h : HasNeighbour loaded (parent_behind loaded draft.reply_to) (next_of loaded) neighbour)
+    → post_step rules (state_of texts loaded) user moment draft
+    ≡ answer (Posted (next_of loaded)) (state_of (texts ++ draft.text) (after_post (new_message rules loaded user moment draft) h.linked))
+post_way texts rules loaded user moment draft neighbour accepted sound is h =
+    let state : AreaState = state_of texts loaded in
+    let live : LiveMessage = new_live rules loaded user moment draft in
+    let message : LoadedMessage = new_message rules loaded user moment draft in
+    let parent : ℕ = parent_behind loaded draft.reply_to in
+    let size : h.linked.texts_len ≡ loaded.texts_len = ap (λ (s : AreaState). s.texts_len) (h.spliced []) in
+    to_room texts rules loaded user moment draft accepted.allowed accepted.fit accepted.seen
+    ∙ accepted_way state (or_refusal (number_refusal rules loaded) (new_refusal rules loaded user draft)) (post_done state live)
+    (ap (λ o. or_refusal o (new_refusal rules loaded user draft)) accepted.numbered ∙ accepted.room)
+    ∙ ap (λ n. answer (Posted n) (counted (grown (spliced_state state parent n) live))) (next_of_state texts loaded)
+    ∙ ap (λ s. answer (Posted (next_of loaded)) (counted (grown s live))) (sym (h.spliced texts))
+    ∙ ap (λ s. answer (Posted (next_of loaded)) (counted s))
+    (sym (state_behind rules.slots texts draft.text h.linked message (h.sound rules.slots sound) (is ∙ sym size) (sym size) refl))
+    ∙ ap (answer (Posted (next_of loaded)))
+    (sym (counted_state (texts ++ draft.text) (with_message_behind message h.linked) (next_counter h.linked) (live_messages h.linked + 1) refl (sym (live_behind h.linked message))))
+
+-- the lengths of an area with its neighbour's header written
+same_length : (neighbour : Option Neighbour) (from to : Loaded) → IsLinkedBy neighbour from to → length to.slots ≡ length from.slots
+same_length None from to written = ap (λ (l : Loaded). length l.slots) written
+same_length (Some one) from to written = ap (λ (l : Loaded). length l.slots) written.2 ∙ length-set from.slots one.place _
+
+-- there is a place for the message
+pub post_has_place : (rules : AreaRules) (loaded : Loaded) (user : User) (moment : ℕ) (draft : Draft) → IsAccepted rules loaded user draft
+    → HasPlace rules loaded (header_size (new_message rules loaded user moment draft)) (length draft.text)
+post_has_place rules loaded user moment draft accepted =
+    let number = none_of (nat_lt LAST_POSTED_NUMBER (next_of loaded)) (NumbersSpent (next_of loaded)) _ accepted.numbered in
+    let slot = none_of (nat_le rules.slots (length loaded.slots)) (SlotsFull rules.slots) None number.1 in
+    let header : ℕ = header_size (new_message rules loaded user moment draft) in
+    let headers = none_of (nat_lt HEADERS_CEILING (loaded.headers_len + header)) (HeadersFull (told_length (loaded.headers_len + header))) _ accepted.room in
+    let texts = none_of (nat_lt TEXTS_CEILING (loaded.texts_len + length draft.text)) (TextFull (told_length (loaded.texts_len + length draft.text))) None headers.1 in
+    record {
+      number = ltb-false LAST_POSTED_NUMBER (next_of loaded) number.0;
+      slot = leb-false rules.slots (length loaded.slots) slot.0;
+      headers = ltb-false HEADERS_CEILING (loaded.headers_len + header) headers.0;
+      texts = ltb-false TEXTS_CEILING (loaded.texts_len + length draft.text) texts.0;
+    }
+
+-- the area stays sound
+pub post_keeps_sound : (rules : AreaRules) (loaded : Loaded) (user : User) (moment : ℕ) (draft : Draft) (neighbour : Option Neighbour)
+    → IsAccepted rules loaded user draft → IsSound rules.slots loaded → length user.name ≤ MOST_NAME_BYTES → length rules.address ≤ MOST_ADDRESS_BYTES
+    → (h : HasNeighbour loaded (parent_behind loaded draft.reply_to) (next_of loaded) neighbour)
+    → IsSound rules.slots (after_post (new_message rules loaded user moment draft) h.linked)
+post_keeps_sound rules loaded user moment draft neighbour accepted sound name address h =
+    let message : LoadedMessage = new_message rules loaded user moment draft in
+    let fit = fit_draft draft accepted.fit in
+    let InRange : LiveMessage → Type 0 = IsMessageInRange in
+    let range : IsMessageInRange (new_live rules loaded user moment draft) =
+    subst InRange (posted_of_state [] rules loaded user moment draft) (posted_in_range rules (state_of [] loaded) user moment draft name address fit) in
+    let place = post_has_place rules loaded user moment draft accepted in
+    let header : ℕ = header_size message in
+    let base : h.linked.base ≡ loaded.base = ap (λ (s : AreaState). s.base) (h.spliced []) in
+    let headers_len : h.linked.headers_len ≡ loaded.headers_len = ap (λ (s : AreaState). s.headers_len) (h.spliced []) in
+    let texts_len : h.linked.texts_len ≡ loaded.texts_len = ap (λ (s : AreaState). s.texts_len) (h.spliced []) in
+    let slots : length h.linked.slots ≡ length loaded.slots = same_length neighbour loaded h.linked h.written in
+    let few_numbers : next_of loaded ≤ LAST_POSTED_NUMBER = place.number in
+    let few_slots : length loaded.slots < rules.slots = place.slot in
+    let headers_fit : loaded.headers_len + header ≤ HEADERS_CEILING = place.headers in
+    let texts_fit : loaded.texts_len + length draft.text ≤ TEXTS_CEILING = place.texts in
+    sound_counted rules.slots (with_message_behind message h.linked) (next_counter h.linked) (live_messages h.linked + 1)
+    (sound_behind rules.slots h.linked message (h.sound rules.slots sound) (record {
+      numbers = omega arith;
+      slots = omega arith;
+      header_at = sym headers_len;
+      within = record {
+        live = range.live;
+        few_bytes = range.few_bytes;
+        header = record { after = sound.fixed; inside = omega (arith, headers_len); below = headers_fit };
+        text = record { short = range.short_text; placed = inr (omega (arith, texts_len), texts_fit) };
+      };
+    }))
+
+-- one message more is live
+pub post_counts : (loaded linked : Loaded) (message : LoadedMessage) → live_messages linked ≡ live_messages loaded
+    → live_messages (after_post message linked) ≡ live_messages loaded + 1
+post_counts loaded linked message same = live_behind linked message ∙ ap (λ n. n + 1) same
+
+-- a loaded message of these parts
+abbrev pub loaded_with : ℕ → Head → List Subfield → ℕ → ℕ → ℕ → LoadedMessage
+loaded_with owner head subfields header_at text_at text_len =
+    record { owner = owner; head = head; subfields = subfields; header_at = header_at; text_at = text_at; text_len = text_len }

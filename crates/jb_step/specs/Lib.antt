@@ -1,0 +1,11 @@
+pub mod After
+pub mod Draft
+pub mod Kill
+pub mod Neighbour
+pub mod Post
+pub mod Read
+pub mod Refusal
+pub mod Relink
+pub mod Room
+pub mod Seen
+pub mod SetMark

@@ -1,0 +1,66 @@
+//! The message that a number names.
+ghost use Rattle.std.specs.Prelude.{◌≡◌, ◌+◌, ◌≤◌, length, IfSome, option_map};
+ghost use Rattle.jb_base.specs.Access.{is_visible};
+ghost use Rattle.jb_link.specs.Plan.{loaded_at};
+ghost use Rattle.jb_step.specs.Seen.{IsNamed, loaded_envelope, seen_at};
+ghost use Rattle.jb_step.specs.declared.found.Found.{Found};
+
+use crate::denial::parties;
+use jb_access::{Action, allowed};
+use jb_base::{AreaRules, User};
+use jb_model::{Loaded, LoadedMessage, LoadedSlot};
+
+/// A live message, and the place of its slot.
+#[derive(Clone, Copy, Debug)]
+pub(crate) struct Found<'a> {
+    pub place: usize,
+    pub message: &'a LoadedMessage,
+}
+
+/// The number that the next message gets.
+pub(crate) fn next_number(loaded: &Loaded) -> u32
+    requires { loaded.now.base + length loaded.now.slots ≤ 4_294_967_295 }
+    ensures { result ≡ loaded.now.base + length loaded.now.slots }
+{
+    loaded.base + loaded.slots.as_slice().len() as u32
+}
+
+/// Whether the user sees the message.
+fn is_seen(rules: &AreaRules, user: &User, message: &LoadedMessage) -> bool
+    ensures { result ≡ is_visible user.now rules.now (loaded_envelope message.now) }
+{
+    allowed(user, rules, Action::List, Some(parties(message))).is_ok()
+}
+
+/// The live message that a number names.
+pub(crate) fn message_at(loaded: &Loaded, number: u32) -> Option<Found<'_>>
+    ensures named { option_map (λ (found : Found). found.message.now) result ≡ loaded_at loaded.now number }
+    ensures placed { IfSome result (λ found. IsNamed loaded.now number found.place found.message.now) }
+{
+    if number < loaded.base {
+        return None;
+    }
+    let place = (number - loaded.base) as usize;
+    match loaded.slots.as_slice().get(place) {
+        Some(LoadedSlot::Live(message)) => Some(Found { place, message }),
+        _ => None,
+    }
+}
+
+/// The live message that a number names, where the user sees it.
+pub(crate) fn seen_at<'a>(
+    rules: &AreaRules,
+    user: &User,
+    loaded: &'a Loaded,
+    number: u32,
+) -> Option<Found<'a>>
+    ensures named { option_map (λ (found : Found). found.message.now) result ≡ seen_at rules.now user.now loaded.now number }
+    ensures placed { IfSome result (λ found. IsNamed loaded.now number found.place found.message.now) }
+{
+    let found = message_at(loaded, number)?;
+    if is_seen(rules, user, found.message) {
+        Some(found)
+    } else {
+        None
+    }
+}

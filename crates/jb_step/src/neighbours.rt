@@ -1,0 +1,60 @@
+//! The one other message whose header a post changes.
+ghost use Rattle.std.specs.Prelude.{◌≡◌, ◌⊎◌, ◌+◌, ◌≤◌, length};
+ghost use Rattle.jb_link.specs.Slots.{IsLive};
+ghost use Rattle.jb_step.specs.Neighbour.{HasNeighbour, first_reply_head, neighbour_at, next_reply_head};
+
+use crate::found::message_at;
+use jb_link::{Spliced, splice};
+use jb_model::{Head, Loaded};
+
+/// The message at this place has these fields in its header from now on: the new message is its first reply, or the next
+/// reply behind it.
+#[derive(Clone, Copy, Debug, PartialEq, Eq)]
+pub struct Neighbour {
+    pub place: usize,
+    pub head: Head,
+}
+
+/// A number as the first reply of the message that another number names.
+fn named_first(loaded: &Loaded, of: u32, number: u32) -> Option<Neighbour>
+    ensures { result ≡ neighbour_at loaded.now of (first_reply_head number) }
+{
+    let found = message_at(loaded, of)?;
+    let head = Head {
+        reply_first: number,
+        ..found.message.head
+    };
+    Some(Neighbour {
+        place: found.place,
+        head,
+    })
+}
+
+/// A number as the next reply behind the message that another number names.
+fn named_next(loaded: &Loaded, of: u32, number: u32) -> Option<Neighbour>
+    ensures { result ≡ neighbour_at loaded.now of (next_reply_head number) }
+{
+    let found = message_at(loaded, of)?;
+    let head = Head {
+        reply_next: number,
+        ..found.message.head
+    };
+    Some(Neighbour {
+        place: found.place,
+        head,
+    })
+}
+
+/// The neighbour of a new message with this number that answers this parent, or 0.
+pub(crate) fn neighbour_of(loaded: &Loaded, parent: u32, number: u32) -> Option<Neighbour>
+    requires base { 1 ≤ loaded.now.base }
+    requires numbers { loaded.now.base + length loaded.now.slots ≤ 4_294_967_295 }
+    requires live { (parent ≡ 0) ⊎ IsLive loaded.now parent }
+    ensures { HasNeighbour loaded.now parent number result }
+{
+    match splice(loaded, parent) {
+        Spliced::None => None,
+        Spliced::First { of } => named_first(loaded, of, number),
+        Spliced::After { of } => named_next(loaded, of, number),
+    }
+}

@@ -1,0 +1,204 @@
+//! A message is posted.
+ghost use Rattle.std.specs.Prelude.{◌≡◌, ◌⊎◌, ◌+◌, ◌≤◌, IfErr, IfNone, IfOk, length, option_map};
+ghost use Rattle.std.specs.Borrow.{Bor};
+ghost use Rattle.jb_base.specs.Subfields.{subfield_bytes};
+ghost use Rattle.jb_base.specs.declared.limits.TheConstants.{MOST_ADDRESS_BYTES, MOST_NAME_BYTES, MOST_POSTED_TEXT_BYTES};
+ghost use Rattle.jb_link.specs.Slots.{IsLive};
+ghost use Rattle.jb_model.specs.Post.{id_crc, posted_attribute};
+ghost use Rattle.jb_step.specs.Draft.{draft_of, head_with, new_message, next_of, post_of};
+ghost use Rattle.jb_step.specs.Post.{IsPosting};
+ghost use Rattle.jb_step.specs.Refusal.{IsRefusal};
+ghost use Rattle.jb_step.specs.Room.{file_refusal, new_refusal, number_refusal, unseen_refusal};
+
+use crate::denial::denied;
+use crate::drafts::unfit;
+use crate::fields::{headed_length, msgid_of, replyid_of, subfields_of};
+use crate::found::{next_number, seen_at};
+use crate::neighbours::neighbour_of;
+use crate::{Draft, Neighbour};
+use jb_access::Action;
+use jb_base::{
+    AreaRules, HEADERS_CEILING, Kind, LAST_POSTED_NUMBER, LOCAL, OutOfMemory, PRIVATE, Subfields,
+    TEXTS_CEILING, TYPEECHO, TYPELOCAL, User,
+};
+use jb_crc::jam_crc;
+use jb_link::parent;
+use jb_model::{Head, Loaded, LoadedMessage, Reply};
+use std::alloc::Global;
+
+/// What a post writes: this message under this number behind the others, its header and its text at the ends of their
+/// files, and the neighbour's header, where there is a neighbour.
+#[derive(Debug, Drop)]
+pub struct Posting {
+    pub number: u32,
+    pub message: LoadedMessage,
+    pub neighbour: Option<Neighbour>,
+}
+
+/// Why a draft is refused: it answers a message that the user does not see.
+fn unseen(loaded: &Loaded, rules: &AreaRules, user: &User, draft: Draft<'_>) -> Option<Reply>
+    ensures { result ≡ unseen_refusal rules.now loaded.now user.now (draft_of draft.entry) }
+{
+    if draft.reply_to == 0 {
+        return None;
+    }
+    if seen_at(rules, user, loaded, draft.reply_to).is_none() {
+        return Some(Reply::NoMessage {
+            number: draft.reply_to,
+        });
+    }
+    None
+}
+
+/// Why there is no further message: no number is left, or no slot.
+fn no_number(loaded: &Loaded, rules: &AreaRules) -> Option<Reply>
+    requires { loaded.now.base + length loaded.now.slots ≤ 4_294_967_295 }
+    ensures { result ≡ number_refusal rules.now loaded.now }
+{
+    let next = next_number(loaded);
+    if next > LAST_POSTED_NUMBER {
+        Some(Reply::NumbersSpent { next })
+    } else if loaded.slots.as_slice().len() >= rules.slots as usize {
+        Some(Reply::SlotsFull { slots: rules.slots })
+    } else {
+        None
+    }
+}
+
+/// Why the files have no room for a message of these subfields and this text.
+fn no_room(loaded: &Loaded, subfields: &Subfields, text: &[u8]) -> Option<Reply>
+    ensures { result ≡ file_refusal loaded.now (76 + length (subfield_bytes subfields.now)) (length text.now) }
+{
+    let headers = loaded.headers_len.saturating_add(headed_length(subfields));
+    let texts = loaded.texts_len.saturating_add(text.len() as u64);
+    if headers > HEADERS_CEILING {
+        Some(Reply::HeadersFull { length: headers })
+    } else if texts > TEXTS_CEILING {
+        Some(Reply::TextFull { length: texts })
+    } else {
+        None
+    }
+}
+
+/// The attributes of the message that is posted.
+fn attribute_of(rules: &AreaRules, private: bool) -> u32
+    ensures { result ≡ posted_attribute rules.now private }
+{
+    let kind = match rules.kind {
+        Kind::Local => TYPELOCAL,
+        Kind::Echo => TYPEECHO,
+    };
+    LOCAL + kind + if private { PRIVATE } else { 0 }
+}
+
+/// The CRC of an id, all bits set where there is none.
+fn crc_of_id(id: Option<&[u8]>) -> u32
+    ensures { result ≡ id_crc (option_map (λ (b : Bor _). b.now) id.entry) }
+{
+    match id {
+        Some(id) => jam_crc(id),
+        None => u32::MAX,
+    }
+}
+
+/// The header's fields of a message with these ids and this parent.
+fn head_of(
+    rules: &AreaRules,
+    moment: u32,
+    draft: Draft<'_>,
+    msgid: &[u8],
+    replyid: Option<&[u8]>,
+    parent: u32,
+) -> Head
+    ensures { result ≡ head_with rules.now moment (draft_of draft.entry) msgid.now (option_map (λ (b : Bor _). b.now) replyid.entry) parent }
+{
+    Head {
+        reserved: 0,
+        times_read: 0,
+        msgid_crc: jam_crc(msgid),
+        reply_crc: crc_of_id(replyid),
+        reply_to: parent,
+        reply_first: 0,
+        reply_next: 0,
+        written: moment,
+        received: 0,
+        processed: 0,
+        attribute: attribute_of(rules, draft.private),
+        attribute2: 0,
+        password: u32::MAX,
+        cost: 0,
+    }
+}
+
+/// The new message, or why the files have no room for it.
+fn message_of(
+    alloc: Global,
+    loaded: &Loaded,
+    rules: &AreaRules,
+    user: &User,
+    moment: u32,
+    draft: Draft<'_>,
+) -> Result<Result<LoadedMessage, Reply>, OutOfMemory>
+    requires number { next_of loaded.now ≤ LAST_POSTED_NUMBER }
+    requires text { length draft.text.now ≤ MOST_POSTED_TEXT_BYTES }
+    ensures full { IfOk result (λ made. IfErr made (λ reply. new_refusal rules.now loaded.now user.now (draft_of draft.entry) ≡ Some reply)) }
+    ensures room { IfOk result (λ made. IfOk made (λ message. new_refusal rules.now loaded.now user.now (draft_of draft.entry) ≡ None)) }
+    ensures made { IfOk result (λ made. IfOk made (λ message. message ≡ new_message rules.now loaded.now user.now moment (draft_of draft.entry))) }
+    ensures live { IfOk result (λ made. IfOk made (λ message. (message.head.reply_to ≡ 0) ⊎ IsLive loaded.now message.head.reply_to)) }
+{
+    let number = next_number(loaded);
+    let msgid = msgid_of(alloc, rules, number)?;
+    let replyid = replyid_of(loaded, draft.reply_to);
+    let subfields = subfields_of(alloc, user, draft, msgid.as_slice(), replyid)?;
+    if let Some(reply) = no_room(loaded, &subfields, draft.text) {
+        return Ok(Err(reply));
+    }
+    let above = parent(loaded, number, replyid, draft.reply_to);
+    Ok(Ok(LoadedMessage {
+        owner: jam_crc(draft.to),
+        head: head_of(rules, moment, draft, msgid.as_slice(), replyid, above),
+        subfields,
+        header_at: loaded.headers_len as u32,
+        text_at: loaded.texts_len as u32,
+        text_len: draft.text.len() as u32,
+    }))
+}
+
+/// What a post of this draft does at a moment, in seconds since 1970, or why it is refused.
+pub fn post(
+    alloc: Global,
+    loaded: &Loaded,
+    rules: &AreaRules,
+    user: &User,
+    moment: u32,
+    draft: Draft<'_>,
+) -> Result<Result<Posting, Reply>, OutOfMemory>
+    requires base { 1 ≤ loaded.now.base }
+    requires numbers { loaded.now.base + length loaded.now.slots ≤ 4_294_967_295 }
+    ensures refused { IfOk result (λ decided. IfErr decided (λ reply. IsRefusal rules.now loaded.now user.now (post_of (draft_of draft.entry)) reply)) }
+    ensures done { IfOk result (λ decided. IfOk decided (λ posting. IsPosting rules.now loaded.now user.now moment (draft_of draft.entry) posting)) }
+{
+    if let Some(rule) = denied(user, rules, Action::Post) {
+        return Ok(Err(Reply::Denied { rule }));
+    }
+    if let Some(reply) = unfit(draft) {
+        return Ok(Err(reply));
+    }
+    if let Some(reply) = unseen(loaded, rules, user, draft) {
+        return Ok(Err(reply));
+    }
+    if let Some(reply) = no_number(loaded, rules) {
+        return Ok(Err(reply));
+    }
+    let message = match message_of(alloc, loaded, rules, user, moment, draft)? {
+        Ok(message) => message,
+        Err(reply) => return Ok(Err(reply)),
+    };
+    let number = next_number(loaded);
+    let neighbour = neighbour_of(loaded, message.head.reply_to, number);
+    Ok(Ok(Posting {
+        number,
+        message,
+        neighbour,
+    }))
+}
