@@ -1,0 +1,152 @@
+-- What a settling makes of an area in doubt.
+use Rattle.std.proofs.Common.{◌≡◌, ◌≢◌, ℕ, List, ◌++◌, Option, None, Some, true, false, ap, sym, refl, ◌∙◌, subst}
+use Rattle.jb_disk.specs.Device.{Device}
+use Rattle.jb_disk.specs.Files.{Files}
+use Rattle.jb_disk.specs.Runs.{LeavesOnly}
+use Rattle.jb_disk.proofs.RunLemmas.{runs-refl}
+use Rattle.jb_journal.specs.declared.stopped.Stopped.{Stopped}
+use Rattle.jb_model.specs.Sound.{IsSound}
+use Rattle.jb_model.specs.declared.loaded.Loaded.{Loaded}
+use Rattle.jb_area.specs.Area.{DoubtOpens, IsBetween, IsDoubtful, IsPending, IsUnchanged, RestsAt, SettlesAt}
+use Rattle.jb_area.specs.Commits.{Coming, IsAnsweredAs, IsChange, IsSettledAs, IsStoppedAs, MaySettle}
+use Rattle.jb_area.specs.Held.{IsKeptWhole}
+use Rattle.jb_area.specs.declared.held.Held.{Held}
+use Rattle.jb_step.specs.After.{live_messages}
+use Rattle.jb_area.specs.Holds.{Opens, OpensToEither}
+use Rattle.jb_area.specs.Pending.{IsFit, after, live_after}
+use Rattle.jb_area.specs.declared.area.OpenArea.{OpenArea}
+use Rattle.jb_area.specs.declared.pending.Pending.{Pending}
+use Rattle.jb_area.specs.declared.pending.Pending.TheVariants.{Nothing}
+use Rattle.jb_area.specs.declared.stage.Stage.{Stage}
+use Rattle.jb_area.specs.declared.stage.Stage.TheVariants.{Resting, Doubtful}
+use Rattle.jb_area.proofs.CommitLemmas.{settled_opens}
+
+-- two doubtful stages are one
+same_stopped : (one other : Stopped) (first second : Pending) → Doubtful one first ≡ Doubtful other second → one ≡ other
+same_stopped one other first second is = cc
+
+same_pending : (one other : Stopped) (first second : Pending) → Doubtful one first ≡ Doubtful other second → first ≡ second
+same_pending one other first second is = cc
+
+module _ {D : Type 0} (shown : D → Device) (area : OpenArea D) (stopped : Stopped) (pending : Pending) (is : area.stage ≡ Doubtful stopped pending) where
+  -- a call that had no change
+  module _ (none : pending ≡ Nothing) where
+    -- has none to come
+    unchanged : (texts : List ℕ) (coming : Option Coming) → IsDoubtful shown area texts coming → IsUnchanged shown area texts × (coming ≡ None)
+    unchanged texts None doubt = (doubt, refl)
+    unchanged texts (Some coming) doubt = absurd (doubt.change.some (same_pending doubt.stopped stopped doubt.pending pending (sym doubt.stage ∙ is) ∙ none))
+
+    -- and leaves the area as it is, whenever a crash comes
+    pub idle : (texts : List ℕ) (coming : Option Coming) → IsDoubtful shown area texts coming → (was : Files) → (shown area.disk).contents ≡ Some was
+        → LeavesOnly (shown area.disk) (shown area.disk) (DoubtOpens area.held.loaded texts coming)
+    idle texts coming doubt was there =
+        let so = unchanged texts coming doubt in
+        subst (λ (c : Option Coming). LeavesOnly (shown area.disk) (shown area.disk) (DoubtOpens area.held.loaded texts c)) (sym so.1)
+        (record { first = settled_opens area.held.loaded texts (shown area.disk) was there so.0.kept.settled; run = runs-refl (Opens area.held.loaded texts) _ _ refl })
+
+  -- a call that had one
+  module _ (some : pending ≢ Nothing) where
+    -- nothing else was to come
+    no_none : (texts : List ℕ) → IsUnchanged shown area texts → ⊥
+    no_none texts unchanged = some (same_pending stopped unchanged.stopped pending Nothing (sym is ∙ unchanged.stage))
+
+    -- what is in doubt
+    doubt_is : (texts : List ℕ) (coming : Coming) → IsBetween shown area texts coming → IsStoppedAs stopped area.redo area.held.loaded texts (shown area.disk)
+    doubt_is texts coming between =
+        subst (λ (s : Stopped). IsStoppedAs s area.redo area.held.loaded texts (shown area.disk)) (same_stopped between.stopped stopped between.pending pending (sym between.stage ∙ is)) between.doubt
+
+    -- what is to come
+    change_is : (texts : List ℕ) (coming : Coming) → IsBetween shown area texts coming → IsPending area.rules.slots area.redo pending area.held.loaded coming
+    change_is texts coming between =
+        subst (λ (p : Pending). IsPending area.rules.slots area.redo p area.held.loaded coming) (same_pending between.stopped stopped between.pending pending (sym between.stage ∙ is)) between.change
+
+    -- it may be settled
+    pub may_settle : (texts : List ℕ) (coming : Option Coming) → IsDoubtful shown area texts coming → MaySettle stopped area.redo (shown area.disk)
+    may_settle texts None doubt = absurd (no_none texts doubt)
+    may_settle texts (Some coming) doubt = record {
+      from = area.held.loaded;
+      texts = texts;
+      coming = coming;
+      doubt = doubt_is texts coming doubt;
+      change = (change_is texts coming doubt).change;
+    }
+
+    -- so many messages are live then
+    pub live : (texts : List ℕ) (coming : Option Coming) → IsDoubtful shown area texts coming → live_messages (after pending area.held.loaded) ≡ live_after pending area.held.live
+    live texts None doubt = absurd (no_none texts doubt)
+    live texts (Some coming) doubt =
+        let change = change_is texts coming doubt in
+        ap live_messages (sym change.becomes) ∙ change.live ∙ ap (live_after pending) (sym doubt.ruled.whole.live)
+
+    -- what is kept is whole
+    pub whole_is : (texts : List ℕ) (coming : Option Coming) → IsDoubtful shown area texts coming → IsKeptWhole area.held
+    whole_is texts None doubt = doubt.kept.ruled.whole
+    whole_is texts (Some coming) doubt = doubt.ruled.whole
+
+    -- it has its place
+    pub fits : (texts : List ℕ) (coming : Option Coming) → IsDoubtful shown area texts coming → IsFit pending area.held.loaded
+    fits texts None doubt = absurd (no_none texts doubt)
+    fits texts (Some coming) doubt = (change_is texts coming doubt).fit
+
+    -- settled with the change
+    pub stands : (disk : D) (held : Held) (stage : Stage) → stage ≡ Resting → held.loaded ≡ after pending area.held.loaded → IsKeptWhole held
+        → ((from : Loaded) (texts : List ℕ) (coming : Coming) → IsStoppedAs stopped area.redo from texts (shown area.disk) → IsChange area.redo from coming → IsAnsweredAs true from texts coming (shown disk))
+        → (texts : List ℕ) (coming : Option Coming) → IsDoubtful shown area texts coming
+        → SettlesAt shown true area.held.loaded texts coming (record area { disk = disk; held = held; stage = stage })
+    stands disk held stage resting applied whole answer texts None doubt = no_none texts doubt
+    stands disk held stage resting applied whole answer texts (Some coming) doubt =
+        let change = change_is texts coming doubt in
+        let to : coming.to ≡ held.loaded = change.becomes ∙ sym applied in
+        record {
+          rests = record {
+            stage = resting;
+            kept = record {
+              ruled = record { few_slots = doubt.ruled.few_slots; address = doubt.ruled.address; sound = subst (IsSound area.rules.slots) to change.sound; whole = whole; room = doubt.ruled.room };
+              settled = subst (λ (l : Loaded). IsSettledAs l (texts ++ coming.text) (shown disk)) to (answer area.held.loaded texts coming (doubt_is texts coming doubt) change.change);
+            };
+          };
+          is = sym to;
+        }
+
+    -- settled without it
+    pub falls : (disk : D) (stage : Stage) → stage ≡ Resting
+        → ((from : Loaded) (texts : List ℕ) (coming : Coming) → IsStoppedAs stopped area.redo from texts (shown area.disk) → IsChange area.redo from coming → IsAnsweredAs false from texts coming (shown disk))
+        → (texts : List ℕ) (coming : Option Coming) → IsDoubtful shown area texts coming
+        → RestsAt shown (record area { disk = disk; stage = stage }) texts area.held.loaded
+    falls disk stage resting answer texts None doubt = absurd (no_none texts doubt)
+    falls disk stage resting answer texts (Some coming) doubt = record {
+      rests = record {
+        stage = resting;
+        kept = record {
+          ruled = record { few_slots = doubt.ruled.few_slots; address = doubt.ruled.address; sound = doubt.ruled.sound; whole = doubt.ruled.whole; room = doubt.ruled.room };
+          settled = answer area.held.loaded texts coming (doubt_is texts coming doubt) (change_is texts coming doubt).change;
+        };
+      };
+      is = refl;
+    }
+
+    -- stopped again
+    pub still : (disk : D) (again : Stopped)
+        → ((from : Loaded) (texts : List ℕ) (coming : Coming) → IsStoppedAs stopped area.redo from texts (shown area.disk) → IsChange area.redo from coming → IsStoppedAs again area.redo from texts (shown disk))
+        → (texts : List ℕ) (coming : Option Coming) → IsDoubtful shown area texts coming
+        → IsDoubtful shown (record area { disk = disk; stage = Doubtful again pending }) texts coming
+    still disk again answer texts None doubt = absurd (no_none texts doubt)
+    still disk again answer texts (Some coming) doubt =
+        let change = change_is texts coming doubt in
+        record {
+          stopped = again;
+          pending = pending;
+          stage = refl;
+          ruled = record { few_slots = doubt.ruled.few_slots; address = doubt.ruled.address; sound = doubt.ruled.sound; whole = doubt.ruled.whole; room = doubt.ruled.room };
+          change = change;
+          doubt = answer area.held.loaded texts coming (doubt_is texts coming doubt) change.change;
+        }
+
+    -- whenever a crash comes
+    pub crashes : (new : Device)
+        → ((from : Loaded) (texts : List ℕ) (coming : Coming) → IsStoppedAs stopped area.redo from texts (shown area.disk) → IsChange area.redo from coming
+        → (was : Files) → (shown area.disk).contents ≡ Some was → LeavesOnly (shown area.disk) new (OpensToEither from coming.to texts coming.text))
+        → (texts : List ℕ) (coming : Option Coming) → IsDoubtful shown area texts coming → (was : Files) → (shown area.disk).contents ≡ Some was
+        → LeavesOnly (shown area.disk) new (DoubtOpens area.held.loaded texts coming)
+    crashes new crash texts None doubt was there = absurd (no_none texts doubt)
+    crashes new crash texts (Some coming) doubt was there = crash area.held.loaded texts coming (doubt_is texts coming doubt) (change_is texts coming doubt).change was there

@@ -1,0 +1,12 @@
+mod CallLemmas
+mod CommitLemmas
+mod DecidedLemmas
+mod DoubtLemmas
+mod HoldLemmas
+mod LinkedLemmas
+mod MarkLemmas
+mod Outcomes
+mod PostLemmas
+mod RelinkLemmas
+mod StageLemmas
+mod StartLemmas

@@ -1,0 +1,121 @@
+-- What is on its way in an open area, from its stage.
+use Rattle.std.proofs.Common.{◌≡◌, ◌≢◌, ◌⊎◌, inl, inr, ℕ, List, [], ◌++◌, ap, sym, refl, ◌∙◌, subst}
+use Rattle.std.proofs.lemmas.List.{append-nil}
+use Rattle.jb_disk.specs.Device.{Device}
+use Rattle.jb_disk.specs.Change.{Change}
+use Rattle.jb_model.specs.Sound.{IsSound}
+use Rattle.jb_model.specs.declared.loaded.Loaded.{Loaded}
+use Rattle.jb_model.specs.declared.reply.Reply.{Reply}
+use Rattle.jb_journal.specs.declared.stopped.Stopped.{Stopped}
+use Rattle.jb_area.specs.Area.{IsBegun, IsBetween, IsNoChange, IsPending, RestsAt}
+use Rattle.jb_area.specs.Commits.{Coming, IsChange, IsSettledAs, IsStoppedAs, MayCommit}
+use Rattle.jb_area.specs.Held.{IsKeptWhole}
+use Rattle.jb_area.specs.declared.held.Held.{Held}
+use Rattle.jb_step.specs.After.{live_messages}
+use Rattle.jb_area.specs.Pending.{IsFit, after, live_after}
+use Rattle.jb_area.specs.declared.area.OpenArea.{OpenArea}
+use Rattle.jb_area.specs.declared.pending.Pending.{Pending}
+use Rattle.jb_area.specs.declared.pending.Pending.TheVariants.{Nothing}
+use Rattle.jb_area.specs.declared.stage.Stage.{Stage}
+use Rattle.jb_area.specs.declared.stage.Stage.TheVariants.{Resting, Begun, Doubtful}
+
+-- two begun stages are one
+pub same_reply : (one other : Reply) (first second : Pending) → Begun one first ≡ Begun other second → one ≡ other
+same_reply one other first second is = cc
+
+pub same_pending : (one other : Reply) (first second : Pending) → Begun one first ≡ Begun other second → first ≡ second
+same_pending one other first second is = cc
+
+-- nothing changes where nothing is pending
+pub none_pending : (limit : ℕ) (redo : Change) (pending : Pending) (from : Loaded) (coming : Coming) → pending ≡ Nothing
+    → IsNoChange pending from coming ⊎ IsPending limit redo pending from coming → coming ≡ record { to = from; text = [] }
+none_pending limit redo pending from coming none (inl nothing) = nothing.same
+none_pending limit redo pending from coming none (inr change) = absurd (change.some none)
+
+-- something changes where something is pending
+pub some_pending : (limit : ℕ) (redo : Change) (pending : Pending) (from : Loaded) (coming : Coming) → pending ≢ Nothing
+    → IsNoChange pending from coming ⊎ IsPending limit redo pending from coming → IsPending limit redo pending from coming
+some_pending limit redo pending from coming some (inl nothing) = absurd (some nothing.none)
+some_pending limit redo pending from coming some (inr change) = change
+
+module _ {D : Type 0} (shown : D → Device) where
+  -- the parts of a begun call, whatever shows that it is begun
+  module _ (area : OpenArea D) (texts : List ℕ) (decided : Reply) (coming : Coming) (begun : IsBegun shown area texts decided coming) where
+    -- the reply that was decided
+    pub reply_is : (reply : Reply) (pending : Pending) → area.stage ≡ Begun reply pending → reply ≡ decided
+    reply_is reply pending is = same_reply reply decided pending begun.pending (sym is ∙ begun.stage)
+
+    -- what is pending
+    pending_is : (reply : Reply) (pending : Pending) → area.stage ≡ Begun reply pending → begun.pending ≡ pending
+    pending_is reply pending is = same_pending decided reply begun.pending pending (sym begun.stage ∙ is)
+
+    -- where nothing is pending
+    pub none_is : (reply : Reply) (pending : Pending) → area.stage ≡ Begun reply pending → pending ≡ Nothing → coming ≡ record { to = area.held.loaded; text = [] }
+    none_is reply pending is none = none_pending area.rules.slots area.redo begun.pending area.held.loaded coming (pending_is reply pending is ∙ none) begun.change
+
+    -- where something is pending
+    pub some_is : (reply : Reply) (pending : Pending) → area.stage ≡ Begun reply pending → pending ≢ Nothing → IsPending area.rules.slots area.redo pending area.held.loaded coming
+    some_is reply pending is some =
+        subst (λ (p : Pending). IsPending area.rules.slots area.redo p area.held.loaded coming) (pending_is reply pending is)
+        (some_pending area.rules.slots area.redo begun.pending area.held.loaded coming (λ none. some (sym (pending_is reply pending is) ∙ none)) begun.change)
+
+    -- a call without a change is finished
+    pub rests_unchanged : (reply : Reply) (pending : Pending) (stage : Stage) → area.stage ≡ Begun reply pending → pending ≡ Nothing → stage ≡ Resting
+        → (reply ≡ decided) × RestsAt shown (record area { stage = stage }) (texts ++ coming.text) coming.to
+    rests_unchanged reply pending stage is none resting =
+        let same = none_is reply pending is none in (
+          reply_is reply pending is,
+          subst (λ (c : Coming). RestsAt shown (record area { stage = stage }) (texts ++ c.text) c.to) (sym same)
+              (subst (λ (t : List ℕ). RestsAt shown (record area { stage = stage }) t area.held.loaded) (sym (append-nil texts))
+              (record { rests = record { stage = resting; kept = record { ruled = record { few_slots = begun.kept.ruled.few_slots; address = begun.kept.ruled.address; sound = begun.kept.ruled.sound; whole = begun.kept.ruled.whole; room = begun.kept.ruled.room }; settled = begun.kept.settled } }; is = refl })),
+        )
+
+    -- and a call with one
+    pub rests_changed : (reply : Reply) (pending : Pending) (disk : D) (held : Held) (stage : Stage) → area.stage ≡ Begun reply pending → pending ≢ Nothing → stage ≡ Resting
+        → held.loaded ≡ after pending area.held.loaded → IsKeptWhole held
+        → ((from : Loaded) (texts : List ℕ) (coming : Coming) → IsSettledAs from texts (shown area.disk) → IsChange area.redo from coming → IsSettledAs coming.to (texts ++ coming.text) (shown disk))
+        → (reply ≡ decided) × RestsAt shown (record area { disk = disk; held = held; stage = stage }) (texts ++ coming.text) coming.to
+    rests_changed reply pending disk held stage is some resting applied whole done =
+        let change = some_is reply pending is some in
+        let to : coming.to ≡ held.loaded = change.becomes ∙ sym applied in (
+          reply_is reply pending is,
+          record {
+            rests = record {
+              stage = resting;
+              kept = record {
+                ruled = record { few_slots = begun.kept.ruled.few_slots; address = begun.kept.ruled.address; sound = subst (IsSound area.rules.slots) to change.sound; whole = whole; room = begun.kept.ruled.room };
+                settled = subst (λ (l : Loaded). IsSettledAs l (texts ++ coming.text) (shown disk)) to (done area.held.loaded texts coming begun.kept.settled change.change);
+              };
+            };
+            is = sym to;
+          },
+        )
+
+    -- a call that was stopped is in doubt
+    pub between : (reply : Reply) (pending : Pending) (disk : D) (stopped : Stopped) → area.stage ≡ Begun reply pending → pending ≢ Nothing
+        → ((from : Loaded) (texts : List ℕ) (coming : Coming) → IsSettledAs from texts (shown area.disk) → IsChange area.redo from coming → IsStoppedAs stopped area.redo from texts (shown disk))
+        → IsBetween shown (record area { disk = disk; stage = Doubtful stopped pending }) texts coming
+    between reply pending disk stopped is some doubt =
+        let change = some_is reply pending is some in
+        record {
+          stopped = stopped;
+          pending = pending;
+          stage = refl;
+          ruled = record { few_slots = begun.kept.ruled.few_slots; address = begun.kept.ruled.address; sound = begun.kept.ruled.sound; whole = begun.kept.ruled.whole; room = begun.kept.ruled.room };
+          change = change;
+          doubt = doubt area.held.loaded texts coming begun.kept.settled change.change;
+        }
+
+    -- the change may be committed
+    pub may_commit : (reply : Reply) (pending : Pending) → area.stage ≡ Begun reply pending → pending ≢ Nothing → MayCommit area.redo (shown area.disk)
+    may_commit reply pending is some = record { from = area.held.loaded; texts = texts; coming = coming; settled = begun.kept.settled; change = (some_is reply pending is some).change }
+
+    -- so many messages are live then
+    pub live : (reply : Reply) (pending : Pending) → area.stage ≡ Begun reply pending → pending ≢ Nothing → live_messages (after pending area.held.loaded) ≡ live_after pending area.held.live
+    live reply pending is some =
+        let change = some_is reply pending is some in
+        ap live_messages (sym change.becomes) ∙ change.live ∙ ap (live_after pending) (sym begun.kept.ruled.whole.live)
+
+    -- it has its place
+    pub fits : (reply : Reply) (pending : Pending) → area.stage ≡ Begun reply pending → pending ≢ Nothing → IsFit pending area.held.loaded
+    fits reply pending is some = (some_is reply pending is some).fit

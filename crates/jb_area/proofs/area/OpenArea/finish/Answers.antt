@@ -1,0 +1,47 @@
+use Rattle.std.proofs.Common.{sym, ◌∙◌}
+use Rattle.jb_area.proofs.CommitLemmas.{idle_opens}
+use Rattle.jb_area.proofs.StageLemmas.{between, fits, live, may_commit, rests_changed, rests_unchanged, some_is}
+use Rattle.jb_area.proofs.area.OpenArea.finish.Goals as goal
+
+pub returns-in-Nothing-clause-done : goal.returns-in-Nothing-clause-done
+returns-in-Nothing-clause-done g c = λ texts decided coming begun.
+    rests_unchanged g.D.Disk.device c.args.self.now texts decided coming begun c.in-Begun.reply c.in-Begun.pending c.replace.new.dest (sym c.replace.ensures.value ∙ c.in-Begun.is) c.in-Nothing.is c.replace.ensures.after
+
+pub returns-in-Nothing-clause-crash : goal.returns-in-Nothing-clause-crash
+returns-in-Nothing-clause-crash g c = λ texts decided coming begun was there.
+    idle_opens c.args.self.now.held.loaded texts coming (g.D.Disk.device c.args.self.now.disk) was there begun.kept.settled
+
+pub commit_change-requires : goal.commit_change-requires
+commit_change-requires g c =
+    let has = c.requires.begun in
+    record { may = may_commit g.D.Disk.device c.args.self.now has.texts has.reply has.coming has.begun c.in-Begun.reply c.in-Begun.pending (sym c.replace.ensures.value ∙ c.in-Begun.is) c.in_default-pending.not-Nothing }
+
+pub returns-in-Ok-clause-done : goal.returns-in-Ok-clause-done
+returns-in-Ok-clause-done g c = λ texts decided coming begun.
+    rests_changed g.D.Disk.device c.args.self.now texts decided coming begun c.in-Begun.reply c.in-Begun.pending c.commit_change.new.disk c.apply.new.held c.replace.new.dest
+    (sym c.replace.ensures.value ∙ c.in-Begun.is) c.in_default-pending.not-Nothing c.replace.ensures.after c.apply.ensures.loaded c.apply.ensures.whole c.in-Ok.ensures.done
+
+pub returns-in-Ok-clause-crash : goal.returns-in-Ok-clause-crash
+returns-in-Ok-clause-crash g c = λ texts decided coming begun was there.
+    c.in-Ok.ensures.crash c.args.self.now.held.loaded texts coming begun.kept.settled
+    (some_is g.D.Disk.device c.args.self.now texts decided coming begun c.in-Begun.reply c.in-Begun.pending (sym c.replace.ensures.value ∙ c.in-Begun.is) c.in_default-pending.not-Nothing).change was there
+
+pub returns-in-Err-clause-doubt : goal.returns-in-Err-clause-doubt
+returns-in-Err-clause-doubt g c = λ texts decided coming begun.
+    between g.D.Disk.device c.args.self.now texts decided coming begun c.in-Begun.reply c.in-Begun.pending c.commit_change.new.disk c.in-Err.stopped
+    (sym c.replace.ensures.value ∙ c.in-Begun.is) c.in_default-pending.not-Nothing c.in-Err.ensures.doubt
+
+pub returns-in-Err-clause-crash : goal.returns-in-Err-clause-crash
+returns-in-Err-clause-crash g c = λ texts decided coming begun was there.
+    c.in-Err.ensures.crash c.args.self.now.held.loaded texts coming begun.kept.settled
+    (some_is g.D.Disk.device c.args.self.now texts decided coming begun c.in-Begun.reply c.in-Begun.pending (sym c.replace.ensures.value ∙ c.in-Begun.is) c.in_default-pending.not-Nothing).change was there
+
+pub apply-requires : goal.apply-requires
+apply-requires g c =
+    let has = c.requires.begun in
+    let is = sym c.replace.ensures.value ∙ c.in-Begun.is in
+    record {
+      whole = has.begun.kept.ruled.whole;
+      fit = fits g.D.Disk.device c.args.self.now has.texts has.reply has.coming has.begun c.in-Begun.reply c.in-Begun.pending is c.in_default-pending.not-Nothing;
+      live = live g.D.Disk.device c.args.self.now has.texts has.reply has.coming has.begun c.in-Begun.reply c.in-Begun.pending is c.in_default-pending.not-Nothing;
+    }

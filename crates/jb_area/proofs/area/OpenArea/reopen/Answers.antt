@@ -1,0 +1,55 @@
+use Rattle.std.proofs.Common.{Bool, sym, subst, ◌∙◌}
+use Rattle.jb_area.specs.Commits.{IsAnsweredAs}
+use Rattle.jb_area.proofs.DoubtLemmas.{crashes, falls, fits, idle, live, may_settle, stands, still, whole_is}
+use Rattle.jb_area.proofs.area.OpenArea.reopen.Goals as goal
+
+pub returns-in-Nothing-clause-crash : goal.returns-in-Nothing-clause-crash
+returns-in-Nothing-clause-crash g c =
+    idle g.D.Disk.device c.args.self.now c.in-Doubtful.stopped c.in-Doubtful.pending (sym c.replace.ensures.value ∙ c.in-Doubtful.is) c.in-Nothing.is
+
+pub settle_change-requires : goal.settle_change-requires
+settle_change-requires g c =
+    let has = c.requires.doubt in
+    record { may = may_settle g.D.Disk.device c.args.self.now c.in-Doubtful.stopped c.in-Doubtful.pending (sym c.replace.ensures.value ∙ c.in-Doubtful.is) c.in_default-pending.not-Nothing has.texts has.coming has.doubt }
+
+pub returns-in-Ok-true-clause-settled : goal.returns-in-Ok-true-clause-settled
+returns-in-Ok-true-clause-settled g c =
+    stands g.D.Disk.device c.args.self.now c.in-Doubtful.stopped c.in-Doubtful.pending (sym c.replace.ensures.value ∙ c.in-Doubtful.is) c.in_default-pending.not-Nothing
+    c.settle_change.new.disk c.apply.new.held c.replace.new.dest c.replace.ensures.after c.apply.ensures.loaded c.apply.ensures.whole
+    (λ from texts coming doubt is. subst (λ (b : Bool). IsAnsweredAs b from texts coming (g.D.Disk.device c.settle_change.new.disk)) c.in-Ok-true.field-0-test (c.in-Ok-true.ensures.answer from texts coming doubt is))
+
+pub returns-in-Ok-true-clause-crash : goal.returns-in-Ok-true-clause-crash
+returns-in-Ok-true-clause-crash g c =
+    crashes g.D.Disk.device c.args.self.now c.in-Doubtful.stopped c.in-Doubtful.pending (sym c.replace.ensures.value ∙ c.in-Doubtful.is) c.in_default-pending.not-Nothing
+    (g.D.Disk.device c.settle_change.new.disk) c.settle_change.ensures.crash
+
+pub returns-in-Ok-false-clause-settled : goal.returns-in-Ok-false-clause-settled
+returns-in-Ok-false-clause-settled g c =
+    falls g.D.Disk.device c.args.self.now c.in-Doubtful.stopped c.in-Doubtful.pending (sym c.replace.ensures.value ∙ c.in-Doubtful.is) c.in_default-pending.not-Nothing
+    c.settle_change.new.disk c.replace.new.dest c.replace.ensures.after
+    (λ from texts coming doubt is. subst (λ (b : Bool). IsAnsweredAs b from texts coming (g.D.Disk.device c.settle_change.new.disk)) c.in-Ok-false.field-0-test (c.in-Ok-false.ensures.answer from texts coming doubt is))
+
+pub returns-in-Ok-false-clause-crash : goal.returns-in-Ok-false-clause-crash
+returns-in-Ok-false-clause-crash g c =
+    crashes g.D.Disk.device c.args.self.now c.in-Doubtful.stopped c.in-Doubtful.pending (sym c.replace.ensures.value ∙ c.in-Doubtful.is) c.in_default-pending.not-Nothing
+    (g.D.Disk.device c.settle_change.new.disk) c.settle_change.ensures.crash
+
+pub returns-in-Err-clause-still : goal.returns-in-Err-clause-still
+returns-in-Err-clause-still g c =
+    still g.D.Disk.device c.args.self.now c.in-Doubtful.stopped c.in-Doubtful.pending (sym c.replace.ensures.value ∙ c.in-Doubtful.is) c.in_default-pending.not-Nothing
+    c.settle_change.new.disk c.in-Err.stopped c.in-Err.ensures.still
+
+pub returns-in-Err-clause-crash : goal.returns-in-Err-clause-crash
+returns-in-Err-clause-crash g c =
+    crashes g.D.Disk.device c.args.self.now c.in-Doubtful.stopped c.in-Doubtful.pending (sym c.replace.ensures.value ∙ c.in-Doubtful.is) c.in_default-pending.not-Nothing
+    (g.D.Disk.device c.settle_change.new.disk) c.settle_change.ensures.crash
+
+pub apply-requires : goal.apply-requires
+apply-requires g c =
+    let has = c.requires.doubt in
+    let is = sym c.replace.ensures.value ∙ c.in-Doubtful.is in
+    record {
+      whole = whole_is g.D.Disk.device c.args.self.now c.in-Doubtful.stopped c.in-Doubtful.pending is c.in_default-pending.not-Nothing has.texts has.coming has.doubt;
+      fit = fits g.D.Disk.device c.args.self.now c.in-Doubtful.stopped c.in-Doubtful.pending is c.in_default-pending.not-Nothing has.texts has.coming has.doubt;
+      live = live g.D.Disk.device c.args.self.now c.in-Doubtful.stopped c.in-Doubtful.pending is c.in_default-pending.not-Nothing has.texts has.coming has.doubt;
+    }

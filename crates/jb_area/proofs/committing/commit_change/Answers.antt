@@ -1,0 +1,20 @@
+use Rattle.jb_area.proofs.CommitLemmas.{ready_as, done_as, stopped_as, crash_as}
+use Rattle.jb_area.proofs.Outcomes.{if_err_then, on_ok_then2}
+use Rattle.jb_area.proofs.committing.commit_change.Goals as goal
+
+pub commit-requires-clause-ready : goal.commit-requires-clause-ready
+commit-requires-clause-ready g c =
+    let may = c.requires.may in
+    ready_as c.args.redo.now may.from may.texts may.coming (g.D.Disk.device c.args.disk.now) may.settled may.change
+
+pub returns-clause-done : goal.returns-clause-done
+returns-clause-done g c = on_ok_then2 c.commit.result _ _ _ c.commit.ensures.done c.commit.ensures.durable (λ done durable from texts coming settled is.
+    done_as c.args.redo.now (g.D.Disk.device c.args.disk.now) (g.D.Disk.device c.commit.new.disk) from texts coming done durable settled is)
+
+pub returns-clause-doubt : goal.returns-clause-doubt
+returns-clause-doubt g c = if_err_then c.commit.result _ _ c.commit.ensures.in_doubt (λ stopped doubt from texts coming settled is.
+    stopped_as c.args.redo.now stopped (g.D.Disk.device c.args.disk.now) (g.D.Disk.device c.commit.new.disk) from texts c.commit.ensures.silent doubt settled)
+
+pub returns-clause-crash : goal.returns-clause-crash
+returns-clause-crash g c = λ from texts coming settled is was there.
+    crash_as c.args.redo.now (g.D.Disk.device c.args.disk.now) (g.D.Disk.device c.commit.new.disk) from texts coming was (settled.rests was there) is (c.commit.ensures.crash was there)

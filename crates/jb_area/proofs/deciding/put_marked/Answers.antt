@@ -1,0 +1,23 @@
+use Rattle.std.proofs.Common.{◌<◌, List, [], length, Some, None, ap, subst, sym}
+use Rattle.jb_change.specs.Makes.{Makes}
+use Rattle.jb_marks.specs.Places.{IsPlaceOf}
+use Rattle.jb_model.specs.declared.loaded.Loaded.{Loaded}
+use Rattle.jb_model.specs.declared.mark.Mark.{Mark}
+use Rattle.jb_area.proofs.MarkLemmas.{marked_first, marked_last}
+use Rattle.jb_area.proofs.deciding.put_marked.Goals as goal
+
+pub returns-in-Some-clause-makes : goal.returns-in-Some-clause-makes
+returns-in-Some-clause-makes c = λ loaded same.
+    let first : IsPlaceOf c.args.mark.now.user_crc c.args.mark.now.user_id c.args.marks.now (Some c.in-Some.place) =
+    subst (IsPlaceOf c.args.mark.now.user_crc c.args.mark.now.user_id c.args.marks.now) c.in-Some.is c.requires.placed in
+    subst (λ (l : Loaded). Makes c.put_mark.new.redo loaded l [])
+    (marked_first c.args.mark.now c.in-Some.place loaded (subst (λ (m : List Mark). IsPlaceOf c.args.mark.now.user_crc c.args.mark.now.user_id m (Some c.in-Some.place)) (sym same) first))
+    (c.put_mark.ensures.makes loaded loaded [] (c.requires.cleared.makes loaded) (subst (λ (m : List Mark). c.in-Some.place < length m) (sym same) first.within))
+
+pub returns-in-None-clause-makes : goal.returns-in-None-clause-makes
+returns-in-None-clause-makes c = λ loaded same.
+    let none : IsPlaceOf c.args.mark.now.user_crc c.args.mark.now.user_id c.args.marks.now None =
+    subst (IsPlaceOf c.args.mark.now.user_crc c.args.mark.now.user_id c.args.marks.now) c.in-None.is c.requires.placed in
+    subst (λ (l : Loaded). Makes c.put_new_mark.new.redo loaded l [])
+    (marked_last c.args.mark.now loaded (subst (λ (m : List Mark). IsPlaceOf c.args.mark.now.user_crc c.args.mark.now.user_id m None) (sym same) none))
+    (c.put_new_mark.ensures.makes loaded (ap length same))

@@ -1,0 +1,28 @@
+-- What the files of an open area hold, and to what they open after a crash.
+use Rattle.std.specs.Prelude.{◌≡◌, ◌≢◌, ◌⊎◌, ℕ, ◌≤◌, List, ◌++◌, length, slice_index}
+use Rattle.jb_disk.specs.Files.{Files}
+use Rattle.jb_disk.specs.declared.file.FileId.TheVariants.{Jdt, Jnl}
+use Rattle.jb_image.specs.Stands.{Loads}
+use Rattle.jb_model.specs.declared.loaded.Loaded.{Loaded}
+use Rattle.jb_redo.specs.Replay.{Replays}
+
+-- the files hold this area, with these bytes in the file of texts
+pub record Holds (loaded : Loaded) (texts : List ℕ) (files : Files) : Type 0 where
+  pub loads : Loads files loaded
+  pub texts_are : files Jdt ≡ texts
+
+-- and their journal is ready for the next change: it has its head, with the gate closed
+pub record IsAtRest (loaded : Loaded) (texts : List ℕ) (files : Files) : Type 0 where
+  pub holds : Holds loaded texts files
+  pub long : 16 ≤ length (files Jnl)
+  pub shut : slice_index (files Jnl) 0 ≢ 1
+
+-- as they are opened, what the journal holds done once more, they hold this area
+pub record Opens (loaded : Loaded) (texts : List ℕ) (files : Files) : Type 0 where
+  pub after : Files
+  pub replays : Replays files after
+  pub holds : Holds loaded texts after
+
+-- as they are opened they hold the area before a change, or the one after it, with these bytes behind the texts
+abbrev pub OpensToEither : Loaded → Loaded → List ℕ → List ℕ → Files → Type 0
+OpensToEither from to texts text files = Opens from texts files ⊎ Opens to (texts ++ text) files

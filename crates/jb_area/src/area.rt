@@ -1,0 +1,171 @@
+//! The open area, and what becomes of a call that is begun.
+
+use crate::applying::apply;
+use crate::committing::{commit_change, settle_change};
+use crate::held::Held;
+use crate::pending::Pending;
+use crate::stage::Stage;
+use jb_base::AreaRules;
+use jb_disk::{Disk, Redo};
+use jb_journal::Stopped;
+use jb_model::{Loaded, Reply};
+use std::mem;
+
+/// An area whose files are open for changes.
+#[derive(Drop)]
+pub struct OpenArea<D: Disk> {
+    pub(crate) disk: D,
+    pub(crate) rules: AreaRules,
+    pub(crate) held: Held,
+    pub(crate) redo: Redo,
+    pub(crate) stage: Stage,
+}
+
+impl<D: Disk> OpenArea<D> {
+    ghost use Rattle.std.specs.Prelude.{◌≡◌, ◌≤◌, ◌++◌, List, ℕ, Option, Some, IfOk, IfErr, IsTrue, OnOk, OnErr, false};
+    ghost use Rattle.std.specs.Option.{ForSome};
+    ghost use Rattle.jb_base.specs.Fault.{Rose};
+    ghost use Rattle.jb_disk.specs.Device.{Device};
+    ghost use Rattle.jb_disk.specs.Runs.{LeavesOnly};
+    ghost use Rattle.jb_model.specs.declared.reply.Reply.{Reply};
+    ghost use Rattle.jb_area.specs.Holds.{OpensToEither};
+    ghost use Rattle.jb_area.specs.Commits.{Coming};
+    ghost use Rattle.jb_area.specs.Area.{device_of, loaded_of, rules_of, DoubtOpens, HasBegun, HasDoubt, IsBegun, IsDoubtful, IsResting, RestsAt, SettlesAt};
+
+    /// The area without its texts; while a call is begun or in doubt, as it was before that call.
+    pub fn loaded(&self) -> &Loaded
+        ensures { result.now ≡ loaded_of self.now }
+    {
+        &self.held.loaded
+    }
+
+    /// The rules of the area.
+    pub fn rules(&self) -> &AreaRules
+        ensures { result.now ≡ rules_of self.now }
+    {
+        &self.rules
+    }
+
+    /// Commits the change of the call that is begun, and answers the reply that [`coming`](OpenArea::coming) lends. Takes
+    /// no memory. Where it is stopped by a fault of the device, the area is in doubt.
+    pub fn finish(&mut self) -> Result<Reply, Stopped>
+        requires begun { HasBegun D.device self.old }
+
+        // Done: the reply that was decided, and the area that was to come, which the files then hold.
+        ensures done { IfOk result (λ reply. (texts : List ℕ) (decided : Reply) (coming : Coming) → IsBegun D.device self.old texts decided coming
+            → (reply ≡ decided) × RestsAt D.device self.new (texts ++ coming.text) coming.to) }
+
+        // Stopped: only by a fault, and with a change that may stand or not.
+        ensures doubt { OnErr result ((texts : List ℕ) (decided : Reply) (coming : Coming) → IsBegun D.device self.old texts decided coming
+            → IsDoubtful D.device self.new texts (Some coming)) }
+        ensures cause { OnErr result (Rose (device_of D.device self.old).faults (device_of D.device self.new).faults) }
+        ensures later { (device_of D.device self.old).faults ≤ (device_of D.device self.new).faults }
+
+        // A crash at any moment leaves what opens to the area before the call or after it.
+        ensures crash { (texts : List ℕ) (decided : Reply) (coming : Coming) → IsBegun D.device self.old texts decided coming
+            → ForSome (device_of D.device self.old).contents (λ _. LeavesOnly (device_of D.device self.old) (device_of D.device self.new) (OpensToEither (loaded_of self.old) coming.to texts coming.text)) }
+        ensures rules { rules_of self.new ≡ rules_of self.old }
+    {
+        let Stage::Begun { reply, pending } = mem::replace(&mut self.stage, Stage::Resting) else {
+            unreachable!()
+        };
+        if let Pending::Nothing = pending {
+            return Ok(reply);
+        }
+        match commit_change(&mut self.disk, &self.redo) {
+            Ok(()) => {
+                apply(&mut self.held, pending);
+                Ok(reply)
+            }
+            Err(stopped) => {
+                self.stage = Stage::Doubtful { stopped, pending };
+                Err(stopped)
+            }
+        }
+    }
+
+    /// The reply that the call that is begun will have.
+    pub fn coming(&self) -> &Reply
+        requires begun { HasBegun D.device self.now }
+        ensures { (texts : List ℕ) (decided : Reply) (coming : Coming) → IsBegun D.device self.now texts decided coming → result.now ≡ decided }
+    {
+        let Stage::Begun { reply, pending: _ } = &self.stage else {
+            unreachable!()
+        };
+        reply
+    }
+
+    /// Drops the call that is begun. Nothing has changed.
+    pub fn abandon(&mut self)
+        requires begun { HasBegun D.device self.old }
+        ensures rests { (texts : List ℕ) (decided : Reply) (coming : Coming) → IsBegun D.device self.old texts decided coming
+            → RestsAt D.device self.new texts (loaded_of self.old) }
+        ensures device { device_of D.device self.new ≡ device_of D.device self.old }
+        ensures rules { rules_of self.new ≡ rules_of self.old }
+    {
+        self.stage = Stage::Resting;
+    }
+
+    /// Whether a call was stopped by a fault of the device and is not settled.
+    pub fn in_doubt(&self) -> bool
+        ensures doubt { HasDoubt D.device self.now → IsTrue result }
+        ensures rests { (texts : List ℕ) → IsResting D.device self.now texts → result ≡ false }
+        ensures begun { HasBegun D.device self.now → result ≡ false }
+    {
+        matches!(self.stage, Stage::Doubtful { .. })
+    }
+
+    /// Settles the call that was stopped, and answers whether its change stands; a call that had no change answers false.
+    /// Takes no memory. Where it is stopped again, the area stays in doubt.
+    pub fn reopen(&mut self) -> Result<bool, Stopped>
+        requires doubt { HasDoubt D.device self.old }
+
+        // Settled as it answers.
+        ensures settled { IfOk result (λ stands. (texts : List ℕ) (coming : Option Coming) → IsDoubtful D.device self.old texts coming
+            → SettlesAt D.device stands (loaded_of self.old) texts coming self.new) }
+
+        // Stopped: only by a fault, and in doubt as before.
+        ensures still { OnErr result ((texts : List ℕ) (coming : Option Coming) → IsDoubtful D.device self.old texts coming
+            → IsDoubtful D.device self.new texts coming) }
+        ensures cause { OnErr result (Rose (device_of D.device self.old).faults (device_of D.device self.new).faults) }
+        ensures later { (device_of D.device self.old).faults ≤ (device_of D.device self.new).faults }
+
+        // A crash at any moment leaves what the doubt allows.
+        ensures crash { (texts : List ℕ) (coming : Option Coming) → IsDoubtful D.device self.old texts coming
+            → ForSome (device_of D.device self.old).contents (λ _. LeavesOnly (device_of D.device self.old) (device_of D.device self.new) (DoubtOpens (loaded_of self.old) texts coming)) }
+        ensures rules { rules_of self.new ≡ rules_of self.old }
+    {
+        let Stage::Doubtful { stopped, pending } = mem::replace(&mut self.stage, Stage::Resting)
+        else {
+            unreachable!()
+        };
+        if let Pending::Nothing = pending {
+            return Ok(false);
+        }
+        match settle_change(&mut self.disk, &self.redo, stopped) {
+            Ok(true) => {
+                apply(&mut self.held, pending);
+                Ok(true)
+            }
+            Ok(false) => Ok(false),
+            Err(stopped) => {
+                self.stage = Stage::Doubtful { stopped, pending };
+                Err(stopped)
+            }
+        }
+    }
+
+    /// The disk with the area's files.
+    pub fn close(self) -> D
+        ensures { device_of D.device self ≡ D.device result }
+    {
+        let OpenArea {
+            disk,
+            rules: _,
+            held: _,
+            redo: _,
+            stage: _,
+        } = self;
+        disk
+    }
+}

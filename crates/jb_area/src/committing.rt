@@ -1,0 +1,47 @@
+//! A change of an area, committed and settled.
+ghost use Rattle.std.specs.Prelude.{◌≡◌, ◌≤◌, ◌++◌, List, ℕ, None, IfOk, IfErr, OnErr, OnOk};
+ghost use Rattle.std.specs.Option.{ForSome};
+ghost use Rattle.jb_base.specs.Fault.{Rose};
+ghost use Rattle.jb_disk.specs.Runs.{LeavesOnly};
+ghost use Rattle.jb_model.specs.declared.loaded.Loaded.{Loaded};
+ghost use Rattle.jb_area.specs.Commits.{Coming, IsAnsweredAs, IsChange, IsSettledAs, IsStoppedAs, MayCommit, MaySettle};
+ghost use Rattle.jb_area.specs.Holds.{OpensToEither};
+
+use jb_disk::{Disk, Redo};
+use jb_journal::{Stopped, commit, settle};
+
+/// Commits a change of the area that the files hold.
+pub(crate) fn commit_change<D: Disk>(disk: &mut D, redo: &Redo) -> Result<(), Stopped>
+    requires may { MayCommit redo.now (D.device disk.old) }
+    ensures done { OnOk result ((from : Loaded) (texts : List ℕ) (coming : Coming) → IsSettledAs from texts (D.device disk.old)
+        → IsChange redo.now from coming → IsSettledAs coming.to (texts ++ coming.text) (D.device disk.new)) }
+    ensures doubt { IfErr result (λ stopped. (from : Loaded) (texts : List ℕ) (coming : Coming) → IsSettledAs from texts (D.device disk.old)
+        → IsChange redo.now from coming → IsStoppedAs stopped redo.now from texts (D.device disk.new)) }
+    ensures cause { OnErr result (Rose (D.device disk.old).faults (D.device disk.new).faults) }
+    ensures later { (D.device disk.old).faults ≤ (D.device disk.new).faults }
+    ensures crash { (from : Loaded) (texts : List ℕ) (coming : Coming) → IsSettledAs from texts (D.device disk.old)
+        → IsChange redo.now from coming
+        → ForSome (D.device disk.old).contents (λ _. LeavesOnly (D.device disk.old) (D.device disk.new) (OpensToEither from coming.to texts coming.text)) }
+{
+    commit(disk, redo)
+}
+
+/// Settles whether a change stands whose commit was stopped.
+pub(crate) fn settle_change<D: Disk>(
+    disk: &mut D,
+    redo: &Redo,
+    stopped: Stopped,
+) -> Result<bool, Stopped>
+    requires may { MaySettle stopped redo.now (D.device disk.old) }
+    ensures answer { IfOk result (λ stands. (from : Loaded) (texts : List ℕ) (coming : Coming) → IsStoppedAs stopped redo.now from texts (D.device disk.old)
+        → IsChange redo.now from coming → IsAnsweredAs stands from texts coming (D.device disk.new)) }
+    ensures still { IfErr result (λ again. (from : Loaded) (texts : List ℕ) (coming : Coming) → IsStoppedAs stopped redo.now from texts (D.device disk.old)
+        → IsChange redo.now from coming → IsStoppedAs again redo.now from texts (D.device disk.new)) }
+    ensures cause { OnErr result (Rose (D.device disk.old).faults (D.device disk.new).faults) }
+    ensures later { (D.device disk.old).faults ≤ (D.device disk.new).faults }
+    ensures crash { (from : Loaded) (texts : List ℕ) (coming : Coming) → IsStoppedAs stopped redo.now from texts (D.device disk.old)
+        → IsChange redo.now from coming
+        → ForSome (D.device disk.old).contents (λ _. LeavesOnly (D.device disk.old) (D.device disk.new) (OpensToEither from coming.to texts coming.text)) }
+{
+    settle(disk, redo, stopped)
+}

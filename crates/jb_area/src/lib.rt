@@ -1,0 +1,37 @@
+//! An open area: what its files hold, in memory but for the texts, over the disk that has the files.
+//!
+//! The layer above may rely on this, where the disk tells what it holds. Each call of a command answers what the definition of
+//! the command says (`Step` of `jb_model`), and leaves the area and its files as that says, all synced. Each is one change
+//! through the journal, so a crash at any moment leaves what opens to the area before the call or to the one after it. A fault
+//! of the device leaves the area in doubt between the two; [`OpenArea::reopen`] settles that and answers which. A call may be
+//! done in two parts: [`OpenArea::begin`] decides, takes all memory and reads all that is needed, and writes nothing;
+//! [`OpenArea::finish`] commits and takes no memory, or [`OpenArea::abandon`] drops it. Packs come later.
+//!
+//! No call writes more than what changed. A kill writes 12 bytes of .JHR, a mark 16 of .JLR, a reading 20 of .JHR after one
+//! read of .JDT; a post its header and subfields, its text, one index record and 20 bytes of .JHR at most beside; a relink
+//! 12 bytes for each message whose links are others. None of them grows with the area but a relink, and in memory alone a
+//! post, which looks once through the slots for the message that it answers. Each is one commit of `jb_journal`.
+#![tactic(auto)]
+
+mod applying;
+mod area;
+mod calls;
+mod commands;
+mod committing;
+mod decided;
+mod deciding;
+mod error;
+mod held;
+mod opening;
+mod pending;
+mod posting;
+mod reading;
+mod relinking;
+mod stage;
+mod texts;
+
+pub use area::OpenArea;
+pub use error::AreaError;
+
+#[cfg(test)]
+mod tests;

@@ -1,0 +1,16 @@
+//! What is on its way in an open area.
+
+use crate::pending::Pending;
+use jb_journal::Stopped;
+use jb_model::Reply;
+
+/// What is on its way in an open area.
+#[derive(Debug, Drop)]
+pub(crate) enum Stage {
+    /// Nothing.
+    Resting,
+    /// A call is begun, which will be answered so.
+    Begun { reply: Reply, pending: Pending },
+    /// A call was stopped by a fault of the device; where it had a change, its commit was stopped there.
+    Doubtful { stopped: Stopped, pending: Pending },
+}

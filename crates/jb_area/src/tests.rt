@@ -1,0 +1,504 @@
+//! Whole calls over files in memory. The bytes come from outside.
+ghost use Rattle.std.specs.Prelude.{IfOk, ◌≡◌, None, Ok};
+ghost use Rattle.jb_area.specs.Area.{HasDoubt};
+ghost use Rattle.jb_area.specs.Calls.{HasRest};
+ghost use Rattle.jb_base.specs.declared.area.AreaRules.{AreaRules};
+ghost use Rattle.jb_disk.specs.Silent.{silent_device};
+ghost use Rattle.jb_model.specs.Sound.{IsSound};
+
+use crate::{AreaError, OpenArea};
+use jb_base::{AreaRules, Bytes, Kind, Name, OutOfMemory, Rule, User};
+use jb_disk::{Disk, DiskFailed, FileId, MemDisk};
+use jb_image::decode;
+use jb_journal::recover;
+use jb_model::{Letter, Loaded, Reply};
+use jb_step::Draft;
+use std::alloc::Global;
+use std::process::Abort;
+use std::test::Fail;
+
+/// The moment of every call, in seconds since 1970.
+const MOMENT: u32 = 1_000_000_000;
+
+// The fields of the fixed header of an empty base with number 1; 1,000 zeros stand behind them.
+const FIXED: &[u8] = b"JAM\0\x00\xCA\x9A\x3B\0\0\0\0\0\0\0\0\xFF\xFF\xFF\xFF\x01\0\0\0";
+
+// The same after one post.
+const FIXED_AFTER: &[u8] = b"JAM\0\x00\xCA\x9A\x3B\x01\0\0\0\x01\0\0\0\xFF\xFF\xFF\xFF\x01\0\0\0";
+
+// The header of message 1 to `Hello` from `Test`, with a text of five bytes at the beginning of .JDT.
+const HEADER: &[u8] =
+    b"JAM\0\x01\0\0\0\x40\0\0\0\0\0\0\0\x53\x1F\xD7\xCB\xFF\xFF\xFF\xFF\0\0\0\0\0\0\0\0\0\0\0\0\x00\xCA\x9A\x3B\0\0\0\0\0\0\0\0\x01\0\0\0\x01\0\x80\0\0\0\0\0\0\0\0\0\x05\0\0\0\xFF\xFF\xFF\xFF\0\0\0\0";
+
+// Its subfields, of 12, 13, 28 and 11 bytes.
+const SUBFIELDS: &[u8] =
+    b"\x02\0\0\0\x04\0\0\0Test\x03\0\0\0\x05\0\0\0Hello\x04\0\0\0\x14\0\0\x002:5020/1042 01000001\x06\0\0\0\x03\0\0\0abc";
+
+// Its index record.
+const ENTRY: &[u8] = b"\x79\x59\xEF\xC9\x00\x04\x00\x00";
+
+// The mark of Test at 1.
+const MARK: &[u8] = b"\xF3\x81\x80\x27\x07\0\0\0\x01\0\0\0\x01\0\0\0";
+
+/// A disk in memory that tells nothing, as one over real files.
+#[derive(Drop)]
+struct Quiet {
+    disk: MemDisk,
+    faults: u64,
+}
+
+impl Disk for Quiet {
+    ghost use Rattle.jb_disk.specs.Silent.{silent_device, tells_nothing};
+
+    ghost device = { λ disk. silent_device disk.faults };
+
+    fn len(&mut self, file: FileId) -> Result<u64, DiskFailed> {
+        match self.disk.len(file) {
+            Ok(len) => Ok(len),
+            Err(failed) => {
+                self.faults = self.faults.saturating_add(1);
+                Err(failed)
+            }
+        }
+    }
+
+    fn read_at(&mut self, file: FileId, at: u64, into: &mut [u8]) -> Result<(), DiskFailed> {
+        match self.disk.read_at(file, at, into) {
+            Ok(()) => Ok(()),
+            Err(failed) => {
+                self.faults = self.faults.saturating_add(1);
+                Err(failed)
+            }
+        }
+    }
+
+    fn write_at(&mut self, file: FileId, at: u64, bytes: &[u8]) -> Result<(), DiskFailed> {
+        match self.disk.write_at(file, at, bytes) {
+            Ok(()) => Ok(()),
+            Err(failed) => {
+                self.faults = self.faults.saturating_add(1);
+                Err(failed)
+            }
+        }
+    }
+
+    fn set_len(&mut self, file: FileId, len: u64) -> Result<(), DiskFailed> {
+        match self.disk.set_len(file, len) {
+            Ok(()) => Ok(()),
+            Err(failed) => {
+                self.faults = self.faults.saturating_add(1);
+                Err(failed)
+            }
+        }
+    }
+
+    fn sync(&mut self, file: FileId) -> Result<(), DiskFailed> {
+        match self.disk.sync(file) {
+            Ok(()) => Ok(()),
+            Err(failed) => {
+                self.faults = self.faults.saturating_add(1);
+                Err(failed)
+            }
+        }
+    }
+
+    ghost told = { λ disk. tells_nothing disk.faults };
+}
+
+/// What a user does.
+#[derive(Clone, Copy, Debug)]
+enum Act<'a> {
+    Post(Draft<'a>),
+    Read(u32),
+    Peek(u32),
+    Kill(u32),
+    SetMark(u32),
+}
+
+/// What is answered.
+#[derive(Clone, Copy, Debug)]
+enum Wanted<'a> {
+    Posted(u32),
+    Shown(&'a [u8]),
+    Linked(u32, u32),
+    Killed(u32),
+    Marked(u32, u32),
+    NoMessage(u32),
+    NotAllowed,
+}
+
+// A user with this name, number and level.
+fn user(alloc: Global, name: &[u8], id: u32, level: u8) -> Result<User, OutOfMemory> {
+    let name = Name::copy(alloc, name)?;
+    Ok(User { name, id, level })
+}
+
+// A public draft about `abc`, in reply to this number or to 0.
+fn draft<'a>(to: &'a [u8], text: &'a [u8], reply_to: u32) -> Draft<'a> {
+    Draft {
+        to,
+        subject: b"abc",
+        text,
+        reply_to,
+        private: false,
+    }
+}
+
+// .JHR with these fields of the fixed header, and what stands behind it.
+fn headers(alloc: Global, fixed: &[u8], behind: &[&[u8]]) -> Result<Bytes, OutOfMemory> {
+    let mut headers = Bytes::copy(alloc, fixed)?;
+    headers.append(&[0; 1_000])?;
+    for part in behind {
+        headers.append(part)?;
+    }
+    Ok(headers)
+}
+
+// A disk with the empty base and a prepared journal, that fails the calls with these numbers.
+fn disk(alloc: Global, failing: &[u64]) -> Result<Quiet, OutOfMemory> {
+    let files = [
+        headers(alloc, FIXED, &[])?,
+        Bytes::new(alloc),
+        Bytes::new(alloc),
+        Bytes::new(alloc),
+        Bytes::copy(alloc, &[0; 16])?,
+        Bytes::new(alloc),
+    ];
+    let disk = MemDisk::new(alloc, files, failing.to_vec(alloc)?)?;
+    Ok(Quiet { disk, faults: 0 })
+}
+
+// A local area, read and posted in from level 10 on, and tended from 200 on.
+fn rules(alloc: Global, address: &[u8]) -> Result<AreaRules, OutOfMemory>
+    ensures slots { IfOk result (λ rules. rules.slots ≡ 65000) }
+    ensures address { IfOk result (λ rules. rules.address ≡ address.now) }
+{
+    Ok(AreaRules {
+        ordinal: 1,
+        address: Bytes::copy(alloc, address)?,
+        kind: Kind::Local,
+        read: 10,
+        post: 10,
+        sysop: 200,
+        slots: 65_000,
+    })
+}
+
+// The area over the disk, which tells nothing.
+fn over<D: Disk + Drop, R: Abort>(
+    rt: &R,
+    alloc: Global,
+    disk: D,
+    loaded: Loaded,
+) -> Result<OpenArea<D>, OutOfMemory>
+    requires sound { IsSound 65000 loaded }
+    requires silent { (D.device disk).contents ≡ None }
+    ensures { IfOk result (HasRest D.device) }
+{
+    let rules = rules(alloc, b"2:5020/1042")?;
+    assert!(rt; rules.address.as_slice().len() <= 24);
+    match OpenArea::from_loaded(alloc, disk, loaded, rules) {
+        Ok(area) => Ok(area),
+        Err(_) => Err(OutOfMemory),
+    }
+}
+
+// The empty area, on a disk that fails the calls with these numbers.
+fn area<R: Abort>(rt: &R, alloc: Global, failing: &[u64]) -> Result<OpenArea<Quiet>, OutOfMemory>
+    ensures { IfOk result (HasRest (λ disk. silent_device disk.faults)) }
+{
+    let mut quiet = disk(alloc, failing)?;
+    match decode(alloc, &mut quiet, 65_000) {
+        Ok(loaded) => over(rt, alloc, quiet, loaded),
+        Err(error) => panic!(rt; "{error:?}"),
+    }
+}
+
+// The reply of a call that no fault stops.
+fn replied<R: Abort>(rt: &R, answer: Result<Reply, AreaError>) -> Reply
+    ensures { answer ≡ Ok result }
+{
+    match answer {
+        Ok(reply) => reply,
+        Err(error) => panic!(rt; "{error}"),
+    }
+}
+
+// What a user is answered.
+fn told<D: Disk, R: Abort>(
+    rt: &R,
+    alloc: Global,
+    area: &mut OpenArea<D>,
+    user: &User,
+    act: Act<'_>,
+) -> Reply
+    requires { HasRest D.device area.old }
+    ensures { HasRest D.device area.new }
+{
+    assert!(rt; user.name.as_slice().len() <= 36);
+    match act {
+        Act::Post(draft) => {
+            let answer = area.post(alloc, user, MOMENT, draft);
+            return replied(rt, answer);
+        }
+        Act::Read(number) => {
+            let answer = area.read(alloc, user, MOMENT, number);
+            return replied(rt, answer);
+        }
+        Act::Peek(number) => {
+            let answer = area.peek(alloc, user, number);
+            return replied(rt, answer);
+        }
+        Act::Kill(number) => {
+            let answer = area.kill(user, number);
+            return replied(rt, answer);
+        }
+        Act::SetMark(number) => {
+            let answer = area.set_mark(user, number);
+            return replied(rt, answer);
+        }
+    }
+}
+
+// Whether a letter shows what is wanted of it: its text, or its ReplyTo and Reply1st.
+fn shows(letter: &Letter, wanted: Wanted<'_>) -> bool {
+    match wanted {
+        Wanted::Shown(text) => letter.text.as_slice() == text,
+        Wanted::Linked(to, first) => letter.reply_to == to && letter.reply_first == first,
+        _ => false,
+    }
+}
+
+// Whether this is the reply that is wanted.
+fn is(reply: &Reply, wanted: Wanted<'_>) -> bool {
+    match reply {
+        Reply::Posted { number } => matches!(wanted, Wanted::Posted(n) if n == *number),
+        Reply::Text { letter } => shows(letter, wanted),
+        Reply::Killed { number } => matches!(wanted, Wanted::Killed(n) if n == *number),
+        Reply::Marked { last, high } => {
+            matches!(wanted, Wanted::Marked(l, h) if l == *last && h == *high)
+        }
+        Reply::NoMessage { number } => matches!(wanted, Wanted::NoMessage(n) if n == *number),
+        Reply::Denied { rule } => *rule == Rule::A4 && matches!(wanted, Wanted::NotAllowed),
+        _ => false,
+    }
+}
+
+// Each user is answered as is wanted, one after another.
+fn answers<D: Disk, R: Abort>(
+    rt: &R,
+    alloc: Global,
+    area: &mut OpenArea<D>,
+    rows: &[(&User, Act<'_>, Wanted<'_>)],
+)
+    requires { HasRest D.device area.old }
+    ensures { HasRest D.device area.new }
+{
+    for row in rows {
+        let (user, act, wanted) = *row;
+        let reply = told(rt, alloc, area, user, act);
+        assert!(rt; is(&reply, wanted), "{act:?}");
+    }
+}
+
+// The files after the one post and the mark.
+fn posted_to_the_byte<R: Abort>(rt: &R, alloc: Global, disk: &MemDisk) -> Result<(), OutOfMemory> {
+    let wanted = headers(alloc, FIXED_AFTER, &[HEADER, SUBFIELDS])?;
+    assert_eq!(rt; wanted.as_slice().len(), 1_164);
+    assert!(rt; disk.file(FileId::Jhr) == wanted.as_slice());
+    assert_eq!(rt; disk.file(FileId::Jdt), b"Good\r".as_slice());
+    assert_eq!(rt; disk.file(FileId::Jdx), ENTRY);
+    assert_eq!(rt; disk.file(FileId::Jlr), MARK);
+    Ok(())
+}
+
+// TimesRead, DateReceived and Attribute of the message after one reading by its receiver.
+fn read_to_the_byte<R: Abort>(rt: &R, disk: &MemDisk) {
+    let now = disk.file(FileId::Jhr);
+    assert_eq!(rt; now.len(), 1_164);
+    assert_eq!(rt; &now[1_036..1_040], b"\x01\0\0\0".as_slice());
+    assert_eq!(rt; &now[1_064..1_068], b"\x00\xCA\x9A\x3B".as_slice());
+    assert_eq!(rt; &now[1_076..1_080], b"\x09\0\x80\0".as_slice());
+}
+
+// A kill that a fault of the device stops.
+fn stopped_kill<D: Disk, R: Abort>(rt: &R, area: &mut OpenArea<D>, user: &User, number: u32)
+    requires { HasRest D.device area.old }
+    ensures { HasDoubt D.device area.new }
+{
+    match area.kill(user, number) {
+        Err(AreaError::StoreFault) => {}
+        _ => panic!(rt; "the kill was not stopped"),
+    }
+}
+
+// What the reopening of an area answers.
+fn reopened<D: Disk, R: Abort>(rt: &R, area: &mut OpenArea<D>) -> bool
+    requires { HasDoubt D.device area.old }
+    ensures { HasRest D.device area.new }
+{
+    match area.reopen() {
+        Ok(stands) => stands,
+        Err(_) => panic!(rt; "the reopening was stopped"),
+    }
+}
+
+#[test]
+fn a_post_and_a_mark_are_in_the_files_to_the_byte(rt: HostRuntime) -> Result<(), Fail> {
+    let alloc = rt.alloc();
+    let mut area = area(&rt, alloc, &[])?;
+    let test = user(alloc, b"Test", 7, 50)?;
+    let hello = user(alloc, b"Hello", 8, 50)?;
+    let good = Act::Post(draft(b"Hello", b"Good\r", 0));
+    let rows = [
+        (&test, good, Wanted::Posted(1)),
+        (&test, Act::SetMark(1), Wanted::Marked(1, 1)),
+        (&test, Act::SetMark(2), Wanted::NoMessage(2)),
+        (&test, Act::Peek(1), Wanted::Shown(b"Good\r")),
+    ];
+    answers(&rt, alloc, &mut area, &rows);
+    posted_to_the_byte(&rt, alloc, &area.disk.disk)?;
+    let rows = [
+        (&test, Act::SetMark(0), Wanted::Marked(0, 1)),
+        (&hello, Act::Read(1), Wanted::Shown(b"Good\r")),
+    ];
+    answers(&rt, alloc, &mut area, &rows);
+    read_to_the_byte(&rt, &area.disk.disk);
+    Ok(())
+}
+
+// Two public messages, the second in reply to the first, and a private one.
+fn three_posts<D: Disk, R: Abort>(
+    rt: &R,
+    alloc: Global,
+    area: &mut OpenArea<D>,
+    hello: &User,
+    test: &User,
+)
+    requires { HasRest D.device area.old }
+    ensures { HasRest D.device area.new }
+{
+    let first = Act::Post(draft(b"All", b"one", 0));
+    answers(rt, alloc, area, &[(hello, first, Wanted::Posted(1))]);
+    let second = Act::Post(draft(b"Hello", b"two", 1));
+    answers(rt, alloc, area, &[(test, second, Wanted::Posted(2))]);
+    let hidden = Act::Post(Draft {
+        private: true,
+        ..draft(b"Sysop", b"three", 0)
+    });
+    answers(rt, alloc, area, &[(hello, hidden, Wanted::Posted(3))]);
+}
+
+#[test]
+fn a_private_message_is_hidden_and_a_reply_is_linked(rt: HostRuntime) -> Result<(), Fail> {
+    let alloc = rt.alloc();
+    let test = user(alloc, b"Test", 7, 50)?;
+    let hello = user(alloc, b"Hello", 8, 50)?;
+    let sysop = user(alloc, b"Sysop", 1, 255)?;
+    let mut area = area(&rt, alloc, &[])?;
+    three_posts(&rt, alloc, &mut area, &hello, &test);
+    let rows = [
+        (&test, Act::Peek(1), Wanted::Linked(0, 2)),
+        (&test, Act::Peek(2), Wanted::Linked(1, 0)),
+        (&test, Act::Read(3), Wanted::NoMessage(3)),
+        (&sysop, Act::Read(3), Wanted::Shown(b"three")),
+    ];
+    answers(&rt, alloc, &mut area, &rows);
+    let rows = [
+        (&test, Act::Kill(1), Wanted::NotAllowed),
+        (&hello, Act::Kill(1), Wanted::Killed(1)),
+        (&hello, Act::Peek(1), Wanted::NoMessage(1)),
+    ];
+    answers(&rt, alloc, &mut area, &rows);
+    Ok(())
+}
+
+// How many calls there are before a kill; a kill makes 16.
+fn calls_before_a_kill<R: Abort>(rt: &R, alloc: Global, user: &User) -> Result<u64, OutOfMemory> {
+    let mut area = area(rt, alloc, &[])?;
+    let good = Act::Post(draft(b"Hello", b"Good\r", 0));
+    answers(rt, alloc, &mut area, &[(user, good, Wanted::Posted(1))]);
+    let before = area.disk.disk.calls();
+    answers(
+        rt,
+        alloc,
+        &mut area,
+        &[(user, Act::Kill(1), Wanted::Killed(1))],
+    );
+    assert_eq!(rt; area.disk.disk.calls(), before.wrapping_add(16));
+    Ok(before)
+}
+
+// A kill that is stopped at this call, and then stands or falls.
+fn kill_stops<R: Abort>(
+    rt: &R,
+    alloc: Global,
+    user: &User,
+    call: u64,
+    stands: bool,
+) -> Result<(), OutOfMemory> {
+    let mut area = area(rt, alloc, &[call])?;
+    let good = Act::Post(draft(b"Hello", b"Good\r", 0));
+    answers(rt, alloc, &mut area, &[(user, good, Wanted::Posted(1))]);
+    assert!(rt; !area.in_doubt());
+    stopped_kill(rt, &mut area, user, 1);
+    assert!(rt; area.in_doubt());
+    assert_eq!(rt; reopened(rt, &mut area), stands);
+    assert!(rt; !area.in_doubt());
+    let wanted = if stands {
+        Wanted::NoMessage(1)
+    } else {
+        Wanted::Shown(b"Good\r")
+    };
+    answers(rt, alloc, &mut area, &[(user, Act::Peek(1), wanted)]);
+    Ok(())
+}
+
+#[test]
+fn a_kill_that_is_stopped_falls_or_stands_as_reopen_answers(rt: HostRuntime) -> Result<(), Fail> {
+    let alloc = rt.alloc();
+    let test = user(alloc, b"Test", 7, 50)?;
+    let before = calls_before_a_kill(&rt, alloc, &test)?;
+    kill_stops(&rt, alloc, &test, before.wrapping_add(9), false)?;
+    kill_stops(&rt, alloc, &test, before.wrapping_add(14), true)?;
+    Ok(())
+}
+
+// What a crash after this call of a post leaves, for each pick.
+fn post_stops<R: Abort>(
+    rt: &R,
+    alloc: Global,
+    disk: &MemDisk,
+    before: u64,
+    call: u64,
+) -> Result<(), Fail> {
+    let after = before.wrapping_add(call);
+    for pick in 0..4 {
+        assert!(rt; after <= disk.calls());
+        assert!(rt; pick <= 3);
+        let mut left = disk.crashed(after, pick)?;
+        assert!(rt; recover(&mut left).is_ok());
+        let loaded = decode(alloc, &mut left, 65_000)?;
+        let count = loaded.slots.as_slice().len();
+        assert!(rt; count == 1 || call < 20, "call {call}, pick {pick}");
+        assert!(rt; count == 0 || call > 18, "call {call}, pick {pick}");
+        assert!(rt; count <= 1);
+        assert_eq!(rt; loaded.active as usize, count);
+    }
+    Ok(())
+}
+
+#[test]
+fn a_post_that_is_stopped_at_any_moment_is_there_or_not(rt: HostRuntime) -> Result<(), Fail> {
+    let alloc = rt.alloc();
+    let test = user(alloc, b"Test", 7, 50)?;
+    let good = Act::Post(draft(b"Hello", b"Good\r", 0));
+    let mut area = area(&rt, alloc, &[])?;
+    let before = area.disk.disk.calls();
+    answers(&rt, alloc, &mut area, &[(&test, good, Wanted::Posted(1))]);
+    assert_eq!(rt; area.disk.disk.calls(), before.wrapping_add(33));
+    for call in 0..34 {
+        post_stops(&rt, alloc, &area.disk.disk, before, call)?;
+    }
+    Ok(())
+}
