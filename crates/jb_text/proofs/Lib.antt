@@ -1,0 +1,4 @@
+pub mod DateLemmas
+mod Growing
+pub mod LetterLemmas
+mod Rows

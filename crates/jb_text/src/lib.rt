@@ -1,0 +1,24 @@
+//! The texts that a session says, byte for byte: prompts and fixed lines, lists of areas and of messages, a message as its
+//! reader sees it, the line of each reply and fault of an area, and the date of a moment.
+//!
+//! The layer above may rely on the definitions in `specs/`: each call gives exactly the bytes that they say. Lines end with
+//! CR LF (RFC 854, "The NVT printer and keyboard"). Names, subjects and texts come from others: a control character in them
+//! (a byte below 32, or 127) is shown as `?`, all other bytes as they are. The byte 255 is not doubled here: what sends the
+//! text to a terminal does that. [`start`] and [`letter`] give whole lines with their ends, the others one line without
+//! its end. Each call takes a time and memory that grow as the bytes it is given and gives.
+#![tactic(auto)]
+
+mod answers;
+mod dates;
+mod letters;
+mod lines;
+mod standing;
+#[cfg(test)]
+mod tests;
+mod writing;
+
+pub use answers::{fault, reply};
+pub use dates::date;
+pub use letters::letter;
+pub use lines::{area_line, figures, fixed, listing, prompt, replying, start, welcome};
+pub use standing::Fixed;
