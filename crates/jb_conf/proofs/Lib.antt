@@ -1,0 +1,9 @@
+pub mod Answering
+pub mod Boards
+pub mod Bounds
+pub mod Digests
+pub mod FieldFaults
+pub mod FoundFields
+pub mod Named
+pub mod NumberFields
+pub mod TableLists

@@ -1,0 +1,10 @@
+pub mod Areas
+pub mod Faults
+pub mod InRange
+pub mod LogIn
+pub mod Names
+pub mod Ranges
+pub mod Rows
+pub mod Settings
+pub mod Tables
+pub mod Users

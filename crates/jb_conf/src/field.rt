@@ -1,0 +1,167 @@
+//! The fields of the settings file, and how they are named.
+ghost use Rattle.std.specs.Prelude.{◌≡◌, ◌≤◌, ◌++◌, length};
+ghost use Rattle.jb_conf.specs.Names.{field_name, key_of, owned_name};
+
+use arrayvec::ArrayString;
+use itoa::Buffer;
+use std::fmt;
+
+/// The name of a field: at most 32 bytes. It takes no memory.
+pub type FieldName = ArrayString<32>;
+
+/// A key of the board itself. The fields are tested in this order.
+#[derive(Clone, Copy, Debug, PartialEq, Eq)]
+pub enum BoardKey {
+    /// `name`: what the board calls itself.
+    Name,
+    /// `address`: what stands in front in each MSGID (FTS-0009, "MSGID").
+    Address,
+    /// `port`: where callers reach it.
+    Port,
+    /// `nodes`: how many callers it takes at once.
+    Nodes,
+    /// `offset`: minutes between its local time and UTC, east of Greenwich above 0.
+    Offset,
+    /// `pack_minutes`: minutes between two packs; 0 for none.
+    PackMinutes,
+    /// `area`: the areas, as an array of tables.
+    Areas,
+    /// `user`: the users, as an array of tables.
+    Users,
+}
+
+/// A key of an area, in the order of the tests.
+#[derive(Clone, Copy, Debug, PartialEq, Eq)]
+pub enum AreaKey {
+    /// `name`: what the menus call it.
+    Name,
+    /// `dir`: the folder of its files.
+    Dir,
+    /// `base`: the name of its files, without their extensions.
+    Base,
+    /// `kind`: `local` or `echo`.
+    Kind,
+    /// `read`: the least level that reads.
+    Read,
+    /// `post`: the least level that posts.
+    Post,
+    /// `sysop`: the least level that tends it.
+    Sysop,
+    /// `slots`: the most messages that it holds.
+    Slots,
+}
+
+/// A key of a user, in the order of the tests.
+#[derive(Clone, Copy, Debug, PartialEq, Eq)]
+pub enum UserKey {
+    /// `name`: the name that logs in.
+    Name,
+    /// `id`: the number that lastread records carry.
+    Id,
+    /// `level`: what the levels of an area are compared with.
+    Level,
+    /// `salt`: what stands before the password in what is digested.
+    Salt,
+    /// `digest`: the SHA-256 of salt and password, in hexadecimal digits.
+    Digest,
+}
+
+/// A field of the settings file. Areas and users are counted from 1.
+#[derive(Clone, Copy, Debug, PartialEq, Eq)]
+pub enum Field {
+    Board(BoardKey),
+    Area(u32, AreaKey),
+    User(u32, UserKey),
+}
+
+fn board_key(key: BoardKey) -> &'static str
+    ensures { result.now ≡ key_of (Field.Board key) }
+{
+    match key {
+        BoardKey::Name => "name",
+        BoardKey::Address => "address",
+        BoardKey::Port => "port",
+        BoardKey::Nodes => "nodes",
+        BoardKey::Offset => "offset",
+        BoardKey::PackMinutes => "pack_minutes",
+        BoardKey::Areas => "area",
+        BoardKey::Users => "user",
+    }
+}
+
+fn area_key(key: AreaKey) -> &'static str
+    ensures { result.now ≡ key_of (Field.Area 1 key) }
+{
+    match key {
+        AreaKey::Name => "name",
+        AreaKey::Dir => "dir",
+        AreaKey::Base => "base",
+        AreaKey::Kind => "kind",
+        AreaKey::Read => "read",
+        AreaKey::Post => "post",
+        AreaKey::Sysop => "sysop",
+        AreaKey::Slots => "slots",
+    }
+}
+
+fn user_key(key: UserKey) -> &'static str
+    ensures { result.now ≡ key_of (Field.User 1 key) }
+{
+    match key {
+        UserKey::Name => "name",
+        UserKey::Id => "id",
+        UserKey::Level => "level",
+        UserKey::Salt => "salt",
+        UserKey::Digest => "digest",
+    }
+}
+
+/// The name of a field of an area or of a user.
+fn owned_name(owner: &str, place: u32, key: &str) -> FieldName
+    requires owner { length owner.now ≤ 5 }
+    requires key { length key.now ≤ 12 }
+    ensures { result.bytes ≡ owned_name owner.now place key.now }
+{
+    let mut name = FieldName::new();
+    let mut digits = Buffer::new();
+    name.push_str(owner);
+    name.push_str(digits.format(place));
+    name.push_str(".");
+    name.push_str(key);
+    name
+}
+
+impl Field {
+    /// Its key in its table.
+    pub fn key(self) -> &'static str
+        ensures key { result.now ≡ key_of self }
+        ensures short { length result.now ≤ 12 }
+    {
+        match self {
+            Field::Board(key) => board_key(key),
+            Field::Area(_, key) => area_key(key),
+            Field::User(_, key) => user_key(key),
+        }
+    }
+
+    /// Its name: the key, behind `area.` or `user.` with the place in digits, as in `area.1.read`.
+    pub fn name(self) -> FieldName
+        ensures { result.bytes ≡ field_name self }
+    {
+        match self {
+            Field::Board(_) => {
+                let mut name = FieldName::new();
+                name.push_str(self.key());
+                name
+            }
+            Field::Area(place, _) => owned_name("area.", place, self.key()),
+            Field::User(place, _) => owned_name("user.", place, self.key()),
+        }
+    }
+}
+
+impl fmt::Display for Field {
+    fn fmt<W: fmt::Write>(&self, f: &mut fmt::Formatter<W>) -> fmt::Result {
+        f.write_str(self.name().as_str())
+    }
+}
