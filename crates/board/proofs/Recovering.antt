@@ -40,18 +40,17 @@ record_of Replayed was is opened = is.1
 -- a base that was recovered and then only read, and what was found in its files
 pub recovered : (property : Files → Type 0) (before mid after : Device) (found : Recovered) → ForSome before.contents (IsFound found)
     → ForSome before.contents (λ was. IsGrowthSafe was → ForSome mid.contents (Replays was))
-    → ForSome before.contents (λ was. IsGrowthSafe was → IsAllSynced mid)
-    → ForSome before.contents (λ was. IsGrowthSafe was → IsSome mid.contents)
+    → IsAllSynced mid → (IsSome before.contents → IsSome mid.contents)
     → OnlyReads mid after → ForSome mid.contents property → ForSome before.contents (λ was. IsRecovered property was after)
 recovered property before mid after found is done synced told kept has = λ was there. record {
   record_found = record_of found was (is was there);
   replayed = λ safe.
-      let now = is_told mid.contents (told was there safe) in
+      let now = is_told mid.contents (told (subst IsSome (sym there) refl)) in
       record {
         files = now.files;
         told = kept.contents ∙ now.is;
         replays = done was there safe now.files now.is;
-        synced = subst (λ (m : List Images). LeavesNow (λ left. left ≡ now.files) m) (sym kept.moments) (synced was there safe now.files now.is);
+        synced = subst (λ (m : List Images). LeavesNow (λ left. left ≡ now.files) m) (sym kept.moments) (synced now.files now.is);
         has = has now.files now.is;
       };
   now = λ files now_is. has files (sym kept.contents ∙ now_is);
@@ -76,8 +75,7 @@ rose_later before mid now later rose = omega (arith, later, rose)
 -- a base that was recovered and is then not opened
 pub unopened : (before mid after : Device) (found : Recovered) (error : OpenError) → ForSome before.contents (IsFound found)
     → ForSome before.contents (λ was. IsGrowthSafe was → ForSome mid.contents (Replays was))
-    → ForSome before.contents (λ was. IsGrowthSafe was → IsAllSynced mid)
-    → ForSome before.contents (λ was. IsGrowthSafe was → IsSome mid.contents)
+    → IsAllSynced mid → (IsSome before.contents → IsSome mid.contents)
     → before.faults ≤ mid.faults → OnlyReads mid after → ForSome mid.contents (λ files. IsRefusedBy MOST_SLOTS files error)
     → (error ≡ DiskFault → Rose mid.faults after.faults) → RefusesBase before after error
 unopened before mid after found error is done synced told later kept refuses rose = record {

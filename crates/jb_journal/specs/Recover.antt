@@ -1,5 +1,5 @@
 -- What opening makes of the files that a crash has left.
-use Rattle.std.specs.Prelude.{◌≡◌, ℕ, List, [], ◌∷◌, Some}
+use Rattle.std.specs.Prelude.{◌≡◌, ◌↔◌, ℕ, List, [], ◌∷◌, Some}
 use Rattle.jb_base.specs.Fault.{Rose}
 use Rattle.jb_disk.specs.declared.piece.Length.{Length}
 use Rattle.jb_disk.specs.declared.piece.Piece.{Piece}
@@ -42,16 +42,16 @@ abbrev pub FaultRose : ℕ → ℕ → JournalError → Type 0
 FaultRose before now (BadRecord at) = Unit {0}
 FaultRose before now StoreFault = Rose before now
 
--- whatever the one files replay to, the others do too
+-- the one files replay to exactly what the others do
 abbrev pub ReplaysAs : Files → Files → Type 0
-ReplaysAs was files = (base : Files) → ReplaysTo base was → ReplaysTo base files
+ReplaysAs was files = (base : Files) → ReplaysTo base was ↔ ReplaysTo base files
 
 -- a crash might leave these files now, where that is told
 abbrev pub MightBe : List Images → Files → Type 0
 MightBe [] files = Unit {0}
 MightBe (now ∷ earlier) files = IsImage now files
 
--- the files replay to what some files replay to that a crash might have left at the start
+-- the files replay to exactly what some files replay to that a crash might have left at the start
 pub record ReplaysAsAtStart (first : List Images) (files : Files) : Type 0 where
   pub was : Files
   pub might : MightBe first was

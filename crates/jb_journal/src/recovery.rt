@@ -75,12 +75,10 @@ fn redo_record<D: Disk>(disk: &mut D) -> Result<(), JournalError>
     requires synced { IsAllSynced (D.device disk.old) }
     ensures done { OnOk result (ForSome (D.device disk.old).contents (λ was. IsGrowthSafe was
         → ForSome (D.device disk.new).contents (Replays was))) }
-    ensures durable { OnOk result (ForSome (D.device disk.old).contents (λ was. IsGrowthSafe was
-        → IsAllSynced (D.device disk.new))) }
-    ensures closed { OnOk result (ForSome (D.device disk.old).contents (λ was. IsGrowthSafe was
-        → ForSome (D.device disk.new).contents (λ now. IsGateOpen now → ⊥))) }
-    ensures told { OnOk result (ForSome (D.device disk.old).contents (λ was. IsGrowthSafe was
-        → IsSome (D.device disk.new).contents)) }
+    ensures durable { OnOk result (IsAllSynced (D.device disk.new)) }
+    ensures closed { OnOk result (ForSome (D.device disk.new).contents (λ now. IsGateOpen now → ⊥)) }
+    ensures told { OnOk result (IsSome (D.device disk.old).contents
+        → IsSome (D.device disk.new).contents) }
     ensures run { ForSome (D.device disk.old).contents (λ was. IsGrowthSafe was
         → Runs (ReplaysAs was) (D.device disk.old).moments (D.device disk.new).moments) }
     ensures fault { IfErr result (λ error. ForSome (D.device disk.old).contents (λ was.
@@ -101,17 +99,17 @@ fn redo_record<D: Disk>(disk: &mut D) -> Result<(), JournalError>
 ///
 /// `BadRecord` comes exactly where the gate is open and the journal holds no record, and then nothing is written.
 pub fn recover<D: Disk>(disk: &mut D) -> Result<Recovered, JournalError>
-    // What it found, and the files then, which are told still: as they were behind a closed gate, and else with the record
-    // done.
+    // What it found, and the files then: as they were behind a closed gate, and else with the record done.
     ensures found { IfOk result (λ found. ForSome (D.device disk.old).contents (IsFound found)) }
     ensures done { OnOk result (ForSome (D.device disk.old).contents (λ was. IsGrowthSafe was
         → ForSome (D.device disk.new).contents (Replays was))) }
-    ensures closed { OnOk result (ForSome (D.device disk.old).contents (λ was. IsGrowthSafe was
-        → ForSome (D.device disk.new).contents (λ now. IsGateOpen now → ⊥))) }
-    ensures durable { OnOk result (ForSome (D.device disk.old).contents (λ was. IsGrowthSafe was
-        → IsAllSynced (D.device disk.new))) }
-    ensures told { OnOk result (ForSome (D.device disk.old).contents (λ was. IsGrowthSafe was
-        → IsSome (D.device disk.new).contents)) }
+
+    // Whatever the record writes and leaves unwritten: the gate is closed, nothing is unsynced, and a disk that told its
+    // files tells them still.
+    ensures closed { OnOk result (ForSome (D.device disk.new).contents (λ now. IsGateOpen now → ⊥)) }
+    ensures durable { OnOk result (IsAllSynced (D.device disk.new)) }
+    ensures told { OnOk result (IsSome (D.device disk.old).contents
+        → IsSome (D.device disk.new).contents) }
 
     // Why it is refused.
     ensures refused { IfErr result (λ error. ForSome

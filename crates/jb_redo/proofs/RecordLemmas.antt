@@ -1,6 +1,6 @@
 -- A record's lengths set, and its pieces written: what it makes of the files.
 use Rattle.std.proofs.Common.{◌≡◌, inl, inr, ℕ, List, ◌++◌, length, drop, refl, ap, sym, ◌∙◌, subst, arith}
-use Rattle.std.specs.Prelude.{Option, Some, Result, Ok, Err, OnOk}
+use Rattle.std.specs.Prelude.{Option, Some, None, IsSome, Result, Ok, Err, OnOk}
 use Rattle.std.specs.Option.{ForSome}
 use Rattle.jb_disk.specs.declared.file.FileId.{FileId}
 use Rattle.jb_disk.specs.declared.file.FileId.TheVariants.{Jnl}
@@ -158,3 +158,13 @@ applied_told (Ok value) old mid new at ends read resized written = λ files is l
     let on = turns_on (AreResized ends) old mid files resized is in
     let done = turns_on ArePieced mid new on.0 written on.1 in
     done.1 ∙ ap Some (done.2 lengths pieces (mid_record files at ends (read files is) lengths pieces has on.0 on.2) ∙ pieced_applied files at ends (read files is) lengths pieces has on.0 on.2 grown)
+
+-- a disk that told its files tells them still
+pub told_still : {T E : Type 0} (result : Result T E) (old mid new : Option Files) (ends : Sizes) → Turns (AreResized ends) old mid → OnOk result (Turns ArePieced mid new) → OnOk result (IsSome old → IsSome new)
+told_still (Err error) old mid new ends resized written = tt
+told_still (Ok value) None None None ends resized written = λ some. some
+told_still (Ok value) None None (Some now) ends resized written = absurd written
+told_still (Ok value) None (Some half) new ends resized written = absurd resized
+told_still (Ok value) (Some was) None new ends resized written = absurd resized
+told_still (Ok value) (Some was) (Some half) None ends resized written = absurd written
+told_still (Ok value) (Some was) (Some half) (Some now) ends resized written = λ some. refl

@@ -1,5 +1,5 @@
 //! The applying of the journal's record.
-ghost use Rattle.std.specs.Prelude.{◌≡◌, ◌+◌, ◌^◌, ◌<◌, ◌≤◌, Some, length, OnOk, OnErr, IfErr, IfOk, List, take, drop};
+ghost use Rattle.std.specs.Prelude.{◌≡◌, ◌+◌, ◌^◌, ◌<◌, ◌≤◌, Some, length, IsSome, OnOk, OnErr, IfErr, IfOk, List, take, drop};
 ghost use Rattle.std.specs.Option.{ForSome, option_map};
 ghost use Rattle.jb_base.specs.Fault.{Rose};
 ghost use Rattle.jb_disk.specs.declared.file.FileId.{FileId};
@@ -198,6 +198,7 @@ fn apply<D: Disk>(disk: &mut D) -> Result<(), RecordError>
     // What a read gives then.
     ensures ok { OnOk result (ForSome (D.device disk.old).contents (λ files.
         IsAppliedTo files (D.device disk.new).contents)) }
+    ensures told { OnOk result (IsSome (D.device disk.old).contents → IsSome (D.device disk.new).contents) }
 
     // What a crash leaves, that a silent disk stays silent, and why it is refused.
     ensures images { KeepsWay (D.device disk.old) (D.device disk.new) }
@@ -223,11 +224,13 @@ fn apply<D: Disk>(disk: &mut D) -> Result<(), RecordError>
 pub fn apply_record<D: Disk>(disk: &mut D) -> Result<(), RecordError>
     requires { ForSome (D.device disk.old).contents HasRecord }
 
-    // What a read gives then.
+    // What a read gives then, and that a disk that told its files tells them still, whatever the pieces write.
     ensures ok { OnOk result (ForSome (D.device disk.old).contents (λ files.
         IsAppliedTo files (D.device disk.new).contents)) }
+    ensures told { OnOk result (IsSome (D.device disk.old).contents → IsSome (D.device disk.new).contents) }
 
-    // What a crash leaves at each moment: files on their way, which replay as those at the start.
+    // What a crash leaves at each moment: files on their way, which replay as those at the start. The journal and the shadow
+    // of the texts are as they were in them.
     ensures images { KeepsWay (D.device disk.old) (D.device disk.new) }
     ensures same { ReplayOnTheWay × HasOneReplayAtMost }
 

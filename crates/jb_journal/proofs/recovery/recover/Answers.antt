@@ -2,7 +2,7 @@ use Rattle.std.proofs.Common.{◌≡◌, ◌∙◌, Some}
 use Rattle.jb_disk.proofs.RunLemmas.{runs-refl, runs-then, runs-weaken}
 use Rattle.jb_journal.specs.Recover.{ReplaysAs, MightBe, ReplaysAsAtStart}
 use Rattle.jb_journal.proofs.SyncLemmas.{leaves_map}
-use Rattle.jb_journal.proofs.RecoverLemmas.{shows_first, might_as, told_there}
+use Rattle.jb_journal.proofs.RecoverLemmas.{shows_first, might_as}
 use Rattle.jb_journal.proofs.recovery.recover.Goals as goal
 
 pub returns-in_err-sync_all-clause-crash : goal.returns-in_err-sync_all-clause-crash
@@ -94,25 +94,3 @@ returns-clause-crash g c = λ was there safe.
     let run4 = runs-then P d0.moments d3.moments d4.moments run3
     (runs-weaken (ReplaysAs was) P (λ files same. record { was = was; might = shows.read was there; same = same }) d3.moments d4.moments (c.redo_record.ensures.run was there3 safe)) in
     record { first = at_first; run = run4 }
-
-pub returns-clause-closed : goal.returns-clause-closed
-returns-clause-closed g c = λ was there safe.
-    let d3 = g.D.Disk.device c.test_record.new.disk in
-    let there3 : d3.contents ≡ Some was = c.test_record.ensures.kept.contents ∙ c.is_gate_open.ensures.kept.contents ∙ c.in_ok-sync_all.ensures.kept ∙ there in
-    c.in_ok-redo_record.ensures.closed was there3 safe
-
-pub returns-clause-durable : goal.returns-clause-durable
-returns-clause-durable g c = λ was there safe.
-    let d3 = g.D.Disk.device c.test_record.new.disk in
-    let there3 : d3.contents ≡ Some was = c.test_record.ensures.kept.contents ∙ c.is_gate_open.ensures.kept.contents ∙ c.in_ok-sync_all.ensures.kept ∙ there in
-    c.in_ok-redo_record.ensures.durable was there3 safe
-
-pub returns-then-not-branch-clause-told : goal.returns-then-not-branch-clause-told
-returns-then-not-branch-clause-told g c = λ was there safe.
-    told_there _ was (c.is_gate_open.ensures.kept.contents ∙ c.in_ok-sync_all.ensures.kept ∙ there)
-
-pub returns-clause-told : goal.returns-clause-told
-returns-clause-told g c = λ was there safe.
-    let d3 = g.D.Disk.device c.test_record.new.disk in
-    let there3 : d3.contents ≡ Some was = c.test_record.ensures.kept.contents ∙ c.is_gate_open.ensures.kept.contents ∙ c.in_ok-sync_all.ensures.kept ∙ there in
-    c.in_ok-redo_record.ensures.told was there3 safe

@@ -3,7 +3,7 @@ use Rattle.std.specs.Prelude.{Some}
 use Rattle.jb_disk.specs.Files.{Files}
 use Rattle.jb_redo.specs.Applying.{AreResized, IsFault}
 use Rattle.jb_redo.proofs.ApplyLemmas.{keeps_after, turns_from}
-use Rattle.jb_redo.proofs.RecordLemmas.{fault_alone, mid_lengths, mid_record, set_keeps, set_then_keeps, applied_told}
+use Rattle.jb_redo.proofs.RecordLemmas.{fault_alone, mid_lengths, mid_record, set_keeps, set_then_keeps, applied_told, told_still}
 use Rattle.jb_redo.proofs.applying.apply.Goals as goal
 
 pub returns-in_err-lengths-clause-fault : goal.returns-in_err-lengths-clause-fault
@@ -59,3 +59,11 @@ returns-clause-images g c =
     (set_then_keeps (device c.of.new.disk) (device c.set_lengths.new.disk) (device c.write_pieces.new.disk) lengths.at lengths.ends
     (set_keeps (device c.of.new.disk) (device c.read_lengths.new.disk) (device c.set_lengths.new.disk) lengths.at lengths.ends c.read_lengths.ensures.kept c.in_ok-lengths.ensures.found c.set_lengths.ensures.images)
     c.in_ok-lengths.ensures.found resized c.write_pieces.ensures.images)
+
+pub returns-clause-told : goal.returns-clause-told
+returns-clause-told g c =
+    let device = g.D.Disk.device in
+    rw c.of.ensures.kept.contents at
+    (rw c.read_lengths.ensures.kept.contents at
+    (told_still c.write_pieces.result (device c.read_lengths.new.disk).contents (device c.set_lengths.new.disk).contents (device c.write_pieces.new.disk).contents c.in_ok-lengths.lengths.ends
+    c.in_ok-set_lengths.ensures.ok c.write_pieces.ensures.ok))
