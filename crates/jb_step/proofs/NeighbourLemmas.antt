@@ -16,6 +16,7 @@ use Rattle.jb_model.specs.declared.loaded.LoadedMessage.{LoadedMessage}
 use Rattle.jb_model.specs.declared.loaded.LoadedSlot.{LoadedSlot}
 use Rattle.jb_model.specs.declared.loaded.LoadedSlot.TheVariants.{Empty, Killed, Live}
 use Rattle.jb_model.specs.declared.message.Head.{Head}
+use Rattle.jb_replies.proofs.LawLemmas.{stays_under_heads}
 use Rattle.jb_step.specs.Neighbour.{HasNeighbour, IsRelinkOf, neighbour_at}
 use Rattle.jb_step.specs.Seen.{IsNamed, with_head, with_text}
 use Rattle.jb_step.specs.declared.neighbours.Neighbour.{Neighbour}
@@ -54,6 +55,7 @@ no_neighbour loaded parent number splices = record {
   written = refl;
   spliced = λ texts. ap (with_slots (state_of texts loaded)) (sym (splices texts number));
   live = refl;
+  index = λ replies index. index;
   sound = λ limit sound. sound;
 }
 
@@ -76,6 +78,7 @@ one_neighbour loaded parent number of change with_change neighbour same kept is 
           spliced = λ texts. ap (with_slots (state_of texts loaded))
               (sym (splices texts ∙ ap (λ o. slots_with (state_of texts loaded) of (option_map with_change o)) (message_at_loaded texts loaded of ∙ ap (option_map (with_text texts)) at)));
           live = refl;
+          index = λ replies index. index;
           sound = λ limit sound. sound;
         })
     by_found (Some message) at =
@@ -93,5 +96,7 @@ one_neighbour loaded parent number of change with_change neighbour same kept is 
               (ap (λ m. set (map (slot_state texts) loaded.slots) (of - loaded.base) (live_message m)) (sym (same texts message))
               ∙ sym (splices texts ∙ ap (λ o. slots_with (state_of texts loaded) of (option_map with_change o)) (message_at_loaded texts loaded of ∙ ap (option_map (with_text texts)) at)));
           live = live_read loaded (of - loaded.base) head message named.here;
+          index = λ replies index.
+              stays_under_heads replies loaded (of - loaded.base) message head named.here (ap (λ (h : Head). h.reply_to) (kept message.head)) index;
           sound = λ limit sound. sound_with_head limit loaded (of - loaded.base) head message named.here (ap (λ (h : Head). h.attribute) (kept message.head)) sound;
         })

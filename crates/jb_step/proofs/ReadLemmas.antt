@@ -148,3 +148,11 @@ read_keeps_sound limit loaded user moment place head message here made sound =
       text = fits.text;
     })
     sound)
+
+-- a reading leaves the ReplyTo
+pub reading_keeps_parent : (user : User) (moment : ℕ) (message : LoadedMessage) → (read_head user moment message).reply_to ≡ message.head.reply_to
+reading_keeps_parent user moment message = by (same_name user.name (receiver_of message.subfields))
+  where
+    by : (same : Bool) → (cond same (received_at moment (read_once_more message.head)) (read_once_more message.head)).reply_to ≡ message.head.reply_to
+    by true = refl
+    by false = refl

@@ -1,5 +1,5 @@
 -- The ways through a relink.
-use Rattle.std.proofs.Common.{◌≡◌, ℕ, ◌+◌, ◌-◌, ◌%◌, ◌^◌, Bool, true, false, cond, ◌==◌, nat_lt, le-ltb, eqb-true, List, [], ◌∷◌, ◌++◌, All, length, map, set, slice_get, Option, Some, None, refl, sym, ◌∙◌, ap, subst, arith, append_assoc, add-zero}
+use Rattle.std.proofs.Common.{◌≡◌, ℕ, ◌+◌, ◌-◌, ◌≤◌, ◌%◌, ◌^◌, Bool, true, false, cond, ◌==◌, nat_lt, le-ltb, eqb-true, List, [], ◌∷◌, ◌++◌, All, length, map, set, slice_get, Option, Some, None, refl, sym, ◌∙◌, ap, subst, arith, append_assoc, add-zero}
 use Rattle.std.proofs.lemmas.List.{length_push, set_at}
 use Rattle.std.proofs.lemmas.List.Elements.{All-cons, All-nil}
 use Rattle.jb_base.specs.Access.{first_refusal}
@@ -22,6 +22,8 @@ use Rattle.jb_model.specs.declared.loaded.LoadedMessage.{LoadedMessage}
 use Rattle.jb_model.specs.declared.loaded.LoadedSlot.{LoadedSlot}
 use Rattle.jb_model.specs.declared.loaded.LoadedSlot.TheVariants.{Empty, Killed, Live}
 use Rattle.jb_model.specs.declared.reply.Reply.TheVariants.{Relinked}
+use Rattle.jb_replies.specs.Index.{IsIndexOf, ReplyIndex}
+use Rattle.jb_replies.proofs.LawLemmas.{rests_on_slots, stays_under_relink}
 use Rattle.jb_step.specs.After.{live_messages, next_counter}
 use Rattle.jb_step.specs.Relink.{IsPlaced, after_relink, linked_head, with_links_in, with_links_of}
 use Rattle.jb_step.specs.Seen.{with_head, with_text}
@@ -179,3 +181,20 @@ relink_keeps_sound limit plan changed loaded sound = by_zero (changed == 0)
     by_zero : (zero : Bool) → IsSound limit (cond zero loaded (with_counts (next_counter loaded) (live_messages loaded) (with_links_of plan loaded)))
     by_zero true = sound
     by_zero false = sound_counted limit (with_links_of plan loaded) (next_counter loaded) (live_messages loaded) (links_keep_sound limit plan loaded sound)
+
+-- an index of replies stays one of the area
+pub relink_keeps_index : (plan : List Links) (changed : ℕ) (loaded : Loaded) → 1 ≤ loaded.base → plan ≡ plan_of (linkables [] loaded)
+    → (replies : ReplyIndex) → IsIndexOf replies loaded → IsIndexOf replies (after_relink plan changed loaded)
+relink_keeps_index plan changed loaded base is replies index = by_zero (changed == 0)
+  where
+    linked : state_of [] (with_links_of plan loaded) ≡ relinked_area (state_of [] loaded)
+    linked = links_of_state [] loaded plan is
+
+    indexed : IsIndexOf replies (with_links_of plan loaded)
+    indexed =
+        stays_under_relink replies loaded (with_links_of plan loaded) base (ap (λ (s : AreaState). s.base) linked) (ap (λ (s : AreaState). s.slots) linked) index
+
+    by_zero : (zero : Bool) → IsIndexOf replies (cond zero loaded (with_counts (next_counter loaded) (live_messages loaded) (with_links_of plan loaded)))
+    by_zero true = index
+    by_zero false =
+        rests_on_slots replies (with_links_of plan loaded) (with_counts (next_counter loaded) (live_messages loaded) (with_links_of plan loaded)) refl refl indexed

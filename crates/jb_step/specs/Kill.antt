@@ -10,6 +10,8 @@ use Rattle.jb_model.specs.declared.command.Command.TheVariants.{Kill}
 use Rattle.jb_model.specs.declared.loaded.Loaded.{Loaded}
 use Rattle.jb_model.specs.declared.loaded.LoadedMessage.{LoadedMessage}
 use Rattle.jb_model.specs.declared.reply.Reply.TheVariants.{Killed}
+use Rattle.jb_replies.specs.Index.{IsIndexOf, ReplyIndex}
+use Rattle.jb_replies.specs.Laws.{IsIndexAfterKill}
 use Rattle.jb_step.specs.After.{after_kill, live_messages}
 use Rattle.jb_step.specs.Seen.{IsNamed}
 use Rattle.jb_step.specs.declared.kills.Killing.{Killing}
@@ -24,5 +26,7 @@ pub record IsKilling (rules : AreaRules) (loaded : Loaded) (user : User) (number
   pub step : (texts : List ℕ) (moment : ℕ)
       → Step rules (state_of texts loaded) user moment (Kill number) (Killed number) (state_of texts (after_kill killing.place message loaded))
   pub live : live_messages (after_kill killing.place message loaded) + 1 ≡ live_messages loaded
+  -- an index of replies out of which the message was taken before is that of the area then
+  pub index : (replies : ReplyIndex) → IsIndexAfterKill replies loaded number → IsIndexOf replies (after_kill killing.place message loaded)
   -- a sound area stays sound
   pub sound : IsSound rules.slots loaded → IsSound rules.slots (after_kill killing.place message loaded)

@@ -8,6 +8,7 @@ use Rattle.jb_model.specs.State.{AreaState, state_of}
 use Rattle.jb_model.specs.declared.loaded.Loaded.{Loaded}
 use Rattle.jb_model.specs.declared.loaded.LoadedMessage.{LoadedMessage}
 use Rattle.jb_model.specs.declared.message.Head.{Head}
+use Rattle.jb_replies.specs.Index.{IsIndexOf, ReplyIndex}
 use Rattle.jb_step.specs.After.{live_messages}
 use Rattle.jb_step.specs.declared.neighbours.Neighbour.{Neighbour}
 
@@ -38,10 +39,11 @@ neighbour_at loaded number change =
 abbrev pub spliced_state : AreaState → ℕ → ℕ → AreaState
 spliced_state state parent number = record state { slots = spliced_slots state parent number }
 
--- a message with this number that answers this parent has this neighbour, and the area stays sound when that is written
+-- a message with this number that answers this parent has this neighbour, and the area stays sound when that is written, and its index of replies is that of it still
 pub record HasNeighbour (loaded : Loaded) (parent number : ℕ) (neighbour : Option Neighbour) : Type 0 where
   pub linked : Loaded
   pub written : IsLinkedBy neighbour loaded linked
   pub spliced : (texts : List ℕ) → state_of texts linked ≡ spliced_state (state_of texts loaded) parent number
   pub live : live_messages linked ≡ live_messages loaded
+  pub index : (replies : ReplyIndex) → IsIndexOf replies loaded → IsIndexOf replies linked
   pub sound : (limit : ℕ) → IsSound limit loaded → IsSound limit linked

@@ -11,6 +11,7 @@ use Rattle.jb_model.specs.Step.{Step}
 use Rattle.jb_model.specs.declared.loaded.Loaded.{Loaded}
 use Rattle.jb_model.specs.declared.reply.Reply.TheVariants.{Posted}
 use Rattle.jb_step.specs.After.{after_post, live_messages}
+use Rattle.jb_replies.specs.Index.{IsIndexOf, ReplyIndex}
 use Rattle.jb_step.specs.Draft.{next_of, post_of}
 use Rattle.jb_step.specs.Neighbour.{IsLinkedBy}
 use Rattle.jb_step.specs.declared.posts.Posting.{Posting}
@@ -33,6 +34,8 @@ pub record IsPosting (rules : AreaRules) (loaded : Loaded) (user : User) (moment
   -- the neighbour's header is written first
   pub linked : Loaded
   pub written : IsLinkedBy posting.neighbour loaded linked
+  -- which leaves the index of replies as it is
+  pub index : (replies : ReplyIndex) → IsIndexOf replies loaded → IsIndexOf replies linked
   -- it answers so, whatever the texts of a sound area are, with the new one behind them; and one message more is live
   pub step : IsSound rules.slots loaded → (texts : List ℕ) → length texts ≡ loaded.texts_len
       → Step rules (state_of texts loaded) user moment (post_of draft) (Posted posting.number)

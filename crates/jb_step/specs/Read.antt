@@ -14,6 +14,7 @@ use Rattle.jb_model.specs.declared.command.Command.TheVariants.{Peek, Read}
 use Rattle.jb_model.specs.declared.loaded.Loaded.{Loaded}
 use Rattle.jb_model.specs.declared.loaded.LoadedMessage.{LoadedMessage}
 use Rattle.jb_model.specs.declared.reply.Reply.TheVariants.{Text}
+use Rattle.jb_replies.specs.Index.{IsIndexOf, ReplyIndex}
 use Rattle.jb_step.specs.After.{after_reading, live_messages}
 use Rattle.jb_step.specs.Seen.{IsNamed, with_head, with_text}
 use Rattle.jb_step.specs.declared.reads.Reading.{Reading}
@@ -35,6 +36,8 @@ pub record IsReading (rules : AreaRules) (loaded : Loaded) (user : User) (moment
       → Step rules (state_of texts loaded) user moment (Read number) (Text (letter_of number (with_text texts (with_head reading.head message))))
       (state_of texts (after_reading reading.place reading.head message loaded))
   pub live : live_messages (after_reading reading.place reading.head message loaded) ≡ live_messages loaded
+  -- the index of replies stays that of the area
+  pub index : (replies : ReplyIndex) → IsIndexOf replies loaded → IsIndexOf replies (after_reading reading.place reading.head message loaded)
   -- a sound area stays sound
   pub sound : IsSound rules.slots loaded → IsSound rules.slots (after_reading reading.place reading.head message loaded)
 

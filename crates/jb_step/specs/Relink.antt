@@ -13,6 +13,7 @@ use Rattle.jb_model.specs.declared.loaded.Loaded.{Loaded}
 use Rattle.jb_model.specs.declared.loaded.LoadedMessage.{LoadedMessage}
 use Rattle.jb_model.specs.declared.message.Head.{Head}
 use Rattle.jb_model.specs.declared.reply.Reply.TheVariants.{Relinked}
+use Rattle.jb_replies.specs.Index.{IsIndexOf, ReplyIndex}
 use Rattle.jb_step.specs.After.{live_messages, next_counter}
 use Rattle.jb_step.specs.declared.relinks.Relinking.{Relinking}
 
@@ -47,5 +48,7 @@ pub record IsRelinking (rules : AreaRules) (loaded : Loaded) (user : User) (reli
   pub step : (texts : List ℕ) (moment : ℕ)
       → Step rules (state_of texts loaded) user moment Relink (Relinked relinking.changed) (state_of texts (after_relink relinking.plan relinking.changed loaded))
   pub live : live_messages (after_relink relinking.plan relinking.changed loaded) ≡ live_messages loaded
+  -- the index of replies stays that of the area
+  pub index : (replies : ReplyIndex) → IsIndexOf replies loaded → IsIndexOf replies (after_relink relinking.plan relinking.changed loaded)
   -- a sound area stays sound
   pub sound : IsSound rules.slots loaded → IsSound rules.slots (after_relink relinking.plan relinking.changed loaded)

@@ -1,11 +1,13 @@
 //! The one other message whose header a post changes.
 ghost use Rattle.std.specs.Prelude.{◌≡◌, ◌⊎◌, ◌+◌, ◌≤◌, length};
 ghost use Rattle.jb_link.specs.Slots.{IsLive};
+ghost use Rattle.jb_replies.specs.Index.{IsIndexOf};
 ghost use Rattle.jb_step.specs.Neighbour.{HasNeighbour, first_reply_head, neighbour_at, next_reply_head};
 
 use crate::found::message_at;
-use jb_link::{Spliced, splice};
+use jb_link::Spliced;
 use jb_model::{Head, Loaded};
+use jb_replies::Replies;
 
 /// The message at this place has these fields in its header from now on: the new message is its first reply, or the next
 /// reply behind it.
@@ -46,13 +48,19 @@ fn named_next(loaded: &Loaded, of: u32, number: u32) -> Option<Neighbour>
 }
 
 /// The neighbour of a new message with this number that answers this parent, or 0.
-pub(crate) fn neighbour_of(loaded: &Loaded, parent: u32, number: u32) -> Option<Neighbour>
+pub(crate) fn neighbour_of(
+    loaded: &Loaded,
+    replies: &Replies,
+    parent: u32,
+    number: u32,
+) -> Option<Neighbour>
+    requires index { IsIndexOf replies.now loaded.now }
     requires base { 1 ≤ loaded.now.base }
     requires numbers { loaded.now.base + length loaded.now.slots ≤ 4_294_967_295 }
     requires live { (parent ≡ 0) ⊎ IsLive loaded.now parent }
     ensures { HasNeighbour loaded.now parent number result }
 {
-    match splice(loaded, parent) {
+    match replies.splice(loaded, parent) {
         Spliced::None => None,
         Spliced::First { of } => named_first(loaded, of, number),
         Spliced::After { of } => named_next(loaded, of, number),

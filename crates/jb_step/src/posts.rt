@@ -5,6 +5,7 @@ ghost use Rattle.jb_base.specs.Subfields.{subfield_bytes};
 ghost use Rattle.jb_base.specs.declared.limits.TheConstants.{MOST_ADDRESS_BYTES, MOST_NAME_BYTES, MOST_POSTED_TEXT_BYTES};
 ghost use Rattle.jb_link.specs.Slots.{IsLive};
 ghost use Rattle.jb_model.specs.Post.{id_crc, posted_attribute};
+ghost use Rattle.jb_replies.specs.Index.{IsIndexOf};
 ghost use Rattle.jb_step.specs.Draft.{draft_of, head_with, new_message, next_of, post_of};
 ghost use Rattle.jb_step.specs.Post.{IsPosting};
 ghost use Rattle.jb_step.specs.Refusal.{IsRefusal};
@@ -22,8 +23,8 @@ use jb_base::{
     TEXTS_CEILING, TYPEECHO, TYPELOCAL, User,
 };
 use jb_crc::jam_crc;
-use jb_link::parent;
 use jb_model::{Head, Loaded, LoadedMessage, Reply};
+use jb_replies::Replies;
 use std::alloc::Global;
 
 /// What a post writes: this message under this number behind the others, its header and its text at the ends of their
@@ -134,11 +135,13 @@ fn head_of(
 fn message_of(
     alloc: Global,
     loaded: &Loaded,
+    replies: &Replies,
     rules: &AreaRules,
     user: &User,
     moment: u32,
     draft: Draft<'_>,
 ) -> Result<Result<LoadedMessage, Reply>, OutOfMemory>
+    requires index { IsIndexOf replies.now loaded.now }
     requires number { next_of loaded.now ≤ LAST_POSTED_NUMBER }
     requires text { length draft.text.now ≤ MOST_POSTED_TEXT_BYTES }
     ensures full { IfOk result (λ made. IfErr made (λ reply. new_refusal rules.now loaded.now user.now (draft_of draft.entry) ≡ Some reply)) }
@@ -153,7 +156,7 @@ fn message_of(
     if let Some(reply) = no_room(loaded, &subfields, draft.text) {
         return Ok(Err(reply));
     }
-    let above = parent(loaded, number, replyid, draft.reply_to);
+    let above = replies.parent(loaded, number, replyid, draft.reply_to);
     Ok(Ok(LoadedMessage {
         owner: jam_crc(draft.to),
         head: head_of(rules, moment, draft, msgid.as_slice(), replyid, above),
@@ -164,15 +167,18 @@ fn message_of(
     }))
 }
 
-/// What a post of this draft does at a moment, in seconds since 1970, or why it is refused.
+/// What a post of this draft does at a moment, in seconds since 1970, or why it is refused. The parent and the neighbour
+/// are found by the index of the area's replies, at four searches of it at most.
 pub fn post(
     alloc: Global,
     loaded: &Loaded,
+    replies: &Replies,
     rules: &AreaRules,
     user: &User,
     moment: u32,
     draft: Draft<'_>,
 ) -> Result<Result<Posting, Reply>, OutOfMemory>
+    requires index { IsIndexOf replies.now loaded.now }
     requires base { 1 ≤ loaded.now.base }
     requires numbers { loaded.now.base + length loaded.now.slots ≤ 4_294_967_295 }
     ensures refused { IfOk result (λ decided. IfErr decided (λ reply. IsRefusal rules.now loaded.now user.now (post_of (draft_of draft.entry)) reply)) }
@@ -190,12 +196,12 @@ pub fn post(
     if let Some(reply) = no_number(loaded, rules) {
         return Ok(Err(reply));
     }
-    let message = match message_of(alloc, loaded, rules, user, moment, draft)? {
+    let message = match message_of(alloc, loaded, replies, rules, user, moment, draft)? {
         Ok(message) => message,
         Err(reply) => return Ok(Err(reply)),
     };
     let number = next_number(loaded);
-    let neighbour = neighbour_of(loaded, message.head.reply_to, number);
+    let neighbour = neighbour_of(loaded, replies, message.head.reply_to, number);
     Ok(Ok(Posting {
         number,
         message,

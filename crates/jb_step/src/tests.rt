@@ -9,6 +9,7 @@ use crate::{
 use jb_base::{AreaRules, Bytes, Kind, Name, OutOfMemory, Subfields, User};
 use jb_crc::jam_crc;
 use jb_model::{Head, Loaded, LoadedMarks, LoadedMessage, LoadedSlot, LoadedSlots, Mark, Reply};
+use jb_replies::Replies;
 use std::alloc::Global;
 use std::process::Abort;
 use std::test::Fail;
@@ -91,7 +92,8 @@ fn posted<R: Abort>(
 ) -> Result<Result<Posting, Reply>, OutOfMemory> {
     assert!(rt; 1 <= loaded.base && loaded.base <= 16_777_216);
     assert!(rt; loaded.slots.as_slice().len() < 1_000);
-    post(alloc, loaded, rules, user, MOMENT, draft)
+    let replies = Replies::of(alloc, loaded)?;
+    post(alloc, loaded, &replies, rules, user, MOMENT, draft)
 }
 
 /// The reply of a post, as it is told.

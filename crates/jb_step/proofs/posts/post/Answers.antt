@@ -56,6 +56,7 @@ returns-clause-done c =
       place = post_has_place rules loaded user c.args.moment draft accepted;
       linked = h.linked;
       written = h.written;
+      index = h.index;
       step = λ sound texts is. post_way texts rules loaded user c.args.moment draft c.neighbour_of-neighbour.result accepted sound is h;
       live = post_counts loaded h.linked (new_message rules loaded user c.args.moment draft) h.live;
       sound = λ sound name address. post_keeps_sound rules loaded user c.args.moment draft c.neighbour_of-neighbour.result accepted sound name address h;

@@ -2,7 +2,7 @@ use Rattle.std.proofs.Common.{◌≡◌, [], List, sym, ◌∙◌}
 use Rattle.jb_link.specs.Plan.{plan_of}
 use Rattle.jb_link.specs.Slots.{linkables}
 use Rattle.jb_model.specs.declared.links.Links.{Links}
-use Rattle.jb_step.proofs.RelinkLemmas.{plan_is_placed, relink_counts, relink_keeps_sound, relink_way}
+use Rattle.jb_step.proofs.RelinkLemmas.{plan_is_placed, relink_counts, relink_keeps_index, relink_keeps_sound, relink_way}
 use Rattle.jb_step.proofs.relinks.relink.Goals as goal
 
 pub returns-clause-done : goal.returns-clause-done
@@ -17,6 +17,7 @@ returns-clause-done c =
       placed = plan_is_placed loaded plan is;
       step = λ texts moment. relink_way texts rules loaded user plan changed (sym c.denied.ensures ∙ c.in_default.is) is (c.changed-changed.ensures.count texts);
       live = relink_counts plan changed loaded;
+      index = relink_keeps_index plan changed loaded c.requires.base is;
       sound = relink_keeps_sound rules.slots plan changed loaded;
     }
 

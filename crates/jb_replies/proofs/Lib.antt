@@ -1,0 +1,10 @@
+pub mod OrderLemmas
+pub mod RisingLemmas
+pub mod MemberLemmas
+pub mod SearchLemmas
+pub mod AreaLemmas
+pub mod IdLemmas
+pub mod KeptLemmas
+pub mod IndexLemmas
+pub mod ParentLemmas
+pub mod LawLemmas

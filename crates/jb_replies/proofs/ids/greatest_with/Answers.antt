@@ -1,0 +1,20 @@
+use Rattle.std.proofs.Common.{arith, sym, ◌∙◌}
+use Rattle.jb_replies.proofs.IdLemmas.{bytes_had, has_bytes, last_with}
+use Rattle.jb_replies.proofs.ids.greatest_with.Goals as goal
+
+pub returns-then-at-eq0 : goal.returns-then-at-eq0
+returns-then-at-eq0 c = λ other is.
+    let last = last_with _ _ _ _ _ _ other c.requires.list c.place_of-at.ensures (omega (arith, c.requires.numbers)) is in
+    omega (arith, last.some, c.if-at-eq0.true)
+
+pub returns-then-has_id : goal.returns-then-has_id
+returns-then-has_id c = (
+  has_bytes _ _ (sym c.has_id.ensures ∙ c.if-has_id.true),
+  λ other is. (last_with _ _ _ _ _ _ other c.requires.list c.place_of-at.ensures (omega (arith, c.requires.numbers)) is).from 0,
+)
+
+pub returns-else-has_id : goal.returns-else-has_id
+returns-else-has_id c = λ other is.
+    let last = last_with _ _ _ _ _ _ other c.requires.list c.place_of-at.ensures (omega (arith, c.requires.numbers)) is in
+    let had = bytes_had _ _ (last.has 0) in
+    cc (c.has_id.ensures, c.if-has_id.false)

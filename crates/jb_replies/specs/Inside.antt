@@ -1,0 +1,14 @@
+-- How an index of replies is held.
+use Rattle.std.specs.Prelude.{◌+◌, ◌≤◌, vec_len, vec_capacity}
+use Rattle.jb_replies.specs.declared.replies.Replies.TheInside.{Inside}
+use Rattle.jb_replies.specs.Index.{ReplyIndex}
+
+-- the lists and the room that are held so
+abbrev pub index_of : Inside → ReplyIndex
+index_of held = record { ids = held.ids.items; answers = held.answers.items; kept = held.kept.items; room = held.room }
+
+-- each list has the room
+pub record HasRoom (held : Inside) : Type 0 where
+  pub ids : vec_len held.ids + held.room ≤ vec_capacity held.ids
+  pub answers : vec_len held.answers + held.room ≤ vec_capacity held.answers
+  pub kept : vec_len held.kept + held.room ≤ vec_capacity held.kept

@@ -1,0 +1,24 @@
+-- Lists in rising order of keys, and where in one a key would stand.
+use Rattle.std.specs.Prelude.{◌≡◌, ℕ, ◌<◌, ◌≤◌, false, List, length, slice_index_or, AllPairs}
+use Rattle.std.specs.Cmp.Lexicographic.{slice_cmp}
+use Rattle.std.specs.declared.cmp.Ordering.{Ordering}
+use Rattle.std.specs.declared.cmp.Ordering.TheVariants.{Less}
+use Rattle.std.specs.Ordering.{is_lt, nat_cmp, ordering_then}
+
+-- first by the bytes of the id, then by the number
+abbrev pub id_order : List ℕ × ℕ → List ℕ × ℕ → Ordering
+id_order one other = ordering_then (slice_cmp nat_cmp one.0 other.0) (nat_cmp one.1 other.1)
+
+-- first by the first number, then by the second
+abbrev pub pair_order : ℕ × ℕ → ℕ × ℕ → Ordering
+pair_order one other = ordering_then (nat_cmp one.0 other.0) (nat_cmp one.1 other.1)
+
+-- each has a lower key than all behind it, so none stands there twice
+abbrev pub IsRising : {X K : Type 0} → (K → K → Ordering) → (X → K) → List X → Type 0
+IsRising order key xs = AllPairs (λ one other. order (key one) (key other) ≡ Less) xs
+
+-- those before this place have lower keys than that one, the others have not
+pub record IsSplitAt {X K : Type 0} (order : K → K → Ordering) (key : X → K) (xs : List X) (asked : K) (at : ℕ) : Type 0 where
+  pub within : at ≤ length xs
+  pub lower : (k : ℕ) (d : X) → k < at → order (key (slice_index_or xs k d)) asked ≡ Less
+  pub rest : (k : ℕ) (d : X) → at ≤ k → k < length xs → is_lt (order (key (slice_index_or xs k d)) asked) ≡ false

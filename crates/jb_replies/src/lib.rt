@@ -1,0 +1,24 @@
+//! The replies of an open area: an index kept beside the loaded area, by which the parent of a message and the last
+//! reply to one are found without a look at all messages (JAM, "Reply linking").
+//!
+//! The layer above may rely on this: while a [`Replies`] is the index of the area (`IsIndexOf`), [`Replies::parent`] and
+//! [`Replies::splice`] answer what `jb_link` answers of the same area. A post and a kill change the index by
+//! [`Replies::posted`] and [`Replies::killed`], which take no memory; a reading, a mark and a relink leave it as it is.
+//!
+//! Cost, in an area of n messages: [`Replies::of`] makes n log n comparisons, and takes 4 bytes for each MSGID, 4 for
+//! each REPLYID and 8 for each kept number. [`Replies::parent`] makes one search at most, the other calls three, of
+//! log n comparisons each. Ids are compared by their bytes and never by their CRCs, so a base in which all ids have one
+//! CRC costs no more. [`Replies::posted`] and [`Replies::killed`] move the end of a list besides, in one piece: up to 4
+//! bytes a message in each list of ids, up to 8 in that of the kept numbers.
+#![tactic(auto)]
+
+mod found;
+mod ids;
+mod kept;
+mod laws;
+mod replies;
+#[cfg(test)]
+mod tests;
+
+pub use laws::{rests_on_slots, stays_under_heads, stays_under_relink};
+pub use replies::Replies;
