@@ -1,56 +1,34 @@
--- A call that was decided is begun.
-use Rattle.std.proofs.Common.{◌≡◌, ℕ, List, ◌++◌, Some, ap, sym, refl, ◌∙◌, subst}
+-- A call that was decided is begun, and then it ends.
+use Rattle.std.proofs.Common.{◌≡◌, ℕ, ◌≤◌, Bool, List, Result, Ok, Err, IfErr, OnErr, OnOk, Some, ap, sym, ◌∙◌, subst, arith}
 use Rattle.std.specs.Option.{ForSome}
-use Rattle.jb_base.specs.declared.user.User.{User}
-use Rattle.jb_disk.specs.Change.{Change}
+use Rattle.jb_base.specs.Fault.{Rose}
 use Rattle.jb_base.specs.declared.area.AreaRules.{AreaRules}
+use Rattle.jb_base.specs.declared.user.User.{User}
+use Rattle.jb_decide.specs.Decided.{IsNoPack, IsTold}
+use Rattle.jb_decide.specs.Headers.{KeepsHeaders}
+use Rattle.jb_decide.specs.Errors.{FaultRose}
+use Rattle.jb_decide.specs.declared.error.AreaError.{AreaError}
+use Rattle.jb_decide.specs.declared.error.AreaError.TheVariants.{StoreFault}
 use Rattle.jb_disk.specs.Device.{Device, OnlyReads}
+use Rattle.jb_disk.specs.Files.{Files, number_of}
+use Rattle.jb_disk.specs.declared.file.FileId.TheVariants.{Jhr}
+use Rattle.jb_image.specs.Places.{bytes_at}
 use Rattle.jb_disk.specs.Images.{Images}
 use Rattle.jb_disk.specs.Runs.{LeavesNow, LeavesOnly, Runs}
-use Rattle.jb_model.specs.declared.loaded.Loaded.{Loaded}
-use Rattle.jb_model.specs.declared.reply.Reply.{Reply}
-use Rattle.jb_area.specs.Holds.{OpensToEither}
-use Rattle.jb_disk.specs.Files.{Files}
-use Rattle.jb_disk.specs.declared.file.FileId.TheVariants.{Jdt}
 use Rattle.jb_model.specs.State.{state_of}
 use Rattle.jb_model.specs.Step.{Step}
 use Rattle.jb_model.specs.declared.command.Command.{Command}
-use Rattle.jb_area.specs.Area.{HasBegun, HasRoomInAll, IsDoubtful, IsResting, RestsAt}
-use Rattle.jb_area.specs.Calls.{HasAnswered, HasStoppedIn, IsBegunFor}
-use Rattle.jb_area.specs.Commits.{IsSettledAs}
-use Rattle.jb_area.specs.Decided.{IsDecided}
+use Rattle.jb_model.specs.declared.command.Command.TheVariants.{Post}
+use Rattle.jb_model.specs.declared.loaded.Loaded.{Loaded}
+use Rattle.jb_model.specs.declared.reply.Reply.{Reply}
+use Rattle.jb_model.specs.declared.reply.Reply.TheVariants.{Posted}
+use Rattle.jb_record.specs.Message.{message_header_of}
+use Rattle.jb_area.specs.Area.{files_after, HasBegun, HasMade, IsDoubtful, IsResting, RestsAt}
+use Rattle.jb_area.specs.Calls.{BeginsCall, EndsCall, FailsWith, HasAnswered, HasStoppedIn, IsBegunFor, MeetsCall}
+use Rattle.jb_area.specs.Holds.{OpensToEither}
 use Rattle.jb_area.specs.declared.area.OpenArea.{OpenArea}
-use Rattle.jb_area.specs.declared.decided.Decided.{Decided}
-use Rattle.jb_area.specs.declared.stage.Stage.TheVariants.{Begun}
-
-module _ {D : Type 0} (shown : D → Device) where
-  -- in the area at rest, whose disk was at most read
-  pub begun_for : (area : OpenArea D) (disk : D) (redo : Change) (texts : List ℕ) (user : User) (moment : ℕ) (command : Command) (decided : Decided)
-      → IsResting shown area texts → IsSettledAs area.held.loaded texts (shown disk) → HasRoomInAll redo
-      → IsDecided area.rules area.held.loaded (shown disk).contents redo user moment command decided
-      → IsBegunFor shown (record area { disk = disk; redo = redo; stage = Begun decided.reply decided.pending }) texts user moment command
-  begun_for area disk redo texts user moment command decided resting settled room is = record {
-    reply = decided.reply;
-    coming = is.coming;
-    begun = record {
-      pending = decided.pending;
-      stage = refl;
-      kept = record {
-        ruled = record {
-          few_slots = resting.kept.ruled.few_slots;
-          address = resting.kept.ruled.address;
-          sound = resting.kept.ruled.sound;
-          whole = resting.kept.ruled.whole;
-          room = room;
-        };
-        settled = settled;
-      };
-      change = is.change;
-    };
-    step = λ files there.
-        let told : files Jdt ≡ texts = (settled.rests files there).holds.texts_are in
-        subst (λ (t : List ℕ). Step area.rules (state_of t area.held.loaded) user moment command decided.reply (state_of (t ++ is.coming.text) is.coming.to)) told (is.step files there);
-  }
+use Rattle.jb_area.proofs.Outcomes.{if_ok_then2}
+use Rattle.jb_area.proofs.StartLemmas.{fails_with}
 
 -- what a crash leaves, from a device that was at most read since
 only_from : (P : Files → Type 0) (old mid new : Device) → OnlyReads old mid → LeavesOnly mid new P → LeavesOnly old new P
@@ -59,48 +37,127 @@ only_from P old mid new same only = record {
   run = subst (λ (m : List Images). Runs P m new.moments) same.moments only.run;
 }
 
+-- the same post, from the same parts
+pub same_post : (to its_to subject its_subject text its_text : List ℕ) (reply_to : ℕ) (private : Bool) → to ≡ its_to → subject ≡ its_subject → text ≡ its_text
+    → Post to subject text reply_to private ≡ Post its_to its_subject its_text reply_to private
+same_post to its_to subject its_subject text its_text reply_to private one two three =
+    ap (λ (t : List ℕ). Post t subject text reply_to private) one ∙ ap (λ (s : List ℕ). Post its_to s text reply_to private) two
+    ∙ ap (λ (t : List ℕ). Post its_to its_subject t reply_to private) three
+
+-- a claim on what was done, where it was done
+ok_gives : {T E : Type 0} (result : Result T E) (value : T) (P : Type 0) → result ≡ Ok value → OnOk result P → P
+ok_gives {T} {E} result value P ok claim = subst (λ (r : Result T E). OnOk r P) ok claim
+
+-- a claim on a refusal, where it is this one
+err_gives : {T E : Type 0} (result : Result T E) (error : E) (P : E → Type 0) → result ≡ Err error → IfErr result P → P error
+err_gives {T} {E} result error P refused claim = subst (λ (r : Result T E). IfErr r P) refused claim
+
+-- a fault that is the only error has its cause
+fault_rose : {T : Type 0} (result : Result T AreaError) (before mid now : ℕ) → before ≤ mid → IfErr result (λ error. error ≡ StoreFault) → OnErr result (Rose mid now) → IfErr result (FaultRose before now)
+fault_rose (Ok value) before mid now later fault cause = tt
+fault_rose (Err error) before mid now later fault cause = subst (FaultRose before now) (sym fault) (omega (arith, cause, later))
+
+-- a call that is stopped fails so
+fails_so : {T : Type 0} (result : Result T AreaError) (P : Type 0) (Q : AreaError → Type 0) → IfErr result (λ error. error ≡ StoreFault) → OnErr result P → (P → Q StoreFault) → IfErr result Q
+fails_so (Ok value) P Q fault doubt then = tt
+fails_so (Err error) P Q fault doubt then = subst Q (sym fault) (then doubt)
+
+-- the headers of an area, in files with the same .JHR
+headers_agree : (reply : Reply) (from to : Loaded) (was now other : Files) → now Jhr ≡ other Jhr → KeepsHeaders reply from to was other → KeepsHeaders reply from to was now
+headers_agree reply from to was now other jhr keeps = record {
+  places = keeps.places;
+  numbers = λ place at is. ap (λ (b : List ℕ). (message_header_of (bytes_at at 76 b)).number) jhr ∙ keeps.numbers place at is;
+  behind = λ place message past here.
+      let stands = keeps.behind place message past here in
+      record {
+        header_at = stands.header_at;
+        text_at = stands.text_at;
+        numbered = stands.numbered ∙ ap (λ (b : List ℕ). Posted (message_header_of (bytes_at message.header_at 76 b)).number) (sym jhr);
+      };
+}
+
 module _ {D : Type 0} (shown : D → Device) (old mid new : OpenArea D) (texts : List ℕ) (user : User) (moment : ℕ) (command : Command)
     (same : OnlyReads (shown old.disk) (shown mid.disk)) (loaded : mid.held.loaded ≡ old.held.loaded) (rules : mid.rules ≡ old.rules) (begun : IsBegunFor shown mid texts user moment command) where
   -- the step, as it was before the call
-  step_before : ForSome (shown old.disk).contents (λ files.
-      Step old.rules (state_of texts old.held.loaded) user moment command begun.reply (state_of (texts ++ begun.coming.text) begun.coming.to))
-  step_before = λ files there.
-      subst (λ (r : AreaRules). Step r (state_of texts old.held.loaded) user moment command begun.reply (state_of (texts ++ begun.coming.text) begun.coming.to)) rules
-      (subst (λ (l : Loaded). Step mid.rules (state_of texts l) user moment command begun.reply (state_of (texts ++ begun.coming.text) begun.coming.to)) loaded
-      (begun.step files (same.contents ∙ there)))
+  step_before : IsTold begun.reply (shown old.disk).contents
+      → Step old.rules (state_of texts old.held.loaded) user moment command begun.reply (state_of begun.coming.texts begun.coming.to)
+  step_before told =
+      subst (λ (r : AreaRules). Step r (state_of texts old.held.loaded) user moment command begun.reply (state_of begun.coming.texts begun.coming.to)) rules
+      (subst (λ (l : Loaded). Step mid.rules (state_of texts l) user moment command begun.reply (state_of begun.coming.texts begun.coming.to)) loaded
+      (begun.step (subst (IsTold begun.reply) (sym same.contents) told)))
+
+  -- what a crash leaves meanwhile
+  crash_before : ForSome (shown mid.disk).contents (λ files. LeavesOnly (shown mid.disk) (shown new.disk) (OpensToEither mid.held.loaded texts begun.coming))
+      → ForSome (shown old.disk).contents (λ files. LeavesOnly (shown old.disk) (shown new.disk) (OpensToEither old.held.loaded texts begun.coming))
+  crash_before crash = λ files there.
+      subst (λ (l : Loaded). LeavesOnly (shown old.disk) (shown new.disk) (OpensToEither l texts begun.coming)) loaded
+      (only_from (OpensToEither mid.held.loaded texts begun.coming) (shown old.disk) (shown mid.disk) (shown new.disk) same (crash files (same.contents ∙ there)))
+
+  -- what becomes of the headers
+  headers_then : HasMade shown mid new → IsNoPack command → ForSome (shown old.disk).contents (λ was. ForSome (shown new.disk).contents (λ now.
+      KeepsHeaders begun.reply old.held.loaded begun.coming.to was now))
+  headers_then made in_place was there now here =
+      let there_too = same.contents ∙ there in
+      headers_agree begun.reply old.held.loaded begun.coming.to was now (files_after mid was) (made was there_too now here Jhr (λ is. let number = ap number_of is in omega (arith, number)))
+      (subst (λ (l : Loaded). KeepsHeaders begun.reply l begun.coming.to was (files_after mid was)) loaded (begun.headers in_place was (begun.begun.kept.settled.rests was there_too).holds))
 
   -- finished
-  pub answered_by : (reply : Reply) → (reply ≡ begun.reply) × RestsAt shown new (texts ++ begun.coming.text) begun.coming.to
-      → ForSome (shown mid.disk).contents (λ files. LeavesOnly (shown mid.disk) (shown new.disk) (OpensToEither mid.held.loaded begun.coming.to texts begun.coming.text))
+  answered_by : (reply : Reply) → (reply ≡ begun.reply) × RestsAt shown new begun.coming.texts begun.coming.to → HasMade shown mid new
+      → ForSome (shown mid.disk).contents (λ files. LeavesOnly (shown mid.disk) (shown new.disk) (OpensToEither mid.held.loaded texts begun.coming))
       → HasAnswered shown old new texts user moment command reply
-  answered_by reply done crash = record {
+  answered_by reply done made crash = record {
     coming = begun.coming;
-    step = λ files there.
-        subst (λ (r : Reply). Step old.rules (state_of texts old.held.loaded) user moment command r (state_of (texts ++ begun.coming.text) begun.coming.to)) (sym done.0) (step_before files there);
+    step = subst (λ (r : Reply). IsTold r (shown old.disk).contents → Step old.rules (state_of texts old.held.loaded) user moment command r (state_of begun.coming.texts begun.coming.to)) (sym done.0) step_before;
     rests = done.1;
-    crash = λ files there.
-        subst (λ (l : Loaded). LeavesOnly (shown old.disk) (shown new.disk) (OpensToEither l begun.coming.to texts begun.coming.text)) loaded
-        (only_from (OpensToEither mid.held.loaded begun.coming.to texts begun.coming.text) (shown old.disk) (shown mid.disk) (shown new.disk) same (crash files (same.contents ∙ there)));
+    headers = λ in_place was there now here.
+        subst (λ (r : Reply). KeepsHeaders r old.held.loaded begun.coming.to was now) (sym done.0) (headers_then made in_place was there now here);
+    crash = crash_before crash;
   }
 
   -- stopped
-  pub stopped_by : IsDoubtful shown new texts (Some begun.coming)
-      → ForSome (shown mid.disk).contents (λ files. LeavesOnly (shown mid.disk) (shown new.disk) (OpensToEither mid.held.loaded begun.coming.to texts begun.coming.text))
+  stopped_by : IsDoubtful shown new texts (Some begun.coming)
+      → ForSome (shown mid.disk).contents (λ files. LeavesOnly (shown mid.disk) (shown new.disk) (OpensToEither mid.held.loaded texts begun.coming))
       → HasStoppedIn shown old new texts user moment command
   stopped_by doubt crash = record {
     coming = Some begun.coming;
-    change = λ files there. (begun.reply, step_before files there);
+    change = (begun.reply, step_before);
     doubt = doubt;
-    crash = λ files there.
-        subst (λ (l : Loaded). LeavesOnly (shown old.disk) (shown new.disk) (OpensToEither l begun.coming.to texts begun.coming.text)) loaded
-        (only_from (OpensToEither mid.held.loaded begun.coming.to texts begun.coming.text) (shown old.disk) (shown mid.disk) (shown new.disk) same (crash files (same.contents ∙ there)));
+    crash = crash_before crash;
   }
 
 module _ {D : Type 0} (shown : D → Device) where
   -- a call is begun
-  pub has_begun : (area : OpenArea D) (texts : List ℕ) (user : User) (moment : ℕ) (command : Command) → IsBegunFor shown area texts user moment command → HasBegun shown area
-  has_begun area texts user moment command is = record { texts = texts; reply = is.reply; coming = is.coming; begun = is.begun }
+  pub has_begun : (old mid : OpenArea D) (texts : List ℕ) (user : User) (moment : ℕ) (command : Command) (began : Result (Unit {0}) AreaError) (value : Unit {0})
+      → BeginsCall shown old mid user moment command began → began ≡ Ok value → IsResting shown old texts → HasBegun shown mid
+  has_begun old mid texts user moment command began value begins ok resting =
+      let is = ok_gives began value _ ok begins.begun texts resting in
+      record { texts = texts; reply = is.reply; coming = is.coming; begun = is.begun }
 
--- the same disk was not even read
-pub same_disk : {D : Type 0} (shown : D → Device) (old mid : D) → mid ≡ old → OnlyReads (shown old) (shown mid)
-same_disk shown old mid same = record { contents = ap (λ d. (shown d).contents) same; moments = ap (λ d. (shown d).moments) same }
+  -- a call that is begun and ends
+  pub meets : (old mid new : OpenArea D) (user : User) (moment : ℕ) (command : Command) (began : Result (Unit {0}) AreaError) (value : Unit {0}) (result : Result Reply AreaError)
+      → BeginsCall shown old mid user moment command began → began ≡ Ok value → EndsCall shown mid new result → MeetsCall shown old new user moment command result
+  meets old mid new user moment command began value result begins ok ends =
+      let earlier = begins.later in
+      let later = ends.later in
+      record {
+        answered = if_ok_then2 result _ _ _ ends.done ends.made (λ reply done made texts resting.
+            let is = ok_gives began value _ ok begins.begun texts resting in
+            answered_by shown old mid new texts user moment command begins.reads begins.loaded begins.rules is reply (done texts is.reply is.coming is.begun) made (ends.crash texts is.reply is.coming is.begun));
+        failed = fails_so result _ (λ error. (texts : List ℕ) → IsResting shown old texts → FailsWith shown error old new texts user moment command) ends.fault ends.doubt (λ doubt texts resting.
+            let is = ok_gives began value _ ok begins.begun texts resting in
+            stopped_by shown old mid new texts user moment command begins.reads begins.loaded begins.rules is (doubt texts is.reply is.coming is.begun) (ends.crash texts is.reply is.coming is.begun));
+        cause = fault_rose result _ _ _ begins.later ends.fault ends.cause;
+        later = omega (arith, earlier, later);
+        rules = ends.rules ∙ begins.rules;
+      }
+
+  -- a call that is not begun
+  pub meets_not : (old new : OpenArea D) (user : User) (moment : ℕ) (command : Command) (began : Result (Unit {0}) AreaError) (error : AreaError)
+      → BeginsCall shown old new user moment command began → began ≡ Err error → MeetsCall shown old new user moment command (Err error)
+  meets_not old new user moment command began error begins refused = record {
+    answered = tt;
+    failed = λ texts resting. fails_with shown error old new texts user moment command begins.reads resting (err_gives began error _ refused begins.failed texts resting);
+    cause = err_gives began error _ refused begins.cause;
+    later = begins.later;
+    rules = begins.rules;
+  }

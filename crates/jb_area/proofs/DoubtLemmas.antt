@@ -1,5 +1,5 @@
 -- What a settling makes of an area in doubt.
-use Rattle.std.proofs.Common.{◌≡◌, ◌≢◌, ℕ, List, ◌++◌, Option, None, Some, true, false, ap, sym, refl, ◌∙◌, subst}
+use Rattle.std.proofs.Common.{◌≡◌, ◌≢◌, ℕ, List, Option, None, Some, true, false, ap, sym, refl, ◌∙◌, subst, ◌+◌, ◌≤◌, length}
 use Rattle.jb_disk.specs.Device.{Device}
 use Rattle.jb_disk.specs.Files.{Files}
 use Rattle.jb_disk.specs.Runs.{LeavesOnly}
@@ -7,16 +7,18 @@ use Rattle.jb_disk.proofs.RunLemmas.{runs-refl}
 use Rattle.jb_journal.specs.declared.stopped.Stopped.{Stopped}
 use Rattle.jb_model.specs.Sound.{IsSound}
 use Rattle.jb_model.specs.declared.loaded.Loaded.{Loaded}
-use Rattle.jb_area.specs.Area.{DoubtOpens, IsBetween, IsDoubtful, IsPending, IsUnchanged, RestsAt, SettlesAt}
-use Rattle.jb_area.specs.Commits.{Coming, IsAnsweredAs, IsChange, IsSettledAs, IsStoppedAs, MaySettle}
-use Rattle.jb_area.specs.Held.{IsKeptWhole}
-use Rattle.jb_area.specs.declared.held.Held.{Held}
+use Rattle.jb_decide.specs.Coming.{Coming, IsChange}
+use Rattle.jb_decide.specs.Decided.{IsPending}
+use Rattle.jb_area.specs.Area.{DoubtOpens, IsBetween, IsDoubtful, IsUnchanged, RestsAt, SettlesAt}
+use Rattle.jb_area.specs.Commits.{IsAnsweredAs, IsSettledAs, IsStoppedAs, MaySettle}
+use Rattle.jb_decide.specs.Held.{IsKeptWhole}
+use Rattle.jb_decide.specs.declared.held.Held.{Held}
 use Rattle.jb_step.specs.After.{live_messages}
 use Rattle.jb_area.specs.Holds.{Opens, OpensToEither}
-use Rattle.jb_area.specs.Pending.{IsFit, after, live_after}
+use Rattle.jb_decide.specs.Pending.{IsFit, after, live_after}
 use Rattle.jb_area.specs.declared.area.OpenArea.{OpenArea}
-use Rattle.jb_area.specs.declared.pending.Pending.{Pending}
-use Rattle.jb_area.specs.declared.pending.Pending.TheVariants.{Nothing}
+use Rattle.jb_decide.specs.declared.pending.Pending.{Pending}
+use Rattle.jb_decide.specs.declared.pending.Pending.TheVariants.{Nothing}
 use Rattle.jb_area.specs.declared.stage.Stage.{Stage}
 use Rattle.jb_area.specs.declared.stage.Stage.TheVariants.{Resting, Doubtful}
 use Rattle.jb_area.proofs.CommitLemmas.{settled_opens}
@@ -56,9 +58,9 @@ module _ {D : Type 0} (shown : D → Device) (area : OpenArea D) (stopped : Stop
         subst (λ (s : Stopped). IsStoppedAs s area.redo area.held.loaded texts (shown area.disk)) (same_stopped between.stopped stopped between.pending pending (sym between.stage ∙ is)) between.doubt
 
     -- what is to come
-    change_is : (texts : List ℕ) (coming : Coming) → IsBetween shown area texts coming → IsPending area.rules.slots area.redo pending area.held.loaded coming
+    change_is : (texts : List ℕ) (coming : Coming) → IsBetween shown area texts coming → IsPending area.rules.slots area.redo pending area.held.loaded texts coming
     change_is texts coming between =
-        subst (λ (p : Pending). IsPending area.rules.slots area.redo p area.held.loaded coming) (same_pending between.stopped stopped between.pending pending (sym between.stage ∙ is)) between.change
+        subst (λ (p : Pending). IsPending area.rules.slots area.redo p area.held.loaded texts coming) (same_pending between.stopped stopped between.pending pending (sym between.stage ∙ is)) between.change
 
     -- it may be settled
     pub may_settle : (texts : List ℕ) (coming : Option Coming) → IsDoubtful shown area texts coming → MaySettle stopped area.redo (shown area.disk)
@@ -88,9 +90,17 @@ module _ {D : Type 0} (shown : D → Device) (area : OpenArea D) (stopped : Stop
     fits texts None doubt = absurd (no_none texts doubt)
     fits texts (Some coming) doubt = (change_is texts coming doubt).fit
 
+    -- its numbers stay in their range
+    pub numbered : (texts : List ℕ) (coming : Option Coming) → IsDoubtful shown area texts coming
+        → (after pending area.held.loaded).base + length (after pending area.held.loaded).slots ≤ 4294967295
+    numbered texts None doubt = absurd (no_none texts doubt)
+    numbered texts (Some coming) doubt =
+        let change = change_is texts coming doubt in
+        subst (λ (l : Loaded). l.base + length l.slots ≤ 4294967295) change.becomes change.sound.numbers
+
     -- settled with the change
     pub stands : (disk : D) (held : Held) (stage : Stage) → stage ≡ Resting → held.loaded ≡ after pending area.held.loaded → IsKeptWhole held
-        → ((from : Loaded) (texts : List ℕ) (coming : Coming) → IsStoppedAs stopped area.redo from texts (shown area.disk) → IsChange area.redo from coming → IsAnsweredAs true from texts coming (shown disk))
+        → ((from : Loaded) (texts : List ℕ) (coming : Coming) → IsStoppedAs stopped area.redo from texts (shown area.disk) → IsChange area.redo from texts coming → IsAnsweredAs true from texts coming (shown disk))
         → (texts : List ℕ) (coming : Option Coming) → IsDoubtful shown area texts coming
         → SettlesAt shown true area.held.loaded texts coming (record area { disk = disk; held = held; stage = stage })
     stands disk held stage resting applied whole answer texts None doubt = no_none texts doubt
@@ -101,8 +111,8 @@ module _ {D : Type 0} (shown : D → Device) (area : OpenArea D) (stopped : Stop
           rests = record {
             stage = resting;
             kept = record {
-              ruled = record { few_slots = doubt.ruled.few_slots; address = doubt.ruled.address; sound = subst (IsSound area.rules.slots) to change.sound; whole = whole; room = doubt.ruled.room };
-              settled = subst (λ (l : Loaded). IsSettledAs l (texts ++ coming.text) (shown disk)) to (answer area.held.loaded texts coming (doubt_is texts coming doubt) change.change);
+              ruled = record { few_slots = doubt.ruled.few_slots; address = doubt.ruled.address; sound = subst (IsSound area.rules.slots) to change.sound; sized = change.sized ∙ ap (λ (l : Loaded). l.texts_len) to; whole = whole; room = doubt.ruled.room };
+              settled = subst (λ (l : Loaded). IsSettledAs l coming.texts (shown disk)) to (answer area.held.loaded texts coming (doubt_is texts coming doubt) change.change);
             };
           };
           is = sym to;
@@ -110,7 +120,7 @@ module _ {D : Type 0} (shown : D → Device) (area : OpenArea D) (stopped : Stop
 
     -- settled without it
     pub falls : (disk : D) (stage : Stage) → stage ≡ Resting
-        → ((from : Loaded) (texts : List ℕ) (coming : Coming) → IsStoppedAs stopped area.redo from texts (shown area.disk) → IsChange area.redo from coming → IsAnsweredAs false from texts coming (shown disk))
+        → ((from : Loaded) (texts : List ℕ) (coming : Coming) → IsStoppedAs stopped area.redo from texts (shown area.disk) → IsChange area.redo from texts coming → IsAnsweredAs false from texts coming (shown disk))
         → (texts : List ℕ) (coming : Option Coming) → IsDoubtful shown area texts coming
         → RestsAt shown (record area { disk = disk; stage = stage }) texts area.held.loaded
     falls disk stage resting answer texts None doubt = absurd (no_none texts doubt)
@@ -118,7 +128,7 @@ module _ {D : Type 0} (shown : D → Device) (area : OpenArea D) (stopped : Stop
       rests = record {
         stage = resting;
         kept = record {
-          ruled = record { few_slots = doubt.ruled.few_slots; address = doubt.ruled.address; sound = doubt.ruled.sound; whole = doubt.ruled.whole; room = doubt.ruled.room };
+          ruled = record { few_slots = doubt.ruled.few_slots; address = doubt.ruled.address; sound = doubt.ruled.sound; sized = doubt.ruled.sized; whole = doubt.ruled.whole; room = doubt.ruled.room };
           settled = answer area.held.loaded texts coming (doubt_is texts coming doubt) (change_is texts coming doubt).change;
         };
       };
@@ -127,7 +137,7 @@ module _ {D : Type 0} (shown : D → Device) (area : OpenArea D) (stopped : Stop
 
     -- stopped again
     pub still : (disk : D) (again : Stopped)
-        → ((from : Loaded) (texts : List ℕ) (coming : Coming) → IsStoppedAs stopped area.redo from texts (shown area.disk) → IsChange area.redo from coming → IsStoppedAs again area.redo from texts (shown disk))
+        → ((from : Loaded) (texts : List ℕ) (coming : Coming) → IsStoppedAs stopped area.redo from texts (shown area.disk) → IsChange area.redo from texts coming → IsStoppedAs again area.redo from texts (shown disk))
         → (texts : List ℕ) (coming : Option Coming) → IsDoubtful shown area texts coming
         → IsDoubtful shown (record area { disk = disk; stage = Doubtful again pending }) texts coming
     still disk again answer texts None doubt = absurd (no_none texts doubt)
@@ -137,15 +147,15 @@ module _ {D : Type 0} (shown : D → Device) (area : OpenArea D) (stopped : Stop
           stopped = again;
           pending = pending;
           stage = refl;
-          ruled = record { few_slots = doubt.ruled.few_slots; address = doubt.ruled.address; sound = doubt.ruled.sound; whole = doubt.ruled.whole; room = doubt.ruled.room };
+          ruled = record { few_slots = doubt.ruled.few_slots; address = doubt.ruled.address; sound = doubt.ruled.sound; sized = doubt.ruled.sized; whole = doubt.ruled.whole; room = doubt.ruled.room };
           change = change;
           doubt = answer area.held.loaded texts coming (doubt_is texts coming doubt) change.change;
         }
 
     -- whenever a crash comes
     pub crashes : (new : Device)
-        → ((from : Loaded) (texts : List ℕ) (coming : Coming) → IsStoppedAs stopped area.redo from texts (shown area.disk) → IsChange area.redo from coming
-        → (was : Files) → (shown area.disk).contents ≡ Some was → LeavesOnly (shown area.disk) new (OpensToEither from coming.to texts coming.text))
+        → ((from : Loaded) (texts : List ℕ) (coming : Coming) → IsStoppedAs stopped area.redo from texts (shown area.disk) → IsChange area.redo from texts coming
+        → (was : Files) → (shown area.disk).contents ≡ Some was → LeavesOnly (shown area.disk) new (OpensToEither from texts coming))
         → (texts : List ℕ) (coming : Option Coming) → IsDoubtful shown area texts coming → (was : Files) → (shown area.disk).contents ≡ Some was
         → LeavesOnly (shown area.disk) new (DoubtOpens area.held.loaded texts coming)
     crashes new crash texts None doubt was there = absurd (no_none texts doubt)

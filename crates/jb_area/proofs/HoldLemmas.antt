@@ -1,5 +1,5 @@
 -- From what the journal promises of files to what it means for the area.
-use Rattle.std.proofs.Common.{◌≡◌, ◌≢◌, inl, inr, ℕ, ◌+◌, ◌*◌, ◌<◌, ◌≤◌, List, [], ◌∷◌, ◌++◌, length, take, ap, refl, sym, ◌∙◌, subst, arith, length-append, length-take}
+use Rattle.std.proofs.Common.{◌≡◌, ◌≢◌, inl, inr, ℕ, ◌+◌, ◌*◌, ◌<◌, ◌≤◌, List, [], ◌∷◌, length, take, ap, refl, sym, ◌∙◌, subst, arith, length-append, length-take}
 use Rattle.std.proofs.lemmas.List.{places}
 use Rattle.std.specs.Prelude.{slice_index, slice_index_or, bit_and}
 use Rattle.jb_base.specs.declared.attribute.TheConstants.{DELETED}
@@ -26,8 +26,9 @@ use Rattle.jb_record.specs.Lastread.{lastread_record_of}
 use Rattle.jb_record.specs.Message.{IsMessageHeader, message_header_of}
 use Rattle.jb_base.specs.Subfields.{IsSubfieldList}
 use Rattle.jb_redo.specs.Record.{record_bytes}
-use Rattle.jb_change.specs.Makes.{Makes}
-use Rattle.jb_area.specs.Holds.{Holds, IsAtRest, Opens, OpensToEither}
+use Rattle.jb_decide.specs.Coming.{Brings, Coming}
+use Rattle.jb_decide.specs.Holds.{Holds}
+use Rattle.jb_area.specs.Holds.{IsAtRest, Opens, OpensToEither}
 
 -- files that hold the same in the four files of the base
 module _ (files other : Files) (jhr : files Jhr ≡ other Jhr) (jdt : files Jdt ≡ other Jdt) (jdx : files Jdx ≡ other Jdx) (jlr : files Jlr ≡ other Jlr) where
@@ -115,26 +116,18 @@ opens_to base files loaded texts holds to = record {
   holds = holds_agree to.after base loaded texts to.same holds;
 }
 
--- a change done over files that hold the area
-pub holds_done : (change : Change) (from to : Loaded) (text : List ℕ) (files : Files) (texts : List ℕ) → Makes change from to text → Holds from texts files
-    → Holds to (texts ++ text) (changed change files)
-holds_done change from to text files texts makes holds = record {
-  loads = makes.loads files holds.loads;
-  texts_are = makes.texts files holds.loads ∙ ap (λ (t : List ℕ). t ++ text) holds.texts_are;
-}
-
 -- each file that a commit of the change may leave opens to one of the two
-pub opens_either : (change : Change) (from to : Loaded) (text : List ℕ) (start files : Files) (texts : List ℕ) → Makes change from to text → Holds from texts start
-    → IsBeforeOrAfter change start files → OpensToEither from to texts text files
-opens_either change from to text start files texts makes holds (inl before) = inl (opens_to start files from texts holds before)
-opens_either change from to text start files texts makes holds (inr after) =
-    inr (opens_to (changed change start) files to (texts ++ text) (holds_done change from to text start texts makes holds) after)
+pub opens_either : (change : Change) (from : Loaded) (texts : List ℕ) (coming : Coming) (start files : Files) → Brings change from texts coming.to coming.texts → Holds from texts start
+    → IsBeforeOrAfter change start files → OpensToEither from texts coming files
+opens_either change from texts coming start files brings holds (inl before) = inl (opens_to start files from texts holds before)
+opens_either change from texts coming start files brings holds (inr after) =
+    inr (opens_to (changed change start) files coming.to coming.texts (brings.holds start holds) after)
 
 -- the change may be committed over files at rest
-pub ready : (change : Change) (from to : Loaded) (text : List ℕ) (files : Files) (texts : List ℕ) → Makes change from to text → IsAtRest from texts files → IsReady change files
-ready change from to text files texts makes rest = record {
-  legal = makes.legal files rest.holds.loads;
-  grown = makes.grown files rest.holds.loads;
+pub ready : (change : Change) (from : Loaded) (texts : List ℕ) (coming : Coming) (files : Files) → Brings change from texts coming.to coming.texts → IsAtRest from texts files → IsReady change files
+ready change from texts coming files brings rest = record {
+  legal = brings.legal files rest.holds;
+  grown = brings.grown files rest.holds;
   long = rest.long;
   shut = rest.shut;
 }
@@ -152,12 +145,7 @@ first_written : (byte : ℕ) (bytes : List ℕ) → 1 ≤ length bytes → slice
 unfolding overwritten
 first_written byte bytes some = grind (arith, places)
 
-module _ (change : Change) (start : Files) (long : 16 ≤ length (start Jnl)) where
-  -- the journal behind the head that it had has the record
-  length-journal : 16 ≤ length (journal_of change start)
-  length-journal = let head : length (take 16 (start Jnl)) ≡ 16 = omega (arith, length-take 16 (start Jnl)) in
-      omega (arith, head, length-append (take 16 (start Jnl)) (record_bytes change.lengths change.pieces))
-
+module _ (change : Change) (start : Files) where
   -- the files with the record behind the open gate
   abbrev recorded : Files
   recorded = with_file Jnl (journal_of change start) (changed change start)
@@ -167,13 +155,18 @@ module _ (change : Change) (start : Files) (long : 16 ≤ length (start Jnl)) wh
   committed-jnl = with_file-here Jnl (overwritten 0 (0 ∷ []) (recorded Jnl)) recorded
       ∙ ap (overwritten 0 (0 ∷ [])) (with_file-here Jnl (journal_of change start) (changed change start))
 
+  -- the journal behind the head that it had has the record
+  length-journal : 16 ≤ length (start Jnl) → 16 ≤ length (journal_of change start)
+  length-journal long = let head : length (take 16 (start Jnl)) ≡ 16 = omega (arith, length-take 16 (start Jnl)) in
+      omega (arith, head, length-append (take 16 (start Jnl)) (record_bytes change.lengths change.pieces))
+
   -- its length
-  pub length-committed : 16 ≤ length (committed change start Jnl)
-  length-committed = let long = length-journal in omega (arith, ap length committed-jnl, length-overwritten 0 (0 ∷ []) (journal_of change start) (omega (arith, long)))
+  pub length-committed : 16 ≤ length (start Jnl) → 16 ≤ length (committed change start Jnl)
+  length-committed has = let long = length-journal has in omega (arith, ap length committed-jnl, length-overwritten 0 (0 ∷ []) (journal_of change start) (omega (arith, long)))
 
   -- its gate
-  pub gate-committed : slice_index (committed change start Jnl) 0 ≡ 0
-  gate-committed = let long = length-journal in
+  pub gate-committed : 16 ≤ length (start Jnl) → slice_index (committed change start Jnl) 0 ≡ 0
+  gate-committed has = let long = length-journal has in
       ap (λ (l : List ℕ). slice_index l 0) committed-jnl ∙ first_written 0 (journal_of change start) (omega (arith, long))
 
   -- the other files
@@ -182,11 +175,10 @@ module _ (change : Change) (start : Files) (long : 16 ≤ length (start Jnl)) wh
       ∙ with_file-other Jnl file (journal_of change start) (changed change start) ne
 
 -- after a commit the files are at rest with the change done
-pub rests_committed : (change : Change) (from to : Loaded) (text : List ℕ) (files : Files) (texts : List ℕ) → Makes change from to text → IsAtRest from texts files
-    → IsAtRest to (texts ++ text) (committed change files)
-rests_committed change from to text files texts makes rest = record {
-  holds = holds_agree (committed change files) (changed change files) to (texts ++ text) (committed-agrees change files rest.long)
-      (holds_done change from to text files texts makes rest.holds);
+pub rests_committed : (change : Change) (from : Loaded) (texts : List ℕ) (coming : Coming) (files : Files) → Brings change from texts coming.to coming.texts → IsAtRest from texts files
+    → IsAtRest coming.to coming.texts (committed change files)
+rests_committed change from texts coming files brings rest = record {
+  holds = holds_agree (committed change files) (changed change files) coming.to coming.texts (committed-agrees change files) (brings.holds files rest.holds);
   long = length-committed change files rest.long;
   shut = λ one. let zero = gate-committed change files rest.long in omega (arith, zero, one);
 }

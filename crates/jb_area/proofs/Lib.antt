@@ -1,12 +1,8 @@
 mod CallLemmas
 mod CommitLemmas
-mod DecidedLemmas
 mod DoubtLemmas
 mod HoldLemmas
-mod LinkedLemmas
-mod MarkLemmas
+mod IndexLemmas
 mod Outcomes
-mod PostLemmas
-mod RelinkLemmas
 mod StageLemmas
 mod StartLemmas

@@ -1,21 +1,26 @@
 -- What is on its way in an open area, from its stage.
-use Rattle.std.proofs.Common.{◌≡◌, ◌≢◌, ◌⊎◌, inl, inr, ℕ, List, [], ◌++◌, ap, sym, refl, ◌∙◌, subst}
-use Rattle.std.proofs.lemmas.List.{append-nil}
+use Rattle.std.proofs.Common.{◌≡◌, ◌≢◌, ◌⊎◌, inl, inr, ℕ, ◌+◌, ◌≤◌, List, length, ap, sym, refl, ◌∙◌, subst}
 use Rattle.jb_disk.specs.Device.{Device}
 use Rattle.jb_disk.specs.Change.{Change}
 use Rattle.jb_model.specs.Sound.{IsSound}
 use Rattle.jb_model.specs.declared.loaded.Loaded.{Loaded}
 use Rattle.jb_model.specs.declared.reply.Reply.{Reply}
 use Rattle.jb_journal.specs.declared.stopped.Stopped.{Stopped}
-use Rattle.jb_area.specs.Area.{IsBegun, IsBetween, IsNoChange, IsPending, RestsAt}
-use Rattle.jb_area.specs.Commits.{Coming, IsChange, IsSettledAs, IsStoppedAs, MayCommit}
-use Rattle.jb_area.specs.Held.{IsKeptWhole}
-use Rattle.jb_area.specs.declared.held.Held.{Held}
+use Rattle.jb_decide.specs.Coming.{Coming, IsChange}
+use Rattle.std.specs.Option.{ForSome}
+use Rattle.jb_disk.specs.Files.{Files}
+use Rattle.jb_journal.specs.Commit.{AgreeButJournal, changed}
+use Rattle.jb_decide.specs.Decided.{IsNoChange, IsPending, made}
+use Rattle.jb_area.specs.Area.{done_in, HasMade, IsBegun, IsBetween, RestsAt}
+use Rattle.jb_area.specs.Commits.{IsSettledAs, IsStoppedAs, MayCommit}
+use Rattle.jb_decide.specs.Held.{IsKeptWhole}
+use Rattle.jb_decide.specs.declared.held.Held.{Held}
 use Rattle.jb_step.specs.After.{live_messages}
-use Rattle.jb_area.specs.Pending.{IsFit, after, live_after}
+use Rattle.jb_decide.specs.Pending.{IsFit, after, live_after}
 use Rattle.jb_area.specs.declared.area.OpenArea.{OpenArea}
-use Rattle.jb_area.specs.declared.pending.Pending.{Pending}
-use Rattle.jb_area.specs.declared.pending.Pending.TheVariants.{Nothing}
+use Rattle.jb_area.proofs.CommitLemmas.{some-same}
+use Rattle.jb_decide.specs.declared.pending.Pending.{Pending}
+use Rattle.jb_decide.specs.declared.pending.Pending.TheVariants.{Nothing, Counted, Marked}
 use Rattle.jb_area.specs.declared.stage.Stage.{Stage}
 use Rattle.jb_area.specs.declared.stage.Stage.TheVariants.{Resting, Begun, Doubtful}
 
@@ -27,16 +32,37 @@ pub same_pending : (one other : Reply) (first second : Pending) → Begun one fi
 same_pending one other first second is = cc
 
 -- nothing changes where nothing is pending
-pub none_pending : (limit : ℕ) (redo : Change) (pending : Pending) (from : Loaded) (coming : Coming) → pending ≡ Nothing
-    → IsNoChange pending from coming ⊎ IsPending limit redo pending from coming → coming ≡ record { to = from; text = [] }
-none_pending limit redo pending from coming none (inl nothing) = nothing.same
-none_pending limit redo pending from coming none (inr change) = absurd (change.some none)
+pub none_pending : (limit : ℕ) (redo : Change) (pending : Pending) (from : Loaded) (texts : List ℕ) (coming : Coming) → pending ≡ Nothing
+    → IsNoChange pending from texts coming ⊎ IsPending limit redo pending from texts coming → coming ≡ record { to = from; texts = texts }
+none_pending limit redo pending from texts coming none (inl nothing) = nothing.same
+none_pending limit redo pending from texts coming none (inr change) = absurd (change.some none)
 
 -- something changes where something is pending
-pub some_pending : (limit : ℕ) (redo : Change) (pending : Pending) (from : Loaded) (coming : Coming) → pending ≢ Nothing
-    → IsNoChange pending from coming ⊎ IsPending limit redo pending from coming → IsPending limit redo pending from coming
-some_pending limit redo pending from coming some (inl nothing) = absurd (some nothing.none)
-some_pending limit redo pending from coming some (inr change) = change
+pub some_pending : (limit : ℕ) (redo : Change) (pending : Pending) (from : Loaded) (texts : List ℕ) (coming : Coming) → pending ≢ Nothing
+    → IsNoChange pending from texts coming ⊎ IsPending limit redo pending from texts coming → IsPending limit redo pending from texts coming
+some_pending limit redo pending from texts coming some (inl nothing) = absurd (some nothing.none)
+some_pending limit redo pending from texts coming some (inr change) = change
+
+-- what is pending is done in the files
+some_made : (pending : Pending) (redo : Change) (files : Files) → pending ≢ Nothing → made pending redo files ≡ changed redo files
+some_made Nothing redo files some = absurd (some refl)
+some_made (Counted change counter active) redo files some = refl
+some_made (Marked place mark) redo files some = refl
+
+module _ {D : Type 0} (shown : D → Device) (area : OpenArea D) (reply : Reply) (pending : Pending) (is : area.stage ≡ Begun reply pending) where
+  -- a call without a change leaves the files
+  pub made_nothing : (disk : D) (held : Held) (stage : Stage) → pending ≡ Nothing → disk ≡ area.disk → HasMade shown area (record area { disk = disk; held = held; stage = stage })
+  made_nothing disk held stage none same was there now here = λ file ne.
+      ap (λ (f : Files). f file) (some-same _ _ (sym here ∙ ap (λ (d : D). (shown d).contents) same ∙ there))
+      ∙ sym (ap (λ (s : Stage). done_in s area.redo was file) is ∙ ap (λ (p : Pending). made p area.redo was file) none)
+
+  -- and one with a change does it
+  pub made_change : (disk : D) (held : Held) (stage : Stage) → pending ≢ Nothing
+      → ForSome (shown area.disk).contents (λ was. ForSome (shown disk).contents (λ now. AgreeButJournal now (changed area.redo was)))
+      → HasMade shown area (record area { disk = disk; held = held; stage = stage })
+  made_change disk held stage some agree was there now here = λ file ne.
+      agree was there now here file ne
+      ∙ sym (ap (λ (s : Stage). done_in s area.redo was file) is ∙ ap (λ (f : Files). f file) (some_made pending area.redo was some))
 
 module _ {D : Type 0} (shown : D → Device) where
   -- the parts of a begun call, whatever shows that it is begun
@@ -50,31 +76,30 @@ module _ {D : Type 0} (shown : D → Device) where
     pending_is reply pending is = same_pending decided reply begun.pending pending (sym begun.stage ∙ is)
 
     -- where nothing is pending
-    pub none_is : (reply : Reply) (pending : Pending) → area.stage ≡ Begun reply pending → pending ≡ Nothing → coming ≡ record { to = area.held.loaded; text = [] }
-    none_is reply pending is none = none_pending area.rules.slots area.redo begun.pending area.held.loaded coming (pending_is reply pending is ∙ none) begun.change
+    pub none_is : (reply : Reply) (pending : Pending) → area.stage ≡ Begun reply pending → pending ≡ Nothing → coming ≡ record { to = area.held.loaded; texts = texts }
+    none_is reply pending is none = none_pending area.rules.slots area.redo begun.pending area.held.loaded texts coming (pending_is reply pending is ∙ none) begun.change
 
     -- where something is pending
-    pub some_is : (reply : Reply) (pending : Pending) → area.stage ≡ Begun reply pending → pending ≢ Nothing → IsPending area.rules.slots area.redo pending area.held.loaded coming
+    pub some_is : (reply : Reply) (pending : Pending) → area.stage ≡ Begun reply pending → pending ≢ Nothing → IsPending area.rules.slots area.redo pending area.held.loaded texts coming
     some_is reply pending is some =
-        subst (λ (p : Pending). IsPending area.rules.slots area.redo p area.held.loaded coming) (pending_is reply pending is)
-        (some_pending area.rules.slots area.redo begun.pending area.held.loaded coming (λ none. some (sym (pending_is reply pending is) ∙ none)) begun.change)
+        subst (λ (p : Pending). IsPending area.rules.slots area.redo p area.held.loaded texts coming) (pending_is reply pending is)
+        (some_pending area.rules.slots area.redo begun.pending area.held.loaded texts coming (λ none. some (sym (pending_is reply pending is) ∙ none)) begun.change)
 
     -- a call without a change is finished
     pub rests_unchanged : (reply : Reply) (pending : Pending) (stage : Stage) → area.stage ≡ Begun reply pending → pending ≡ Nothing → stage ≡ Resting
-        → (reply ≡ decided) × RestsAt shown (record area { stage = stage }) (texts ++ coming.text) coming.to
+        → (reply ≡ decided) × RestsAt shown (record area { stage = stage }) coming.texts coming.to
     rests_unchanged reply pending stage is none resting =
         let same = none_is reply pending is none in (
           reply_is reply pending is,
-          subst (λ (c : Coming). RestsAt shown (record area { stage = stage }) (texts ++ c.text) c.to) (sym same)
-              (subst (λ (t : List ℕ). RestsAt shown (record area { stage = stage }) t area.held.loaded) (sym (append-nil texts))
-              (record { rests = record { stage = resting; kept = record { ruled = record { few_slots = begun.kept.ruled.few_slots; address = begun.kept.ruled.address; sound = begun.kept.ruled.sound; whole = begun.kept.ruled.whole; room = begun.kept.ruled.room }; settled = begun.kept.settled } }; is = refl })),
+          subst (λ (c : Coming). RestsAt shown (record area { stage = stage }) c.texts c.to) (sym same)
+              (record { rests = record { stage = resting; kept = record { ruled = record { few_slots = begun.kept.ruled.few_slots; address = begun.kept.ruled.address; sound = begun.kept.ruled.sound; sized = begun.kept.ruled.sized; whole = begun.kept.ruled.whole; room = begun.kept.ruled.room }; settled = begun.kept.settled } }; is = refl }),
         )
 
     -- and a call with one
     pub rests_changed : (reply : Reply) (pending : Pending) (disk : D) (held : Held) (stage : Stage) → area.stage ≡ Begun reply pending → pending ≢ Nothing → stage ≡ Resting
         → held.loaded ≡ after pending area.held.loaded → IsKeptWhole held
-        → ((from : Loaded) (texts : List ℕ) (coming : Coming) → IsSettledAs from texts (shown area.disk) → IsChange area.redo from coming → IsSettledAs coming.to (texts ++ coming.text) (shown disk))
-        → (reply ≡ decided) × RestsAt shown (record area { disk = disk; held = held; stage = stage }) (texts ++ coming.text) coming.to
+        → ((from : Loaded) (texts : List ℕ) (coming : Coming) → IsSettledAs from texts (shown area.disk) → IsChange area.redo from texts coming → IsSettledAs coming.to coming.texts (shown disk))
+        → (reply ≡ decided) × RestsAt shown (record area { disk = disk; held = held; stage = stage }) coming.texts coming.to
     rests_changed reply pending disk held stage is some resting applied whole done =
         let change = some_is reply pending is some in
         let to : coming.to ≡ held.loaded = change.becomes ∙ sym applied in (
@@ -83,8 +108,8 @@ module _ {D : Type 0} (shown : D → Device) where
             rests = record {
               stage = resting;
               kept = record {
-                ruled = record { few_slots = begun.kept.ruled.few_slots; address = begun.kept.ruled.address; sound = subst (IsSound area.rules.slots) to change.sound; whole = whole; room = begun.kept.ruled.room };
-                settled = subst (λ (l : Loaded). IsSettledAs l (texts ++ coming.text) (shown disk)) to (done area.held.loaded texts coming begun.kept.settled change.change);
+                ruled = record { few_slots = begun.kept.ruled.few_slots; address = begun.kept.ruled.address; sound = subst (IsSound area.rules.slots) to change.sound; sized = change.sized ∙ ap (λ (l : Loaded). l.texts_len) to; whole = whole; room = begun.kept.ruled.room };
+                settled = subst (λ (l : Loaded). IsSettledAs l coming.texts (shown disk)) to (done area.held.loaded texts coming begun.kept.settled change.change);
               };
             };
             is = sym to;
@@ -93,7 +118,7 @@ module _ {D : Type 0} (shown : D → Device) where
 
     -- a call that was stopped is in doubt
     pub between : (reply : Reply) (pending : Pending) (disk : D) (stopped : Stopped) → area.stage ≡ Begun reply pending → pending ≢ Nothing
-        → ((from : Loaded) (texts : List ℕ) (coming : Coming) → IsSettledAs from texts (shown area.disk) → IsChange area.redo from coming → IsStoppedAs stopped area.redo from texts (shown disk))
+        → ((from : Loaded) (texts : List ℕ) (coming : Coming) → IsSettledAs from texts (shown area.disk) → IsChange area.redo from texts coming → IsStoppedAs stopped area.redo from texts (shown disk))
         → IsBetween shown (record area { disk = disk; stage = Doubtful stopped pending }) texts coming
     between reply pending disk stopped is some doubt =
         let change = some_is reply pending is some in
@@ -101,7 +126,7 @@ module _ {D : Type 0} (shown : D → Device) where
           stopped = stopped;
           pending = pending;
           stage = refl;
-          ruled = record { few_slots = begun.kept.ruled.few_slots; address = begun.kept.ruled.address; sound = begun.kept.ruled.sound; whole = begun.kept.ruled.whole; room = begun.kept.ruled.room };
+          ruled = record { few_slots = begun.kept.ruled.few_slots; address = begun.kept.ruled.address; sound = begun.kept.ruled.sound; sized = begun.kept.ruled.sized; whole = begun.kept.ruled.whole; room = begun.kept.ruled.room };
           change = change;
           doubt = doubt area.held.loaded texts coming begun.kept.settled change.change;
         }
@@ -119,3 +144,10 @@ module _ {D : Type 0} (shown : D → Device) where
     -- it has its place
     pub fits : (reply : Reply) (pending : Pending) → area.stage ≡ Begun reply pending → pending ≢ Nothing → IsFit pending area.held.loaded
     fits reply pending is some = (some_is reply pending is some).fit
+
+    -- its numbers stay in their range
+    pub numbered : (reply : Reply) (pending : Pending) → area.stage ≡ Begun reply pending → pending ≢ Nothing
+        → (after pending area.held.loaded).base + length (after pending area.held.loaded).slots ≤ 4294967295
+    numbered reply pending is some =
+        let change = some_is reply pending is some in
+        subst (λ (l : Loaded). l.base + length l.slots ≤ 4294967295) change.becomes change.sound.numbers

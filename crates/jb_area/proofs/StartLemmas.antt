@@ -1,8 +1,19 @@
 -- What the beginning of a call leaves.
-use Rattle.std.proofs.Common.{◌≡◌, ℕ, List, length, Option, None, Result, Ok, Err, IfOk, IfErr, OnOk, IsOk, sym, refl, ◌∙◌, subst}
+use Rattle.std.proofs.Common.{◌≡◌, ℕ, ◌≤◌, List, Option, None, Some, Result, Ok, Err, IfOk, IfErr, OnOk, IsOk, ap, sym, refl, ◌∙◌, subst, arith}
 use Rattle.std.specs.Option.{ForSome}
+use Rattle.std.specs.Prelude.{replicate}
+use Rattle.std.proofs.lemmas.List.{length-replicate}
 use Rattle.jb_base.specs.declared.area.AreaRules.{AreaRules}
 use Rattle.jb_base.specs.declared.user.User.{User}
+use Rattle.jb_decide.specs.Decided.{IsDecided, IsTold}
+use Rattle.jb_decide.specs.Errors.{FaultRose}
+use Rattle.jb_decide.specs.Holds.{AreTexts, Holds}
+use Rattle.jb_decide.specs.Ready.{HasRoomInAll}
+use Rattle.jb_decide.specs.declared.decided.Decided.{Decided}
+use Rattle.jb_decide.specs.declared.error.AreaError.{AreaError}
+use Rattle.jb_decide.specs.declared.error.AreaError.TheVariants.{StoreFault, OutOfMemory}
+use Rattle.jb_decide.specs.declared.held.Held.{Held}
+use Rattle.jb_decide.specs.declared.pending.Pending.TheVariants.{Nothing}
 use Rattle.jb_disk.specs.Change.{Change}
 use Rattle.jb_disk.specs.Device.{Device, OnlyReads}
 use Rattle.jb_disk.specs.Files.{Files}
@@ -12,29 +23,33 @@ use Rattle.jb_disk.proofs.RunLemmas.{runs-refl}
 use Rattle.jb_journal.specs.declared.stopped.Stopped.TheVariants.{Early}
 use Rattle.jb_model.specs.declared.command.Command.{Command}
 use Rattle.jb_model.specs.declared.loaded.Loaded.{Loaded}
-use Rattle.jb_area.specs.Area.{HasRoomInAll, IsKept, IsResting, IsUnchanged, RestsAt}
-use Rattle.jb_area.specs.Calls.{AnswersAs, FailsWith, HasStoppedIn, IsBegunFor, IsNotBegun, StartsAs}
+use Rattle.jb_area.specs.Area.{IsKept, IsResting, IsUnchanged, RestsAt}
+use Rattle.jb_area.specs.Calls.{AnswersAs, BeginsCall, FailsWith, HasStoppedIn, IsBegunFor, IsNotBegun, StartsAs}
 use Rattle.jb_area.specs.Commits.{IsSettledAs}
-use Rattle.jb_area.specs.Decided.{IsDecided}
-use Rattle.jb_area.specs.Holds.{Holds, Opens}
+use Rattle.jb_area.specs.Holds.{IsAtRest, Opens}
 use Rattle.jb_area.specs.declared.area.OpenArea.{OpenArea}
-use Rattle.jb_area.specs.declared.decided.Decided.{Decided}
-use Rattle.jb_area.specs.declared.error.AreaError.{AreaError}
-use Rattle.jb_area.specs.declared.error.AreaError.TheVariants.{StoreFault, OutOfMemory}
-use Rattle.jb_area.specs.declared.held.Held.{Held}
-use Rattle.jb_area.specs.declared.pending.Pending.TheVariants.{Nothing}
 use Rattle.jb_area.specs.declared.stage.Stage.{Stage}
 use Rattle.jb_area.specs.declared.stage.Stage.TheVariants.{Resting, Begun, Doubtful}
-use Rattle.jb_area.proofs.CallLemmas.{begun_for}
 use Rattle.jb_area.proofs.CommitLemmas.{settled_opens}
 
 -- an area at rest holds what is loaded, by the texts of its own file
 pub holds_own : (loaded : Loaded) (texts : List ℕ) (device : Device) → IsSettledAs loaded texts device → ForSome device.contents (λ files. Holds loaded (files Jdt) files)
 holds_own loaded texts device settled files there = record { loads = (settled.rests files there).holds.loads; texts_are = refl }
 
--- the file of texts has the length that is loaded
-pub length_own : (loaded : Loaded) (texts : List ℕ) (device : Device) → IsSettledAs loaded texts device → ForSome device.contents (λ files. length (files Jdt) ≡ loaded.texts_len)
-length_own loaded texts device settled files there = sym (settled.rests files there).holds.loads.texts_len
+-- one value is another
+some-same : {A : Type 0} (a b : A) → Some a ≡ Some b → a ≡ b
+some-same a b is = cc
+
+-- an area over files at rest has texts, and so has one whose files are not told
+pub some_texts : (loaded : Loaded) (contents : Option Files) → ForSome contents (λ files. IsAtRest loaded (files Jdt) files) → (texts : List ℕ) × AreTexts loaded texts contents
+some_texts loaded None rests = (replicate loaded.texts_len 0, record { sized = length-replicate loaded.texts_len 0; told = λ files there. cc })
+some_texts loaded (Some own) rests = (
+  own Jdt,
+  record {
+    sized = sym (rests own refl).holds.loads.texts_len;
+    told = λ files there. ap (λ (f : Files). f Jdt) (sym (some-same own files there));
+  },
+)
 
 -- a device that is left alone was at most read
 pub reads_itself : (device : Device) → OnlyReads device device
@@ -46,6 +61,10 @@ settled_read loaded texts old new same settled = record {
   rests = λ files there. settled.rests files (sym same.contents ∙ there);
   synced = λ files there. subst (LeavesNow (λ left. left ≡ files)) (sym same.moments) (settled.synced files (sym same.contents ∙ there));
 }
+
+-- and its count of faults is as it was
+pub same_faults : (device : Device) → device.faults ≤ device.faults
+same_faults device = omega arith
 
 module _ {T E : Type 0} (result : Result T E) where
   -- what is done is not refused
@@ -65,6 +84,13 @@ two_causes : StoreFault ≡ OutOfMemory → ⊥
 two_causes is = cc
 
 module _ {D : Type 0} (shown : D → Device) where
+  -- the texts of an area at rest
+  texts_own : (area : OpenArea D) (texts : List ℕ) → IsResting shown area texts → AreTexts area.held.loaded texts (shown area.disk).contents
+  texts_own area texts resting = record {
+    sized = resting.kept.ruled.sized;
+    told = λ files there. (resting.kept.settled.rests files there).holds.texts_are;
+  }
+
   -- an area, from its parts
   rebuilt : (P : OpenArea D → Type 0) (new : OpenArea D) (disk : D) (rules : AreaRules) (held : Held) (redo : Change) (stage : Stage) → new.disk ≡ disk → new.rules ≡ rules → new.held ≡ held
       → new.redo ≡ redo → new.stage ≡ stage → P (record { disk = disk; rules = rules; held = held; redo = redo; stage = stage }) → P new
@@ -80,24 +106,30 @@ module _ {D : Type 0} (shown : D → Device) where
     -- what is kept stays so
     kept_read : (stage : Stage) (texts : List ℕ) → IsKept shown area texts → IsKept shown (record { disk = disk; rules = area.rules; held = area.held; redo = redo; stage = stage }) texts
     kept_read stage texts kept = record {
-      ruled = record { few_slots = kept.ruled.few_slots; address = kept.ruled.address; sound = kept.ruled.sound; whole = kept.ruled.whole; room = room };
+      ruled = record { few_slots = kept.ruled.few_slots; address = kept.ruled.address; sound = kept.ruled.sound; sized = kept.ruled.sized; whole = kept.ruled.whole; room = room };
       settled = settled_read area.held.loaded texts (shown area.disk) (shown disk) reads kept.settled;
     }
 
     -- begun
-    pub starts : (decided : Result Decided AreaError) (result : Result (Unit {0}) AreaError) (user : User) (moment : ℕ) (command : Command) → StartsAs decided area.stage new.stage → AnswersAs decided result
-        → IfOk decided (IsDecided area.rules area.held.loaded (shown area.disk).contents redo user moment command)
+    starts : (decided : Result Decided AreaError) (result : Result (Unit {0}) AreaError) (user : User) (moment : ℕ) (command : Command) → StartsAs decided area.stage new.stage → AnswersAs decided result
+        → IfOk decided (λ one. (texts : List ℕ) → AreTexts area.held.loaded texts (shown area.disk).contents → IsDecided area.rules area.held.loaded texts (shown area.disk).contents redo user moment command one)
         → OnOk result ((texts : List ℕ) → IsResting shown area texts → IsBegunFor shown new texts user moment command)
     starts (Ok decided) (Ok done) user moment command stage answer is = λ texts resting.
+        let decides = is texts (texts_own area texts resting) in
         rebuilt (λ (a : OpenArea D). IsBegunFor shown a texts user moment command) new disk area.rules area.held redo (Begun decided.reply decided.pending) is_disk is_rules is_held is_redo stage
-        (begun_for shown area disk redo texts user moment command decided resting (settled_read area.held.loaded texts (shown area.disk) (shown disk) reads resting.kept.settled) room
-        (subst (λ (o : Option Files). IsDecided area.rules area.held.loaded o redo user moment command decided) (sym reads.contents) is))
+        (record {
+          reply = decided.reply;
+          coming = decides.coming;
+          begun = record { pending = decided.pending; stage = refl; kept = kept_read (Begun decided.reply decided.pending) texts resting.kept; change = decides.change };
+          step = λ told. decides.step (subst (λ (o : Option Files). IsTold decided.reply o) reads.contents told);
+          headers = decides.headers;
+        })
     starts (Ok decided) (Err error) user moment command stage answer is = tt
     starts (Err error) (Ok done) user moment command stage answer is = absurd (ok_not_err (Ok done) done error refl answer)
     starts (Err error) (Err other) user moment command stage answer is = tt
 
     -- or not
-    pub starts_not : (decided : Result Decided AreaError) (result : Result (Unit {0}) AreaError) → StartsAs decided area.stage new.stage → AnswersAs decided result
+    starts_not : (decided : Result Decided AreaError) (result : Result (Unit {0}) AreaError) → StartsAs decided area.stage new.stage → AnswersAs decided result
         → IfErr result (λ error. (texts : List ℕ) → IsResting shown area texts → IsNotBegun shown error area new texts)
     starts_not decided (Ok done) stage answer = tt
     starts_not (Ok decided) (Err error) stage answer = let refused : Result (Unit {0}) AreaError = Err error in absurd (err_not_ok refused error refl answer)
@@ -109,6 +141,29 @@ module _ {D : Type 0} (shown : D → Device) where
         (record { rests = record { stage = refl; kept = kept_read Resting texts resting.kept }; is = refl })
     starts_not (Err StoreFault) (Err OutOfMemory) stage answer = absurd (two_causes (sym (same_error (Err OutOfMemory) OutOfMemory StoreFault refl answer)))
     starts_not (Err OutOfMemory) (Err StoreFault) stage answer = absurd (two_causes (same_error (Err StoreFault) StoreFault OutOfMemory refl answer))
+
+    -- what is not begun has the cause of what is not decided
+    same_cause : (decided : Result Decided AreaError) (result : Result (Unit {0}) AreaError) → AnswersAs decided result
+        → IfErr decided (FaultRose (shown area.disk).faults (shown disk).faults) → IfErr result (FaultRose (shown area.disk).faults (shown disk).faults)
+    same_cause decided (Ok done) answer cause = tt
+    same_cause (Ok decided) (Err error) answer cause = let refused : Result (Unit {0}) AreaError = Err error in absurd (err_not_ok refused error refl answer)
+    same_cause (Err one) (Err other) answer cause =
+        subst (FaultRose (shown area.disk).faults (shown disk).faults) (sym (same_error (Err other) other one refl answer)) cause
+
+    -- a call is begun, or not
+    pub begins : (decided : Result Decided AreaError) (result : Result (Unit {0}) AreaError) (user : User) (moment : ℕ) (command : Command) → StartsAs decided area.stage new.stage → AnswersAs decided result
+        → IfOk decided (λ one. (texts : List ℕ) → AreTexts area.held.loaded texts (shown area.disk).contents → IsDecided area.rules area.held.loaded texts (shown area.disk).contents redo user moment command one)
+        → IfErr decided (FaultRose (shown area.disk).faults (shown disk).faults) → (shown area.disk).faults ≤ (shown disk).faults
+        → BeginsCall shown area new user moment command result
+    begins decided result user moment command stage answer is cause later = record {
+      begun = starts decided result user moment command stage answer is;
+      failed = starts_not decided result stage answer;
+      cause = subst (λ (d : D). IfErr result (FaultRose (shown area.disk).faults (shown d).faults)) (sym is_disk) (same_cause decided result answer cause);
+      reads = subst (λ (d : D). OnlyReads (shown area.disk) (shown d)) (sym is_disk) reads;
+      later = subst (λ (d : D). (shown area.disk).faults ≤ (shown d).faults) (sym is_disk) later;
+      loaded = ap (λ (h : Held). h.loaded) is_held;
+      rules = is_rules;
+    }
 
   -- a call that changed nothing was stopped
   pub stopped_unchanged : (old new : OpenArea D) (texts : List ℕ) (user : User) (moment : ℕ) (command : Command) → OnlyReads (shown old.disk) (shown new.disk) → IsResting shown old texts

@@ -1,23 +1,28 @@
 -- What the calls of an open area do.
-use Rattle.std.specs.Prelude.{◌≡◌, ℕ, ◌++◌, List, Option, Some, None, Result, Ok, Err, IsOk}
+use Rattle.std.specs.Prelude.{◌≡◌, ℕ, ◌≤◌, List, Option, Some, None, Result, Ok, Err, IsOk, IfErr, IfOk, OnErr, OnOk}
 use Rattle.std.specs.Option.{ForSome}
+use Rattle.jb_base.specs.Fault.{Rose}
 use Rattle.jb_base.specs.declared.user.User.{User}
-use Rattle.jb_disk.specs.Device.{Device}
+use Rattle.jb_decide.specs.Coming.{Coming}
+use Rattle.jb_decide.specs.Decided.{IsNoPack, IsTold}
+use Rattle.jb_decide.specs.Errors.{FaultRose}
+use Rattle.jb_decide.specs.Headers.{KeepsHeaders}
+use Rattle.jb_decide.specs.Holds.{Holds}
+use Rattle.jb_decide.specs.declared.decided.Decided.{Decided}
+use Rattle.jb_decide.specs.declared.error.AreaError.{AreaError}
+use Rattle.jb_decide.specs.declared.error.AreaError.TheVariants.{StoreFault, OutOfMemory}
+use Rattle.jb_decide.specs.declared.pending.Pending.TheVariants.{Nothing}
+use Rattle.jb_disk.specs.Device.{Device, OnlyReads}
+use Rattle.jb_disk.specs.Files.{Files}
 use Rattle.jb_disk.specs.Runs.{LeavesOnly}
+use Rattle.jb_journal.specs.declared.stopped.Stopped.TheVariants.{Early}
 use Rattle.jb_model.specs.State.{state_of}
 use Rattle.jb_model.specs.Step.{Step}
 use Rattle.jb_model.specs.declared.command.Command.{Command}
-use Rattle.jb_model.specs.declared.command.Command.TheVariants.{Pack}
 use Rattle.jb_model.specs.declared.reply.Reply.{Reply}
-use Rattle.jb_area.specs.Area.{DoubtOpens, IsBegun, IsDoubtful, IsResting, IsUnchanged, RestsAt}
-use Rattle.jb_area.specs.Commits.{Coming}
+use Rattle.jb_area.specs.Area.{files_after, DoubtOpens, HasMade, IsBegun, IsDoubtful, IsResting, IsUnchanged, RestsAt}
 use Rattle.jb_area.specs.Holds.{OpensToEither}
-use Rattle.jb_journal.specs.declared.stopped.Stopped.TheVariants.{Early}
 use Rattle.jb_area.specs.declared.area.OpenArea.{OpenArea}
-use Rattle.jb_area.specs.declared.decided.Decided.{Decided}
-use Rattle.jb_area.specs.declared.error.AreaError.{AreaError}
-use Rattle.jb_area.specs.declared.error.AreaError.TheVariants.{StoreFault, OutOfMemory}
-use Rattle.jb_area.specs.declared.pending.Pending.TheVariants.{Nothing}
 use Rattle.jb_area.specs.declared.stage.Stage.{Stage}
 use Rattle.jb_area.specs.declared.stage.Stage.TheVariants.{Begun, Doubtful}
 
@@ -28,28 +33,34 @@ module _ {D : Type 0} (shown : D → Device) where
     pub texts : List ℕ
     pub rests : IsResting shown area texts
 
-  -- a call of this command is begun; its reply, and what is to come of it, are those of the definition, where the texts are told
+  -- a call of this command is begun; its reply, and what is to come of it, are those of the definition, but for a letter whose text is not told
   pub record IsBegunFor (area : OpenArea D) (texts : List ℕ) (user : User) (moment : ℕ) (command : Command) : Type 0 where
     pub reply : Reply
     pub coming : Coming
     pub begun : IsBegun shown area texts reply coming
-    pub step : ForSome (shown area.disk).contents (λ files.
-        Step area.rules (state_of texts area.held.loaded) user moment command reply (state_of (texts ++ coming.text) coming.to))
+    pub step : IsTold reply (shown area.disk).contents
+        → Step area.rules (state_of texts area.held.loaded) user moment command reply (state_of coming.texts coming.to)
+    -- but for a pack, each header stays in its place in whatever files hold the area
+    pub headers : IsNoPack command → (files : Files) → Holds area.held.loaded texts files
+        → KeepsHeaders reply area.held.loaded coming.to files (files_after area files)
 
   -- the command was answered so, and is done; a crash meanwhile leaves the area before it or after it
   pub record HasAnswered (old new : OpenArea D) (texts : List ℕ) (user : User) (moment : ℕ) (command : Command) (reply : Reply) : Type 0 where
     pub coming : Coming
-    pub step : ForSome (shown old.disk).contents (λ files.
-        Step old.rules (state_of texts old.held.loaded) user moment command reply (state_of (texts ++ coming.text) coming.to))
-    pub rests : RestsAt shown new (texts ++ coming.text) coming.to
+    pub step : IsTold reply (shown old.disk).contents
+        → Step old.rules (state_of texts old.held.loaded) user moment command reply (state_of coming.texts coming.to)
+    pub rests : RestsAt shown new coming.texts coming.to
+    -- but for a pack, each header stayed in its place
+    pub headers : IsNoPack command → ForSome (shown old.disk).contents (λ was. ForSome (shown new.disk).contents (λ now.
+        KeepsHeaders reply old.held.loaded coming.to was now))
     pub crash : ForSome (shown old.disk).contents (λ files.
-        LeavesOnly (shown old.disk) (shown new.disk) (OpensToEither old.held.loaded coming.to texts coming.text))
+        LeavesOnly (shown old.disk) (shown new.disk) (OpensToEither old.held.loaded texts coming))
 
-  -- what the change of a call in doubt would come to
+  -- what the change of a call in doubt would come to, as it would have been answered
   abbrev pub IsChangeOf : OpenArea D → List ℕ → User → ℕ → Command → Option Coming → Type 0
   IsChangeOf old texts user moment command None = Unit {0}
-  IsChangeOf old texts user moment command (Some coming) = ForSome (shown old.disk).contents (λ files.
-      (reply : Reply) × Step old.rules (state_of texts old.held.loaded) user moment command reply (state_of (texts ++ coming.text) coming.to))
+  IsChangeOf old texts user moment command (Some coming) = (reply : Reply) × (IsTold reply (shown old.disk).contents
+      → Step old.rules (state_of texts old.held.loaded) user moment command reply (state_of coming.texts coming.to))
 
   -- the call was stopped by a fault: its change, where it had one, may stand or not
   pub record HasStoppedIn (old new : OpenArea D) (texts : List ℕ) (user : User) (moment : ℕ) (command : Command) : Type 0 where
@@ -69,6 +80,38 @@ module _ {D : Type 0} (shown : D → Device) where
   FailsWith StoreFault old new texts user moment command = HasStoppedIn old new texts user moment command
   FailsWith OutOfMemory old new texts user moment command = RestsAt shown new texts old.held.loaded
 
+  -- a call at rest: it is answered and done, or fails and leaves what its error says; a fault has its cause, and the rules stay
+  pub record MeetsCall (old new : OpenArea D) (user : User) (moment : ℕ) (command : Command) (result : Result Reply AreaError) : Type 0 where
+    pub answered : IfOk result (λ reply. (texts : List ℕ) → IsResting shown old texts → HasAnswered old new texts user moment command reply)
+    pub failed : IfErr result (λ error. (texts : List ℕ) → IsResting shown old texts → FailsWith error old new texts user moment command)
+    pub cause : IfErr result (FaultRose (shown old.disk).faults (shown new.disk).faults)
+    pub later : (shown old.disk).faults ≤ (shown new.disk).faults
+    pub rules : new.rules ≡ old.rules
+
+  -- a call at rest is begun, or not; its files are only read, and the area is loaded as before
+  pub record BeginsCall (old new : OpenArea D) (user : User) (moment : ℕ) (command : Command) (result : Result (Unit {0}) AreaError) : Type 0 where
+    pub begun : OnOk result ((texts : List ℕ) → IsResting shown old texts → IsBegunFor new texts user moment command)
+    pub failed : IfErr result (λ error. (texts : List ℕ) → IsResting shown old texts → IsNotBegun error old new texts)
+    pub cause : IfErr result (FaultRose (shown old.disk).faults (shown new.disk).faults)
+    pub reads : OnlyReads (shown old.disk) (shown new.disk)
+    pub later : (shown old.disk).faults ≤ (shown new.disk).faults
+    pub loaded : new.held.loaded ≡ old.held.loaded
+    pub rules : new.rules ≡ old.rules
+
+  -- a call that is begun ends: done, with the reply and the area that were to come, or stopped by a fault, and then its change is in doubt
+  pub record EndsCall (old new : OpenArea D) (result : Result Reply AreaError) : Type 0 where
+    pub done : IfOk result (λ reply. (texts : List ℕ) (decided : Reply) (coming : Coming) → IsBegun shown old texts decided coming
+        → (reply ≡ decided) × RestsAt shown new coming.texts coming.to)
+    pub made : OnOk result (HasMade shown old new)
+    pub fault : IfErr result (λ error. error ≡ StoreFault)
+    pub doubt : OnErr result ((texts : List ℕ) (decided : Reply) (coming : Coming) → IsBegun shown old texts decided coming
+        → IsDoubtful shown new texts (Some coming))
+    pub cause : OnErr result (Rose (shown old.disk).faults (shown new.disk).faults)
+    pub later : (shown old.disk).faults ≤ (shown new.disk).faults
+    pub crash : (texts : List ℕ) (decided : Reply) (coming : Coming) → IsBegun shown old texts decided coming
+        → ForSome (shown old.disk).contents (λ files. LeavesOnly (shown old.disk) (shown new.disk) (OpensToEither old.held.loaded texts coming))
+    pub rules : new.rules ≡ old.rules
+
 -- the stage that a decision leads to
 abbrev pub StartsAs : Result Decided AreaError → Stage → Stage → Type 0
 StartsAs (Ok decided) old new = new ≡ Begun decided.reply decided.pending
@@ -79,8 +122,3 @@ StartsAs (Err OutOfMemory) old new = new ≡ old
 abbrev pub AnswersAs : Result Decided AreaError → Result (Unit {0}) AreaError → Type 0
 AnswersAs (Ok decided) result = IsOk result
 AnswersAs (Err error) result = result ≡ Err error
-
--- a command that leaves the files in their places, which is each but a pack
-abbrev pub IsNoPack : Command → Type 0
-IsNoPack Pack = ⊥
-IsNoPack _ = Unit {0}

@@ -1,31 +1,20 @@
 -- A change that is committed over the files of an area, and one that was stopped.
-use Rattle.std.specs.Prelude.{ℕ, ◌++◌, Bool, true, false, List}
+use Rattle.std.specs.Prelude.{ℕ, Bool, true, false, List}
 use Rattle.std.specs.Option.{ForSome}
+use Rattle.jb_decide.specs.Coming.{Coming, IsChange}
 use Rattle.jb_disk.specs.Change.{Change}
 use Rattle.jb_disk.specs.Device.{Device}
 use Rattle.jb_disk.specs.Files.{Files}
 use Rattle.jb_disk.specs.Runs.{IsAllSynced, Shows}
-use Rattle.jb_journal.specs.Commit.{IsWritable}
 use Rattle.jb_journal.specs.Doubt.{IsInDoubt}
 use Rattle.jb_journal.specs.declared.stopped.Stopped.{Stopped}
 use Rattle.jb_model.specs.declared.loaded.Loaded.{Loaded}
-use Rattle.jb_change.specs.Makes.{Makes}
 use Rattle.jb_area.specs.Holds.{IsAtRest}
-
--- a change that is to come: the area after it, and the bytes that it puts behind the texts
-pub record Coming : Type 0 where
-  pub to : Loaded
-  pub text : List ℕ
 
 -- the files hold this area and these texts, nothing is on its way, and a crash now leaves them so
 pub record IsSettledAs (loaded : Loaded) (texts : List ℕ) (device : Device) : Type 0 where
   pub rests : ForSome device.contents (IsAtRest loaded texts)
   pub synced : IsAllSynced device
-
--- this redo makes the one area of the other
-pub record IsChange (redo : Change) (from : Loaded) (coming : Coming) : Type 0 where
-  pub makes : Makes redo from coming.to coming.text
-  pub writable : IsWritable redo
 
 -- a commit of this redo over files that held this area was stopped here
 pub record IsStopped (stopped : Stopped) (redo : Change) (from : Loaded) (texts : List ℕ) (device : Device) : Type 0 where
@@ -40,7 +29,7 @@ IsStoppedAs stopped redo from texts device = ForSome device.contents (λ files. 
 -- settled as the answer says: with the change, or without it
 abbrev pub IsAnsweredAs : Bool → Loaded → List ℕ → Coming → Device → Type 0
 IsAnsweredAs false from texts coming device = IsSettledAs from texts device
-IsAnsweredAs true from texts coming device = IsSettledAs coming.to (texts ++ coming.text) device
+IsAnsweredAs true from texts coming device = IsSettledAs coming.to coming.texts device
 
 -- the change may be committed
 pub record MayCommit (redo : Change) (device : Device) : Type 0 where
@@ -48,7 +37,7 @@ pub record MayCommit (redo : Change) (device : Device) : Type 0 where
   pub texts : List ℕ
   pub coming : Coming
   pub settled : IsSettledAs from texts device
-  pub change : IsChange redo from coming
+  pub change : IsChange redo from texts coming
 
 -- a commit of it may be settled
 pub record MaySettle (stopped : Stopped) (redo : Change) (device : Device) : Type 0 where
@@ -56,4 +45,4 @@ pub record MaySettle (stopped : Stopped) (redo : Change) (device : Device) : Typ
   pub texts : List ℕ
   pub coming : Coming
   pub doubt : IsStoppedAs stopped redo from texts device
-  pub change : IsChange redo from coming
+  pub change : IsChange redo from texts coming

@@ -1,17 +1,13 @@
--- What the files of an open area hold, and to what they open after a crash.
-use Rattle.std.specs.Prelude.{◌≡◌, ◌≢◌, ◌⊎◌, ℕ, ◌≤◌, List, ◌++◌, length, slice_index}
+-- What the files of an open area are at rest, and to what they open after a crash.
+use Rattle.std.specs.Prelude.{◌≢◌, ◌⊎◌, ℕ, ◌≤◌, List, length, slice_index}
+use Rattle.jb_decide.specs.Coming.{Coming}
+use Rattle.jb_decide.specs.Holds.{Holds}
 use Rattle.jb_disk.specs.Files.{Files}
-use Rattle.jb_disk.specs.declared.file.FileId.TheVariants.{Jdt, Jnl}
-use Rattle.jb_image.specs.Stands.{Loads}
+use Rattle.jb_disk.specs.declared.file.FileId.TheVariants.{Jnl}
 use Rattle.jb_model.specs.declared.loaded.Loaded.{Loaded}
 use Rattle.jb_redo.specs.Replay.{Replays}
 
--- the files hold this area, with these bytes in the file of texts
-pub record Holds (loaded : Loaded) (texts : List ℕ) (files : Files) : Type 0 where
-  pub loads : Loads files loaded
-  pub texts_are : files Jdt ≡ texts
-
--- and their journal is ready for the next change: it has its head, with the gate closed
+-- the files hold this area with these texts, and their journal is ready for the next change: it has its head, with the gate closed
 pub record IsAtRest (loaded : Loaded) (texts : List ℕ) (files : Files) : Type 0 where
   pub holds : Holds loaded texts files
   pub long : 16 ≤ length (files Jnl)
@@ -23,6 +19,6 @@ pub record Opens (loaded : Loaded) (texts : List ℕ) (files : Files) : Type 0 w
   pub replays : Replays files after
   pub holds : Holds loaded texts after
 
--- as they are opened they hold the area before a change, or the one after it, with these bytes behind the texts
-abbrev pub OpensToEither : Loaded → Loaded → List ℕ → List ℕ → Files → Type 0
-OpensToEither from to texts text files = Opens from texts files ⊎ Opens to (texts ++ text) files
+-- as they are opened they hold the area with its texts before a change, or the one to come
+abbrev pub OpensToEither : Loaded → List ℕ → Coming → Files → Type 0
+OpensToEither from texts coming files = Opens from texts files ⊎ Opens coming.to coming.texts files

@@ -1,17 +1,18 @@
 //! What was committed is changed in the area as it is loaded, without memory.
-ghost use Rattle.std.specs.Prelude.{◌≡◌, ◌<◌, ◌+◌, All, length};
+ghost use Rattle.std.specs.Prelude.{◌≡◌, ◌<◌, ◌≤◌, ◌+◌, All, length};
 ghost use Rattle.jb_model.specs.Loaded.{with_message_behind};
-ghost use Rattle.jb_area.specs.Held.{IsKeptWhole};
-ghost use Rattle.jb_area.specs.Pending.{IsFit, IsLinkFit, IsSlotFit, HasLengths, after, changed_by, headed_at, linked_by, live_after};
-ghost use Rattle.jb_area.specs.declared.pending.Pending.TheVariants.{Marked};
+ghost use Rattle.jb_decide.specs.Held.{IsKeptWhole};
+ghost use Rattle.jb_decide.specs.Pending.{IsFit, IsLinkFit, IsSlotFit, HasLengths, after, changed_by, headed_at, linked_by, live_after};
+ghost use Rattle.jb_decide.specs.declared.pending.Pending.TheVariants.{Marked};
 ghost use Rattle.jb_link.specs.Plan.{loaded_at};
+ghost use Rattle.jb_replies.specs.Index.{IsIndexOf};
 ghost use Rattle.jb_step.specs.After.{live_messages};
 ghost use Rattle.jb_step.specs.Relink.{IsPlaced, with_links_in, with_links_of};
 ghost use Rattle.jb_base.specs.declared.limits.TheConstants.{MOST_MARKS, MOST_SLOTS};
 
-use crate::held::Held;
-use crate::pending::{Pending, SlotChange};
+use jb_decide::{Held, Pending, SlotChange};
 use jb_model::{Head, Links, Loaded, LoadedMessage, LoadedSlot, Mark};
+use jb_replies::Replies;
 use jb_step::Neighbour;
 
 /// Writes these fields into the header of the message at a place.
@@ -70,14 +71,20 @@ fn set_plan(loaded: &mut Loaded, plan: &[Links])
     }
 }
 
-/// Changes the slots.
-fn change_slots(loaded: &mut Loaded, change: SlotChange)
-    requires { IsSlotFit change loaded.old }
-    ensures { loaded.new ≡ changed_by change loaded.old }
+/// Changes the slots, and the index of the replies with them.
+fn change_slots(loaded: &mut Loaded, replies: &mut Replies, change: SlotChange)
+    requires fit { IsSlotFit change loaded.old }
+    requires index { IsIndexOf replies.old loaded.old }
+    requires room { length loaded.old.slots + replies.old.room ≡ MOST_SLOTS }
+    requires numbers { (changed_by change loaded.old).base + length (changed_by change loaded.old).slots ≤ 4_294_967_295 }
+    ensures loaded { loaded.new ≡ changed_by change loaded.old }
+    ensures index { IsIndexOf replies.new (changed_by change loaded.old) }
+    ensures room { length (changed_by change loaded.old).slots + replies.new.room ≡ MOST_SLOTS }
 {
     match change {
         SlotChange::Headed { place, head } => set_head(loaded, place, head),
         SlotChange::Killed { place, header_at } => {
+            replies.killed(loaded, loaded.base + place as u32);
             loaded.slots.set(place, LoadedSlot::Killed { header_at });
         }
         SlotChange::Posted {
@@ -87,6 +94,7 @@ fn change_slots(loaded: &mut Loaded, change: SlotChange)
         } => {
             set_link(loaded, link);
             add_message(loaded, message, size);
+            replies.posted(loaded);
         }
         SlotChange::Relinked { plan } => set_plan(loaded, plan.as_slice()),
     }
@@ -112,9 +120,7 @@ fn set_mark(held: &mut Held, place: Option<usize>, mark: Mark)
     requires whole { IsKeptWhole held.old }
     requires fit { IsFit (Marked place mark) held.old.loaded }
     ensures loaded { held.new.loaded ≡ after (Marked place mark) held.old.loaded }
-    ensures live { held.new.live ≡ held.old.live }
-    ensures marks { held.new.marks.marks ≡ held.new.loaded.marks }
-    ensures room { length held.new.marks.marks + held.new.marks.room ≡ MOST_MARKS }
+    ensures whole { IsKeptWhole held.new }
 {
     set_loaded_mark(&mut held.loaded, place, mark);
     held.marks.set(mark);
@@ -125,6 +131,7 @@ pub(crate) fn apply(held: &mut Held, pending: Pending)
     requires whole { IsKeptWhole held.old }
     requires fit { IsFit pending held.old.loaded }
     requires live { live_messages (after pending held.old.loaded) ≡ live_after pending held.old.live }
+    requires numbers { (after pending held.old.loaded).base + length (after pending held.old.loaded).slots ≤ 4_294_967_295 }
     ensures loaded { held.new.loaded ≡ after pending held.old.loaded }
     ensures whole { IsKeptWhole held.new }
 {
@@ -135,7 +142,7 @@ pub(crate) fn apply(held: &mut Held, pending: Pending)
             counter,
             active,
         } => {
-            change_slots(&mut held.loaded, change);
+            change_slots(&mut held.loaded, &mut held.replies, change);
             held.loaded.counter = counter;
             held.loaded.active = active;
             held.live = active;

@@ -2,10 +2,9 @@
 
 use crate::applying::apply;
 use crate::committing::{commit_change, settle_change};
-use crate::held::Held;
-use crate::pending::Pending;
 use crate::stage::Stage;
 use jb_base::AreaRules;
+use jb_decide::{Held, Pending};
 use jb_disk::{Disk, Redo};
 use jb_journal::Stopped;
 use jb_model::{Loaded, Reply};
@@ -22,15 +21,15 @@ pub struct OpenArea<D: Disk> {
 }
 
 impl<D: Disk> OpenArea<D> {
-    ghost use Rattle.std.specs.Prelude.{◌≡◌, ◌≤◌, ◌++◌, List, ℕ, Option, Some, IfOk, IfErr, IsTrue, OnOk, OnErr, false};
+    ghost use Rattle.std.specs.Prelude.{◌≡◌, ◌≤◌, List, ℕ, Option, Some, IfOk, IfErr, IsTrue, OnOk, OnErr, false};
     ghost use Rattle.std.specs.Option.{ForSome};
     ghost use Rattle.jb_base.specs.Fault.{Rose};
     ghost use Rattle.jb_disk.specs.Device.{Device};
     ghost use Rattle.jb_disk.specs.Runs.{LeavesOnly};
     ghost use Rattle.jb_model.specs.declared.reply.Reply.{Reply};
     ghost use Rattle.jb_area.specs.Holds.{OpensToEither};
-    ghost use Rattle.jb_area.specs.Commits.{Coming};
-    ghost use Rattle.jb_area.specs.Area.{device_of, loaded_of, rules_of, DoubtOpens, HasBegun, HasDoubt, IsBegun, IsDoubtful, IsResting, RestsAt, SettlesAt};
+    ghost use Rattle.jb_decide.specs.Coming.{Coming};
+    ghost use Rattle.jb_area.specs.Area.{device_of, loaded_of, rules_of, DoubtOpens, HasBegun, HasDoubt, HasMade, IsBegun, IsDoubtful, IsResting, RestsAt, SettlesAt};
 
     /// The area without its texts; while a call is begun or in doubt, as it was before that call.
     pub fn loaded(&self) -> &Loaded
@@ -53,7 +52,8 @@ impl<D: Disk> OpenArea<D> {
 
         // Done: the reply that was decided, and the area that was to come, which the files then hold.
         ensures done { IfOk result (λ reply. (texts : List ℕ) (decided : Reply) (coming : Coming) → IsBegun D.device self.old texts decided coming
-            → (reply ≡ decided) × RestsAt D.device self.new (texts ++ coming.text) coming.to) }
+            → (reply ≡ decided) × RestsAt D.device self.new coming.texts coming.to) }
+        ensures made { OnOk result (HasMade D.device self.old self.new) }
 
         // Stopped: only by a fault, and with a change that may stand or not.
         ensures doubt { OnErr result ((texts : List ℕ) (decided : Reply) (coming : Coming) → IsBegun D.device self.old texts decided coming
@@ -63,7 +63,7 @@ impl<D: Disk> OpenArea<D> {
 
         // A crash at any moment leaves what opens to the area before the call or after it.
         ensures crash { (texts : List ℕ) (decided : Reply) (coming : Coming) → IsBegun D.device self.old texts decided coming
-            → ForSome (device_of D.device self.old).contents (λ _. LeavesOnly (device_of D.device self.old) (device_of D.device self.new) (OpensToEither (loaded_of self.old) coming.to texts coming.text)) }
+            → ForSome (device_of D.device self.old).contents (λ _. LeavesOnly (device_of D.device self.old) (device_of D.device self.new) (OpensToEither (loaded_of self.old) texts coming)) }
         ensures rules { rules_of self.new ≡ rules_of self.old }
     {
         let Stage::Begun { reply, pending } = mem::replace(&mut self.stage, Stage::Resting) else {

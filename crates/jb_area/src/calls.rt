@@ -1,16 +1,13 @@
 //! The calls of an open area, each decided and begun, and then finished.
-ghost use Rattle.std.specs.Prelude.{◌≡◌, ◌≤◌, ◌++◌, ℕ, List, length, Some, IfErr, IfOk, OnErr, OnOk};
-ghost use Rattle.std.specs.Option.{ForSome};
+ghost use Rattle.std.specs.Prelude.{◌≡◌, ◌≤◌, ℕ, length, IfErr, Ok};
 
-use crate::decided::Decided;
-use crate::deciding::{decide_kill, decide_mark};
-use crate::pending::Pending;
-use crate::posting::decide_post;
-use crate::reading::{decide_peek, decide_read};
-use crate::relinking::decide_relink;
+use crate::OpenArea;
 use crate::stage::Stage;
-use crate::{AreaError, OpenArea};
 use jb_base::{OutOfMemory, User};
+use jb_decide::{
+    AreaError, Decided, Pending, decide_kill, decide_mark, decide_peek, decide_post, decide_read,
+    decide_relink,
+};
 use jb_disk::Disk;
 use jb_journal::Stopped;
 use jb_model::Reply;
@@ -18,26 +15,16 @@ use jb_step::Draft;
 use std::alloc::Global;
 
 impl<D: Disk> OpenArea<D> {
-    ghost use Rattle.jb_disk.specs.Device.{Device, OnlyReads};
-    ghost use Rattle.jb_model.specs.declared.command.Command.TheVariants.{Kill, Peek, Read, Relink, SetMark};
-    ghost use Rattle.jb_base.specs.Fault.{Rose};
     ghost use Rattle.jb_base.specs.declared.limits.TheConstants.{MOST_NAME_BYTES};
+    ghost use Rattle.jb_model.specs.declared.command.Command.TheVariants.{Kill, Peek, Read, Relink, SetMark};
     ghost use Rattle.jb_step.specs.Draft.{draft_of, post_of};
-    ghost use Rattle.jb_disk.specs.Runs.{LeavesOnly};
-    ghost use Rattle.jb_model.specs.declared.reply.Reply.{Reply};
-    ghost use Rattle.jb_area.specs.Area.{device_of, loaded_of, rules_of, HasBegun, IsBegun, IsDoubtful, IsResting, RestsAt};
-    ghost use Rattle.jb_area.specs.Calls.{AnswersAs, FailsWith, HasAnswered, HasRest, HasStoppedIn, IsBegunFor, IsNotBegun, StartsAs};
-    ghost use Rattle.jb_area.specs.Errors.{FaultRose};
-    ghost use Rattle.jb_area.specs.Commits.{Coming};
-    ghost use Rattle.jb_area.specs.Holds.{OpensToEither};
+    ghost use Rattle.jb_area.specs.Area.{HasBegun};
+    ghost use Rattle.jb_area.specs.Calls.{AnswersAs, BeginsCall, EndsCall, HasRest, MeetsCall, StartsAs};
 
     /// Begins a kill of the message with this number. It makes no device call, and takes no memory.
     pub(crate) fn begin_kill(&mut self, user: &User, number: u32)
         requires rests { HasRest D.device self.old }
-        ensures begun { (texts : List ℕ) (moment : ℕ) → IsResting D.device self.old texts → IsBegunFor D.device self.new texts user.now moment (Kill number) }
-        ensures device { self.new.disk ≡ self.old.disk }
-        ensures loaded { loaded_of self.new ≡ loaded_of self.old }
-        ensures rules { rules_of self.new ≡ rules_of self.old }
+        ensures { (moment : ℕ) → BeginsCall D.device self.old self.new user.now moment (Kill number) (Ok tt) }
     {
         let decided = decide_kill(&self.held, &self.rules, &mut self.redo, user, number);
         self.stage = Stage::Begun {
@@ -49,10 +36,7 @@ impl<D: Disk> OpenArea<D> {
     /// Begins the setting of the user's mark to this number. It makes no device call, and takes no memory.
     pub(crate) fn begin_mark(&mut self, user: &User, number: u32)
         requires rests { HasRest D.device self.old }
-        ensures begun { (texts : List ℕ) (moment : ℕ) → IsResting D.device self.old texts → IsBegunFor D.device self.new texts user.now moment (SetMark number) }
-        ensures device { self.new.disk ≡ self.old.disk }
-        ensures loaded { loaded_of self.new ≡ loaded_of self.old }
-        ensures rules { rules_of self.new ≡ rules_of self.old }
+        ensures { (moment : ℕ) → BeginsCall D.device self.old self.new user.now moment (SetMark number) (Ok tt) }
     {
         let decided = decide_mark(&self.held, &self.rules, &mut self.redo, user, number);
         self.stage = Stage::Begun {
@@ -62,41 +46,21 @@ impl<D: Disk> OpenArea<D> {
     }
 
     /// Kills the message with this number, which its sender, its receiver and the sysop may. Its number stays taken. Takes no
-    /// memory.
+    /// memory, and so fails by a fault alone.
     pub fn kill(&mut self, user: &User, number: u32) -> Result<Reply, AreaError>
         requires rests { HasRest D.device self.old }
-
-        // The reply and the area then are those of the definition; stopped, the change is in doubt.
-        ensures answered { IfOk result (λ reply. (texts : List ℕ) (moment : ℕ) → IsResting D.device self.old texts
-            → HasAnswered D.device self.old self.new texts user.now moment (Kill number) reply) }
-        ensures stopped { OnErr result ((texts : List ℕ) (moment : ℕ) → IsResting D.device self.old texts
-            → HasStoppedIn D.device self.old self.new texts user.now moment (Kill number)) }
-
-        // Stopped only by a fault.
+        ensures meets { (moment : ℕ) → MeetsCall D.device self.old self.new user.now moment (Kill number) result }
         ensures fault { IfErr result (λ error. error ≡ AreaError.StoreFault) }
-        ensures cause { OnErr result (Rose (device_of D.device self.old).faults (device_of D.device self.new).faults) }
-        ensures later { (device_of D.device self.old).faults ≤ (device_of D.device self.new).faults }
-        ensures rules { rules_of self.new ≡ rules_of self.old }
     {
         self.begin_kill(user, number);
         self.done()
     }
 
-    /// Sets the user's mark to this number; a user who has none gets one. Takes no memory.
+    /// Sets the user's mark to this number; a user who has none gets one. Takes no memory, and so fails by a fault alone.
     pub fn set_mark(&mut self, user: &User, number: u32) -> Result<Reply, AreaError>
         requires rests { HasRest D.device self.old }
-
-        // The reply and the area then are those of the definition; stopped, the change is in doubt.
-        ensures answered { IfOk result (λ reply. (texts : List ℕ) (moment : ℕ) → IsResting D.device self.old texts
-            → HasAnswered D.device self.old self.new texts user.now moment (SetMark number) reply) }
-        ensures stopped { OnErr result ((texts : List ℕ) (moment : ℕ) → IsResting D.device self.old texts
-            → HasStoppedIn D.device self.old self.new texts user.now moment (SetMark number)) }
-
-        // Stopped only by a fault.
+        ensures meets { (moment : ℕ) → MeetsCall D.device self.old self.new user.now moment (SetMark number) result }
         ensures fault { IfErr result (λ error. error ≡ AreaError.StoreFault) }
-        ensures cause { OnErr result (Rose (device_of D.device self.old).faults (device_of D.device self.new).faults) }
-        ensures later { (device_of D.device self.old).faults ≤ (device_of D.device self.new).faults }
-        ensures rules { rules_of self.new ≡ rules_of self.old }
     {
         self.begin_mark(user, number);
         self.done()
@@ -136,15 +100,7 @@ impl<D: Disk> OpenArea<D> {
         number: u32,
     ) -> Result<(), AreaError>
         requires rests { HasRest D.device self.old }
-        ensures begun { OnOk result ((texts : List ℕ) → IsResting D.device self.old texts
-            → IsBegunFor D.device self.new texts user.now moment (Read number)) }
-        ensures failed { IfErr result (λ error. (texts : List ℕ) → IsResting D.device self.old texts
-            → IsNotBegun D.device error self.old self.new texts) }
-        ensures reads { OnlyReads (device_of D.device self.old) (device_of D.device self.new) }
-        ensures later { (device_of D.device self.old).faults ≤ (device_of D.device self.new).faults }
-        ensures cause { IfErr result (FaultRose (device_of D.device self.old).faults (device_of D.device self.new).faults) }
-        ensures loaded { loaded_of self.new ≡ loaded_of self.old }
-        ensures rules { rules_of self.new ≡ rules_of self.old }
+        ensures { BeginsCall D.device self.old self.new user.now moment (Read number) result }
     {
         let decided = decide_read(
             alloc,
@@ -167,15 +123,7 @@ impl<D: Disk> OpenArea<D> {
         number: u32,
     ) -> Result<(), AreaError>
         requires rests { HasRest D.device self.old }
-        ensures begun { OnOk result ((moment : ℕ) (texts : List ℕ) → IsResting D.device self.old texts
-            → IsBegunFor D.device self.new texts user.now moment (Peek number)) }
-        ensures failed { IfErr result (λ error. (texts : List ℕ) → IsResting D.device self.old texts
-            → IsNotBegun D.device error self.old self.new texts) }
-        ensures reads { OnlyReads (device_of D.device self.old) (device_of D.device self.new) }
-        ensures later { (device_of D.device self.old).faults ≤ (device_of D.device self.new).faults }
-        ensures cause { IfErr result (FaultRose (device_of D.device self.old).faults (device_of D.device self.new).faults) }
-        ensures loaded { loaded_of self.new ≡ loaded_of self.old }
-        ensures rules { rules_of self.new ≡ rules_of self.old }
+        ensures { (moment : ℕ) → BeginsCall D.device self.old self.new user.now moment (Peek number) result }
     {
         let decided = decide_peek(alloc, &mut self.disk, &self.held, &self.rules, user, number);
         self.start(decided)
@@ -191,17 +139,7 @@ impl<D: Disk> OpenArea<D> {
         number: u32,
     ) -> Result<Reply, AreaError>
         requires rests { HasRest D.device self.old }
-
-        // The reply and the area then are those of the definition; after a fault what changed is in doubt.
-        ensures answered { IfOk result (λ reply. (texts : List ℕ) → IsResting D.device self.old texts
-            → HasAnswered D.device self.old self.new texts user.now moment (Read number) reply) }
-        ensures failed { IfErr result (λ error. (texts : List ℕ) → IsResting D.device self.old texts
-            → FailsWith D.device error self.old self.new texts user.now moment (Read number)) }
-
-        // A fault has its cause.
-        ensures cause { IfErr result (FaultRose (device_of D.device self.old).faults (device_of D.device self.new).faults) }
-        ensures later { (device_of D.device self.old).faults ≤ (device_of D.device self.new).faults }
-        ensures rules { rules_of self.new ≡ rules_of self.old }
+        ensures meets { MeetsCall D.device self.old self.new user.now moment (Read number) result }
     {
         match self.begin_read(alloc, user, moment, number) {
             Ok(()) => self.done(),
@@ -212,17 +150,7 @@ impl<D: Disk> OpenArea<D> {
     /// Looks at the message with this number, and changes nothing. One device call, and none where the text is empty.
     pub fn peek(&mut self, alloc: Global, user: &User, number: u32) -> Result<Reply, AreaError>
         requires rests { HasRest D.device self.old }
-
-        // The reply and the area then are those of the definition; after a fault what changed is in doubt.
-        ensures answered { IfOk result (λ reply. (moment : ℕ) (texts : List ℕ) → IsResting D.device self.old texts
-            → HasAnswered D.device self.old self.new texts user.now moment (Peek number) reply) }
-        ensures failed { IfErr result (λ error. (moment : ℕ) (texts : List ℕ) → IsResting D.device self.old texts
-            → FailsWith D.device error self.old self.new texts user.now moment (Peek number)) }
-
-        // A fault has its cause.
-        ensures cause { IfErr result (FaultRose (device_of D.device self.old).faults (device_of D.device self.new).faults) }
-        ensures later { (device_of D.device self.old).faults ≤ (device_of D.device self.new).faults }
-        ensures rules { rules_of self.new ≡ rules_of self.old }
+        ensures meets { (moment : ℕ) → MeetsCall D.device self.old self.new user.now moment (Peek number) result }
     {
         match self.begin_peek(alloc, user, number) {
             Ok(()) => self.done(),
@@ -240,14 +168,7 @@ impl<D: Disk> OpenArea<D> {
     ) -> Result<(), AreaError>
         requires rests { HasRest D.device self.old }
         requires name { length user.now.name ≤ MOST_NAME_BYTES }
-        ensures begun { OnOk result ((texts : List ℕ) → IsResting D.device self.old texts
-            → IsBegunFor D.device self.new texts user.now moment (post_of (draft_of draft.entry))) }
-        ensures failed { IfErr result (λ error. (texts : List ℕ) → IsResting D.device self.old texts
-            → IsNotBegun D.device error self.old self.new texts) }
-        ensures memory { IfErr result (λ error. error ≡ AreaError.OutOfMemory) }
-        ensures disk { self.new.disk ≡ self.old.disk }
-        ensures loaded { loaded_of self.new ≡ loaded_of self.old }
-        ensures rules { rules_of self.new ≡ rules_of self.old }
+        ensures { BeginsCall D.device self.old self.new user.now moment (post_of (draft_of draft.entry)) result }
     {
         let decided = match decide_post(
             alloc,
@@ -275,17 +196,7 @@ impl<D: Disk> OpenArea<D> {
     ) -> Result<Reply, AreaError>
         requires rests { HasRest D.device self.old }
         requires name { length user.now.name ≤ MOST_NAME_BYTES }
-
-        // The reply and the area then are those of the definition; after a fault what changed is in doubt.
-        ensures answered { IfOk result (λ reply. (texts : List ℕ) → IsResting D.device self.old texts
-            → HasAnswered D.device self.old self.new texts user.now moment (post_of (draft_of draft.entry)) reply) }
-        ensures failed { IfErr result (λ error. (texts : List ℕ) → IsResting D.device self.old texts
-            → FailsWith D.device error self.old self.new texts user.now moment (post_of (draft_of draft.entry))) }
-
-        // A fault has its cause.
-        ensures cause { IfErr result (FaultRose (device_of D.device self.old).faults (device_of D.device self.new).faults) }
-        ensures later { (device_of D.device self.old).faults ≤ (device_of D.device self.new).faults }
-        ensures rules { rules_of self.new ≡ rules_of self.old }
+        ensures meets { MeetsCall D.device self.old self.new user.now moment (post_of (draft_of draft.entry)) result }
     {
         match self.begin_post(alloc, user, moment, draft) {
             Ok(()) => self.done(),
@@ -296,14 +207,7 @@ impl<D: Disk> OpenArea<D> {
     /// Begins a relink. It makes no device call.
     pub(crate) fn begin_relink(&mut self, alloc: Global, user: &User) -> Result<(), AreaError>
         requires rests { HasRest D.device self.old }
-        ensures begun { OnOk result ((moment : ℕ) (texts : List ℕ) → IsResting D.device self.old texts
-            → IsBegunFor D.device self.new texts user.now moment Relink) }
-        ensures failed { IfErr result (λ error. (texts : List ℕ) → IsResting D.device self.old texts
-            → IsNotBegun D.device error self.old self.new texts) }
-        ensures memory { IfErr result (λ error. error ≡ AreaError.OutOfMemory) }
-        ensures disk { self.new.disk ≡ self.old.disk }
-        ensures loaded { loaded_of self.new ≡ loaded_of self.old }
-        ensures rules { rules_of self.new ≡ rules_of self.old }
+        ensures { (moment : ℕ) → BeginsCall D.device self.old self.new user.now moment Relink result }
     {
         let decided = match decide_relink(alloc, &self.held, &self.rules, &mut self.redo, user) {
             Ok(decided) => Ok(decided),
@@ -316,17 +220,7 @@ impl<D: Disk> OpenArea<D> {
     /// written. The room that one relink takes is kept until the area is closed: 12 bytes a message and a small record.
     pub fn relink(&mut self, alloc: Global, user: &User) -> Result<Reply, AreaError>
         requires rests { HasRest D.device self.old }
-
-        // The reply and the area then are those of the definition; after a fault what changed is in doubt.
-        ensures answered { IfOk result (λ reply. (moment : ℕ) (texts : List ℕ) → IsResting D.device self.old texts
-            → HasAnswered D.device self.old self.new texts user.now moment Relink reply) }
-        ensures failed { IfErr result (λ error. (moment : ℕ) (texts : List ℕ) → IsResting D.device self.old texts
-            → FailsWith D.device error self.old self.new texts user.now moment Relink) }
-
-        // A fault has its cause.
-        ensures cause { IfErr result (FaultRose (device_of D.device self.old).faults (device_of D.device self.new).faults) }
-        ensures later { (device_of D.device self.old).faults ≤ (device_of D.device self.new).faults }
-        ensures rules { rules_of self.new ≡ rules_of self.old }
+        ensures meets { (moment : ℕ) → MeetsCall D.device self.old self.new user.now moment Relink result }
     {
         match self.begin_relink(alloc, user) {
             Ok(()) => self.done(),
@@ -337,16 +231,7 @@ impl<D: Disk> OpenArea<D> {
     /// Finishes the call that is begun.
     pub(crate) fn done(&mut self) -> Result<Reply, AreaError>
         requires begun { HasBegun D.device self.old }
-        ensures done { IfOk result (λ reply. (texts : List ℕ) (decided : Reply) (coming : Coming) → IsBegun D.device self.old texts decided coming
-            → (reply ≡ decided) × RestsAt D.device self.new (texts ++ coming.text) coming.to) }
-        ensures doubt { OnErr result ((texts : List ℕ) (decided : Reply) (coming : Coming) → IsBegun D.device self.old texts decided coming
-            → IsDoubtful D.device self.new texts (Some coming)) }
-        ensures fault { IfErr result (λ error. error ≡ AreaError.StoreFault) }
-        ensures cause { OnErr result (Rose (device_of D.device self.old).faults (device_of D.device self.new).faults) }
-        ensures later { (device_of D.device self.old).faults ≤ (device_of D.device self.new).faults }
-        ensures crash { (texts : List ℕ) (decided : Reply) (coming : Coming) → IsBegun D.device self.old texts decided coming
-            → ForSome (device_of D.device self.old).contents (λ files. LeavesOnly (device_of D.device self.old) (device_of D.device self.new) (OpensToEither (loaded_of self.old) coming.to texts coming.text)) }
-        ensures rules { rules_of self.new ≡ rules_of self.old }
+        ensures { EndsCall D.device self.old self.new result }
     {
         match self.finish() {
             Ok(reply) => Ok(reply),

@@ -5,7 +5,8 @@
 //! through the journal, so a crash at any moment leaves what opens to the area before the call or to the one after it. A fault
 //! of the device leaves the area in doubt between the two; [`OpenArea::reopen`] settles that and answers which. A call may be
 //! done in two parts: [`OpenArea::begin`] decides, takes all memory and reads all that is needed, and writes nothing;
-//! [`OpenArea::finish`] commits and takes no memory, or [`OpenArea::abandon`] drops it. Packs come later.
+//! [`OpenArea::finish`] commits and takes no memory, or [`OpenArea::abandon`] drops it. `jb_decide` says what each command
+//! comes to. Packs come later.
 //!
 //! No call writes more than what changed. A kill writes 12 bytes of .JHR, a mark 16 of .JLR, a reading 20 of .JHR after one
 //! read of .JDT; a post its header and subfields, its text, one index record and 20 bytes of .JHR at most beside; a relink
@@ -18,20 +19,11 @@ mod area;
 mod calls;
 mod commands;
 mod committing;
-mod decided;
-mod deciding;
-mod error;
-mod held;
 mod opening;
-mod pending;
-mod posting;
-mod reading;
-mod relinking;
 mod stage;
-mod texts;
 
 pub use area::OpenArea;
-pub use error::AreaError;
+pub use jb_decide::AreaError;
 
 #[cfg(test)]
 mod tests;

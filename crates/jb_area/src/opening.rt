@@ -7,16 +7,21 @@ ghost use Rattle.jb_disk.specs.declared.file.FileId.TheVariants.{Jdt as texts_fi
 ghost use Rattle.jb_model.specs.Live.{live_count};
 ghost use Rattle.jb_model.specs.Sound.{IsSound};
 ghost use Rattle.jb_model.specs.State.{slot_state};
-ghost use Rattle.jb_area.specs.Area.{HasRoomInAll, device_of, loaded_of, rules_of, IsResting};
+ghost use Rattle.jb_decide.specs.Holds.{AreTexts};
+ghost use Rattle.jb_decide.specs.Ready.{HasRoomInAll};
+ghost use Rattle.jb_replies.specs.Index.{IsIndexOf};
+ghost use Rattle.jb_area.specs.Area.{device_of, loaded_of, rules_of, IsResting};
+ghost use Rattle.jb_area.specs.Calls.{HasRest};
 ghost use Rattle.jb_area.specs.Holds.{IsAtRest};
 
 use crate::OpenArea;
-use crate::held::Held;
 use crate::stage::Stage;
-use jb_base::{AreaRules, MOST_MARKS, OutOfMemory};
+use jb_base::{AreaRules, MOST_MARKS, MOST_SLOTS, OutOfMemory};
+use jb_decide::Held;
 use jb_disk::{Disk, Redo};
 use jb_marks::Marks;
 use jb_model::{Loaded, LoadedSlot};
+use jb_replies::Replies;
 use std::alloc::Global;
 
 /// How many messages are live.
@@ -40,6 +45,19 @@ fn marks_of(alloc: Global, loaded: &Loaded) -> Result<Marks, OutOfMemory>
     let more = MOST_MARKS - loaded.marks.as_slice().len() as u32;
     marks.reserve(more)?;
     Ok(marks)
+}
+
+/// The index of the replies, and room for as many messages as an area may have.
+fn replies_of(alloc: Global, loaded: &Loaded) -> Result<Replies, OutOfMemory>
+    requires numbers { loaded.now.base + length loaded.now.slots ≤ 4_294_967_295 }
+    requires few_slots { length loaded.now.slots ≤ MOST_SLOTS }
+    ensures index { IfOk result (λ replies. IsIndexOf replies loaded.now) }
+    ensures room { IfOk result (λ replies. length loaded.now.slots + replies.room ≡ MOST_SLOTS) }
+{
+    let mut replies = Replies::of(alloc, loaded)?;
+    let more = MOST_SLOTS - loaded.slots.as_slice().len() as u32;
+    replies.reserve(more)?;
+    Ok(replies)
 }
 
 /// A redo with room for each change that takes no memory.
@@ -67,8 +85,8 @@ impl<D: Disk> OpenArea<D> {
         requires synced { IsAllSynced (D.device disk) }
 
         // At rest, with what was loaded.
-        ensures rests { IfOk result (λ area. (texts : List ℕ) → ForSome (D.device disk).contents (λ files. files texts_file ≡ texts)
-            → IsResting D.device area texts) }
+        ensures rests { IfOk result (λ area. (texts : List ℕ) → AreTexts loaded texts (D.device disk).contents → IsResting D.device area texts) }
+        ensures rest { IfOk result (HasRest D.device) }
         ensures loaded { IfOk result (λ area. loaded_of area ≡ loaded) }
         ensures rules { IfOk result (λ area. rules_of area ≡ rules) }
         ensures device { IfOk result (λ area. device_of D.device area ≡ D.device disk) }
@@ -77,6 +95,9 @@ impl<D: Disk> OpenArea<D> {
         ensures back { IfErr result (λ back. back ≡ disk) }
     {
         let Ok(marks) = marks_of(alloc, &loaded) else {
+            return Err(disk);
+        };
+        let Ok(replies) = replies_of(alloc, &loaded) else {
             return Err(disk);
         };
         let Ok(redo) = small_redo(alloc) else {
@@ -90,6 +111,7 @@ impl<D: Disk> OpenArea<D> {
                 loaded,
                 live,
                 marks,
+                replies,
             },
             redo,
             stage: Stage::Resting,

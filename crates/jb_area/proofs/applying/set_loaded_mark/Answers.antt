@@ -2,7 +2,7 @@ use Rattle.std.proofs.Common.{List, ap, subst, ◌∙◌}
 use Rattle.jb_model.specs.Loaded.{with_marks}
 use Rattle.jb_model.specs.declared.mark.Mark.{Mark}
 use Rattle.jb_marks.specs.Places.{IsPlaceOf}
-use Rattle.jb_area.proofs.MarkLemmas.{marked_first, marked_last}
+use Rattle.jb_decide.proofs.MarkLemmas.{marked_first, marked_last}
 use Rattle.jb_area.proofs.applying.set_loaded_mark.Goals as goal
 
 pub returns-in-Some : goal.returns-in-Some

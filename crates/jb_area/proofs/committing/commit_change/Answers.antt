@@ -1,5 +1,5 @@
-use Rattle.jb_area.proofs.CommitLemmas.{ready_as, done_as, stopped_as, crash_as}
-use Rattle.jb_area.proofs.Outcomes.{if_err_then, on_ok_then2}
+use Rattle.jb_area.proofs.CommitLemmas.{ready_as, done_as, made_as, stopped_as, crash_as}
+use Rattle.jb_area.proofs.Outcomes.{if_err_then, on_ok_then, on_ok_then2}
 use Rattle.jb_area.proofs.committing.commit_change.Goals as goal
 
 pub commit-requires-clause-ready : goal.commit-requires-clause-ready
@@ -10,6 +10,10 @@ commit-requires-clause-ready g c =
 pub returns-clause-done : goal.returns-clause-done
 returns-clause-done g c = on_ok_then2 c.commit.result _ _ _ c.commit.ensures.done c.commit.ensures.durable (λ done durable from texts coming settled is.
     done_as c.args.redo.now (g.D.Disk.device c.args.disk.now) (g.D.Disk.device c.commit.new.disk) from texts coming done durable settled is)
+
+pub returns-clause-made : goal.returns-clause-made
+returns-clause-made g c = on_ok_then c.commit.result _ _ c.commit.ensures.done (λ done.
+    made_as c.args.redo.now (g.D.Disk.device c.args.disk.now) (g.D.Disk.device c.commit.new.disk) done)
 
 pub returns-clause-doubt : goal.returns-clause-doubt
 returns-clause-doubt g c = if_err_then c.commit.result _ _ c.commit.ensures.in_doubt (λ stopped doubt from texts coming settled is.

@@ -1,7 +1,13 @@
-use Rattle.jb_area.proofs.CallLemmas.{begun_for}
+use Rattle.std.proofs.Common.{Ok, refl}
+use Rattle.jb_decide.specs.declared.decided.Decided.{Decided}
+use Rattle.jb_area.specs.declared.stage.Stage.TheVariants.{Begun}
+use Rattle.jb_area.proofs.StartLemmas.{begins, reads_itself, same_faults}
 use Rattle.jb_area.proofs.area.OpenArea.begin_kill.Goals as goal
 
-pub returns-clause-begun : goal.returns-clause-begun
-returns-clause-begun g c = λ texts moment resting.
-    begun_for g.D.Disk.device c.args.self.now c.args.self.now.disk c.decide_kill-decided.new.redo texts c.args.user.now moment _ c.decide_kill-decided.result resting resting.kept.settled
-    c.decide_kill-decided.ensures.room (c.decide_kill-decided.ensures.decided moment (g.D.Disk.device c.args.self.now.disk).contents)
+pub returns : goal.returns
+returns g c = λ moment.
+    let area = c.args.self.now in
+    let decided : Decided = c.decide_kill-decided.result in
+    begins g.D.Disk.device area (record area { redo = c.decide_kill-decided.new.redo; stage = Begun decided.reply decided.pending }) area.disk c.decide_kill-decided.new.redo refl refl refl refl
+    (reads_itself (g.D.Disk.device area.disk)) c.decide_kill-decided.ensures.room (Ok decided) (Ok tt) c.args.user.now moment _ refl refl
+    (λ texts are. c.decide_kill-decided.ensures.decided moment texts (g.D.Disk.device area.disk).contents are) tt (same_faults (g.D.Disk.device area.disk))

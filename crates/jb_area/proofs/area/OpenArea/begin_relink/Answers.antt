@@ -1,22 +1,27 @@
-use Rattle.std.proofs.Common.{ℕ, IfOk, Result, subst, sym}
+use Rattle.std.proofs.Common.{IfOk, IfErr, List, ℕ, Result, subst, sym}
 use Rattle.jb_model.specs.declared.command.Command.TheVariants.{Relink}
-use Rattle.jb_area.specs.Decided.{IsDecided}
-use Rattle.jb_area.specs.declared.decided.Decided.{Decided}
-use Rattle.jb_area.specs.declared.error.AreaError.{AreaError}
-use Rattle.jb_area.proofs.Outcomes.{on_ok_all}
-use Rattle.jb_area.proofs.StartLemmas.{reads_itself, starts}
+use Rattle.jb_decide.specs.Decided.{IsDecided}
+use Rattle.jb_decide.specs.Errors.{FaultRose}
+use Rattle.jb_decide.specs.Holds.{AreTexts}
+use Rattle.jb_decide.specs.declared.decided.Decided.{Decided}
+use Rattle.jb_decide.specs.declared.error.AreaError.{AreaError}
+use Rattle.jb_area.proofs.StartLemmas.{begins, reads_itself, same_faults}
 use Rattle.jb_area.proofs.area.OpenArea.begin_relink.Goals.{in-Ok, in-Err}
 use Rattle.jb_area.proofs.area.OpenArea.begin_relink.Goals as goal
 
-pub returns-clause-begun : goal.returns-clause-begun
-returns-clause-begun g c = on_ok_all c.start.result ℕ _ (λ moment.
+pub returns : goal.returns
+returns g c = λ moment.
     let area = c.args.self.now in
+    let device = g.D.Disk.device area.disk in
     let Is : Decided → Type 0 =
-    IsDecided area.rules area.held.loaded (g.D.Disk.device area.disk).contents c.decide_relink.new.redo c.args.user.now moment Relink in
+    λ one. (texts : List ℕ) → AreTexts area.held.loaded texts device.contents → IsDecided area.rules area.held.loaded texts device.contents c.decide_relink.new.redo c.args.user.now moment Relink one in
     let is : IfOk c.match-decide_relink.decided Is = elim c.match-decide_relink.branch [
-      | in-Ok w ↦ subst (λ (r : Result Decided AreaError). IfOk r Is) (sym w.decided-is)
-          (w.in-Ok.ensures.decided moment (g.D.Disk.device area.disk).contents)
+      | in-Ok w ↦ subst (λ (r : Result Decided AreaError). IfOk r Is) (sym w.decided-is) (λ texts are. w.in-Ok.ensures.decided moment texts device.contents are)
       | in-Err w ↦ subst (λ (r : Result Decided AreaError). IfOk r Is) (sym w.decided-is) tt
     ] in
-    starts g.D.Disk.device area c.start.new.self area.disk c.decide_relink.new.redo c.start.ensures.disk c.start.ensures.rules c.start.ensures.held c.start.ensures.redo
-    (reads_itself (g.D.Disk.device area.disk)) c.decide_relink.ensures.room c.match-decide_relink.decided c.start.result c.args.user.now moment _ c.start.ensures.stage c.start.ensures.answer is)
+    let cause : IfErr c.match-decide_relink.decided (FaultRose device.faults device.faults) = elim c.match-decide_relink.branch [
+      | in-Ok w ↦ subst (λ (r : Result Decided AreaError). IfErr r (FaultRose device.faults device.faults)) (sym w.decided-is) tt
+      | in-Err w ↦ subst (λ (r : Result Decided AreaError). IfErr r (FaultRose device.faults device.faults)) (sym w.decided-is) tt
+    ] in
+    begins g.D.Disk.device area c.start.new.self area.disk c.decide_relink.new.redo c.start.ensures.disk c.start.ensures.rules c.start.ensures.held c.start.ensures.redo
+    (reads_itself device) c.decide_relink.ensures.room c.match-decide_relink.decided c.start.result c.args.user.now moment _ c.start.ensures.stage c.start.ensures.answer is cause (same_faults device)

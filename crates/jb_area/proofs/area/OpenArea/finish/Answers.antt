@@ -1,11 +1,20 @@
-use Rattle.std.proofs.Common.{sym, ◌∙◌}
+use Rattle.std.proofs.Common.{refl, sym, ◌∙◌}
 use Rattle.jb_area.proofs.CommitLemmas.{idle_opens}
-use Rattle.jb_area.proofs.StageLemmas.{between, fits, live, may_commit, rests_changed, rests_unchanged, some_is}
+use Rattle.jb_area.proofs.StageLemmas.{between, fits, live, made_change, made_nothing, may_commit, numbered, rests_changed, rests_unchanged, some_is}
 use Rattle.jb_area.proofs.area.OpenArea.finish.Goals as goal
 
 pub returns-in-Nothing-clause-done : goal.returns-in-Nothing-clause-done
 returns-in-Nothing-clause-done g c = λ texts decided coming begun.
     rests_unchanged g.D.Disk.device c.args.self.now texts decided coming begun c.in-Begun.reply c.in-Begun.pending c.replace.new.dest (sym c.replace.ensures.value ∙ c.in-Begun.is) c.in-Nothing.is c.replace.ensures.after
+
+pub returns-in-Nothing-clause-made : goal.returns-in-Nothing-clause-made
+returns-in-Nothing-clause-made g c =
+    made_nothing g.D.Disk.device c.args.self.now c.in-Begun.reply c.in-Begun.pending (sym c.replace.ensures.value ∙ c.in-Begun.is) c.args.self.now.disk c.args.self.now.held c.replace.new.dest c.in-Nothing.is refl
+
+pub returns-in-Ok-clause-made : goal.returns-in-Ok-clause-made
+returns-in-Ok-clause-made g c =
+    made_change g.D.Disk.device c.args.self.now c.in-Begun.reply c.in-Begun.pending (sym c.replace.ensures.value ∙ c.in-Begun.is) c.commit_change.new.disk c.apply.new.held c.replace.new.dest
+    c.in_default-pending.not-Nothing c.in-Ok.ensures.made
 
 pub returns-in-Nothing-clause-crash : goal.returns-in-Nothing-clause-crash
 returns-in-Nothing-clause-crash g c = λ texts decided coming begun was there.
@@ -44,4 +53,5 @@ apply-requires g c =
       whole = has.begun.kept.ruled.whole;
       fit = fits g.D.Disk.device c.args.self.now has.texts has.reply has.coming has.begun c.in-Begun.reply c.in-Begun.pending is c.in_default-pending.not-Nothing;
       live = live g.D.Disk.device c.args.self.now has.texts has.reply has.coming has.begun c.in-Begun.reply c.in-Begun.pending is c.in_default-pending.not-Nothing;
+      numbers = numbered g.D.Disk.device c.args.self.now has.texts has.reply has.coming has.begun c.in-Begun.reply c.in-Begun.pending is c.in_default-pending.not-Nothing;
     }

@@ -1,22 +1,12 @@
-use Rattle.jb_area.proofs.CallLemmas.{answered_by, has_begun, same_disk, stopped_by}
-use Rattle.jb_area.proofs.Outcomes.{if_ok_then, on_err_then}
+use Rattle.std.proofs.Common.{Ok, refl}
+use Rattle.jb_area.proofs.CallLemmas.{has_begun, meets}
 use Rattle.jb_area.proofs.area.OpenArea.kill.Goals as goal
 
 pub done-requires : goal.done-requires
 done-requires g c =
     let has = c.requires.rests in
-    record { begun = has_begun g.D.Disk.device c.begin_kill.new.self has.texts c.args.user.now 0 _ (c.begin_kill.ensures.begun has.texts 0 has.rests) }
+    record { begun = has_begun g.D.Disk.device c.args.self.now c.begin_kill.new.self has.texts c.args.user.now 0 _ (Ok tt) tt (c.begin_kill.ensures 0) refl has.rests }
 
-pub returns-clause-answered : goal.returns-clause-answered
-returns-clause-answered g c = if_ok_then c.done.result _ _ c.done.ensures.done (λ reply done texts moment resting.
-    let begun = c.begin_kill.ensures.begun texts moment resting in
-    answered_by g.D.Disk.device c.args.self.now c.begin_kill.new.self c.done.new.self texts c.args.user.now moment _
-    (same_disk g.D.Disk.device c.args.self.now.disk c.begin_kill.new.self.disk c.begin_kill.ensures.device) c.begin_kill.ensures.loaded c.begin_kill.ensures.rules begun
-    reply (done texts begun.reply begun.coming begun.begun) (c.done.ensures.crash texts begun.reply begun.coming begun.begun))
-
-pub returns-clause-stopped : goal.returns-clause-stopped
-returns-clause-stopped g c = on_err_then c.done.result _ _ c.done.ensures.doubt (λ doubt texts moment resting.
-    let begun = c.begin_kill.ensures.begun texts moment resting in
-    stopped_by g.D.Disk.device c.args.self.now c.begin_kill.new.self c.done.new.self texts c.args.user.now moment _
-    (same_disk g.D.Disk.device c.args.self.now.disk c.begin_kill.new.self.disk c.begin_kill.ensures.device) c.begin_kill.ensures.loaded c.begin_kill.ensures.rules begun
-    (doubt texts begun.reply begun.coming begun.begun) (c.done.ensures.crash texts begun.reply begun.coming begun.begun))
+pub returns-clause-meets : goal.returns-clause-meets
+returns-clause-meets g c = λ moment.
+    meets g.D.Disk.device c.args.self.now c.begin_kill.new.self c.done.new.self c.args.user.now moment _ (Ok tt) tt c.done.result (c.begin_kill.ensures moment) refl c.done.ensures

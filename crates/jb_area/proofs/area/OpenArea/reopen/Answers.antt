@@ -1,6 +1,6 @@
 use Rattle.std.proofs.Common.{Bool, sym, subst, ◌∙◌}
 use Rattle.jb_area.specs.Commits.{IsAnsweredAs}
-use Rattle.jb_area.proofs.DoubtLemmas.{crashes, falls, fits, idle, live, may_settle, stands, still, whole_is}
+use Rattle.jb_area.proofs.DoubtLemmas.{crashes, falls, fits, idle, live, may_settle, numbered, stands, still, whole_is}
 use Rattle.jb_area.proofs.area.OpenArea.reopen.Goals as goal
 
 pub returns-in-Nothing-clause-crash : goal.returns-in-Nothing-clause-crash
@@ -52,4 +52,5 @@ apply-requires g c =
       whole = whole_is g.D.Disk.device c.args.self.now c.in-Doubtful.stopped c.in-Doubtful.pending is c.in_default-pending.not-Nothing has.texts has.coming has.doubt;
       fit = fits g.D.Disk.device c.args.self.now c.in-Doubtful.stopped c.in-Doubtful.pending is c.in_default-pending.not-Nothing has.texts has.coming has.doubt;
       live = live g.D.Disk.device c.args.self.now c.in-Doubtful.stopped c.in-Doubtful.pending is c.in_default-pending.not-Nothing has.texts has.coming has.doubt;
+      numbers = numbered g.D.Disk.device c.args.self.now c.in-Doubtful.stopped c.in-Doubtful.pending is c.in_default-pending.not-Nothing has.texts has.coming has.doubt;
     }

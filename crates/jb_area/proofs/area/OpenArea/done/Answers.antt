@@ -1,0 +1,26 @@
+use Rattle.std.proofs.Common.{refl}
+use Rattle.jb_area.proofs.area.OpenArea.done.Goals as goal
+
+pub returns-in-Ok : goal.returns-in-Ok
+returns-in-Ok g c = record {
+  done = c.in-Ok.ensures.done;
+  made = c.in-Ok.ensures.made;
+  fault = tt;
+  doubt = tt;
+  cause = tt;
+  later = c.finish.ensures.later;
+  crash = c.finish.ensures.crash;
+  rules = c.finish.ensures.rules;
+}
+
+pub returns-in-Err : goal.returns-in-Err
+returns-in-Err g c = record {
+  done = tt;
+  made = tt;
+  fault = refl;
+  doubt = c.in-Err.ensures.doubt;
+  cause = c.in-Err.ensures.cause;
+  later = c.finish.ensures.later;
+  crash = c.finish.ensures.crash;
+  rules = c.finish.ensures.rules;
+}

@@ -1,0 +1,254 @@
+-- From what a command comes to in the loaded area to what is pending.
+use Rattle.std.proofs.Common.{◌≡◌, ◌≢◌, ◌⊎◌, inl, inr, ℕ, ◌+◌, ◌-◌, ◌≤◌, ◌<◌, List, [], length, get_or, Bool, true, false, Option, None, Some, ap, sym, refl, ◌∙◌, subst, arith}
+use Rattle.std.proofs.lemmas.List.{get_or-set_same, length-set}
+use Rattle.std.proofs.lemmas.List.Elements.{All-get_or, All-nil}
+use Rattle.std.proofs.lemmas.Option.{slice_get-get_or, slice_get_within}
+use Rattle.std.specs.Prelude.{AllPairs, IsSome, bit_and, slice_get, slice_set, if◌then◌else◌}
+use Rattle.jb_base.specs.declared.area.AreaRules.{AreaRules}
+use Rattle.jb_base.specs.declared.limits.TheConstants.{JOURNAL_CEILING, MOST_MARKS}
+use Rattle.jb_base.specs.declared.user.User.{User}
+use Rattle.jb_change.specs.Makes.{record_size}
+use Rattle.std.specs.Option.{ForSome}
+use Rattle.jb_disk.specs.Change.{Change}
+use Rattle.jb_disk.specs.Files.{Files}
+use Rattle.jb_journal.specs.Commit.{IsWritable}
+use Rattle.jb_model.specs.Loaded.{IsMessageAt, slot_with_head, with_counts, with_head_at, with_killed_at, with_marks, with_slot_at}
+use Rattle.jb_model.specs.declared.loaded.LoadedSlot.TheVariants as slot
+use Rattle.jb_model.specs.State.{state_of}
+use Rattle.jb_model.specs.Step.{Step}
+use Rattle.jb_model.specs.declared.command.Command.{Command}
+use Rattle.jb_model.specs.declared.command.Command.TheVariants.{Kill, Read, SetMark}
+use Rattle.jb_model.specs.declared.loaded.Loaded.{Loaded}
+use Rattle.jb_model.specs.declared.loaded.LoadedMessage.{LoadedMessage}
+use Rattle.jb_model.specs.declared.reply.Reply.{Reply}
+use Rattle.jb_model.specs.declared.reply.Reply.TheVariants as reply
+use Rattle.jb_model.specs.Sound.{IsMessageWithin, IsSlotWithin, IsSound}
+use Rattle.jb_redo.specs.Rules.{AreLegalLengths, IsBefore, IsLegalLength}
+use Rattle.jb_base.specs.declared.attribute.TheConstants.{DELETED}
+use Rattle.jb_model.specs.Message.{letter_of}
+use Rattle.jb_model.specs.declared.loaded.LoadedSlot.{LoadedSlot}
+use Rattle.jb_model.specs.declared.message.Head.{Head}
+use Rattle.jb_model.specs.declared.reply.Letter.{Letter}
+use Rattle.jb_base.specs.Name.{same_name}
+use Rattle.jb_base.specs.Subfields.{receiver_of}
+use Rattle.jb_change.specs.Changing.{head_with_reading}
+use Rattle.jb_model.specs.Read.{read_once_more, received_at}
+use Rattle.jb_step.proofs.ReadLemmas.{reading_keeps_parent}
+use Rattle.jb_step.specs.Read.{IsReading, read_head}
+use Rattle.jb_step.specs.Seen.{with_text, with_head as step_head}
+use Rattle.jb_step.specs.declared.reads.Reading.{Reading}
+use Rattle.jb_step.specs.After.{after_kill, after_reading, live_messages, next_counter}
+use Rattle.jb_step.specs.Kill.{IsKilling}
+use Rattle.jb_step.specs.SetMark.{IsMarking}
+use Rattle.jb_base.specs.Crc.{jam_crc_of}
+use Rattle.jb_marks.proofs.MarkLemmas.{mark_of-none}
+use Rattle.jb_marks.specs.Places.{HasNone, IsPlaceOf}
+use Rattle.jb_model.specs.Marks.{mark_of, with_mark}
+use Rattle.jb_model.specs.declared.mark.Mark.{Mark}
+use Rattle.jb_step.specs.declared.kills.Killing.{Killing}
+use Rattle.jb_decide.specs.Decided.{IsDecided, IsTold, made}
+use Rattle.jb_decide.specs.Headers.{KeepsHeaders, Updates}
+use Rattle.jb_decide.proofs.HeaderLemmas.{keeps_all, keeps_headers}
+use Rattle.jb_decide.proofs.BringLemmas.{brings_same}
+use Rattle.jb_decide.specs.Pending.{headed_at}
+use Rattle.jb_decide.specs.declared.decided.Decided.{Decided}
+use Rattle.jb_decide.specs.declared.pending.Pending.{Pending}
+use Rattle.jb_decide.specs.declared.pending.Pending.TheVariants.{Nothing, Counted, Marked}
+use Rattle.jb_decide.specs.declared.pending.SlotChange.{SlotChange}
+use Rattle.jb_decide.specs.declared.pending.SlotChange.TheVariants as slots
+
+-- a change of the slots is one
+pub counted_some : (change : SlotChange) (counter active : ℕ) → Counted change counter active ≢ Nothing
+counted_some change counter active is = cc
+
+-- of nothing no two are out of order
+no_pairs : AllPairs IsBefore []
+no_pairs i j d order low = absurd (omega (arith, low))
+
+-- no lengths are legal lengths
+pub no_lengths_legal : (lengths : _) → lengths ≡ [] → AreLegalLengths lengths
+no_lengths_legal lengths none = subst AreLegalLengths (sym none) (record { few = omega arith; each = All-nil IsLegalLength; rising = no_pairs })
+
+-- a change without new lengths whose record is small may be written
+pub small_writable : (change : Change) → change.lengths ≡ [] → 16 + record_size change ≤ JOURNAL_CEILING → IsWritable change
+small_writable change none small = record { lengths_are = no_lengths_legal change.lengths none; short = small }
+
+-- a reply that leaves the area as it is
+pub unchanged_decided : (rules : AreaRules) (from : Loaded) (texts : List ℕ) (contents : Option Files) (redo : Change) (user : User) (moment : ℕ) (command : Command) (decided : Decided) (answer : Reply)
+    → decided.reply ≡ answer → decided.pending ≡ Nothing
+    → (IsTold answer contents → Step rules (state_of texts from) user moment command answer (state_of texts from))
+    → IsDecided rules from texts contents redo user moment command decided
+unchanged_decided rules from texts contents redo user moment command decided answer reply none step = record {
+  coming = record { to = from; texts = texts };
+  change = inl (record { none = none; same = refl });
+  step = λ told. subst (λ (r : Reply). Step rules (state_of texts from) user moment command r (state_of texts from)) (sym reply)
+      (step (subst (λ (r : Reply). IsTold r contents) reply told));
+  headers = λ same files holds. subst (λ (p : Pending). KeepsHeaders decided.reply from from files (made p redo files)) (sym none) (keeps_all decided.reply from files);
+}
+
+-- what holds where files are told holds of a letter that is told
+pub of_letter : (contents : Option Files) (letter : Letter) (P : Type 0) → IsTold (reply.Text letter) contents → ForSome contents (λ files. P) → P
+of_letter contents letter P told is = by_contents contents refl (told letter refl)
+  where
+    by_contents : (o : Option Files) → contents ≡ o → IsSome o → P
+    by_contents None none some = absurd (not_some some)
+      where
+        not_some : IsSome {T = Files} None → ⊥
+        not_some some = cc
+    by_contents (Some files) there some = is files there
+
+-- a kill
+pub kill_decided : (rules : AreaRules) (from : Loaded) (texts : List ℕ) (contents : Option Files) (redo : Change) (user : User) (moment number counter active : ℕ) (killing : Killing) → IsKilling rules from user number killing → IsSound rules.slots from → length texts ≡ from.texts_len
+    → counter ≡ next_counter from → active ≡ live_messages from - 1
+    → ((place : ℕ) (message : LoadedMessage) → IsMessageAt from place message → message.header_at ≡ killing.header_at
+    → Updates redo from (with_counts counter active (with_killed_at place message from)) [])
+    → IsWritable redo
+    → IsDecided rules from texts contents redo user moment (Kill number) (record { reply = reply.Killed number; pending = Counted (slots.Killed killing.place killing.header_at) counter active })
+kill_decided rules from texts contents redo user moment number counter active killing is before sized counted live makes writable =
+    let to = after_kill killing.place is.message from in
+    let same : with_counts counter active (with_killed_at killing.place is.message from) ≡ to =
+    ap (λ (n : ℕ). with_counts n active (with_killed_at killing.place is.message from)) counted
+    ∙ ap (λ (n : ℕ). with_counts (next_counter from) n (with_killed_at killing.place is.message from)) live in
+    let fewer = is.live in
+    let updates : Updates redo from to [] = subst (λ (l : Loaded). Updates redo from l []) same (makes killing.place is.message is.named.here (sym is.header)) in
+    record {
+      coming = record { to = to; texts = texts };
+      change = inr (record {
+        some = counted_some (slots.Killed killing.place killing.header_at) counter active;
+        becomes = sym same ∙ ap (λ (n : ℕ). with_counts counter active (with_slot_at killing.place (slot.Killed n) from)) (sym is.header);
+        change = record {
+          brings = brings_same redo from to texts updates.makes;
+          writable = writable;
+        };
+        fit = slice_get_within from.slots killing.place _ is.named.here;
+        sound = is.sound before;
+        sized = sized;
+        live = omega (arith, fewer, live);
+      });
+      step = λ told. is.step texts moment;
+      headers = λ same files holds. keeps_headers (reply.Killed number) redo from to [] updates (length-set from.slots killing.place _) files holds.loads;
+    }
+
+-- a mark is to be set
+pub marked_some : (place : Option ℕ) (mark : Mark) → Marked place mark ≢ Nothing
+marked_some place mark is = cc
+
+-- where the user has no mark, there is room for one
+pub mark_room : (crc id : ℕ) (marks : List Mark) (place : Option ℕ) → IsPlaceOf crc id marks place → IsSome (mark_of crc id marks) ⊎ (length marks < MOST_MARKS)
+    → place ≡ None → length marks < MOST_MARKS
+mark_room crc id marks place is (inr room) none = room
+mark_room crc id marks place is (inl some) none =
+    let has : HasNone crc id marks = subst (IsPlaceOf crc id marks) none is in
+    absurd (not_some (subst IsSome (mark_of-none crc id marks has) some))
+  where
+    not_some : IsSome {T = Mark} None → ⊥
+    not_some some = cc
+
+-- there is such a mark, or room for one
+pub room_is : (user : User) (mark : Mark) (marks : List Mark) → mark.user_crc ≡ jam_crc_of user.name → mark.user_id ≡ user.id
+    → IsSome (mark_of (jam_crc_of user.name) user.id marks) ⊎ (length marks < MOST_MARKS) → IsSome (mark_of mark.user_crc mark.user_id marks) ⊎ (length marks < MOST_MARKS)
+room_is user mark marks crc id room =
+    subst (λ (n : ℕ). IsSome (mark_of n mark.user_id marks) ⊎ (length marks < MOST_MARKS)) (sym crc)
+    (subst (λ (n : ℕ). IsSome (mark_of (jam_crc_of user.name) n marks) ⊎ (length marks < MOST_MARKS)) (sym id) room)
+
+-- the setting of a mark
+pub mark_decided : (rules : AreaRules) (from : Loaded) (texts : List ℕ) (contents : Option Files) (redo : Change) (user : User) (moment number : ℕ) (mark : Mark) (place : Option ℕ) → IsMarking rules from user number mark
+    → IsSound rules.slots from → length texts ≡ from.texts_len → IsPlaceOf mark.user_crc mark.user_id from.marks place
+    → Updates redo from (with_marks (with_mark mark from.marks) from) [] → IsWritable redo
+    → IsDecided rules from texts contents redo user moment (SetMark number) (record { reply = reply.Marked mark.last mark.high; pending = Marked place mark })
+mark_decided rules from texts contents redo user moment number mark place is before sized placed makes writable =
+    let to = with_marks (with_mark mark from.marks) from in
+    let room = room_is user mark from.marks is.user_crc is.user_id is.room in
+    record {
+      coming = record { to = to; texts = texts };
+      change = inr (record {
+        some = marked_some place mark;
+        becomes = refl;
+        change = record { brings = brings_same redo from to texts makes.makes; writable = writable };
+        fit = (placed, mark_room mark.user_crc mark.user_id from.marks place placed room);
+        sound = is.sound before;
+        sized = sized;
+        live = refl;
+      });
+      step = λ told. is.step texts moment;
+      headers = λ same files holds. keeps_headers (reply.Marked mark.last mark.high) redo from to [] makes refl files holds.loads;
+    }
+
+-- the slot at a place, from the message that stands there
+slot_is : (slots : List LoadedSlot) (place : ℕ) (message : LoadedMessage) → slice_get slots place ≡ Some (slot.Live message) → get_or slots place slot.Empty ≡ slot.Live message
+slot_is slots place message here =
+    some_slot _ _ (sym (slice_get-get_or slots place slot.Empty (slice_get_within slots place _ here)) ∙ here)
+  where
+    some_slot : (one other : LoadedSlot) → Some one ≡ Some other → one ≡ other
+    some_slot one other is = cc
+
+-- the header of the message at a place
+pub headed_is : (place : ℕ) (head : Head) (message : LoadedMessage) (from : Loaded) → IsMessageAt from place message → with_head_at place head message from ≡ headed_at place head from
+headed_is place head message from here =
+    ap (λ (one : LoadedSlot). with_slot_at place (slot_with_head head one) from) (sym (slot_is from.slots place message here))
+
+-- a live message in a sound area is within its files
+pub within_is : (limit place : ℕ) (message : LoadedMessage) (from : Loaded) → IsMessageAt from place message → IsSound limit from
+    → IsMessageWithin from.headers_len from.texts_len message
+within_is limit place message from here sound =
+    subst (IsSlotWithin from.headers_len from.texts_len) (slot_is from.slots place message here)
+    (All-get_or (IsSlotWithin from.headers_len from.texts_len) from.slots place slot.Empty (slice_get_within from.slots place _ here) sound.within)
+
+-- the message that a reading leaves is live
+pub reading_live : (limit place : ℕ) (head : Head) (message : LoadedMessage) (from : Loaded) → place < length from.slots → IsSound limit (after_reading place head message from)
+    → bit_and head.attribute DELETED ≡ 0
+reading_live limit place head message from low sound =
+    let new : LoadedSlot = slot.Live (record message { head = head }) in
+    let slots : List LoadedSlot = slice_set from.slots place new in
+    let within : IsSlotWithin from.headers_len from.texts_len (get_or slots place slot.Empty) =
+    All-get_or (IsSlotWithin from.headers_len from.texts_len) slots place slot.Empty (omega (arith, low, length-set from.slots place new)) sound.within in
+    let here : IsSlotWithin from.headers_len from.texts_len new = subst (IsSlotWithin from.headers_len from.texts_len) (get_or-set_same from.slots place new slot.Empty low) within in
+    here.live
+
+-- a reading
+pub read_decided : (rules : AreaRules) (from : Loaded) (texts : List ℕ) (contents : Option Files) (redo : Change) (user : User) (moment number counter active : ℕ) (reading : Reading) (letter : Letter)
+    → (is : IsReading rules from user moment number reading)
+    → IsSound rules.slots from → length texts ≡ from.texts_len → counter ≡ next_counter from → active ≡ live_messages from
+    → ForSome contents (λ files. letter ≡ letter_of number (with_text texts (step_head reading.head is.message)))
+    → Updates redo from (with_counts counter active (with_head_at reading.place reading.head is.message from)) []
+    → IsWritable redo
+    → IsDecided rules from texts contents redo user moment (Read number) (record { reply = reply.Text letter; pending = Counted (slots.Headed reading.place reading.head) counter active })
+read_decided rules from texts contents redo user moment number counter active reading letter is before sized counted live shown makes writable =
+    let to = after_reading reading.place reading.head is.message from in
+    let same : with_counts counter active (with_head_at reading.place reading.head is.message from) ≡ to =
+    ap (λ (n : ℕ). with_counts n active (with_head_at reading.place reading.head is.message from)) counted
+    ∙ ap (λ (n : ℕ). with_counts (next_counter from) n (with_head_at reading.place reading.head is.message from)) live in
+    let as_many = is.live in
+    let updates : Updates redo from to [] = subst (λ (l : Loaded). Updates redo from l []) same makes in
+    record {
+      coming = record { to = to; texts = texts };
+      change = inr (record {
+        some = counted_some (slots.Headed reading.place reading.head) counter active;
+        becomes = sym same ∙ ap (with_counts counter active) (headed_is reading.place reading.head is.message from is.named.here);
+        change = record { brings = brings_same redo from to texts updates.makes; writable = writable };
+        fit = record { message = is.message; here = is.named.here; reply_to = ap (λ (h : Head). h.reply_to) is.head ∙ reading_keeps_parent user moment is.message };
+        sound = is.sound before;
+        sized = sized;
+        live = as_many ∙ sym live;
+      });
+      step = λ told. subst (λ (l : Letter). Step rules (state_of texts from) user moment (Read number) (reply.Text l) (state_of texts to))
+          (sym (of_letter contents letter _ told shown)) (is.step texts);
+      headers = λ same files holds. keeps_headers (reply.Text letter) redo from to [] updates (length-set from.slots reading.place _) files holds.loads;
+    }
+
+-- a reading changes three fields alone
+pub reading_head : (user : User) (moment : ℕ) (message : LoadedMessage) (head : Head) → head ≡ read_head user moment message → head_with_reading head message.head ≡ head
+reading_head user moment message head is =
+    subst (λ (h : Head). head_with_reading h message.head ≡ h) (sym is) (by_receiver (same_name user.name (receiver_of message.subfields)))
+  where
+    by_receiver : (b : Bool) → head_with_reading (if b then received_at moment (read_once_more message.head) else read_once_more message.head) message.head
+        ≡ (if b then received_at moment (read_once_more message.head) else read_once_more message.head)
+    by_receiver true = refl
+    by_receiver false = refl
+
+-- one message stands at a place
+pub same_message : (from : Loaded) (place : ℕ) (one other : LoadedMessage) → IsMessageAt from place one → IsMessageAt from place other → one ≡ other
+same_message from place one other first second = live_same one other (sym first ∙ second)
+  where
+    live_same : (one other : LoadedMessage) → Some (slot.Live one) ≡ Some (slot.Live other) → one ≡ other
+    live_same one other is = cc

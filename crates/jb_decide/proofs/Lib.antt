@@ -1,0 +1,7 @@
+pub mod BringLemmas
+pub mod DecidedLemmas
+mod HeaderLemmas
+mod LinkedLemmas
+pub mod MarkLemmas
+mod PostLemmas
+pub mod RelinkLemmas

@@ -1,0 +1,21 @@
+use Rattle.std.proofs.Common.{[], refl, ap, ◌∙◌, ◌-◌, ℕ, arith}
+use Rattle.jb_decide.proofs.HeaderLemmas.{updates_cleared, updates_counted, updates_kill}
+use Rattle.std.specs.Prelude.{bit_or}
+use Rattle.jb_base.specs.declared.attribute.TheConstants.{DELETED}
+use Rattle.jb_decide.proofs.DecidedLemmas.{kill_decided, small_writable, unchanged_decided}
+use Rattle.jb_decide.proofs.deciding.decide_kill.Goals as goal
+
+pub returns-in-Err-clause-decided : goal.returns-in-Err-clause-decided
+returns-in-Err-clause-decided c = λ moment texts contents are.
+    unchanged_decided c.args.rules.now c.args.held.now.loaded texts contents c.args.redo.now c.args.user.now moment _ c.unchanged.result c.in-Err.reply c.unchanged.ensures.reply c.unchanged.ensures.pending
+    (λ told. c.in-Err.ensures.refused.step texts moment)
+
+pub returns-in-Ok-clause-decided : goal.returns-in-Ok-clause-decided
+returns-in-Ok-clause-decided c = λ moment texts contents are.
+    kill_decided c.args.rules.now c.args.held.now.loaded texts contents c.put_counts.new.redo c.args.user.now moment c.args.number _ _ c.in-Ok.killing c.in-Ok.ensures.done c.requires.kept.sound are.sized refl
+    (ap (λ (n : ℕ). n - 1) c.requires.kept.whole.live)
+    (λ place message here at.
+    updates_counted c.put_kill.new.redo c.put_counts.new.redo _ _ c.put_counts.ensures.makes c.put_counts.ensures.only c.args.held.now.loaded _ []
+    (updates_kill c.clear.new.redo c.put_kill.new.redo c.in-Ok.killing.header_at (bit_or c.in-Ok.killing.attribute DELETED) c.put_kill.ensures.makes c.put_kill.ensures.header c.put_kill.ensures.only
+    c.args.held.now.loaded c.args.held.now.loaded [] place message (updates_cleared c.clear.new.redo c.args.held.now.loaded c.clear.ensures) here at))
+    (small_writable c.put_counts.new.redo (c.put_counts.ensures.lengths ∙ c.put_kill.ensures.lengths ∙ c.clear.ensures.no_lengths) (omega (arith, c.clear.ensures.size, c.put_kill.ensures.size, c.put_counts.ensures.size)))

@@ -1,0 +1,70 @@
+-- What a command comes to over an area as it is loaded.
+use Rattle.std.specs.Prelude.{◌≡◌, ◌≢◌, ◌⊎◌, ℕ, ◌≤◌, List, length, IsSome, Option}
+use Rattle.jb_base.specs.declared.area.AreaRules.{AreaRules}
+use Rattle.jb_base.specs.declared.limits.TheConstants.{MOST_SLOTS}
+use Rattle.jb_base.specs.declared.user.User.{User}
+use Rattle.jb_change.specs.Makes.{done}
+use Rattle.jb_disk.specs.Change.{Change}
+use Rattle.jb_disk.specs.Files.{Files}
+use Rattle.jb_model.specs.Sound.{IsSound}
+use Rattle.jb_model.specs.State.{state_of}
+use Rattle.jb_model.specs.Step.{Step}
+use Rattle.jb_model.specs.declared.command.Command.{Command}
+use Rattle.jb_model.specs.declared.command.Command.TheVariants.{Pack}
+use Rattle.jb_model.specs.declared.loaded.Loaded.{Loaded}
+use Rattle.jb_model.specs.declared.reply.Letter.{Letter}
+use Rattle.jb_model.specs.declared.reply.Reply.{Reply}
+use Rattle.jb_model.specs.declared.reply.Reply.TheVariants.{Text}
+use Rattle.jb_step.specs.After.{live_messages}
+use Rattle.jb_decide.specs.Coming.{Coming, IsChange}
+use Rattle.jb_decide.specs.Headers.{KeepsHeaders}
+use Rattle.jb_decide.specs.Held.{IsKeptWhole}
+use Rattle.jb_decide.specs.Holds.{Holds}
+use Rattle.jb_decide.specs.Pending.{IsFit, after, live_after}
+use Rattle.jb_decide.specs.declared.decided.Decided.{Decided}
+use Rattle.jb_decide.specs.declared.held.Held.{Held}
+use Rattle.jb_decide.specs.declared.pending.Pending.{Pending}
+use Rattle.jb_decide.specs.declared.pending.Pending.TheVariants.{Nothing, Counted, Marked}
+
+-- what is kept of an area by these rules is sound
+pub record IsKeptFor (rules : AreaRules) (held : Held) : Type 0 where
+  pub few_slots : rules.slots ≤ MOST_SLOTS
+  pub sound : IsSound rules.slots held.loaded
+  pub whole : IsKeptWhole held
+
+-- the change that is pending, in this redo, brings what is to come
+pub record IsPending (limit : ℕ) (redo : Change) (pending : Pending) (from : Loaded) (texts : List ℕ) (coming : Coming) : Type 0 where
+  pub some : pending ≢ Nothing
+  pub becomes : coming.to ≡ after pending from
+  pub change : IsChange redo from texts coming
+  pub fit : IsFit pending from
+  pub sound : IsSound limit coming.to
+  pub sized : length coming.texts ≡ coming.to.texts_len
+  pub live : live_messages coming.to ≡ live_after pending (live_messages from)
+
+-- nothing is to be changed
+pub record IsNoChange (pending : Pending) (from : Loaded) (texts : List ℕ) (coming : Coming) : Type 0 where
+  pub none : pending ≡ Nothing
+  pub same : coming ≡ record { to = from; texts = texts }
+
+-- the reply shows no text, or the texts are told
+abbrev pub IsTold : Reply → Option Files → Type 0
+IsTold reply contents = (letter : Letter) → reply ≡ Text letter → IsSome contents
+
+-- the files with what is pending done in them, by this redo
+abbrev pub made : Pending → Change → Files → Files
+made Nothing redo files = files
+made (Counted change counter active) redo files = done redo files
+made (Marked place mark) redo files = done redo files
+
+-- a command that leaves the files in their places, which is each but a pack
+abbrev pub IsNoPack : Command → Type 0
+IsNoPack Pack = ⊥
+IsNoPack _ = Unit {0}
+
+-- the command is answered so, and what is pending, in this redo, is what it changes; whether a letter is right rests on the texts
+pub record IsDecided (rules : AreaRules) (from : Loaded) (texts : List ℕ) (contents : Option Files) (redo : Change) (user : User) (moment : ℕ) (command : Command) (decided : Decided) : Type 0 where
+  pub coming : Coming
+  pub change : IsNoChange decided.pending from texts coming ⊎ IsPending rules.slots redo decided.pending from texts coming
+  pub step : IsTold decided.reply contents → Step rules (state_of texts from) user moment command decided.reply (state_of coming.texts coming.to)
+  pub headers : IsNoPack command → (files : Files) → Holds from texts files → KeepsHeaders decided.reply from coming.to files (made decided.pending redo files)

@@ -1,0 +1,10 @@
+-- Why a call of an open area is not done.
+use Rattle.std.specs.Prelude.{ℕ}
+use Rattle.jb_base.specs.Fault.{Rose}
+use Rattle.jb_decide.specs.declared.error.AreaError.{AreaError}
+use Rattle.jb_decide.specs.declared.error.AreaError.TheVariants.{StoreFault, OutOfMemory}
+
+-- a fault of the store has its cause: the device's count rose
+abbrev pub FaultRose : ℕ → ℕ → AreaError → Type 0
+FaultRose before now StoreFault = Rose before now
+FaultRose before now OutOfMemory = Unit {0}

@@ -1,0 +1,15 @@
+-- What an open area keeps of its files in memory.
+use Rattle.std.specs.Prelude.{◌≡◌, ◌+◌, length}
+use Rattle.jb_base.specs.declared.limits.TheConstants.{MOST_MARKS, MOST_SLOTS}
+use Rattle.jb_replies.specs.Index.{IsIndexOf}
+use Rattle.jb_step.specs.After.{live_messages}
+use Rattle.jb_decide.specs.declared.held.Held.{Held}
+
+-- the count of live messages and the indexes of marks and of replies are those of what is loaded, and there is room for all
+-- marks and for all slots
+pub record IsKeptWhole (held : Held) : Type 0 where
+  pub live : held.live ≡ live_messages held.loaded
+  pub marks : held.marks.marks ≡ held.loaded.marks
+  pub room : length held.marks.marks + held.marks.room ≡ MOST_MARKS
+  pub replies : IsIndexOf held.replies held.loaded
+  pub reply_room : length held.loaded.slots + held.replies.room ≡ MOST_SLOTS

@@ -1,0 +1,9 @@
+pub mod Coming
+pub mod Decided
+pub mod Errors
+pub mod Headers
+pub mod Held
+pub mod Holds
+pub mod Links
+pub mod Pending
+pub mod Ready

@@ -1,0 +1,31 @@
+//! What each command of an open area comes to: its reply, and its change as a redo.
+//!
+//! The layer above may rely on this. Over an area as it is kept in memory ([`Held`]), each call answers what the definition of
+//! the command says (`Step` of `jb_model`), and what is pending then ([`Pending`]) is what the command changes: done in the
+//! loaded area it gives the area after the command, and the redo, done in whatever files hold the area, gives files that hold
+//! that area. Nothing is written, and what is kept stays as it is. A letter is right where the disk tells its texts, each other
+//! reply on every disk. Packs come later.
+//!
+//! A redo holds what changed and no more. A kill has 12 bytes of .JHR, a mark 16 of .JLR, a reading 20 of .JHR; a post its
+//! header and subfields, its text, one index record and 20 bytes of .JHR at most beside; a relink 12 bytes for each message whose
+//! links are others, and 8.
+#![tactic(auto)]
+
+mod decided;
+mod deciding;
+mod error;
+mod held;
+mod pending;
+mod posting;
+mod reading;
+mod relinking;
+mod texts;
+
+pub use decided::Decided;
+pub use deciding::{decide_kill, decide_mark};
+pub use error::AreaError;
+pub use held::Held;
+pub use pending::{Pending, SlotChange};
+pub use posting::decide_post;
+pub use reading::{decide_peek, decide_read};
+pub use relinking::decide_relink;

@@ -1,0 +1,37 @@
+//! The text of a message.
+ghost use Rattle.std.specs.Prelude.{◌≡◌, ◌≤◌, length, IfOk, IfErr};
+ghost use Rattle.std.specs.Option.{ForSome};
+ghost use Rattle.jb_base.specs.Fault.{Rose};
+ghost use Rattle.jb_disk.specs.Device.{OnlyReads};
+ghost use Rattle.jb_disk.specs.declared.file.FileId.TheVariants.{Jdt as texts_file};
+ghost use Rattle.jb_model.specs.Sound.{IsTextWithin};
+ghost use Rattle.jb_model.specs.State.{text_of};
+ghost use Rattle.jb_decide.specs.Errors.{FaultRose};
+
+use crate::AreaError;
+use jb_base::Bytes;
+use jb_disk::{Disk, FileId};
+use jb_model::LoadedMessage;
+use std::alloc::Global;
+
+/// The text of a live message: one device read, and none where it is empty, since the place of an empty text is that of no
+/// byte.
+pub(crate) fn read_text<D: Disk>(
+    alloc: Global,
+    disk: &mut D,
+    message: &LoadedMessage,
+) -> Result<Bytes, AreaError>
+    requires within { ForSome (D.device disk.old).contents (λ files.
+        IsTextWithin (length (files texts_file)) message.now.text_at message.now.text_len) }
+    ensures found { IfOk result (λ text. ForSome (D.device disk.old).contents (λ files. text ≡ text_of (files texts_file) message.now)) }
+    ensures kept { OnlyReads (D.device disk.old) (D.device disk.new) }
+    ensures later { (D.device disk.old).faults ≤ (D.device disk.new).faults }
+    ensures cause { IfErr result (FaultRose (D.device disk.old).faults (D.device disk.new).faults) }
+{
+    if message.text_len == 0 {
+        return Ok(Bytes::new(alloc));
+    }
+    let mut bytes = vec![in alloc; 0; message.text_len as usize]?;
+    disk.read_at(FileId::Jdt, message.text_at as u64, bytes.as_mut_slice())?;
+    Ok(Bytes::from(bytes))
+}
