@@ -1,0 +1,85 @@
+use Rattle.std.proofs.Common.{◌∙◌, ap, sym, subst}
+use Rattle.std.specs.Prelude.{Result, Err, IfErr}
+use Rattle.std.proofs.lemmas.Result.{err_from_is_err_and}
+use Rattle.jb_area_open.proofs.OpeningLemmas.{preparing_keeps, reading_keeps, recovered_prepared, recovered_read, recovered_so, recovery_keeps, rests_prepared}
+use Rattle.jb_area_open.proofs.RefusalLemmas.{refused_journal, refused_files, refused_fault}
+use Rattle.jb_area_open.specs.Opening.{Refuses}
+use Rattle.jb_area_open.specs.declared.error.OpeningError.{OpeningError}
+use Rattle.jb_model.specs.declared.loaded.Loaded.{Loaded}
+use Rattle.jb_area_open.proofs.loading.load.Goals as goal
+
+pub returns-in_err-recover-clause-refused : goal.returns-in_err-recover-clause-refused
+returns-in_err-recover-clause-refused g c =
+    let before = g.D.Disk.device c.args.disk.now in
+    let after = g.D.Disk.device c.recover.new.disk in
+    let p = err_from_is_err_and c.from_residual.result c.from_residual.ensures.1 in
+    let is = p.1 ∙ ap (λ (e : OpeningError). Err e) p.2 in
+    subst (λ (r : Result Loaded OpeningError). IfErr r (Refuses c.args.slots before after)) (sym is)
+    (refused_journal c.args.slots before after c.in_err-recover.field-0.0 c.in_err-recover.ensures.refused)
+
+pub returns-in_err-recover-clause-crash : goal.returns-in_err-recover-clause-crash
+returns-in_err-recover-clause-crash g c = recovery_keeps (g.D.Disk.device c.args.disk.now) (g.D.Disk.device c.recover.new.disk) c.recover.ensures.crash
+
+pub returns-in_err-loaded-clause-refused : goal.returns-in_err-loaded-clause-refused
+returns-in_err-loaded-clause-refused g c =
+    let before = g.D.Disk.device c.args.disk.now in
+    let mid = g.D.Disk.device c.recover.new.disk in
+    let after = g.D.Disk.device c.decode.new.disk in
+    let p = err_from_is_err_and c.from_residual-in_err-loaded.result c.from_residual-in_err-loaded.ensures.1 in
+    let is = p.1 ∙ ap (λ (e : OpeningError). Err e) p.2 in
+    subst (λ (r : Result Loaded OpeningError). IfErr r (Refuses c.args.slots before after)) (sym is)
+    (refused_files c.args.slots before mid after c.in_err-loaded.field-0.0
+    (recovered_so before mid c.in_ok-recover.field-0 c.in_ok-recover.ensures.found c.in_ok-recover.ensures.done c.in_ok-recover.ensures.closed c.in_ok-recover.ensures.durable c.in_ok-recover.ensures.told)
+    c.decode.ensures.kept c.in_err-loaded.ensures.answer)
+
+pub returns-in_err-loaded-clause-crash : goal.returns-in_err-loaded-clause-crash
+returns-in_err-loaded-clause-crash g c =
+    let before = g.D.Disk.device c.args.disk.now in
+    let mid = g.D.Disk.device c.recover.new.disk in
+    reading_keeps before mid (g.D.Disk.device c.decode.new.disk) c.decode.ensures.kept (recovery_keeps before mid c.recover.ensures.crash)
+
+pub returns-in_err-prepare-clause-refused : goal.returns-in_err-prepare-clause-refused
+returns-in_err-prepare-clause-refused g c =
+    let before = g.D.Disk.device c.args.disk.now in
+    let after = g.D.Disk.device c.prepare.new.disk in
+    let p = err_from_is_err_and c.from_residual-in_err-prepare.result c.from_residual-in_err-prepare.ensures.1 in
+    let is = p.1 ∙ ap (λ (e : OpeningError). Err e) p.2 in
+    subst (λ (r : Result Loaded OpeningError). IfErr r (Refuses c.args.slots before after)) (sym is) (refused_fault c.args.slots before after)
+
+pub returns-in_err-prepare-clause-crash : goal.returns-in_err-prepare-clause-crash
+returns-in_err-prepare-clause-crash g c =
+    let before = g.D.Disk.device c.args.disk.now in
+    let mid = g.D.Disk.device c.recover.new.disk in
+    let read = g.D.Disk.device c.decode.new.disk in
+    let after = g.D.Disk.device c.prepare.new.disk in
+    let recovered = recovered_so before mid c.in_ok-recover.field-0 c.in_ok-recover.ensures.found c.in_ok-recover.ensures.done c.in_ok-recover.ensures.closed c.in_ok-recover.ensures.durable c.in_ok-recover.ensures.told in
+    preparing_keeps before read after (g.met.D.Disk.told c.args.disk.now) (reading_keeps before mid read c.decode.ensures.kept (recovery_keeps before mid c.recover.ensures.crash))
+    (recovered_read before mid read c.decode.ensures.kept recovered)
+    (λ was there safe now now_is. c.in_ok-recover.ensures.done was there safe now (sym c.decode.ensures.kept.contents ∙ now_is)) c.prepare.ensures.crash
+
+pub returns-clause-rests : goal.returns-clause-rests
+returns-clause-rests g c =
+    let mid = g.D.Disk.device c.recover.new.disk in
+    let read = g.D.Disk.device c.decode.new.disk in
+    rests_prepared c.in_ok-loaded.loaded read.contents (g.D.Disk.device c.prepare.new.disk).contents
+    (λ files is. c.in_ok-recover.ensures.closed files (sym c.decode.ensures.kept.contents ∙ is))
+    (λ files is. (c.in_ok-loaded.ensures.answer files (sym c.decode.ensures.kept.contents ∙ is)).loads) c.in_ok-prepare.ensures.made
+
+pub returns-clause-recovered : goal.returns-clause-recovered
+returns-clause-recovered g c =
+    let before = g.D.Disk.device c.args.disk.now in
+    let mid = g.D.Disk.device c.recover.new.disk in
+    let read = g.D.Disk.device c.decode.new.disk in
+    let recovered = recovered_so before mid c.in_ok-recover.field-0 c.in_ok-recover.ensures.found c.in_ok-recover.ensures.done c.in_ok-recover.ensures.closed c.in_ok-recover.ensures.durable c.in_ok-recover.ensures.told in
+    recovered_prepared before read (g.D.Disk.device c.prepare.new.disk) c.in_ok-prepare.ensures.made c.in_ok-prepare.ensures.durable (recovered_read before mid read c.decode.ensures.kept recovered)
+
+pub returns-clause-crash : goal.returns-clause-crash
+returns-clause-crash g c =
+    let before = g.D.Disk.device c.args.disk.now in
+    let mid = g.D.Disk.device c.recover.new.disk in
+    let read = g.D.Disk.device c.decode.new.disk in
+    let after = g.D.Disk.device c.prepare.new.disk in
+    let recovered = recovered_so before mid c.in_ok-recover.field-0 c.in_ok-recover.ensures.found c.in_ok-recover.ensures.done c.in_ok-recover.ensures.closed c.in_ok-recover.ensures.durable c.in_ok-recover.ensures.told in
+    preparing_keeps before read after (g.met.D.Disk.told c.args.disk.now) (reading_keeps before mid read c.decode.ensures.kept (recovery_keeps before mid c.recover.ensures.crash))
+    (recovered_read before mid read c.decode.ensures.kept recovered)
+    (λ was there safe now now_is. c.in_ok-recover.ensures.done was there safe now (sym c.decode.ensures.kept.contents ∙ now_is)) c.prepare.ensures.crash
