@@ -1,58 +1,18 @@
 //! The listing of a base.
-ghost use Rattle.std.specs.Prelude.{◌≡◌, ◌+◌, ◌≤◌, ◌^◌, ◌<◌, ◌++◌, ℕ, List, IfOk, OnOk, length, map, replicate, unwrap_or};
+ghost use Rattle.std.specs.Prelude.{◌≡◌, ◌+◌, ◌^◌, ◌<◌, ◌++◌, ℕ, List, [], IfOk, OnOk, length, unwrap_or};
 ghost use Rattle.jb_base.specs.Subfields.{first_of};
 ghost use Rattle.jb_model.specs.State.{state_of, slot_state};
-ghost use Rattle.board.specs.Listing.{listing_of, message_line, number_column, shown_byte, shown_field, slot_line};
+ghost use Rattle.board.specs.Listing.{listing_of, message_line, slot_line};
 
 use jb_base::{Bytes, OutOfMemory, RECEIVER_NAME, SENDER_NAME, SUBJECT, Subfields};
 use jb_model::{Loaded, LoadedSlot};
 use std::alloc::Global;
 
-/// A byte as it is shown: `?` in place of a control character.
-fn shown(byte: u8) -> u8
-    ensures { result ≡ shown_byte byte }
+/// The data of the first subfield with this LoID, or nothing.
+fn field(fields: &Subfields, id: u16) -> &[u8]
+    ensures { result.now ≡ unwrap_or (first_of id fields.now) [] }
 {
-    if byte < 32 || byte == 127 { b'?' } else { byte }
-}
-
-/// Puts bytes behind a text as they are shown.
-fn append_shown(text: &mut Bytes, bytes: &[u8]) -> Result<(), OutOfMemory>
-    ensures { OnOk result (text.new ≡ text.old ++ map shown_byte bytes.now) }
-{
-    for byte in bytes {
-        text.append(&[shown(*byte)])?;
-    }
-    Ok(())
-}
-
-/// Puts the first subfield with this LoID behind a text as it is shown, if there is one.
-fn append_field(text: &mut Bytes, fields: &Subfields, id: u16) -> Result<(), OutOfMemory>
-    ensures { OnOk result (text.new ≡ text.old ++ shown_field id fields.now) }
-{
-    match fields.first(id) {
-        Some(bytes) => append_shown(text, bytes),
-        None => Ok(()),
-    }
-}
-
-/// Puts so many spaces behind a text.
-fn append_spaces(text: &mut Bytes, count: usize) -> Result<(), OutOfMemory>
-    ensures { OnOk result (text.new ≡ text.old ++ replicate count 32) }
-{
-    for _place in 0..count {
-        text.append(b" ")?;
-    }
-    Ok(())
-}
-
-/// Puts a number behind a text, right in 8 places.
-fn append_number(alloc: Global, text: &mut Bytes, number: u32) -> Result<(), OutOfMemory>
-    ensures { OnOk result (text.new ≡ text.old ++ number_column number) }
-{
-    let digits = format!(in alloc; "{number}")?;
-    append_spaces(text, 8usize.saturating_sub(digits.len()))?;
-    text.append(digits.as_bytes())?;
-    Ok(())
+    fields.first(id).unwrap_or(&[])
 }
 
 /// Puts the line of a message behind a text.
@@ -64,13 +24,14 @@ fn append_message(
 ) -> Result<(), OutOfMemory>
     ensures { OnOk result (text.new ≡ text.old ++ message_line number fields.now) }
 {
-    append_number(alloc, text, number)?;
-    text.append(b"  ")?;
-    append_field(text, fields, SENDER_NAME)?;
-    text.append(b" > ")?;
-    append_field(text, fields, RECEIVER_NAME)?;
-    text.append(b"  ")?;
-    append_field(text, fields, SUBJECT)?;
+    let line = jb_text::listing(
+        alloc,
+        number,
+        field(fields, SENDER_NAME),
+        field(fields, RECEIVER_NAME),
+        field(fields, SUBJECT),
+    )?;
+    text.append(line.as_slice())?;
     text.append(b"\n")?;
     Ok(())
 }
