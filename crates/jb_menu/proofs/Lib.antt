@@ -1,0 +1,4 @@
+pub mod Digits
+pub mod Keeping
+mod Rows
+pub mod Spaces

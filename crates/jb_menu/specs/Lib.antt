@@ -1,0 +1,10 @@
+pub mod Answers
+pub mod Areas
+pub mod Awaits
+pub mod Boards
+pub mod CommandLines
+pub mod LogIn
+pub mod Menu
+pub mod Says
+pub mod Top
+pub mod Writing

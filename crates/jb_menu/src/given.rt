@@ -1,0 +1,19 @@
+//! What a menu is given.
+
+use jb_line::Line;
+use jb_model::{Answer, Reply, SharedFault};
+
+/// What a menu is given: a line, or what came of its last move.
+#[derive(Drop)]
+pub enum Given {
+    /// A line that was typed, without its end.
+    Line(Line),
+    /// The answer to [`crate::Move::Ask`].
+    Reply(Reply),
+    /// The answer to [`crate::Move::Look`].
+    Answer(Answer),
+    /// The answer to [`crate::Move::Count`]: how many messages of the area the user has not read.
+    Count(u32),
+    /// In place of each of these answers, why there is none.
+    Fault(SharedFault),
+}

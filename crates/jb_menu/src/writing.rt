@@ -1,0 +1,238 @@
+//! A message that is written.
+ghost use Rattle.std.specs.Prelude.{◌≡◌, ◌<◌, ◌^◌, IfOk, length};
+ghost use Rattle.jb_menu.specs.Writing.{answer_subject, answer_to, is_answer, marked_subject, more_row, post_row, private_row, reply_row, says_yes, subject_row, text_row, to_row};
+
+use crate::Given;
+use crate::area::ask;
+use crate::lines::{append_line, fixed_line, fixed_to_area, passed_over, say, whole};
+use crate::moves::Moved;
+use crate::state::{Draft, Shown, Stage, State, Visit};
+use jb_base::{Bytes, MOST_POSTED_TEXT_BYTES, MOST_SUBJECT_BYTES, Name, OutOfMemory};
+use jb_conf::Board;
+use jb_model::Command;
+use jb_text::{Fixed, fixed, replying};
+use std::alloc::Global;
+
+/// Whether a subject says already that it is an answer.
+fn is_answer(subject: &[u8]) -> bool
+    ensures { result ≡ is_answer subject.now }
+{
+    subject.starts_with(b"Re: ")
+}
+
+/// A subject that says that it is an answer.
+fn marked_subject(alloc: Global, subject: &[u8]) -> Result<Bytes, OutOfMemory>
+    ensures { IfOk result (λ marked. marked ≡ marked_subject subject.now) }
+{
+    if is_answer(subject) {
+        Bytes::copy(alloc, subject)
+    } else {
+        let mut marked = Bytes::copy(alloc, b"Re: ")?;
+        marked.append(subject)?;
+        Ok(marked)
+    }
+}
+
+/// The subject of the answer to a message with this one.
+fn answer_subject(alloc: Global, subject: &[u8]) -> Result<Bytes, OutOfMemory>
+    ensures { IfOk result (λ answer. answer ≡ answer_subject subject.now) }
+{
+    let marked = marked_subject(alloc, subject)?;
+    let kept = marked.len().min(MOST_SUBJECT_BYTES);
+    Bytes::copy(alloc, &marked.as_slice()[..kept])
+}
+
+/// The answer to a message, without its text.
+fn answer_to(alloc: Global, shown: &Shown) -> Result<Draft, OutOfMemory>
+    ensures { IfOk result (λ draft. draft ≡ answer_to shown.now) }
+{
+    Ok(Draft {
+        to: Name::copy(alloc, shown.from.as_slice())?,
+        subject: answer_subject(alloc, shown.subject.as_slice())?,
+        reply_to: shown.number,
+        private: shown.private,
+    })
+}
+
+/// Waits for the text of the answer to the message that was shown last.
+pub fn reply(alloc: Global, board: &Board, visit: Visit) -> Result<Moved, OutOfMemory>
+    requires { visit.area < length board.now.areas }
+    ensures { IfOk result (λ moved. moved ≡ reply_row board.now visit visit.shown) }
+{
+    let Some(shown) = &visit.shown else {
+        return fixed_to_area(alloc, board, visit, Fixed::NoMessageShown);
+    };
+    let draft = answer_to(alloc, shown)?;
+    let line = whole(replying(alloc, shown.from.as_slice(), draft.subject.as_slice())?)?;
+    let text = append_line(line, fixed(alloc, Fixed::TextLine)?.as_slice())?;
+    let stage = Stage::Text {
+        draft,
+        text: Bytes::new(alloc),
+    };
+    Ok(say(text, State::Area { visit, stage }))
+}
+
+/// Waits for the receiver of a message.
+pub fn to(alloc: Global, board: &Board, visit: Visit, given: &Given) -> Result<Moved, OutOfMemory>
+    requires { visit.area < length board.now.areas }
+    ensures { IfOk result (λ moved. moved ≡ to_row board.now visit given.now) }
+{
+    match given {
+        Given::Line(line) => receiver(alloc, board, visit, line.as_slice()),
+        _ => {
+            let stage = Stage::To;
+            Ok(passed_over(alloc, State::Area { visit, stage }))
+        }
+    }
+}
+
+/// The receiver of a message.
+fn receiver(alloc: Global, board: &Board, visit: Visit, typed: &[u8]) -> Result<Moved, OutOfMemory>
+    requires { visit.area < length board.now.areas }
+    ensures { IfOk result (λ moved. moved ≡ to_row board.now visit (Given.Line typed.now)) }
+{
+    if typed.is_empty() {
+        fixed_to_area(alloc, board, visit, Fixed::Cancelled)
+    } else {
+        let to = Name::copy(alloc, typed)?;
+        let stage = Stage::Subject { to };
+        let text = fixed(alloc, Fixed::AskSubject)?;
+        Ok(say(text, State::Area { visit, stage }))
+    }
+}
+
+/// Waits for the subject of a message to this receiver.
+pub fn subject(alloc: Global, visit: Visit, to: Name, given: &Given) -> Result<Moved, OutOfMemory>
+    ensures { IfOk result (λ moved. moved ≡ subject_row visit to given.now) }
+{
+    match given {
+        Given::Line(line) => {
+            let subject = Bytes::copy(alloc, line.as_slice())?;
+            let stage = Stage::Private { to, subject };
+            let text = fixed(alloc, Fixed::AskPrivate)?;
+            Ok(say(text, State::Area { visit, stage }))
+        }
+        _ => {
+            let stage = Stage::Subject { to };
+            Ok(passed_over(alloc, State::Area { visit, stage }))
+        }
+    }
+}
+
+/// Whether a line says yes: a `Y` alone, in either case.
+fn says_yes(typed: &[u8]) -> bool
+    ensures { result ≡ says_yes typed.now }
+{
+    matches!(typed, b"Y" | b"y")
+}
+
+/// Waits for whether a message is private.
+pub fn private(
+    alloc: Global,
+    visit: Visit,
+    to: Name,
+    subject: Bytes,
+    given: &Given,
+) -> Result<Moved, OutOfMemory>
+    ensures { IfOk result (λ moved. moved ≡ private_row visit to subject given.now) }
+{
+    match given {
+        Given::Line(line) => {
+            let draft = Draft {
+                to,
+                subject,
+                reply_to: 0,
+                private: says_yes(line.as_slice()),
+            };
+            let stage = Stage::Text {
+                draft,
+                text: Bytes::new(alloc),
+            };
+            let text = fixed_line(alloc, Fixed::TextLine)?;
+            Ok(say(text, State::Area { visit, stage }))
+        }
+        _ => {
+            let stage = Stage::Private { to, subject };
+            Ok(passed_over(alloc, State::Area { visit, stage }))
+        }
+    }
+}
+
+/// Posts a message.
+fn post(visit: Visit, draft: Draft, text: Bytes) -> Moved
+    ensures { result ≡ post_row visit draft text }
+{
+    let command = Command::Post {
+        to: draft.to,
+        subject: draft.subject,
+        text,
+        reply_to: draft.reply_to,
+        private: draft.private,
+    };
+    ask(visit, command, Stage::Acting)
+}
+
+/// Puts a line behind a text, where it fits.
+fn more(
+    alloc: Global,
+    visit: Visit,
+    draft: Draft,
+    text: Bytes,
+    typed: &[u8],
+) -> Result<Moved, OutOfMemory>
+    requires { length typed.now < 2 ^ 32 }
+    ensures { IfOk result (λ moved. moved ≡ more_row visit draft text typed.now) }
+{
+    if text.len() + typed.len() + 1 > MOST_POSTED_TEXT_BYTES {
+        let said = fixed_line(alloc, Fixed::TextFull)?;
+        let full = Stage::Text { draft, text };
+        Ok(say(said, State::Area { visit, stage: full }))
+    } else {
+        let mut text = text;
+        text.append(typed)?;
+        text.append(b"\r")?;
+        let stage = Stage::Text { draft, text };
+        Ok(say(Bytes::new(alloc), State::Area { visit, stage }))
+    }
+}
+
+/// A line of the text of a message.
+fn text_line(
+    alloc: Global,
+    board: &Board,
+    visit: Visit,
+    draft: Draft,
+    text: Bytes,
+    typed: &[u8],
+) -> Result<Moved, OutOfMemory>
+    requires area { visit.area < length board.now.areas }
+    requires line { length typed.now < 2 ^ 32 }
+    ensures { IfOk result (λ moved. moved ≡ text_row board.now visit draft text (Given.Line typed.now)) }
+{
+    match typed {
+        b"." => Ok(post(visit, draft, text)),
+        b"!" => fixed_to_area(alloc, board, visit, Fixed::Cancelled),
+        _ => more(alloc, visit, draft, text, typed),
+    }
+}
+
+/// Waits for a line of the text of a message.
+pub fn text(
+    alloc: Global,
+    board: &Board,
+    visit: Visit,
+    draft: Draft,
+    text: Bytes,
+    given: &Given,
+) -> Result<Moved, OutOfMemory>
+    requires { visit.area < length board.now.areas }
+    ensures { IfOk result (λ moved. moved ≡ text_row board.now visit draft text given.now) }
+{
+    match given {
+        Given::Line(line) => text_line(alloc, board, visit, draft, text, line.as_slice()),
+        _ => {
+            let stage = Stage::Text { draft, text };
+            Ok(passed_over(alloc, State::Area { visit, stage }))
+        }
+    }
+}
