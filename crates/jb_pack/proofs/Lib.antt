@@ -1,0 +1,9 @@
+mod CopyLemmas
+mod FieldLemmas
+mod FitLemmas
+mod HeldLemmas
+mod LaidLemmas
+mod PlanLemmas
+mod SlotLemmas
+mod SoundLemmas
+mod StateLemmas

@@ -1,0 +1,37 @@
+use Rattle.std.proofs.Common.{◌∷◌, ◌+◌, ◌≤◌, ◌∙◌, List, ℕ, drop, subst, ap}
+use Rattle.jb_base.specs.declared.limits.TheConstants.{TEXTS_CEILING}
+use Rattle.jb_disk.specs.declared.file.FileId.TheVariants.{Jhr}
+use Rattle.jb_model.specs.declared.links.Links.{Links}
+use Rattle.jb_model.specs.declared.loaded.LoadedMessage.{LoadedMessage}
+use Rattle.jb_model.specs.declared.loaded.LoadedSlot.{LoadedSlot}
+use Rattle.jb_model.specs.declared.loaded.LoadedSlot.TheVariants.{Live}
+use Rattle.jb_pack.proofs.SlotLemmas.{IsPut, from_place, links_are, put_live, put_none}
+use Rattle.jb_pack.specs.Bytes.{IsHeaderReadAgain, message_bytes}
+use Rattle.jb_pack.specs.Laid.{Lays}
+use Rattle.jb_pack.specs.Packed.{moved, texts_size}
+use Rattle.jb_pack.specs.declared.place.Place.{Place}
+use Rattle.jb_pack.proofs.slots.put_slots.Goals as goal
+
+pub loop-slot-init : goal.loop-slot-init
+loop-slot-init c =
+    rw c.requires.base
+    (rw c.requires.slots
+    (put_none c.args.loaded.now c.args.links.now c.args.redo.now 65000 c.args.index.now c.requires.sound c.requires.links
+    (subst (λ (l : List LoadedSlot). texts_size l ≤ TEXTS_CEILING) c.requires.slots c.requires.texts) c.requires.fixed c.requires.index))
+
+pub loop-slot-preserved : goal.loop-slot-preserved
+loop-slot-preserved c =
+    let k : ℕ = c.loop-slot.slot-index in
+    let rest : List LoadedSlot = drop (k + 1) c.args.slots.now in
+    let place : Place = c.loop-slot.place in
+    let message : LoadedMessage = c.in-Live.message in
+    let none : Links = record { number = 0; reply_to = 0; first = 0; next = 0 } in
+    let here : IsPut c.args.loaded.now c.args.links.now c.args.redo.now c.loop-slot.redo c.loop-slot.index place k (Live message ∷ rest) =
+    subst (IsPut c.args.loaded.now c.args.links.now c.args.redo.now c.loop-slot.redo c.loop-slot.index place k)
+    (from_place c.args.slots.now k c.slot-item.result c.loop-slot-test.true c.slot-item.is ∙ ap (λ (s : LoadedSlot). s ∷ rest) c.in-Live.is) c.loop-slot.invariant in
+    let links = links_are c.args.loaded.now c.args.links.now c.args.redo.now c.loop-slot.redo c.loop-slot.index place k message rest none here in
+    put_live c.args.loaded.now c.args.links.now c.args.redo.now c.loop-slot.redo c.put_message.new.redo c.loop-slot.index c.push_entry-in-loop-slot.new.index
+    place c.in_ok-place.place k message rest c.in_ok-push_entry-2.ensures.ok c.in_ok-push_entry-2.ensures.back
+    (subst (λ (l : Links). Lays Jhr 1 (message_bytes place.number (moved l place.header_at place.text_at message)) c.loop-slot.redo c.put_message.new.redo) links c.in_ok-place.ensures.lays)
+    (subst (λ (l : Links). IsHeaderReadAgain place.number (moved l place.header_at place.text_at message)) links c.in_ok-place.ensures.back)
+    c.in_ok-place.ensures.next c.put_message.ensures.kept here

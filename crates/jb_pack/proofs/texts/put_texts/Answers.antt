@@ -1,0 +1,58 @@
+use Rattle.std.proofs.Common.{◌∷◌, ◌+◌, ◌≡◌, ◌∙◌, inl, inr, List, ℕ, drop, subst, ap, arith}
+use Rattle.std.specs.Prelude.{Option}
+use Rattle.std.proofs.lemmas.List.Elements.{All-head}
+use Rattle.jb_disk.specs.Files.{Files}
+use Rattle.jb_model.specs.Sound.{IsSlotWithin, IsTextWithin}
+use Rattle.jb_model.specs.declared.loaded.LoadedMessage.{LoadedMessage}
+use Rattle.jb_model.specs.declared.loaded.LoadedSlot.{LoadedSlot}
+use Rattle.jb_model.specs.declared.loaded.LoadedSlot.TheVariants.{Live}
+use Rattle.jb_pack.specs.Copying.{IsRun, PutsRun}
+use Rattle.jb_pack.proofs.CopyLemmas.{IsCopied, copied_joined, copied_next}
+use Rattle.jb_pack.proofs.SlotLemmas.{from_place}
+use Rattle.jb_pack.proofs.texts.put_texts.Goals as goal
+
+pub loop-slot-preserved-in-Some : goal.loop-slot-preserved-in-Some
+loop-slot-preserved-in-Some g c =
+    let k : ℕ = c.loop-slot.slot-index in
+    let rest : List LoadedSlot = drop (k + 1) c.args.slots.now in
+    let message : LoadedMessage = c.in-Live.message in
+    let contents : Option Files = (g.D.Disk.device c.args.disk.now).contents in
+    let was = c.loop-slot.invariant.copied in
+    let here : IsCopied c.args.loaded.now contents c.args.slots.now c.args.redo.now c.loop-slot.redo c.loop-slot.run c.loop-slot.end k (Live message ∷ rest) =
+    subst (IsCopied c.args.loaded.now contents c.args.slots.now c.args.redo.now c.loop-slot.redo c.loop-slot.run c.loop-slot.end k)
+    (from_place c.args.slots.now k c.slot-item.result c.loop-slot-test.true c.slot-item.is ∙ ap (λ (s : LoadedSlot). s ∷ rest) c.in-Live.is) was in
+    let within = All-head (IsSlotWithin c.args.loaded.now.headers_len c.args.loaded.now.texts_len) (Live message) rest here.within in
+    record {
+      copied = copied_joined c.args.loaded.now contents c.args.slots.now c.args.redo.now c.loop-slot.redo c.loop-slot.run c.in-Some.more c.loop-slot.end k message rest
+          c.in-Some.ensures.joined (c.in-Some.ensures.run c.args.loaded.now.texts_len here.run_is within.text) here;
+      kept = c.loop-slot.invariant.kept;
+      later = c.loop-slot.invariant.later;
+    }
+
+-- a text that has bytes is a part to read
+text_run : (texts_len at len : ℕ) → (len ≡ 0 → ⊥) → IsTextWithin texts_len at len → IsRun texts_len (record { at = at; len = len })
+text_run texts_len at len some within = elim within.placed [
+  | inl none ↦ absurd (some none)
+  | inr there ↦ record { inside = there.0; below = there.1; short = within.short }
+]
+
+pub loop-slot-preserved : goal.loop-slot-preserved
+loop-slot-preserved g c =
+    let k : ℕ = c.loop-slot.slot-index in
+    let rest : List LoadedSlot = drop (k + 1) c.args.slots.now in
+    let message : LoadedMessage = c.in-Live.message in
+    let contents : Option Files = (g.D.Disk.device c.args.disk.now).contents in
+    let was = c.loop-slot.invariant.copied in
+    let kept = c.loop-slot.invariant.kept in
+    let keeps = c.in_ok-end.ensures.kept in
+    let here : IsCopied c.args.loaded.now contents c.args.slots.now c.args.redo.now c.loop-slot.redo c.loop-slot.run c.loop-slot.end k (Live message ∷ rest) =
+    subst (IsCopied c.args.loaded.now contents c.args.slots.now c.args.redo.now c.loop-slot.redo c.loop-slot.run c.loop-slot.end k)
+    (from_place c.args.slots.now k c.slot-item.result c.loop-slot-test.true c.slot-item.is ∙ ap (λ (s : LoadedSlot). s ∷ rest) c.in-Live.is) was in
+    let within = All-head (IsSlotWithin c.args.loaded.now.headers_len c.args.loaded.now.texts_len) (Live message) rest here.within in
+    record {
+      copied = copied_next c.args.loaded.now contents c.args.slots.now c.args.redo.now c.loop-slot.redo c.put_run.new.redo c.loop-slot.run c.loop-slot.end c.in_ok-end.end k message rest
+          (subst (λ (o : Option Files). PutsRun o c.loop-slot.run c.loop-slot.redo c.put_run.new.redo) kept.contents c.in_ok-end.ensures.puts)
+          c.in_ok-end.ensures.next c.in_ok-end.ensures.room (text_run c.args.loaded.now.texts_len message.text_at message.text_len c.in_default-joined.ensures.other within.text) here;
+      kept = record { contents = keeps.contents ∙ kept.contents; moments = keeps.moments ∙ kept.moments };
+      later = omega (arith, c.loop-slot.invariant.later, c.in_ok-end.ensures.later);
+    }

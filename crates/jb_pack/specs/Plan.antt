@@ -1,0 +1,65 @@
+-- The change that packs an area, and what is answered with it.
+use Rattle.std.specs.Prelude.{◌≡◌, ◌≢◌, ℕ, ◌+◌, ◌*◌, ◌≤◌, List, [], ◌∷◌, length, Option, Some, None}
+use Rattle.std.specs.Option.{ForSome}
+use Rattle.jb_change.specs.Makes.{done, record_size}
+use Rattle.jb_disk.specs.Change.{Change, SameLists}
+use Rattle.jb_disk.specs.Files.{Files}
+use Rattle.jb_disk.specs.declared.file.FileId.{FileId}
+use Rattle.jb_disk.specs.declared.file.FileId.TheVariants.{Jhr, Jdt, Jdx}
+use Rattle.jb_disk.specs.declared.piece.Length.{Length}
+use Rattle.jb_image.specs.Stands.{Loads}
+use Rattle.jb_journal.specs.Commit.{IsWritable}
+use Rattle.jb_model.specs.Pack.{pack_done, pack_refusal}
+use Rattle.jb_model.specs.State.{AreaState}
+use Rattle.jb_model.specs.declared.loaded.Loaded.{Loaded}
+use Rattle.jb_model.specs.declared.reply.Reply.TheVariants as reply
+use Rattle.jb_redo.specs.Replay.{IsGrowthCovered}
+use Rattle.jb_redo.specs.Rules.{IsLegal, sizes_of}
+use Rattle.jb_pack.specs.Bytes.{IsReadAgain, headers_file, index_file}
+use Rattle.jb_pack.specs.Laid.{IsLaidOut, laid}
+use Rattle.jb_pack.specs.Packed.{kept_slots, packed, packed_texts}
+use Rattle.jb_pack.specs.declared.packing.Packing.{Packing}
+use Rattle.jb_pack.specs.declared.packing.Packing.TheVariants.{Fits, TextFull}
+
+-- the lengths of .JHR, .JDT and .JDX with so many bytes of messages' headers and of texts, and so many slots
+abbrev pub lengths_with : ℕ → ℕ → ℕ → List Length
+lengths_with headers texts slots =
+    record { file = Jhr; len = 1024 + headers } ∷ record { file = Jdt; len = texts } ∷ record { file = Jdx; len = 8 * slots } ∷ []
+
+-- all of .JHR and .JDX after a pack is put, and nothing else
+pub record PutsArea (loaded : Loaded) (old new : Change) : Type 0 where
+  pub lengths : new.lengths ≡ old.lengths
+  pub headers : laid new.pieces Jhr ≡ headers_file (packed loaded)
+  pub index : laid new.pieces Jdx ≡ index_file (packed loaded)
+  pub others : (other : FileId) → other ≢ Jhr → other ≢ Jdx → laid new.pieces other ≡ laid old.pieces other
+  pub kept : IsLaidOut old.pieces → IsLaidOut new.pieces
+  pub size : record_size new ≤ record_size old + 12 * (length (kept_slots loaded) + 2) + length (headers_file (packed loaded)) + length (index_file (packed loaded))
+  pub long : length (headers_file (packed loaded)) ≡ (packed loaded).headers_len
+  pub back : IsReadAgain (packed loaded)
+
+-- over any files that hold the area, the change makes a record that writes each byte past an old end, and makes files that
+-- hold the area after a pack, with these texts, headers and index records in the order of the numbers without a gap
+pub record MakesPacked (change : Change) (loaded : Loaded) (texts : List ℕ) : Type 0 where
+  pub legal : (files : Files) → Loads files loaded → IsLegal (sizes_of files) change.lengths change.pieces
+  pub grown : (files : Files) → Loads files loaded → IsGrowthCovered change.lengths change.pieces files
+  pub loads : (files : Files) → Loads files loaded → Loads (done change files) (packed loaded)
+  pub headers : (files : Files) → Loads files loaded → done change files Jhr ≡ headers_file (packed loaded)
+  pub index : (files : Files) → Loads files loaded → done change files Jdx ≡ index_file (packed loaded)
+  pub texts_are : (files : Files) → Loads files loaded → done change files Jdt ≡ texts
+
+-- the change packs the area, and may be committed; its texts are the packed ones, where the disk tells which there were
+pub record IsPackOf (contents : Option Files) (loaded : Loaded) (change : Change) : Type 0 where
+  pub texts : List ℕ
+  pub makes : MakesPacked change loaded texts
+  pub writable : IsWritable change
+  pub told : ForSome contents (λ files. texts ≡ packed_texts (files Jdt) loaded)
+
+-- the answer is what a pack of this state answers to the sysop
+abbrev pub AnswersPack : AreaState → Packing → Type 0
+AnswersPack state (Fits base live dropped) = (pack_refusal state ≡ None) × ((pack_done state).reply ≡ reply.Packed base live dropped)
+AnswersPack state (TextFull len) = pack_refusal state ≡ Some (reply.TextFull len)
+
+-- where it fits, the change packs the area; where it does not, nothing is put
+abbrev pub PlansPack : Option Files → Loaded → Change → Change → Packing → Type 0
+PlansPack contents loaded old new (Fits base live dropped) = IsPackOf contents loaded new
+PlansPack contents loaded old new (TextFull len) = SameLists old new

@@ -1,0 +1,124 @@
+//! The texts of the live messages, one behind another.
+ghost use Rattle.std.specs.Prelude.{◌≡◌, ◌≢◌, ◌+◌, ◌≤◌, ℕ, All, IfErr, IfNone, IfOk, IfSome, OnOk, length};
+ghost use Rattle.std.specs.Option.{ForSome};
+ghost use Rattle.jb_base.specs.declared.limits.TheConstants.{TEXTS_CEILING};
+ghost use Rattle.jb_change.specs.Changing.{KeepsRoom};
+ghost use Rattle.jb_disk.specs.Device.{OnlyReads};
+ghost use Rattle.jb_disk.specs.declared.file.FileId.TheVariants.{Jdt as texts_file};
+ghost use Rattle.jb_model.specs.Sound.{IsSlotWithin, IsTextWithin};
+ghost use Rattle.jb_pack.specs.Copying.{FaultRose, IsJoined, IsRun, PutsRun, PutsTexts};
+ghost use Rattle.jb_pack.specs.Laid.{laid};
+ghost use Rattle.jb_pack.specs.Packed.{texts_size};
+
+use crate::PackError;
+use crate::laying::put;
+use jb_base::MOST_TEXT_BYTES;
+use jb_disk::{Disk, FileId, Redo};
+use jb_model::{Loaded, LoadedMessage, LoadedSlot};
+use std::alloc::Global;
+
+/// A part of .JDT that is read at once: where it begins, and how many bytes it has.
+#[derive(Clone, Copy, Debug)]
+pub(crate) struct Run {
+    at: u32,
+    len: u32,
+}
+
+/// The part with the text of a message behind it, where that text stands right behind it and both are not too long. The
+/// place of an empty text is that of no byte.
+fn joined(run: Run, message: &LoadedMessage) -> Option<Run>
+    requires { run.at + run.len ≤ TEXTS_CEILING }
+    ensures joined { IfSome result (IsJoined run message.now) }
+    ensures run { (texts_len : ℕ) → IsRun texts_len run → IsTextWithin texts_len message.now.text_at message.now.text_len → IfSome result (IsRun texts_len) }
+    ensures other { IfNone result (message.now.text_len ≢ 0) }
+{
+    if message.text_len == 0 {
+        return Some(run);
+    }
+    if run.len == 0 {
+        return Some(Run {
+            at: message.text_at,
+            len: message.text_len,
+        });
+    }
+    if message.text_at != run.at + run.len
+        || message.text_len as u64 + run.len as u64 > MOST_TEXT_BYTES as u64
+    {
+        return None;
+    }
+    Some(Run {
+        at: run.at,
+        len: run.len + message.text_len,
+    })
+}
+
+/// Reads a part of .JDT and puts it behind what the redo writes there, and answers where that ends then.
+fn put_run<D: Disk>(
+    alloc: Global,
+    disk: &mut D,
+    redo: &mut Redo,
+    run: Run,
+    end: u32,
+) -> Result<u32, PackError>
+    requires within { ForSome (D.device disk.old).contents (λ files. run.at + run.len ≤ length (files texts_file)) }
+    requires end { end ≡ length (laid redo.old.pieces texts_file) }
+    requires fits { end + run.len ≤ TEXTS_CEILING }
+
+    // Its bytes, where the disk tells them.
+    ensures puts { OnOk result (PutsRun (D.device disk.old).contents run redo.old redo.new) }
+    ensures next { IfOk result (λ next. next ≡ end + run.len) }
+    ensures room { KeepsRoom redo.old redo.new }
+
+    // The disk is only read.
+    ensures kept { OnlyReads (D.device disk.old) (D.device disk.new) }
+    ensures later { (D.device disk.old).faults ≤ (D.device disk.new).faults }
+    ensures cause { IfErr result (FaultRose (D.device disk.old).faults (D.device disk.new).faults) }
+{
+    let mut bytes = vec![in alloc; 0; run.len as usize]?;
+    disk.read_at(FileId::Jdt, run.at as u64, bytes.as_mut_slice())?;
+    put(redo, FileId::Jdt, end, bytes.as_slice())?;
+    Ok(end + run.len)
+}
+
+/// Puts the texts of the live messages of these slots into .JDT, one behind another from its beginning on. Texts that stand
+/// one behind another already are read at once, up to 1,048,576 bytes.
+pub(crate) fn put_texts<D: Disk>(
+    alloc: Global,
+    disk: &mut D,
+    redo: &mut Redo,
+    loaded: &Loaded,
+    slots: &[LoadedSlot],
+) -> Result<(), PackError>
+    requires told { ForSome (D.device disk.old).contents (λ files. length (files texts_file) ≡ loaded.now.texts_len) }
+    requires within { All (IsSlotWithin loaded.now.headers_len loaded.now.texts_len) slots.now }
+    requires fits { texts_size slots.now ≤ TEXTS_CEILING }
+    requires begin { length (laid redo.old.pieces texts_file) ≡ 0 }
+
+    // The texts, where the disk tells them.
+    ensures puts { OnOk result (PutsTexts (D.device disk.old).contents slots.now redo.old redo.new) }
+    ensures room { KeepsRoom redo.old redo.new }
+
+    // The disk is only read.
+    ensures kept { OnlyReads (D.device disk.old) (D.device disk.new) }
+    ensures later { (D.device disk.old).faults ≤ (D.device disk.new).faults }
+    ensures cause { IfErr result (FaultRose (D.device disk.old).faults (D.device disk.new).faults) }
+{
+    let mut run = Run { at: 0, len: 0 };
+    let mut end = 0;
+    for slot in slots {
+        let LoadedSlot::Live(message) = slot else {
+            continue;
+        };
+        if let Some(more) = joined(run, message) {
+            run = more;
+            continue;
+        }
+        end = put_run(alloc, disk, redo, run, end)?;
+        run = Run {
+            at: message.text_at,
+            len: message.text_len,
+        };
+    }
+    put_run(alloc, disk, redo, run, end)?;
+    Ok(())
+}
