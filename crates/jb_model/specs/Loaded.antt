@@ -14,6 +14,13 @@ slot_with_head head Empty = Empty
 slot_with_head head (Killed header_at) = Killed header_at
 slot_with_head head (Live message) = Live (record message { head = head })
 
+-- the slot with these fields in the header of its live message, whose header and text stand at these places; another slot
+-- is as it was
+abbrev pub slot_moved_to : Head → ℕ → ℕ → LoadedSlot → LoadedSlot
+slot_moved_to head header_at text_at Empty = Empty
+slot_moved_to head header_at text_at (Killed was_at) = Killed was_at
+slot_moved_to head header_at text_at (Live message) = Live (record message { head = head; header_at = header_at; text_at = text_at })
+
 -- this live message stands at this place of the index
 abbrev pub IsMessageAt : Loaded → ℕ → LoadedMessage → Type 0
 IsMessageAt loaded place message = slice_get loaded.slots place ≡ Some (Live message)

@@ -1,7 +1,7 @@
 //! An area as it is loaded: all of its state but the texts, with the places of headers and texts.
-ghost use Rattle.std.specs.Prelude.{◌≡◌, ◌<◌, [], ◌∷◌, ◌++◌, length, slice_index_or, slice_set, IfOk, IsOk, OnOk, OnErr};
+ghost use Rattle.std.specs.Prelude.{◌≡◌, ◌<◌, ◌≤◌, [], ◌∷◌, ◌++◌, drop, length, slice_index_or, slice_set, IfOk, IsOk, OnOk, OnErr};
 ghost use Rattle.jb_base.specs.declared.limits.TheConstants.{MOST_SLOTS};
-ghost use Rattle.jb_model.specs.Loaded.{slot_with_head};
+ghost use Rattle.jb_model.specs.Loaded.{slot_moved_to, slot_with_head};
 ghost use Rattle.jb_model.specs.declared.loaded.LoadedSlot.{LoadedSlot};
 
 use crate::{Head, LoadedMarks};
@@ -92,6 +92,29 @@ impl LoadedSlots {
         if let LoadedSlot::Live(message) = &mut self.items[place] {
             message.head = head;
         }
+    }
+
+    /// Writes these fields into the header of the live message at a place, and says where its header and its text stand
+    /// now; another slot it leaves as it is.
+    pub fn set_place(&mut self, place: usize, head: Head, header_at: u32, text_at: u32)
+        requires { place < length self.old }
+        ensures { (d : LoadedSlot) → self.new ≡ slice_set self.old place (slot_moved_to head header_at text_at (slice_index_or self.old place d)) }
+    {
+        if let LoadedSlot::Live(message) = &mut self.items[place] {
+            message.head = head;
+            message.header_at = header_at;
+            message.text_at = text_at;
+        }
+    }
+
+    /// Drops so many of the first slots. The others move down, and the room stays.
+    pub fn drop_first(&mut self, count: usize)
+        requires { count ≤ length self.old }
+        ensures { self.new ≡ drop count self.old }
+    {
+        let kept = self.items.len() - count;
+        self.items.rotate_left(count);
+        self.items.truncate(kept);
     }
 }
 

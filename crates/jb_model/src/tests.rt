@@ -43,6 +43,8 @@ fn slots_stand_in_the_order_of_their_numbers(rt: HostRuntime) -> Result<(), Fail
     slots.push(LoadedSlot::Empty)?;
     slots.push(LoadedSlot::Killed { header_at: 1_024 })?;
     slots.push(LoadedSlot::Live(live))?;
+    slots.set_place(2, HEAD, 1_024, 9);
+    slots.drop_first(1);
     let mut places = Vec::new(rt.alloc());
     for slot in slots.as_slice() {
         places.push(match slot {
@@ -51,10 +53,7 @@ fn slots_stand_in_the_order_of_their_numbers(rt: HostRuntime) -> Result<(), Fail
             LoadedSlot::Live(message) => Some(message.header_at),
         })?;
     }
-    assert_eq!(rt;
-        places.as_slice(),
-        [None, Some(1_024), Some(1_100)].as_slice()
-    );
+    assert_eq!(rt; places.as_slice(), [Some(1_024), Some(1_024)].as_slice());
     Ok(())
 }
 
