@@ -1,0 +1,9 @@
+use Rattle.std.proofs.Common.{arith}
+use Rattle.jb_tiered.proofs.PieceLemmas.{went_back}
+use Rattle.jb_tiered.proofs.pieces.close_gap.Goals as goal
+
+pub loop-gap-preserved : goal.loop-gap-preserved
+loop-gap-preserved g c =
+    went_back _ _ _ _ c.index_mut.result.now c.pop_front.new.self c.index_mut-in-loop-gap.result.now c.push_back_reserved.new.self c.in-Some.moved c.loop-gap.invariant
+    (omega arith) c.index_mut.ensures.value c.in-Some.ensures.items c.in-Some.ensures.cases c.in-Some.ensures.capacity
+    c.index_mut-in-loop-gap.ensures.value c.push_back_reserved.ensures.items c.push_back_reserved.ensures.len c.push_back_reserved.ensures.capacity

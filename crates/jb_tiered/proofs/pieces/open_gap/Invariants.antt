@@ -1,0 +1,9 @@
+use Rattle.std.proofs.Common.{◌-◌, ◌+◌, ◌*◌, ◌≤◌}
+use Rattle.jb_tiered.proofs.PieceLemmas.{Wanders}
+use Rattle.jb_tiered.proofs.pieces.open_gap.Given as goal
+
+abbrev pub invariant-loop-gap : goal.invariant-loop-gap
+invariant-loop-gap g l = (l.at ≤ l.gap) × (l.gap * 512 ≤ l.len) × Wanders (l.len + 1) l.gap l.initial.pieces.items l.pieces.items
+
+abbrev pub decreases-loop-gap : goal.decreases-loop-gap
+decreases-loop-gap g l = l.gap - l.at

@@ -1,0 +1,3 @@
+pub mod Tiered
+pub mod Pieces
+pub mod Inside
