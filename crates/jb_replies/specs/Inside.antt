@@ -1,5 +1,5 @@
 -- How an index of replies is held.
-use Rattle.std.specs.Prelude.{◌+◌, ◌≤◌, vec_len, vec_capacity}
+use Rattle.std.specs.Prelude.{◌≤◌}
 use Rattle.jb_replies.specs.declared.replies.Replies.TheInside.{Inside}
 use Rattle.jb_replies.specs.Index.{ReplyIndex}
 
@@ -9,6 +9,6 @@ index_of held = record { ids = held.ids.items; answers = held.answers.items; kep
 
 -- each list has the room
 pub record HasRoom (held : Inside) : Type 0 where
-  pub ids : vec_len held.ids + held.room ≤ vec_capacity held.ids
-  pub answers : vec_len held.answers + held.room ≤ vec_capacity held.answers
-  pub kept : vec_len held.kept + held.room ≤ vec_capacity held.kept
+  pub ids : held.room ≤ held.ids.room
+  pub answers : held.room ≤ held.answers.room
+  pub kept : held.room ≤ held.kept.room

@@ -1,5 +1,5 @@
 //! Numbers of messages, in the order of the bytes of one of their ids and then of the numbers.
-ghost use Rattle.std.specs.Prelude.{◌≡◌, ◌+◌, ◌<◌, ◌≤◌, IfOk, length, vec_capacity, vec_len};
+ghost use Rattle.std.specs.Prelude.{◌≡◌, ◌+◌, ◌<◌, ◌≤◌, IfOk, length};
 ghost use Rattle.std.specs.Ordering.{is_lt};
 ghost use Rattle.jb_model.specs.Links.{is_id};
 ghost use Rattle.jb_replies.specs.Ids.{AreIdsBelow, IsGreatestWith, IsIdList, IsIdListBut, IsLeastWith, id_at, id_place};
@@ -8,6 +8,7 @@ ghost use Rattle.jb_replies.specs.Order.{IsRising, IsSplitAt, id_order};
 use crate::found::id_at;
 use jb_base::OutOfMemory;
 use jb_model::Loaded;
+use jb_tiered::Tiered;
 use std::alloc::Global;
 use std::cmp::Ordering;
 
@@ -60,22 +61,23 @@ fn numbers_with(alloc: Global, loaded: &Loaded, kind: u16) -> Result<Vec<u32>, O
 }
 
 /// The list of the ids of this kind. Its cost is that of sorting them.
-pub(crate) fn ordered(alloc: Global, loaded: &Loaded, kind: u16) -> Result<Vec<u32>, OutOfMemory>
+pub(crate) fn ordered(alloc: Global, loaded: &Loaded, kind: u16) -> Result<Tiered<u32>, OutOfMemory>
     requires { loaded.now.base + length loaded.now.slots ≤ 4_294_967_295 }
     ensures { IfOk result (λ numbers. IsIdList kind loaded.now numbers.items) }
 {
     let mut numbers = numbers_with(alloc, loaded, kind)?;
     numbers.sort_unstable_by(|one, other| compare_places(loaded, kind, *one, *other));
-    Ok(numbers)
+    Tiered::copy(alloc, &numbers)
 }
 
 /// Where in the list this id and this number stand, or would stand.
-fn place_of(loaded: &Loaded, kind: u16, numbers: &[u32], id: &[u8], number: u32) -> usize
-    requires { IsRising id_order (id_place kind loaded.now) numbers.now }
-    ensures { IsSplitAt id_order (id_place kind loaded.now) numbers.now (id.now, number) result }
+fn place_of(loaded: &Loaded, kind: u16, numbers: &Tiered<u32>, id: &[u8], number: u32) -> usize
+    requires { IsRising id_order (id_place kind loaded.now) numbers.now.items }
+    ensures { IsSplitAt id_order (id_place kind loaded.now) numbers.now.items (id.now, number) result }
 {
     numbers.partition_point(|one| is_before(loaded, kind, *one, id, number))
 }
+
 /// Whether the message with this number has this id.
 fn has_id(loaded: &Loaded, kind: u16, number: u32, id: &[u8]) -> bool
     ensures { result ≡ is_id id.now (id_at kind loaded.now number) }
@@ -87,24 +89,34 @@ fn has_id(loaded: &Loaded, kind: u16, number: u32, id: &[u8]) -> bool
 }
 
 /// The least number of a message with this id.
-pub(crate) fn least_with(loaded: &Loaded, kind: u16, numbers: &[u32], id: &[u8]) -> Option<u32>
-    requires { IsIdList kind loaded.now numbers.now }
+pub(crate) fn least_with(
+    loaded: &Loaded,
+    kind: u16,
+    numbers: &Tiered<u32>,
+    id: &[u8],
+) -> Option<u32>
+    requires { IsIdList kind loaded.now numbers.now.items }
     ensures { IsLeastWith kind loaded.now id.now result }
 {
     let at = place_of(loaded, kind, numbers, id, 0);
     let Some(number) = numbers.get(at) else {
         return None;
     };
-    if has_id(loaded, kind, *number, id) {
-        Some(*number)
+    if has_id(loaded, kind, number, id) {
+        Some(number)
     } else {
         None
     }
 }
 
 /// The greatest number of a message with this id.
-pub(crate) fn greatest_with(loaded: &Loaded, kind: u16, numbers: &[u32], id: &[u8]) -> Option<u32>
-    requires list { IsIdList kind loaded.now numbers.now }
+pub(crate) fn greatest_with(
+    loaded: &Loaded,
+    kind: u16,
+    numbers: &Tiered<u32>,
+    id: &[u8],
+) -> Option<u32>
+    requires list { IsIdList kind loaded.now numbers.now.items }
     requires numbers { loaded.now.base + length loaded.now.slots ≤ 4_294_967_295 }
     ensures { IsGreatestWith kind loaded.now id.now result }
 {
@@ -121,28 +133,24 @@ pub(crate) fn greatest_with(loaded: &Loaded, kind: u16, numbers: &[u32], id: &[u
 }
 
 /// Puts the message with this number into the list, where it has an id of this kind.
-pub(crate) fn put(loaded: &Loaded, kind: u16, numbers: &mut Vec<u32>, number: u32)
+pub(crate) fn put(loaded: &Loaded, kind: u16, numbers: &mut Tiered<u32>, number: u32)
     requires but { IsIdListBut kind loaded.now number numbers.old.items }
-    requires room { vec_len numbers.old < vec_capacity numbers.old }
+    requires room { 0 < numbers.old.room }
     ensures list { IsIdList kind loaded.now numbers.new.items }
-    ensures len { vec_len numbers.new ≤ vec_len numbers.old + 1 }
-    ensures capacity { vec_capacity numbers.old ≤ vec_capacity numbers.new }
+    ensures room { numbers.old.room ≤ numbers.new.room + 1 }
 {
     let Some(id) = id_at(loaded, kind, number) else {
         return;
     };
     let at = place_of(loaded, kind, numbers, id, number);
-    let Ok(()) = numbers.insert(at, number) else {
-        unreachable!()
-    };
+    numbers.insert(at, number);
 }
 
 /// Takes the message with this number out of the list, where it stands there.
-pub(crate) fn take_out(loaded: &Loaded, kind: u16, numbers: &mut Vec<u32>, number: u32)
+pub(crate) fn take_out(loaded: &Loaded, kind: u16, numbers: &mut Tiered<u32>, number: u32)
     requires { IsIdList kind loaded.now numbers.old.items }
     ensures list { IsIdListBut kind loaded.now number numbers.new.items }
-    ensures len { vec_len numbers.new ≤ vec_len numbers.old }
-    ensures capacity { vec_capacity numbers.new ≡ vec_capacity numbers.old }
+    ensures room { numbers.old.room ≤ numbers.new.room }
 {
     let Some(id) = id_at(loaded, kind, number) else {
         return;

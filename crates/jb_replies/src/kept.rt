@@ -1,5 +1,5 @@
 //! Pairs of a number that a header keeps as its ReplyTo and of the message whose header it is, in rising order.
-ghost use Rattle.std.specs.Prelude.{◌≡◌, ◌+◌, ◌<◌, ◌≤◌, IfOk, All, length, vec_capacity, vec_len};
+ghost use Rattle.std.specs.Prelude.{◌≡◌, ◌+◌, ◌<◌, ◌≤◌, IfOk, All, length};
 ghost use Rattle.std.specs.Ordering.{is_lt};
 ghost use Rattle.jb_replies.specs.Kept.{ArePairsBelow, IsKeptList, IsKeptListBut, IsLastWith, LosesPairOf, pair_at};
 ghost use Rattle.jb_replies.specs.Order.{IsRising, IsSplitAt, pair_order};
@@ -7,6 +7,7 @@ ghost use Rattle.jb_replies.specs.Order.{IsRising, IsSplitAt, pair_order};
 use crate::found::message_at;
 use jb_base::{OutOfMemory, REPLYID};
 use jb_model::Loaded;
+use jb_tiered::Tiered;
 use std::alloc::Global;
 
 /// The pair of the live message with this number, where it has no REPLYID and keeps a lower number that the area has.
@@ -37,13 +38,13 @@ fn pairs_of(alloc: Global, loaded: &Loaded) -> Result<Vec<(u32, u32)>, OutOfMemo
 }
 
 /// The list of the pairs. Its cost is that of sorting them.
-pub(crate) fn ordered(alloc: Global, loaded: &Loaded) -> Result<Vec<(u32, u32)>, OutOfMemory>
+pub(crate) fn ordered(alloc: Global, loaded: &Loaded) -> Result<Tiered<(u32, u32)>, OutOfMemory>
     requires { loaded.now.base + length loaded.now.slots ≤ 4_294_967_295 }
     ensures { IfOk result (λ pairs. IsKeptList loaded.now pairs.items) }
 {
     let mut pairs = pairs_of(alloc, loaded)?;
     pairs.sort_unstable();
-    Ok(pairs)
+    Tiered::copy(alloc, &pairs)
 }
 
 /// Whether a pair stands before another.
@@ -54,18 +55,18 @@ fn is_before(one: (u32, u32), other: (u32, u32)) -> bool
 }
 
 /// Where in the list this pair stands, or would stand.
-fn place_of(pairs: &[(u32, u32)], asked: (u32, u32)) -> usize
-    requires { IsRising pair_order (λ pair. pair) pairs.now }
-    ensures { IsSplitAt pair_order (λ pair. pair) pairs.now asked result }
+fn place_of(pairs: &Tiered<(u32, u32)>, asked: (u32, u32)) -> usize
+    requires { IsRising pair_order (λ pair. pair) pairs.now.items }
+    ensures { IsSplitAt pair_order (λ pair. pair) pairs.now.items asked result }
 {
     pairs.partition_point(|pair| is_before(*pair, asked))
 }
 
 /// The greatest number that stands in a pair behind this one.
-pub(crate) fn last_with(pairs: &[(u32, u32)], kept: u32) -> Option<u32>
-    requires rising { IsRising pair_order (λ pair. pair) pairs.now }
-    requires numbers { All (λ pair. pair.1 < 4_294_967_295) pairs.now }
-    ensures { IsLastWith pairs.now kept result }
+pub(crate) fn last_with(pairs: &Tiered<(u32, u32)>, kept: u32) -> Option<u32>
+    requires rising { IsRising pair_order (λ pair. pair) pairs.now.items }
+    requires numbers { All (λ pair. pair.1 < 4_294_967_295) pairs.now.items }
+    ensures { IsLastWith pairs.now.items kept result }
 {
     let at = place_of(pairs, (kept, u32::MAX));
     if at == 0 {
@@ -76,28 +77,24 @@ pub(crate) fn last_with(pairs: &[(u32, u32)], kept: u32) -> Option<u32>
 }
 
 /// Puts the pair of the message with this number into the list, where it has one.
-pub(crate) fn put(loaded: &Loaded, pairs: &mut Vec<(u32, u32)>, number: u32)
+pub(crate) fn put(loaded: &Loaded, pairs: &mut Tiered<(u32, u32)>, number: u32)
     requires but { IsKeptListBut loaded.now number pairs.old.items }
-    requires room { vec_len pairs.old < vec_capacity pairs.old }
+    requires room { 0 < pairs.old.room }
     ensures list { IsKeptList loaded.now pairs.new.items }
-    ensures len { vec_len pairs.new ≤ vec_len pairs.old + 1 }
-    ensures capacity { vec_capacity pairs.old ≤ vec_capacity pairs.new }
+    ensures room { pairs.old.room ≤ pairs.new.room + 1 }
 {
     let Some(pair) = pair_at(loaded, number) else {
         return;
     };
     let at = place_of(pairs, pair);
-    let Ok(()) = pairs.insert(at, pair) else {
-        unreachable!()
-    };
+    pairs.insert(at, pair);
 }
 
 /// Takes the pair of the message with this number out of the list, where it stands there.
-pub(crate) fn take_out(loaded: &Loaded, pairs: &mut Vec<(u32, u32)>, number: u32)
+pub(crate) fn take_out(loaded: &Loaded, pairs: &mut Tiered<(u32, u32)>, number: u32)
     requires { IsRising pair_order (λ pair. pair) pairs.old.items }
     ensures list { LosesPairOf loaded.now number pairs.old.items pairs.new.items }
-    ensures len { vec_len pairs.new ≤ vec_len pairs.old }
-    ensures capacity { vec_capacity pairs.new ≡ vec_capacity pairs.old }
+    ensures room { pairs.old.room ≤ pairs.new.room }
 {
     let Some(pair) = pair_at(loaded, number) else {
         return;

@@ -8,8 +8,9 @@
 //! Cost, in an area of n messages: [`Replies::of`] makes n log n comparisons, and takes 4 bytes for each MSGID, 4 for
 //! each REPLYID and 8 for each kept number. [`Replies::parent`] makes one search at most, the other calls three, of
 //! log n comparisons each. Ids are compared by their bytes and never by their CRCs, so a base in which all ids have one
-//! CRC costs no more. [`Replies::posted`] and [`Replies::killed`] move the end of a list besides, in one piece: up to 4
-//! bytes a message in each list of ids, up to 8 in that of the kept numbers.
+//! CRC costs no more. The lists stand in pieces (`jb_tiered`), so that [`Replies::posted`] and [`Replies::killed`] cost
+//! about the same in each area: besides the searches they move up to 256 elements within one piece of each list, and one
+//! element for each 512 that stand behind the place.
 #![tactic(auto)]
 
 mod found;

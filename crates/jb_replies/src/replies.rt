@@ -17,15 +17,16 @@ use crate::{ids, kept};
 use jb_base::{MSGID, OutOfMemory, REPLYID};
 use jb_link::Spliced;
 use jb_model::Loaded;
+use jb_tiered::Tiered;
 use std::alloc::Global;
 use std::marker::Model;
 
 /// The index of an area's replies, and room for so many messages more.
 #[derive(Debug, Drop)]
 pub struct Replies {
-    ids: Vec<u32>,
-    answers: Vec<u32>,
-    kept: Vec<(u32, u32)>,
+    ids: Tiered<u32>,
+    answers: Tiered<u32>,
+    kept: Tiered<(u32, u32)>,
     room: u32,
 }
 
@@ -153,7 +154,7 @@ impl Replies {
     }
 
     /// Puts the last message of the area into the index, after it came. It takes no memory, and makes three searches at
-    /// most; it moves up to 4 bytes a message in each list of ids and 8 in that of the kept numbers.
+    /// most and an insertion into each list, of which `jb_tiered` tells the cost.
     pub fn posted(&mut self, loaded: &Loaded)
         requires index { IsIndexBefore self.old loaded.now }
         requires numbers { loaded.now.base + length loaded.now.slots ≤ 4_294_967_295 }
@@ -183,8 +184,8 @@ impl Replies {
 }
 
 /// The least live number below this one whose MSGID has these bytes, or 0.
-fn lower_with(loaded: &Loaded, ids: &[u32], number: u32, id: &[u8]) -> u32
-    requires { IsIdList MSGID loaded.now ids.now }
+fn lower_with(loaded: &Loaded, ids: &Tiered<u32>, number: u32, id: &[u8]) -> u32
+    requires { IsIdList MSGID loaded.now ids.now.items }
     ensures found { (kept : ℕ) → result ≡ parent_for (linkables [] loaded.now) number (Some id.now) kept }
     ensures live { (result ≡ 0) ⊎ IsLive loaded.now result }
 {

@@ -1,5 +1,6 @@
-use Rattle.std.proofs.Common.{arith, sym, ◌∙◌}
+use Rattle.std.proofs.Common.{◌≤◌, ◌∙◌, ap, arith, subst, sym}
 use Rattle.jb_replies.proofs.IdLemmas.{bytes_had, has_bytes, last_with}
+use Rattle.jb_replies.specs.Ids.{id_at}
 use Rattle.jb_replies.proofs.ids.greatest_with.Goals as goal
 
 pub returns-then-at-eq0 : goal.returns-then-at-eq0
@@ -10,11 +11,13 @@ returns-then-at-eq0 c = λ other is.
 pub returns-then-has_id : goal.returns-then-has_id
 returns-then-has_id c = (
   has_bytes _ _ (sym c.has_id.ensures ∙ c.if-has_id.true),
-  λ other is. (last_with _ _ _ _ _ _ other c.requires.list c.place_of-at.ensures (omega (arith, c.requires.numbers)) is).from 0,
+  λ other is.
+      subst (λ n. other ≤ n) (sym c.index-number.ensures)
+      ((last_with _ _ _ _ _ _ other c.requires.list c.place_of-at.ensures (omega (arith, c.requires.numbers)) is).from c.index-number.result.now),
 )
 
 pub returns-else-has_id : goal.returns-else-has_id
 returns-else-has_id c = λ other is.
     let last = last_with _ _ _ _ _ _ other c.requires.list c.place_of-at.ensures (omega (arith, c.requires.numbers)) is in
-    let had = bytes_had _ _ (last.has 0) in
+    let had = bytes_had _ _ (ap (id_at c.args.kind c.args.loaded.now) c.index-number.ensures ∙ last.has c.index-number.result.now) in
     cc (c.has_id.ensures, c.if-has_id.false)

@@ -10,9 +10,9 @@ use Rattle.jb_replies.proofs.ids.place_of.Goals as goal
 pub returns : goal.returns
 returns c =
     let key = id_place c.args.kind c.args.loaded.now in
-    let parts = IsPartitionPoint-from_clause (λ one. is_lt (id_order (key one) (c.args.id.now, c.args.number))) c.args.numbers.now c.partition_point.result
+    let parts = IsPartitionPoint-from_clause (λ one. is_lt (id_order (key one) (c.args.id.now, c.args.number))) c.args.numbers.now.items c.partition_point.result
     c.partition_point.ensures.partitioned
-    (cut_in_two id_order_total key c.args.numbers.now (c.args.id.now, c.args.number) c.requires) (λ a r f called. search rules) in
+    (cut_in_two id_order_total key c.args.numbers.now.items (c.args.id.now, c.args.number) c.requires) (λ a r f called. search rules) in
     record {
       within = c.partition_point.ensures.bound;
       lower = λ k d below. lt_from _ (parts.0 k d (omega arith) below);

@@ -5,5 +5,5 @@ use Rattle.jb_replies.proofs.ids.put.Goals as goal
 
 pub returns-clause-list : goal.returns-clause-list
 returns-clause-list c =
-    rw c.in-Ok.ensures.items
-    (id_put _ _ _ c.in-Some.id.now _ _ c.requires.but (sym c.id_at.ensures ∙ ap lent c.in-Some.is) (rw c.deref.ensures.value at c.place_of-at.ensures))
+    rw c.insert.ensures.items
+    (id_put _ _ _ c.in-Some.id.now _ _ c.requires.but (sym c.id_at.ensures ∙ ap lent c.in-Some.is) c.place_of-at.ensures)

@@ -9,9 +9,9 @@ use Rattle.jb_replies.proofs.kept.place_of.Goals as goal
 pub returns : goal.returns
 returns c =
     let key = λ (pair : ℕ × ℕ). pair in
-    let parts = IsPartitionPoint-from_clause (λ one. is_lt (pair_order (key one) c.args.asked)) c.args.pairs.now c.partition_point.result
+    let parts = IsPartitionPoint-from_clause (λ one. is_lt (pair_order (key one) c.args.asked)) c.args.pairs.now.items c.partition_point.result
     c.partition_point.ensures.partitioned
-    (cut_in_two pair_order_total key c.args.pairs.now c.args.asked c.requires) (λ a r f called. search rules) in
+    (cut_in_two pair_order_total key c.args.pairs.now.items c.args.asked c.requires) (λ a r f called. search rules) in
     record {
       within = c.partition_point.ensures.bound;
       lower = λ k d below. lt_from _ (parts.0 k d (omega arith) below);

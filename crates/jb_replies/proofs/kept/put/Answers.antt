@@ -7,5 +7,5 @@ returns-in_default-clause-list c = pair_not_put _ _ _ c.requires.but (sym c.pair
 
 pub returns-clause-list : goal.returns-clause-list
 returns-clause-list c =
-    rw c.in-Ok.ensures.items
-    (pair_put _ _ _ _ _ c.requires.but (sym c.pair_at.ensures ∙ c.in-Some.is) (rw c.deref.ensures.value at c.place_of-at.ensures))
+    rw c.insert.ensures.items
+    (pair_put _ _ _ _ _ c.requires.but (sym c.pair_at.ensures ∙ c.in-Some.is) c.place_of-at.ensures)

@@ -16,9 +16,9 @@ pub returns-else-at-len-clause-list : goal.returns-else-at-len-clause-list
 returns-else-at-len-clause-list c =
     elim c.else-at-len.branch [
       | else-at-len-via-then-at-len+else-eq w ↦
-          pair_not_taken _ _ c.in-Some.pair _ _ c.requires (sym c.pair_at.ensures ∙ c.in-Some.is) (rw c.deref.ensures.value at c.place_of-at.ensures)
+          pair_not_taken _ _ c.in-Some.pair _ _ c.requires (sym c.pair_at.ensures ∙ c.in-Some.is) c.place_of-at.ensures
           (λ within here. both_ways _ (sym w.eq.ensures ∙ w.if-eq.false) (parts_alike _ _ (w.index.ensures ∙ here w.index.result.now)))
       | else-at-len-via-else-at-len w ↦
-          pair_not_taken _ _ c.in-Some.pair _ _ c.requires (sym c.pair_at.ensures ∙ c.in-Some.is) (rw c.deref.ensures.value at c.place_of-at.ensures)
+          pair_not_taken _ _ c.in-Some.pair _ _ c.requires (sym c.pair_at.ensures ∙ c.in-Some.is) c.place_of-at.ensures
           (λ within here. absurd (omega (arith, within, c.len.ensures, w.if-at-len.false)))
     ]
