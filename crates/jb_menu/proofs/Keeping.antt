@@ -81,19 +81,23 @@ named_within on user number n found = found_within (is_named_for (level_of on us
 
 -- the log-in
 fits_refused : (on : Board) (refused : ℕ) → Fits on (refused_row refused)
+unfolding IsFor awaited_in
 fits_refused on refused = either on (nat_lt refused 2) _ _ (tt, refl) (tt, refl)
 
 fits_login : (on : Board) (refused : ℕ) (found : Option ℕ) → ((user : ℕ) → found ≡ Some user → user < length on.users)
     → Fits on (login_row on refused found)
+unfolding IsFor awaited_in
 fits_login on refused (Some user) within = (within user refl, refl)
 fits_login on refused None within = fits_refused on refused
 
 holds_name : (on : Board) (refused : ℕ) (given : Given) → Holds on (state.Name refused) given (name_row refused given)
+unfolding IsFor awaited_in
 holds_name on refused (Line typed) = record { board = tt; awaits = λ _. refl }
 holds_name on refused _ = record { board = tt; awaits = λ _. refl }
 
 holds_password : (on : Board) (refused : ℕ) (name : List ℕ) (given : Given)
     → Holds on (state.Password refused name) given (password_row on refused name given)
+unfolding IsFor awaited_in
 holds_password on refused name (Line typed) =
     fitting on (state.Password refused name) (Line typed) (password_row on refused name (Line typed))
     (fits_login on refused (position (logs_in name typed) on.users) (λ user found. found_within (logs_in name typed) on.users user found))
@@ -102,15 +106,18 @@ holds_password on refused name _ = record { board = tt; awaits = λ _. refl }
 -- outside of the areas
 fits_count : (on : Board) (user : ℕ) (lines : List ℕ) (next : Option ℕ) → user < length on.users
     → ((area : ℕ) → next ≡ Some area → area < length on.areas) → Fits on (count_row user lines next)
+unfolding IsFor awaited_in
 fits_count on user lines (Some area) is_user within = ((is_user, within area refl), refl)
 fits_count on user lines None is_user within = (is_user, refl)
 
 fits_enter : (on : Board) (user : ℕ) (area : Option ℕ) → user < length on.users
     → ((place : ℕ) → area ≡ Some place → place < length on.areas) → Fits on (enter_row user area)
+unfolding IsFor awaited_in
 fits_enter on user (Some area) is_user within = ((is_user, within area refl), refl)
 fits_enter on user None is_user within = (is_user, refl)
 
 fits_top : (on : Board) (user : ℕ) (typed : CommandLine) → user < length on.users → Fits on (top_command on user typed)
+unfolding IsFor awaited_in
 fits_top on user Empty is_user = (is_user, refl)
 fits_top on user (Letter A) is_user =
     fits_count on user [] (next_area on user 0) is_user (λ area found. next_within on user 0 area found)
@@ -120,12 +127,14 @@ fits_top on user (Number number) is_user =
 fits_top on user _ is_user = (is_user, refl)
 
 holds_top : (on : Board) (user : ℕ) (given : Given) → user < length on.users → Holds on (state.Top user) given (top_row on user given)
+unfolding IsFor awaited_in
 holds_top on user (Line typed) is_user =
     fitting on (state.Top user) (Line typed) (top_row on user (Line typed)) (fits_top on user (command_of typed) is_user)
 holds_top on user _ is_user = record { board = is_user; awaits = λ _. refl }
 
 holds_counting : (on : Board) (user area : ℕ) (lines : List ℕ) (given : Given) → user < length on.users → area < length on.areas
     → Holds on (state.Counting user area lines) given (counting_row on user area lines given)
+unfolding IsFor awaited_in
 holds_counting on user area lines (Count unread) is_user is_area =
     fitting on (state.Counting user area lines) (Count unread) (counting_row on user area lines (Count unread))
     (fits_count on user _ (next_area on user (area + 1)) is_user (λ place found. next_within on user (area + 1) place found))
@@ -134,6 +143,7 @@ holds_counting on user area lines _ is_user is_area = record { board = (is_user,
 
 holds_entering : (on : Board) (user area : ℕ) (given : Given) → user < length on.users → area < length on.areas
     → Holds on (state.Entering user area) given (entering_row on user area given)
+unfolding IsFor awaited_in
 holds_entering on user area (Answer (answer.Figures numbers)) is_user is_area = record { board = (is_user, is_area); awaits = λ _. refl }
 holds_entering on user area (Fault fault) is_user is_area = record { board = is_user; awaits = λ _. refl }
 holds_entering on user area _ is_user is_area = record { board = (is_user, is_area); awaits = λ asked. never asked }
@@ -144,10 +154,12 @@ IsPlace on visit = (visit.user < length on.users) × (visit.area < length on.are
 
 -- the commands of an area
 fits_reply : (on : Board) (visit : Visit) (shown : Option Shown) → IsPlace on visit → Fits on (reply_row on visit shown)
+unfolding IsFor awaited_in
 fits_reply on visit None place = (place, refl)
 fits_reply on visit (Some shown) place = (place, refl)
 
 fits_area : (on : Board) (visit : Visit) (typed : CommandLine) → IsPlace on visit → Fits on (area_command on visit typed)
+unfolding IsFor awaited_in
 fits_area on visit (Letter B) place = (place.0, refl)
 fits_area on visit (Letter Q) place = (tt, refl)
 fits_area on visit (Letter R) place = fits_reply on visit visit.shown place
@@ -155,6 +167,7 @@ fits_area on visit (LetterNumber K number) place = (place, refl)
 fits_area on visit _ place = (place, refl)
 
 holds_area : (on : Board) (visit : Visit) (given : Given) → IsPlace on visit → Holds on (state.Area visit stage.Prompt) given (area_row on visit given)
+unfolding IsFor awaited_in
 holds_area on visit (Line typed) place =
     fitting on (state.Area visit stage.Prompt) (Line typed) (area_row on visit (Line typed)) (fits_area on visit (command_of typed) place)
 holds_area on visit _ place = record { board = place; awaits = λ _. refl }
@@ -162,12 +175,14 @@ holds_area on visit _ place = record { board = place; awaits = λ _. refl }
 -- what an area answers
 holds_listing : (on : Board) (visit : Visit) (given : Given) → IsPlace on visit
     → Holds on (state.Area visit stage.Listing) given (listing_row on visit given)
+unfolding IsFor awaited_in
 holds_listing on visit (Answer (answer.Summaries messages)) place = record { board = place; awaits = λ _. refl }
 holds_listing on visit (Fault fault) place = record { board = place; awaits = λ _. refl }
 holds_listing on visit _ place = record { board = place; awaits = λ asked. never asked }
 
 holds_seeking : (on : Board) (visit : Visit) (given : Given) → IsPlace on visit
     → Holds on (state.Area visit stage.Seeking) given (seeking_row on visit given)
+unfolding IsFor awaited_in
 holds_seeking on visit (Answer (answer.Summaries [])) place = record { board = place; awaits = λ _. refl }
 holds_seeking on visit (Answer (answer.Summaries (first ∷ rest))) place = record { board = place; awaits = λ _. refl }
 holds_seeking on visit (Fault fault) place = record { board = place; awaits = λ _. refl }
@@ -175,6 +190,7 @@ holds_seeking on visit _ place = record { board = place; awaits = λ asked. neve
 
 holds_reading : (on : Board) (visit : Visit) (marks : Bool) (given : Given) → IsPlace on visit
     → Holds on (state.Area visit (stage.Reading marks)) given (reading_row on visit marks given)
+unfolding IsFor awaited_in
 holds_reading on visit true (Reply (reply.Text letter)) place = record { board = place; awaits = λ _. refl }
 holds_reading on visit false (Reply (reply.Text letter)) place = record { board = place; awaits = λ _. refl }
 holds_reading on visit true (Reply other) place = record { board = place; awaits = λ _. refl }
@@ -186,6 +202,7 @@ holds_reading on visit false _ place = record { board = place; awaits = λ asked
 
 holds_marking : (on : Board) (visit : Visit) (text : List ℕ) (given : Given) → IsPlace on visit
     → Holds on (state.Area visit (stage.Marking text)) given (marking_row on visit text given)
+unfolding IsFor awaited_in
 holds_marking on visit text (Reply (reply.Marked last high)) place = record { board = place; awaits = λ _. refl }
 holds_marking on visit text (Reply other) place = record { board = place; awaits = λ _. refl }
 holds_marking on visit text (Fault fault) place = record { board = place; awaits = λ _. refl }
@@ -193,28 +210,33 @@ holds_marking on visit text _ place = record { board = place; awaits = λ asked.
 
 holds_acting : (on : Board) (visit : Visit) (given : Given) → IsPlace on visit
     → Holds on (state.Area visit stage.Acting) given (acting_row on visit given)
+unfolding IsFor awaited_in
 holds_acting on visit (Reply answer) place = record { board = place; awaits = λ _. refl }
 holds_acting on visit (Fault fault) place = record { board = place; awaits = λ _. refl }
 holds_acting on visit _ place = record { board = place; awaits = λ asked. never asked }
 
 -- a message that is written
 holds_to : (on : Board) (visit : Visit) (given : Given) → IsPlace on visit → Holds on (state.Area visit stage.To) given (to_row on visit given)
+unfolding IsFor awaited_in
 holds_to on visit (Line []) place = record { board = place; awaits = λ _. refl }
 holds_to on visit (Line (first ∷ rest)) place = record { board = place; awaits = λ _. refl }
 holds_to on visit _ place = record { board = place; awaits = λ _. refl }
 
 holds_subject : (on : Board) (visit : Visit) (to : List ℕ) (given : Given) → IsPlace on visit
     → Holds on (state.Area visit (stage.Subject to)) given (subject_row visit to given)
+unfolding IsFor awaited_in
 holds_subject on visit to (Line typed) place = record { board = place; awaits = λ _. refl }
 holds_subject on visit to _ place = record { board = place; awaits = λ _. refl }
 
 holds_private : (on : Board) (visit : Visit) (to subject : List ℕ) (given : Given) → IsPlace on visit
     → Holds on (state.Area visit (stage.Private to subject)) given (private_row visit to subject given)
+unfolding IsFor awaited_in
 holds_private on visit to subject (Line typed) place = record { board = place; awaits = λ _. refl }
 holds_private on visit to subject _ place = record { board = place; awaits = λ _. refl }
 
 fits_text : (on : Board) (visit : Visit) (draft : Draft) (text typed : List ℕ) → IsPlace on visit
     → Fits on (text_row on visit draft text (Line typed))
+unfolding IsFor awaited_in
 fits_text on visit draft text typed place =
     either on (bytes_eq typed (codes ".")) _ _ (place, refl)
     (either on (bytes_eq typed (codes "!")) _ _ (place, refl)
@@ -222,6 +244,7 @@ fits_text on visit draft text typed place =
 
 holds_text : (on : Board) (visit : Visit) (draft : Draft) (text : List ℕ) (given : Given) → IsPlace on visit
     → Holds on (state.Area visit (stage.Text draft text)) given (text_row on visit draft text given)
+unfolding IsFor awaited_in
 holds_text on visit draft text (Line typed) place =
     fitting on (state.Area visit (stage.Text draft text)) (Line typed) (text_row on visit draft text (Line typed))
     (fits_text on visit draft text typed place)
@@ -229,6 +252,7 @@ holds_text on visit draft text _ place = record { board = place; awaits = λ _. 
 
 holds_stage : (on : Board) (visit : Visit) (at : Stage) (given : Given) → IsPlace on visit
     → Holds on (state.Area visit at) given (stage_turn on visit at given)
+unfolding IsFor awaited_in stage_turn
 holds_stage on visit stage.Prompt given place = holds_area on visit given place
 holds_stage on visit stage.Listing given place = holds_listing on visit given place
 holds_stage on visit stage.Seeking given place = holds_seeking on visit given place
@@ -242,6 +266,7 @@ holds_stage on visit (stage.Text draft text) given place = holds_text on visit d
 
 -- everywhere
 pub holds_everywhere : (on : Board) (before : State) (given : Given) → IsFor on before → Holds on before given (menu_turn on before given)
+unfolding IsFor awaited_in menu_turn
 holds_everywhere on (state.Name refused) given of = holds_name on refused given
 holds_everywhere on (state.Password refused name) given of = holds_password on refused name given
 holds_everywhere on (state.Top user) given of = holds_top on user given of

@@ -49,7 +49,7 @@ awaited_at (Private to subject) = a_line
 awaited_at (Text draft text) = a_line
 
 -- what a menu waits for
-abbrev pub awaited_in : State → Wanted
+unfoldable pub awaited_in : State → Wanted
 awaited_in (Name refused) = a_line
 awaited_in (Password refused name) = a_line
 awaited_in (Top user) = a_line
@@ -76,7 +76,7 @@ abbrev pub Awaits : State → Given → Type 0
 Awaits state given = IsTrue (is_wanted (awaited_in state) given)
 
 -- the board has the user and the area of the state
-abbrev pub IsFor : Board → State → Type 0
+unfoldable pub IsFor : Board → State → Type 0
 IsFor board (Name refused) = Unit
 IsFor board (Password refused name) = Unit
 IsFor board (Top user) = user < length board.users

@@ -17,7 +17,7 @@ use Rattle.jb_menu.specs.declared.state.State.TheVariants.{Area, Counting, Ended
 use Rattle.jb_menu.specs.declared.state.Visit.{Visit}
 
 -- in an area
-abbrev pub stage_turn : Board → Visit → Stage → Given → Moved
+unfoldable pub stage_turn : Board → Visit → Stage → Given → Moved
 stage_turn board visit Prompt given = area_row board visit given
 stage_turn board visit Listing given = listing_row board visit given
 stage_turn board visit Seeking given = seeking_row board visit given
@@ -30,7 +30,7 @@ stage_turn board visit (Private to subject) given = private_row visit to subject
 stage_turn board visit (Text draft text) given = text_row board visit draft text given
 
 -- everywhere
-abbrev pub menu_turn : Board → State → Given → Moved
+unfoldable pub menu_turn : Board → State → Given → Moved
 menu_turn board (Name refused) given = name_row refused given
 menu_turn board (Password refused name) given = password_row board refused name given
 menu_turn board (Top user) given = top_row board user given

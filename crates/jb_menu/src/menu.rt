@@ -37,6 +37,7 @@ impl Model for Menu {
 
 impl Menu {
     /// Before the log-in, and what is said first.
+    #[tactic(auto, unfolding(crate::specs::Awaits::IsFor, crate::specs::Awaits::awaited_in))]
     pub fn start(alloc: Global, board: &Board) -> Result<(Menu, Bytes), OutOfMemory>
         ensures state { IfOk result (λ begun. begun.0 ≡ State.Name 0) }
         ensures text { IfOk result (λ begun. begun.1 ≡ start_text board.now.name) }
@@ -64,6 +65,7 @@ impl Menu {
 
     /// Takes what the last move asked for, and gives the next one. Something else is passed over: nothing is said, and the
     /// state stays. For want of memory the menu is at its end, where it passes over everything.
+    #[tactic(auto, unfolding(crate::specs::Awaits::IsFor))]
     pub fn step(&mut self, alloc: Global, board: &Board, given: &Given) -> Result<Move, OutOfMemory>
         requires board { IsInRange board.now }
         requires of { IsFor board.now self.old }
@@ -82,6 +84,7 @@ impl Menu {
 }
 
 /// What is done in a state, and the state after it.
+#[tactic(auto, unfolding(crate::specs::Menu::menu_turn, crate::specs::Awaits::IsFor))]
 fn turn(alloc: Global, board: &Board, state: State, given: &Given) -> Result<Moved, OutOfMemory>
     requires board { IsInRange board.now }
     requires of { IsFor board.now state }
@@ -104,6 +107,7 @@ fn turn(alloc: Global, board: &Board, state: State, given: &Given) -> Result<Mov
 }
 
 /// What is done in an area, and the state after it.
+#[tactic(auto, unfolding(crate::specs::Menu::stage_turn))]
 fn stage_turn(
     alloc: Global,
     board: &Board,
