@@ -17,7 +17,7 @@ use Rattle.jb_link.specs.Plan.{links_of}
 use Rattle.jb_link.specs.Slots.{linkables_from, loaded_linkable}
 use Rattle.jb_model.specs.Links.{Linkable}
 use Rattle.jb_model.specs.Loaded.{header_size}
-use Rattle.jb_model.specs.Sound.{AreApart, Covers, IsSlotWithin}
+use Rattle.jb_model.specs.Sound.{AreApart, Covers, IsSlotWithin, IsSound}
 use Rattle.jb_model.specs.State.{slot_state, state_of}
 use Rattle.jb_model.specs.declared.loaded.Loaded.{Loaded}
 use Rattle.jb_model.specs.declared.loaded.LoadedMessage.{LoadedMessage}
@@ -32,8 +32,8 @@ use Rattle.jb_record.specs.Fields.{signature}
 use Rattle.jb_record.specs.declared.fixed.FixedHeader.{FixedHeader}
 use Rattle.jb_record.specs.declared.index.IndexRecord.{IndexRecord}
 use Rattle.jb_record.specs.declared.message.MessageHeader.{MessageHeader}
-use Rattle.jb_pack.specs.Bytes.{AreEntriesReadAgain, AreHeadersReadAgain, entry_for, headers_bytes, index_bytes, message_bytes, numbered_header}
-use Rattle.jb_pack.specs.Laws.{HoldsPacked}
+use Rattle.jb_pack.specs.Bytes.{AreEntriesReadAgain, AreHeadersReadAgain, IsReadAgain, entry_for, headers_bytes, index_bytes, message_bytes, numbered_header}
+use Rattle.jb_pack.specs.Laws.{ArePacked, HoldsPacked}
 use Rattle.jb_pack.proofs.FitLemmas.{headers_fit_kept}
 use Rattle.jb_pack.specs.Packed.{headers_size, kept_slots, moved, new_base, packed, packed_from, slot_header_size, slot_text_size, texts_size}
 
@@ -194,7 +194,7 @@ module _ (after : Files) where
       pub entries_back : AreEntriesReadAgain (packed_from live number header_at text_at slots)
 
     -- behind an empty slot
-    next_empty : (number header_at text_at place : ℕ) (front index : List ℕ) (slot : LoadedSlot) (slots : List LoadedSlot)
+    pub next_empty : (number header_at text_at place : ℕ) (front index : List ℕ) (slot : LoadedSlot) (slots : List LoadedSlot)
         → slot_header_size slot ≡ 0 → slot_text_size slot ≡ 0
         → packed_from live number header_at text_at (slot ∷ slots) ≡ Empty ∷ packed_from live (number + 1) header_at text_at slots
         → IsLaid number header_at text_at place front index (slot ∷ slots)
@@ -220,11 +220,11 @@ module _ (after : Files) where
         }
 
     -- the message that is laid out here
-    abbrev laid_message : ℕ → ℕ → ℕ → LoadedMessage → LoadedMessage
+    abbrev pub laid_message : ℕ → ℕ → ℕ → LoadedMessage → LoadedMessage
     laid_message number header_at text_at message = moved (links_of live (loaded_linkable number message)) header_at text_at message
 
     -- behind a live one
-    next_live : (number header_at text_at place : ℕ) (front index : List ℕ) (message : LoadedMessage) (slots : List LoadedSlot)
+    pub next_live : (number header_at text_at place : ℕ) (front index : List ℕ) (message : LoadedMessage) (slots : List LoadedSlot)
         → IsLaid number header_at text_at place front index (Live message ∷ slots)
         → IsLaid (number + 1) (header_at + header_size message) (text_at + message.text_len) (place + 1)
         (front ++ message_bytes number (laid_message number header_at text_at message))
@@ -338,15 +338,39 @@ reserved_held files loaded loads =
     let same : loaded.reserved ≡ drop 24 (bytes_at 0 1024 (files Jhr)) = ap (λ (h : FixedHeader). h.reserved) loads.fixed in
     omega (arith, ap length same, length-drop 24 (bytes_at 0 1024 (files Jhr)))
 
+-- the fixed header after a pack has its 1,024 bytes
+fixed_size_is : (loaded : Loaded) (before : Files) → Loads before loaded → length (fixed_header_bytes (fixed_of (packed loaded))) ≡ 1024
+fixed_size_is loaded before loads = omega (arith, length-fixed (packed loaded), reserved_held before loaded loads)
+
+-- all kept slots are laid out from the fixed header on
+pub laid_packed : (limit : ℕ) (loaded : Loaded) (before after : Files) → IsSound limit loaded → (packed loaded).texts_len ≤ TEXTS_CEILING
+    → IsReadAgain (packed loaded) → Loads before loaded → ArePacked loaded before after
+    → IsLaid after (linkables_from loaded.base loaded.slots) loaded.headers_len loaded.texts_len (new_base loaded) 1024 0 0 (fixed_header_bytes (fixed_of (packed loaded))) []
+    (kept_slots loaded)
+laid_packed limit loaded before after sound fits back loads are =
+    let texts_size_is = are.texts in
+    record {
+      jhr = are.headers;
+      jdx = are.index;
+      header_at_is = sym (fixed_size_is loaded before loads);
+      behind = omega arith;
+      place_is = refl;
+      headers = headers_fit_kept limit loaded sound;
+      texts = omega arith;
+      few_texts = omega (arith, fits);
+      within = All-drop (IsSlotWithin loaded.headers_len loaded.texts_len) (new_base loaded - loaded.base) loaded.slots sound.within;
+      fields = All-drop HasFields (new_base loaded - loaded.base) loaded.slots (fields_held before loaded loads);
+      headers_back = back.headers;
+      entries_back = back.entries;
+    }
+
 -- files with the bytes of the area after a pack hold it
 pub loads_packed : HoldsPacked
 loads_packed limit loaded before after sound fits back loads are =
     let live : List Linkable = linkables_from loaded.base loaded.slots in
     let slots : List LoadedSlot = kept_slots loaded in
     let fixed : List ℕ = fixed_header_bytes (fixed_of (packed loaded)) in
-    let fixed_size : length fixed ≡ 1024 = omega (arith, length-fixed (packed loaded), reserved_held before loaded loads) in
-    let headers_fit : 1024 + headers_size slots ≤ HEADERS_CEILING = headers_fit_kept limit loaded sound in
-    let texts_size_is = are.texts in
+    let fixed_size : length fixed ≡ 1024 = fixed_size_is loaded before loads in
     let fixed_there : bytes_at 0 1024 (after Jhr) ≡ fixed =
     first_behind [] fixed (headers_bytes (packed loaded).base (packed loaded).slots) (after Jhr) 0 1024 are.headers refl (sym fixed_size) in
     let within = packed_base-within (state_of [] loaded) in
@@ -354,20 +378,7 @@ loads_packed limit loaded before after sound fits back loads are =
     let below = within.1 in
     let kept_len : length (packed loaded).slots ≡ length loaded.slots - (new_base loaded - loaded.base) =
     length-packed live (new_base loaded) 1024 0 slots ∙ length-drop (new_base loaded - loaded.base) loaded.slots in
-    let laid : IsLaid after live loaded.headers_len loaded.texts_len (new_base loaded) 1024 0 0 fixed [] slots = record {
-      jhr = are.headers;
-      jdx = are.index;
-      header_at_is = sym fixed_size;
-      behind = omega arith;
-      place_is = refl;
-      headers = headers_fit;
-      texts = omega arith;
-      few_texts = omega (arith, fits);
-      within = All-drop (IsSlotWithin loaded.headers_len loaded.texts_len) (new_base loaded - loaded.base) loaded.slots sound.within;
-      fields = All-drop HasFields (new_base loaded - loaded.base) loaded.slots (fields_held before loaded loads);
-      headers_back = back.headers;
-      entries_back = back.entries;
-    } in
+    let laid = laid_packed limit loaded before after sound fits back loads are in
     record {
       header = subst IsFixedHeader (sym fixed_there) (record { size = fixed_size; signed = signed_fixed (packed loaded) });
       fixed = sym (ap fixed_header_of fixed_there ∙ back.fixed);

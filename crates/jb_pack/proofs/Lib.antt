@@ -1,9 +1,11 @@
 mod CopyLemmas
 mod FieldLemmas
 mod FitLemmas
-mod HeldLemmas
+pub mod HeldLemmas
 mod LaidLemmas
-mod PlanLemmas
+mod MoveLemmas
+pub mod PlanLemmas
 mod SlotLemmas
-mod SoundLemmas
-mod StateLemmas
+pub mod SoundLemmas
+mod StandLemmas
+pub mod StateLemmas

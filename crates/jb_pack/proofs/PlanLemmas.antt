@@ -38,10 +38,13 @@ use Rattle.jb_redo.specs.Rules.{AreLegalLengths, IsBefore, IsLegal, IsLegalLengt
 use Rattle.jb_pack.specs.Bytes.{IsReadAgain, headers_bytes, headers_file, index_file}
 use Rattle.jb_pack.specs.Copying.{PutsTexts}
 use Rattle.jb_pack.specs.Laid.{IsLaidOut, IsLegalIn, Lays, laid}
+use Rattle.jb_pack.specs.Laws.{ArePacked}
 use Rattle.jb_pack.specs.Packed.{headers_size, is_live_slot, kept_slots, killed_slots, live_slots, new_base, packed, slot_text_size, texts_size}
 use Rattle.jb_pack.specs.Plan.{IsPackOf, MakesPacked, PutsArea, lengths_with}
+use Rattle.jb_pack.specs.Standing.{StandTogether}
 use Rattle.jb_pack.proofs.FitLemmas.{headers_fit_kept}
 use Rattle.jb_pack.proofs.HeldLemmas.{length-headers, length-index, length-packed, loads_packed}
+use Rattle.jb_pack.proofs.StandLemmas.{packed_together}
 
 -- nothing is laid out
 pub laid_out_none : IsLaidOut []
@@ -217,15 +220,22 @@ module _ (limit : ℕ) (loaded : Loaded) (change : Change) (texts : List ℕ) (s
     index_there : done change files Jdx ≡ index_file (packed loaded)
     index_there = whole_file change files Jdx laid_out (omega (arith, size_of files Jdx, index_size)) ∙ index
 
+    -- the files of the area
+    packed_there : ArePacked loaded files (done change files)
+    packed_there = record {
+      headers = headers_there;
+      texts = ap length texts_there ∙ size;
+      index = index_there;
+      lastread = kept_file change files Jlr laid_out (size_of files Jlr) marks;
+    }
+
     -- the area
     loads_there : Loads (done change files) (packed loaded)
-    loads_there =
-        loads_packed limit loaded files (done change files) sound fits back loads (record {
-          headers = headers_there;
-          texts = ap length texts_there ∙ size;
-          index = index_there;
-          lastread = kept_file change files Jlr laid_out (size_of files Jlr) marks;
-        })
+    loads_there = loads_packed limit loaded files (done change files) sound fits back loads packed_there
+
+    -- its messages stand one behind another
+    together_there : StandTogether (done change files) (packed loaded).base 1024 0 (packed loaded).slots
+    together_there = packed_together limit loaded files (done change files) sound fits back loads packed_there
 
   -- the change packs the area
   pub makes_packed : length (laid change.pieces Jhr) ≡ 1024 + headers_size (kept_slots loaded) → MakesPacked change loaded texts
@@ -236,6 +246,7 @@ module _ (limit : ℕ) (loaded : Loaded) (change : Change) (texts : List ℕ) (s
     headers = λ files loads. headers_there files loads headers_size_is;
     index = λ files loads. index_there files loads headers_size_is;
     texts_are = λ files loads. texts_there files loads headers_size_is;
+    together = λ files loads. together_there files loads headers_size_is;
   }
 
 -- the new base is the number of the first live slot

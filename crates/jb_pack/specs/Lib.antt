@@ -2,6 +2,8 @@ pub mod Bytes
 pub mod Copying
 pub mod Laid
 pub mod Laws
+pub mod Moving
 pub mod Packed
 pub mod Places
 pub mod Plan
+pub mod Standing

@@ -18,6 +18,7 @@ use Rattle.jb_redo.specs.Rules.{IsLegal, sizes_of}
 use Rattle.jb_pack.specs.Bytes.{IsReadAgain, headers_file, index_file}
 use Rattle.jb_pack.specs.Laid.{IsLaidOut, laid}
 use Rattle.jb_pack.specs.Packed.{kept_slots, packed, packed_texts}
+use Rattle.jb_pack.specs.Standing.{StandTogether}
 use Rattle.jb_pack.specs.declared.packing.Packing.{Packing}
 use Rattle.jb_pack.specs.declared.packing.Packing.TheVariants.{Fits, TextFull}
 
@@ -38,7 +39,8 @@ pub record PutsArea (loaded : Loaded) (old new : Change) : Type 0 where
   pub back : IsReadAgain (packed loaded)
 
 -- over any files that hold the area, the change makes a record that writes each byte past an old end, and makes files that
--- hold the area after a pack, with these texts, headers and index records in the order of the numbers without a gap
+-- hold the area after a pack, with these texts, headers and index records in the order of the numbers without a gap, and in
+-- each live message's header its number
 pub record MakesPacked (change : Change) (loaded : Loaded) (texts : List ℕ) : Type 0 where
   pub legal : (files : Files) → Loads files loaded → IsLegal (sizes_of files) change.lengths change.pieces
   pub grown : (files : Files) → Loads files loaded → IsGrowthCovered change.lengths change.pieces files
@@ -46,6 +48,7 @@ pub record MakesPacked (change : Change) (loaded : Loaded) (texts : List ℕ) : 
   pub headers : (files : Files) → Loads files loaded → done change files Jhr ≡ headers_file (packed loaded)
   pub index : (files : Files) → Loads files loaded → done change files Jdx ≡ index_file (packed loaded)
   pub texts_are : (files : Files) → Loads files loaded → done change files Jdt ≡ texts
+  pub together : (files : Files) → Loads files loaded → StandTogether (done change files) (packed loaded).base 1024 0 (packed loaded).slots
 
 -- the change packs the area, and may be committed; its texts are the packed ones, where the disk tells which there were
 pub record IsPackOf (contents : Option Files) (loaded : Loaded) (change : Change) : Type 0 where

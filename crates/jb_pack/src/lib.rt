@@ -4,7 +4,7 @@
 //! The layer above may rely on this: [`plan`] puts into an empty `Redo` a change that makes of any files that hold the area
 //! files that hold the packed one (`MakesPacked`), with the texts of the live messages in the order of their numbers; the
 //! packed area, as it is loaded, is `packed`, and it stands for the state that the definition of a pack gives
-//! ([`packs_as_defined`]). The change may be committed as it is. The records are those of the JAM message base proposal
+//! ([`packs_as_defined`]). The change may be committed as it is; [`pack_loaded`] then packs the area in memory, and takes none. The records are those of the JAM message base proposal
 //! (revision 1, "Header file", "Message header", "SubFields", "Index file").
 #![tactic(auto)]
 
@@ -13,6 +13,7 @@ mod files;
 mod headers;
 mod laws;
 mod laying;
+mod moving;
 mod packing;
 mod place;
 mod planning;
@@ -24,5 +25,6 @@ mod texts;
 
 pub use error::PackError;
 pub use laws::{pack_keeps_sound, packed_is_held, packs_as_defined};
+pub use moving::pack_loaded;
 pub use packing::Packing;
 pub use planning::plan;
