@@ -1,7 +1,6 @@
 //! The commands that are measured.
 ghost use Rattle.std.specs.Prelude.{◌≡◌, ◌≤◌, length, IfOk, OnOk};
 ghost use Rattle.jb_area.specs.Calls.{HasRest};
-ghost use Rattle.jb_decide.specs.Decided.{IsNoPack};
 ghost use Rattle.jb_disk.specs.Silent.{silent_device};
 
 use crate::base::files;
@@ -42,7 +41,6 @@ impl From<OutOfMemory> for Unmeasured {
 
 // A post of 500 bytes in reply to this number or to 0.
 fn post(alloc: Global, reply_to: u32) -> Result<Command, OutOfMemory>
-    ensures { IfOk result IsNoPack }
 {
     Ok(Command::Post {
         to: Name::copy(alloc, b"Hello")?,
@@ -55,7 +53,6 @@ fn post(alloc: Global, reply_to: u32) -> Result<Command, OutOfMemory>
 
 // The command about this number.
 fn command(alloc: Global, act: Act, number: u32) -> Result<Command, OutOfMemory>
-    ensures { IfOk result IsNoPack }
 {
     match act {
         Act::Post => post(alloc, 0),

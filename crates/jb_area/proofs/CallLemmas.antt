@@ -1,27 +1,32 @@
 -- A call that was decided is begun, and then it ends.
-use Rattle.std.proofs.Common.{◌≡◌, ℕ, ◌≤◌, Bool, List, Result, Ok, Err, IfErr, OnErr, OnOk, Some, ap, sym, ◌∙◌, subst, arith}
+use Rattle.std.proofs.Common.{◌≡◌, ℕ, ◌+◌, ◌≤◌, Bool, List, [], ◌∷◌, length, Result, Ok, Err, IfErr, OnErr, OnOk, Some, ap, sym, ◌∙◌, subst, arith}
 use Rattle.std.specs.Option.{ForSome}
 use Rattle.jb_base.specs.Fault.{Rose}
 use Rattle.jb_base.specs.declared.area.AreaRules.{AreaRules}
 use Rattle.jb_base.specs.declared.user.User.{User}
 use Rattle.jb_decide.specs.Decided.{IsNoPack, IsTold}
-use Rattle.jb_decide.specs.Headers.{KeepsHeaders}
+use Rattle.jb_decide.specs.Headers.{KeepsHeaders, PacksHeaders}
 use Rattle.jb_decide.specs.Errors.{FaultRose}
 use Rattle.jb_decide.specs.declared.error.AreaError.{AreaError}
 use Rattle.jb_decide.specs.declared.error.AreaError.TheVariants.{StoreFault}
 use Rattle.jb_disk.specs.Device.{Device, OnlyReads}
 use Rattle.jb_disk.specs.Files.{Files, number_of}
-use Rattle.jb_disk.specs.declared.file.FileId.TheVariants.{Jhr}
+use Rattle.jb_disk.specs.declared.file.FileId.TheVariants.{Jdt, Jhr}
 use Rattle.jb_image.specs.Places.{bytes_at}
 use Rattle.jb_disk.specs.Images.{Images}
 use Rattle.jb_disk.specs.Runs.{LeavesNow, LeavesOnly, Runs}
+use Rattle.jb_model.specs.Loaded.{header_size}
 use Rattle.jb_model.specs.State.{state_of}
 use Rattle.jb_model.specs.Step.{Step}
 use Rattle.jb_model.specs.declared.command.Command.{Command}
 use Rattle.jb_model.specs.declared.command.Command.TheVariants.{Post}
 use Rattle.jb_model.specs.declared.loaded.Loaded.{Loaded}
+use Rattle.jb_model.specs.declared.loaded.LoadedSlot.{LoadedSlot}
+use Rattle.jb_model.specs.declared.loaded.LoadedSlot.TheVariants.{Empty, Killed, Live}
 use Rattle.jb_model.specs.declared.reply.Reply.{Reply}
 use Rattle.jb_model.specs.declared.reply.Reply.TheVariants.{Posted}
+use Rattle.jb_model.specs.declared.reply.Reply.TheVariants as replies
+use Rattle.jb_pack.specs.Standing.{StandTogether}
 use Rattle.jb_record.specs.Message.{message_header_of}
 use Rattle.jb_area.specs.Area.{files_after, HasBegun, HasMade, IsDoubtful, IsResting, RestsAt}
 use Rattle.jb_area.specs.Calls.{BeginsCall, EndsCall, FailsWith, HasAnswered, HasStoppedIn, IsBegunFor, MeetsCall}
@@ -76,6 +81,39 @@ headers_agree reply from to was now other jhr keeps = record {
       };
 }
 
+-- messages that stand together do so in files with the same .JHR and .JDT
+stand_agree : (now other : Files) (number header_at text_at : ℕ) (slots : List LoadedSlot) → now Jhr ≡ other Jhr → now Jdt ≡ other Jdt
+    → StandTogether other number header_at text_at slots → StandTogether now number header_at text_at slots
+stand_agree now other number header_at text_at [] jhr jdt stands = (ap length jhr ∙ stands.0, ap length jdt ∙ stands.1)
+stand_agree now other number header_at text_at (Empty ∷ slots) jhr jdt stands = stand_agree now other (number + 1) header_at text_at slots jhr jdt stands
+stand_agree now other number header_at text_at (Killed killed_at ∷ slots) jhr jdt stands = absurd stands
+stand_agree now other number header_at text_at (Live message ∷ slots) jhr jdt stands = (
+  record {
+    header = stands.0.header;
+    text = stands.0.text;
+    numbered = ap (λ (b : List ℕ). (message_header_of (bytes_at header_at 76 b)).number) jhr ∙ stands.0.numbered;
+  },
+  stand_agree now other (number + 1) (header_at + header_size message) (text_at + message.text_len) slots jhr jdt stands.1,
+)
+
+-- and so do those of a pack
+packs_agree : (reply : Reply) (to : Loaded) (now other : Files) → now Jhr ≡ other Jhr → now Jdt ≡ other Jdt → PacksHeaders reply to other → PacksHeaders reply to now
+packs_agree (replies.Packed base live dropped) to now other jhr jdt packs = stand_agree now other to.base 1024 0 to.slots jhr jdt packs
+packs_agree (replies.Posted number) to now other jhr jdt packs = tt
+packs_agree (replies.Text letter) to now other jhr jdt packs = tt
+packs_agree (replies.Killed number) to now other jhr jdt packs = tt
+packs_agree (replies.Marked last high) to now other jhr jdt packs = tt
+packs_agree (replies.Relinked changed) to now other jhr jdt packs = tt
+packs_agree (replies.Denied rule) to now other jhr jdt packs = tt
+packs_agree (replies.NoMessage number) to now other jhr jdt packs = tt
+packs_agree (replies.TooLong field len) to now other jhr jdt packs = tt
+packs_agree (replies.EmptyName field) to now other jhr jdt packs = tt
+packs_agree (replies.SlotsFull slots) to now other jhr jdt packs = tt
+packs_agree (replies.HeadersFull len) to now other jhr jdt packs = tt
+packs_agree (replies.TextFull len) to now other jhr jdt packs = tt
+packs_agree (replies.NumbersSpent next) to now other jhr jdt packs = tt
+packs_agree (replies.MarksFull marks) to now other jhr jdt packs = tt
+
 module _ {D : Type 0} (shown : D → Device) (old mid new : OpenArea D) (texts : List ℕ) (user : User) (moment : ℕ) (command : Command)
     (same : OnlyReads (shown old.disk) (shown mid.disk)) (loaded : mid.held.loaded ≡ old.held.loaded) (rules : mid.rules ≡ old.rules) (begun : IsBegunFor shown mid texts user moment command) where
   -- the step, as it was before the call
@@ -101,6 +139,15 @@ module _ {D : Type 0} (shown : D → Device) (old mid new : OpenArea D) (texts :
       headers_agree begun.reply old.held.loaded begun.coming.to was now (files_after mid was) (made was there_too now here Jhr (λ is. let number = ap number_of is in omega (arith, number)))
       (subst (λ (l : Loaded). KeepsHeaders begun.reply l begun.coming.to was (files_after mid was)) loaded (begun.headers in_place was (begun.begun.kept.settled.rests was there_too).holds))
 
+  -- and of those of a pack
+  packs_then : HasMade shown mid new → ForSome (shown old.disk).contents (λ was. ForSome (shown new.disk).contents (λ now. PacksHeaders begun.reply begun.coming.to now))
+  packs_then made was there now here =
+      let there_too = same.contents ∙ there in
+      let agrees = made was there_too now here in
+      packs_agree begun.reply begun.coming.to now (files_after mid was)
+      (agrees Jhr (λ is. let number = ap number_of is in omega (arith, number))) (agrees Jdt (λ is. let number = ap number_of is in omega (arith, number)))
+      (begun.packs was (begun.begun.kept.settled.rests was there_too).holds)
+
   -- finished
   answered_by : (reply : Reply) → (reply ≡ begun.reply) × RestsAt shown new begun.coming.texts begun.coming.to → HasMade shown mid new
       → ForSome (shown mid.disk).contents (λ files. LeavesOnly (shown mid.disk) (shown new.disk) (OpensToEither mid.held.loaded texts begun.coming))
@@ -111,6 +158,7 @@ module _ {D : Type 0} (shown : D → Device) (old mid new : OpenArea D) (texts :
     rests = done.1;
     headers = λ in_place was there now here.
         subst (λ (r : Reply). KeepsHeaders r old.held.loaded begun.coming.to was now) (sym done.0) (headers_then made in_place was there now here);
+    packs = λ was there now here. subst (λ (r : Reply). PacksHeaders r begun.coming.to now) (sym done.0) (packs_then made was there now here);
     crash = crash_before crash;
   }
 

@@ -12,7 +12,7 @@ use Rattle.jb_journal.specs.Doubt.{DoubtReplays, HasStopped, IsInDoubt, IsSettle
 use Rattle.jb_journal.specs.declared.stopped.Stopped.{Stopped}
 use Rattle.jb_journal.specs.declared.stopped.Stopped.TheVariants.{Early, Late}
 use Rattle.jb_model.specs.declared.loaded.Loaded.{Loaded}
-use Rattle.jb_decide.specs.Coming.{Coming, IsChange}
+use Rattle.jb_decide.specs.Coming.{Brings, Coming, IsChange}
 use Rattle.jb_area.specs.Commits.{IsAnsweredAs, IsSettledAs, IsStopped, IsStoppedAs}
 use Rattle.jb_area.specs.Holds.{IsAtRest, Opens, OpensToEither}
 use Rattle.jb_area.proofs.HoldLemmas.{committed-agrees, opens_either, opens_to, ready, rest_opens, rests_committed, rests_settled}
@@ -26,7 +26,7 @@ pub some-same : {A : Type 0} (a b : A) → Some a ≡ Some b → a ≡ b
 some-same a b is = cc
 
 -- where a disk that tells nothing goes on so, one that tells has told
-told_before : (old new : Device) → (old.contents ≡ None → new.contents ≡ None) → (P : Type 0) → ForSome old.contents (λ was. P) → (files : Files) → new.contents ≡ Some files → P
+pub told_before : (old new : Device) → (old.contents ≡ None → new.contents ≡ None) → (P : Type 0) → ForSome old.contents (λ was. P) → (files : Files) → new.contents ≡ Some files → P
 told_before old new silent P here files there = by_contents old.contents refl
   where
     by_contents : (o : Option Files) → old.contents ≡ o → P
@@ -47,13 +47,13 @@ only_weaken P Q old new then only = record {
 
 module _ (change : Change) where
   -- over files at rest the change may be committed
-  pub ready_as : (from : Loaded) (texts : List ℕ) (coming : Coming) (device : Device) → IsSettledAs from texts device → IsChange change from texts coming
+  pub ready_as : (from : Loaded) (texts : List ℕ) (coming : Coming) (device : Device) → IsSettledAs from texts device → IsChange device.contents change from texts coming
       → ForSome device.contents (IsReady change)
-  ready_as from texts coming device settled is files there = ready change from texts coming files is.brings (settled.rests files there)
+  ready_as from texts coming device settled is files there = ready change from texts coming files (is.brings files there) (settled.rests files there)
 
   -- a commit that is done leaves the area that was to come
   pub done_as : (old new : Device) (from : Loaded) (texts : List ℕ) (coming : Coming) → new.contents ≡ option_map (committed change) old.contents → IsAllSynced new
-      → IsSettledAs from texts old → IsChange change from texts coming → IsSettledAs coming.to coming.texts new
+      → IsSettledAs from texts old → IsChange old.contents change from texts coming → IsSettledAs coming.to coming.texts new
   done_as old new from texts coming done synced settled is = record { rests = rests; synced = synced }
     where
       rests : ForSome new.contents (IsAtRest coming.to coming.texts)
@@ -63,7 +63,7 @@ module _ (change : Change) where
           by_contents None none = absurd (some-none files (sym there ∙ done ∙ ap (option_map (committed change)) none))
           by_contents (Some was) some =
               subst (IsAtRest coming.to coming.texts) (some-same _ _ (sym (done ∙ ap (option_map (committed change)) some) ∙ there))
-              (rests_committed change from texts coming was is.brings (settled.rests was some))
+              (rests_committed change from texts coming was (is.brings was some) (settled.rests was some))
 
   -- and the files with the change done, but for the journal
   pub made_as : (old new : Device) → new.contents ≡ option_map (committed change) old.contents
@@ -78,34 +78,34 @@ module _ (change : Change) where
       told_before old new silent (IsStopped stopped change from texts new) (λ was some. record { start = was; rests = settled.rests was some; shows = doubt was some })
 
   -- what a crash meanwhile leaves opens to one of the two
-  pub crash_as : (old new : Device) (from : Loaded) (texts : List ℕ) (coming : Coming) (start : Files) → IsAtRest from texts start → IsChange change from texts coming
+  pub crash_as : (old new : Device) (from : Loaded) (texts : List ℕ) (coming : Coming) (start : Files) → IsAtRest from texts start → Brings change from texts coming.to coming.texts
       → LeavesOnly old new (IsBeforeOrAfter change start) → LeavesOnly old new (OpensToEither from texts coming)
   crash_as old new from texts coming start rests is =
       only_weaken (IsBeforeOrAfter change start) (OpensToEither from texts coming) old new
-      (λ files either. opens_either change from texts coming start files is.brings rests.holds either)
+      (λ files either. opens_either change from texts coming start files is rests.holds either)
 
   -- what is in doubt may be settled
-  pub has_stopped : (stopped : Stopped) (device : Device) (from : Loaded) (texts : List ℕ) (coming : Coming) → IsStopped stopped change from texts device → IsChange change from texts coming
+  pub has_stopped : (stopped : Stopped) (device : Device) (from : Loaded) (texts : List ℕ) (coming : Coming) → IsStopped stopped change from texts device → Brings change from texts coming.to coming.texts
       → HasStopped stopped change device
   has_stopped stopped device from texts coming doubt is = record {
     start = doubt.start;
-    ready = ready change from texts coming doubt.start is.brings doubt.rests;
+    ready = ready change from texts coming doubt.start is doubt.rests;
     shows = doubt.shows;
   }
 
   -- each file that the doubt may leave opens to one of the two
-  pub doubt_opens : (stopped : Stopped) (from : Loaded) (texts : List ℕ) (coming : Coming) (start files : Files) → IsAtRest from texts start → IsChange change from texts coming
+  pub doubt_opens : (stopped : Stopped) (from : Loaded) (texts : List ℕ) (coming : Coming) (start files : Files) → IsAtRest from texts start → Brings change from texts coming.to coming.texts
       → DoubtReplays stopped change start files → OpensToEither from texts coming files
-  doubt_opens Early from texts coming start files rests is replays = opens_either change from texts coming start files is.brings rests.holds replays
+  doubt_opens Early from texts coming start files rests is replays = opens_either change from texts coming start files is rests.holds replays
   doubt_opens Late from texts coming start files rests is replays =
-      inr (opens_to (changed change start) files coming.to coming.texts (is.brings.holds start rests.holds) replays)
+      inr (opens_to (changed change start) files coming.to coming.texts (is.holds start rests.holds) replays)
 
   -- settled as it is answered
-  answered_rests : (stands : Bool) (from : Loaded) (texts : List ℕ) (coming : Coming) (start : Files) (device : Device) → IsAtRest from texts start → IsChange change from texts coming
+  answered_rests : (stands : Bool) (from : Loaded) (texts : List ℕ) (coming : Coming) (start : Files) (device : Device) → IsAtRest from texts start → Brings change from texts coming.to coming.texts
       → ForSome device.contents (IsSettledAt (answered stands change start)) → IsAllSynced device → IsAnsweredAs stands from texts coming device
   answered_rests true from texts coming start device rests is settled synced = record {
     rests = λ files there. rests_settled (changed change start) files coming.to coming.texts
-        (is.brings.holds start rests.holds) (settled files there);
+        (is.holds start rests.holds) (settled files there);
     synced = synced;
   }
   answered_rests false from texts coming start device rests is settled synced = record {
@@ -122,34 +122,34 @@ module _ (change : Change) where
   pub answer_as : (stands : Bool) (stopped : Stopped) (old new : Device) (from : Loaded) (texts : List ℕ) (coming : Coming) → (old.contents ≡ None → new.contents ≡ None)
       → ((start : Files) → IsReady change start → Shows (IsInDoubt stopped change start) old → Shows (IsSettledAt (answered stands change start)) new)
       → ((start : Files) → IsReady change start → Shows (IsInDoubt stopped change start) old → IsAllSynced new)
-      → IsStoppedAs stopped change from texts old → IsChange change from texts coming → IsAnsweredAs stands from texts coming new
+      → IsStoppedAs stopped change from texts old → IsChange old.contents change from texts coming → IsAnsweredAs stands from texts coming new
   answer_as stands stopped old new from texts coming silent answer durable doubt is = by_contents old.contents refl
     where
       by_contents : (o : Option Files) → old.contents ≡ o → IsAnsweredAs stands from texts coming new
       by_contents None none = silent_answer stands from texts coming new (silent none)
       by_contents (Some was) some =
           let in_doubt = doubt was some in
-          let may = ready change from texts coming in_doubt.start is.brings in_doubt.rests in
-          answered_rests stands from texts coming in_doubt.start new in_doubt.rests is (answer in_doubt.start may in_doubt.shows).read (durable in_doubt.start may in_doubt.shows)
+          let may = ready change from texts coming in_doubt.start (is.brings was some) in_doubt.rests in
+          answered_rests stands from texts coming in_doubt.start new in_doubt.rests (is.brings was some) (answer in_doubt.start may in_doubt.shows).read (durable in_doubt.start may in_doubt.shows)
 
   -- and a settling that is stopped
   pub again_as : (stopped again : Stopped) (old new : Device) (from : Loaded) (texts : List ℕ) (coming : Coming) → (old.contents ≡ None → new.contents ≡ None)
       → ((start : Files) → IsReady change start → Shows (IsInDoubt stopped change start) old → Shows (IsInDoubt again change start) new)
-      → IsStoppedAs stopped change from texts old → IsChange change from texts coming → IsStoppedAs again change from texts new
+      → IsStoppedAs stopped change from texts old → IsChange old.contents change from texts coming → IsStoppedAs again change from texts new
   again_as stopped again old new from texts coming silent still doubt is =
       told_before old new silent (IsStopped again change from texts new) (λ was some.
       let in_doubt = doubt was some in
-      let may = ready change from texts coming in_doubt.start is.brings in_doubt.rests in
+      let may = ready change from texts coming in_doubt.start (is.brings was some) in_doubt.rests in
       record { start = in_doubt.start; rests = in_doubt.rests; shows = still in_doubt.start may in_doubt.shows })
 
   -- what a crash during a settling leaves
-  pub settling_as : (stopped : Stopped) (old new : Device) (from : Loaded) (texts : List ℕ) (coming : Coming) → IsStopped stopped change from texts old → IsChange change from texts coming
+  pub settling_as : (stopped : Stopped) (old new : Device) (from : Loaded) (texts : List ℕ) (coming : Coming) → IsStopped stopped change from texts old → Brings change from texts coming.to coming.texts
       → ((start : Files) → IsReady change start → Shows (IsInDoubt stopped change start) old → LeavesOnly old new (DoubtReplays stopped change start))
       → LeavesOnly old new (OpensToEither from texts coming)
   settling_as stopped old new from texts coming doubt is crash =
       only_weaken (DoubtReplays stopped change doubt.start) (OpensToEither from texts coming) old new
       (λ files replays. doubt_opens stopped from texts coming doubt.start files doubt.rests is replays)
-      (crash doubt.start (ready change from texts coming doubt.start is.brings doubt.rests) doubt.shows)
+      (crash doubt.start (ready change from texts coming doubt.start is doubt.rests) doubt.shows)
 
 -- a crash of a settled area leaves what opens to it
 pub settled_opens : (loaded : Loaded) (texts : List ℕ) (device : Device) (was : Files) → device.contents ≡ Some was → IsSettledAs loaded texts device

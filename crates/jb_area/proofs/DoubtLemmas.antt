@@ -1,6 +1,6 @@
 -- What a settling makes of an area in doubt.
 use Rattle.std.proofs.Common.{◌≡◌, ◌≢◌, ℕ, List, Option, None, Some, true, false, ap, sym, refl, ◌∙◌, subst, ◌+◌, ◌≤◌, length}
-use Rattle.jb_disk.specs.Device.{Device}
+use Rattle.jb_disk.specs.Device.{Device, StaysSilent}
 use Rattle.jb_disk.specs.Files.{Files}
 use Rattle.jb_disk.specs.Runs.{LeavesOnly}
 use Rattle.jb_disk.proofs.RunLemmas.{runs-refl}
@@ -22,6 +22,7 @@ use Rattle.jb_decide.specs.declared.pending.Pending.TheVariants.{Nothing}
 use Rattle.jb_area.specs.declared.stage.Stage.{Stage}
 use Rattle.jb_area.specs.declared.stage.Stage.TheVariants.{Resting, Doubtful}
 use Rattle.jb_area.proofs.CommitLemmas.{settled_opens}
+use Rattle.jb_area.proofs.StageLemmas.{pending_later}
 
 -- two doubtful stages are one
 same_stopped : (one other : Stopped) (first second : Pending) → Doubtful one first ≡ Doubtful other second → one ≡ other
@@ -58,9 +59,9 @@ module _ {D : Type 0} (shown : D → Device) (area : OpenArea D) (stopped : Stop
         subst (λ (s : Stopped). IsStoppedAs s area.redo area.held.loaded texts (shown area.disk)) (same_stopped between.stopped stopped between.pending pending (sym between.stage ∙ is)) between.doubt
 
     -- what is to come
-    change_is : (texts : List ℕ) (coming : Coming) → IsBetween shown area texts coming → IsPending area.rules.slots area.redo pending area.held.loaded texts coming
+    change_is : (texts : List ℕ) (coming : Coming) → IsBetween shown area texts coming → IsPending area.rules.slots (shown area.disk).contents area.redo pending area.held.loaded texts coming
     change_is texts coming between =
-        subst (λ (p : Pending). IsPending area.rules.slots area.redo p area.held.loaded texts coming) (same_pending between.stopped stopped between.pending pending (sym between.stage ∙ is)) between.change
+        subst (λ (p : Pending). IsPending area.rules.slots (shown area.disk).contents area.redo p area.held.loaded texts coming) (same_pending between.stopped stopped between.pending pending (sym between.stage ∙ is)) between.change
 
     -- it may be settled
     pub may_settle : (texts : List ℕ) (coming : Option Coming) → IsDoubtful shown area texts coming → MaySettle stopped area.redo (shown area.disk)
@@ -100,7 +101,7 @@ module _ {D : Type 0} (shown : D → Device) (area : OpenArea D) (stopped : Stop
 
     -- settled with the change
     pub stands : (disk : D) (held : Held) (stage : Stage) → stage ≡ Resting → held.loaded ≡ after pending area.held.loaded → IsKeptWhole held
-        → ((from : Loaded) (texts : List ℕ) (coming : Coming) → IsStoppedAs stopped area.redo from texts (shown area.disk) → IsChange area.redo from texts coming → IsAnsweredAs true from texts coming (shown disk))
+        → ((from : Loaded) (texts : List ℕ) (coming : Coming) → IsStoppedAs stopped area.redo from texts (shown area.disk) → IsChange (shown area.disk).contents area.redo from texts coming → IsAnsweredAs true from texts coming (shown disk))
         → (texts : List ℕ) (coming : Option Coming) → IsDoubtful shown area texts coming
         → SettlesAt shown true area.held.loaded texts coming (record area { disk = disk; held = held; stage = stage })
     stands disk held stage resting applied whole answer texts None doubt = no_none texts doubt
@@ -120,7 +121,7 @@ module _ {D : Type 0} (shown : D → Device) (area : OpenArea D) (stopped : Stop
 
     -- settled without it
     pub falls : (disk : D) (stage : Stage) → stage ≡ Resting
-        → ((from : Loaded) (texts : List ℕ) (coming : Coming) → IsStoppedAs stopped area.redo from texts (shown area.disk) → IsChange area.redo from texts coming → IsAnsweredAs false from texts coming (shown disk))
+        → ((from : Loaded) (texts : List ℕ) (coming : Coming) → IsStoppedAs stopped area.redo from texts (shown area.disk) → IsChange (shown area.disk).contents area.redo from texts coming → IsAnsweredAs false from texts coming (shown disk))
         → (texts : List ℕ) (coming : Option Coming) → IsDoubtful shown area texts coming
         → RestsAt shown (record area { disk = disk; stage = stage }) texts area.held.loaded
     falls disk stage resting answer texts None doubt = absurd (no_none texts doubt)
@@ -136,25 +137,25 @@ module _ {D : Type 0} (shown : D → Device) (area : OpenArea D) (stopped : Stop
     }
 
     -- stopped again
-    pub still : (disk : D) (again : Stopped)
-        → ((from : Loaded) (texts : List ℕ) (coming : Coming) → IsStoppedAs stopped area.redo from texts (shown area.disk) → IsChange area.redo from texts coming → IsStoppedAs again area.redo from texts (shown disk))
+    pub still : (disk : D) (again : Stopped) → StaysSilent (shown area.disk) (shown disk)
+        → ((from : Loaded) (texts : List ℕ) (coming : Coming) → IsStoppedAs stopped area.redo from texts (shown area.disk) → IsChange (shown area.disk).contents area.redo from texts coming → IsStoppedAs again area.redo from texts (shown disk))
         → (texts : List ℕ) (coming : Option Coming) → IsDoubtful shown area texts coming
         → IsDoubtful shown (record area { disk = disk; stage = Doubtful again pending }) texts coming
-    still disk again answer texts None doubt = absurd (no_none texts doubt)
-    still disk again answer texts (Some coming) doubt =
+    still disk again silent answer texts None doubt = absurd (no_none texts doubt)
+    still disk again silent answer texts (Some coming) doubt =
         let change = change_is texts coming doubt in
         record {
           stopped = again;
           pending = pending;
           stage = refl;
           ruled = record { few_slots = doubt.ruled.few_slots; address = doubt.ruled.address; sound = doubt.ruled.sound; sized = doubt.ruled.sized; whole = doubt.ruled.whole; room = doubt.ruled.room };
-          change = change;
+          change = pending_later area.rules.slots (shown area.disk) (shown disk) area.redo pending area.held.loaded texts coming silent change;
           doubt = answer area.held.loaded texts coming (doubt_is texts coming doubt) change.change;
         }
 
     -- whenever a crash comes
     pub crashes : (new : Device)
-        → ((from : Loaded) (texts : List ℕ) (coming : Coming) → IsStoppedAs stopped area.redo from texts (shown area.disk) → IsChange area.redo from texts coming
+        → ((from : Loaded) (texts : List ℕ) (coming : Coming) → IsStoppedAs stopped area.redo from texts (shown area.disk) → IsChange (shown area.disk).contents area.redo from texts coming
         → (was : Files) → (shown area.disk).contents ≡ Some was → LeavesOnly (shown area.disk) new (OpensToEither from texts coming))
         → (texts : List ℕ) (coming : Option Coming) → IsDoubtful shown area texts coming → (was : Files) → (shown area.disk).contents ≡ Some was
         → LeavesOnly (shown area.disk) new (DoubtOpens area.held.loaded texts coming)

@@ -1,12 +1,12 @@
 -- What is on its way in an open area, from its stage.
-use Rattle.std.proofs.Common.{◌≡◌, ◌≢◌, ◌⊎◌, inl, inr, ℕ, ◌+◌, ◌≤◌, List, length, ap, sym, refl, ◌∙◌, subst}
-use Rattle.jb_disk.specs.Device.{Device}
+use Rattle.std.proofs.Common.{◌≡◌, ◌≢◌, ◌⊎◌, inl, inr, ℕ, ◌+◌, ◌≤◌, List, length, Option, ap, sym, refl, ◌∙◌, subst}
+use Rattle.jb_disk.specs.Device.{Device, StaysSilent}
 use Rattle.jb_disk.specs.Change.{Change}
 use Rattle.jb_model.specs.Sound.{IsSound}
 use Rattle.jb_model.specs.declared.loaded.Loaded.{Loaded}
 use Rattle.jb_model.specs.declared.reply.Reply.{Reply}
 use Rattle.jb_journal.specs.declared.stopped.Stopped.{Stopped}
-use Rattle.jb_decide.specs.Coming.{Coming, IsChange}
+use Rattle.jb_decide.specs.Coming.{Brings, Coming, IsChange}
 use Rattle.std.specs.Option.{ForSome}
 use Rattle.jb_disk.specs.Files.{Files}
 use Rattle.jb_journal.specs.Commit.{AgreeButJournal, changed}
@@ -18,9 +18,9 @@ use Rattle.jb_decide.specs.declared.held.Held.{Held}
 use Rattle.jb_step.specs.After.{live_messages}
 use Rattle.jb_decide.specs.Pending.{IsFit, after, live_after}
 use Rattle.jb_area.specs.declared.area.OpenArea.{OpenArea}
-use Rattle.jb_area.proofs.CommitLemmas.{some-same}
+use Rattle.jb_area.proofs.CommitLemmas.{some-same, told_before}
 use Rattle.jb_decide.specs.declared.pending.Pending.{Pending}
-use Rattle.jb_decide.specs.declared.pending.Pending.TheVariants.{Nothing, Counted, Marked}
+use Rattle.jb_decide.specs.declared.pending.Pending.TheVariants.{Nothing, Counted, Marked, Packed}
 use Rattle.jb_area.specs.declared.stage.Stage.{Stage}
 use Rattle.jb_area.specs.declared.stage.Stage.TheVariants.{Resting, Begun, Doubtful}
 
@@ -32,22 +32,39 @@ pub same_pending : (one other : Reply) (first second : Pending) → Begun one fi
 same_pending one other first second is = cc
 
 -- nothing changes where nothing is pending
-pub none_pending : (limit : ℕ) (redo : Change) (pending : Pending) (from : Loaded) (texts : List ℕ) (coming : Coming) → pending ≡ Nothing
-    → IsNoChange pending from texts coming ⊎ IsPending limit redo pending from texts coming → coming ≡ record { to = from; texts = texts }
-none_pending limit redo pending from texts coming none (inl nothing) = nothing.same
-none_pending limit redo pending from texts coming none (inr change) = absurd (change.some none)
+pub none_pending : (limit : ℕ) (contents : Option Files) (redo : Change) (pending : Pending) (from : Loaded) (texts : List ℕ) (coming : Coming) → pending ≡ Nothing
+    → IsNoChange pending from texts coming ⊎ IsPending limit contents redo pending from texts coming → coming ≡ record { to = from; texts = texts }
+none_pending limit contents redo pending from texts coming none (inl nothing) = nothing.same
+none_pending limit contents redo pending from texts coming none (inr change) = absurd (change.some none)
 
 -- something changes where something is pending
-pub some_pending : (limit : ℕ) (redo : Change) (pending : Pending) (from : Loaded) (texts : List ℕ) (coming : Coming) → pending ≢ Nothing
-    → IsNoChange pending from texts coming ⊎ IsPending limit redo pending from texts coming → IsPending limit redo pending from texts coming
-some_pending limit redo pending from texts coming some (inl nothing) = absurd (some nothing.none)
-some_pending limit redo pending from texts coming some (inr change) = change
+pub some_pending : (limit : ℕ) (contents : Option Files) (redo : Change) (pending : Pending) (from : Loaded) (texts : List ℕ) (coming : Coming) → pending ≢ Nothing
+    → IsNoChange pending from texts coming ⊎ IsPending limit contents redo pending from texts coming → IsPending limit contents redo pending from texts coming
+some_pending limit contents redo pending from texts coming some (inl nothing) = absurd (some nothing.none)
+some_pending limit contents redo pending from texts coming some (inr change) = change
+
+-- what is pending is so when a disk was tried that does not begin to tell
+pub pending_later : (limit : ℕ) (old new : Device) (redo : Change) (pending : Pending) (from : Loaded) (texts : List ℕ) (coming : Coming) → StaysSilent old new
+    → IsPending limit old.contents redo pending from texts coming → IsPending limit new.contents redo pending from texts coming
+pending_later limit old new redo pending from texts coming silent is = record {
+  some = is.some;
+  becomes = is.becomes;
+  change = record {
+    brings = told_before old new silent (Brings redo from texts coming.to coming.texts) is.change.brings;
+    writable = is.change.writable;
+  };
+  fit = is.fit;
+  sound = is.sound;
+  sized = is.sized;
+  live = is.live;
+}
 
 -- what is pending is done in the files
 some_made : (pending : Pending) (redo : Change) (files : Files) → pending ≢ Nothing → made pending redo files ≡ changed redo files
 some_made Nothing redo files some = absurd (some refl)
 some_made (Counted change counter active) redo files some = refl
 some_made (Marked place mark) redo files some = refl
+some_made (Packed plan base replies) redo files some = refl
 
 module _ {D : Type 0} (shown : D → Device) (area : OpenArea D) (reply : Reply) (pending : Pending) (is : area.stage ≡ Begun reply pending) where
   -- a call without a change leaves the files
@@ -77,13 +94,13 @@ module _ {D : Type 0} (shown : D → Device) where
 
     -- where nothing is pending
     pub none_is : (reply : Reply) (pending : Pending) → area.stage ≡ Begun reply pending → pending ≡ Nothing → coming ≡ record { to = area.held.loaded; texts = texts }
-    none_is reply pending is none = none_pending area.rules.slots area.redo begun.pending area.held.loaded texts coming (pending_is reply pending is ∙ none) begun.change
+    none_is reply pending is none = none_pending area.rules.slots (shown area.disk).contents area.redo begun.pending area.held.loaded texts coming (pending_is reply pending is ∙ none) begun.change
 
     -- where something is pending
-    pub some_is : (reply : Reply) (pending : Pending) → area.stage ≡ Begun reply pending → pending ≢ Nothing → IsPending area.rules.slots area.redo pending area.held.loaded texts coming
+    pub some_is : (reply : Reply) (pending : Pending) → area.stage ≡ Begun reply pending → pending ≢ Nothing → IsPending area.rules.slots (shown area.disk).contents area.redo pending area.held.loaded texts coming
     some_is reply pending is some =
-        subst (λ (p : Pending). IsPending area.rules.slots area.redo p area.held.loaded texts coming) (pending_is reply pending is)
-        (some_pending area.rules.slots area.redo begun.pending area.held.loaded texts coming (λ none. some (sym (pending_is reply pending is) ∙ none)) begun.change)
+        subst (λ (p : Pending). IsPending area.rules.slots (shown area.disk).contents area.redo p area.held.loaded texts coming) (pending_is reply pending is)
+        (some_pending area.rules.slots (shown area.disk).contents area.redo begun.pending area.held.loaded texts coming (λ none. some (sym (pending_is reply pending is) ∙ none)) begun.change)
 
     -- a call without a change is finished
     pub rests_unchanged : (reply : Reply) (pending : Pending) (stage : Stage) → area.stage ≡ Begun reply pending → pending ≡ Nothing → stage ≡ Resting
@@ -98,7 +115,7 @@ module _ {D : Type 0} (shown : D → Device) where
     -- and a call with one
     pub rests_changed : (reply : Reply) (pending : Pending) (disk : D) (held : Held) (stage : Stage) → area.stage ≡ Begun reply pending → pending ≢ Nothing → stage ≡ Resting
         → held.loaded ≡ after pending area.held.loaded → IsKeptWhole held
-        → ((from : Loaded) (texts : List ℕ) (coming : Coming) → IsSettledAs from texts (shown area.disk) → IsChange area.redo from texts coming → IsSettledAs coming.to coming.texts (shown disk))
+        → ((from : Loaded) (texts : List ℕ) (coming : Coming) → IsSettledAs from texts (shown area.disk) → IsChange (shown area.disk).contents area.redo from texts coming → IsSettledAs coming.to coming.texts (shown disk))
         → (reply ≡ decided) × RestsAt shown (record area { disk = disk; held = held; stage = stage }) coming.texts coming.to
     rests_changed reply pending disk held stage is some resting applied whole done =
         let change = some_is reply pending is some in
@@ -117,17 +134,17 @@ module _ {D : Type 0} (shown : D → Device) where
         )
 
     -- a call that was stopped is in doubt
-    pub between : (reply : Reply) (pending : Pending) (disk : D) (stopped : Stopped) → area.stage ≡ Begun reply pending → pending ≢ Nothing
-        → ((from : Loaded) (texts : List ℕ) (coming : Coming) → IsSettledAs from texts (shown area.disk) → IsChange area.redo from texts coming → IsStoppedAs stopped area.redo from texts (shown disk))
+    pub between : (reply : Reply) (pending : Pending) (disk : D) (stopped : Stopped) → area.stage ≡ Begun reply pending → pending ≢ Nothing → StaysSilent (shown area.disk) (shown disk)
+        → ((from : Loaded) (texts : List ℕ) (coming : Coming) → IsSettledAs from texts (shown area.disk) → IsChange (shown area.disk).contents area.redo from texts coming → IsStoppedAs stopped area.redo from texts (shown disk))
         → IsBetween shown (record area { disk = disk; stage = Doubtful stopped pending }) texts coming
-    between reply pending disk stopped is some doubt =
+    between reply pending disk stopped is some silent doubt =
         let change = some_is reply pending is some in
         record {
           stopped = stopped;
           pending = pending;
           stage = refl;
           ruled = record { few_slots = begun.kept.ruled.few_slots; address = begun.kept.ruled.address; sound = begun.kept.ruled.sound; sized = begun.kept.ruled.sized; whole = begun.kept.ruled.whole; room = begun.kept.ruled.room };
-          change = change;
+          change = pending_later area.rules.slots (shown area.disk) (shown disk) area.redo pending area.held.loaded texts coming silent change;
           doubt = doubt area.held.loaded texts coming begun.kept.settled change.change;
         }
 

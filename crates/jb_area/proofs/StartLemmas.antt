@@ -1,11 +1,12 @@
 -- What the beginning of a call leaves.
-use Rattle.std.proofs.Common.{◌≡◌, ℕ, ◌≤◌, List, Option, None, Some, Result, Ok, Err, IfOk, IfErr, OnOk, IsOk, ap, sym, refl, ◌∙◌, subst, arith}
+use Rattle.std.proofs.Common.{◌≡◌, ◌⊎◌, ℕ, ◌≤◌, List, Option, None, Some, Result, Ok, Err, IfOk, IfErr, OnOk, IsOk, ap, sym, refl, ◌∙◌, subst, arith}
 use Rattle.std.specs.Option.{ForSome}
 use Rattle.std.specs.Prelude.{replicate}
 use Rattle.std.proofs.lemmas.List.{length-replicate}
 use Rattle.jb_base.specs.declared.area.AreaRules.{AreaRules}
 use Rattle.jb_base.specs.declared.user.User.{User}
-use Rattle.jb_decide.specs.Decided.{IsDecided, IsTold}
+use Rattle.jb_decide.specs.Coming.{Coming}
+use Rattle.jb_decide.specs.Decided.{IsDecided, IsNoChange, IsPending, IsTold}
 use Rattle.jb_decide.specs.Errors.{FaultRose}
 use Rattle.jb_decide.specs.Holds.{AreTexts, Holds}
 use Rattle.jb_decide.specs.Ready.{HasRoomInAll}
@@ -13,6 +14,7 @@ use Rattle.jb_decide.specs.declared.decided.Decided.{Decided}
 use Rattle.jb_decide.specs.declared.error.AreaError.{AreaError}
 use Rattle.jb_decide.specs.declared.error.AreaError.TheVariants.{StoreFault, OutOfMemory}
 use Rattle.jb_decide.specs.declared.held.Held.{Held}
+use Rattle.jb_decide.specs.declared.pending.Pending.{Pending}
 use Rattle.jb_decide.specs.declared.pending.Pending.TheVariants.{Nothing}
 use Rattle.jb_disk.specs.Change.{Change}
 use Rattle.jb_disk.specs.Device.{Device, OnlyReads}
@@ -110,6 +112,10 @@ module _ {D : Type 0} (shown : D → Device) where
       settled = settled_read area.held.loaded texts (shown area.disk) (shown disk) reads kept.settled;
     }
 
+    -- what is pending, by what a disk tells
+    abbrev Changes : Pending → List ℕ → Coming → Option Files → Type 0
+    Changes pending texts coming contents = IsNoChange pending area.held.loaded texts coming ⊎ IsPending area.rules.slots contents redo pending area.held.loaded texts coming
+
     -- begun
     starts : (decided : Result Decided AreaError) (result : Result (Unit {0}) AreaError) (user : User) (moment : ℕ) (command : Command) → StartsAs decided area.stage new.stage → AnswersAs decided result
         → IfOk decided (λ one. (texts : List ℕ) → AreTexts area.held.loaded texts (shown area.disk).contents → IsDecided area.rules area.held.loaded texts (shown area.disk).contents redo user moment command one)
@@ -120,9 +126,10 @@ module _ {D : Type 0} (shown : D → Device) where
         (record {
           reply = decided.reply;
           coming = decides.coming;
-          begun = record { pending = decided.pending; stage = refl; kept = kept_read (Begun decided.reply decided.pending) texts resting.kept; change = decides.change };
+          begun = record { pending = decided.pending; stage = refl; kept = kept_read (Begun decided.reply decided.pending) texts resting.kept; change = subst (Changes decided.pending texts decides.coming) (sym reads.contents) decides.change };
           step = λ told. decides.step (subst (λ (o : Option Files). IsTold decided.reply o) reads.contents told);
           headers = decides.headers;
+          packs = decides.packs;
         })
     starts (Ok decided) (Err error) user moment command stage answer is = tt
     starts (Err error) (Ok done) user moment command stage answer is = absurd (ok_not_err (Ok done) done error refl answer)

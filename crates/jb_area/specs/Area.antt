@@ -72,7 +72,7 @@ module _ {D : Type 0} (shown : D → Device) where
     pub pending : Pending
     pub stage : area.stage ≡ Begun reply pending
     pub kept : IsKept area texts
-    pub change : IsNoChange pending area.held.loaded texts coming ⊎ IsPending area.rules.slots area.redo pending area.held.loaded texts coming
+    pub change : IsNoChange pending area.held.loaded texts coming ⊎ IsPending area.rules.slots (shown area.disk).contents area.redo pending area.held.loaded texts coming
 
   -- the files are those that they were with what was begun done in them, but for the journal
   abbrev pub HasMade : OpenArea D → OpenArea D → Type 0
@@ -84,7 +84,7 @@ module _ {D : Type 0} (shown : D → Device) where
     pub pending : Pending
     pub stage : area.stage ≡ Doubtful stopped pending
     pub ruled : IsSoundFor area texts
-    pub change : IsPending area.rules.slots area.redo pending area.held.loaded texts coming
+    pub change : IsPending area.rules.slots (shown area.disk).contents area.redo pending area.held.loaded texts coming
     pub doubt : IsStoppedAs stopped area.redo area.held.loaded texts (shown area.disk)
 
   -- a call was stopped that had changed nothing

@@ -6,7 +6,7 @@ use Rattle.jb_base.specs.declared.user.User.{User}
 use Rattle.jb_decide.specs.Coming.{Coming}
 use Rattle.jb_decide.specs.Decided.{IsNoPack, IsTold}
 use Rattle.jb_decide.specs.Errors.{FaultRose}
-use Rattle.jb_decide.specs.Headers.{KeepsHeaders}
+use Rattle.jb_decide.specs.Headers.{KeepsHeaders, PacksHeaders}
 use Rattle.jb_decide.specs.Holds.{Holds}
 use Rattle.jb_decide.specs.declared.decided.Decided.{Decided}
 use Rattle.jb_decide.specs.declared.error.AreaError.{AreaError}
@@ -43,6 +43,8 @@ module _ {D : Type 0} (shown : D → Device) where
     -- but for a pack, each header stays in its place in whatever files hold the area
     pub headers : IsNoPack command → (files : Files) → Holds area.held.loaded texts files
         → KeepsHeaders reply area.held.loaded coming.to files (files_after area files)
+    -- and a pack that is done puts all of them one behind another
+    pub packs : (files : Files) → Holds area.held.loaded texts files → PacksHeaders reply coming.to (files_after area files)
 
   -- the command was answered so, and is done; a crash meanwhile leaves the area before it or after it
   pub record HasAnswered (old new : OpenArea D) (texts : List ℕ) (user : User) (moment : ℕ) (command : Command) (reply : Reply) : Type 0 where
@@ -53,6 +55,8 @@ module _ {D : Type 0} (shown : D → Device) where
     -- but for a pack, each header stayed in its place
     pub headers : IsNoPack command → ForSome (shown old.disk).contents (λ was. ForSome (shown new.disk).contents (λ now.
         KeepsHeaders reply old.held.loaded coming.to was now))
+    -- and a pack that was done put all of them one behind another
+    pub packs : ForSome (shown old.disk).contents (λ was. ForSome (shown new.disk).contents (λ now. PacksHeaders reply coming.to now))
     pub crash : ForSome (shown old.disk).contents (λ files.
         LeavesOnly (shown old.disk) (shown new.disk) (OpensToEither old.held.loaded texts coming))
 

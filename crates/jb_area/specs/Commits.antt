@@ -37,7 +37,7 @@ pub record MayCommit (redo : Change) (device : Device) : Type 0 where
   pub texts : List ℕ
   pub coming : Coming
   pub settled : IsSettledAs from texts device
-  pub change : IsChange redo from texts coming
+  pub change : IsChange device.contents redo from texts coming
 
 -- a commit of it may be settled
 pub record MaySettle (stopped : Stopped) (redo : Change) (device : Device) : Type 0 where
@@ -45,4 +45,4 @@ pub record MaySettle (stopped : Stopped) (redo : Change) (device : Device) : Typ
   pub texts : List ℕ
   pub coming : Coming
   pub doubt : IsStoppedAs stopped redo from texts device
-  pub change : IsChange redo from texts coming
+  pub change : IsChange device.contents redo from texts coming

@@ -3,7 +3,7 @@ ghost use Rattle.std.specs.Prelude.{◌≡◌, ◌<◌, ◌≤◌, ◌+◌, All,
 ghost use Rattle.jb_model.specs.Loaded.{with_message_behind};
 ghost use Rattle.jb_decide.specs.Held.{IsKeptWhole};
 ghost use Rattle.jb_decide.specs.Pending.{IsFit, IsLinkFit, IsSlotFit, HasLengths, after, changed_by, headed_at, linked_by, live_after};
-ghost use Rattle.jb_decide.specs.declared.pending.Pending.TheVariants.{Marked};
+ghost use Rattle.jb_decide.specs.declared.pending.Pending.TheVariants.{Marked, Packed};
 ghost use Rattle.jb_link.specs.Plan.{loaded_at};
 ghost use Rattle.jb_replies.specs.Index.{IsIndexOf};
 ghost use Rattle.jb_step.specs.After.{live_messages};
@@ -12,6 +12,7 @@ ghost use Rattle.jb_base.specs.declared.limits.TheConstants.{MOST_MARKS, MOST_SL
 
 use jb_decide::{Held, Pending, SlotChange};
 use jb_model::{Head, Links, Loaded, LoadedMessage, LoadedSlot, Mark};
+use jb_pack::pack_loaded;
 use jb_replies::Replies;
 use jb_step::Neighbour;
 
@@ -126,6 +127,17 @@ fn set_mark(held: &mut Held, place: Option<usize>, mark: Mark)
     held.marks.set(mark);
 }
 
+/// Packs the area with this base and these links, and takes this index of its replies.
+fn pack(held: &mut Held, plan: &[Links], base: u32, replies: Replies)
+    requires whole { IsKeptWhole held.old }
+    requires fit { IsFit (Packed plan.now base replies) held.old.loaded }
+    ensures loaded { held.new.loaded ≡ after (Packed plan.now base replies) held.old.loaded }
+    ensures whole { IsKeptWhole held.new }
+{
+    pack_loaded(&mut held.loaded, plan, base);
+    held.replies = replies;
+}
+
 /// Changes the area as the call that was begun said. Takes no memory.
 pub(crate) fn apply(held: &mut Held, pending: Pending)
     requires whole { IsKeptWhole held.old }
@@ -148,5 +160,10 @@ pub(crate) fn apply(held: &mut Held, pending: Pending)
             held.live = active;
         }
         Pending::Marked { place, mark } => set_mark(held, place, mark),
+        Pending::Packed {
+            plan,
+            base,
+            replies,
+        } => pack(held, plan.as_slice(), base, replies),
     }
 }

@@ -5,8 +5,8 @@ use crate::OpenArea;
 use crate::stage::Stage;
 use jb_base::{OutOfMemory, User};
 use jb_decide::{
-    AreaError, Decided, Pending, decide_kill, decide_mark, decide_peek, decide_post, decide_read,
-    decide_relink,
+    AreaError, Decided, Pending, decide_kill, decide_mark, decide_pack, decide_peek, decide_post,
+    decide_read, decide_relink,
 };
 use jb_disk::Disk;
 use jb_journal::Stopped;
@@ -16,7 +16,7 @@ use std::alloc::Global;
 
 impl<D: Disk> OpenArea<D> {
     ghost use Rattle.jb_base.specs.declared.limits.TheConstants.{MOST_NAME_BYTES};
-    ghost use Rattle.jb_model.specs.declared.command.Command.TheVariants.{Kill, Peek, Read, Relink, SetMark};
+    ghost use Rattle.jb_model.specs.declared.command.Command.TheVariants.{Kill, Pack, Peek, Read, Relink, SetMark};
     ghost use Rattle.jb_step.specs.Draft.{draft_of, post_of};
     ghost use Rattle.jb_area.specs.Area.{HasBegun};
     ghost use Rattle.jb_area.specs.Calls.{AnswersAs, BeginsCall, EndsCall, HasRest, MeetsCall, StartsAs};
@@ -223,6 +223,35 @@ impl<D: Disk> OpenArea<D> {
         ensures meets { (moment : ℕ) → MeetsCall D.device self.old self.new user.now moment Relink result }
     {
         match self.begin_relink(alloc, user) {
+            Ok(()) => self.done(),
+            Err(error) => Err(error),
+        }
+    }
+
+    /// Begins a pack.
+    pub(crate) fn begin_pack(&mut self, alloc: Global, user: &User) -> Result<(), AreaError>
+        requires rests { HasRest D.device self.old }
+        ensures { (moment : ℕ) → BeginsCall D.device self.old self.new user.now moment Pack result }
+    {
+        let decided = decide_pack(
+            alloc,
+            &mut self.disk,
+            &self.held,
+            &self.rules,
+            &mut self.redo,
+            user,
+        );
+        self.start(decided)
+    }
+
+    /// Packs the area: killed messages are dropped, the numbers below the lowest live one are cut off, and headers, index and
+    /// texts are written anew without a gap, with the reply links computed anew. Every live message keeps its number. The room
+    /// that a pack takes, that of the new files, is kept until the area is closed.
+    pub fn pack(&mut self, alloc: Global, user: &User) -> Result<Reply, AreaError>
+        requires rests { HasRest D.device self.old }
+        ensures meets { (moment : ℕ) → MeetsCall D.device self.old self.new user.now moment Pack result }
+    {
+        match self.begin_pack(alloc, user) {
             Ok(()) => self.done(),
             Err(error) => Err(error),
         }

@@ -10,12 +10,11 @@ use std::alloc::Global;
 impl<D: Disk> OpenArea<D> {
     ghost use Rattle.std.specs.Prelude.{◌≤◌, length};
     ghost use Rattle.jb_base.specs.declared.limits.TheConstants.{MOST_NAME_BYTES};
-    ghost use Rattle.jb_decide.specs.Decided.{IsNoPack};
     ghost use Rattle.jb_area.specs.Calls.{BeginsCall, HasRest, MeetsCall};
 
     /// Begins a command: decides its reply, takes all the memory and reads all that it needs, and writes nothing. Then
     /// [`coming`](OpenArea::coming) lends the reply, and [`finish`](OpenArea::finish) or [`abandon`](OpenArea::abandon) ends
-    /// the call. Packs are not begun here.
+    /// the call.
     pub fn begin(
         &mut self,
         alloc: Global,
@@ -25,7 +24,6 @@ impl<D: Disk> OpenArea<D> {
     ) -> Result<(), AreaError>
         requires rests { HasRest D.device self.old }
         requires name { length user.now.name ≤ MOST_NAME_BYTES }
-        requires here { IsNoPack command.now }
         ensures begins { BeginsCall D.device self.old self.new user.now moment command.now result }
     {
         match command {
@@ -56,7 +54,7 @@ impl<D: Disk> OpenArea<D> {
                 Ok(())
             }
             Command::Relink => self.begin_relink(alloc, user),
-            Command::Pack => unreachable!(),
+            Command::Pack => self.begin_pack(alloc, user),
         }
     }
 
@@ -70,7 +68,6 @@ impl<D: Disk> OpenArea<D> {
     ) -> Result<Reply, AreaError>
         requires rests { HasRest D.device self.old }
         requires name { length user.now.name ≤ MOST_NAME_BYTES }
-        requires here { IsNoPack command.now }
         ensures meets { MeetsCall D.device self.old self.new user.now moment command.now result }
     {
         match self.begin(alloc, user, moment, command) {

@@ -2,6 +2,7 @@
 ghost use Rattle.std.specs.Prelude.{◌≡◌, ◌≤◌, List, ℕ, None, IfOk, IfErr, OnErr, OnOk};
 ghost use Rattle.std.specs.Option.{ForSome};
 ghost use Rattle.jb_base.specs.Fault.{Rose};
+ghost use Rattle.jb_disk.specs.Device.{StaysSilent};
 ghost use Rattle.jb_disk.specs.Runs.{LeavesOnly};
 ghost use Rattle.jb_journal.specs.Commit.{AgreeButJournal, changed};
 ghost use Rattle.jb_model.specs.declared.loaded.Loaded.{Loaded};
@@ -16,16 +17,17 @@ use jb_journal::{Stopped, commit, settle};
 pub(crate) fn commit_change<D: Disk>(disk: &mut D, redo: &Redo) -> Result<(), Stopped>
     requires may { MayCommit redo.now (D.device disk.old) }
     ensures done { OnOk result ((from : Loaded) (texts : List ℕ) (coming : Coming) → IsSettledAs from texts (D.device disk.old)
-        → IsChange redo.now from texts coming → IsSettledAs coming.to coming.texts (D.device disk.new)) }
+        → IsChange (D.device disk.old).contents redo.now from texts coming → IsSettledAs coming.to coming.texts (D.device disk.new)) }
     ensures made { OnOk result (ForSome (D.device disk.old).contents (λ was. ForSome (D.device disk.new).contents (λ now.
         AgreeButJournal now (changed redo.now was)))) }
     ensures doubt { IfErr result (λ stopped. (from : Loaded) (texts : List ℕ) (coming : Coming) → IsSettledAs from texts (D.device disk.old)
-        → IsChange redo.now from texts coming → IsStoppedAs stopped redo.now from texts (D.device disk.new)) }
+        → IsChange (D.device disk.old).contents redo.now from texts coming → IsStoppedAs stopped redo.now from texts (D.device disk.new)) }
     ensures cause { OnErr result (Rose (D.device disk.old).faults (D.device disk.new).faults) }
     ensures later { (D.device disk.old).faults ≤ (D.device disk.new).faults }
     ensures crash { (from : Loaded) (texts : List ℕ) (coming : Coming) → IsSettledAs from texts (D.device disk.old)
-        → IsChange redo.now from texts coming
+        → IsChange (D.device disk.old).contents redo.now from texts coming
         → ForSome (D.device disk.old).contents (λ _. LeavesOnly (D.device disk.old) (D.device disk.new) (OpensToEither from texts coming)) }
+    ensures silent { StaysSilent (D.device disk.old) (D.device disk.new) }
 {
     commit(disk, redo)
 }
@@ -38,14 +40,15 @@ pub(crate) fn settle_change<D: Disk>(
 ) -> Result<bool, Stopped>
     requires may { MaySettle stopped redo.now (D.device disk.old) }
     ensures answer { IfOk result (λ stands. (from : Loaded) (texts : List ℕ) (coming : Coming) → IsStoppedAs stopped redo.now from texts (D.device disk.old)
-        → IsChange redo.now from texts coming → IsAnsweredAs stands from texts coming (D.device disk.new)) }
+        → IsChange (D.device disk.old).contents redo.now from texts coming → IsAnsweredAs stands from texts coming (D.device disk.new)) }
     ensures still { IfErr result (λ again. (from : Loaded) (texts : List ℕ) (coming : Coming) → IsStoppedAs stopped redo.now from texts (D.device disk.old)
-        → IsChange redo.now from texts coming → IsStoppedAs again redo.now from texts (D.device disk.new)) }
+        → IsChange (D.device disk.old).contents redo.now from texts coming → IsStoppedAs again redo.now from texts (D.device disk.new)) }
     ensures cause { OnErr result (Rose (D.device disk.old).faults (D.device disk.new).faults) }
     ensures later { (D.device disk.old).faults ≤ (D.device disk.new).faults }
     ensures crash { (from : Loaded) (texts : List ℕ) (coming : Coming) → IsStoppedAs stopped redo.now from texts (D.device disk.old)
-        → IsChange redo.now from texts coming
+        → IsChange (D.device disk.old).contents redo.now from texts coming
         → ForSome (D.device disk.old).contents (λ _. LeavesOnly (D.device disk.old) (D.device disk.new) (OpensToEither from texts coming)) }
+    ensures silent { StaysSilent (D.device disk.old) (D.device disk.new) }
 {
     settle(disk, redo, stopped)
 }

@@ -6,12 +6,12 @@
 //! of the device leaves the area in doubt between the two; [`OpenArea::reopen`] settles that and answers which. A call may be
 //! done in two parts: [`OpenArea::begin`] decides, takes all memory and reads all that is needed, and writes nothing;
 //! [`OpenArea::finish`] commits and takes no memory, or [`OpenArea::abandon`] drops it. `jb_decide` says what each command
-//! comes to. Packs come later.
+//! comes to.
 //!
 //! No call writes more than what changed. A kill writes 12 bytes of .JHR, a mark 16 of .JLR, a reading 20 of .JHR after one
 //! read of .JDT; a post its header and subfields, its text, one index record and 20 bytes of .JHR at most beside; a relink
-//! 12 bytes for each message whose links are others. None of them grows with the area but a relink, and in memory alone a
-//! post, which looks once through the slots for the message that it answers. Each is one commit of `jb_journal`.
+//! 12 bytes for each message whose links are others. A pack reads the texts of the live messages and writes all of .JHR,
+//! .JDX and .JDT as they are then. None of them grows with the area but these two. Each is one commit of `jb_journal`.
 #![tactic(auto)]
 
 mod applying;

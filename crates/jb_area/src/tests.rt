@@ -7,7 +7,7 @@ ghost use Rattle.jb_disk.specs.Silent.{silent_device};
 ghost use Rattle.jb_model.specs.Sound.{IsSound};
 
 use crate::{AreaError, OpenArea};
-use jb_base::{AreaRules, Bytes, Kind, Name, OutOfMemory, Rule, User};
+use jb_base::{AreaRules, Bytes, Kind, Name, OutOfMemory, User};
 use jb_disk::{Disk, DiskFailed, FileId, MemDisk};
 use jb_image::decode;
 use jb_journal::recover;
@@ -22,23 +22,6 @@ const MOMENT: u32 = 1_000_000_000;
 
 // The fields of the fixed header of an empty base with number 1; 1,000 zeros stand behind them.
 const FIXED: &[u8] = b"JAM\0\x00\xCA\x9A\x3B\0\0\0\0\0\0\0\0\xFF\xFF\xFF\xFF\x01\0\0\0";
-
-// The same after one post.
-const FIXED_AFTER: &[u8] = b"JAM\0\x00\xCA\x9A\x3B\x01\0\0\0\x01\0\0\0\xFF\xFF\xFF\xFF\x01\0\0\0";
-
-// The header of message 1 to `Hello` from `Test`, with a text of five bytes at the beginning of .JDT.
-const HEADER: &[u8] =
-    b"JAM\0\x01\0\0\0\x40\0\0\0\0\0\0\0\x53\x1F\xD7\xCB\xFF\xFF\xFF\xFF\0\0\0\0\0\0\0\0\0\0\0\0\x00\xCA\x9A\x3B\0\0\0\0\0\0\0\0\x01\0\0\0\x01\0\x80\0\0\0\0\0\0\0\0\0\x05\0\0\0\xFF\xFF\xFF\xFF\0\0\0\0";
-
-// Its subfields, of 12, 13, 28 and 11 bytes.
-const SUBFIELDS: &[u8] =
-    b"\x02\0\0\0\x04\0\0\0Test\x03\0\0\0\x05\0\0\0Hello\x04\0\0\0\x14\0\0\x002:5020/1042 01000001\x06\0\0\0\x03\0\0\0abc";
-
-// Its index record.
-const ENTRY: &[u8] = b"\x79\x59\xEF\xC9\x00\x04\x00\x00";
-
-// The mark of Test at 1.
-const MARK: &[u8] = b"\xF3\x81\x80\x27\x07\0\0\0\x01\0\0\0\x01\0\0\0";
 
 /// A disk in memory that tells nothing, as one over real files.
 #[derive(Drop)]
@@ -113,6 +96,7 @@ enum Act<'a> {
     Peek(u32),
     Kill(u32),
     SetMark(u32),
+    Pack,
 }
 
 /// What is answered.
@@ -123,8 +107,8 @@ enum Wanted<'a> {
     Linked(u32, u32),
     Killed(u32),
     Marked(u32, u32),
+    Packed(u32, u32, u32),
     NoMessage(u32),
-    NotAllowed,
 }
 
 // A user with this name, number and level.
@@ -257,6 +241,10 @@ fn told<D: Disk, R: Abort>(
             let answer = area.set_mark(user, number);
             return replied(rt, answer);
         }
+        Act::Pack => {
+            let answer = area.pack(alloc, user);
+            return replied(rt, answer);
+        }
     }
 }
 
@@ -278,8 +266,12 @@ fn is(reply: &Reply, wanted: Wanted<'_>) -> bool {
         Reply::Marked { last, high } => {
             matches!(wanted, Wanted::Marked(l, h) if l == *last && h == *high)
         }
+        Reply::Packed {
+            base,
+            live,
+            dropped,
+        } => matches!(wanted, Wanted::Packed(b, l, d) if b == *base && l == *live && d == *dropped),
         Reply::NoMessage { number } => matches!(wanted, Wanted::NoMessage(n) if n == *number),
-        Reply::Denied { rule } => *rule == Rule::A4 && matches!(wanted, Wanted::NotAllowed),
         _ => false,
     }
 }
@@ -299,26 +291,6 @@ fn answers<D: Disk, R: Abort>(
         let reply = told(rt, alloc, area, user, act);
         assert!(rt; is(&reply, wanted), "{act:?}");
     }
-}
-
-// The files after the one post and the mark.
-fn posted_to_the_byte<R: Abort>(rt: &R, alloc: Global, disk: &MemDisk) -> Result<(), OutOfMemory> {
-    let wanted = headers(alloc, FIXED_AFTER, &[HEADER, SUBFIELDS])?;
-    assert_eq!(rt; wanted.as_slice().len(), 1_164);
-    assert!(rt; disk.file(FileId::Jhr) == wanted.as_slice());
-    assert_eq!(rt; disk.file(FileId::Jdt), b"Good\r".as_slice());
-    assert_eq!(rt; disk.file(FileId::Jdx), ENTRY);
-    assert_eq!(rt; disk.file(FileId::Jlr), MARK);
-    Ok(())
-}
-
-// TimesRead, DateReceived and Attribute of the message after one reading by its receiver.
-fn read_to_the_byte<R: Abort>(rt: &R, disk: &MemDisk) {
-    let now = disk.file(FileId::Jhr);
-    assert_eq!(rt; now.len(), 1_164);
-    assert_eq!(rt; &now[1_036..1_040], b"\x01\0\0\0".as_slice());
-    assert_eq!(rt; &now[1_064..1_068], b"\x00\xCA\x9A\x3B".as_slice());
-    assert_eq!(rt; &now[1_076..1_080], b"\x09\0\x80\0".as_slice());
 }
 
 // A kill that a fault of the device stops.
@@ -343,73 +315,89 @@ fn reopened<D: Disk, R: Abort>(rt: &R, area: &mut OpenArea<D>) -> bool
     }
 }
 
-#[test]
-fn a_post_and_a_mark_are_in_the_files_to_the_byte(rt: HostRuntime) -> Result<(), Fail> {
-    let alloc = rt.alloc();
-    let mut area = area(&rt, alloc, &[])?;
-    let test = user(alloc, b"Test", 7, 50)?;
-    let hello = user(alloc, b"Hello", 8, 50)?;
-    let good = Act::Post(draft(b"Hello", b"Good\r", 0));
+// Five public messages, each with its number as its text.
+fn five_posts<D: Disk, R: Abort>(rt: &R, alloc: Global, area: &mut OpenArea<D>, test: &User)
+    requires { HasRest D.device area.old }
+    ensures { HasRest D.device area.new }
+{
     let rows = [
-        (&test, good, Wanted::Posted(1)),
-        (&test, Act::SetMark(1), Wanted::Marked(1, 1)),
-        (&test, Act::SetMark(2), Wanted::NoMessage(2)),
-        (&test, Act::Peek(1), Wanted::Shown(b"Good\r")),
+        (test, Act::Post(draft(b"All", b"1", 0)), Wanted::Posted(1)),
+        (test, Act::Post(draft(b"All", b"2", 0)), Wanted::Posted(2)),
+        (test, Act::Post(draft(b"All", b"3", 0)), Wanted::Posted(3)),
+        (test, Act::Post(draft(b"All", b"4", 0)), Wanted::Posted(4)),
+        (test, Act::Post(draft(b"All", b"5", 0)), Wanted::Posted(5)),
     ];
-    answers(&rt, alloc, &mut area, &rows);
-    posted_to_the_byte(&rt, alloc, &area.disk.disk)?;
-    let rows = [
-        (&test, Act::SetMark(0), Wanted::Marked(0, 1)),
-        (&hello, Act::Read(1), Wanted::Shown(b"Good\r")),
-    ];
-    answers(&rt, alloc, &mut area, &rows);
-    read_to_the_byte(&rt, &area.disk.disk);
-    Ok(())
+    answers(rt, alloc, area, &rows);
 }
 
-// Two public messages, the second in reply to the first, and a private one.
-fn three_posts<D: Disk, R: Abort>(
+// The texts and the index after the pack: the middle record is that of no message.
+fn packed_to_the_byte<R: Abort>(rt: &R, disk: &MemDisk) {
+    assert_eq!(rt; disk.file(FileId::Jdt), b"35".as_slice());
+    let index = disk.file(FileId::Jdx);
+    assert_eq!(rt; index.len(), 24);
+    assert_eq!(rt;
+        &index[8..16],
+        b"\xFF\xFF\xFF\xFF\xFF\xFF\xFF\xFF".as_slice()
+    );
+    let headers = disk.file(FileId::Jhr);
+    assert!(rt; headers.len() >= 24);
+    assert_eq!(rt; &headers[20..24], b"\x03\0\0\0".as_slice());
+}
+
+// Three of the five are killed, and the area is packed.
+fn kills_and_pack<D: Disk, R: Abort>(
     rt: &R,
     alloc: Global,
     area: &mut OpenArea<D>,
-    hello: &User,
     test: &User,
+    sysop: &User,
 )
     requires { HasRest D.device area.old }
     ensures { HasRest D.device area.new }
 {
-    let first = Act::Post(draft(b"All", b"one", 0));
-    answers(rt, alloc, area, &[(hello, first, Wanted::Posted(1))]);
-    let second = Act::Post(draft(b"Hello", b"two", 1));
-    answers(rt, alloc, area, &[(test, second, Wanted::Posted(2))]);
-    let hidden = Act::Post(Draft {
-        private: true,
-        ..draft(b"Sysop", b"three", 0)
-    });
-    answers(rt, alloc, area, &[(hello, hidden, Wanted::Posted(3))]);
+    let kills = [
+        (test, Act::SetMark(3), Wanted::Marked(3, 3)),
+        (test, Act::Kill(1), Wanted::Killed(1)),
+        (test, Act::Kill(2), Wanted::Killed(2)),
+        (test, Act::Kill(4), Wanted::Killed(4)),
+    ];
+    answers(rt, alloc, area, &kills);
+    answers(
+        rt,
+        alloc,
+        area,
+        &[(sysop, Act::Pack, Wanted::Packed(3, 2, 3))],
+    );
+}
+
+// What is there after the pack, and the next post.
+fn looks_and_post<D: Disk, R: Abort>(rt: &R, alloc: Global, area: &mut OpenArea<D>, test: &User)
+    requires { HasRest D.device area.old }
+    ensures { HasRest D.device area.new }
+{
+    let looks = [
+        (test, Act::Peek(4), Wanted::NoMessage(4)),
+        (test, Act::Read(5), Wanted::Shown(b"5")),
+        (test, Act::SetMark(2), Wanted::Marked(2, 3)),
+    ];
+    answers(rt, alloc, area, &looks);
+    let posts = [
+        (test, Act::Post(draft(b"All", b"6", 5)), Wanted::Posted(6)),
+        (test, Act::Peek(5), Wanted::Linked(0, 6)),
+    ];
+    answers(rt, alloc, area, &posts);
 }
 
 #[test]
-fn a_private_message_is_hidden_and_a_reply_is_linked(rt: HostRuntime) -> Result<(), Fail> {
+fn a_pack_drops_killed_messages_and_keeps_numbers_and_marks(rt: HostRuntime) -> Result<(), Fail> {
     let alloc = rt.alloc();
     let test = user(alloc, b"Test", 7, 50)?;
-    let hello = user(alloc, b"Hello", 8, 50)?;
     let sysop = user(alloc, b"Sysop", 1, 255)?;
     let mut area = area(&rt, alloc, &[])?;
-    three_posts(&rt, alloc, &mut area, &hello, &test);
-    let rows = [
-        (&test, Act::Peek(1), Wanted::Linked(0, 2)),
-        (&test, Act::Peek(2), Wanted::Linked(1, 0)),
-        (&test, Act::Read(3), Wanted::NoMessage(3)),
-        (&sysop, Act::Read(3), Wanted::Shown(b"three")),
-    ];
-    answers(&rt, alloc, &mut area, &rows);
-    let rows = [
-        (&test, Act::Kill(1), Wanted::NotAllowed),
-        (&hello, Act::Kill(1), Wanted::Killed(1)),
-        (&hello, Act::Peek(1), Wanted::NoMessage(1)),
-    ];
-    answers(&rt, alloc, &mut area, &rows);
+    five_posts(&rt, alloc, &mut area, &test);
+    kills_and_pack(&rt, alloc, &mut area, &test, &sysop);
+    packed_to_the_byte(&rt, &area.disk.disk);
+    looks_and_post(&rt, alloc, &mut area, &test);
     Ok(())
 }
 

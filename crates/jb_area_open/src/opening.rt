@@ -2,6 +2,7 @@
 ghost use Rattle.std.specs.Prelude.{◌≡◌, ◌≤◌, IfErr, IfOk, List, ℕ, length};
 ghost use Rattle.std.specs.Option.{ForSome};
 ghost use Rattle.jb_area.specs.Area.{IsResting, device_of, loaded_of, rules_of};
+ghost use Rattle.jb_area.specs.Calls.{HasRest};
 ghost use Rattle.jb_area_open.specs.Opening.{FaultRose, IsOpenAt, IsRecovered, KeepsOpening, Refuses, device_after};
 ghost use Rattle.jb_base.specs.declared.limits.TheConstants.{MOST_ADDRESS_BYTES, MOST_SLOTS};
 ghost use Rattle.jb_decide.specs.Holds.{AreTexts};
@@ -39,6 +40,7 @@ pub fn open_area<D: Disk>(
     ensures rests { IfOk result (λ area. (texts : List ℕ)
         → AreTexts (loaded_of area) texts (device_of D.device area).contents
         → IsResting D.device area texts) }
+    ensures rest { IfOk result (HasRest D.device) }
     ensures rules { IfOk result (λ area. rules_of area ≡ rules) }
 
     // Refused: for the first thing that is wrong, or for a fault that the disk counted.

@@ -1,5 +1,6 @@
 -- From what a command comes to in the loaded area to what is pending.
 use Rattle.std.proofs.Common.{◌≡◌, ◌≢◌, ◌⊎◌, inl, inr, ℕ, ◌+◌, ◌-◌, ◌≤◌, ◌<◌, List, [], length, get_or, Bool, true, false, Option, None, Some, ap, sym, refl, ◌∙◌, subst, arith}
+use Rattle.std.proofs.lemmas.Bool.{false≢true}
 use Rattle.std.proofs.lemmas.List.{get_or-set_same, length-set}
 use Rattle.std.proofs.lemmas.List.Elements.{All-get_or, All-nil}
 use Rattle.std.proofs.lemmas.Option.{slice_get-get_or, slice_get_within}
@@ -14,6 +15,7 @@ use Rattle.jb_disk.specs.Files.{Files}
 use Rattle.jb_journal.specs.Commit.{IsWritable}
 use Rattle.jb_model.specs.Loaded.{IsMessageAt, slot_with_head, with_counts, with_head_at, with_killed_at, with_marks, with_slot_at}
 use Rattle.jb_model.specs.declared.loaded.LoadedSlot.TheVariants as slot
+use Rattle.jb_model.specs.Standing.{is_refusal}
 use Rattle.jb_model.specs.State.{state_of}
 use Rattle.jb_model.specs.Step.{Step}
 use Rattle.jb_model.specs.declared.command.Command.{Command}
@@ -47,7 +49,7 @@ use Rattle.jb_model.specs.Marks.{mark_of, with_mark}
 use Rattle.jb_model.specs.declared.mark.Mark.{Mark}
 use Rattle.jb_step.specs.declared.kills.Killing.{Killing}
 use Rattle.jb_decide.specs.Decided.{IsDecided, IsTold, made}
-use Rattle.jb_decide.specs.Headers.{KeepsHeaders, Updates}
+use Rattle.jb_decide.specs.Headers.{KeepsHeaders, PacksHeaders, Updates}
 use Rattle.jb_decide.proofs.HeaderLemmas.{keeps_all, keeps_headers}
 use Rattle.jb_decide.proofs.BringLemmas.{brings_same}
 use Rattle.jb_decide.specs.Pending.{headed_at}
@@ -73,17 +75,37 @@ no_lengths_legal lengths none = subst AreLegalLengths (sym none) (record { few =
 pub small_writable : (change : Change) → change.lengths ≡ [] → 16 + record_size change ≤ JOURNAL_CEILING → IsWritable change
 small_writable change none small = record { lengths_are = no_lengths_legal change.lengths none; short = small }
 
+-- a refusal is no answer of a pack that was done
+pub no_pack : (answer : Reply) → is_refusal answer ≡ true → (to : Loaded) (files : Files) → PacksHeaders answer to files
+no_pack (reply.Packed base live dropped) refusal to files = absurd (false≢true refusal)
+no_pack (reply.Posted number) refusal to files = tt
+no_pack (reply.Text letter) refusal to files = tt
+no_pack (reply.Killed number) refusal to files = tt
+no_pack (reply.Marked last high) refusal to files = tt
+no_pack (reply.Relinked changed) refusal to files = tt
+no_pack (reply.Denied rule) refusal to files = tt
+no_pack (reply.NoMessage number) refusal to files = tt
+no_pack (reply.TooLong field len) refusal to files = tt
+no_pack (reply.EmptyName field) refusal to files = tt
+no_pack (reply.SlotsFull slots) refusal to files = tt
+no_pack (reply.HeadersFull len) refusal to files = tt
+no_pack (reply.TextFull len) refusal to files = tt
+no_pack (reply.NumbersSpent next) refusal to files = tt
+no_pack (reply.MarksFull marks) refusal to files = tt
+
 -- a reply that leaves the area as it is
 pub unchanged_decided : (rules : AreaRules) (from : Loaded) (texts : List ℕ) (contents : Option Files) (redo : Change) (user : User) (moment : ℕ) (command : Command) (decided : Decided) (answer : Reply)
     → decided.reply ≡ answer → decided.pending ≡ Nothing
+    → ((to : Loaded) (files : Files) → PacksHeaders answer to files)
     → (IsTold answer contents → Step rules (state_of texts from) user moment command answer (state_of texts from))
     → IsDecided rules from texts contents redo user moment command decided
-unchanged_decided rules from texts contents redo user moment command decided answer reply none step = record {
+unchanged_decided rules from texts contents redo user moment command decided answer reply none packs step = record {
   coming = record { to = from; texts = texts };
   change = inl (record { none = none; same = refl });
   step = λ told. subst (λ (r : Reply). Step rules (state_of texts from) user moment command r (state_of texts from)) (sym reply)
       (step (subst (λ (r : Reply). IsTold r contents) reply told));
   headers = λ same files holds. subst (λ (p : Pending). KeepsHeaders decided.reply from from files (made p redo files)) (sym none) (keeps_all decided.reply from files);
+  packs = λ files holds. subst (λ (r : Reply). PacksHeaders r from (made decided.pending redo files)) (sym reply) (packs from (made decided.pending redo files));
 }
 
 -- what holds where files are told holds of a letter that is told
@@ -117,7 +139,7 @@ kill_decided rules from texts contents redo user moment number counter active ki
         some = counted_some (slots.Killed killing.place killing.header_at) counter active;
         becomes = sym same ∙ ap (λ (n : ℕ). with_counts counter active (with_slot_at killing.place (slot.Killed n) from)) (sym is.header);
         change = record {
-          brings = brings_same redo from to texts updates.makes;
+          brings = λ files there. brings_same redo from to texts updates.makes;
           writable = writable;
         };
         fit = slice_get_within from.slots killing.place _ is.named.here;
@@ -126,6 +148,7 @@ kill_decided rules from texts contents redo user moment number counter active ki
         live = omega (arith, fewer, live);
       });
       step = λ told. is.step texts moment;
+      packs = λ files holds. tt;
       headers = λ same files holds. keeps_headers (reply.Killed number) redo from to [] updates (length-set from.slots killing.place _) files holds.loads;
     }
 
@@ -164,13 +187,14 @@ mark_decided rules from texts contents redo user moment number mark place is bef
       change = inr (record {
         some = marked_some place mark;
         becomes = refl;
-        change = record { brings = brings_same redo from to texts makes.makes; writable = writable };
+        change = record { brings = λ files there. brings_same redo from to texts makes.makes; writable = writable };
         fit = (placed, mark_room mark.user_crc mark.user_id from.marks place placed room);
         sound = is.sound before;
         sized = sized;
         live = refl;
       });
       step = λ told. is.step texts moment;
+      packs = λ files holds. tt;
       headers = λ same files holds. keeps_headers (reply.Marked mark.last mark.high) redo from to [] makes refl files holds.loads;
     }
 
@@ -225,7 +249,7 @@ read_decided rules from texts contents redo user moment number counter active re
       change = inr (record {
         some = counted_some (slots.Headed reading.place reading.head) counter active;
         becomes = sym same ∙ ap (with_counts counter active) (headed_is reading.place reading.head is.message from is.named.here);
-        change = record { brings = brings_same redo from to texts updates.makes; writable = writable };
+        change = record { brings = λ files there. brings_same redo from to texts updates.makes; writable = writable };
         fit = record { message = is.message; here = is.named.here; reply_to = ap (λ (h : Head). h.reply_to) is.head ∙ reading_keeps_parent user moment is.message };
         sound = is.sound before;
         sized = sized;
@@ -233,6 +257,7 @@ read_decided rules from texts contents redo user moment number counter active re
       });
       step = λ told. subst (λ (l : Letter). Step rules (state_of texts from) user moment (Read number) (reply.Text l) (state_of texts to))
           (sym (of_letter contents letter _ told shown)) (is.step texts);
+      packs = λ files holds. tt;
       headers = λ same files holds. keeps_headers (reply.Text letter) redo from to [] updates (length-set from.slots reading.place _) files holds.loads;
     }
 

@@ -3,5 +3,7 @@ pub mod DecidedLemmas
 mod HeaderLemmas
 mod LinkedLemmas
 pub mod MarkLemmas
+mod PackIndexLemmas
+pub mod PackLemmas
 mod PostLemmas
 pub mod RelinkLemmas

@@ -139,7 +139,7 @@ post_decided rules from texts contents redo user moment counter active size draf
       change = inr (record {
         some = counted_some (slots.Posted posting.message size posting.neighbour) counter active;
         becomes = sym same;
-        change = record { brings = brings redo from to texts draft.text updates.makes; writable = writable };
+        change = record { brings = λ files there. brings redo from to texts draft.text updates.makes; writable = writable };
         fit = (
           link_fit posting.neighbour from is.linked is.written,
           omega (arith, slot, few),
@@ -154,6 +154,7 @@ post_decided rules from texts contents redo user moment counter active size draf
         live = is.live ∙ sym live;
       });
       step = λ told. is.step before texts as_long;
+      packs = λ files holds. tt;
       headers = λ same files holds. record {
         places = updates.places;
         numbers = updates.numbers files holds.loads;

@@ -234,7 +234,7 @@ relink_decided rules from texts contents redo user moment counter active relinki
       change = inr (record {
         some = counted_some (slots.Relinked relinking.plan) counter active;
         becomes = sym same;
-        change = record { brings = brings_same redo from to texts updates.makes; writable = writable };
+        change = record { brings = λ files there. brings_same redo from to texts updates.makes; writable = writable };
         fit = record {
           placed = is.placed;
           index = λ replies index. rests_on_slots replies (with_counts counter active linked) linked refl refl (subst (IsIndexOf replies) (sym same) (is.index replies index));
@@ -244,6 +244,7 @@ relink_decided rules from texts contents redo user moment counter active relinki
         live = is.live ∙ sym live;
       });
       step = λ told. is.step texts moment;
+      packs = λ files holds. tt;
       headers = λ same_places files holds. keeps_headers (reply.Relinked relinking.changed) redo from to [] updates
           (ap (λ (l : Loaded). length l.slots) (sym same) ∙ length_of relinking.plan from) files holds.loads;
     }

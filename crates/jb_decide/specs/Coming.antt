@@ -1,5 +1,6 @@
 -- What is to come of an area, and the change of its files that brings it.
-use Rattle.std.specs.Prelude.{ℕ, List}
+use Rattle.std.specs.Option.{ForSome}
+use Rattle.std.specs.Prelude.{ℕ, List, Option}
 use Rattle.jb_change.specs.Makes.{done}
 use Rattle.jb_disk.specs.Change.{Change}
 use Rattle.jb_disk.specs.Files.{Files}
@@ -22,7 +23,7 @@ pub record Brings (change : Change) (from : Loaded) (texts : List ℕ) (to : Loa
   -- what the files hold then
   pub holds : (files : Files) → Holds from texts files → Holds to after (done change files)
 
--- this redo brings what is to come, and can be committed
-pub record IsChange (redo : Change) (from : Loaded) (texts : List ℕ) (coming : Coming) : Type 0 where
-  pub brings : Brings redo from texts coming.to coming.texts
+-- where the disk tells its files, this redo brings what is to come; on each disk it can be committed
+pub record IsChange (contents : Option Files) (redo : Change) (from : Loaded) (texts : List ℕ) (coming : Coming) : Type 0 where
+  pub brings : ForSome contents (λ files. Brings redo from texts coming.to coming.texts)
   pub writable : IsWritable redo

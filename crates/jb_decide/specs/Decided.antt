@@ -17,14 +17,14 @@ use Rattle.jb_model.specs.declared.reply.Reply.{Reply}
 use Rattle.jb_model.specs.declared.reply.Reply.TheVariants.{Text}
 use Rattle.jb_step.specs.After.{live_messages}
 use Rattle.jb_decide.specs.Coming.{Coming, IsChange}
-use Rattle.jb_decide.specs.Headers.{KeepsHeaders}
+use Rattle.jb_decide.specs.Headers.{KeepsHeaders, PacksHeaders}
 use Rattle.jb_decide.specs.Held.{IsKeptWhole}
 use Rattle.jb_decide.specs.Holds.{Holds}
 use Rattle.jb_decide.specs.Pending.{IsFit, after, live_after}
 use Rattle.jb_decide.specs.declared.decided.Decided.{Decided}
 use Rattle.jb_decide.specs.declared.held.Held.{Held}
 use Rattle.jb_decide.specs.declared.pending.Pending.{Pending}
-use Rattle.jb_decide.specs.declared.pending.Pending.TheVariants.{Nothing, Counted, Marked}
+use Rattle.jb_decide.specs.declared.pending.Pending.TheVariants.{Nothing, Counted, Marked, Packed}
 
 -- what is kept of an area by these rules is sound
 pub record IsKeptFor (rules : AreaRules) (held : Held) : Type 0 where
@@ -33,10 +33,10 @@ pub record IsKeptFor (rules : AreaRules) (held : Held) : Type 0 where
   pub whole : IsKeptWhole held
 
 -- the change that is pending, in this redo, brings what is to come
-pub record IsPending (limit : ℕ) (redo : Change) (pending : Pending) (from : Loaded) (texts : List ℕ) (coming : Coming) : Type 0 where
+pub record IsPending (limit : ℕ) (contents : Option Files) (redo : Change) (pending : Pending) (from : Loaded) (texts : List ℕ) (coming : Coming) : Type 0 where
   pub some : pending ≢ Nothing
   pub becomes : coming.to ≡ after pending from
-  pub change : IsChange redo from texts coming
+  pub change : IsChange contents redo from texts coming
   pub fit : IsFit pending from
   pub sound : IsSound limit coming.to
   pub sized : length coming.texts ≡ coming.to.texts_len
@@ -56,6 +56,7 @@ abbrev pub made : Pending → Change → Files → Files
 made Nothing redo files = files
 made (Counted change counter active) redo files = done redo files
 made (Marked place mark) redo files = done redo files
+made (Packed plan base replies) redo files = done redo files
 
 -- a command that leaves the files in their places, which is each but a pack
 abbrev pub IsNoPack : Command → Type 0
@@ -65,6 +66,7 @@ IsNoPack _ = Unit {0}
 -- the command is answered so, and what is pending, in this redo, is what it changes; whether a letter is right rests on the texts
 pub record IsDecided (rules : AreaRules) (from : Loaded) (texts : List ℕ) (contents : Option Files) (redo : Change) (user : User) (moment : ℕ) (command : Command) (decided : Decided) : Type 0 where
   pub coming : Coming
-  pub change : IsNoChange decided.pending from texts coming ⊎ IsPending rules.slots redo decided.pending from texts coming
+  pub change : IsNoChange decided.pending from texts coming ⊎ IsPending rules.slots contents redo decided.pending from texts coming
   pub step : IsTold decided.reply contents → Step rules (state_of texts from) user moment command decided.reply (state_of coming.texts coming.to)
   pub headers : IsNoPack command → (files : Files) → Holds from texts files → KeepsHeaders decided.reply from coming.to files (made decided.pending redo files)
+  pub packs : (files : Files) → Holds from texts files → PacksHeaders decided.reply coming.to (made decided.pending redo files)

@@ -12,7 +12,8 @@ use Rattle.jb_model.specs.declared.loaded.LoadedMessage.{LoadedMessage}
 use Rattle.jb_model.specs.declared.loaded.LoadedSlot.{LoadedSlot}
 use Rattle.jb_model.specs.declared.loaded.LoadedSlot.TheVariants.{Empty, Killed, Live}
 use Rattle.jb_model.specs.declared.reply.Reply.{Reply}
-use Rattle.jb_model.specs.declared.reply.Reply.TheVariants.{Posted}
+use Rattle.jb_model.specs.declared.reply.Reply.TheVariants.{Packed, Posted}
+use Rattle.jb_pack.specs.Standing.{StandTogether}
 
 -- where the header of a slot stands in .JHR, if it has one
 abbrev pub header_place : LoadedSlot → Option ℕ
@@ -43,6 +44,12 @@ pub record KeepsHeaders (reply : Reply) (from to : Loaded) (old new : Files) : T
   pub places : KeepsPlaces from to
   pub numbers : KeepsNumbers from old new
   pub behind : (place : ℕ) (message : LoadedMessage) → length from.slots ≤ place → IsMessageAt to place message → StandsBehind reply message old new
+
+-- after a pack that was done the live messages stand one behind another, headers from 1,024 on and texts from 0 on, each with
+-- its number in its header
+abbrev pub PacksHeaders : Reply → Loaded → Files → Type 0
+PacksHeaders (Packed base live dropped) to files = StandTogether files to.base 1024 0 to.slots
+PacksHeaders _ to files = Unit {0}
 
 -- of files that hold this area it makes files that hold that one, with these bytes behind the texts, and keeps each header in its place, and its MessageNumber
 pub record Updates (change : Change) (from to : Loaded) (text : List ℕ) : Type 0 where

@@ -1,19 +1,23 @@
 -- What a call that is begun makes of the area as it is loaded.
 use Rattle.std.specs.Prelude.{◌≡◌, ℕ, ◌<◌, ◌≤◌, ◌+◌, All, List, Option, Some, None, length, slice_index_or}
 use Rattle.jb_base.specs.declared.limits.TheConstants.{HEADERS_CEILING, MOST_MARKS, MOST_SLOTS, TEXTS_CEILING}
+use Rattle.jb_link.specs.Plan.{plan_of}
+use Rattle.jb_link.specs.Slots.{linkables_from}
 use Rattle.jb_marks.specs.Places.{IsPlaceOf}
 use Rattle.jb_model.specs.Marks.{with_mark}
 use Rattle.jb_model.specs.Loaded.{IsMessageAt, header_size, slot_with_head, with_counts, with_marks, with_message_behind, with_slot_at}
+use Rattle.jb_model.specs.Sound.{IsSound}
 use Rattle.jb_model.specs.declared.links.Links.{Links}
 use Rattle.jb_model.specs.declared.loaded.Loaded.{Loaded}
 use Rattle.jb_model.specs.declared.loaded.LoadedMessage.{LoadedMessage}
 use Rattle.jb_model.specs.declared.loaded.LoadedSlot.TheVariants as slot
 use Rattle.jb_model.specs.declared.message.Head.{Head}
+use Rattle.jb_pack.specs.Packed.{kept_slots, new_base, packed, texts_size}
 use Rattle.jb_replies.specs.Index.{IsIndexOf, ReplyIndex}
 use Rattle.jb_step.specs.Relink.{IsPlaced, with_links_of}
 use Rattle.jb_step.specs.declared.neighbours.Neighbour.{Neighbour}
 use Rattle.jb_decide.specs.declared.pending.Pending.{Pending}
-use Rattle.jb_decide.specs.declared.pending.Pending.TheVariants.{Nothing, Counted, Marked}
+use Rattle.jb_decide.specs.declared.pending.Pending.TheVariants.{Nothing, Counted, Marked, Packed}
 use Rattle.jb_decide.specs.declared.pending.SlotChange.{SlotChange}
 use Rattle.jb_decide.specs.declared.pending.SlotChange.TheVariants.{Headed, Killed, Posted, Relinked}
 
@@ -38,6 +42,7 @@ abbrev pub after : Pending → Loaded → Loaded
 after Nothing loaded = loaded
 after (Counted change counter active) loaded = with_counts counter active (changed_by change loaded)
 after (Marked place mark) loaded = with_marks (with_mark mark loaded.marks) loaded
+after (Packed plan base replies) loaded = packed loaded
 
 -- the files stay short enough with the message behind
 pub record HasLengths (message : LoadedMessage) (size : ℕ) (loaded : Loaded) : Type 0 where
@@ -56,6 +61,16 @@ pub record IsPlanFit (plan : List Links) (loaded : Loaded) : Type 0 where
   pub placed : All (IsPlaced loaded) plan
   pub index : (replies : ReplyIndex) → IsIndexOf replies loaded → IsIndexOf replies (with_links_of plan loaded)
 
+-- the base and the links are those of a pack of this sound area, whose texts fit; the index is that of its replies then, with
+-- room for all slots
+pub record IsPackFit (plan : List Links) (base : ℕ) (replies : ReplyIndex) (loaded : Loaded) : Type 0 where
+  pub sound : IsSound MOST_SLOTS loaded
+  pub links : plan ≡ plan_of (linkables_from loaded.base loaded.slots)
+  pub base_is : base ≡ new_base loaded
+  pub texts : texts_size (kept_slots loaded) ≤ TEXTS_CEILING
+  pub index : IsIndexOf replies (packed loaded)
+  pub room : length (packed loaded).slots + replies.room ≡ MOST_SLOTS
+
 -- the header to be changed, where there is one, is that of a message
 abbrev pub IsLinkFit : Option Neighbour → Loaded → Type 0
 IsLinkFit None loaded = Unit {0}
@@ -73,9 +88,11 @@ abbrev pub IsFit : Pending → Loaded → Type 0
 IsFit Nothing loaded = Unit {0}
 IsFit (Counted change counter active) loaded = IsSlotFit change loaded
 IsFit (Marked place mark) loaded = IsPlaceOf mark.user_crc mark.user_id loaded.marks place × (place ≡ None → length loaded.marks < MOST_MARKS)
+IsFit (Packed plan base replies) loaded = IsPackFit plan base replies loaded
 
 -- so many messages are live after the change, of so many before
 abbrev pub live_after : Pending → ℕ → ℕ
 live_after Nothing live = live
 live_after (Counted change counter active) live = active
 live_after (Marked place mark) live = live
+live_after (Packed plan base replies) live = live

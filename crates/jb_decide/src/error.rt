@@ -1,9 +1,11 @@
 //! Why a call of an open area is not done.
 ghost use Rattle.std.specs.Prelude.{◌≡◌};
+ghost use Rattle.jb_decide.specs.Errors.{area_error};
 ghost use Rattle.jb_decide.specs.declared.error.AreaError.TheVariants.{StoreFault as fault, OutOfMemory as no_memory};
 
 use jb_base::OutOfMemory as NoMemory;
 use jb_disk::DiskFailed;
+use jb_pack::PackError;
 use std::alloc::AllocError;
 use std::error::Error;
 use std::fmt;
@@ -49,5 +51,16 @@ impl From<DiskFailed> for AreaError {
 
     fn from(_failed: DiskFailed) -> AreaError {
         AreaError::StoreFault
+    }
+}
+
+impl From<PackError> for AreaError {
+    ghost from_gives = { λ cause error. error ≡ area_error cause };
+
+    fn from(cause: PackError) -> AreaError {
+        match cause {
+            PackError::StoreFault => AreaError::StoreFault,
+            PackError::OutOfMemory => AreaError::OutOfMemory,
+        }
     }
 }

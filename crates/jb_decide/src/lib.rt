@@ -4,17 +4,18 @@
 //! the command says (`Step` of `jb_model`), and what is pending then ([`Pending`]) is what the command changes: done in the
 //! loaded area it gives the area after the command, and the redo, done in whatever files hold the area, gives files that hold
 //! that area. Nothing is written, and what is kept stays as it is. A letter is right where the disk tells its texts, each other
-//! reply on every disk. Packs come later.
+//! reply on every disk; so are the files that a pack makes, since it reads the texts that it moves.
 //!
 //! A redo holds what changed and no more. A kill has 12 bytes of .JHR, a mark 16 of .JLR, a reading 20 of .JHR; a post its
 //! header and subfields, its text, one index record and 20 bytes of .JHR at most beside; a relink 12 bytes for each message whose
-//! links are others, and 8.
+//! links are others, and 8; a pack all of .JHR, .JDX and .JDT as they are then.
 #![tactic(auto)]
 
 mod decided;
 mod deciding;
 mod error;
 mod held;
+mod packing;
 mod pending;
 mod posting;
 mod reading;
@@ -25,6 +26,7 @@ pub use decided::Decided;
 pub use deciding::{decide_kill, decide_mark};
 pub use error::AreaError;
 pub use held::Held;
+pub use packing::decide_pack;
 pub use pending::{Pending, SlotChange};
 pub use posting::decide_post;
 pub use reading::{decide_peek, decide_read};

@@ -2,6 +2,7 @@
 
 use jb_link::Plan;
 use jb_model::{Head, LoadedMessage, Mark};
+use jb_replies::Replies;
 use jb_step::Neighbour;
 
 /// What a call that is begun will change.
@@ -19,6 +20,13 @@ pub enum Pending {
     Marked {
         place: Option<usize>,
         mark: Mark,
+    },
+    /// All slots, and with them base, lengths, modcounter and activemsgs: the area is packed, with this base and these links.
+    /// The index is that of its replies then, with room for the slots that are cut off.
+    Packed {
+        plan: Plan,
+        base: u32,
+        replies: Replies,
     },
 }
 

@@ -21,4 +21,4 @@ returns-clause-doubt g c = if_err_then c.commit.result _ _ c.commit.ensures.in_d
 
 pub returns-clause-crash : goal.returns-clause-crash
 returns-clause-crash g c = λ from texts coming settled is was there.
-    crash_as c.args.redo.now (g.D.Disk.device c.args.disk.now) (g.D.Disk.device c.commit.new.disk) from texts coming was (settled.rests was there) is (c.commit.ensures.crash was there)
+    crash_as c.args.redo.now (g.D.Disk.device c.args.disk.now) (g.D.Disk.device c.commit.new.disk) from texts coming was (settled.rests was there) (is.brings was there) (c.commit.ensures.crash was there)

@@ -5,7 +5,7 @@ use Rattle.jb_area.proofs.committing.settle_change.Goals as goal
 pub settle-requires-clause-in_doubt : goal.settle-requires-clause-in_doubt
 settle-requires-clause-in_doubt g c = λ was there.
     let may = c.requires.may in
-    has_stopped c.args.redo.now c.args.stopped (g.D.Disk.device c.args.disk.now) may.from may.texts may.coming (may.doubt was there) may.change
+    has_stopped c.args.redo.now c.args.stopped (g.D.Disk.device c.args.disk.now) may.from may.texts may.coming (may.doubt was there) (may.change.brings was there)
 
 pub returns-clause-answer : goal.returns-clause-answer
 returns-clause-answer g c = if_ok_then2 c.settle.result _ _ _ c.settle.ensures.answer c.settle.ensures.durable (λ stands answer durable from texts coming doubt is.
@@ -17,4 +17,4 @@ returns-clause-still g c = if_err_then c.settle.result _ _ c.settle.ensures.stil
 
 pub returns-clause-crash : goal.returns-clause-crash
 returns-clause-crash g c = λ from texts coming doubt is was there.
-    settling_as c.args.redo.now c.args.stopped (g.D.Disk.device c.args.disk.now) (g.D.Disk.device c.settle.new.disk) from texts coming (doubt was there) is c.settle.ensures.crash
+    settling_as c.args.redo.now c.args.stopped (g.D.Disk.device c.args.disk.now) (g.D.Disk.device c.settle.new.disk) from texts coming (doubt was there) (is.brings was there) c.settle.ensures.crash

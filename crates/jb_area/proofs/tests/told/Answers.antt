@@ -36,3 +36,9 @@ returns-in-SetMark g c =
     let has = c.requires in
     let answered = given c.set_mark-answer.result c.replied-in-SetMark.result _ c.replied-in-SetMark.ensures (c.set_mark-answer.ensures.meets 0).answered has.texts has.rests in
     record { texts = answered.coming.texts; rests = answered.rests.rests }
+
+pub returns-in-Pack : goal.returns-in-Pack
+returns-in-Pack g c =
+    let has = c.requires in
+    let answered = given c.pack-answer.result c.replied-in-Pack.result _ c.replied-in-Pack.ensures (c.pack-answer.ensures.meets 0).answered has.texts has.rests in
+    record { texts = answered.coming.texts; rests = answered.rests.rests }

@@ -2,13 +2,13 @@ use Rattle.std.proofs.Common.{[], refl, ap, ◌∙◌, ◌-◌, ℕ, arith}
 use Rattle.jb_decide.proofs.HeaderLemmas.{updates_cleared, updates_counted, updates_kill}
 use Rattle.std.specs.Prelude.{bit_or}
 use Rattle.jb_base.specs.declared.attribute.TheConstants.{DELETED}
-use Rattle.jb_decide.proofs.DecidedLemmas.{kill_decided, small_writable, unchanged_decided}
+use Rattle.jb_decide.proofs.DecidedLemmas.{kill_decided, no_pack, small_writable, unchanged_decided}
 use Rattle.jb_decide.proofs.deciding.decide_kill.Goals as goal
 
 pub returns-in-Err-clause-decided : goal.returns-in-Err-clause-decided
 returns-in-Err-clause-decided c = λ moment texts contents are.
     unchanged_decided c.args.rules.now c.args.held.now.loaded texts contents c.args.redo.now c.args.user.now moment _ c.unchanged.result c.in-Err.reply c.unchanged.ensures.reply c.unchanged.ensures.pending
-    (λ told. c.in-Err.ensures.refused.step texts moment)
+    (no_pack c.in-Err.reply c.in-Err.ensures.refused.refusal) (λ told. c.in-Err.ensures.refused.step texts moment)
 
 pub returns-in-Ok-clause-decided : goal.returns-in-Ok-clause-decided
 returns-in-Ok-clause-decided c = λ moment texts contents are.

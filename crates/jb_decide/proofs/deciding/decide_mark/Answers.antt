@@ -2,7 +2,7 @@ use Rattle.std.proofs.Common.{◌<◌, List, length, ap, subst, sym, ◌∙◌}
 use Rattle.jb_model.specs.declared.mark.Mark.{Mark}
 use Rattle.jb_base.specs.Crc.{jam_crc_of}
 use Rattle.jb_base.specs.declared.limits.TheConstants.{MOST_MARKS}
-use Rattle.jb_decide.proofs.DecidedLemmas.{mark_decided, mark_room, room_is, unchanged_decided}
+use Rattle.jb_decide.proofs.DecidedLemmas.{mark_decided, mark_room, no_pack, room_is, unchanged_decided}
 use Rattle.jb_decide.proofs.MarkLemmas.{place_for}
 use Rattle.jb_decide.proofs.deciding.decide_mark.Goals as goal
 
@@ -17,7 +17,7 @@ put_marked-requires-clause-room c = λ none.
 pub returns-in-Err-clause-decided : goal.returns-in-Err-clause-decided
 returns-in-Err-clause-decided c = λ moment texts contents are.
     unchanged_decided c.args.rules.now c.args.held.now.loaded texts contents c.args.redo.now c.args.user.now moment _ c.unchanged.result c.in-Err.reply c.unchanged.ensures.reply c.unchanged.ensures.pending
-    (λ told. c.in-Err.ensures.refused.step texts moment)
+    (no_pack c.in-Err.reply c.in-Err.ensures.refused.refusal) (λ told. c.in-Err.ensures.refused.step texts moment)
 
 pub returns-in-Ok-clause-decided : goal.returns-in-Ok-clause-decided
 returns-in-Ok-clause-decided c = λ moment texts contents are.

@@ -1,13 +1,13 @@
 use Rattle.std.proofs.Common.{ℕ, ◌+◌, ap, arith, refl}
 use Rattle.jb_step.specs.Draft.{draft_of}
-use Rattle.jb_decide.proofs.DecidedLemmas.{unchanged_decided}
+use Rattle.jb_decide.proofs.DecidedLemmas.{no_pack, unchanged_decided}
 use Rattle.jb_decide.proofs.PostLemmas.{post_decided}
 use Rattle.jb_decide.proofs.posting.decide_post.Goals as goal
 
 pub returns-in-Err-clause-decided : goal.returns-in-Err-clause-decided
 returns-in-Err-clause-decided c = λ texts contents are.
     unchanged_decided c.args.rules.now c.args.held.now.loaded texts contents c.args.redo.now c.args.user.now c.args.moment _ c.unchanged.result c.in-Err.reply c.unchanged.ensures.reply c.unchanged.ensures.pending
-    (λ told. (rw c.in-Err.is at c.in_ok-reply.ensures.refused).step texts c.args.moment)
+    (no_pack c.in-Err.reply (rw c.in-Err.is at c.in_ok-reply.ensures.refused).refusal) (λ told. (rw c.in-Err.is at c.in_ok-reply.ensures.refused).step texts c.args.moment)
 
 pub returns-in_ok-put_posting-in-Ok-clause-decided : goal.returns-in_ok-put_posting-in-Ok-clause-decided
 returns-in_ok-put_posting-in-Ok-clause-decided c = λ texts contents are.

@@ -8,7 +8,7 @@ use Rattle.jb_model.specs.Loaded.{with_counts, with_head_at}
 use Rattle.jb_model.specs.declared.loaded.LoadedMessage.{LoadedMessage}
 use Rattle.jb_model.specs.declared.message.Head.{Head}
 use Rattle.jb_model.specs.Sound.{IsTextWithin}
-use Rattle.jb_decide.proofs.DecidedLemmas.{read_decided, reading_head, reading_live, same_message, unchanged_decided, within_is}
+use Rattle.jb_decide.proofs.DecidedLemmas.{no_pack, read_decided, reading_head, reading_live, same_message, unchanged_decided, within_is}
 use Rattle.jb_decide.proofs.RelinkLemmas.{near_headers}
 use Rattle.jb_decide.proofs.reading.decide_read.Goals as goal
 
@@ -32,7 +32,7 @@ put_read-requires-clause-live g c =
 pub returns-in-Err-clause-decided : goal.returns-in-Err-clause-decided
 returns-in-Err-clause-decided g c = λ texts are.
     unchanged_decided c.args.rules.now c.args.held.now.loaded texts (g.D.Disk.device c.args.disk.now).contents c.args.redo.now c.args.user.now c.args.moment _ c.unchanged.result c.in-Err.reply c.unchanged.ensures.reply c.unchanged.ensures.pending
-    (λ told. c.in-Err.ensures.refused.step texts c.args.moment)
+    (no_pack c.in-Err.reply c.in-Err.ensures.refused.refusal) (λ told. c.in-Err.ensures.refused.step texts c.args.moment)
 
 pub returns-in_ok-shown-in-Ok-clause-decided : goal.returns-in_ok-shown-in-Ok-clause-decided
 returns-in_ok-shown-in-Ok-clause-decided g c = λ texts are.

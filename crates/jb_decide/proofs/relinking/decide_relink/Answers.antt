@@ -9,14 +9,14 @@ use Rattle.jb_model.specs.Step.{Step}
 use Rattle.jb_model.specs.declared.command.Command.TheVariants.{Relink}
 use Rattle.jb_model.specs.declared.loaded.Loaded.{Loaded}
 use Rattle.jb_model.specs.declared.reply.Reply.TheVariants.{Relinked}
-use Rattle.jb_decide.proofs.DecidedLemmas.{unchanged_decided}
+use Rattle.jb_decide.proofs.DecidedLemmas.{no_pack, unchanged_decided}
 use Rattle.jb_decide.proofs.RelinkLemmas.{near_headers, not_relinked, relink_decided}
 use Rattle.jb_decide.proofs.relinking.decide_relink.Goals as goal
 
 pub returns-in-Err-clause-decided : goal.returns-in-Err-clause-decided
 returns-in-Err-clause-decided c = λ moment texts contents are.
     unchanged_decided c.args.rules.now c.args.held.now.loaded texts contents c.args.redo.now c.args.user.now moment _ c.unchanged.result c.in-Err.reply c.unchanged.ensures.reply c.unchanged.ensures.pending
-    (λ told. (rw c.in-Err.is at c.in_ok-reply.ensures.refused).step texts moment)
+    (no_pack c.in-Err.reply (rw c.in-Err.is at c.in_ok-reply.ensures.refused).refusal) (λ told. (rw c.in-Err.is at c.in_ok-reply.ensures.refused).step texts moment)
 
 pub returns-then-changed-eq0-clause-decided : goal.returns-then-changed-eq0-clause-decided
 returns-then-changed-eq0-clause-decided c = λ moment texts contents are.
@@ -24,7 +24,7 @@ returns-then-changed-eq0-clause-decided c = λ moment texts contents are.
     let from : Loaded = c.args.held.now.loaded in
     unchanged_decided c.args.rules.now from texts contents c.args.redo.now c.args.user.now moment _ c.unchanged-then-changed-eq0.result _
     c.unchanged-then-changed-eq0.ensures.reply c.unchanged-then-changed-eq0.ensures.pending
-    (λ told. subst (λ (l : Loaded). Step c.args.rules.now (state_of texts from) c.args.user.now moment Relink (Relinked c.in-Ok.field-0.changed) (state_of texts l))
+    (λ to files. tt) (λ told. subst (λ (l : Loaded). Step c.args.rules.now (state_of texts from) c.args.user.now moment Relink (Relinked c.in-Ok.field-0.changed) (state_of texts l))
     (not_relinked c.args.rules.now from c.args.user.now _ is c.if-changed-eq0.true) (is.step texts moment))
 
 pub put_relinking-requires-clause-near : goal.put_relinking-requires-clause-near

@@ -38,3 +38,9 @@ returns-in-Relink g c = record {
   begins = subst (λ (command : Command). BeginsCall g.D.Disk.device c.args.self.now c.begin_relink.new.self c.args.user.now c.args.moment command c.begin_relink.result)
       (sym c.in-Relink.is) (c.begin_relink.ensures c.args.moment);
 }
+
+pub returns-in-Pack : goal.returns-in-Pack
+returns-in-Pack g c = record {
+  begins = subst (λ (command : Command). BeginsCall g.D.Disk.device c.args.self.now c.begin_pack.new.self c.args.user.now c.args.moment command c.begin_pack.result)
+      (sym c.in-Pack.is) (c.begin_pack.ensures c.args.moment);
+}

@@ -38,7 +38,7 @@ returns-in-Ok-clause-crash g c = λ texts decided coming begun was there.
 pub returns-in-Err-clause-doubt : goal.returns-in-Err-clause-doubt
 returns-in-Err-clause-doubt g c = λ texts decided coming begun.
     between g.D.Disk.device c.args.self.now texts decided coming begun c.in-Begun.reply c.in-Begun.pending c.commit_change.new.disk c.in-Err.stopped
-    (sym c.replace.ensures.value ∙ c.in-Begun.is) c.in_default-pending.not-Nothing c.in-Err.ensures.doubt
+    (sym c.replace.ensures.value ∙ c.in-Begun.is) c.in_default-pending.not-Nothing c.commit_change.ensures.silent c.in-Err.ensures.doubt
 
 pub returns-in-Err-clause-crash : goal.returns-in-Err-clause-crash
 returns-in-Err-clause-crash g c = λ texts decided coming begun was there.

@@ -37,7 +37,7 @@ returns-in-Ok-false-clause-crash g c =
 pub returns-in-Err-clause-still : goal.returns-in-Err-clause-still
 returns-in-Err-clause-still g c =
     still g.D.Disk.device c.args.self.now c.in-Doubtful.stopped c.in-Doubtful.pending (sym c.replace.ensures.value ∙ c.in-Doubtful.is) c.in_default-pending.not-Nothing
-    c.settle_change.new.disk c.in-Err.stopped c.in-Err.ensures.still
+    c.settle_change.new.disk c.in-Err.stopped c.settle_change.ensures.silent c.in-Err.ensures.still
 
 pub returns-in-Err-clause-crash : goal.returns-in-Err-clause-crash
 returns-in-Err-clause-crash g c =
