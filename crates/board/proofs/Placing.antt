@@ -1,12 +1,15 @@
 -- A disk that was handed out, used and put back.
 use Rattle.std.proofs.Common.{◌≡◌, ℕ, ◌≤◌, Bool, true, false, ◌&&◌, List, ap, ◌∙◌, refl}
-use Rattle.std.specs.Prelude.{bytes_eq, if◌then◌else◌, Option, Some, None, IsSome}
+use Rattle.std.specs.Prelude.{bytes_eq, if◌then◌else◌, Option, Some, None, IsSome, Result, Ok, Err}
 use Rattle.std.specs.Option.{ForSome, option_map}
 use Rattle.std.proofs.lemmas.Slice.Eq.{bytes_eq-Decides}
 use Rattle.jb_disk.specs.Device.{Device}
 use Rattle.jb_host.specs.Desk.{Desk, Disks, GivesDisk, Place, TakesBack, handed_out, has_disk, with_place}
-use Rattle.board.specs.Run.{UsesDisk}
-use Rattle.board.specs.Tool.{Answer, KeepsReplay, ListsDisk}
+use Rattle.jb_tool.specs.Answers.{AnswersTool, KeepsOpening}
+use Rattle.jb_tool.specs.declared.error.ToolError.{ToolError}
+use Rattle.jb_tool.specs.declared.tool.Tool.{Tool}
+use Rattle.board.specs.Run.{Answer, AnswersAs, UsesDisk, answer_of}
+use Rattle.board.specs.declared.fault.Fault.TheVariants.{Words, HostFault}
 
 -- the place that was changed
 here : (dir name : List ℕ) (place : Place) (disks : Disks) → with_place dir name place disks dir name ≡ place
@@ -26,10 +29,10 @@ twice_changed dir name first second disks =
     λ i. λ other_dir other_name. once (bytes_eq other_dir dir && bytes_eq other_name name) second first (disks other_dir other_name) i
 
 -- a disk that is put back after it was used
-pub used_disk : (dir name : List ℕ) (before after : Device) (old mid new : Desk) (answer : Answer) → GivesDisk dir name before old mid → TakesBack dir name after mid new
-    → ListsDisk before after answer → KeepsReplay before after → before.faults ≤ after.faults
-    → ForSome old.disks (λ disks. UsesDisk dir name disks new.disks answer)
-used_disk dir name before after old mid new answer given back answers crash later = λ disks told.
+pub used_disk : (tool : Tool) (moment : ℕ) (dir name : List ℕ) (before after : Device) (old mid new : Desk) (answer : Answer) → GivesDisk dir name before old mid → TakesBack dir name after mid new
+    → AnswersAs tool moment before after answer → KeepsOpening tool moment before after → before.faults ≤ after.faults
+    → ForSome old.disks (λ disks. UsesDisk tool moment dir name disks new.disks answer)
+used_disk tool moment dir name before after old mid new answer given back answers crash later = λ disks told.
     let out : mid.disks ≡ Some (with_place dir name handed_out disks) = given.out ∙ ap (option_map (with_place dir name handed_out)) told in
     let returned = back.back (with_place dir name handed_out disks) out (here dir name handed_out disks) in
     record {
@@ -41,6 +44,21 @@ used_disk dir name before after old mid new answer given back answers crash late
       crash = crash;
       later = later;
     }
+
+-- the answer of a tool, as that of the run
+pub answers_as : (tool : Tool) (moment : ℕ) (before after : Device) (answer : Result (List ℕ) ToolError) → AnswersTool tool moment before after answer → AnswersAs tool moment before after (answer_of answer)
+answers_as tool moment before after (Ok text) is = is
+answers_as tool moment before after (Err error) is = is
+
+-- which is no fault of the host
+pub no_host_fault : (answer : Result (List ℕ) ToolError) → answer_of answer ≡ Err HostFault → ⊥
+no_host_fault (Ok text) is = cc
+no_host_fault (Err error) is = cc
+
+-- nor one of words
+pub no_words : (answer : Result (List ℕ) ToolError) → answer_of answer ≡ Err Words → ⊥
+no_words (Ok text) is = cc
+no_words (Err error) is = cc
 
 -- a value that is there is there when it is seen otherwise
 pub still_there : {A B : Type 0} (f : A → B) (o : Option A) → IsSome o → IsSome (option_map f o)

@@ -2,10 +2,10 @@
 use Rattle.std.specs.Prelude.{ℕ, List, [], ◌∷◌, ◌++◌, codes, decimal}
 use Rattle.jb_image.specs.declared.error.OpenError.{OpenError}
 use Rattle.jb_image.specs.declared.error.OpenError.TheVariants as refused
-use Rattle.jb_journal.specs.declared.error.JournalError.{JournalError}
-use Rattle.jb_journal.specs.declared.error.JournalError.TheVariants.{BadRecord, StoreFault as JournalFault}
+use Rattle.jb_tool.specs.declared.error.ToolError.{ToolError}
+use Rattle.jb_tool.specs.declared.error.ToolError.TheVariants.{BadJournal, Open, AlreadyThere, TextFull}
 use Rattle.board.specs.declared.fault.Fault.{Fault}
-use Rattle.board.specs.declared.fault.Fault.TheVariants.{Words, BadJournal, Base, HostFault, OutOfMemory}
+use Rattle.board.specs.declared.fault.Fault.TheVariants.{Words, Tool, HostFault, OutOfMemory}
 
 -- the exit status of a base that is not opened: 4 a store fault, 6 want of memory, 3 all that its files are refused for
 abbrev pub base_status : OpenError → ℕ
@@ -13,11 +13,17 @@ base_status refused.StoreFault = 4
 base_status refused.OutOfMemory = 6
 base_status _ = 3
 
+-- the exit status of a tool that is refused
+abbrev pub tool_status : ToolError → ℕ
+tool_status (BadJournal at) = 3
+tool_status (Open error) = base_status error
+tool_status AlreadyThere = 3
+tool_status (TextFull length) = 3
+
 -- the exit status: 1 words, 3 the journal or the base is refused, 4 a store fault, 5 a host fault, 6 want of memory
 abbrev pub status_of : Fault → ℕ
 status_of Words = 1
-status_of (BadJournal at) = 3
-status_of (Base error) = base_status error
+status_of (Tool error) = tool_status error
 status_of HostFault = 5
 status_of OutOfMemory = 6
 
@@ -43,15 +49,16 @@ base_line (refused.HeadersOverlap a b) = codes "fault 3.13 HeadersOverlap" ++ va
 base_line refused.StoreFault = codes "fault 4 StoreFault"
 base_line refused.OutOfMemory = codes "fault 6 OutOfMemory"
 
--- why recovery refuses, as a run that is refused
-abbrev pub fault_of : JournalError → Fault
-fault_of (BadRecord at) = BadJournal at
-fault_of JournalFault = Base refused.StoreFault
+-- the line of a tool that is refused, without its end
+abbrev pub tool_fault_line : ToolError → List ℕ
+tool_fault_line (BadJournal at) = codes "fault 3.14 BadJournal" ++ value_text at
+tool_fault_line (Open error) = base_line error
+tool_fault_line AlreadyThere = codes "fault 3.17 AlreadyThere"
+tool_fault_line (TextFull length) = codes "fault 3.18 TextFull" ++ value_text length
 
 -- the line on the console
 abbrev pub line_of : Fault → List ℕ
 line_of Words = codes "fault 1 Words" ++ 10 ∷ []
-line_of (BadJournal at) = codes "fault 3.14 BadJournal" ++ value_text at ++ 10 ∷ []
-line_of (Base error) = base_line error ++ 10 ∷ []
+line_of (Tool error) = tool_fault_line error ++ 10 ∷ []
 line_of HostFault = codes "fault 5 HostFault" ++ 10 ∷ []
 line_of OutOfMemory = codes "fault 6 OutOfMemory" ++ 10 ∷ []

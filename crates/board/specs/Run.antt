@@ -1,23 +1,43 @@
 -- A whole run of the program: what is asked of the host, what is printed, and the status.
-use Rattle.std.specs.Prelude.{◌≡◌, ◌⊎◌, ℕ, ◌≤◌, List, Option, Some, None, Ok, Err}
+use Rattle.std.specs.Prelude.{◌≡◌, ◌⊎◌, ℕ, ◌≤◌, List, Option, Some, None, Result, Ok, Err}
 use Rattle.std.specs.Option.{ForSome}
 use Rattle.jb_base.specs.Fault.{Rose}
 use Rattle.jb_disk.specs.Device.{Device}
 use Rattle.jb_host.specs.Desk.{Desk, Disks, has_disk, with_place, asked_disk, and_call}
 use Rattle.jb_host.specs.Wire.{Wire, Begins, Sends}
-use Rattle.board.specs.declared.fault.Fault.TheVariants.{Words, HostFault, OutOfMemory}
+use Rattle.jb_tool.specs.Answers.{AnswersTool, KeepsOpening}
+use Rattle.jb_tool.specs.declared.error.ToolError.{ToolError}
+use Rattle.jb_tool.specs.declared.tool.Tool.{Tool as ToolName}
+use Rattle.board.specs.declared.fault.Fault.{Fault}
+use Rattle.board.specs.declared.fault.Fault.TheVariants.{Words as NoWords, Tool, HostFault, OutOfMemory}
 use Rattle.board.specs.Faults.{line_of, status_of}
-use Rattle.board.specs.Tool.{Answer, ListsDisk, KeepsReplay}
-use Rattle.board.specs.Words.{CommandLine, list_base, command_line_of}
+use Rattle.board.specs.Words.{Words, use_tool, show_help, command_line_of, help_text}
 
--- the disk was handed out, the base recovered and listed, and the disk put back
-pub record UsesDisk (dir name : List ℕ) (disks : Disks) (after : Option Disks) (answer : Answer) : Type 0 where
+-- what a run answers: the text to print, or why it is refused
+abbrev pub Answer : Type 0
+Answer = Result (List ℕ) Fault
+
+-- what a tool answered, as what the run answers
+abbrev pub answer_of : Result (List ℕ) ToolError → Answer
+answer_of (Ok text) = Ok text
+answer_of (Err error) = Err (Tool error)
+
+-- the tool answers so over the disk of the base
+abbrev pub AnswersAs : ToolName → ℕ → Device → Device → Answer → Type 0
+AnswersAs tool moment before after (Ok text) = AnswersTool tool moment before after (Ok text)
+AnswersAs tool moment before after (Err (Tool error)) = AnswersTool tool moment before after (Err error)
+AnswersAs tool moment before after (Err NoWords) = ⊥
+AnswersAs tool moment before after (Err HostFault) = ⊥
+AnswersAs tool moment before after (Err OutOfMemory) = ⊥
+
+-- the disk was handed out, the tool used on it, and the disk put back
+pub record UsesDisk (tool : ToolName) (moment : ℕ) (dir name : List ℕ) (disks : Disks) (after : Option Disks) (answer : Answer) : Type 0 where
   pub before : Device
   pub then : Device
   pub was : disks dir name ≡ has_disk before
   pub back : after ≡ Some (with_place dir name (has_disk then) disks)
-  pub answers : ListsDisk before then answer
-  pub crash : KeepsReplay before then
+  pub answers : AnswersAs tool moment before then answer
+  pub crash : KeepsOpening tool moment before then
   pub later : before.faults ≤ then.faults
 
 -- no disk was handed out, and why
@@ -25,18 +45,25 @@ abbrev pub GetsNoDisk : Desk → Desk → Answer → Type 0
 GetsNoDisk old new answer =
     (new.disks ≡ old.disks) × (((answer ≡ Err HostFault) × Rose old.faults new.faults) ⊎ (answer ≡ Err OutOfMemory))
 
--- the run of `list DIR NAME`: one call of the host, for that disk alone
-pub record ListsBase (dir name : List ℕ) (old new : Desk) (answer : Answer) : Type 0 where
+-- the run of a tool: one call of the host, for that disk alone
+pub record UsesTool (tool : ToolName) (moment : ℕ) (dir name : List ℕ) (old new : Desk) (answer : Answer) : Type 0 where
   pub calls : (new.calls ≡ and_call (asked_disk dir name) old.calls) ⊎ ((answer ≡ Err OutOfMemory) × (new.calls ≡ old.calls))
-  pub disk : GetsNoDisk old new answer ⊎ ForSome old.disks (λ disks. UsesDisk dir name disks new.disks answer)
+  pub disk : GetsNoDisk old new answer ⊎ ForSome old.disks (λ disks. UsesDisk tool moment dir name disks new.disks answer)
   pub cause : answer ≡ Err HostFault → Rose old.faults new.faults
-  pub known : answer ≡ Err Words → ⊥
+  pub known : answer ≡ Err NoWords → ⊥
   pub later : old.faults ≤ new.faults
 
+-- the host is asked for nothing
+pub record AsksNothing (old new : Desk) : Type 0 where
+  pub calls : new.calls ≡ old.calls
+  pub disks : new.disks ≡ old.disks
+  pub faults : new.faults ≡ old.faults
+
 -- the run of these words, if they are a command line
-abbrev pub AnswersWords : Option CommandLine → Desk → Desk → Answer → Type 0
-AnswersWords None old new answer = (answer ≡ Err Words) × (new.calls ≡ old.calls) × (new.disks ≡ old.disks) × (new.faults ≡ old.faults)
-AnswersWords (Some (list_base dir name)) old new answer = ListsBase dir name old new answer
+abbrev pub AnswersWords : Option Words → ℕ → Desk → Desk → Answer → Type 0
+AnswersWords None moment old new answer = (answer ≡ Err NoWords) × AsksNothing old new
+AnswersWords (Some (use_tool tool dir name)) moment old new answer = UsesTool tool moment dir name old new answer
+AnswersWords (Some show_help) moment old new answer = ((answer ≡ Ok help_text) ⊎ (answer ≡ Err OutOfMemory)) × AsksNothing old new
 
 -- a write of the console failed, and only a beginning of these bytes was sent
 pub record Stops (old new : Wire) (bytes : List ℕ) : Type 0 where
@@ -60,10 +87,10 @@ abbrev pub IsPrinted : Answer → ℕ → Wire → Wire → Type 0
 IsPrinted (Ok text) status old new = KeepsInput old new × (((status ≡ 0) × Sends old.sent text new.sent) ⊎ ((status ≡ 5) × Stops old new text))
 IsPrinted (Err fault) status old new = KeepsInput old new × (status ≡ status_of fault) × IsSent old new (line_of fault)
 
--- a whole run
-pub record HasRun (words : List (List ℕ)) (old new : Desk) (status : ℕ) : Type 0 where
+-- a whole run, at a moment in seconds since 1970
+pub record HasRun (words : List (List ℕ)) (moment : ℕ) (old new : Desk) (status : ℕ) : Type 0 where
   pub answer : Answer
-  pub answers : AnswersWords (command_line_of words) old new answer
+  pub answers : AnswersWords (command_line_of words) moment old new answer
   pub console : Wire
   pub console_is : old.console ≡ Some console
   pub console_after : Wire

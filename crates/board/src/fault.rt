@@ -1,11 +1,11 @@
 //! How a run that is refused ends: its status and its line on the console.
 ghost use Rattle.std.specs.Prelude.{◌≡◌, ◌≤◌, ◌+◌, ◌++◌, [], ◌∷◌, length};
-ghost use Rattle.board.specs.Faults.{base_line, base_status, fault_of, line_of, status_of, value_text};
+ghost use Rattle.board.specs.Faults.{base_line, base_status, line_of, status_of, tool_fault_line, tool_status, value_text};
 
 use arrayvec::ArrayString;
 use itoa::Buffer;
 use jb_image::OpenError;
-use jb_journal::JournalError;
+use jb_tool::ToolError;
 
 /// A line of at most 80 bytes; it takes no memory.
 pub type Line = ArrayString<80>;
@@ -15,11 +15,8 @@ pub type Line = ArrayString<80>;
 pub enum Fault {
     /// The words are no command line.
     Words,
-    /// A change waits in the journal and cannot be done: the field of its record at byte `at` of .JNL is cut off or breaks a
-    /// rule. The files are as they were.
-    BadJournal { at: u64 },
-    /// The base is not opened: its files are refused, its disk failed, or there was no memory for it.
-    Base(OpenError),
+    /// The tool is refused: by what the files of its base hold, or by a fault of the disk, or for want of memory.
+    Tool(ToolError),
     /// The host or the console failed.
     HostFault,
     /// The allocator gave no memory.
@@ -34,6 +31,16 @@ fn base_status(error: OpenError) -> u8
         OpenError::StoreFault => 4,
         OpenError::OutOfMemory => 6,
         _ => 3,
+    }
+}
+
+/// The exit status where a tool is refused.
+fn tool_status(error: ToolError) -> u8
+    ensures { result ≡ tool_status error }
+{
+    match error {
+        ToolError::Open(error) => base_status(error),
+        ToolError::BadJournal { .. } | ToolError::AlreadyThere | ToolError::TextFull { .. } => 3,
     }
 }
 
@@ -100,6 +107,19 @@ fn base_line(error: OpenError) -> Line
     }
 }
 
+/// The line where a tool is refused, without its end.
+fn tool_line(error: ToolError) -> Line
+    ensures line { result.bytes ≡ tool_fault_line error }
+    ensures short { length result.bytes ≤ 70 }
+{
+    match error {
+        ToolError::BadJournal { at } => { and_place(named("fault 3.14 BadJournal"), at) }
+        ToolError::Open(error) => base_line(error),
+        ToolError::AlreadyThere => named("fault 3.17 AlreadyThere"),
+        ToolError::TextFull { length } => and_place(named("fault 3.18 TextFull"), length),
+    }
+}
+
 impl Fault {
     /// The exit status of the program.
     pub fn status(self) -> u8
@@ -107,8 +127,7 @@ impl Fault {
     {
         match self {
             Fault::Words => 1,
-            Fault::BadJournal { .. } => 3,
-            Fault::Base(error) => base_status(error),
+            Fault::Tool(error) => tool_status(error),
             Fault::HostFault => 5,
             Fault::OutOfMemory => 6,
         }
@@ -120,33 +139,11 @@ impl Fault {
     {
         let mut line = match self {
             Fault::Words => named("fault 1 Words"),
-            Fault::BadJournal { at } => and_place(named("fault 3.14 BadJournal"), at),
-            Fault::Base(error) => base_line(error),
+            Fault::Tool(error) => tool_line(error),
             Fault::HostFault => named("fault 5 HostFault"),
             Fault::OutOfMemory => named("fault 6 OutOfMemory"),
         };
         line.push_str("\n");
         line
-    }
-}
-
-impl From<OpenError> for Fault {
-    ghost use Rattle.board.specs.declared.fault.Fault.TheVariants.{Base};
-
-    ghost from_gives = { λ error fault. fault ≡ Base error };
-
-    fn from(error: OpenError) -> Fault {
-        Fault::Base(error)
-    }
-}
-
-impl From<JournalError> for Fault {
-    ghost from_gives = { λ error fault. fault ≡ fault_of error };
-
-    fn from(error: JournalError) -> Fault {
-        match error {
-            JournalError::BadRecord { at } => Fault::BadJournal { at },
-            JournalError::StoreFault => Fault::Base(OpenError::StoreFault),
-        }
     }
 }

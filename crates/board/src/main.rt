@@ -8,16 +8,15 @@ ghost use Rattle.std.specs.Prelude.{IsSome};
 
 mod command;
 mod fault;
-mod listing;
 #[cfg(test)]
 mod real_files;
 #[cfg(test)]
 mod tests;
-mod tool;
 mod top;
 
 use jb_host::RealHost;
 use std::process::ExitCode;
+use std::time::{SystemTime, UNIX_EPOCH};
 use std::{env, io};
 
 /// The words after the program's name.
@@ -29,11 +28,22 @@ fn words(rt: &HostRuntime) -> io::Result<Vec<String>> {
     Ok(words)
 }
 
+/// The seconds since 1970; 0 where the clock fails, or shows a moment that four bytes do not hold.
+fn moment(rt: &HostRuntime) -> u32 {
+    let Ok(now) = SystemTime::now(rt) else {
+        return 0;
+    };
+    match now.duration_since(UNIX_EPOCH) {
+        Ok(since) => u32::try_from(since.as_secs()).unwrap_or(0),
+        Err(_) => 0,
+    }
+}
+
 fn main(rt: HostRuntime) -> ExitCode {
     let alloc = rt.alloc();
     let mut host = RealHost::new(rt, rt, alloc);
     match words(&rt) {
-        Ok(words) => ExitCode::from(top::board(alloc, words.as_slice(), &mut host)),
+        Ok(words) => ExitCode::from(top::board(alloc, words.as_slice(), moment(&rt), &mut host)),
         Err(error) => without_words(&rt, &error, &mut host),
     }
 }
@@ -43,7 +53,7 @@ fn without_words(rt: &HostRuntime, error: &io::Error, host: &mut RealHost<HostRu
     requires { IsSome host.old.console }
 {
     if error.kind() == io::ErrorKind::InvalidData {
-        return ExitCode::from(top::board(rt.alloc(), &[], host));
+        return ExitCode::from(top::board(rt.alloc(), &[], moment(rt), host));
     }
     let fault = fault::Fault::OutOfMemory;
     let line = fault.line();

@@ -41,6 +41,9 @@ const EMPTY_CHANGE: &[u8] = &[1, 0, 0, 0, 0, 0, 0, 0, 0, 0, 0, 0, 0, 0, 0, 0, 0]
 const NEW_SUBJECT: &[u8] =
     b"\x01\0\0\0\0\0\0\0\0\0\0\0\0\0\0\0JBJ1\0\0\0\0\x01\0\0\0\0\0\0\0\x89\x04\0\0\x03\0\0\0xyzJBJE";
 
+/// The moment of each run.
+const MOMENT: u32 = 5;
+
 const LINE: &[u8] = b"       1  Test > Hello  abc\n";
 
 const BOTH_LINES: &[u8] = b"       1  Test > Hello  abc\n       2  A?\xc3\xa9 > Bob  \n";
@@ -149,7 +152,7 @@ fn check_words(
 ) -> Result<(), Fail>
     requires { IsSome (memory_desk host).console }
 {
-    let ended = board(alloc, words, &mut host);
+    let ended = board(alloc, words, MOMENT, &mut host);
     assert_eq!(rt; ended, status, "at {words:?}");
     let Some(console) = host.console_link() else {
         panic!(rt; "the console is out");
@@ -260,7 +263,7 @@ fn lists_with(
     ensures { IsSome (memory_desk host.new).console }
 {
     let words = words(alloc, "list a general")?;
-    let ended = board(alloc, words.as_slice(), host);
+    let ended = board(alloc, words.as_slice(), MOMENT, host);
     assert!(rt; statuses.contains(&ended), "status {ended}");
     let Some(base) = host.disk_at("a", "general") else {
         panic!(rt; "the disk is out");
@@ -351,6 +354,28 @@ fn a_failing_disk_or_console_ends_the_run_at_each_call(rt: HostRuntime) -> Resul
 }
 
 #[test]
+fn helps_checks_packs_and_relinks(rt: HostRuntime) -> Result<(), Fail> {
+    let alloc = rt.alloc();
+    let cases: [(&str, &[u8]); 4] = [
+        (
+            "help",
+            b"board list DIR NAME\nboard check DIR NAME\nboard pack DIR NAME\nboard relink DIR NAME\nboard help\n",
+        ),
+        ("pack a general", b"Packed: base 1, live 1, dropped 0.\n"),
+        ("relink a general", b"Relinked: 0 changed.\n"),
+        (
+            "check a general",
+            b"base 1\nnext 2\nlive 1\nkilled 0\nempty 0\nmsgids 1\nlinked yes\n",
+        ),
+    ];
+    for (line, text) in cases {
+        let one = disk(alloc, headers(alloc, MESSAGE)?, TEXT, INDEX, &[])?;
+        check(&rt, alloc, host(alloc, one, &[])?, line, 0, text)?;
+    }
+    Ok(())
+}
+
+#[test]
 fn refuses_words_that_are_no_command_line(rt: HostRuntime) -> Result<(), Fail> {
     let alloc = rt.alloc();
     for line in [
@@ -364,9 +389,12 @@ fn refuses_words_that_are_no_command_line(rt: HostRuntime) -> Result<(), Fail> {
         "lists a general",
         "--help",
         "-h",
-        "help",
+        "HELP",
+        "help me",
         "--version",
-        "check a general",
+        "check a",
+        "pack a",
+        "relinks a general",
     ] {
         let one = disk(alloc, headers(alloc, MESSAGE)?, TEXT, INDEX, &[])?;
         check(

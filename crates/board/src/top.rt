@@ -1,38 +1,70 @@
 //! The program over any host.
 ghost use Rattle.std.specs.Prelude.{◌≡◌, ◌≤◌, IsSome, map, Some};
 ghost use Rattle.std.specs.String.{string_bytes};
-ghost use Rattle.board.specs.Run.{AnswersWords, HasRun, IsPrinted, ListsBase};
+ghost use Rattle.board.specs.Run.{AnswersWords, HasRun, IsPrinted, UsesTool, answer_of};
 ghost use Rattle.board.specs.Words.{command_line_of};
 
-use crate::command::{ListWords, command};
+use crate::command::{CommandLine, command};
 use crate::fault::Fault;
-use crate::tool::list;
 use jb_base::Bytes;
 use jb_host::{Host, HostError, Link, send};
+use jb_tool::{Tool, ToolError};
 use std::alloc::Global;
 
-/// What `list` answers over the disk that the host has for the base, which is recovered first; the disk is put back.
-fn list_base<H: Host>(alloc: Global, line: &ListWords<'_>, host: &mut H) -> Result<Bytes, Fault>
-    ensures found { ListsBase line.now.dir.now line.now.name.now (H.desk host.old) (H.desk host.new) result }
+/// The forms of words, each with the program's name before it.
+const HELP: &[u8] =
+    b"board list DIR NAME\nboard check DIR NAME\nboard pack DIR NAME\nboard relink DIR NAME\nboard help\n";
+
+/// What a tool answered, as what the run answers.
+fn answered(answer: Result<Bytes, ToolError>) -> Result<Bytes, Fault>
+    ensures { result ≡ answer_of answer }
+{
+    match answer {
+        Ok(text) => Ok(text),
+        Err(error) => Err(Fault::Tool(error)),
+    }
+}
+
+/// What a tool answers over the disk that the host has for the base; the disk is put back.
+fn use_tool<H: Host>(
+    alloc: Global,
+    tool: Tool,
+    moment: u32,
+    dir: &str,
+    name: &str,
+    host: &mut H,
+) -> Result<Bytes, Fault>
+    ensures found { UsesTool tool moment dir.now name.now (H.desk host.old) (H.desk host.new) result }
     ensures console { (H.desk host.new).console ≡ (H.desk host.old).console }
 {
-    let mut disk = match host.disk(line.dir, line.name) {
+    let disk = match host.disk(dir, name) {
         Ok(disk) => disk,
         Err(HostError::Failed) => return Err(Fault::HostFault),
         Err(HostError::OutOfMemory) => return Err(Fault::OutOfMemory),
     };
-    let answer = list(alloc, &mut disk);
-    host.put_back(line.dir, line.name, disk);
-    answer
+    let (disk, answer) = jb_tool::run(alloc, disk, tool, moment);
+    host.put_back(dir, name, disk);
+    answered(answer)
 }
 
 /// What these words are answered.
-fn answer<H: Host>(alloc: Global, words: &[String], host: &mut H) -> Result<Bytes, Fault>
-    ensures found { AnswersWords (command_line_of (map string_bytes words.now)) (H.desk host.old) (H.desk host.new) result }
+fn answer<H: Host>(
+    alloc: Global,
+    words: &[String],
+    moment: u32,
+    host: &mut H,
+) -> Result<Bytes, Fault>
+    ensures found { AnswersWords (command_line_of (map string_bytes words.now)) moment (H.desk host.old) (H.desk host.new) result }
     ensures console { (H.desk host.new).console ≡ (H.desk host.old).console }
 {
     match command(words) {
-        Some(line) => list_base(alloc, &line, host),
+        Some(CommandLine::Use { tool, dir, name }) => use_tool(
+            alloc, tool, moment, dir, name, host,
+        ),
+        Some(CommandLine::Help) => match Bytes::copy(alloc, HELP) {
+            Ok(text) => Ok(text),
+            Err(_) => Err(Fault::OutOfMemory),
+        },
         None => Err(Fault::Words),
     }
 }
@@ -54,17 +86,18 @@ fn print<L: Link>(console: &mut L, answer: &Result<Bytes, Fault>) -> u8
     }
 }
 
-/// The whole program: answers the words, prints on the host's console, and gives the exit status.
+/// The whole program: answers the words at this moment, in seconds since 1970, prints on the host's console, and gives the exit
+/// status.
 ///
 /// 0: done and printed whole. 1: the words are no command line. 3: the base is refused. 4: its disk failed. 5: the host or
 /// the console failed. 6: want of memory. Under a status other than 0 the console has one line that begins with `fault`, or,
 /// where the console itself failed, a beginning of what was to be printed. Nothing is read from the console. The host is asked
 /// for the disk of the base alone, at most once, and has it back when the call returns.
-pub fn board<H: Host>(alloc: Global, words: &[String], host: &mut H) -> u8
+pub fn board<H: Host>(alloc: Global, words: &[String], moment: u32, host: &mut H) -> u8
     requires { IsSome (H.desk host.old).console }
-    ensures { HasRun (map string_bytes words.now) (H.desk host.old) (H.desk host.new) result }
+    ensures { HasRun (map string_bytes words.now) moment (H.desk host.old) (H.desk host.new) result }
 {
-    let answer = answer(alloc, words, host);
+    let answer = answer(alloc, words, moment, host);
     let mut console = host.console();
     let status = print(&mut console, &answer);
     host.put_console(console);

@@ -1,0 +1,100 @@
+-- An area at rest and a command of a tool: what the files open to meanwhile.
+use Rattle.std.proofs.Common.{◌≡◌, inl, inr, ℕ, ◌≤◌, List, [], ◌∷◌, length, ap, refl, sym, ◌∙◌, subst, arith, Option, Some, None}
+use Rattle.std.specs.Prelude.{IsSome, slice_index}
+use Rattle.std.specs.Option.{ForSome}
+use Rattle.jb_area.specs.Area.{IsBegun, IsResting}
+use Rattle.jb_area.specs.Holds.{IsAtRest, Opens, OpensToEither as OpensToComing}
+use Rattle.jb_area.specs.declared.area.OpenArea.{OpenArea}
+use Rattle.jb_base.specs.declared.limits.TheConstants.{MOST_SLOTS}
+use Rattle.jb_decide.specs.Coming.{Coming}
+use Rattle.jb_decide.specs.Holds.{Holds}
+use Rattle.jb_disk.proofs.RunLemmas.{runs-refl, runs-weaken}
+use Rattle.jb_disk.specs.Device.{Device, OnlyReads}
+use Rattle.jb_disk.specs.Files.{Files}
+use Rattle.jb_disk.specs.Images.{Images}
+use Rattle.jb_disk.specs.Runs.{LeavesNow, LeavesOnly, Runs}
+use Rattle.jb_image.specs.Stands.{StandsFor}
+use Rattle.jb_model.specs.State.{AreaState, state_of}
+use Rattle.jb_model.specs.declared.command.Command.{Command}
+use Rattle.jb_model.specs.declared.loaded.Loaded.{Loaded}
+use Rattle.jb_model.specs.declared.reply.Reply.{Reply}
+use Rattle.jb_tool.specs.Changing.{OpensToEither}
+use Rattle.jb_tool.specs.Tending.{OpensAs, answer_to}
+
+-- files that hold a loaded area stand for its state
+pub holds_stands : (loaded : Loaded) (texts : List ℕ) (files : Files) → length loaded.slots ≤ MOST_SLOTS → Holds loaded texts files → StandsFor MOST_SLOTS files (state_of texts loaded)
+holds_stands loaded texts files few holds =
+    record { loaded = loaded; loads = holds.loads; few_slots = few; same = ap (λ (t : List ℕ). state_of t loaded) (sym holds.texts_are) }
+
+-- files that open to a loaded area open to its state
+pub opens_area : (loaded : Loaded) (texts : List ℕ) (files : Files) → length loaded.slots ≤ MOST_SLOTS → Opens loaded texts files → OpensAs (state_of texts loaded) files
+opens_area loaded texts files few opens = record { after = opens.after; replays = opens.replays; stands = holds_stands loaded texts opens.after few opens.holds }
+
+-- so do files at rest
+pub rest_opens : (loaded : Loaded) (texts : List ℕ) (files : Files) → length loaded.slots ≤ MOST_SLOTS → IsAtRest loaded texts files → OpensAs (state_of texts loaded) files
+rest_opens loaded texts files few rests =
+    record { after = files; replays = inl (λ is_open. rests.shut is_open.gate, refl); stands = holds_stands loaded texts files few rests.holds }
+
+-- a weaker property of what a crash leaves now
+pub leaves_weaken : (P Q : Files → Type 0) (moments : List Images) → ((files : Files) → P files → Q files) → LeavesNow P moments → LeavesNow Q moments
+leaves_weaken P Q [] weaker all = tt
+leaves_weaken P Q (now ∷ earlier) weaker all = λ files image. weaker files (all files image)
+
+-- and of what one leaves at any moment
+pub leaves_only_weaken : (P Q : Files → Type 0) (old new : Device) → ((files : Files) → P files → Q files) → LeavesOnly old new P → LeavesOnly old new Q
+leaves_only_weaken P Q old new weaker leaves = record {
+  first = leaves_weaken P Q old.moments weaker leaves.first;
+  run = runs-weaken P Q weaker old.moments new.moments leaves.run;
+}
+
+-- reads before leave no more
+pub leaves_only_after : (P : Files → Type 0) (old mid new : Device) → OnlyReads old mid → LeavesOnly mid new P → LeavesOnly old new P
+leaves_only_after P old mid new kept leaves = record {
+  first = subst (LeavesNow P) kept.moments leaves.first;
+  run = subst (λ (m : List Images). Runs P m new.moments) kept.moments leaves.run;
+}
+
+module _ {D : Type 0} (shown : D → Device) (command : Command) where
+  -- an area at rest has no more slots than any may have
+  pub few_resting : (area : OpenArea D) (texts : List ℕ) → IsResting shown area texts → length area.held.loaded.slots ≤ MOST_SLOTS
+  few_resting area texts rests =
+      let limit = rests.kept.ruled.few_slots in
+      let few = rests.kept.ruled.sound.few_slots in
+      omega (arith, limit, few)
+
+  -- a crash now leaves what opens to the area
+  left_resting : (area : OpenArea D) (texts : List ℕ) (files : Files) → (shown area.disk).contents ≡ Some files → IsResting shown area texts
+      → LeavesNow (OpensToEither command (state_of texts area.held.loaded)) (shown area.disk).moments
+  left_resting area texts files there rests =
+      let opens = rest_opens area.held.loaded texts files (few_resting area texts rests) (rests.kept.settled.rests files there) in
+      leaves_weaken (λ left. left ≡ files) (OpensToEither command (state_of texts area.held.loaded)) (shown area.disk).moments
+      (λ left is. inl (subst (OpensAs (state_of texts area.held.loaded)) (sym is) opens)) (rests.kept.settled.synced files there)
+
+  -- nor is anything else left where only reads follow
+  pub left_reading : (area : OpenArea D) (texts : List ℕ) (files : Files) (after : Device) → (shown area.disk).contents ≡ Some files → IsResting shown area texts → OnlyReads (shown area.disk) after
+      → LeavesOnly (shown area.disk) after (OpensToEither command (state_of texts area.held.loaded))
+  left_reading area texts files after there rests kept = record {
+    first = left_resting area texts files there rests;
+    run = runs-refl (OpensToEither command (state_of texts area.held.loaded)) (shown area.disk).moments after.moments kept.moments;
+  }
+
+  -- the area to come of a call that is begun has no more slots than any may have
+  few_coming : (area : OpenArea D) (texts : List ℕ) (reply : Reply) (coming : Coming) → IsBegun shown area texts reply coming → length coming.to.slots ≤ MOST_SLOTS
+  few_coming area texts reply coming begun =
+      let limit = begun.kept.ruled.few_slots in
+      elim begun.change [
+        | inl same ↦ let few = begun.kept.ruled.sound.few_slots in let slots = ap (λ (c : Coming). length c.to.slots) same.same in omega (arith, limit, few, slots)
+        | inr pending ↦ let few = pending.sound.few_slots in omega (arith, limit, few)
+      ]
+
+  -- files between the area and the one to come
+  pub either_way : (area : OpenArea D) (texts : List ℕ) (reply : Reply) (coming : Coming) → IsBegun shown area texts reply coming
+      → (answer_to command (state_of texts area.held.loaded)).state ≡ state_of coming.texts coming.to
+      → (files : Files) → OpensToComing area.held.loaded texts coming files → OpensToEither command (state_of texts area.held.loaded) files
+  either_way area texts reply coming begun becomes files opens =
+      let limit = begun.kept.ruled.few_slots in
+      let few = begun.kept.ruled.sound.few_slots in
+      elim opens [
+        | inl from ↦ inl (opens_area area.held.loaded texts files (omega (arith, limit, few)) from)
+        | inr to ↦ inr (subst (λ (s : AreaState). OpensAs s files) (sym becomes) (opens_area coming.to coming.texts files (few_coming area texts reply coming begun) to))
+      ]

@@ -1,0 +1,6 @@
+mod ChangingLemmas
+mod CommandLemmas
+mod CountLemmas
+mod FigureLemmas
+pub mod Recovering
+mod TendLemmas

@@ -1,0 +1,108 @@
+-- A base that is recovered and then read.
+use Rattle.std.proofs.Common.{◌≡◌, ℕ, ◌≤◌, List, refl, ◌∙◌, sym, subst, arith}
+use Rattle.std.specs.Prelude.{Option, Some, None, IsSome}
+use Rattle.std.specs.Option.{ForSome}
+use Rattle.jb_base.specs.Fault.{Rose}
+use Rattle.jb_base.specs.declared.limits.TheConstants.{MOST_SLOTS}
+use Rattle.jb_disk.specs.Device.{Device, OnlyReads}
+use Rattle.jb_disk.specs.Files.{Files}
+use Rattle.jb_disk.specs.Gate.{IsGateOpen}
+use Rattle.jb_disk.specs.Images.{Images}
+use Rattle.jb_disk.specs.Runs.{LeavesNow, Runs, IsAllSynced}
+use Rattle.jb_disk.specs.declared.file.FileId.TheVariants.{Jdt}
+use Rattle.jb_image.specs.declared.error.OpenError.{OpenError}
+use Rattle.jb_image.specs.declared.error.OpenError.TheVariants.{OutOfMemory as no_memory, StoreFault as DiskFault}
+use Rattle.jb_image.specs.Answers.{IsRefusedBy, OpensTo}
+use Rattle.jb_image.specs.Stands.{StandsFor}
+use Rattle.jb_journal.specs.declared.error.JournalError.{JournalError}
+use Rattle.jb_journal.specs.declared.error.JournalError.TheVariants.{BadRecord, StoreFault}
+use Rattle.jb_journal.specs.declared.error.Recovered.{Recovered}
+use Rattle.jb_journal.specs.declared.error.Recovered.TheVariants.{Closed, Replayed}
+use Rattle.jb_journal.specs.Recover.{FaultRose, IsFound, IsGrowthSafe, IsRefusedOver, ReplaysAsAtStart}
+use Rattle.jb_model.specs.State.{state_of}
+use Rattle.jb_model.specs.declared.loaded.Loaded.{Loaded}
+use Rattle.jb_redo.specs.Reading.{HasRecord}
+use Rattle.jb_redo.specs.Replay.{Replays}
+use Rattle.jb_tool.specs.Recovered.{IsRecoveredTo, KeepsReplay, RefusesBase, RefusesReading, of_journal}
+
+-- what is told, and that it is
+pub record IsTold (contents : Option Files) : Type 0 where
+  pub files : Files
+  pub is : contents ≡ Some files
+
+-- what is there is told
+pub is_told : (contents : Option Files) → IsSome contents → IsTold contents
+is_told None there = absurd (cc)
+is_told (Some files) there = record { files = files; is = refl }
+
+-- behind an open gate a record was found
+pub record_of : (found : Recovered) (was : Files) → IsFound found was → IsGateOpen was → HasRecord was
+record_of Closed was shut opened = absurd (shut opened)
+record_of Replayed was is opened = is.1
+
+-- a base that was recovered and then only read, and what was found in its files
+pub recovered : (property : Files → Type 0) (before mid after : Device) (found : Recovered) → ForSome before.contents (IsFound found)
+    → ForSome before.contents (λ was. IsGrowthSafe was → ForSome mid.contents (Replays was))
+    → IsAllSynced mid → (IsSome before.contents → IsSome mid.contents)
+    → OnlyReads mid after → ForSome mid.contents property → ForSome before.contents (λ was. IsRecoveredTo property was after)
+recovered property before mid after found is done synced told kept has = λ was there. record {
+  record_found = record_of found was (is was there);
+  replayed = λ safe.
+      let now = is_told mid.contents (told (subst IsSome (sym there) refl)) in
+      record {
+        files = now.files;
+        told = kept.contents ∙ now.is;
+        replays = done was there safe now.files now.is;
+        synced = subst (λ (m : List Images). LeavesNow (λ left. left ≡ now.files) m) (sym kept.moments) (synced now.files now.is);
+        has = has now.files now.is;
+      };
+  now = λ files now_is. has files (sym kept.contents ∙ now_is);
+}
+
+-- the files of a recovered base have a property that follows from what was found in them
+pub recovered_has : (one other : Files → Type 0) (was : Files) (after : Device) → ((files : Files) → one files → other files) → IsRecoveredTo one was after → IsRecoveredTo other was after
+recovered_has one other was after follows is = record {
+  record_found = is.record_found;
+  replayed = λ safe.
+      let so = is.replayed safe in
+      record { files = so.files; told = so.told; replays = so.replays; synced = so.synced; has = follows so.files so.has };
+  now = λ files now_is. follows files (is.now files now_is);
+}
+
+-- files that hold a loaded area stand for it
+pub opens_stands : (files : Files) (loaded : Loaded) → OpensTo MOST_SLOTS files loaded → StandsFor MOST_SLOTS files (state_of (files Jdt) loaded)
+opens_stands files loaded opens = record { loaded = loaded; loads = opens.loads; few_slots = opens.few_slots; same = refl }
+
+-- a recovery that is refused
+pub refused : (before after : Device) (error : JournalError) → ForSome before.contents (IsRefusedOver error after) → FaultRose before.faults after.faults error
+    → RefusesReading before after (of_journal error)
+refused before after (BadRecord at) is rose = is
+refused before after StoreFault is rose = record { files = λ other. absurd (other refl); fault = λ _. rose }
+
+-- reads after a recovery leave no more
+pub crash_then : (before mid after : Device) → KeepsReplay before mid → OnlyReads mid after → KeepsReplay before after
+crash_then before mid after keeps kept = λ was there safe.
+    let leaves = keeps was there safe in
+    record { first = leaves.first; run = subst (λ (m : List Images). Runs (ReplaysAsAtStart before.moments) before.moments m) (sym kept.moments) leaves.run }
+
+-- a count that rose later rose
+pub rose_later : (before mid now : ℕ) → before ≤ mid → Rose mid now → Rose before now
+rose_later before mid now later rose = omega (arith, later, rose)
+
+-- a base that was recovered and is then not opened
+pub unopened : (before mid after : Device) (found : Recovered) (error : OpenError) → ForSome before.contents (IsFound found)
+    → ForSome before.contents (λ was. IsGrowthSafe was → ForSome mid.contents (Replays was))
+    → IsAllSynced mid → (IsSome before.contents → IsSome mid.contents)
+    → before.faults ≤ mid.faults → OnlyReads mid after → ForSome mid.contents (λ files. IsRefusedBy MOST_SLOTS files error)
+    → (error ≡ DiskFault → Rose mid.faults after.faults) → RefusesBase before after error
+unopened before mid after found error is done synced told later kept refuses rose = record {
+  files = λ other. recovered (λ files. IsRefusedBy MOST_SLOTS files error) before mid after found is done synced told kept refuses;
+  fault = λ same. rose_later before.faults mid.faults after.faults later (rose same);
+}
+
+-- a base that was recovered, and no memory then
+pub unlisted : (property : Files → Type 0) (before after : Device) → ForSome before.contents (λ was. IsRecoveredTo property was after) → RefusesBase before after no_memory
+unlisted property before after is = record {
+  files = λ other was there. recovered_has property (λ files. IsRefusedBy MOST_SLOTS files no_memory) was after (λ files has. tt) (is was there);
+  fault = λ same. absurd (cc);
+}

@@ -1,0 +1,134 @@
+-- The opening of a base, and what a tool that tends its area makes of it then.
+use Rattle.std.proofs.Common.{◌≡◌, inl, inr, ℕ, ◌≤◌, List, [], ◌∷◌, ap, refl, sym, ◌∙◌, subst, Option, Some, None}
+use Rattle.std.specs.Prelude.{IsSome, Ok, Err, ◌⊎◌}
+use Rattle.std.specs.Option.{ForSome}
+use Rattle.jb_area.specs.Area.{IsResting}
+use Rattle.jb_area.specs.Calls.{HasRest}
+use Rattle.jb_area.specs.Holds.{Opens}
+use Rattle.jb_area.specs.declared.area.OpenArea.{OpenArea}
+use Rattle.jb_area_open.specs.Opening.{FaultRose, IsOpenAt, IsRecovered, KeepsOpening, OpensAsAtStart, Refuses}
+use Rattle.jb_area_open.specs.declared.error.OpeningError.{OpeningError}
+use Rattle.jb_area_open.specs.declared.error.OpeningError.TheVariants.{BadJournal as bad_journal, Base}
+use Rattle.jb_base.specs.declared.limits.TheConstants.{MOST_SLOTS}
+use Rattle.jb_disk.proofs.RunLemmas.{runs-refl, runs-then, runs-weaken}
+use Rattle.jb_disk.specs.Device.{Device, OnlyReads}
+use Rattle.jb_disk.specs.Files.{Files}
+use Rattle.jb_disk.specs.Images.{Images}
+use Rattle.jb_disk.specs.Runs.{IsAllSynced, LeavesNow}
+use Rattle.jb_journal.specs.Recover.{IsGrowthSafe}
+use Rattle.jb_image.specs.Stands.{StandsFor}
+use Rattle.jb_model.specs.State.{AreaState, state_of}
+use Rattle.jb_model.specs.declared.command.Command.{Command}
+use Rattle.jb_tool.proofs.ChangingLemmas.{few_resting, holds_stands, leaves_only_weaken, leaves_weaken, opens_area}
+use Rattle.jb_tool.proofs.Recovering.{IsTold, is_told, rose_later}
+use Rattle.jb_tool.specs.Changing.{ChangesArea, OpensToEither, of_opening}
+use Rattle.jb_tool.specs.Tending.{Answer, IsOldOrNew, KeepsOrTends, OpensAs, Tends, answer_to}
+use Rattle.jb_tool.specs.declared.error.ToolError.{ToolError}
+
+-- what a crash leaves now opens to just what some opens to that it might leave now
+now_left : (command : Command) (was : Files) (moments : List Images) → LeavesNow (λ files. OpensAsAtStart moments files ⊎ IsOldOrNew command was files) moments
+now_left command was [] = tt
+now_left command was (now ∷ earlier) = λ files image. inl (record { was = files; might = image; same = λ loaded texts. (λ x. x, λ x. x) })
+
+-- nothing is done
+pub nothing_left : (command : Command) (device : Device) → KeepsOrTends command device device
+nothing_left command device = λ was there safe. record {
+  first = now_left command was device.moments;
+  run = runs-refl (λ files. OpensAsAtStart device.moments files ⊎ IsOldOrNew command was files) device.moments device.moments refl;
+}
+
+-- a base that is not opened
+pub refused_tends : (command : Command) (before after : Device) (error : OpeningError) → Refuses MOST_SLOTS before after error → FaultRose before.faults after.faults error
+    → Tends command before after (Err (of_opening error))
+refused_tends command before after (bad_journal at) refuses rose = refuses
+refused_tends command before after (Base error) refuses rose = inr (refuses, rose)
+
+-- and what a crash leaves then
+pub refused_left : (command : Command) (before after : Device) → KeepsOpening before after → KeepsOrTends command before after
+refused_left command before after keeps = λ was there safe.
+    leaves_only_weaken (OpensAsAtStart before.moments) (λ files. OpensAsAtStart before.moments files ⊎ IsOldOrNew command was files) before after
+    (λ files opens. inl opens) (keeps was there safe)
+
+-- reads leave a base recovered
+recovered_read : (was : Files) (mid after : Device) → OnlyReads mid after → IsRecovered was mid → IsRecovered was after
+recovered_read was mid after kept is = record {
+  record_found = is.record_found;
+  replayed = λ safe now now_is. is.replayed safe now (sym kept.contents ∙ now_is);
+  told = subst IsSome (sym kept.contents) is.told;
+  shut = λ now now_is. is.shut now (sym kept.contents ∙ now_is);
+  synced = λ now now_is. subst (LeavesNow (λ left. left ≡ now)) (sym kept.moments) (is.synced now (sym kept.contents ∙ now_is));
+}
+
+module _ {D : Type 0} (shown : D → Device) (command : Command) (before : Device) (area : OpenArea D)
+    (recovered : ForSome before.contents (λ was. IsRecovered was (shown area.disk)))
+    (opened : ForSome before.contents (λ was. IsGrowthSafe was → IsOpenAt shown was area))
+    (rest : HasRest shown area) where
+  -- the area that was opened
+  abbrev from : AreaState
+  from = state_of rest.texts area.held.loaded
+
+  -- its files, told
+  opened_files : (was : Files) → before.contents ≡ Some was → IsTold (shown area.disk).contents
+  opened_files was there = is_told (shown area.disk).contents (recovered was there).told
+
+  -- the base opened to it
+  opened_as : (was : Files) → before.contents ≡ Some was → IsGrowthSafe was → OpensAs from was
+  opened_as was there safe =
+      let at = opened was there safe in
+      let now = opened_files was there in
+      let one = (at.rests.kept.settled.rests now.files now.is).holds.texts_are in
+      let other = (rest.rests.kept.settled.rests now.files now.is).holds.texts_are in
+      opens_area area.held.loaded rest.texts was (few_resting shown command area rest.texts rest.rests)
+      (subst (λ (t : List ℕ). Opens area.held.loaded t was) (sym one ∙ other) at.opens)
+
+  module _ (new : OpenArea D) (later : before.faults ≤ (shown area.disk).faults) where
+    -- the command is tended, or not
+    pub tends_opened : (answer : Answer) → ChangesArea shown command area new answer → Tends command before (shown new.disk) answer
+    tends_opened (Ok text) changes = λ was there.
+        let now = opened_files was there in
+        record {
+          old = from;
+          new = (answer_to command from).state;
+          outcome = (changes.answered now.files now.is rest.texts rest.rests, refl);
+          record_found = (recovered was there).record_found;
+          opened = opened_as was there;
+          now = changes.now now.files now.is rest.texts rest.rests;
+          synced = changes.synced;
+        }
+    tends_opened (Err error) changes = elim changes.failed [
+      | inl fault ↦ subst (λ (e : ToolError). Tends command before (shown new.disk) (Err e)) (sym fault.0)
+          (inr (λ other. absurd (other refl), λ same. rose_later before.faults (shown area.disk).faults (shown new.disk).faults later fault.1))
+      | inr unchanged ↦ elim unchanged [
+        | inl memory ↦ subst (λ (e : ToolError). Tends command before (shown new.disk) (Err e)) (sym memory.0)
+            (inr (λ other. record { recovered = λ was there. recovered_read was (shown area.disk) (shown new.disk) memory.1 (recovered was there); refused = λ files is. tt }, λ same. absurd (cc)))
+        | inr full ↦ subst (λ (e : ToolError). Tends command before (shown new.disk) (Err e)) (sym full.1) (λ was there.
+            let now = opened_files was there in
+            let kept = full.2 in
+            record {
+              old = from;
+              new = from;
+              outcome = (full.3 now.files now.is rest.texts rest.rests, refl);
+              record_found = (recovered was there).record_found;
+              opened = opened_as was there;
+              now = λ last last_is. holds_stands area.held.loaded rest.texts last (few_resting shown command area rest.texts rest.rests)
+                  (rest.rests.kept.settled.rests last (sym kept.contents ∙ last_is)).holds;
+              synced = λ last last_is. subst (LeavesNow (λ left. left ≡ last)) (sym kept.moments) (rest.rests.kept.settled.synced last (sym kept.contents ∙ last_is));
+            })
+      ]
+    ]
+
+    -- and what a crash leaves meanwhile
+    pub crash_opened : (answer : Answer) → KeepsOpening before (shown area.disk) → ChangesArea shown command area new answer → KeepsOrTends command before (shown new.disk)
+    crash_opened answer keeps changes = λ was there safe.
+        let now = opened_files was there in
+        let P : Files → Type 0 = λ files. OpensAsAtStart before.moments files ⊎ IsOldOrNew command was files in
+        let one = keeps was there safe in
+        let two = changes.crash now.files now.is rest.texts rest.rests in
+        let first : (files : Files) → OpensAsAtStart before.moments files → P files = λ files opens. inl opens in
+        let second : (files : Files) → OpensToEither command from files → P files = λ files opens. inr (record { old = from; before = opened_as was there safe; now = opens }) in
+        record {
+          first = leaves_weaken (OpensAsAtStart before.moments) P before.moments first one.first;
+          run = runs-then P before.moments (shown area.disk).moments (shown new.disk).moments
+              (runs-weaken (OpensAsAtStart before.moments) P first before.moments (shown area.disk).moments one.run)
+              (runs-weaken (OpensToEither command from) P second (shown area.disk).moments (shown new.disk).moments two.run);
+        }

@@ -1,0 +1,64 @@
+-- What a command of a tool makes of an open area.
+use Rattle.std.specs.Prelude.{◌≡◌, ◌⊎◌, ℕ, ◌≤◌, List, Ok, Err, IfErr, IfOk, OnOk}
+use Rattle.std.specs.Option.{ForSome}
+use Rattle.jb_area.specs.Area.{IsResting}
+use Rattle.jb_area.specs.declared.area.OpenArea.{OpenArea}
+use Rattle.jb_base.specs.Fault.{Rose}
+use Rattle.jb_base.specs.declared.limits.TheConstants.{MOST_SLOTS}
+use Rattle.jb_decide.specs.declared.error.AreaError.{AreaError}
+use Rattle.jb_decide.specs.declared.error.AreaError.TheVariants as failed
+use Rattle.jb_disk.specs.Device.{Device, OnlyReads}
+use Rattle.jb_disk.specs.Files.{Files}
+use Rattle.jb_disk.specs.Runs.{IsAllSynced, LeavesOnly}
+use Rattle.jb_image.specs.Stands.{StandsFor}
+use Rattle.jb_image.specs.declared.error.OpenError.TheVariants as refused
+use Rattle.jb_model.specs.State.{AreaState, state_of}
+use Rattle.jb_model.specs.declared.command.Command.{Command}
+use Rattle.jb_model.specs.declared.reply.Reply.{Reply}
+use Rattle.jb_model.specs.declared.reply.Reply.TheVariants as reply
+use Rattle.jb_area_open.specs.declared.error.OpeningError.{OpeningError}
+use Rattle.jb_area_open.specs.declared.error.OpeningError.TheVariants as opening
+use Rattle.jb_tool.specs.Tending.{Answer, OpensAs, answer_to, tool_answer}
+use Rattle.jb_tool.specs.declared.error.ToolError.{ToolError}
+use Rattle.jb_tool.specs.declared.error.ToolError.TheVariants.{BadJournal, Open, TextFull}
+
+-- a failed call of an area, as the refusal of a tool
+abbrev pub of_area : AreaError → ToolError
+of_area failed.StoreFault = Open refused.StoreFault
+of_area failed.OutOfMemory = Open refused.OutOfMemory
+
+-- a base that is not opened, as the refusal of a tool
+abbrev pub of_opening : OpeningError → ToolError
+of_opening (opening.BadJournal at) = BadJournal at
+of_opening (opening.Base error) = Open error
+
+-- why no line is printed of a reply: its texts are too long, or there was no memory for the line
+abbrev pub HasNoLine : Reply → ToolError → Type 0
+HasNoLine said error = (error ≡ Open refused.OutOfMemory) ⊎ ((length : ℕ) × (error ≡ TextFull length) × (said ≡ reply.TextFull length))
+
+-- files that open to this area, or to the one that the command makes of it
+abbrev pub OpensToEither : Command → AreaState → Files → Type 0
+OpensToEither command area files = OpensAs area files ⊎ OpensAs (answer_to command area).state files
+
+-- of a disk that shows itself so
+module _ {D : Type 0} (shown : D → Device) where
+  -- this of the area at rest, where the disk tells what it holds
+  abbrev pub WhereTold : OpenArea D → (AreaState → Type 0) → Type 0
+  WhereTold area claim = ForSome (shown area.disk).contents (λ files. (texts : List ℕ) → IsResting shown area texts → claim (state_of texts area.held.loaded))
+
+  -- why the command was not done: a fault that the disk counted, or want of memory, or texts that are too long, and after these nothing was written
+  abbrev pub IsStoppedBy : Command → OpenArea D → OpenArea D → ToolError → Type 0
+  IsStoppedBy command old new error =
+      ((error ≡ Open refused.StoreFault) × Rose (shown old.disk).faults (shown new.disk).faults)
+      ⊎ (((error ≡ Open refused.OutOfMemory) × OnlyReads (shown old.disk) (shown new.disk))
+      ⊎ ((length : ℕ) × (error ≡ TextFull length) × OnlyReads (shown old.disk) (shown new.disk)
+      × WhereTold old (λ area. tool_answer (answer_to command area).reply ≡ Err (TextFull length))))
+
+  -- the command was done, and this is its line; or it was not
+  pub record ChangesArea (command : Command) (old new : OpenArea D) (result : Answer) : Type 0 where
+    pub answered : IfOk result (λ text. WhereTold old (λ area. tool_answer (answer_to command area).reply ≡ Ok text))
+    pub now : OnOk result (WhereTold old (λ area. ForSome (shown new.disk).contents (λ files. StandsFor MOST_SLOTS files (answer_to command area).state)))
+    pub synced : OnOk result (IsAllSynced (shown new.disk))
+    pub failed : IfErr result (IsStoppedBy command old new)
+    pub crash : WhereTold old (λ area. LeavesOnly (shown old.disk) (shown new.disk) (OpensToEither command area))
+    pub later : (shown old.disk).faults ≤ (shown new.disk).faults

@@ -1,0 +1,7 @@
+pub mod Answers
+pub mod Changing
+pub mod Check
+pub mod Listing
+pub mod Outcome
+pub mod Recovered
+pub mod Tending

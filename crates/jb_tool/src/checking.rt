@@ -1,0 +1,102 @@
+//! The tool `check`.
+ghost use Rattle.std.specs.Prelude.{◌≡◌, ◌↔◌, ◌≤◌, ◌++◌, ℕ, List, IfOk, OnOk, length, true};
+ghost use Rattle.jb_base.specs.declared.limits.TheConstants.{MOST_SLOTS};
+ghost use Rattle.jb_model.specs.Links.{IsLinked};
+ghost use Rattle.jb_model.specs.Sound.{IsSound};
+ghost use Rattle.jb_model.specs.State.{state_of};
+ghost use Rattle.jb_tool.specs.Answers.{LooksAt};
+ghost use Rattle.jb_tool.specs.Check.{IsCheck, check_lines, count_line, linked_line};
+ghost use Rattle.jb_tool.specs.Recovered.{KeepsReplay};
+ghost use Rattle.jb_tool.specs.declared.tool.Tool.TheVariants.{Check as Checking};
+
+use crate::ToolError;
+use crate::counting::{count_empty, count_ids, count_killed, count_live};
+use crate::reading::read_base;
+use itoa::Buffer;
+use jb_base::{Bytes, OutOfMemory};
+use jb_disk::Disk;
+use jb_link::{changed, relink_plan};
+use jb_model::Loaded;
+use std::alloc::Global;
+
+/// Puts a line behind a text: a name, a space and a number.
+fn append_count(text: &mut Bytes, name: &[u8], count: u64) -> Result<(), OutOfMemory>
+    ensures { OnOk result (text.new ≡ text.old ++ count_line name.now count) }
+{
+    let mut digits = Buffer::new();
+    text.append(name)?;
+    text.append(b" ")?;
+    text.append(digits.format(count).as_bytes())?;
+    text.append(b"\n")?;
+    Ok(())
+}
+
+/// Puts the last line behind a text: whether all links are right.
+fn append_linked(text: &mut Bytes, linked: bool) -> Result<(), OutOfMemory>
+    ensures { OnOk result (text.new ≡ text.old ++ linked_line linked) }
+{
+    text.append(if linked { b"linked yes" } else { b"linked no" })?;
+    text.append(b"\n")?;
+    Ok(())
+}
+
+/// Whether each live message has the links that the area gives it.
+fn is_linked(alloc: Global, loaded: &Loaded) -> Result<bool, OutOfMemory>
+    requires { IsSound MOST_SLOTS loaded.now }
+    ensures { IfOk result (λ linked. (texts : List ℕ) → (linked ≡ true) ↔ IsLinked (state_of texts loaded.now)) }
+{
+    let plan = relink_plan(alloc, loaded)?;
+    Ok(changed(loaded, plan.as_slice()) == 0)
+}
+
+/// The seven lines of an area with so many readable ids, whose links are all right or not: its base number, the next number, how
+/// many slots are live, killed and empty, and these two.
+fn figures(alloc: Global, loaded: &Loaded, msgids: u64, linked: bool) -> Result<Bytes, OutOfMemory>
+    requires { IsSound MOST_SLOTS loaded.now }
+    ensures { IfOk result (λ text. (texts : List ℕ) → text ≡ check_lines (state_of texts loaded.now) msgids linked) }
+{
+    let slots = loaded.slots.as_slice();
+    let base = u64::from(loaded.base);
+    let mut text = Bytes::new(alloc);
+    append_count(&mut text, b"base", base)?;
+    append_count(&mut text, b"next", base + slots.len() as u64)?;
+    append_count(&mut text, b"live", count_live(slots))?;
+    append_count(&mut text, b"killed", count_killed(slots))?;
+    append_count(&mut text, b"empty", count_empty(slots))?;
+    append_count(&mut text, b"msgids", msgids)?;
+    append_linked(&mut text, linked)?;
+    Ok(text)
+}
+
+/// What a check says of an area.
+fn checked(alloc: Global, loaded: &Loaded) -> Result<Bytes, OutOfMemory>
+    requires { IsSound MOST_SLOTS loaded.now }
+    ensures { IfOk result (λ text. (texts : List ℕ) → IsCheck (state_of texts loaded.now) text) }
+{
+    let msgids = count_ids(alloc, loaded.slots.as_slice())?;
+    let linked = is_linked(alloc, loaded)?;
+    let text = figures(alloc, loaded, msgids, linked)?;
+    Ok(text)
+}
+
+/// What a check says of the base that the disk has, which is recovered first.
+fn check_base<D: Disk>(alloc: Global, disk: &mut D) -> Result<Bytes, ToolError>
+    ensures answer { LooksAt Checking (D.device disk.old) (D.device disk.new) result }
+    ensures crash { KeepsReplay (D.device disk.old) (D.device disk.new) }
+    ensures later { (D.device disk.old).faults ≤ (D.device disk.new).faults }
+{
+    let loaded = read_base(alloc, disk)?;
+    Ok(checked(alloc, &loaded)?)
+}
+
+/// Counts what the base on a disk holds, once the change is done that waits in its journal, and says whether its links are
+/// right: seven lines. A closed journal is not written.
+pub fn check<D: Disk>(alloc: Global, disk: D) -> (D, Result<Bytes, ToolError>)
+    ensures answer { LooksAt Checking (D.device disk) (D.device result.0) result.1 }
+    ensures crash { KeepsReplay (D.device disk) (D.device result.0) }
+    ensures later { (D.device disk).faults ≤ (D.device result.0).faults }
+{
+    let mut disk = disk;
+    let answer = check_base(alloc, &mut disk);
+    (disk, answer)
+}

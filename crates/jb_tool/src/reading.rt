@@ -1,0 +1,32 @@
+//! A base is recovered and read.
+ghost use Rattle.std.specs.Prelude.{◌≤◌, IfErr, IfOk};
+ghost use Rattle.std.specs.Option.{ForSome};
+ghost use Rattle.jb_base.specs.declared.limits.TheConstants.{MOST_SLOTS};
+ghost use Rattle.jb_image.specs.Answers.{OpensTo};
+ghost use Rattle.jb_model.specs.Sound.{IsSound};
+ghost use Rattle.jb_tool.specs.Recovered.{IsRecoveredTo, KeepsReplay, RefusesReading};
+
+use crate::ToolError;
+use jb_base::MOST_SLOTS;
+use jb_disk::Disk;
+use jb_image::decode;
+use jb_journal::recover;
+use jb_model::Loaded;
+use std::alloc::Global;
+
+/// What a base holds, once the change is done that waits in its journal. Nothing else is written.
+pub(crate) fn read_base<D: Disk>(alloc: Global, disk: &mut D) -> Result<Loaded, ToolError>
+    // What the recovered files hold, or why they hold nothing.
+    ensures opened { IfOk result (λ loaded. ForSome (D.device disk.old).contents (λ was.
+        IsRecoveredTo (λ files. OpensTo MOST_SLOTS files loaded) was (D.device disk.new))) }
+    ensures refused { IfErr result (RefusesReading (D.device disk.old) (D.device disk.new)) }
+
+    // On every disk.
+    ensures sound { IfOk result (IsSound MOST_SLOTS) }
+    ensures crash { KeepsReplay (D.device disk.old) (D.device disk.new) }
+    ensures later { (D.device disk.old).faults ≤ (D.device disk.new).faults }
+{
+    let _ = recover(disk)?;
+    let loaded = decode(alloc, disk, MOST_SLOTS)?;
+    Ok(loaded)
+}

@@ -1,0 +1,40 @@
+//! The tools by their names.
+ghost use Rattle.std.specs.Prelude.{◌≤◌};
+ghost use Rattle.jb_tool.specs.Answers.{AnswersTool, KeepsOpening};
+
+use crate::{ToolError, check, list, pack, relink};
+use jb_base::Bytes;
+use jb_disk::Disk;
+use std::alloc::Global;
+
+/// A tool that works on the files of one base.
+#[derive(Clone, Copy, Debug, PartialEq, Eq)]
+pub enum Tool {
+    /// Lists the live messages: [`list`].
+    List,
+    /// Counts what the base holds, and says whether its links are right: [`check`].
+    Check,
+    /// Computes the reply links anew: [`relink`].
+    Relink,
+    /// Drops the killed messages and closes the gaps: [`pack`].
+    Pack,
+}
+
+/// Uses a tool on the base that the disk has, at a moment in seconds since 1970.
+pub fn run<D: Disk>(
+    alloc: Global,
+    disk: D,
+    tool: Tool,
+    moment: u32,
+) -> (D, Result<Bytes, ToolError>)
+    ensures answer { AnswersTool tool moment (D.device disk) (D.device result.0) result.1 }
+    ensures crash { KeepsOpening tool moment (D.device disk) (D.device result.0) }
+    ensures later { (D.device disk).faults ≤ (D.device result.0).faults }
+{
+    match tool {
+        Tool::List => list(alloc, disk),
+        Tool::Check => check(alloc, disk),
+        Tool::Relink => relink(alloc, disk),
+        Tool::Pack => pack(alloc, disk),
+    }
+}
