@@ -1,0 +1,152 @@
+//! A disk in memory that tells nothing, as one over real files.
+ghost use Rattle.std.specs.Prelude.{◌≤◌};
+
+use crate::amiss::Amiss;
+use jb_base::Bytes;
+use jb_disk::{Disk, DiskFailed, FileId, MemDisk};
+use std::alloc::Global;
+use std::marker::Model;
+
+/// Dead bytes that take no memory: so many behind the fixed header of .JHR, and so many at the beginning of .JDT.
+#[derive(Clone, Copy, Debug)]
+pub(crate) struct Holes {
+    pub headers: u64,
+    pub texts: u64,
+}
+
+/// No dead bytes.
+pub(crate) const NO_HOLES: Holes = Holes {
+    headers: 0,
+    texts: 0,
+};
+
+// How many of these dead bytes lie before this place or length of a file.
+fn hole_before(holes: Holes, file: FileId, at: u64) -> u64 {
+    match file {
+        FileId::Jhr => { if at < 1_024 { 0 } else { holes.headers } }
+        FileId::Jdt => holes.texts,
+        _ => 0,
+    }
+}
+
+// The place, or length, without the dead bytes.
+fn without(holes: Holes, file: FileId, at: u64) -> u64
+    ensures { result ≤ at }
+{
+    at.saturating_sub(hole_before(holes, file, at))
+}
+
+/// Files in memory that tell nothing. Contracts see only how often the disk has failed.
+#[derive(Drop)]
+pub(crate) struct Quiet {
+    disk: MemDisk,
+    holes: Holes,
+    faults: u64,
+}
+
+impl Model for Quiet {
+    ghost use Rattle.std.specs.Prelude.{ℕ};
+
+    ghost Value = { ℕ };
+
+    ghost view = { λ quiet. quiet.faults };
+}
+
+impl Quiet {
+    /// A disk with these files and dead bytes, that fails the calls with these numbers.
+    pub(crate) fn new(
+        alloc: Global,
+        files: [Bytes; 6],
+        holes: Holes,
+        failing: &[u64],
+    ) -> Result<Quiet, Amiss> {
+        Ok(Quiet {
+            disk: MemDisk::new(alloc, files, failing.to_vec(alloc)?)?,
+            holes,
+            faults: 0,
+        })
+    }
+
+    /// What the file holds, without dead bytes.
+    pub(crate) fn file(&self, file: FileId) -> &[u8] {
+        self.disk.file(file)
+    }
+
+    /// How many calls the disk has had.
+    pub(crate) fn calls(&self) -> u64 {
+        self.disk.calls()
+    }
+
+    /// What a crash after so many calls may leave, by the pick from 0 to 3.
+    pub(crate) fn crashed(&self, calls: u64, pick: u8) -> Result<Quiet, Amiss> {
+        if calls > self.disk.calls() || pick > 3 {
+            return Err(Amiss::NotAsked);
+        }
+        Ok(Quiet {
+            disk: self.disk.crashed(calls, pick)?,
+            holes: self.holes,
+            faults: 0,
+        })
+    }
+}
+
+impl Disk for Quiet {
+    ghost use Rattle.jb_disk.specs.Silent.{silent_device, tells_nothing};
+
+    ghost device = { silent_device };
+
+    fn len(&mut self, file: FileId) -> Result<u64, DiskFailed> {
+        match self.disk.len(file) {
+            Ok(len) => Ok(len.saturating_add(hole_before(self.holes, file, len))),
+            Err(failed) => {
+                self.faults = self.faults.saturating_add(1);
+                Err(failed)
+            }
+        }
+    }
+
+    fn read_at(&mut self, file: FileId, at: u64, into: &mut [u8]) -> Result<(), DiskFailed> {
+        match self.disk.read_at(file, without(self.holes, file, at), into) {
+            Ok(()) => Ok(()),
+            Err(failed) => {
+                self.faults = self.faults.saturating_add(1);
+                Err(failed)
+            }
+        }
+    }
+
+    fn write_at(&mut self, file: FileId, at: u64, bytes: &[u8]) -> Result<(), DiskFailed> {
+        match self
+            .disk
+            .write_at(file, without(self.holes, file, at), bytes)
+        {
+            Ok(()) => Ok(()),
+            Err(failed) => {
+                self.faults = self.faults.saturating_add(1);
+                Err(failed)
+            }
+        }
+    }
+
+    fn set_len(&mut self, file: FileId, len: u64) -> Result<(), DiskFailed> {
+        match self.disk.set_len(file, without(self.holes, file, len)) {
+            Ok(()) => Ok(()),
+            Err(failed) => {
+                self.faults = self.faults.saturating_add(1);
+                Err(failed)
+            }
+        }
+    }
+
+    fn sync(&mut self, file: FileId) -> Result<(), DiskFailed> {
+        match self.disk.sync(file) {
+            Ok(()) => Ok(()),
+            Err(failed) => {
+                self.faults = self.faults.saturating_add(1);
+                Err(failed)
+            }
+        }
+    }
+
+    ghost told = { tells_nothing };
+}
