@@ -40,8 +40,7 @@ impl From<OutOfMemory> for Unmeasured {
 }
 
 // A post of 500 bytes in reply to this number or to 0.
-fn post(alloc: Global, reply_to: u32) -> Result<Command, OutOfMemory>
-{
+fn post(alloc: Global, reply_to: u32) -> Result<Command, OutOfMemory> {
     Ok(Command::Post {
         to: Name::copy(alloc, b"Hello")?,
         subject: Bytes::copy(alloc, b"abc")?,
@@ -52,8 +51,7 @@ fn post(alloc: Global, reply_to: u32) -> Result<Command, OutOfMemory>
 }
 
 // The command about this number.
-fn command(alloc: Global, act: Act, number: u32) -> Result<Command, OutOfMemory>
-{
+fn command(alloc: Global, act: Act, number: u32) -> Result<Command, OutOfMemory> {
     match act {
         Act::Post => post(alloc, 0),
         Act::Reply => post(alloc, number),
