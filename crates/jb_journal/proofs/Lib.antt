@@ -3,6 +3,7 @@ mod BeginLemmas
 mod CommitLemmas
 mod CopyLemmas
 mod FinishLemmas
+pub mod FirmLemmas
 mod OpenedLemmas
 mod OpeningLemmas
 mod Patching

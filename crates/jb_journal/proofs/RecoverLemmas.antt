@@ -67,6 +67,10 @@ shows_first device tells = by_moments device.moments refl
 pub might_as : (first : List Images) (files : Files) → MightBe first files → ReplaysAsAtStart first files
 might_as first files might = record { was = files; might = might; same = λ base. (λ replays. replays, λ replays. replays) }
 
+-- the same files replay as themselves
+pub same_as : (was files : Files) → files ≡ was → ReplaysAs was files
+same_as was files same = subst (ReplaysAs was) (sym same) (λ base. (λ replays. replays, λ replays. replays))
+
 -- what is told is there
 pub told_there : (o : Option Files) (files : Files) → o ≡ Some files → IsSome o
 told_there o files there = subst IsSome (sym there) refl

@@ -1,12 +1,12 @@
 -- What opening makes of the files that a crash has left.
-use Rattle.std.specs.Prelude.{◌≡◌, ◌↔◌, ℕ, List, [], ◌∷◌, Some}
+use Rattle.std.specs.Prelude.{◌≡◌, ◌↔◌, ℕ, ◌<◌, List, [], ◌∷◌, ◌++◌, length, Some}
 use Rattle.jb_base.specs.Fault.{Rose}
 use Rattle.jb_disk.specs.declared.piece.Length.{Length}
 use Rattle.jb_disk.specs.declared.piece.Piece.{Piece}
 use Rattle.jb_disk.specs.Device.{Device}
 use Rattle.jb_disk.specs.Files.{Files}
 use Rattle.jb_disk.specs.Images.{Images, IsImage}
-use Rattle.jb_disk.specs.Runs.{LeavesNow}
+use Rattle.jb_disk.specs.Runs.{LeavesNow, LeavesAlways}
 use Rattle.jb_redo.specs.declared.error.RecordError.{RecordError}
 use Rattle.jb_redo.specs.declared.error.RecordError.TheVariants.{Bad, StoreFault as record_fault}
 use Rattle.jb_disk.specs.Gate.{IsGateOpen}
@@ -56,3 +56,11 @@ pub record ReplaysAsAtStart (first : List Images) (files : Files) : Type 0 where
   pub was : Files
   pub might : MightBe first was
   pub same : ReplaysAs was files
+
+-- moments have come: first those of the first syncs, fewer than there are files, and from the last file's sync on those at each of which a crash leaves only files with this property
+pub record FirmSince (property : Files → Type 0) (old new : List Images) : Type 0 where
+  pub syncing : List Images
+  pub firm : List Images
+  pub since : new ≡ firm ++ (syncing ++ old)
+  pub few : length syncing < 6
+  pub only : LeavesAlways property firm

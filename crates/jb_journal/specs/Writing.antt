@@ -41,3 +41,9 @@ pub record WidensThen (old new : List Images) : Type 0 where
 abbrev pub WidensFor : {T E : Type 0} → Result T E → List Images → List Images → Type 0
 WidensFor (Ok value) old new = WidensThen old new
 WidensFor (Err error) old new = Widens old new
+
+-- at most so many moments have come
+pub record Adds (most : ℕ) (old new : List Images) : Type 0 where
+  pub added : List Images
+  pub since : new ≡ added ++ old
+  pub few : length added ≤ most

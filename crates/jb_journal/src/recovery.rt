@@ -15,7 +15,8 @@ ghost use Rattle.jb_redo.specs.Replay.{Replays};
 ghost use Rattle.jb_journal.specs.declared.error.JournalError.TheVariants.{StoreFault};
 ghost use Rattle.jb_journal.specs.Applying.{AgreeBelow};
 ghost use Rattle.jb_journal.specs.Stages.{IsAtGate};
-ghost use Rattle.jb_journal.specs.Recover.{IsFound, IsGrowthSafe, IsRefusedOver, FaultRose, ReplaysAs, MightBe, ReplaysAsAtStart};
+ghost use Rattle.jb_journal.specs.Recover.{IsFound, IsGrowthSafe, IsRefusedOver, FaultRose, FirmSince, ReplaysAs, MightBe, ReplaysAsAtStart};
+ghost use Rattle.jb_journal.specs.Writing.{Adds};
 
 use crate::gate::{is_gate_open, set_gate};
 use crate::{JournalError, Recovered};
@@ -31,6 +32,7 @@ fn sync_base<D: Disk>(disk: &mut D) -> Result<(), DiskFailed>
         (D.device disk.new) }
     ensures way { (lengths : List Length) (pieces : List Piece) (start : Files)
         → Keeps (IsOnTheWay lengths pieces start) (D.device disk.old) (D.device disk.new) }
+    ensures few { Adds 4 (D.device disk.old).moments (D.device disk.new).moments }
     ensures cause { FailsBy ⊥ (D.device disk.old) (D.device disk.new) result }
 {
     disk.sync(FileId::Jhr)?;
@@ -45,6 +47,8 @@ fn sync_all<D: Disk>(disk: &mut D) -> Result<(), DiskFailed>
     ensures durable { OnOk result (IsAllSynced (D.device disk.new)) }
     ensures first { (first : List Images) → Keeps (MightBe first) (D.device disk.old)
         (D.device disk.new) }
+    ensures firm { ForSome (D.device disk.old).contents (λ was. FirmSince (λ left. left ≡ was)
+        (D.device disk.old).moments (D.device disk.new).moments) }
     ensures cause { FailsBy ⊥ (D.device disk.old) (D.device disk.new) result }
 {
     sync_base(disk)?;
@@ -121,6 +125,11 @@ pub fn recover<D: Disk>(disk: &mut D) -> Result<Recovered, JournalError>
     ensures crash { ForSome (D.device disk.old).contents (λ was. IsGrowthSafe was
         → LeavesOnly (D.device disk.old) (D.device disk.new) (ReplaysAsAtStart
         (D.device disk.old).moments)) }
+
+    // Once the first syncs are done, a crash at any moment leaves files that replay to just what those replay to that were read
+    // at the start.
+    ensures firm { ForSome (D.device disk.old).contents (λ was. IsGrowthSafe was
+        → FirmSince (ReplaysAs was) (D.device disk.old).moments (D.device disk.new).moments) }
 
     // A disk that tells nothing goes on telling nothing, whatever is answered.
     ensures silent { StaysSilent (D.device disk.old) (D.device disk.new) }

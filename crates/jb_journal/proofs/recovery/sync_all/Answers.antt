@@ -1,10 +1,11 @@
-use Rattle.std.proofs.Common.{◌≡◌, sym, ◌∙◌, Some, refl}
+use Rattle.std.proofs.Common.{◌≡◌, sym, ◌∙◌, Some, refl, arith}
 use Rattle.jb_disk.specs.declared.file.FileId.TheVariants.{Jnl, Ndt}
-use Rattle.jb_disk.specs.Runs.{Shows}
+use Rattle.jb_disk.specs.Runs.{LeavesNow, Shows}
 use Rattle.jb_disk.proofs.RunLemmas.{keeps-then, keeps-sync, durable}
 use Rattle.jb_journal.specs.Applying.{AgreeBelow}
 use Rattle.jb_journal.specs.Recover.{MightBe}
 use Rattle.jb_journal.proofs.Told.{on_ok_both, only_told}
+use Rattle.jb_journal.proofs.FirmLemmas.{adds_more, adds_sync, adds_then, firm_last, firm_syncing}
 use Rattle.jb_journal.proofs.SyncLemmas.{held, leaves_both}
 use Rattle.jb_journal.proofs.RecoverLemmas.{six_files}
 use Rattle.jb_journal.proofs.recovery.sync_all.Goals as goal
@@ -36,3 +37,21 @@ returns-clause-durable g c = on_ok_both c.sync-2.result _ _ _ (λ kept done. λ 
     leaves_both (λ left. left Jnl ≡ final Jnl) (λ left. AgreeBelow 4 final left × (left Ndt ≡ final Ndt)) (λ left. left ≡ final) d3.moments (λ left jnl rest. six_files final left rest.0 jnl rest.1) jnl3.left
     (leaves_both (AgreeBelow 4 final) (λ left. left Ndt ≡ final Ndt) (λ left. AgreeBelow 4 final left × (left Ndt ≡ final Ndt)) d3.moments (λ left below shadow. (below, shadow)) below3.left ndt3))
     c.sync-2.ensures.changed.kept c.sync-2.ensures.changed.done
+
+pub returns-in_err-sync_base-clause-firm : goal.returns-in_err-sync_base-clause-firm
+returns-in_err-sync_base-clause-firm g c = λ was there. firm_syncing (λ left. left ≡ was) _ _ (adds_more 4 5 _ _ (omega arith) c.sync_base.ensures.few)
+
+pub returns-in_err-sync-clause-firm : goal.returns-in_err-sync-clause-firm
+returns-in_err-sync-clause-firm g c = λ was there.
+    firm_syncing (λ left. left ≡ was) _ _ (adds_then 4 1 _ _ _ c.sync_base.ensures.few (adds_sync Jnl _ _ _ (g.met.D.Disk.told c.sync_base.new.disk) (g.met.D.Disk.told c.sync.new.self) c.sync.ensures.changed))
+
+pub returns-clause-firm : goal.returns-clause-firm
+returns-clause-firm g c = λ was there.
+    let d2 = g.D.Disk.device c.sync.new.self in
+    let d3 = g.D.Disk.device c.sync-2.new.self in
+    let t2 = g.met.D.Disk.told c.sync.new.self in
+    let t3 = g.met.D.Disk.told c.sync-2.new.self in
+    let at2 : d2.contents ≡ Some was = c.in_ok-sync.ensures.changed.kept ∙ c.in_ok-sync_base.ensures.kept ∙ there in
+    let first = adds_then 4 1 _ _ _ c.sync_base.ensures.few (adds_sync Jnl _ _ _ (g.met.D.Disk.told c.sync_base.new.disk) t2 c.sync.ensures.changed) in
+    let left = on_ok_both c.sync-2.result _ _ (LeavesNow (λ left. left ≡ was) d3.moments) (λ kept durable. durable was (kept ∙ at2)) c.sync-2.ensures.changed.kept (returns-clause-durable g c) in
+    firm_last (λ left. left ≡ was) Ndt _ d2 d3 c.sync-2.result first t2 t3 c.sync-2.ensures.changed left

@@ -1,9 +1,10 @@
-use Rattle.std.proofs.Common.{◌≡◌, ◌∙◌, Some}
+use Rattle.std.proofs.Common.{◌≡◌, ◌∙◌, Some, arith}
 use Rattle.jb_disk.specs.declared.file.FileId.TheVariants.{Jhr, Jdt, Jdx, Jlr}
 use Rattle.jb_disk.proofs.RunLemmas.{keeps-then, keeps-sync, durable}
 use Rattle.jb_redo.specs.OnTheWay.{IsOnTheWay}
 use Rattle.jb_journal.specs.Recover.{MightBe}
 use Rattle.jb_journal.proofs.Told.{on_ok}
+use Rattle.jb_journal.proofs.FirmLemmas.{adds_more, adds_sync, adds_then}
 use Rattle.jb_journal.proofs.SyncLemmas.{held, four_files}
 use Rattle.jb_journal.proofs.recovery.sync_base.Goals as goal
 
@@ -55,3 +56,15 @@ returns-clause-durable g c = on_ok c.sync-4.result _ _ (λ done. λ final there.
     let jdx3 = held Jdx final d3 at3 (durable Jdx final d2 d3 at2 c.in_ok-sync-3.ensures.changed.done) in
     let jdx4 = (keeps-sync (λ left. left Jdx ≡ final Jdx) Jlr d3 d4 _ t3 t4 c.sync-4.ensures.changed).shows jdx3 in
     four_files final d4.moments jhr4.left jdt4.left jdx4.left (durable Jlr final d3 d4 at3 done)) c.sync-4.ensures.changed.done
+
+pub returns-in_err-sync-clause-few : goal.returns-in_err-sync-clause-few
+returns-in_err-sync-clause-few g c = adds_more 1 4 _ _ (omega arith) (adds_sync Jhr _ _ _ (g.met.D.Disk.told c.args.disk.now) (g.met.D.Disk.told c.sync.new.self) c.sync.ensures.changed)
+
+pub returns-in_err-sync-2-clause-few : goal.returns-in_err-sync-2-clause-few
+returns-in_err-sync-2-clause-few g c = adds_more 2 4 _ _ (omega arith) (adds_then 1 1 _ _ _ (adds_sync Jhr _ _ _ (g.met.D.Disk.told c.args.disk.now) (g.met.D.Disk.told c.sync.new.self) c.sync.ensures.changed) (adds_sync Jdt _ _ _ (g.met.D.Disk.told c.sync.new.self) (g.met.D.Disk.told c.sync-2.new.self) c.sync-2.ensures.changed))
+
+pub returns-in_err-sync-3-clause-few : goal.returns-in_err-sync-3-clause-few
+returns-in_err-sync-3-clause-few g c = adds_more 3 4 _ _ (omega arith) (adds_then 2 1 _ _ _ (adds_then 1 1 _ _ _ (adds_sync Jhr _ _ _ (g.met.D.Disk.told c.args.disk.now) (g.met.D.Disk.told c.sync.new.self) c.sync.ensures.changed) (adds_sync Jdt _ _ _ (g.met.D.Disk.told c.sync.new.self) (g.met.D.Disk.told c.sync-2.new.self) c.sync-2.ensures.changed)) (adds_sync Jdx _ _ _ (g.met.D.Disk.told c.sync-2.new.self) (g.met.D.Disk.told c.sync-3.new.self) c.sync-3.ensures.changed))
+
+pub returns-clause-few : goal.returns-clause-few
+returns-clause-few g c = adds_then 3 1 _ _ _ (adds_then 2 1 _ _ _ (adds_then 1 1 _ _ _ (adds_sync Jhr _ _ _ (g.met.D.Disk.told c.args.disk.now) (g.met.D.Disk.told c.sync.new.self) c.sync.ensures.changed) (adds_sync Jdt _ _ _ (g.met.D.Disk.told c.sync.new.self) (g.met.D.Disk.told c.sync-2.new.self) c.sync-2.ensures.changed)) (adds_sync Jdx _ _ _ (g.met.D.Disk.told c.sync-2.new.self) (g.met.D.Disk.told c.sync-3.new.self) c.sync-3.ensures.changed)) (adds_sync Jlr _ _ _ (g.met.D.Disk.told c.sync-3.new.self) (g.met.D.Disk.told c.sync-4.new.self) c.sync-4.ensures.changed)
