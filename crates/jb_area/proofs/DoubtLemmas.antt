@@ -1,5 +1,6 @@
 -- What a settling makes of an area in doubt.
 use Rattle.std.proofs.Common.{◌≡◌, ◌≢◌, ℕ, List, Option, None, Some, true, false, ap, sym, refl, ◌∙◌, subst, ◌+◌, ◌≤◌, length}
+use Rattle.jb_disk.specs.Change.{Change}
 use Rattle.jb_disk.specs.Device.{Device, StaysSilent}
 use Rattle.jb_disk.specs.Files.{Files}
 use Rattle.jb_disk.specs.Runs.{LeavesOnly}
@@ -9,7 +10,7 @@ use Rattle.jb_model.specs.Sound.{IsSound}
 use Rattle.jb_model.specs.declared.loaded.Loaded.{Loaded}
 use Rattle.jb_decide.specs.Coming.{Coming, IsChange}
 use Rattle.jb_decide.specs.Decided.{IsPending}
-use Rattle.jb_area.specs.Area.{DoubtOpens, IsBetween, IsDoubtful, IsUnchanged, RestsAt, SettlesAt}
+use Rattle.jb_area.specs.Area.{redo_in, redo_of, DoubtOpens, IsBetween, IsDoubtful, IsUnchanged, RestsAt, SettlesAt}
 use Rattle.jb_area.specs.Commits.{IsAnsweredAs, IsSettledAs, IsStoppedAs, MaySettle}
 use Rattle.jb_decide.specs.Held.{IsKeptWhole}
 use Rattle.jb_decide.specs.declared.held.Held.{Held}
@@ -30,6 +31,11 @@ same_stopped one other first second is = cc
 
 same_pending : (one other : Stopped) (first second : Pending) → Doubtful one first ≡ Doubtful other second → first ≡ second
 same_pending one other first second is = cc
+
+-- an area in doubt is at that stage
+pub at_doubt : {D : Type 0} (shown : D → Device) (area : OpenArea D) (texts : List ℕ) (coming : Option Coming) → IsDoubtful shown area texts coming → (stopped : Stopped) × (pending : Pending) × (area.stage ≡ Doubtful stopped pending)
+at_doubt shown area texts None doubt = (doubt.stopped, Nothing, doubt.stage)
+at_doubt shown area texts (Some coming) doubt = (doubt.stopped, doubt.pending, doubt.stage)
 
 module _ {D : Type 0} (shown : D → Device) (area : OpenArea D) (stopped : Stopped) (pending : Pending) (is : area.stage ≡ Doubtful stopped pending) where
   -- a call that had no change
@@ -54,25 +60,14 @@ module _ {D : Type 0} (shown : D → Device) (area : OpenArea D) (stopped : Stop
     no_none texts unchanged = some (same_pending stopped unchanged.stopped pending Nothing (sym is ∙ unchanged.stage))
 
     -- what is in doubt
-    doubt_is : (texts : List ℕ) (coming : Coming) → IsBetween shown area texts coming → IsStoppedAs stopped area.redo area.held.loaded texts (shown area.disk)
+    doubt_is : (texts : List ℕ) (coming : Coming) → IsBetween shown area texts coming → IsStoppedAs stopped (redo_of area) area.held.loaded texts (shown area.disk)
     doubt_is texts coming between =
-        subst (λ (s : Stopped). IsStoppedAs s area.redo area.held.loaded texts (shown area.disk)) (same_stopped between.stopped stopped between.pending pending (sym between.stage ∙ is)) between.doubt
+        subst (λ (s : Stopped). IsStoppedAs s (redo_of area) area.held.loaded texts (shown area.disk)) (same_stopped between.stopped stopped between.pending pending (sym between.stage ∙ is)) between.doubt
 
     -- what is to come
-    change_is : (texts : List ℕ) (coming : Coming) → IsBetween shown area texts coming → IsPending area.rules.slots (shown area.disk).contents area.redo pending area.held.loaded texts coming
+    change_is : (texts : List ℕ) (coming : Coming) → IsBetween shown area texts coming → IsPending area.rules.slots (shown area.disk).contents (redo_of area) pending area.held.loaded texts coming
     change_is texts coming between =
-        subst (λ (p : Pending). IsPending area.rules.slots (shown area.disk).contents area.redo p area.held.loaded texts coming) (same_pending between.stopped stopped between.pending pending (sym between.stage ∙ is)) between.change
-
-    -- it may be settled
-    pub may_settle : (texts : List ℕ) (coming : Option Coming) → IsDoubtful shown area texts coming → MaySettle stopped area.redo (shown area.disk)
-    may_settle texts None doubt = absurd (no_none texts doubt)
-    may_settle texts (Some coming) doubt = record {
-      from = area.held.loaded;
-      texts = texts;
-      coming = coming;
-      doubt = doubt_is texts coming doubt;
-      change = (change_is texts coming doubt).change;
-    }
+        subst (λ (p : Pending). IsPending area.rules.slots (shown area.disk).contents (redo_of area) p area.held.loaded texts coming) (same_pending between.stopped stopped between.pending pending (sym between.stage ∙ is)) between.change
 
     -- so many messages are live then
     pub live : (texts : List ℕ) (coming : Option Coming) → IsDoubtful shown area texts coming → live_messages (after pending area.held.loaded) ≡ live_after pending area.held.live
@@ -99,65 +94,90 @@ module _ {D : Type 0} (shown : D → Device) (area : OpenArea D) (stopped : Stop
         let change = change_is texts coming doubt in
         subst (λ (l : Loaded). l.base + length l.slots ≤ 4294967295) change.becomes change.sound.numbers
 
-    -- settled with the change
-    pub stands : (disk : D) (held : Held) (stage : Stage) → stage ≡ Resting → held.loaded ≡ after pending area.held.loaded → IsKeptWhole held
-        → ((from : Loaded) (texts : List ℕ) (coming : Coming) → IsStoppedAs stopped area.redo from texts (shown area.disk) → IsChange (shown area.disk).contents area.redo from texts coming → IsAnsweredAs true from texts coming (shown disk))
-        → (texts : List ℕ) (coming : Option Coming) → IsDoubtful shown area texts coming
-        → SettlesAt shown true area.held.loaded texts coming (record area { disk = disk; held = held; stage = stage })
-    stands disk held stage resting applied whole answer texts None doubt = no_none texts doubt
-    stands disk held stage resting applied whole answer texts (Some coming) doubt =
-        let change = change_is texts coming doubt in
-        let to : coming.to ≡ held.loaded = change.becomes ∙ sym applied in
-        record {
-          rests = record {
-            stage = resting;
-            kept = record {
-              ruled = record { few_slots = doubt.ruled.few_slots; address = doubt.ruled.address; sound = subst (IsSound area.rules.slots) to change.sound; sized = change.sized ∙ ap (λ (l : Loaded). l.texts_len) to; whole = whole; room = doubt.ruled.room };
-              settled = subst (λ (l : Loaded). IsSettledAs l coming.texts (shown disk)) to (answer area.held.loaded texts coming (doubt_is texts coming doubt) change.change);
+    -- of the redo that is in use
+    module _ (redo : Change) (used : redo ≡ redo_of area) where
+      -- what is in doubt
+      doubt_in : (texts : List ℕ) (coming : Coming) → IsBetween shown area texts coming → IsStoppedAs stopped redo area.held.loaded texts (shown area.disk)
+      doubt_in texts coming between = subst (λ (r : Change). IsStoppedAs stopped r area.held.loaded texts (shown area.disk)) (sym used) (doubt_is texts coming between)
+
+      -- what is to come
+      change_in : (texts : List ℕ) (coming : Coming) → IsBetween shown area texts coming → IsPending area.rules.slots (shown area.disk).contents redo pending area.held.loaded texts coming
+      change_in texts coming between =
+          subst (λ (r : Change). IsPending area.rules.slots (shown area.disk).contents r pending area.held.loaded texts coming) (sym used) (change_is texts coming between)
+
+      -- it may be settled
+      pub may_settle : (texts : List ℕ) (coming : Option Coming) → IsDoubtful shown area texts coming → MaySettle stopped redo (shown area.disk)
+      may_settle texts None doubt = absurd (no_none texts doubt)
+      may_settle texts (Some coming) doubt = record {
+        from = area.held.loaded;
+        texts = texts;
+        coming = coming;
+        doubt = doubt_in texts coming doubt;
+        change = (change_in texts coming doubt).change;
+      }
+
+      -- settled with the change
+      pub stands : (disk : D) (held : Held) (large : Option Change) (stage : Stage) → large ≡ None → stage ≡ Resting → held.loaded ≡ after pending area.held.loaded → IsKeptWhole held
+          → ((from : Loaded) (texts : List ℕ) (coming : Coming) → IsStoppedAs stopped redo from texts (shown area.disk) → IsChange (shown area.disk).contents redo from texts coming → IsAnsweredAs true from texts coming (shown disk))
+          → (texts : List ℕ) (coming : Option Coming) → IsDoubtful shown area texts coming
+          → SettlesAt shown true area.held.loaded texts coming (record area { disk = disk; held = held; large = large; stage = stage })
+      stands disk held large stage small resting applied whole answer texts None doubt = no_none texts doubt
+      stands disk held large stage small resting applied whole answer texts (Some coming) doubt =
+          let change = change_in texts coming doubt in
+          let to : coming.to ≡ held.loaded = change.becomes ∙ sym applied in
+          record {
+            rests = record {
+              stage = resting;
+              small = small;
+              kept = record {
+                ruled = record { few_slots = doubt.ruled.few_slots; address = doubt.ruled.address; sound = subst (IsSound area.rules.slots) to change.sound; sized = change.sized ∙ ap (λ (l : Loaded). l.texts_len) to; whole = whole; room = doubt.ruled.room };
+                settled = subst (λ (l : Loaded). IsSettledAs l coming.texts (shown disk)) to (answer area.held.loaded texts coming (doubt_in texts coming doubt) change.change);
+              };
             };
+            is = sym to;
+          }
+
+      -- settled without it
+      pub falls : (disk : D) (large : Option Change) (stage : Stage) → large ≡ None → stage ≡ Resting
+          → ((from : Loaded) (texts : List ℕ) (coming : Coming) → IsStoppedAs stopped redo from texts (shown area.disk) → IsChange (shown area.disk).contents redo from texts coming → IsAnsweredAs false from texts coming (shown disk))
+          → (texts : List ℕ) (coming : Option Coming) → IsDoubtful shown area texts coming
+          → RestsAt shown (record area { disk = disk; large = large; stage = stage }) texts area.held.loaded
+      falls disk large stage small resting answer texts None doubt = absurd (no_none texts doubt)
+      falls disk large stage small resting answer texts (Some coming) doubt = record {
+        rests = record {
+          stage = resting;
+          small = small;
+          kept = record {
+            ruled = record { few_slots = doubt.ruled.few_slots; address = doubt.ruled.address; sound = doubt.ruled.sound; sized = doubt.ruled.sized; whole = doubt.ruled.whole; room = doubt.ruled.room };
+            settled = answer area.held.loaded texts coming (doubt_in texts coming doubt) (change_in texts coming doubt).change;
           };
-          is = sym to;
-        }
-
-    -- settled without it
-    pub falls : (disk : D) (stage : Stage) → stage ≡ Resting
-        → ((from : Loaded) (texts : List ℕ) (coming : Coming) → IsStoppedAs stopped area.redo from texts (shown area.disk) → IsChange (shown area.disk).contents area.redo from texts coming → IsAnsweredAs false from texts coming (shown disk))
-        → (texts : List ℕ) (coming : Option Coming) → IsDoubtful shown area texts coming
-        → RestsAt shown (record area { disk = disk; stage = stage }) texts area.held.loaded
-    falls disk stage resting answer texts None doubt = absurd (no_none texts doubt)
-    falls disk stage resting answer texts (Some coming) doubt = record {
-      rests = record {
-        stage = resting;
-        kept = record {
-          ruled = record { few_slots = doubt.ruled.few_slots; address = doubt.ruled.address; sound = doubt.ruled.sound; sized = doubt.ruled.sized; whole = doubt.ruled.whole; room = doubt.ruled.room };
-          settled = answer area.held.loaded texts coming (doubt_is texts coming doubt) (change_is texts coming doubt).change;
         };
-      };
-      is = refl;
-    }
+        is = refl;
+      }
 
-    -- stopped again
-    pub still : (disk : D) (again : Stopped) → StaysSilent (shown area.disk) (shown disk)
-        → ((from : Loaded) (texts : List ℕ) (coming : Coming) → IsStoppedAs stopped area.redo from texts (shown area.disk) → IsChange (shown area.disk).contents area.redo from texts coming → IsStoppedAs again area.redo from texts (shown disk))
-        → (texts : List ℕ) (coming : Option Coming) → IsDoubtful shown area texts coming
-        → IsDoubtful shown (record area { disk = disk; stage = Doubtful again pending }) texts coming
-    still disk again silent answer texts None doubt = absurd (no_none texts doubt)
-    still disk again silent answer texts (Some coming) doubt =
-        let change = change_is texts coming doubt in
-        record {
-          stopped = again;
-          pending = pending;
-          stage = refl;
-          ruled = record { few_slots = doubt.ruled.few_slots; address = doubt.ruled.address; sound = doubt.ruled.sound; sized = doubt.ruled.sized; whole = doubt.ruled.whole; room = doubt.ruled.room };
-          change = pending_later area.rules.slots (shown area.disk) (shown disk) area.redo pending area.held.loaded texts coming silent change;
-          doubt = answer area.held.loaded texts coming (doubt_is texts coming doubt) change.change;
-        }
+      -- stopped again
+      pub still : (disk : D) (large : Option Change) (again : Stopped) → redo ≡ redo_in large area.redo → StaysSilent (shown area.disk) (shown disk)
+          → ((from : Loaded) (texts : List ℕ) (coming : Coming) → IsStoppedAs stopped redo from texts (shown area.disk) → IsChange (shown area.disk).contents redo from texts coming → IsStoppedAs again redo from texts (shown disk))
+          → (texts : List ℕ) (coming : Option Coming) → IsDoubtful shown area texts coming
+          → IsDoubtful shown (record area { disk = disk; large = large; stage = Doubtful again pending }) texts coming
+      still disk large again kept silent answer texts None doubt = absurd (no_none texts doubt)
+      still disk large again kept silent answer texts (Some coming) doubt =
+          let change = change_in texts coming doubt in
+          record {
+            stopped = again;
+            pending = pending;
+            stage = refl;
+            ruled = record { few_slots = doubt.ruled.few_slots; address = doubt.ruled.address; sound = doubt.ruled.sound; sized = doubt.ruled.sized; whole = doubt.ruled.whole; room = doubt.ruled.room };
+            change = subst (λ (r : Change). IsPending area.rules.slots (shown disk).contents r pending area.held.loaded texts coming) kept
+                (pending_later area.rules.slots (shown area.disk) (shown disk) redo pending area.held.loaded texts coming silent change);
+            doubt = subst (λ (r : Change). IsStoppedAs again r area.held.loaded texts (shown disk)) kept (answer area.held.loaded texts coming (doubt_in texts coming doubt) change.change);
+          }
 
-    -- whenever a crash comes
-    pub crashes : (new : Device)
-        → ((from : Loaded) (texts : List ℕ) (coming : Coming) → IsStoppedAs stopped area.redo from texts (shown area.disk) → IsChange (shown area.disk).contents area.redo from texts coming
-        → (was : Files) → (shown area.disk).contents ≡ Some was → LeavesOnly (shown area.disk) new (OpensToEither from texts coming))
-        → (texts : List ℕ) (coming : Option Coming) → IsDoubtful shown area texts coming → (was : Files) → (shown area.disk).contents ≡ Some was
-        → LeavesOnly (shown area.disk) new (DoubtOpens area.held.loaded texts coming)
-    crashes new crash texts None doubt was there = absurd (no_none texts doubt)
-    crashes new crash texts (Some coming) doubt was there = crash area.held.loaded texts coming (doubt_is texts coming doubt) (change_is texts coming doubt).change was there
+      -- whenever a crash comes
+      pub crashes : (new : Device)
+          → ((from : Loaded) (texts : List ℕ) (coming : Coming) → IsStoppedAs stopped redo from texts (shown area.disk) → IsChange (shown area.disk).contents redo from texts coming
+          → (was : Files) → (shown area.disk).contents ≡ Some was → LeavesOnly (shown area.disk) new (OpensToEither from texts coming))
+          → (texts : List ℕ) (coming : Option Coming) → IsDoubtful shown area texts coming → (was : Files) → (shown area.disk).contents ≡ Some was
+          → LeavesOnly (shown area.disk) new (DoubtOpens area.held.loaded texts coming)
+      crashes new crash texts None doubt was there = absurd (no_none texts doubt)
+      crashes new crash texts (Some coming) doubt was there = crash area.held.loaded texts coming (doubt_in texts coming doubt) (change_in texts coming doubt).change was there

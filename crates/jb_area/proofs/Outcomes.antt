@@ -1,5 +1,5 @@
 -- A claim on an answer, from other claims on it.
-use Rattle.std.proofs.Common.{◌≡◌, Result, Ok, Err, IfOk, IfErr, OnErr, OnOk, subst, sym}
+use Rattle.std.proofs.Common.{Result, Ok, Err, IfOk, IfErr, OnOk}
 
 module _ {T E : Type 0} where
   -- of a refusal

@@ -1,5 +1,5 @@
 -- What is on its way in an open area, from its stage.
-use Rattle.std.proofs.Common.{◌≡◌, ◌≢◌, ◌⊎◌, inl, inr, ℕ, ◌+◌, ◌≤◌, List, length, Option, ap, sym, refl, ◌∙◌, subst}
+use Rattle.std.proofs.Common.{◌≡◌, ◌≢◌, ◌⊎◌, inl, inr, ℕ, ◌+◌, ◌≤◌, List, length, Option, None, ap, sym, refl, ◌∙◌, subst}
 use Rattle.jb_disk.specs.Device.{Device, StaysSilent}
 use Rattle.jb_disk.specs.Change.{Change}
 use Rattle.jb_model.specs.Sound.{IsSound}
@@ -11,7 +11,7 @@ use Rattle.std.specs.Option.{ForSome}
 use Rattle.jb_disk.specs.Files.{Files}
 use Rattle.jb_journal.specs.Commit.{AgreeButJournal, changed}
 use Rattle.jb_decide.specs.Decided.{IsNoChange, IsPending, made}
-use Rattle.jb_area.specs.Area.{done_in, HasMade, IsBegun, IsBetween, RestsAt}
+use Rattle.jb_area.specs.Area.{done_in, redo_in, redo_of, HasMade, IsBegun, IsBetween, RestsAt}
 use Rattle.jb_area.specs.Commits.{IsSettledAs, IsStoppedAs, MayCommit}
 use Rattle.jb_decide.specs.Held.{IsKeptWhole}
 use Rattle.jb_decide.specs.declared.held.Held.{Held}
@@ -68,18 +68,18 @@ some_made (Packed plan base replies) redo files some = refl
 
 module _ {D : Type 0} (shown : D → Device) (area : OpenArea D) (reply : Reply) (pending : Pending) (is : area.stage ≡ Begun reply pending) where
   -- a call without a change leaves the files
-  pub made_nothing : (disk : D) (held : Held) (stage : Stage) → pending ≡ Nothing → disk ≡ area.disk → HasMade shown area (record area { disk = disk; held = held; stage = stage })
-  made_nothing disk held stage none same was there now here = λ file ne.
+  pub made_nothing : (disk : D) (held : Held) (large : Option Change) (stage : Stage) → pending ≡ Nothing → disk ≡ area.disk → HasMade shown area (record area { disk = disk; held = held; large = large; stage = stage })
+  made_nothing disk held large stage none same was there now here = λ file ne.
       ap (λ (f : Files). f file) (some-same _ _ (sym here ∙ ap (λ (d : D). (shown d).contents) same ∙ there))
-      ∙ sym (ap (λ (s : Stage). done_in s area.redo was file) is ∙ ap (λ (p : Pending). made p area.redo was file) none)
+      ∙ sym (ap (λ (s : Stage). done_in s (redo_of area) was file) is ∙ ap (λ (p : Pending). made p (redo_of area) was file) none)
 
   -- and one with a change does it
-  pub made_change : (disk : D) (held : Held) (stage : Stage) → pending ≢ Nothing
-      → ForSome (shown area.disk).contents (λ was. ForSome (shown disk).contents (λ now. AgreeButJournal now (changed area.redo was)))
-      → HasMade shown area (record area { disk = disk; held = held; stage = stage })
-  made_change disk held stage some agree was there now here = λ file ne.
-      agree was there now here file ne
-      ∙ sym (ap (λ (s : Stage). done_in s area.redo was file) is ∙ ap (λ (f : Files). f file) (some_made pending area.redo was some))
+  pub made_change : (disk : D) (held : Held) (large : Option Change) (stage : Stage) (redo : Change) → redo ≡ redo_of area → pending ≢ Nothing
+      → ForSome (shown area.disk).contents (λ was. ForSome (shown disk).contents (λ now. AgreeButJournal now (changed redo was)))
+      → HasMade shown area (record area { disk = disk; held = held; large = large; stage = stage })
+  made_change disk held large stage redo used some agree was there now here = λ file ne.
+      agree was there now here file ne ∙ ap (λ (r : Change). changed r was file) used
+      ∙ sym (ap (λ (s : Stage). done_in s (redo_of area) was file) is ∙ ap (λ (f : Files). f file) (some_made pending (redo_of area) was some))
 
 module _ {D : Type 0} (shown : D → Device) where
   -- the parts of a begun call, whatever shows that it is begun
@@ -94,36 +94,44 @@ module _ {D : Type 0} (shown : D → Device) where
 
     -- where nothing is pending
     pub none_is : (reply : Reply) (pending : Pending) → area.stage ≡ Begun reply pending → pending ≡ Nothing → coming ≡ record { to = area.held.loaded; texts = texts }
-    none_is reply pending is none = none_pending area.rules.slots (shown area.disk).contents area.redo begun.pending area.held.loaded texts coming (pending_is reply pending is ∙ none) begun.change
+    none_is reply pending is none = none_pending area.rules.slots (shown area.disk).contents (redo_of area) begun.pending area.held.loaded texts coming (pending_is reply pending is ∙ none) begun.change
 
     -- where something is pending
-    pub some_is : (reply : Reply) (pending : Pending) → area.stage ≡ Begun reply pending → pending ≢ Nothing → IsPending area.rules.slots (shown area.disk).contents area.redo pending area.held.loaded texts coming
+    pub some_is : (reply : Reply) (pending : Pending) → area.stage ≡ Begun reply pending → pending ≢ Nothing → IsPending area.rules.slots (shown area.disk).contents (redo_of area) pending area.held.loaded texts coming
     some_is reply pending is some =
-        subst (λ (p : Pending). IsPending area.rules.slots (shown area.disk).contents area.redo p area.held.loaded texts coming) (pending_is reply pending is)
-        (some_pending area.rules.slots (shown area.disk).contents area.redo begun.pending area.held.loaded texts coming (λ none. some (sym (pending_is reply pending is) ∙ none)) begun.change)
+        subst (λ (p : Pending). IsPending area.rules.slots (shown area.disk).contents (redo_of area) p area.held.loaded texts coming) (pending_is reply pending is)
+        (some_pending area.rules.slots (shown area.disk).contents (redo_of area) begun.pending area.held.loaded texts coming (λ none. some (sym (pending_is reply pending is) ∙ none)) begun.change)
+
+    -- the same, of the redo that is in use
+    pub some_in : (reply : Reply) (pending : Pending) (redo : Change) → redo ≡ redo_of area → area.stage ≡ Begun reply pending → pending ≢ Nothing
+        → IsPending area.rules.slots (shown area.disk).contents redo pending area.held.loaded texts coming
+    some_in reply pending redo used is some =
+        subst (λ (r : Change). IsPending area.rules.slots (shown area.disk).contents r pending area.held.loaded texts coming) (sym used) (some_is reply pending is some)
 
     -- a call without a change is finished
-    pub rests_unchanged : (reply : Reply) (pending : Pending) (stage : Stage) → area.stage ≡ Begun reply pending → pending ≡ Nothing → stage ≡ Resting
-        → (reply ≡ decided) × RestsAt shown (record area { stage = stage }) coming.texts coming.to
-    rests_unchanged reply pending stage is none resting =
+    pub rests_unchanged : (reply : Reply) (pending : Pending) (large : Option Change) (stage : Stage) → area.stage ≡ Begun reply pending → pending ≡ Nothing → large ≡ None → stage ≡ Resting
+        → (reply ≡ decided) × RestsAt shown (record area { large = large; stage = stage }) coming.texts coming.to
+    rests_unchanged reply pending large stage is none small resting =
         let same = none_is reply pending is none in (
           reply_is reply pending is,
-          subst (λ (c : Coming). RestsAt shown (record area { stage = stage }) c.texts c.to) (sym same)
-              (record { rests = record { stage = resting; kept = record { ruled = record { few_slots = begun.kept.ruled.few_slots; address = begun.kept.ruled.address; sound = begun.kept.ruled.sound; sized = begun.kept.ruled.sized; whole = begun.kept.ruled.whole; room = begun.kept.ruled.room }; settled = begun.kept.settled } }; is = refl }),
+          subst (λ (c : Coming). RestsAt shown (record area { large = large; stage = stage }) c.texts c.to) (sym same)
+              (record { rests = record { stage = resting; small = small; kept = record { ruled = record { few_slots = begun.kept.ruled.few_slots; address = begun.kept.ruled.address; sound = begun.kept.ruled.sound; sized = begun.kept.ruled.sized; whole = begun.kept.ruled.whole; room = begun.kept.ruled.room }; settled = begun.kept.settled } }; is = refl }),
         )
 
     -- and a call with one
-    pub rests_changed : (reply : Reply) (pending : Pending) (disk : D) (held : Held) (stage : Stage) → area.stage ≡ Begun reply pending → pending ≢ Nothing → stage ≡ Resting
+    pub rests_changed : (reply : Reply) (pending : Pending) (disk : D) (held : Held) (large : Option Change) (stage : Stage) (redo : Change) → redo ≡ redo_of area → area.stage ≡ Begun reply pending → pending ≢ Nothing
+        → large ≡ None → stage ≡ Resting
         → held.loaded ≡ after pending area.held.loaded → IsKeptWhole held
-        → ((from : Loaded) (texts : List ℕ) (coming : Coming) → IsSettledAs from texts (shown area.disk) → IsChange (shown area.disk).contents area.redo from texts coming → IsSettledAs coming.to coming.texts (shown disk))
-        → (reply ≡ decided) × RestsAt shown (record area { disk = disk; held = held; stage = stage }) coming.texts coming.to
-    rests_changed reply pending disk held stage is some resting applied whole done =
-        let change = some_is reply pending is some in
+        → ((from : Loaded) (texts : List ℕ) (coming : Coming) → IsSettledAs from texts (shown area.disk) → IsChange (shown area.disk).contents redo from texts coming → IsSettledAs coming.to coming.texts (shown disk))
+        → (reply ≡ decided) × RestsAt shown (record area { disk = disk; held = held; large = large; stage = stage }) coming.texts coming.to
+    rests_changed reply pending disk held large stage redo used is some small resting applied whole done =
+        let change = some_in reply pending redo used is some in
         let to : coming.to ≡ held.loaded = change.becomes ∙ sym applied in (
           reply_is reply pending is,
           record {
             rests = record {
               stage = resting;
+              small = small;
               kept = record {
                 ruled = record { few_slots = begun.kept.ruled.few_slots; address = begun.kept.ruled.address; sound = subst (IsSound area.rules.slots) to change.sound; sized = change.sized ∙ ap (λ (l : Loaded). l.texts_len) to; whole = whole; room = begun.kept.ruled.room };
                 settled = subst (λ (l : Loaded). IsSettledAs l coming.texts (shown disk)) to (done area.held.loaded texts coming begun.kept.settled change.change);
@@ -134,23 +142,25 @@ module _ {D : Type 0} (shown : D → Device) where
         )
 
     -- a call that was stopped is in doubt
-    pub between : (reply : Reply) (pending : Pending) (disk : D) (stopped : Stopped) → area.stage ≡ Begun reply pending → pending ≢ Nothing → StaysSilent (shown area.disk) (shown disk)
-        → ((from : Loaded) (texts : List ℕ) (coming : Coming) → IsSettledAs from texts (shown area.disk) → IsChange (shown area.disk).contents area.redo from texts coming → IsStoppedAs stopped area.redo from texts (shown disk))
-        → IsBetween shown (record area { disk = disk; stage = Doubtful stopped pending }) texts coming
-    between reply pending disk stopped is some silent doubt =
-        let change = some_is reply pending is some in
+    pub between : (reply : Reply) (pending : Pending) (disk : D) (large : Option Change) (redo : Change) (stopped : Stopped) → redo ≡ redo_of area → redo ≡ redo_in large area.redo → area.stage ≡ Begun reply pending
+        → pending ≢ Nothing → StaysSilent (shown area.disk) (shown disk)
+        → ((from : Loaded) (texts : List ℕ) (coming : Coming) → IsSettledAs from texts (shown area.disk) → IsChange (shown area.disk).contents redo from texts coming → IsStoppedAs stopped redo from texts (shown disk))
+        → IsBetween shown (record area { disk = disk; large = large; stage = Doubtful stopped pending }) texts coming
+    between reply pending disk large redo stopped used kept is some silent doubt =
+        let change = some_in reply pending redo used is some in
         record {
           stopped = stopped;
           pending = pending;
           stage = refl;
           ruled = record { few_slots = begun.kept.ruled.few_slots; address = begun.kept.ruled.address; sound = begun.kept.ruled.sound; sized = begun.kept.ruled.sized; whole = begun.kept.ruled.whole; room = begun.kept.ruled.room };
-          change = pending_later area.rules.slots (shown area.disk) (shown disk) area.redo pending area.held.loaded texts coming silent change;
-          doubt = doubt area.held.loaded texts coming begun.kept.settled change.change;
+          change = subst (λ (r : Change). IsPending area.rules.slots (shown disk).contents r pending area.held.loaded texts coming) kept
+              (pending_later area.rules.slots (shown area.disk) (shown disk) redo pending area.held.loaded texts coming silent change);
+          doubt = subst (λ (r : Change). IsStoppedAs stopped r area.held.loaded texts (shown disk)) kept (doubt area.held.loaded texts coming begun.kept.settled change.change);
         }
 
     -- the change may be committed
-    pub may_commit : (reply : Reply) (pending : Pending) → area.stage ≡ Begun reply pending → pending ≢ Nothing → MayCommit area.redo (shown area.disk)
-    may_commit reply pending is some = record { from = area.held.loaded; texts = texts; coming = coming; settled = begun.kept.settled; change = (some_is reply pending is some).change }
+    pub may_commit : (reply : Reply) (pending : Pending) (redo : Change) → redo ≡ redo_of area → area.stage ≡ Begun reply pending → pending ≢ Nothing → MayCommit redo (shown area.disk)
+    may_commit reply pending redo used is some = record { from = area.held.loaded; texts = texts; coming = coming; settled = begun.kept.settled; change = (some_in reply pending redo used is some).change }
 
     -- so many messages are live then
     pub live : (reply : Reply) (pending : Pending) → area.stage ≡ Begun reply pending → pending ≢ Nothing → live_messages (after pending area.held.loaded) ≡ live_after pending area.held.live

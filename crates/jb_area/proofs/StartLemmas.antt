@@ -25,8 +25,8 @@ use Rattle.jb_disk.proofs.RunLemmas.{runs-refl}
 use Rattle.jb_journal.specs.declared.stopped.Stopped.TheVariants.{Early}
 use Rattle.jb_model.specs.declared.command.Command.{Command}
 use Rattle.jb_model.specs.declared.loaded.Loaded.{Loaded}
-use Rattle.jb_area.specs.Area.{IsKept, IsResting, IsUnchanged, RestsAt}
-use Rattle.jb_area.specs.Calls.{AnswersAs, BeginsCall, FailsWith, HasStoppedIn, IsBegunFor, IsNotBegun, StartsAs}
+use Rattle.jb_area.specs.Area.{redo_in, IsKept, IsResting, IsUnchanged, RestsAt}
+use Rattle.jb_area.specs.Calls.{AnswersAs, BeginsCall, FailsWith, HasStoppedIn, IsBegunFor, IsNotBegun, StartsAs, large_after}
 use Rattle.jb_area.specs.Commits.{IsSettledAs}
 use Rattle.jb_area.specs.Holds.{IsAtRest, Opens}
 use Rattle.jb_area.specs.declared.area.OpenArea.{OpenArea}
@@ -94,60 +94,62 @@ module _ {D : Type 0} (shown : D → Device) where
   }
 
   -- an area, from its parts
-  rebuilt : (P : OpenArea D → Type 0) (new : OpenArea D) (disk : D) (rules : AreaRules) (held : Held) (redo : Change) (stage : Stage) → new.disk ≡ disk → new.rules ≡ rules → new.held ≡ held
-      → new.redo ≡ redo → new.stage ≡ stage → P (record { disk = disk; rules = rules; held = held; redo = redo; stage = stage }) → P new
-  rebuilt P new disk rules held redo stage is_disk is_rules is_held is_redo is_stage p =
-      subst (λ (s : Stage). P (record { disk = new.disk; rules = new.rules; held = new.held; redo = new.redo; stage = s })) (sym is_stage)
-      (subst (λ (r : Change). P (record { disk = new.disk; rules = new.rules; held = new.held; redo = r; stage = stage })) (sym is_redo)
-      (subst (λ (h : Held). P (record { disk = new.disk; rules = new.rules; held = h; redo = redo; stage = stage })) (sym is_held)
-      (subst (λ (u : AreaRules). P (record { disk = new.disk; rules = u; held = held; redo = redo; stage = stage })) (sym is_rules)
-      (subst (λ (d : D). P (record { disk = d; rules = rules; held = held; redo = redo; stage = stage })) (sym is_disk) p))))
+  rebuilt : (P : OpenArea D → Type 0) (new : OpenArea D) (disk : D) (rules : AreaRules) (held : Held) (redo : Change) (large : Option Change) (stage : Stage) → new.disk ≡ disk → new.rules ≡ rules
+      → new.held ≡ held → new.redo ≡ redo → new.large ≡ large → new.stage ≡ stage → P (record { disk = disk; rules = rules; held = held; redo = redo; large = large; stage = stage }) → P new
+  rebuilt P new disk rules held redo large stage is_disk is_rules is_held is_redo is_large is_stage p =
+      subst (λ (s : Stage). P (record { disk = new.disk; rules = new.rules; held = new.held; redo = new.redo; large = new.large; stage = s })) (sym is_stage)
+      (subst (λ (l : Option Change). P (record { disk = new.disk; rules = new.rules; held = new.held; redo = new.redo; large = l; stage = stage })) (sym is_large)
+      (subst (λ (r : Change). P (record { disk = new.disk; rules = new.rules; held = new.held; redo = r; large = large; stage = stage })) (sym is_redo)
+      (subst (λ (h : Held). P (record { disk = new.disk; rules = new.rules; held = h; redo = redo; large = large; stage = stage })) (sym is_held)
+      (subst (λ (u : AreaRules). P (record { disk = new.disk; rules = u; held = held; redo = redo; large = large; stage = stage })) (sym is_rules)
+      (subst (λ (d : D). P (record { disk = d; rules = rules; held = held; redo = redo; large = large; stage = stage })) (sym is_disk) p)))))
 
-  module _ (area new : OpenArea D) (disk : D) (redo : Change) (is_disk : new.disk ≡ disk) (is_rules : new.rules ≡ area.rules) (is_held : new.held ≡ area.held) (is_redo : new.redo ≡ redo)
+  module _ (area new : OpenArea D) (disk : D) (redo : Change) (given : Option Change) (is_disk : new.disk ≡ disk) (is_rules : new.rules ≡ area.rules) (is_held : new.held ≡ area.held) (is_redo : new.redo ≡ redo)
       (reads : OnlyReads (shown area.disk) (shown disk)) (room : HasRoomInAll redo) where
     -- what is kept stays so
-    kept_read : (stage : Stage) (texts : List ℕ) → IsKept shown area texts → IsKept shown (record { disk = disk; rules = area.rules; held = area.held; redo = redo; stage = stage }) texts
-    kept_read stage texts kept = record {
+    kept_read : (large : Option Change) (stage : Stage) (texts : List ℕ) → IsKept shown area texts
+        → IsKept shown (record { disk = disk; rules = area.rules; held = area.held; redo = redo; large = large; stage = stage }) texts
+    kept_read large stage texts kept = record {
       ruled = record { few_slots = kept.ruled.few_slots; address = kept.ruled.address; sound = kept.ruled.sound; sized = kept.ruled.sized; whole = kept.ruled.whole; room = room };
       settled = settled_read area.held.loaded texts (shown area.disk) (shown disk) reads kept.settled;
     }
 
     -- what is pending, by what a disk tells
     abbrev Changes : Pending → List ℕ → Coming → Option Files → Type 0
-    Changes pending texts coming contents = IsNoChange pending area.held.loaded texts coming ⊎ IsPending area.rules.slots contents redo pending area.held.loaded texts coming
+    Changes pending texts coming contents = IsNoChange pending area.held.loaded texts coming ⊎ IsPending area.rules.slots contents (redo_in given redo) pending area.held.loaded texts coming
 
     -- begun
-    starts : (decided : Result Decided AreaError) (result : Result (Unit {0}) AreaError) (user : User) (moment : ℕ) (command : Command) → StartsAs decided area.stage new.stage → AnswersAs decided result
-        → IfOk decided (λ one. (texts : List ℕ) → AreTexts area.held.loaded texts (shown area.disk).contents → IsDecided area.rules area.held.loaded texts (shown area.disk).contents redo user moment command one)
+    starts : (decided : Result Decided AreaError) (result : Result (Unit {0}) AreaError) (user : User) (moment : ℕ) (command : Command) → StartsAs decided area.stage new.stage → new.large ≡ large_after decided given area.large → AnswersAs decided result
+        → IfOk decided (λ one. (texts : List ℕ) → AreTexts area.held.loaded texts (shown area.disk).contents → IsDecided area.rules area.held.loaded texts (shown area.disk).contents (redo_in given redo) user moment command one)
         → OnOk result ((texts : List ℕ) → IsResting shown area texts → IsBegunFor shown new texts user moment command)
-    starts (Ok decided) (Ok done) user moment command stage answer is = λ texts resting.
+    starts (Ok decided) (Ok done) user moment command stage is_large answer is = λ texts resting.
         let decides = is texts (texts_own area texts resting) in
-        rebuilt (λ (a : OpenArea D). IsBegunFor shown a texts user moment command) new disk area.rules area.held redo (Begun decided.reply decided.pending) is_disk is_rules is_held is_redo stage
+        rebuilt (λ (a : OpenArea D). IsBegunFor shown a texts user moment command) new disk area.rules area.held redo given (Begun decided.reply decided.pending) is_disk is_rules is_held is_redo is_large stage
         (record {
           reply = decided.reply;
           coming = decides.coming;
-          begun = record { pending = decided.pending; stage = refl; kept = kept_read (Begun decided.reply decided.pending) texts resting.kept; change = subst (Changes decided.pending texts decides.coming) (sym reads.contents) decides.change };
+          begun = record { pending = decided.pending; stage = refl; kept = kept_read given (Begun decided.reply decided.pending) texts resting.kept; change = subst (Changes decided.pending texts decides.coming) (sym reads.contents) decides.change };
           step = λ told. decides.step (subst (λ (o : Option Files). IsTold decided.reply o) reads.contents told);
           headers = decides.headers;
           packs = decides.packs;
         })
-    starts (Ok decided) (Err error) user moment command stage answer is = tt
-    starts (Err error) (Ok done) user moment command stage answer is = absurd (ok_not_err (Ok done) done error refl answer)
-    starts (Err error) (Err other) user moment command stage answer is = tt
+    starts (Ok decided) (Err error) user moment command stage is_large answer is = tt
+    starts (Err error) (Ok done) user moment command stage is_large answer is = absurd (ok_not_err (Ok done) done error refl answer)
+    starts (Err error) (Err other) user moment command stage is_large answer is = tt
 
     -- or not
-    starts_not : (decided : Result Decided AreaError) (result : Result (Unit {0}) AreaError) → StartsAs decided area.stage new.stage → AnswersAs decided result
+    starts_not : (decided : Result Decided AreaError) (result : Result (Unit {0}) AreaError) → StartsAs decided area.stage new.stage → new.large ≡ large_after decided given area.large → AnswersAs decided result
         → IfErr result (λ error. (texts : List ℕ) → IsResting shown area texts → IsNotBegun shown error area new texts)
-    starts_not decided (Ok done) stage answer = tt
-    starts_not (Ok decided) (Err error) stage answer = let refused : Result (Unit {0}) AreaError = Err error in absurd (err_not_ok refused error refl answer)
-    starts_not (Err StoreFault) (Err StoreFault) stage answer = λ texts resting.
-        rebuilt (λ (a : OpenArea D). IsUnchanged shown a texts) new disk area.rules area.held redo (Doubtful Early Nothing) is_disk is_rules is_held is_redo stage
-        (record { stopped = Early; stage = refl; kept = kept_read (Doubtful Early Nothing) texts resting.kept })
-    starts_not (Err OutOfMemory) (Err OutOfMemory) stage answer = λ texts resting.
-        rebuilt (λ (a : OpenArea D). RestsAt shown a texts area.held.loaded) new disk area.rules area.held redo Resting is_disk is_rules is_held is_redo (stage ∙ resting.stage)
-        (record { rests = record { stage = refl; kept = kept_read Resting texts resting.kept }; is = refl })
-    starts_not (Err StoreFault) (Err OutOfMemory) stage answer = absurd (two_causes (sym (same_error (Err OutOfMemory) OutOfMemory StoreFault refl answer)))
-    starts_not (Err OutOfMemory) (Err StoreFault) stage answer = absurd (two_causes (same_error (Err StoreFault) StoreFault OutOfMemory refl answer))
+    starts_not decided (Ok done) stage is_large answer = tt
+    starts_not (Ok decided) (Err error) stage is_large answer = let refused : Result (Unit {0}) AreaError = Err error in absurd (err_not_ok refused error refl answer)
+    starts_not (Err StoreFault) (Err StoreFault) stage is_large answer = λ texts resting.
+        rebuilt (λ (a : OpenArea D). IsUnchanged shown a texts) new disk area.rules area.held redo area.large (Doubtful Early Nothing) is_disk is_rules is_held is_redo is_large stage
+        (record { stopped = Early; stage = refl; kept = kept_read area.large (Doubtful Early Nothing) texts resting.kept })
+    starts_not (Err OutOfMemory) (Err OutOfMemory) stage is_large answer = λ texts resting.
+        rebuilt (λ (a : OpenArea D). RestsAt shown a texts area.held.loaded) new disk area.rules area.held redo area.large Resting is_disk is_rules is_held is_redo is_large (stage ∙ resting.stage)
+        (record { rests = record { stage = refl; small = resting.small; kept = kept_read area.large Resting texts resting.kept }; is = refl })
+    starts_not (Err StoreFault) (Err OutOfMemory) stage is_large answer = absurd (two_causes (sym (same_error (Err OutOfMemory) OutOfMemory StoreFault refl answer)))
+    starts_not (Err OutOfMemory) (Err StoreFault) stage is_large answer = absurd (two_causes (same_error (Err StoreFault) StoreFault OutOfMemory refl answer))
 
     -- what is not begun has the cause of what is not decided
     same_cause : (decided : Result Decided AreaError) (result : Result (Unit {0}) AreaError) → AnswersAs decided result
@@ -158,13 +160,13 @@ module _ {D : Type 0} (shown : D → Device) where
         subst (FaultRose (shown area.disk).faults (shown disk).faults) (sym (same_error (Err other) other one refl answer)) cause
 
     -- a call is begun, or not
-    pub begins : (decided : Result Decided AreaError) (result : Result (Unit {0}) AreaError) (user : User) (moment : ℕ) (command : Command) → StartsAs decided area.stage new.stage → AnswersAs decided result
-        → IfOk decided (λ one. (texts : List ℕ) → AreTexts area.held.loaded texts (shown area.disk).contents → IsDecided area.rules area.held.loaded texts (shown area.disk).contents redo user moment command one)
+    pub begins : (decided : Result Decided AreaError) (result : Result (Unit {0}) AreaError) (user : User) (moment : ℕ) (command : Command) → StartsAs decided area.stage new.stage → new.large ≡ large_after decided given area.large → AnswersAs decided result
+        → IfOk decided (λ one. (texts : List ℕ) → AreTexts area.held.loaded texts (shown area.disk).contents → IsDecided area.rules area.held.loaded texts (shown area.disk).contents (redo_in given redo) user moment command one)
         → IfErr decided (FaultRose (shown area.disk).faults (shown disk).faults) → (shown area.disk).faults ≤ (shown disk).faults
         → BeginsCall shown area new user moment command result
-    begins decided result user moment command stage answer is cause later = record {
-      begun = starts decided result user moment command stage answer is;
-      failed = starts_not decided result stage answer;
+    begins decided result user moment command stage is_large answer is cause later = record {
+      begun = starts decided result user moment command stage is_large answer is;
+      failed = starts_not decided result stage is_large answer;
       cause = subst (λ (d : D). IfErr result (FaultRose (shown area.disk).faults (shown d).faults)) (sym is_disk) (same_cause decided result answer cause);
       reads = subst (λ (d : D). OnlyReads (shown area.disk) (shown d)) (sym is_disk) reads;
       later = subst (λ (d : D). (shown area.disk).faults ≤ (shown d).faults) (sym is_disk) later;

@@ -29,6 +29,11 @@ done_in Resting redo files = files
 done_in (Begun reply pending) redo files = made pending redo files
 done_in (Doubtful stopped pending) redo files = files
 
+-- the redo of a call: one of its own, or the small one
+abbrev pub redo_in : Option Change → Change → Change
+redo_in None small = small
+redo_in (Some large) small = large
+
 module _ {D : Type 0} where
   -- the area as it is loaded; while a call is begun or in doubt, as it was before that call
   abbrev pub loaded_of : OpenArea D → Loaded
@@ -38,9 +43,17 @@ module _ {D : Type 0} where
   abbrev pub rules_of : OpenArea D → AreaRules
   rules_of area = area.rules
 
+  -- the redo that stays with the area, for small changes: what it holds, and its room
+  abbrev pub small_redo_of : OpenArea D → Change
+  small_redo_of area = area.redo
+
+  -- the redo of the call that is begun or in doubt
+  abbrev pub redo_of : OpenArea D → Change
+  redo_of area = redo_in area.large area.redo
+
   -- these files with what is begun in the area done in them
   abbrev pub files_after : OpenArea D → Files → Files
-  files_after area files = done_in area.stage area.redo files
+  files_after area files = done_in area.stage (redo_of area) files
 
   -- what is loaded is sound and has no more slots than the rules allow, which are as they may be; and the texts have its length
   pub record IsSoundFor (area : OpenArea D) (texts : List ℕ) : Type 0 where
@@ -62,9 +75,10 @@ module _ {D : Type 0} (shown : D → Device) where
     pub ruled : IsSoundFor area texts
     pub settled : IsSettledAs area.held.loaded texts (shown area.disk)
 
-  -- no call is begun, and the area is settled
+  -- no call is begun, no redo is kept but the small one, and the area is settled
   pub record IsResting (area : OpenArea D) (texts : List ℕ) : Type 0 where
     pub stage : area.stage ≡ Resting
+    pub small : area.large ≡ None
     pub kept : IsKept area texts
 
   -- a call is begun that will be answered so, and this is to come of it
@@ -72,7 +86,7 @@ module _ {D : Type 0} (shown : D → Device) where
     pub pending : Pending
     pub stage : area.stage ≡ Begun reply pending
     pub kept : IsKept area texts
-    pub change : IsNoChange pending area.held.loaded texts coming ⊎ IsPending area.rules.slots (shown area.disk).contents area.redo pending area.held.loaded texts coming
+    pub change : IsNoChange pending area.held.loaded texts coming ⊎ IsPending area.rules.slots (shown area.disk).contents (redo_of area) pending area.held.loaded texts coming
 
   -- the files are those that they were with what was begun done in them, but for the journal
   abbrev pub HasMade : OpenArea D → OpenArea D → Type 0
@@ -84,8 +98,8 @@ module _ {D : Type 0} (shown : D → Device) where
     pub pending : Pending
     pub stage : area.stage ≡ Doubtful stopped pending
     pub ruled : IsSoundFor area texts
-    pub change : IsPending area.rules.slots (shown area.disk).contents area.redo pending area.held.loaded texts coming
-    pub doubt : IsStoppedAs stopped area.redo area.held.loaded texts (shown area.disk)
+    pub change : IsPending area.rules.slots (shown area.disk).contents (redo_of area) pending area.held.loaded texts coming
+    pub doubt : IsStoppedAs stopped (redo_of area) area.held.loaded texts (shown area.disk)
 
   -- a call was stopped that had changed nothing
   pub record IsUnchanged (area : OpenArea D) (texts : List ℕ) : Type 0 where

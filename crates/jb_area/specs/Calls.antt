@@ -12,6 +12,7 @@ use Rattle.jb_decide.specs.declared.decided.Decided.{Decided}
 use Rattle.jb_decide.specs.declared.error.AreaError.{AreaError}
 use Rattle.jb_decide.specs.declared.error.AreaError.TheVariants.{StoreFault, OutOfMemory}
 use Rattle.jb_decide.specs.declared.pending.Pending.TheVariants.{Nothing}
+use Rattle.jb_disk.specs.Change.{Change}
 use Rattle.jb_disk.specs.Device.{Device, OnlyReads}
 use Rattle.jb_disk.specs.Files.{Files}
 use Rattle.jb_disk.specs.Runs.{LeavesOnly}
@@ -20,7 +21,7 @@ use Rattle.jb_model.specs.State.{state_of}
 use Rattle.jb_model.specs.Step.{Step}
 use Rattle.jb_model.specs.declared.command.Command.{Command}
 use Rattle.jb_model.specs.declared.reply.Reply.{Reply}
-use Rattle.jb_area.specs.Area.{files_after, DoubtOpens, HasMade, IsBegun, IsDoubtful, IsResting, IsUnchanged, RestsAt}
+use Rattle.jb_area.specs.Area.{files_after, small_redo_of, DoubtOpens, HasMade, IsBegun, IsDoubtful, IsResting, IsUnchanged, RestsAt}
 use Rattle.jb_area.specs.Holds.{OpensToEither}
 use Rattle.jb_area.specs.declared.area.OpenArea.{OpenArea}
 use Rattle.jb_area.specs.declared.stage.Stage.{Stage}
@@ -114,6 +115,7 @@ module _ {D : Type 0} (shown : D → Device) where
     pub later : (shown old.disk).faults ≤ (shown new.disk).faults
     pub crash : (texts : List ℕ) (decided : Reply) (coming : Coming) → IsBegun shown old texts decided coming
         → ForSome (shown old.disk).contents (λ files. LeavesOnly (shown old.disk) (shown new.disk) (OpensToEither old.held.loaded texts coming))
+    pub room : small_redo_of new ≡ small_redo_of old
     pub rules : new.rules ≡ old.rules
 
 -- the stage that a decision leads to
@@ -121,6 +123,11 @@ abbrev pub StartsAs : Result Decided AreaError → Stage → Stage → Type 0
 StartsAs (Ok decided) old new = new ≡ Begun decided.reply decided.pending
 StartsAs (Err StoreFault) old new = new ≡ Doubtful Early Nothing
 StartsAs (Err OutOfMemory) old new = new ≡ old
+
+-- the redo of its own that the call then has
+abbrev pub large_after : Result Decided AreaError → Option Change → Option Change → Option Change
+large_after (Ok decided) given was = given
+large_after (Err error) given was = was
 
 -- and what it answers
 abbrev pub AnswersAs : Result Decided AreaError → Result (Unit {0}) AreaError → Type 0

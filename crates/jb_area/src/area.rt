@@ -1,7 +1,7 @@
 //! The open area, and what becomes of a call that is begun.
 
 use crate::applying::apply;
-use crate::committing::{commit_change, settle_change};
+use crate::committing::{commit_change, in_use, settle_change};
 use crate::stage::Stage;
 use jb_base::AreaRules;
 use jb_decide::{Held, Pending};
@@ -16,7 +16,10 @@ pub struct OpenArea<D: Disk> {
     pub(crate) disk: D,
     pub(crate) rules: AreaRules,
     pub(crate) held: Held,
+    /// The change of a reading, a kill or a mark.
     pub(crate) redo: Redo,
+    /// The change of the post, the relink or the pack that is begun or in doubt.
+    pub(crate) large: Option<Redo>,
     pub(crate) stage: Stage,
 }
 
@@ -29,7 +32,7 @@ impl<D: Disk> OpenArea<D> {
     ghost use Rattle.jb_model.specs.declared.reply.Reply.{Reply};
     ghost use Rattle.jb_area.specs.Holds.{OpensToEither};
     ghost use Rattle.jb_decide.specs.Coming.{Coming};
-    ghost use Rattle.jb_area.specs.Area.{device_of, loaded_of, rules_of, DoubtOpens, HasBegun, HasDoubt, HasMade, IsBegun, IsDoubtful, IsResting, RestsAt, SettlesAt};
+    ghost use Rattle.jb_area.specs.Area.{device_of, loaded_of, rules_of, small_redo_of, DoubtOpens, HasBegun, HasDoubt, HasMade, IsBegun, IsDoubtful, IsResting, RestsAt, SettlesAt};
 
     /// The area without its texts; while a call is begun or in doubt, as it was before that call.
     pub fn loaded(&self) -> &Loaded
@@ -46,7 +49,8 @@ impl<D: Disk> OpenArea<D> {
     }
 
     /// Commits the change of the call that is begun, and answers the reply that [`coming`](OpenArea::coming) lends. Takes
-    /// no memory. Where it is stopped by a fault of the device, the area is in doubt.
+    /// no memory, and gives back what the call took for its change. Where it is stopped by a fault of the device, the area is
+    /// in doubt, and keeps the change until that is settled.
     pub fn finish(&mut self) -> Result<Reply, Stopped>
         requires begun { HasBegun D.device self.old }
 
@@ -65,15 +69,18 @@ impl<D: Disk> OpenArea<D> {
         ensures crash { (texts : List ℕ) (decided : Reply) (coming : Coming) → IsBegun D.device self.old texts decided coming
             → ForSome (device_of D.device self.old).contents (λ _. LeavesOnly (device_of D.device self.old) (device_of D.device self.new) (OpensToEither (loaded_of self.old) texts coming)) }
         ensures rules { rules_of self.new ≡ rules_of self.old }
+        ensures room { small_redo_of self.new ≡ small_redo_of self.old }
     {
         let Stage::Begun { reply, pending } = mem::replace(&mut self.stage, Stage::Resting) else {
             unreachable!()
         };
         if let Pending::Nothing = pending {
+            self.large = None;
             return Ok(reply);
         }
-        match commit_change(&mut self.disk, &self.redo) {
+        match commit_change(&mut self.disk, in_use(&self.large, &self.redo)) {
             Ok(()) => {
+                self.large = None;
                 apply(&mut self.held, pending);
                 Ok(reply)
             }
@@ -95,14 +102,16 @@ impl<D: Disk> OpenArea<D> {
         reply
     }
 
-    /// Drops the call that is begun. Nothing has changed.
+    /// Drops the call that is begun, and the memory of its change. Nothing has changed.
     pub fn abandon(&mut self)
         requires begun { HasBegun D.device self.old }
         ensures rests { (texts : List ℕ) (decided : Reply) (coming : Coming) → IsBegun D.device self.old texts decided coming
             → RestsAt D.device self.new texts (loaded_of self.old) }
         ensures device { device_of D.device self.new ≡ device_of D.device self.old }
         ensures rules { rules_of self.new ≡ rules_of self.old }
+        ensures room { small_redo_of self.new ≡ small_redo_of self.old }
     {
+        self.large = None;
         self.stage = Stage::Resting;
     }
 
@@ -116,7 +125,7 @@ impl<D: Disk> OpenArea<D> {
     }
 
     /// Settles the call that was stopped, and answers whether its change stands; a call that had no change answers false.
-    /// Takes no memory. Where it is stopped again, the area stays in doubt.
+    /// Takes no memory, and gives back what the call took for its change. Where it is stopped again, the area stays in doubt.
     pub fn reopen(&mut self) -> Result<bool, Stopped>
         requires doubt { HasDoubt D.device self.old }
 
@@ -134,20 +143,26 @@ impl<D: Disk> OpenArea<D> {
         ensures crash { (texts : List ℕ) (coming : Option Coming) → IsDoubtful D.device self.old texts coming
             → ForSome (device_of D.device self.old).contents (λ _. LeavesOnly (device_of D.device self.old) (device_of D.device self.new) (DoubtOpens (loaded_of self.old) texts coming)) }
         ensures rules { rules_of self.new ≡ rules_of self.old }
+        ensures room { small_redo_of self.new ≡ small_redo_of self.old }
     {
         let Stage::Doubtful { stopped, pending } = mem::replace(&mut self.stage, Stage::Resting)
         else {
             unreachable!()
         };
         if let Pending::Nothing = pending {
+            self.large = None;
             return Ok(false);
         }
-        match settle_change(&mut self.disk, &self.redo, stopped) {
+        match settle_change(&mut self.disk, in_use(&self.large, &self.redo), stopped) {
             Ok(true) => {
+                self.large = None;
                 apply(&mut self.held, pending);
                 Ok(true)
             }
-            Ok(false) => Ok(false),
+            Ok(false) => {
+                self.large = None;
+                Ok(false)
+            }
             Err(stopped) => {
                 self.stage = Stage::Doubtful { stopped, pending };
                 Err(stopped)
@@ -164,6 +179,7 @@ impl<D: Disk> OpenArea<D> {
             rules: _,
             held: _,
             redo: _,
+            large: _,
             stage: _,
         } = self;
         disk

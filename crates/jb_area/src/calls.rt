@@ -8,7 +8,7 @@ use jb_decide::{
     AreaError, Decided, Pending, decide_kill, decide_mark, decide_pack, decide_peek, decide_post,
     decide_read, decide_relink,
 };
-use jb_disk::Disk;
+use jb_disk::{Disk, Redo};
 use jb_journal::Stopped;
 use jb_model::Reply;
 use jb_step::Draft;
@@ -18,8 +18,8 @@ impl<D: Disk> OpenArea<D> {
     ghost use Rattle.jb_base.specs.declared.limits.TheConstants.{MOST_NAME_BYTES};
     ghost use Rattle.jb_model.specs.declared.command.Command.TheVariants.{Kill, Pack, Peek, Read, Relink, SetMark};
     ghost use Rattle.jb_step.specs.Draft.{draft_of, post_of};
-    ghost use Rattle.jb_area.specs.Area.{HasBegun};
-    ghost use Rattle.jb_area.specs.Calls.{AnswersAs, BeginsCall, EndsCall, HasRest, MeetsCall, StartsAs};
+    ghost use Rattle.jb_area.specs.Area.{HasBegun, small_redo_of};
+    ghost use Rattle.jb_area.specs.Calls.{AnswersAs, BeginsCall, EndsCall, HasRest, MeetsCall, StartsAs, large_after};
 
     /// Begins a kill of the message with this number. It makes no device call, and takes no memory.
     pub(crate) fn begin_kill(&mut self, user: &User, number: u32)
@@ -66,17 +66,23 @@ impl<D: Disk> OpenArea<D> {
         self.done()
     }
 
-    /// Begins what was decided; after a fault of the device the area is in doubt.
-    fn start(&mut self, decided: Result<Decided, AreaError>) -> Result<(), AreaError>
+    /// Begins what was decided, with a redo of its own or without one; after a fault of the device the area is in doubt.
+    fn start(
+        &mut self,
+        decided: Result<Decided, AreaError>,
+        large: Option<Redo>,
+    ) -> Result<(), AreaError>
         ensures stage { StartsAs decided self.old.stage self.new.stage }
         ensures answer { AnswersAs decided result }
         ensures disk { self.new.disk ≡ self.old.disk }
         ensures rules { self.new.rules ≡ self.old.rules }
         ensures held { self.new.held ≡ self.old.held }
         ensures redo { self.new.redo ≡ self.old.redo }
+        ensures large { self.new.large ≡ large_after decided large self.old.large }
     {
         match decided {
             Ok(Decided { reply, pending }) => {
+                self.large = large;
                 self.stage = Stage::Begun { reply, pending };
                 Ok(())
             }
@@ -112,7 +118,7 @@ impl<D: Disk> OpenArea<D> {
             moment,
             number,
         );
-        self.start(decided)
+        self.start(decided, None)
     }
 
     /// Begins a look at the message with this number.
@@ -126,7 +132,7 @@ impl<D: Disk> OpenArea<D> {
         ensures { (moment : ℕ) → BeginsCall D.device self.old self.new user.now moment (Peek number) result }
     {
         let decided = decide_peek(alloc, &mut self.disk, &self.held, &self.rules, user, number);
-        self.start(decided)
+        self.start(decided, None)
     }
 
     /// Reads the message with this number, and counts the reading; its receiver receives it at this moment, in seconds since
@@ -168,13 +174,15 @@ impl<D: Disk> OpenArea<D> {
     ) -> Result<(), AreaError>
         requires rests { HasRest D.device self.old }
         requires name { length user.now.name ≤ MOST_NAME_BYTES }
-        ensures { BeginsCall D.device self.old self.new user.now moment (post_of (draft_of draft.entry)) result }
+        ensures begins { BeginsCall D.device self.old self.new user.now moment (post_of (draft_of draft.entry)) result }
+        ensures room { small_redo_of self.new ≡ small_redo_of self.old }
     {
+        let mut large = Redo::new(alloc);
         let decided = match decide_post(
             alloc,
             &self.held,
             &self.rules,
-            &mut self.redo,
+            &mut large,
             user,
             moment,
             draft,
@@ -182,7 +190,7 @@ impl<D: Disk> OpenArea<D> {
             Ok(decided) => Ok(decided),
             Err(OutOfMemory) => Err(AreaError::OutOfMemory),
         };
-        self.start(decided)
+        self.start(decided, Some(large))
     }
 
     /// Posts a message to this name: under the next number, behind the others. `reply_to` is the number that it answers, or 0;
@@ -197,6 +205,7 @@ impl<D: Disk> OpenArea<D> {
         requires rests { HasRest D.device self.old }
         requires name { length user.now.name ≤ MOST_NAME_BYTES }
         ensures meets { MeetsCall D.device self.old self.new user.now moment (post_of (draft_of draft.entry)) result }
+        ensures room { small_redo_of self.new ≡ small_redo_of self.old }
     {
         match self.begin_post(alloc, user, moment, draft) {
             Ok(()) => self.done(),
@@ -207,20 +216,23 @@ impl<D: Disk> OpenArea<D> {
     /// Begins a relink. It makes no device call.
     pub(crate) fn begin_relink(&mut self, alloc: Global, user: &User) -> Result<(), AreaError>
         requires rests { HasRest D.device self.old }
-        ensures { (moment : ℕ) → BeginsCall D.device self.old self.new user.now moment Relink result }
+        ensures begins { (moment : ℕ) → BeginsCall D.device self.old self.new user.now moment Relink result }
+        ensures room { small_redo_of self.new ≡ small_redo_of self.old }
     {
-        let decided = match decide_relink(alloc, &self.held, &self.rules, &mut self.redo, user) {
+        let mut large = Redo::new(alloc);
+        let decided = match decide_relink(alloc, &self.held, &self.rules, &mut large, user) {
             Ok(decided) => Ok(decided),
             Err(OutOfMemory) => Err(AreaError::OutOfMemory),
         };
-        self.start(decided)
+        self.start(decided, Some(large))
     }
 
     /// Computes the reply links of all messages anew, and writes them where they are other ones; of a linked area nothing is
-    /// written. The room that one relink takes is kept until the area is closed: 12 bytes a message and a small record.
+    /// written. The memory that it takes goes with it.
     pub fn relink(&mut self, alloc: Global, user: &User) -> Result<Reply, AreaError>
         requires rests { HasRest D.device self.old }
         ensures meets { (moment : ℕ) → MeetsCall D.device self.old self.new user.now moment Relink result }
+        ensures room { small_redo_of self.new ≡ small_redo_of self.old }
     {
         match self.begin_relink(alloc, user) {
             Ok(()) => self.done(),
@@ -231,25 +243,28 @@ impl<D: Disk> OpenArea<D> {
     /// Begins a pack.
     pub(crate) fn begin_pack(&mut self, alloc: Global, user: &User) -> Result<(), AreaError>
         requires rests { HasRest D.device self.old }
-        ensures { (moment : ℕ) → BeginsCall D.device self.old self.new user.now moment Pack result }
+        ensures begins { (moment : ℕ) → BeginsCall D.device self.old self.new user.now moment Pack result }
+        ensures room { small_redo_of self.new ≡ small_redo_of self.old }
     {
+        let mut large = Redo::new(alloc);
         let decided = decide_pack(
             alloc,
             &mut self.disk,
             &self.held,
             &self.rules,
-            &mut self.redo,
+            &mut large,
             user,
         );
-        self.start(decided)
+        self.start(decided, Some(large))
     }
 
     /// Packs the area: killed messages are dropped, the numbers below the lowest live one are cut off, and headers, index and
-    /// texts are written anew without a gap, with the reply links computed anew. Every live message keeps its number. The room
-    /// that a pack takes, that of the new files, is kept until the area is closed.
+    /// texts are written anew without a gap, with the reply links computed anew. Every live message keeps its number. The memory
+    /// that it takes, that of the new files, goes with it.
     pub fn pack(&mut self, alloc: Global, user: &User) -> Result<Reply, AreaError>
         requires rests { HasRest D.device self.old }
         ensures meets { (moment : ℕ) → MeetsCall D.device self.old self.new user.now moment Pack result }
+        ensures room { small_redo_of self.new ≡ small_redo_of self.old }
     {
         match self.begin_pack(alloc, user) {
             Ok(()) => self.done(),

@@ -7,11 +7,22 @@ ghost use Rattle.jb_disk.specs.Runs.{LeavesOnly};
 ghost use Rattle.jb_journal.specs.Commit.{AgreeButJournal, changed};
 ghost use Rattle.jb_model.specs.declared.loaded.Loaded.{Loaded};
 ghost use Rattle.jb_decide.specs.Coming.{Coming, IsChange};
+ghost use Rattle.jb_area.specs.Area.{redo_in};
 ghost use Rattle.jb_area.specs.Commits.{IsAnsweredAs, IsSettledAs, IsStoppedAs, MayCommit, MaySettle};
 ghost use Rattle.jb_area.specs.Holds.{OpensToEither};
 
 use jb_disk::{Disk, Redo};
 use jb_journal::{Stopped, commit, settle};
+
+/// The redo of a call: one of its own, or the small one.
+pub(crate) fn in_use<'a>(large: &'a Option<Redo>, small: &'a Redo) -> &'a Redo
+    ensures { result.now ≡ redo_in large.now small.now }
+{
+    match large {
+        Some(large) => large,
+        None => small,
+    }
+}
 
 /// Commits a change of the area that the files hold.
 pub(crate) fn commit_change<D: Disk>(disk: &mut D, redo: &Redo) -> Result<(), Stopped>

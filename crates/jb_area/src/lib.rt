@@ -8,6 +8,9 @@
 //! [`OpenArea::finish`] commits and takes no memory, or [`OpenArea::abandon`] drops it. `jb_decide` says what each command
 //! comes to.
 //!
+//! The redo of a reading, a kill or a mark is made at opening and stays; that of a post, a relink or a pack is made for it and
+//! goes with it. So a kill and a mark take no memory, and a large change leaves none behind.
+//!
 //! No call writes more than what changed. A kill writes 12 bytes of .JHR, a mark 16 of .JLR, a reading 20 of .JHR after one
 //! read of .JDT; a post its header and subfields, its text, one index record and 20 bytes of .JHR at most beside; a relink
 //! 12 bytes for each message whose links are others. A pack reads the texts of the live messages and writes all of .JHR,

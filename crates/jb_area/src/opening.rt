@@ -114,6 +114,7 @@ impl<D: Disk> OpenArea<D> {
                 replies,
             },
             redo,
+            large: None,
             stage: Stage::Resting,
         })
     }

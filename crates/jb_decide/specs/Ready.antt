@@ -10,6 +10,13 @@ pub record HasRoomInAll (redo : Change) : Type 0 where
   pub for_pieces : 4 ≤ redo.spare_pieces + length redo.pieces
   pub for_bytes : 32 ≤ redo.spare_bytes + held_by redo.pieces
 
+-- a redo that holds nothing
+pub record IsEmptied (redo : Change) : Type 0 where
+  pub no_lengths : redo.lengths ≡ []
+  pub no_pieces : redo.pieces ≡ []
+  pub makes : (loaded : Loaded) → Makes redo loaded loaded []
+  pub size : record_size redo ≡ 16
+
 -- a redo that holds nothing, with room for each change that takes no memory
 pub record IsCleared (redo : Change) : Type 0 where
   pub no_lengths : redo.lengths ≡ []
@@ -24,6 +31,5 @@ pub record IsReadyFor (count : ℕ) (redo : Change) : Type 0 where
   pub no_lengths : redo.lengths ≡ []
   pub no_pieces : redo.pieces ≡ []
   pub room : HasRoom 0 (count + 1) (12 * count + 8) redo
-  pub in_all : HasRoomInAll redo
   pub makes : (loaded : Loaded) → Makes redo loaded loaded []
   pub size : record_size redo ≡ 16

@@ -1,7 +1,7 @@
 //! Commands that take no memory are decided, and their changes put into the redo.
 ghost use Rattle.std.specs.Prelude.{◌≡◌, ◌<◌, ◌≤◌, ℕ, [], List, Option, None, bit_and, length, ◌+◌, ◌^◌};
 ghost use Rattle.jb_disk.specs.Files.{Files};
-ghost use Rattle.jb_change.specs.Changing.{head_with_reading};
+ghost use Rattle.jb_change.specs.Changing.{KeepsRoom, head_with_reading};
 ghost use Rattle.jb_model.specs.declared.command.Command.TheVariants.{Kill, SetMark};
 ghost use Rattle.jb_base.specs.declared.attribute.TheConstants.{DELETED};
 ghost use Rattle.jb_model.specs.declared.loaded.Loaded.{Loaded};
@@ -14,7 +14,7 @@ ghost use Rattle.jb_base.specs.declared.limits.TheConstants.{MOST_MARKS};
 ghost use Rattle.jb_decide.specs.Decided.{IsDecided, IsKeptFor};
 ghost use Rattle.jb_decide.specs.Headers.{Updates};
 ghost use Rattle.jb_decide.specs.Holds.{AreTexts};
-ghost use Rattle.jb_decide.specs.Ready.{HasRoomInAll, IsCleared};
+ghost use Rattle.jb_decide.specs.Ready.{HasRoomInAll, IsCleared, IsEmptied};
 
 use crate::decided::Decided;
 use crate::held::Held;
@@ -27,8 +27,17 @@ use jb_disk::Redo;
 use jb_model::{Head, Mark, Reply};
 use jb_step::{kill, set_mark};
 
-/// Empties the redo.
-pub(crate) fn clear(redo: &mut Redo)
+/// Empties the redo. Its room stays.
+pub(crate) fn empty(redo: &mut Redo)
+    ensures emptied { IsEmptied redo.new }
+    ensures kept { KeepsRoom redo.old redo.new }
+{
+    redo.clear();
+    makes_nothing();
+}
+
+/// Empties a redo that has room for each change that takes no memory.
+fn clear(redo: &mut Redo)
     requires { HasRoomInAll redo.old }
     ensures { IsCleared redo.new }
 {

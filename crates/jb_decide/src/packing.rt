@@ -4,6 +4,7 @@ ghost use Rattle.std.specs.Option.{ForSome};
 ghost use Rattle.jb_base.specs.Access.{first_refusal};
 ghost use Rattle.jb_base.specs.declared.area.Action.TheVariants.{Tend as Tending};
 ghost use Rattle.jb_base.specs.declared.limits.TheConstants.{MOST_SLOTS};
+ghost use Rattle.jb_change.specs.Changing.{KeepsRoom};
 ghost use Rattle.jb_disk.specs.Device.{OnlyReads};
 ghost use Rattle.jb_disk.specs.declared.file.FileId.TheVariants.{Jdt as texts_file};
 ghost use Rattle.jb_model.specs.Sound.{IsSound};
@@ -13,11 +14,10 @@ ghost use Rattle.jb_replies.specs.Index.{IsIndexOf};
 ghost use Rattle.jb_decide.specs.Decided.{IsDecided, IsKeptFor};
 ghost use Rattle.jb_decide.specs.Errors.{FaultRose};
 ghost use Rattle.jb_decide.specs.Holds.{AreTexts, Holds};
-ghost use Rattle.jb_decide.specs.Ready.{HasRoomInAll};
 
 use crate::AreaError;
 use crate::decided::Decided;
-use crate::deciding::clear;
+use crate::deciding::empty;
 use crate::held::Held;
 use crate::pending::Pending;
 use jb_access::{Action, allowed};
@@ -50,7 +50,7 @@ fn replies_after(alloc: Global, loaded: &Loaded, base: u32) -> Result<Replies, O
 }
 
 /// What a pack comes to. It reads the texts of the live messages, and takes the memory of the new files, of the links and of
-/// an index of the replies. The room that the redo takes for it is kept until the area is closed.
+/// an index of the replies; the redo takes the room that the new files need.
 pub fn decide_pack<D: Disk>(
     alloc: Global,
     disk: &mut D,
@@ -60,11 +60,10 @@ pub fn decide_pack<D: Disk>(
     user: &User,
 ) -> Result<Decided, AreaError>
     requires kept { IsKeptFor rules.now held.now }
-    requires room { HasRoomInAll redo.old }
     requires holds { ForSome (D.device disk.old).contents (λ files. Holds held.now.loaded (files texts_file) files) }
     ensures decided { IfOk result (λ decided. (moment : ℕ) (texts : List ℕ) → AreTexts held.now.loaded texts (D.device disk.old).contents
         → IsDecided rules.now held.now.loaded texts (D.device disk.old).contents redo.new user.now moment Pack decided) }
-    ensures room { HasRoomInAll redo.new }
+    ensures room { KeepsRoom redo.old redo.new }
 
     // The disk is only read.
     ensures reads { OnlyReads (D.device disk.old) (D.device disk.new) }
@@ -75,7 +74,7 @@ pub fn decide_pack<D: Disk>(
         return Ok(Decided::unchanged(Reply::Denied { rule }));
     }
     let links = relink_plan(alloc, &held.loaded)?;
-    clear(redo);
+    empty(redo);
     match plan(alloc, disk, &held.loaded, links.as_slice(), redo)? {
         Packing::TextFull { length } => Ok(Decided::unchanged(Reply::TextFull { length })),
         Packing::Fits {

@@ -16,10 +16,10 @@ ghost use Rattle.jb_decide.specs.Headers.{Updates};
 ghost use Rattle.jb_decide.specs.Holds.{AreTexts};
 ghost use Rattle.jb_decide.specs.Links.{IsLinkable};
 ghost use Rattle.jb_decide.specs.Pending.{linked_by};
-ghost use Rattle.jb_decide.specs.Ready.{HasRoomInAll, IsCleared};
+ghost use Rattle.jb_decide.specs.Ready.{IsEmptied};
 
 use crate::decided::Decided;
-use crate::deciding::clear;
+use crate::deciding::empty;
 use crate::held::Held;
 use crate::pending::{Pending, SlotChange};
 use jb_append::put_post;
@@ -67,13 +67,13 @@ fn put_posting(
     counter: u32,
     active: u32,
 ) -> Result<(), OutOfMemory>
-    requires cleared { IsCleared redo.old }
+    requires emptied { IsEmptied redo.old }
     requires next { IsNext loaded.now posting.now.message text.now }
     requires linkable { IsLinkable posting.now.neighbour loaded.now }
     ensures makes { OnOk result (Updates redo.new loaded.now (with_counts counter active (with_message_behind posting.now.message (linked_by posting.now.neighbour loaded.now))) text.now) }
     ensures numbered { OnOk result (HasNextNumber redo.new loaded.now posting.now.message) }
     ensures writable { OnOk result (IsWritable redo.new) }
-    ensures room { HasRoomInAll redo.new }
+    ensures kept { KeepsRoom redo.old redo.new }
 {
     put_post(alloc, redo, loaded, &posting.message, text)?;
     put_link(redo, loaded, posting.neighbour);
@@ -81,7 +81,7 @@ fn put_posting(
     Ok(())
 }
 
-/// What a post comes to.
+/// What a post comes to. The redo need not have room: it takes what the message needs.
 pub fn decide_post(
     alloc: Global,
     held: &Held,
@@ -92,12 +92,11 @@ pub fn decide_post(
     draft: Draft<'_>,
 ) -> Result<Decided, OutOfMemory>
     requires kept { IsKeptFor rules.now held.now }
-    requires room { HasRoomInAll redo.old }
     requires name { length user.now.name ≤ MOST_NAME_BYTES }
     requires address { length rules.now.address ≤ MOST_ADDRESS_BYTES }
     ensures decided { IfOk result (λ decided. (texts : List ℕ) (contents : Option Files) → AreTexts held.now.loaded texts contents
         → IsDecided rules.now held.now.loaded texts contents redo.new user.now moment (post_of (draft_of draft.entry)) decided) }
-    ensures room { HasRoomInAll redo.new }
+    ensures room { KeepsRoom redo.old redo.new }
 {
     match post(
         alloc,
@@ -112,7 +111,7 @@ pub fn decide_post(
         Ok(posting) => {
             let counter = held.loaded.counter.wrapping_add(1);
             let active = held.live + 1;
-            clear(redo);
+            empty(redo);
             put_posting(
                 alloc,
                 redo,

@@ -15,10 +15,10 @@ ghost use Rattle.jb_decide.specs.Decided.{IsDecided, IsKeptFor};
 ghost use Rattle.jb_decide.specs.Headers.{Updates};
 ghost use Rattle.jb_decide.specs.Holds.{AreTexts};
 ghost use Rattle.jb_decide.specs.Links.{AreLeftAbove, HasNearHeaders};
-ghost use Rattle.jb_decide.specs.Ready.{HasRoomInAll, IsReadyFor};
+ghost use Rattle.jb_decide.specs.Ready.{IsReadyFor};
 
 use crate::decided::Decided;
-use crate::deciding::clear;
+use crate::deciding::empty;
 use crate::held::Held;
 use crate::pending::{Pending, SlotChange};
 use jb_base::{AreaRules, MOST_SLOTS, OutOfMemory, User};
@@ -31,12 +31,11 @@ use std::alloc::Global;
 /// Empties the redo, and takes the room for the links of so many messages and for the counts. An area has no more
 /// messages than it may have slots.
 fn make_room(redo: &mut Redo, count: usize) -> Result<(), OutOfMemory>
-    requires { HasRoomInAll redo.old }
     ensures few { OnOk result (count ≤ MOST_SLOTS) }
     ensures ready { OnOk result (IsReadyFor count redo.new) }
-    ensures room { HasRoomInAll redo.new }
+    ensures kept { KeepsRoom redo.old redo.new }
 {
-    clear(redo);
+    empty(redo);
     if count > MOST_SLOTS as usize {
         return Err(OutOfMemory);
     }
@@ -144,12 +143,11 @@ fn put_relinking(
     counter: u32,
     active: u32,
 ) -> Result<(), OutOfMemory>
-    requires room { HasRoomInAll redo.old }
     requires near { HasNearHeaders loaded.now }
     requires placed { All (IsPlaced loaded.now) plan.now }
     ensures makes { OnOk result (Updates redo.new loaded.now (with_counts counter active (with_links_of plan.now loaded.now)) []) }
     ensures writable { OnOk result (IsWritable redo.new) }
-    ensures room { HasRoomInAll redo.new }
+    ensures kept { KeepsRoom redo.old redo.new }
 {
     make_room(redo, plan.len())?;
     put_plan(redo, loaded, plan);
@@ -157,7 +155,7 @@ fn put_relinking(
     Ok(())
 }
 
-/// What a relink comes to. The room that the redo takes for it is kept until the area is closed.
+/// What a relink comes to. The redo need not have room: it takes that of the links.
 pub fn decide_relink(
     alloc: Global,
     held: &Held,
@@ -166,10 +164,9 @@ pub fn decide_relink(
     user: &User,
 ) -> Result<Decided, OutOfMemory>
     requires kept { IsKeptFor rules.now held.now }
-    requires room { HasRoomInAll redo.old }
     ensures decided { IfOk result (λ decided. (moment : ℕ) (texts : List ℕ) (contents : Option Files) → AreTexts held.now.loaded texts contents
         → IsDecided rules.now held.now.loaded texts contents redo.new user.now moment Relink decided) }
-    ensures room { HasRoomInAll redo.new }
+    ensures room { KeepsRoom redo.old redo.new }
 {
     match relink(alloc, &held.loaded, rules, user)? {
         Err(reply) => Ok(Decided::unchanged(reply)),

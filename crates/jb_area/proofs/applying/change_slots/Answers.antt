@@ -1,9 +1,8 @@
-use Rattle.std.proofs.Common.{◌+◌, ℕ, List, length, ap, sym, subst, ◌∙◌}
+use Rattle.std.proofs.Common.{◌+◌, ℕ, length, ap, sym, subst, ◌∙◌}
 use Rattle.jb_decide.proofs.RelinkLemmas.{length_of}
 use Rattle.jb_decide.specs.Pending.{changed_by}
 use Rattle.jb_decide.specs.declared.pending.SlotChange.{SlotChange}
 use Rattle.jb_model.specs.declared.loaded.Loaded.{Loaded}
-use Rattle.jb_model.specs.declared.loaded.LoadedSlot.{LoadedSlot}
 use Rattle.jb_model.specs.declared.loaded.LoadedSlot.TheVariants.{Live}
 use Rattle.jb_replies.specs.Index.{IsIndexOf}
 use Rattle.jb_area.proofs.IndexLemmas.{headed_index, killed_index, linked_index}

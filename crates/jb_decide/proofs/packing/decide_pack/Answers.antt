@@ -41,5 +41,5 @@ returns-in_ok-replies-in-Fits-clause-decided g c = λ moment texts are.
     pack_decided c.args.rules.now loaded texts contents c.plan.new.redo c.args.user.now moment c.in-Fits.base c.in-Fits.live c.in-Fits.dropped c.in_ok-links.links c.in_ok-replies-in-Fits.replies
     (sym c.denied.ensures ∙ c.in_default.is) c.requires.kept.sound c.requires.kept.few_slots are
     (subst (AnswersPack (state_of texts loaded)) c.in-Fits.is (c.in_ok-length.ensures.answer texts are.sized))
-    (subst (λ (p : Packing). PlansPack contents loaded c.clear.new.redo c.plan.new.redo p) c.in-Fits.is c.in_ok-length.ensures.plans)
+    (subst (λ (p : Packing). PlansPack contents loaded c.empty.new.redo c.plan.new.redo p) c.in-Fits.is c.in_ok-length.ensures.plans)
     (c.in_ok-links.ensures []) c.in_ok-replies-in-Fits.ensures.index c.in_ok-replies-in-Fits.ensures.room

@@ -8,7 +8,7 @@ use Rattle.jb_area.proofs.area.OpenArea.begin.Goals as goal
 pub returns-in-Post : goal.returns-in-Post
 returns-in-Post g c = record {
   begins = subst (λ (command : Command). BeginsCall g.D.Disk.device c.args.self.now c.begin_post.new.self c.args.user.now c.args.moment command c.begin_post.result)
-      (same_post _ _ _ _ _ _ _ _ c.as_slice.ensures c.as_slice-in-Post.ensures c.as_slice-in-Post-2.ensures ∙ sym c.in-Post.is) c.begin_post.ensures;
+      (same_post _ _ _ _ _ _ _ _ c.as_slice.ensures c.as_slice-in-Post.ensures c.as_slice-in-Post-2.ensures ∙ sym c.in-Post.is) c.begin_post.ensures.begins;
 }
 
 pub returns-in-Peek : goal.returns-in-Peek
@@ -36,11 +36,11 @@ returns-in-SetMark g c =
 pub returns-in-Relink : goal.returns-in-Relink
 returns-in-Relink g c = record {
   begins = subst (λ (command : Command). BeginsCall g.D.Disk.device c.args.self.now c.begin_relink.new.self c.args.user.now c.args.moment command c.begin_relink.result)
-      (sym c.in-Relink.is) (c.begin_relink.ensures c.args.moment);
+      (sym c.in-Relink.is) (c.begin_relink.ensures.begins c.args.moment);
 }
 
 pub returns-in-Pack : goal.returns-in-Pack
 returns-in-Pack g c = record {
   begins = subst (λ (command : Command). BeginsCall g.D.Disk.device c.args.self.now c.begin_pack.new.self c.args.user.now c.args.moment command c.begin_pack.result)
-      (sym c.in-Pack.is) (c.begin_pack.ensures c.args.moment);
+      (sym c.in-Pack.is) (c.begin_pack.ensures.begins c.args.moment);
 }

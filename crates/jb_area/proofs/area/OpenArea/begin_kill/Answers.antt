@@ -1,4 +1,4 @@
-use Rattle.std.proofs.Common.{Ok, refl}
+use Rattle.std.proofs.Common.{None, Ok, refl}
 use Rattle.jb_decide.specs.declared.decided.Decided.{Decided}
 use Rattle.jb_area.specs.declared.stage.Stage.TheVariants.{Begun}
 use Rattle.jb_area.proofs.StartLemmas.{begins, reads_itself, same_faults}
@@ -6,8 +6,9 @@ use Rattle.jb_area.proofs.area.OpenArea.begin_kill.Goals as goal
 
 pub returns : goal.returns
 returns g c = λ moment.
+    let has = c.requires.rests in
     let area = c.args.self.now in
     let decided : Decided = c.decide_kill-decided.result in
-    begins g.D.Disk.device area (record area { redo = c.decide_kill-decided.new.redo; stage = Begun decided.reply decided.pending }) area.disk c.decide_kill-decided.new.redo refl refl refl refl
-    (reads_itself (g.D.Disk.device area.disk)) c.decide_kill-decided.ensures.room (Ok decided) (Ok tt) c.args.user.now moment _ refl refl
+    begins g.D.Disk.device area (record area { redo = c.decide_kill-decided.new.redo; stage = Begun decided.reply decided.pending }) area.disk c.decide_kill-decided.new.redo None refl refl refl refl
+    (reads_itself (g.D.Disk.device area.disk)) c.decide_kill-decided.ensures.room (Ok decided) (Ok tt) c.args.user.now moment _ refl has.rests.small refl
     (λ texts are. c.decide_kill-decided.ensures.decided moment texts (g.D.Disk.device area.disk).contents are) tt (same_faults (g.D.Disk.device area.disk))

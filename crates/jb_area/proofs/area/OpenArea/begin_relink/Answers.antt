@@ -1,4 +1,4 @@
-use Rattle.std.proofs.Common.{IfOk, IfErr, List, ℕ, Result, subst, sym}
+use Rattle.std.proofs.Common.{IfOk, IfErr, List, ℕ, Result, Some, subst, sym}
 use Rattle.jb_model.specs.declared.command.Command.TheVariants.{Relink}
 use Rattle.jb_decide.specs.Decided.{IsDecided}
 use Rattle.jb_decide.specs.Errors.{FaultRose}
@@ -9,8 +9,9 @@ use Rattle.jb_area.proofs.StartLemmas.{begins, reads_itself, same_faults}
 use Rattle.jb_area.proofs.area.OpenArea.begin_relink.Goals.{in-Ok, in-Err}
 use Rattle.jb_area.proofs.area.OpenArea.begin_relink.Goals as goal
 
-pub returns : goal.returns
-returns g c = λ moment.
+pub returns-clause-begins : goal.returns-clause-begins
+returns-clause-begins g c = λ moment.
+    let has = c.requires.rests in
     let area = c.args.self.now in
     let device = g.D.Disk.device area.disk in
     let Is : Decided → Type 0 =
@@ -23,5 +24,5 @@ returns g c = λ moment.
       | in-Ok w ↦ subst (λ (r : Result Decided AreaError). IfErr r (FaultRose device.faults device.faults)) (sym w.decided-is) tt
       | in-Err w ↦ subst (λ (r : Result Decided AreaError). IfErr r (FaultRose device.faults device.faults)) (sym w.decided-is) tt
     ] in
-    begins g.D.Disk.device area c.start.new.self area.disk c.decide_relink.new.redo c.start.ensures.disk c.start.ensures.rules c.start.ensures.held c.start.ensures.redo
-    (reads_itself device) c.decide_relink.ensures.room c.match-decide_relink.decided c.start.result c.args.user.now moment _ c.start.ensures.stage c.start.ensures.answer is cause (same_faults device)
+    begins g.D.Disk.device area c.start.new.self area.disk area.redo (Some c.decide_relink.new.redo) c.start.ensures.disk c.start.ensures.rules c.start.ensures.held c.start.ensures.redo
+    (reads_itself device) has.rests.kept.ruled.room c.match-decide_relink.decided c.start.result c.args.user.now moment _ c.start.ensures.stage c.start.ensures.large c.start.ensures.answer is cause (same_faults device)

@@ -10,6 +10,7 @@ returns-in-Ok g c = record {
   cause = tt;
   later = c.finish.ensures.later;
   crash = c.finish.ensures.crash;
+  room = c.finish.ensures.room;
   rules = c.finish.ensures.rules;
 }
 
@@ -22,5 +23,6 @@ returns-in-Err g c = record {
   cause = c.in-Err.ensures.cause;
   later = c.finish.ensures.later;
   crash = c.finish.ensures.crash;
+  room = c.finish.ensures.room;
   rules = c.finish.ensures.rules;
 }

@@ -1,20 +1,20 @@
-use Rattle.std.proofs.Common.{refl, sym, ◌∙◌}
+use Rattle.std.proofs.Common.{None, refl, sym, ◌∙◌}
 use Rattle.jb_area.proofs.CommitLemmas.{idle_opens}
-use Rattle.jb_area.proofs.StageLemmas.{between, fits, live, made_change, made_nothing, may_commit, numbered, rests_changed, rests_unchanged, some_is}
+use Rattle.jb_area.proofs.StageLemmas.{between, fits, live, made_change, made_nothing, may_commit, numbered, rests_changed, rests_unchanged, some_in}
 use Rattle.jb_area.proofs.area.OpenArea.finish.Goals as goal
 
 pub returns-in-Nothing-clause-done : goal.returns-in-Nothing-clause-done
 returns-in-Nothing-clause-done g c = λ texts decided coming begun.
-    rests_unchanged g.D.Disk.device c.args.self.now texts decided coming begun c.in-Begun.reply c.in-Begun.pending c.replace.new.dest (sym c.replace.ensures.value ∙ c.in-Begun.is) c.in-Nothing.is c.replace.ensures.after
+    rests_unchanged g.D.Disk.device c.args.self.now texts decided coming begun c.in-Begun.reply c.in-Begun.pending None c.replace.new.dest (sym c.replace.ensures.value ∙ c.in-Begun.is) c.in-Nothing.is refl c.replace.ensures.after
 
 pub returns-in-Nothing-clause-made : goal.returns-in-Nothing-clause-made
 returns-in-Nothing-clause-made g c =
-    made_nothing g.D.Disk.device c.args.self.now c.in-Begun.reply c.in-Begun.pending (sym c.replace.ensures.value ∙ c.in-Begun.is) c.args.self.now.disk c.args.self.now.held c.replace.new.dest c.in-Nothing.is refl
+    made_nothing g.D.Disk.device c.args.self.now c.in-Begun.reply c.in-Begun.pending (sym c.replace.ensures.value ∙ c.in-Begun.is) c.args.self.now.disk c.args.self.now.held None c.replace.new.dest c.in-Nothing.is refl
 
 pub returns-in-Ok-clause-made : goal.returns-in-Ok-clause-made
 returns-in-Ok-clause-made g c =
-    made_change g.D.Disk.device c.args.self.now c.in-Begun.reply c.in-Begun.pending (sym c.replace.ensures.value ∙ c.in-Begun.is) c.commit_change.new.disk c.apply.new.held c.replace.new.dest
-    c.in_default-pending.not-Nothing c.in-Ok.ensures.made
+    made_change g.D.Disk.device c.args.self.now c.in-Begun.reply c.in-Begun.pending (sym c.replace.ensures.value ∙ c.in-Begun.is) c.commit_change.new.disk c.apply.new.held None c.replace.new.dest c.in_use.result.now
+    c.in_use.ensures c.in_default-pending.not-Nothing c.in-Ok.ensures.made
 
 pub returns-in-Nothing-clause-crash : goal.returns-in-Nothing-clause-crash
 returns-in-Nothing-clause-crash g c = λ texts decided coming begun was there.
@@ -23,27 +23,27 @@ returns-in-Nothing-clause-crash g c = λ texts decided coming begun was there.
 pub commit_change-requires : goal.commit_change-requires
 commit_change-requires g c =
     let has = c.requires.begun in
-    record { may = may_commit g.D.Disk.device c.args.self.now has.texts has.reply has.coming has.begun c.in-Begun.reply c.in-Begun.pending (sym c.replace.ensures.value ∙ c.in-Begun.is) c.in_default-pending.not-Nothing }
+    record { may = may_commit g.D.Disk.device c.args.self.now has.texts has.reply has.coming has.begun c.in-Begun.reply c.in-Begun.pending c.in_use.result.now c.in_use.ensures (sym c.replace.ensures.value ∙ c.in-Begun.is) c.in_default-pending.not-Nothing }
 
 pub returns-in-Ok-clause-done : goal.returns-in-Ok-clause-done
 returns-in-Ok-clause-done g c = λ texts decided coming begun.
-    rests_changed g.D.Disk.device c.args.self.now texts decided coming begun c.in-Begun.reply c.in-Begun.pending c.commit_change.new.disk c.apply.new.held c.replace.new.dest
-    (sym c.replace.ensures.value ∙ c.in-Begun.is) c.in_default-pending.not-Nothing c.replace.ensures.after c.apply.ensures.loaded c.apply.ensures.whole c.in-Ok.ensures.done
+    rests_changed g.D.Disk.device c.args.self.now texts decided coming begun c.in-Begun.reply c.in-Begun.pending c.commit_change.new.disk c.apply.new.held None c.replace.new.dest c.in_use.result.now
+    c.in_use.ensures (sym c.replace.ensures.value ∙ c.in-Begun.is) c.in_default-pending.not-Nothing refl c.replace.ensures.after c.apply.ensures.loaded c.apply.ensures.whole c.in-Ok.ensures.done
 
 pub returns-in-Ok-clause-crash : goal.returns-in-Ok-clause-crash
 returns-in-Ok-clause-crash g c = λ texts decided coming begun was there.
     c.in-Ok.ensures.crash c.args.self.now.held.loaded texts coming begun.kept.settled
-    (some_is g.D.Disk.device c.args.self.now texts decided coming begun c.in-Begun.reply c.in-Begun.pending (sym c.replace.ensures.value ∙ c.in-Begun.is) c.in_default-pending.not-Nothing).change was there
+    (some_in g.D.Disk.device c.args.self.now texts decided coming begun c.in-Begun.reply c.in-Begun.pending c.in_use.result.now c.in_use.ensures (sym c.replace.ensures.value ∙ c.in-Begun.is) c.in_default-pending.not-Nothing).change was there
 
 pub returns-in-Err-clause-doubt : goal.returns-in-Err-clause-doubt
 returns-in-Err-clause-doubt g c = λ texts decided coming begun.
-    between g.D.Disk.device c.args.self.now texts decided coming begun c.in-Begun.reply c.in-Begun.pending c.commit_change.new.disk c.in-Err.stopped
-    (sym c.replace.ensures.value ∙ c.in-Begun.is) c.in_default-pending.not-Nothing c.commit_change.ensures.silent c.in-Err.ensures.doubt
+    between g.D.Disk.device c.args.self.now texts decided coming begun c.in-Begun.reply c.in-Begun.pending c.commit_change.new.disk c.args.self.now.large c.in_use.result.now c.in-Err.stopped
+    c.in_use.ensures c.in_use.ensures (sym c.replace.ensures.value ∙ c.in-Begun.is) c.in_default-pending.not-Nothing c.commit_change.ensures.silent c.in-Err.ensures.doubt
 
 pub returns-in-Err-clause-crash : goal.returns-in-Err-clause-crash
 returns-in-Err-clause-crash g c = λ texts decided coming begun was there.
     c.in-Err.ensures.crash c.args.self.now.held.loaded texts coming begun.kept.settled
-    (some_is g.D.Disk.device c.args.self.now texts decided coming begun c.in-Begun.reply c.in-Begun.pending (sym c.replace.ensures.value ∙ c.in-Begun.is) c.in_default-pending.not-Nothing).change was there
+    (some_in g.D.Disk.device c.args.self.now texts decided coming begun c.in-Begun.reply c.in-Begun.pending c.in_use.result.now c.in_use.ensures (sym c.replace.ensures.value ∙ c.in-Begun.is) c.in_default-pending.not-Nothing).change was there
 
 pub apply-requires : goal.apply-requires
 apply-requires g c =

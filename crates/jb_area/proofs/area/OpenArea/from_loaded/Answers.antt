@@ -10,6 +10,7 @@ use Rattle.jb_area.proofs.area.OpenArea.from_loaded.Goals as goal
 pub returns-clause-rests : goal.returns-clause-rests
 returns-clause-rests g c = λ texts are. record {
   stage = refl;
+  small = refl;
   kept = record {
     ruled = record {
       few_slots = c.requires.few_slots;

@@ -4,10 +4,10 @@ use Rattle.jb_area.proofs.area.OpenArea.relink.Goals as goal
 pub done-requires : goal.done-requires
 done-requires g c =
     let has = c.requires.rests in
-    record { begun = has_begun g.D.Disk.device c.args.self.now c.begin_relink.new.self has.texts c.args.user.now 0 _ c.begin_relink.result _ (c.begin_relink.ensures 0) c.in-Ok.is has.rests }
+    record { begun = has_begun g.D.Disk.device c.args.self.now c.begin_relink.new.self has.texts c.args.user.now 0 _ c.begin_relink.result _ (c.begin_relink.ensures.begins 0) c.in-Ok.is has.rests }
 
-pub returns-in-Ok : goal.returns-in-Ok
-returns-in-Ok g c = record { meets = λ moment. meets g.D.Disk.device c.args.self.now c.begin_relink.new.self c.done.new.self c.args.user.now moment _ c.begin_relink.result _ c.done.result (c.begin_relink.ensures moment) c.in-Ok.is c.done.ensures }
+pub returns-in-Ok-clause-meets : goal.returns-in-Ok-clause-meets
+returns-in-Ok-clause-meets g c = λ moment. meets g.D.Disk.device c.args.self.now c.begin_relink.new.self c.done.new.self c.args.user.now moment _ c.begin_relink.result _ c.done.result (c.begin_relink.ensures.begins moment) c.in-Ok.is c.done.ensures
 
-pub returns-in-Err : goal.returns-in-Err
-returns-in-Err g c = record { meets = λ moment. meets_not g.D.Disk.device c.args.self.now c.begin_relink.new.self c.args.user.now moment _ c.begin_relink.result c.in-Err.error (c.begin_relink.ensures moment) c.in-Err.is }
+pub returns-in-Err-clause-meets : goal.returns-in-Err-clause-meets
+returns-in-Err-clause-meets g c = λ moment. meets_not g.D.Disk.device c.args.self.now c.begin_relink.new.self c.args.user.now moment _ c.begin_relink.result c.in-Err.error (c.begin_relink.ensures.begins moment) c.in-Err.is

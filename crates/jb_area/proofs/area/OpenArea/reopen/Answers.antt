@@ -1,7 +1,13 @@
-use Rattle.std.proofs.Common.{Bool, sym, subst, ◌∙◌}
+use Rattle.std.proofs.Common.{None, Bool, refl, sym, subst, ◌∙◌}
 use Rattle.jb_area.specs.Commits.{IsAnsweredAs}
-use Rattle.jb_area.proofs.DoubtLemmas.{crashes, falls, fits, idle, live, may_settle, numbered, stands, still, whole_is}
+use Rattle.jb_area.proofs.DoubtLemmas.{at_doubt, crashes, falls, fits, idle, live, may_settle, numbered, stands, still, whole_is}
 use Rattle.jb_area.proofs.area.OpenArea.reopen.Goals as goal
+
+pub unreachable-requires : goal.unreachable-requires
+unreachable-requires g c =
+    let has = c.requires.doubt in
+    let at = at_doubt g.D.Disk.device c.args.self.now has.texts has.coming has.doubt in
+    c.in_default.not-Doubtful at.0 at.1 (c.replace.ensures.value ∙ at.2)
 
 pub returns-in-Nothing-clause-crash : goal.returns-in-Nothing-clause-crash
 returns-in-Nothing-clause-crash g c =
@@ -10,38 +16,38 @@ returns-in-Nothing-clause-crash g c =
 pub settle_change-requires : goal.settle_change-requires
 settle_change-requires g c =
     let has = c.requires.doubt in
-    record { may = may_settle g.D.Disk.device c.args.self.now c.in-Doubtful.stopped c.in-Doubtful.pending (sym c.replace.ensures.value ∙ c.in-Doubtful.is) c.in_default-pending.not-Nothing has.texts has.coming has.doubt }
+    record { may = may_settle g.D.Disk.device c.args.self.now c.in-Doubtful.stopped c.in-Doubtful.pending (sym c.replace.ensures.value ∙ c.in-Doubtful.is) c.in_default-pending.not-Nothing c.in_use.result.now c.in_use.ensures has.texts has.coming has.doubt }
 
 pub returns-in-Ok-true-clause-settled : goal.returns-in-Ok-true-clause-settled
 returns-in-Ok-true-clause-settled g c =
-    stands g.D.Disk.device c.args.self.now c.in-Doubtful.stopped c.in-Doubtful.pending (sym c.replace.ensures.value ∙ c.in-Doubtful.is) c.in_default-pending.not-Nothing
-    c.settle_change.new.disk c.apply.new.held c.replace.new.dest c.replace.ensures.after c.apply.ensures.loaded c.apply.ensures.whole
+    stands g.D.Disk.device c.args.self.now c.in-Doubtful.stopped c.in-Doubtful.pending (sym c.replace.ensures.value ∙ c.in-Doubtful.is) c.in_default-pending.not-Nothing c.in_use.result.now c.in_use.ensures
+    c.settle_change.new.disk c.apply.new.held None c.replace.new.dest refl c.replace.ensures.after c.apply.ensures.loaded c.apply.ensures.whole
     (λ from texts coming doubt is. subst (λ (b : Bool). IsAnsweredAs b from texts coming (g.D.Disk.device c.settle_change.new.disk)) c.in-Ok-true.field-0-test (c.in-Ok-true.ensures.answer from texts coming doubt is))
 
 pub returns-in-Ok-true-clause-crash : goal.returns-in-Ok-true-clause-crash
 returns-in-Ok-true-clause-crash g c =
-    crashes g.D.Disk.device c.args.self.now c.in-Doubtful.stopped c.in-Doubtful.pending (sym c.replace.ensures.value ∙ c.in-Doubtful.is) c.in_default-pending.not-Nothing
+    crashes g.D.Disk.device c.args.self.now c.in-Doubtful.stopped c.in-Doubtful.pending (sym c.replace.ensures.value ∙ c.in-Doubtful.is) c.in_default-pending.not-Nothing c.in_use.result.now c.in_use.ensures
     (g.D.Disk.device c.settle_change.new.disk) c.settle_change.ensures.crash
 
 pub returns-in-Ok-false-clause-settled : goal.returns-in-Ok-false-clause-settled
 returns-in-Ok-false-clause-settled g c =
-    falls g.D.Disk.device c.args.self.now c.in-Doubtful.stopped c.in-Doubtful.pending (sym c.replace.ensures.value ∙ c.in-Doubtful.is) c.in_default-pending.not-Nothing
-    c.settle_change.new.disk c.replace.new.dest c.replace.ensures.after
+    falls g.D.Disk.device c.args.self.now c.in-Doubtful.stopped c.in-Doubtful.pending (sym c.replace.ensures.value ∙ c.in-Doubtful.is) c.in_default-pending.not-Nothing c.in_use.result.now c.in_use.ensures
+    c.settle_change.new.disk None c.replace.new.dest refl c.replace.ensures.after
     (λ from texts coming doubt is. subst (λ (b : Bool). IsAnsweredAs b from texts coming (g.D.Disk.device c.settle_change.new.disk)) c.in-Ok-false.field-0-test (c.in-Ok-false.ensures.answer from texts coming doubt is))
 
 pub returns-in-Ok-false-clause-crash : goal.returns-in-Ok-false-clause-crash
 returns-in-Ok-false-clause-crash g c =
-    crashes g.D.Disk.device c.args.self.now c.in-Doubtful.stopped c.in-Doubtful.pending (sym c.replace.ensures.value ∙ c.in-Doubtful.is) c.in_default-pending.not-Nothing
+    crashes g.D.Disk.device c.args.self.now c.in-Doubtful.stopped c.in-Doubtful.pending (sym c.replace.ensures.value ∙ c.in-Doubtful.is) c.in_default-pending.not-Nothing c.in_use.result.now c.in_use.ensures
     (g.D.Disk.device c.settle_change.new.disk) c.settle_change.ensures.crash
 
 pub returns-in-Err-clause-still : goal.returns-in-Err-clause-still
 returns-in-Err-clause-still g c =
-    still g.D.Disk.device c.args.self.now c.in-Doubtful.stopped c.in-Doubtful.pending (sym c.replace.ensures.value ∙ c.in-Doubtful.is) c.in_default-pending.not-Nothing
-    c.settle_change.new.disk c.in-Err.stopped c.settle_change.ensures.silent c.in-Err.ensures.still
+    still g.D.Disk.device c.args.self.now c.in-Doubtful.stopped c.in-Doubtful.pending (sym c.replace.ensures.value ∙ c.in-Doubtful.is) c.in_default-pending.not-Nothing c.in_use.result.now c.in_use.ensures
+    c.settle_change.new.disk c.args.self.now.large c.in-Err.stopped c.in_use.ensures c.settle_change.ensures.silent c.in-Err.ensures.still
 
 pub returns-in-Err-clause-crash : goal.returns-in-Err-clause-crash
 returns-in-Err-clause-crash g c =
-    crashes g.D.Disk.device c.args.self.now c.in-Doubtful.stopped c.in-Doubtful.pending (sym c.replace.ensures.value ∙ c.in-Doubtful.is) c.in_default-pending.not-Nothing
+    crashes g.D.Disk.device c.args.self.now c.in-Doubtful.stopped c.in-Doubtful.pending (sym c.replace.ensures.value ∙ c.in-Doubtful.is) c.in_default-pending.not-Nothing c.in_use.result.now c.in_use.ensures
     (g.D.Disk.device c.settle_change.new.disk) c.settle_change.ensures.crash
 
 pub apply-requires : goal.apply-requires
