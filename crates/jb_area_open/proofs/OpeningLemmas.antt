@@ -7,7 +7,7 @@ use Rattle.jb_area.specs.Area.{IsResting, loaded_of}
 use Rattle.jb_area.specs.Holds.{IsAtRest, Opens}
 use Rattle.jb_decide.specs.Holds.{AreTexts, Holds}
 use Rattle.jb_area.specs.declared.area.OpenArea.{OpenArea}
-use Rattle.jb_area_open.specs.Opening.{IsOpenAt, IsRecovered, KeepsOpening, OpensAsAtStart}
+use Rattle.jb_area_open.specs.Opening.{IsOpenAt, IsRecovered, KeepsOpening, OpensAs, OpensAsAtStart, OpensFirmly}
 use Rattle.jb_disk.proofs.RunLemmas.{runs-then, runs-weaken}
 use Rattle.jb_disk.specs.Device.{Device, OnlyReads, TellsAnImage, Turns}
 use Rattle.jb_disk.specs.FileLaws.{same_file, same_files, with_file-here, with_file-other}
@@ -20,7 +20,8 @@ use Rattle.jb_disk.specs.declared.file.FileId.TheVariants.{Jdt, Jnl}
 use Rattle.jb_image.specs.Stands.{HasHeader, HasSlot, IsLiveIn, Loads}
 use Rattle.jb_journal.specs.Commit.{AgreeButJournal, ReplaysTo}
 use Rattle.jb_journal.specs.Prepare.{IsPrepared, IsPreparing}
-use Rattle.jb_journal.specs.Recover.{IsFound, IsGrowthSafe, MightBe, ReplaysAs, ReplaysAsAtStart}
+use Rattle.jb_journal.proofs.FirmLemmas.{firm_same, firm_then, firm_weaken}
+use Rattle.jb_journal.specs.Recover.{FirmSince, IsFound, IsGrowthSafe, MightBe, ReplaysAs, ReplaysAsAtStart}
 use Rattle.jb_journal.specs.declared.error.Recovered.{Recovered}
 use Rattle.jb_journal.specs.declared.error.Recovered.TheVariants.{Closed, Replayed}
 use Rattle.jb_model.specs.declared.loaded.Loaded.{Loaded}
@@ -91,13 +92,13 @@ opens_along was files loaded texts along opens =
     let to = along opens.after (record { after = opens.after; replays = opens.replays; same = λ file ne. refl }) in
     record { after = to.after; replays = to.replays; holds = holds_beside to.after opens.after loaded texts to.same opens.holds }
 
+-- either way
+opens_alike : (was files : Files) → ReplaysAs was files → OpensAs was files
+opens_alike was files alike = λ loaded texts. (opens_along was files loaded texts (λ base. (alike base).0), opens_along files was loaded texts (λ base. (alike base).1))
+
 -- so do files that replay to what some at the start replay to
 opens_as : (first : List Images) (was files : Files) → MightBe first was → ReplaysAs was files → OpensAsAtStart first files
-opens_as first was files might alike = record {
-  was = was;
-  might = might;
-  same = λ loaded texts. (opens_along was files loaded texts (λ base. (alike base).0), opens_along files was loaded texts (λ base. (alike base).1));
-}
+opens_as first was files might alike = record { was = was; might = might; same = opens_alike was files alike }
 
 -- behind a closed gate files replay to themselves
 shut_to : (base files : Files) → (IsGateOpen files → ⊥) → AgreeButJournal files base → ReplaysTo base files
@@ -272,6 +273,21 @@ reading_keeps before mid after kept keeps = λ was there safe.
     let leaves = keeps was there safe in
     record { first = leaves.first; run = subst (λ (m : List Images). Runs (OpensAsAtStart before.moments) before.moments m) (sym kept.moments) leaves.run }
 
+-- once the first syncs are done
+pub recovery_firm : (before after : Device) → ForSome before.contents (λ was. IsGrowthSafe was → FirmSince (ReplaysAs was) before.moments after.moments) → OpensFirmly before after
+recovery_firm before after firm = λ was there safe. firm_weaken (ReplaysAs was) (OpensAs was) (opens_alike was) before.moments after.moments (firm was there safe)
+
+-- and after reads
+pub reading_firm : (before mid after : Device) → OnlyReads mid after → OpensFirmly before mid → OpensFirmly before after
+reading_firm before mid after kept firm = λ was there safe. firm_same (OpensAs was) before.moments mid.moments after.moments kept.moments (firm was there safe)
+
+-- while the journal is prepared files replay as those at the start
+prepared_as : (was start files : Files) → Replays was start → (IsGateOpen start → ⊥) → IsPreparing start files → ReplaysAs was files
+prepared_as was start files replays shut preparing base =
+    let alike = replayed_as was start replays shut base in
+    let still = preparing_as start files shut preparing base in
+    (λ to. still.0 (alike.0 to), λ to. alike.1 (still.1 to))
+
 -- and the preparing of the journal
 pub preparing_keeps : (before mid after : Device) → TellsAnImage before → KeepsOpening before mid → ForSome before.contents (λ was. IsRecovered was mid)
     → ForSome before.contents (λ was. IsGrowthSafe was → ForSome mid.contents (Replays was)) → ForSome mid.contents (λ start. IsAllSynced mid → LeavesOnly mid after (IsPreparing start)) → KeepsOpening before after
@@ -280,15 +296,21 @@ preparing_keeps before mid after tells keeps recovered done crash = λ was there
     let is = recovered was there in
     let start = told_now mid.contents is.told in
     let shut = is.shut start.0 start.1 in
-    let alike = replayed_as was start.0 (done was there safe start.0 start.1) shut in
     let P = OpensAsAtStart before.moments in
     let each : (files : Files) → IsPreparing start.0 files → P files = λ files preparing.
-    opens_as before.moments was files (might_now before was tells there)
-    (λ base. (
-      λ to. (preparing_as start.0 files shut preparing base).0 ((alike base).0 to),
-      λ to. (alike base).1 ((preparing_as start.0 files shut preparing base).1 to),
-    )) in
+    opens_as before.moments was files (might_now before was tells there) (prepared_as was start.0 files (done was there safe start.0 start.1) shut preparing) in
     record {
       first = leaves.first;
       run = runs-then P before.moments mid.moments after.moments leaves.run (runs-weaken (IsPreparing start.0) P each mid.moments after.moments (crash start.0 start.1 is.synced).run);
     }
+
+-- and firmly so
+pub preparing_firm : (before mid after : Device) → OpensFirmly before mid → ForSome before.contents (λ was. IsRecovered was mid)
+    → ForSome before.contents (λ was. IsGrowthSafe was → ForSome mid.contents (Replays was)) → ForSome mid.contents (λ start. IsAllSynced mid → LeavesOnly mid after (IsPreparing start)) → OpensFirmly before after
+preparing_firm before mid after firm recovered done crash = λ was there safe.
+    let is = recovered was there in
+    let start = told_now mid.contents is.told in
+    let each : (files : Files) → IsPreparing start.0 files → OpensAs was files = λ files preparing.
+    opens_alike was files (prepared_as was start.0 files (done was there safe start.0 start.1) (is.shut start.0 start.1) preparing) in
+    firm_then (OpensAs was) before.moments mid.moments after.moments (firm was there safe)
+    (runs-weaken (IsPreparing start.0) (OpensAs was) each mid.moments after.moments (crash start.0 start.1 is.synced).run)

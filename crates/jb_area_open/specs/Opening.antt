@@ -16,7 +16,7 @@ use Rattle.jb_image.specs.Answers.{IsRefusedBy}
 use Rattle.jb_image.specs.declared.error.OpenError.{OpenError}
 use Rattle.jb_image.specs.declared.error.OpenError.TheVariants.{StoreFault}
 use Rattle.jb_journal.specs.Commit.{ReplaysTo}
-use Rattle.jb_journal.specs.Recover.{IsGrowthSafe, IsRefusedOver, MightBe}
+use Rattle.jb_journal.specs.Recover.{FirmSince, IsGrowthSafe, IsRefusedOver, MightBe}
 use Rattle.jb_journal.specs.declared.error.JournalError.{JournalError}
 use Rattle.jb_journal.specs.declared.error.JournalError.TheVariants.{BadRecord, StoreFault as JournalFault}
 use Rattle.jb_model.specs.declared.loaded.Loaded.{Loaded}
@@ -63,12 +63,20 @@ abbrev pub of_journal : JournalError → OpeningError
 of_journal (BadRecord at) = BadJournal at
 of_journal JournalFault = Base StoreFault
 
+-- the one files open to exactly what the others do
+abbrev pub OpensAs : Files → Files → Type 0
+OpensAs was files = (loaded : Loaded) (texts : List ℕ) → Opens loaded texts was ↔ Opens loaded texts files
+
 -- the files open to exactly what some files open to that a crash might have left at the start
 pub record OpensAsAtStart (first : List Images) (files : Files) : Type 0 where
   pub was : Files
   pub might : MightBe first was
-  pub same : (loaded : Loaded) (texts : List ℕ) → Opens loaded texts was ↔ Opens loaded texts files
+  pub same : OpensAs was files
 
 -- a crash at any moment leaves such files, where the record behind an open gate writes each byte past an old end
 abbrev pub KeepsOpening : Device → Device → Type 0
 KeepsOpening before after = ForSome before.contents (λ was. IsGrowthSafe was → LeavesOnly before after (OpensAsAtStart before.moments))
+
+-- and once the first syncs are done, files that open to exactly what those do that were read at the start
+abbrev pub OpensFirmly : Device → Device → Type 0
+OpensFirmly before after = ForSome before.contents (λ was. IsGrowthSafe was → FirmSince (OpensAs was) before.moments after.moments)

@@ -2,7 +2,7 @@
 ghost use Rattle.std.specs.Prelude.{◌≤◌, IfErr, IfOk, OnOk};
 ghost use Rattle.std.specs.Option.{ForSome};
 ghost use Rattle.jb_area.specs.Holds.{IsAtRest};
-ghost use Rattle.jb_area_open.specs.Opening.{FaultRose, IsRecovered, KeepsOpening, Refuses};
+ghost use Rattle.jb_area_open.specs.Opening.{FaultRose, IsRecovered, KeepsOpening, OpensFirmly, Refuses};
 ghost use Rattle.jb_disk.specs.Device.{StaysSilent};
 ghost use Rattle.jb_disk.specs.Runs.{IsAllSynced};
 ghost use Rattle.jb_disk.specs.declared.file.FileId.TheVariants.{Jdt as texts_file};
@@ -32,6 +32,7 @@ pub(crate) fn load<D: Disk>(alloc: Global, disk: &mut D, slots: u32) -> Result<L
 
     // A crash at any moment, and a disk that tells nothing.
     ensures crash { KeepsOpening (D.device disk.old) (D.device disk.new) }
+    ensures firm { OpensFirmly (D.device disk.old) (D.device disk.new) }
     ensures silent { StaysSilent (D.device disk.old) (D.device disk.new) }
 {
     let _ = recover(disk)?;

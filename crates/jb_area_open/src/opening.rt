@@ -3,7 +3,7 @@ ghost use Rattle.std.specs.Prelude.{◌≡◌, ◌≤◌, IfErr, IfOk, List, ℕ
 ghost use Rattle.std.specs.Option.{ForSome};
 ghost use Rattle.jb_area.specs.Area.{IsResting, device_of, loaded_of, rules_of};
 ghost use Rattle.jb_area.specs.Calls.{HasRest};
-ghost use Rattle.jb_area_open.specs.Opening.{FaultRose, IsOpenAt, IsRecovered, KeepsOpening, Refuses, device_after};
+ghost use Rattle.jb_area_open.specs.Opening.{FaultRose, IsOpenAt, IsRecovered, KeepsOpening, OpensFirmly, Refuses, device_after};
 ghost use Rattle.jb_base.specs.declared.limits.TheConstants.{MOST_ADDRESS_BYTES, MOST_SLOTS};
 ghost use Rattle.jb_decide.specs.Holds.{AreTexts};
 ghost use Rattle.jb_disk.specs.Device.{StaysSilent};
@@ -48,8 +48,10 @@ pub fn open_area<D: Disk>(
     ensures cause { IfErr result (λ back. FaultRose (D.device disk).faults (D.device back.0).faults back.1) }
 
     // Either way: a crash at any moment leaves files that open to exactly what some open to that it might have left at the
-    // start, and a disk that tells nothing goes on telling nothing.
+    // start, and once the first syncs are done, to what those open to that were read at the start. A disk that tells nothing
+    // goes on telling nothing.
     ensures crash { KeepsOpening (D.device disk) (device_after D.device result) }
+    ensures firm { OpensFirmly (D.device disk) (device_after D.device result) }
     ensures later { (D.device disk).faults ≤ (device_after D.device result).faults }
     ensures silent { StaysSilent (D.device disk) (device_after D.device result) }
 {

@@ -1,7 +1,7 @@
 use Rattle.std.proofs.Common.{◌∙◌, ap, sym, subst}
 use Rattle.std.specs.Prelude.{Result, Err, IfErr}
 use Rattle.std.proofs.lemmas.Result.{err_from_is_err_and}
-use Rattle.jb_area_open.proofs.OpeningLemmas.{preparing_keeps, reading_keeps, recovered_prepared, recovered_read, recovered_so, recovery_keeps, rests_prepared}
+use Rattle.jb_area_open.proofs.OpeningLemmas.{preparing_firm, preparing_keeps, reading_firm, reading_keeps, recovery_firm, recovered_prepared, recovered_read, recovered_so, recovery_keeps, rests_prepared}
 use Rattle.jb_area_open.proofs.RefusalLemmas.{refused_journal, refused_files, refused_fault}
 use Rattle.jb_area_open.specs.Opening.{Refuses}
 use Rattle.jb_area_open.specs.declared.error.OpeningError.{OpeningError}
@@ -81,5 +81,34 @@ returns-clause-crash g c =
     let after = g.D.Disk.device c.prepare.new.disk in
     let recovered = recovered_so before mid c.in_ok-recover.field-0 c.in_ok-recover.ensures.found c.in_ok-recover.ensures.done c.in_ok-recover.ensures.closed c.in_ok-recover.ensures.durable c.in_ok-recover.ensures.told in
     preparing_keeps before read after (g.met.D.Disk.told c.args.disk.now) (reading_keeps before mid read c.decode.ensures.kept (recovery_keeps before mid c.recover.ensures.crash))
+    (recovered_read before mid read c.decode.ensures.kept recovered)
+    (λ was there safe now now_is. c.in_ok-recover.ensures.done was there safe now (sym c.decode.ensures.kept.contents ∙ now_is)) c.prepare.ensures.crash
+
+pub returns-in_err-recover-clause-firm : goal.returns-in_err-recover-clause-firm
+returns-in_err-recover-clause-firm g c = recovery_firm (g.D.Disk.device c.args.disk.now) (g.D.Disk.device c.recover.new.disk) c.recover.ensures.firm
+
+pub returns-in_err-loaded-clause-firm : goal.returns-in_err-loaded-clause-firm
+returns-in_err-loaded-clause-firm g c =
+    let before = g.D.Disk.device c.args.disk.now in
+    let mid = g.D.Disk.device c.recover.new.disk in
+    reading_firm before mid (g.D.Disk.device c.decode.new.disk) c.decode.ensures.kept (recovery_firm before mid c.recover.ensures.firm)
+
+pub returns-in_err-prepare-clause-firm : goal.returns-in_err-prepare-clause-firm
+returns-in_err-prepare-clause-firm g c =
+    let before = g.D.Disk.device c.args.disk.now in
+    let mid = g.D.Disk.device c.recover.new.disk in
+    let read = g.D.Disk.device c.decode.new.disk in
+    let recovered = recovered_so before mid c.in_ok-recover.field-0 c.in_ok-recover.ensures.found c.in_ok-recover.ensures.done c.in_ok-recover.ensures.closed c.in_ok-recover.ensures.durable c.in_ok-recover.ensures.told in
+    preparing_firm before read (g.D.Disk.device c.prepare.new.disk) (reading_firm before mid read c.decode.ensures.kept (recovery_firm before mid c.recover.ensures.firm))
+    (recovered_read before mid read c.decode.ensures.kept recovered)
+    (λ was there safe now now_is. c.in_ok-recover.ensures.done was there safe now (sym c.decode.ensures.kept.contents ∙ now_is)) c.prepare.ensures.crash
+
+pub returns-clause-firm : goal.returns-clause-firm
+returns-clause-firm g c =
+    let before = g.D.Disk.device c.args.disk.now in
+    let mid = g.D.Disk.device c.recover.new.disk in
+    let read = g.D.Disk.device c.decode.new.disk in
+    let recovered = recovered_so before mid c.in_ok-recover.field-0 c.in_ok-recover.ensures.found c.in_ok-recover.ensures.done c.in_ok-recover.ensures.closed c.in_ok-recover.ensures.durable c.in_ok-recover.ensures.told in
+    preparing_firm before read (g.D.Disk.device c.prepare.new.disk) (reading_firm before mid read c.decode.ensures.kept (recovery_firm before mid c.recover.ensures.firm))
     (recovered_read before mid read c.decode.ensures.kept recovered)
     (λ was there safe now now_is. c.in_ok-recover.ensures.done was there safe now (sym c.decode.ensures.kept.contents ∙ now_is)) c.prepare.ensures.crash

@@ -1,6 +1,6 @@
 use Rattle.std.proofs.Common.{◌∙◌, sym, ap, subst}
 use Rattle.jb_area_open.proofs.OpeningLemmas.{open_at}
-use Rattle.jb_area_open.specs.Opening.{IsRecovered, KeepsOpening}
+use Rattle.jb_area_open.specs.Opening.{IsRecovered, KeepsOpening, OpensFirmly}
 use Rattle.jb_disk.specs.Device.{Device}
 use Rattle.jb_model.specs.declared.loaded.Loaded.{Loaded}
 use Rattle.jb_area_open.proofs.opening.open_area.Goals as goal
@@ -43,3 +43,11 @@ returns-in-Ok-from_loaded-clause-opened g c =
       sized = are.sized ∙ ap (λ (l : Loaded). l.texts_len) loaded;
       told = λ files is. are.told files (ap (λ (d : Device). d.contents) same ∙ is);
     }))
+
+pub returns-in-Ok-from_loaded-clause-firm : goal.returns-in-Ok-from_loaded-clause-firm
+returns-in-Ok-from_loaded-clause-firm g c =
+    subst (OpensFirmly (g.D.Disk.device c.args.disk)) (sym c.in-Ok-from_loaded.ensures.device) c.load.ensures.firm
+
+pub returns-in-Err-from_loaded-clause-firm : goal.returns-in-Err-from_loaded-clause-firm
+returns-in-Err-from_loaded-clause-firm g c =
+    subst (OpensFirmly (g.D.Disk.device c.args.disk)) (sym (ap g.D.Disk.device c.in-Err-from_loaded.ensures.back)) c.load.ensures.firm
