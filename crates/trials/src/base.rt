@@ -106,7 +106,7 @@ fn copied(alloc: Global, files: &[Bytes; 6]) -> Result<[Bytes; 6], OutOfMemory> 
 // The area when these lines were asked in it.
 fn asked(alloc: Global, area: Resting, lines: &str) -> Result<Resting, Amiss> {
     let mut area = area;
-    for line in lines.split('\n') {
+    for line in lines.split(['\n', ';']) {
         if !line.is_empty() {
             area = area.run(alloc, line)?.0;
         }
@@ -135,6 +135,17 @@ impl Base {
     pub(crate) fn open(&self, alloc: Global, failing: &[u64]) -> Result<Resting, Amiss> {
         let files = copied(alloc, &self.files)?;
         self.over(alloc, Quiet::new(alloc, files, self.holes, failing)?)
+    }
+
+    /// Whether the disk holds the files of the base as they were made.
+    pub(crate) fn is_in(&self, disk: &Quiet) -> bool {
+        let [jhr, jdt, jdx, jlr, jnl, ndt] = &self.files;
+        disk.file(FileId::Jhr) == jhr.as_slice()
+            && disk.file(FileId::Jdt) == jdt.as_slice()
+            && disk.file(FileId::Jdx) == jdx.as_slice()
+            && disk.file(FileId::Jlr) == jlr.as_slice()
+            && disk.file(FileId::Jnl) == jnl.as_slice()
+            && disk.file(FileId::Ndt) == ndt.as_slice()
     }
 
     /// The area over this disk.

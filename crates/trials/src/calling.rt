@@ -96,6 +96,24 @@ pub(crate) fn begin<D: Disk>(
     }
 }
 
+/// A command whose beginning a fault stops.
+pub(crate) fn stop_begin<D: Disk>(
+    alloc: Global,
+    area: &mut OpenArea<D>,
+    user: &User,
+    command: &Command,
+) -> Result<(), Amiss>
+    requires rests { HasRest D.device area.old }
+    requires name { length user.now.name ≤ 36 }
+    ensures { OnOk result (HasDoubt D.device area.new) }
+{
+    match area.begin(alloc, user, MOMENT, command) {
+        Ok(()) => Err(Amiss::NotStopped),
+        Err(AreaError::StoreFault) => Ok(()),
+        Err(AreaError::OutOfMemory) => Err(Amiss::NoMemory),
+    }
+}
+
 /// Whether the change stands, of a reopening that no fault stops.
 pub(crate) fn reopen<D: Disk>(area: &mut OpenArea<D>) -> Result<bool, Amiss>
     requires { HasDoubt D.device area.old }
@@ -105,6 +123,15 @@ pub(crate) fn reopen<D: Disk>(area: &mut OpenArea<D>) -> Result<bool, Amiss>
         Ok(stands) => Ok(stands),
         Err(_stopped) => Err(Amiss::Stopped),
     }
+}
+
+/// A reopening that no fault stops; whether the change stands goes into `stands`.
+pub(crate) fn reopen_into<D: Disk>(area: &mut OpenArea<D>, stands: &mut bool) -> Result<(), Amiss>
+    requires { HasDoubt D.device area.old }
+    ensures { OnOk result (HasRest D.device area.new) }
+{
+    *stands = reopen(area)?;
+    Ok(())
 }
 
 /// A reopening that a fault stops.

@@ -20,6 +20,8 @@ mod quiet;
 #[cfg(test)]
 mod showing;
 #[cfg(test)]
+mod stand;
+#[cfg(test)]
 mod tests;
 #[cfg(test)]
 mod trial;

@@ -6,8 +6,8 @@ use std::alloc::{AllocError, Global};
 use std::str;
 use std::string::String;
 
-// The bytes as words.
-fn words(bytes: &[u8]) -> &str {
+/// The bytes as words.
+pub(crate) fn words(bytes: &[u8]) -> &str {
     match str::from_utf8(bytes) {
         Ok(text) => text,
         Err(_) => "?",
@@ -76,9 +76,30 @@ pub(crate) fn links_of(alloc: Global, loaded: &Loaded) -> Result<String, Amiss> 
     Ok(links)
 }
 
+// The fields of the fixed header, and the lengths of .JHR and .JDT.
+fn fixed_of(alloc: Global, loaded: &Loaded) -> Result<String, AllocError> {
+    let Loaded {
+        created,
+        counter,
+        active,
+        password,
+        base,
+        headers_len,
+        texts_len,
+        ..
+    } = loaded;
+    let reserved = words(&loaded.reserved);
+    format!(in alloc;
+        "{created} {counter} {active} {password} {base} {headers_len} {texts_len} {reserved}"
+    )
+}
+
 /// All that is loaded in one line.
 pub(crate) fn memory_of(alloc: Global, loaded: &Loaded) -> Result<String, Amiss> {
-    Ok(format!(in alloc; "{loaded:?}")?)
+    let fixed = fixed_of(alloc, loaded)?;
+    let slots = loaded.slots.as_slice();
+    let marks = loaded.marks.as_slice();
+    Ok(format!(in alloc; "{fixed} {slots:?} {marks:?}")?)
 }
 
 /// Whether a reply in words says that the command was refused.

@@ -1,3 +1,7 @@
 //! The tables.
 
+mod drawn;
+mod parts;
+mod refusals;
 mod rows;
+mod stops;

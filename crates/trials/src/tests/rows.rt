@@ -7,28 +7,18 @@ use crate::asking::number;
 use crate::base::{Base, EMPTY, Setup};
 use crate::quiet::Quiet;
 use crate::showing::same;
-use crate::trial::Resting;
 use jb_disk::FileId;
 use std::alloc::{AllocError, Global};
 use std::string::String;
 use std::test::Fail;
-
-// One row of commands.
-fn told(alloc: Global, area: Resting, row: &str) -> Result<Resting, Amiss> {
-    let Some((asked, wanted)) = row.split_once('|') else {
-        return Err(Amiss::NotAsked);
-    };
-    let (area, reply) = area.run(alloc, asked)?;
-    same(alloc, asked, reply.as_str(), wanted)?;
-    Ok(area)
-}
 
 // Asks the rows one after another in the base, and gives its disk.
 fn story(alloc: Global, setup: Setup<'_>, rows: &str) -> Result<Quiet, Amiss> {
     let base = Base::new(alloc, setup)?;
     let mut area = base.open(alloc, &[])?;
     for row in rows.split('\n') {
-        area = told(alloc, area, row)?;
+        let (asked, wanted) = row.split_once('|').unwrap_or((row, ""));
+        area = area.told(alloc, asked, wanted)?;
     }
     Ok(area.close())
 }
