@@ -1,7 +1,5 @@
 -- An area at rest and a command of a tool: what the files open to meanwhile.
-use Rattle.std.proofs.Common.{◌≡◌, inl, inr, ℕ, ◌≤◌, List, [], ◌∷◌, length, ap, refl, sym, ◌∙◌, subst, arith, Option, Some, None}
-use Rattle.std.specs.Prelude.{IsSome, slice_index}
-use Rattle.std.specs.Option.{ForSome}
+use Rattle.std.proofs.Common.{◌≡◌, inl, inr, ℕ, ◌≤◌, List, [], ◌∷◌, length, ap, refl, sym, subst, arith, Some}
 use Rattle.jb_area.specs.Area.{IsBegun, IsResting}
 use Rattle.jb_area.specs.Holds.{IsAtRest, Opens, OpensToEither as OpensToComing}
 use Rattle.jb_area.specs.declared.area.OpenArea.{OpenArea}

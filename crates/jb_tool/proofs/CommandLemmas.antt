@@ -1,5 +1,5 @@
 -- A command of a tool over an open area: begun, and then done, stopped or dropped.
-use Rattle.std.proofs.Common.{◌≡◌, inl, inr, ℕ, ◌+◌, ◌≤◌, ◌++◌, List, [], ◌∷◌, ap, refl, sym, ◌∙◌, subst, arith, Some}
+use Rattle.std.proofs.Common.{◌≡◌, inl, inr, ℕ, ◌≤◌, List, ap, refl, sym, ◌∙◌, subst, arith, Some}
 use Rattle.std.specs.Prelude.{IsSome, Ok, Err}
 use Rattle.std.specs.Option.{ForSome}
 use Rattle.jb_area.specs.Area.{IsBegun, IsResting, RestsAt}
@@ -15,10 +15,10 @@ use Rattle.jb_decide.specs.declared.error.AreaError.{AreaError}
 use Rattle.jb_decide.specs.declared.error.AreaError.TheVariants as failed
 use Rattle.jb_disk.specs.Device.{Device, OnlyReads}
 use Rattle.jb_disk.specs.Files.{Files}
-use Rattle.jb_disk.specs.Runs.{IsAllSynced, LeavesOnly}
+use Rattle.jb_disk.specs.Runs.{LeavesOnly}
 use Rattle.jb_image.specs.Stands.{StandsFor}
 use Rattle.jb_model.specs.Answered.{Answered}
-use Rattle.jb_model.specs.State.{AreaState, state_of}
+use Rattle.jb_model.specs.State.{state_of}
 use Rattle.jb_model.specs.Step.{Step}
 use Rattle.jb_model.specs.declared.command.Command.{Command}
 use Rattle.jb_model.specs.declared.loaded.Loaded.{Loaded}
@@ -26,11 +26,8 @@ use Rattle.jb_model.specs.declared.reply.Reply.{Reply}
 use Rattle.jb_tool.proofs.ChangingLemmas.{either_way, few_resting, holds_stands, leaves_only_after, leaves_only_weaken, left_reading}
 use Rattle.jb_tool.proofs.Recovering.{rose_later}
 use Rattle.jb_tool.specs.Changing.{ChangesArea, HasNoLine, IsStoppedBy, OpensToEither, of_area}
-use Rattle.jb_tool.specs.Tending.{Answer, answer_to, tool_answer, tool_rules, tool_user}
+use Rattle.jb_tool.specs.Tending.{answer_to, tool_answer, tool_rules, tool_user}
 use Rattle.jb_tool.specs.declared.error.ToolError.{ToolError}
-use Rattle.jb_tool.specs.declared.error.ToolError.TheVariants.{Open, TextFull}
-use Rattle.jb_image.specs.declared.error.OpenError.TheVariants as refused
-use Rattle.jb_model.specs.declared.reply.Reply.TheVariants as reply
 
 module _ {D : Type 0} (shown : D → Device) (command : Command) (old : OpenArea D) where
   -- why it was not begun

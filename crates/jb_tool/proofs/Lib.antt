@@ -4,3 +4,5 @@ mod CountLemmas
 mod FigureLemmas
 pub mod Recovering
 mod TendLemmas
+mod MakingLemmas
+mod NewBaseLemmas

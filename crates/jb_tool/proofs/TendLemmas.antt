@@ -1,8 +1,7 @@
 -- The opening of a base, and what a tool that tends its area makes of it then.
-use Rattle.std.proofs.Common.{◌≡◌, inl, inr, ℕ, ◌≤◌, List, [], ◌∷◌, ap, refl, sym, ◌∙◌, subst, Option, Some, None}
+use Rattle.std.proofs.Common.{◌≡◌, inl, inr, ℕ, ◌≤◌, List, [], ◌∷◌, refl, sym, ◌∙◌, subst, Some}
 use Rattle.std.specs.Prelude.{IsSome, Ok, Err, ◌⊎◌}
 use Rattle.std.specs.Option.{ForSome}
-use Rattle.jb_area.specs.Area.{IsResting}
 use Rattle.jb_area.specs.Calls.{HasRest}
 use Rattle.jb_area.specs.Holds.{Opens}
 use Rattle.jb_area.specs.declared.area.OpenArea.{OpenArea}
@@ -14,9 +13,8 @@ use Rattle.jb_disk.proofs.RunLemmas.{runs-refl, runs-then, runs-weaken}
 use Rattle.jb_disk.specs.Device.{Device, OnlyReads}
 use Rattle.jb_disk.specs.Files.{Files}
 use Rattle.jb_disk.specs.Images.{Images}
-use Rattle.jb_disk.specs.Runs.{IsAllSynced, LeavesNow}
+use Rattle.jb_disk.specs.Runs.{LeavesNow}
 use Rattle.jb_journal.specs.Recover.{IsGrowthSafe}
-use Rattle.jb_image.specs.Stands.{StandsFor}
 use Rattle.jb_model.specs.State.{AreaState, state_of}
 use Rattle.jb_model.specs.declared.command.Command.{Command}
 use Rattle.jb_tool.proofs.ChangingLemmas.{few_resting, holds_stands, leaves_only_weaken, leaves_weaken, opens_area}

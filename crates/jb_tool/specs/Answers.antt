@@ -1,5 +1,5 @@
 -- What the call of a tool answers, and what it makes of the files of a base.
-use Rattle.std.specs.Prelude.{ℕ, List, Ok, Err}
+use Rattle.std.specs.Prelude.{ℕ, List, Some, Ok, Err}
 use Rattle.std.specs.Option.{ForSome}
 use Rattle.jb_base.specs.declared.limits.TheConstants.{MOST_SLOTS}
 use Rattle.jb_disk.specs.Device.{Device}
@@ -7,17 +7,18 @@ use Rattle.jb_disk.specs.Files.{Files}
 use Rattle.jb_image.specs.Stands.{StandsFor}
 use Rattle.jb_model.specs.State.{AreaState}
 use Rattle.jb_model.specs.declared.command.Command.TheVariants as command
+use Rattle.jb_tool.specs.Making.{KeepsOrMakes, Makes}
 use Rattle.jb_tool.specs.Outcome.{tool_outcome}
 use Rattle.jb_tool.specs.Recovered.{IsRecoveredTo, KeepsReplay, RefusesReading}
 use Rattle.jb_tool.specs.Tending.{Answer, KeepsOrTends, Tends}
 use Rattle.jb_tool.specs.declared.tool.Tool.{Tool}
 use Rattle.jb_tool.specs.declared.tool.Tool.TheVariants as tool
 
--- the files stand for an area of which a tool that looks prints this
+-- the files stand for an area of which a tool that looks prints this, at whatever moment
 pub record IsShown (shown : Tool) (text : List ℕ) (files : Files) : Type 0 where
   pub area : AreaState
   pub stands : StandsFor MOST_SLOTS files area
-  pub outcome : tool_outcome shown area text area
+  pub outcome : (moment : ℕ) → tool_outcome shown moment (Some area) text area
 
 -- a tool that looks: the files are those to which the base replayed, and it prints what they stand for; or they are refused
 abbrev pub LooksAt : Tool → Device → Device → Answer → Type 0
@@ -28,6 +29,7 @@ LooksAt shown before after (Err error) = RefusesReading before after error
 abbrev pub AnswersTool : Tool → ℕ → Device → Device → Answer → Type 0
 AnswersTool tool.List moment before after answer = LooksAt tool.List before after answer
 AnswersTool tool.Check moment before after answer = LooksAt tool.Check before after answer
+AnswersTool tool.Make moment before after answer = Makes moment before after answer
 AnswersTool tool.Relink moment before after answer = Tends command.Relink before after answer
 AnswersTool tool.Pack moment before after answer = Tends command.Pack before after answer
 
@@ -35,5 +37,6 @@ AnswersTool tool.Pack moment before after answer = Tends command.Pack before aft
 abbrev pub KeepsOpening : Tool → ℕ → Device → Device → Type 0
 KeepsOpening tool.List moment before after = KeepsReplay before after
 KeepsOpening tool.Check moment before after = KeepsReplay before after
+KeepsOpening tool.Make moment before after = KeepsOrMakes moment before after
 KeepsOpening tool.Relink moment before after = KeepsOrTends command.Relink before after
 KeepsOpening tool.Pack moment before after = KeepsOrTends command.Pack before after

@@ -1,16 +1,20 @@
 -- What each tool prints, and the area that it leaves.
-use Rattle.std.specs.Prelude.{◌≡◌, ℕ, List, Ok}
+use Rattle.std.specs.Prelude.{◌≡◌, ℕ, List, [], Ok, Option, Some, None}
 use Rattle.jb_model.specs.State.{AreaState}
 use Rattle.jb_model.specs.declared.command.Command.TheVariants as command
 use Rattle.jb_tool.specs.Check.{IsCheck}
 use Rattle.jb_tool.specs.Listing.{listing_of}
+use Rattle.jb_tool.specs.NewBase.{empty_area}
 use Rattle.jb_tool.specs.Tending.{tended}
 use Rattle.jb_tool.specs.declared.tool.Tool.{Tool}
 use Rattle.jb_tool.specs.declared.tool.Tool.TheVariants as tool
 
--- what a tool prints of the area to which a base opens, and the area that it leaves
-abbrev pub tool_outcome : Tool → AreaState → List ℕ → AreaState → Type 0
-tool_outcome tool.List area text after = (text ≡ listing_of area) × (after ≡ area)
-tool_outcome tool.Check area text after = IsCheck area text × (after ≡ area)
-tool_outcome tool.Relink area text after = tended command.Relink area (Ok text) after
-tool_outcome tool.Pack area text after = tended command.Pack area (Ok text) after
+-- what a tool prints at a moment of the area to which a base opens, and the area that it leaves; where the files are empty there is none
+abbrev pub tool_outcome : Tool → ℕ → Option AreaState → List ℕ → AreaState → Type 0
+tool_outcome tool.List moment (Some area) text after = (text ≡ listing_of area) × (after ≡ area)
+tool_outcome tool.Check moment (Some area) text after = IsCheck area text × (after ≡ area)
+tool_outcome tool.Make moment (Some area) text after = ⊥
+tool_outcome tool.Relink moment (Some area) text after = tended command.Relink area (Ok text) after
+tool_outcome tool.Pack moment (Some area) text after = tended command.Pack area (Ok text) after
+tool_outcome tool.Make moment None text after = (text ≡ []) × (after ≡ empty_area moment)
+tool_outcome _ moment None text after = ⊥

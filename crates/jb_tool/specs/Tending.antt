@@ -1,5 +1,5 @@
 -- What a tool that tends the area answers, and what it makes of the files of a base.
-use Rattle.std.specs.Prelude.{◌≡◌, ◌≢◌, ◌⊎◌, ℕ, List, [], ◌∷◌, ◌++◌, Result, Ok, Err, codes}
+use Rattle.std.specs.Prelude.{◌≡◌, ◌⊎◌, ℕ, List, [], ◌∷◌, ◌++◌, Result, Ok, Err, codes}
 use Rattle.std.specs.Option.{ForSome}
 use Rattle.jb_area_open.specs.Opening.{FaultRose, OpensAsAtStart, Refuses}
 use Rattle.jb_area_open.specs.declared.error.OpeningError.TheVariants.{BadJournal as bad_journal, Base}

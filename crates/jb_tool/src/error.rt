@@ -1,14 +1,15 @@
 //! Why a tool is refused.
 ghost use Rattle.std.specs.Prelude.{◌≡◌};
-ghost use Rattle.jb_image.specs.declared.error.OpenError.TheVariants.{OutOfMemory as no_memory};
+ghost use Rattle.jb_image.specs.declared.error.OpenError.TheVariants.{OutOfMemory as no_memory, StoreFault as store_fault};
 ghost use Rattle.jb_tool.specs.Changing.{of_opening};
 ghost use Rattle.jb_tool.specs.Recovered.{of_journal};
 ghost use Rattle.jb_tool.specs.declared.error.ToolError.TheVariants.{Open};
 
 use jb_area_open::OpeningError;
 use jb_base::OutOfMemory;
+use jb_disk::DiskFailed;
 use jb_image::OpenError;
-use jb_journal::JournalError;
+use jb_journal::{JournalError, Stopped};
 
 /// Why a tool is refused.
 #[derive(Clone, Copy, Debug, PartialEq, Eq)]
@@ -44,6 +45,22 @@ impl From<OpeningError> for ToolError {
             OpeningError::BadJournal { at } => ToolError::BadJournal { at },
             OpeningError::Base(error) => ToolError::Open(error),
         }
+    }
+}
+
+impl From<DiskFailed> for ToolError {
+    ghost from_gives = { λ _ refusal. refusal ≡ Open store_fault };
+
+    fn from(_: DiskFailed) -> ToolError {
+        ToolError::Open(OpenError::StoreFault)
+    }
+}
+
+impl From<Stopped> for ToolError {
+    ghost from_gives = { λ _ refusal. refusal ≡ Open store_fault };
+
+    fn from(_: Stopped) -> ToolError {
+        ToolError::Open(OpenError::StoreFault)
     }
 }
 

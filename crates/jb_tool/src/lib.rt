@@ -11,6 +11,7 @@ mod checking;
 mod counting;
 mod error;
 mod listing;
+mod making;
 mod reading;
 mod tending;
 #[cfg(test)]
@@ -20,5 +21,6 @@ mod tool;
 pub use checking::check;
 pub use error::ToolError;
 pub use listing::list;
+pub use making::make;
 pub use tending::{pack, relink};
 pub use tool::{Tool, run};

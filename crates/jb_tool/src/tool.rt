@@ -2,7 +2,7 @@
 ghost use Rattle.std.specs.Prelude.{◌≤◌};
 ghost use Rattle.jb_tool.specs.Answers.{AnswersTool, KeepsOpening};
 
-use crate::{ToolError, check, list, pack, relink};
+use crate::{ToolError, check, list, make, pack, relink};
 use jb_base::Bytes;
 use jb_disk::Disk;
 use std::alloc::Global;
@@ -14,6 +14,8 @@ pub enum Tool {
     List,
     /// Counts what the base holds, and says whether its links are right: [`check`].
     Check,
+    /// Makes an empty base: [`make`].
+    Make,
     /// Computes the reply links anew: [`relink`].
     Relink,
     /// Drops the killed messages and closes the gaps: [`pack`].
@@ -34,6 +36,7 @@ pub fn run<D: Disk>(
     match tool {
         Tool::List => list(alloc, disk),
         Tool::Check => check(alloc, disk),
+        Tool::Make => make(alloc, disk, moment),
         Tool::Relink => relink(alloc, disk),
         Tool::Pack => pack(alloc, disk),
     }

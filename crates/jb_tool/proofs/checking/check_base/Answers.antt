@@ -25,5 +25,5 @@ pub returns-clause-answer : goal.returns-clause-answer
 returns-clause-answer g c = λ was there.
     let loaded = c.in_ok-loaded.loaded in
     recovered_has (λ files. OpensTo MOST_SLOTS files loaded) (IsShown Checking c.in_ok-checked.field-0) was (g.D.Disk.device c.read_base.new.disk)
-    (λ files opens. record { area = state_of (files Jdt) loaded; stands = opens_stands files loaded opens; outcome = (c.in_ok-checked.ensures (files Jdt), refl) })
+    (λ files opens. record { area = state_of (files Jdt) loaded; stands = opens_stands files loaded opens; outcome = λ moment. (c.in_ok-checked.ensures (files Jdt), refl) })
     (c.in_ok-loaded.ensures.opened was there)

@@ -1,0 +1,4 @@
+mod BaseLemmas
+mod EndLemmas
+mod RunLemmas
+mod UnreadLemmas

@@ -1,0 +1,4 @@
+pub mod Base
+pub mod Runs
+pub mod Summary
+pub mod Workload

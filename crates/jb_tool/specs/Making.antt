@@ -1,0 +1,99 @@
+-- What `make` answers, and what it makes of the files of a base.
+use Rattle.std.specs.Prelude.{◌≡◌, ◌⊎◌, ℕ, List, [], ◌∷◌, Bool, true, false, None, Some, Ok, Err}
+use Rattle.std.specs.Option.{ForSome}
+use Rattle.jb_base.specs.Fault.{Rose}
+use Rattle.jb_disk.specs.Change.{Change, HasRoom}
+use Rattle.jb_disk.specs.Device.{Device}
+use Rattle.jb_disk.specs.Files.{Files}
+use Rattle.jb_disk.specs.Gate.{IsGateOpen}
+use Rattle.jb_disk.specs.Runs.{LeavesNow, LeavesOnly}
+use Rattle.jb_disk.specs.declared.file.FileId.TheVariants.{Jhr, Jdt, Jdx, Jlr}
+use Rattle.jb_disk.specs.declared.piece.Length.{Length}
+use Rattle.jb_disk.specs.declared.piece.Piece.TheVariants.{Bytes}
+use Rattle.jb_image.specs.declared.error.OpenError.{OpenError}
+use Rattle.jb_image.specs.declared.error.OpenError.TheVariants.{OutOfMemory as no_memory, StoreFault}
+use Rattle.jb_journal.specs.declared.error.JournalError.TheVariants.{BadRecord}
+use Rattle.jb_journal.specs.Recover.{IsGrowthSafe, IsRefusedOver, ReplaysAsAtStart}
+use Rattle.jb_record.specs.Fixed.{fixed_header_bytes, fixed_header_of}
+use Rattle.jb_record.specs.declared.fixed.TheConstants.{FIXED_HEADER_BYTES}
+use Rattle.jb_redo.specs.Reading.{HasRecord}
+use Rattle.jb_redo.specs.Replay.{Replays}
+use Rattle.jb_tool.specs.NewBase.{AreEmpty, AreNew, HoldSomething, empty_area, new_header}
+use Rattle.jb_tool.specs.Outcome.{tool_outcome}
+use Rattle.jb_tool.specs.Recovered.{IsRecoveredTo}
+use Rattle.jb_tool.specs.Tending.{Answer}
+use Rattle.jb_tool.specs.declared.error.ToolError.{ToolError}
+use Rattle.jb_tool.specs.declared.error.ToolError.TheVariants.{BadJournal, Open, AlreadyThere, TextFull}
+use Rattle.jb_tool.specs.declared.tool.Tool.TheVariants as tool
+
+-- what the files replay to has this property
+pub record ReplayInto (property : Files → Type 0) (files : Files) : Type 0 where
+  pub after : Files
+  pub replays : Replays files after
+  pub has : property after
+
+-- the disk has the new base now, behind a closed gate and with nothing unsynced
+pub record HasNewBase (moment : ℕ) (after : Device) : Type 0 where
+  pub files : Files
+  pub told : after.contents ≡ Some files
+  pub new : AreNew moment files
+  pub shut : IsGateOpen files → ⊥
+  pub synced : LeavesNow (λ left. left ≡ files) after.moments
+
+-- the base was made: behind an open gate stood a record; where that writes each byte past an old end, the files replayed to empty ones
+pub record IsMade (moment : ℕ) (text : List ℕ) (was : Files) (after : Device) : Type 0 where
+  pub outcome : tool_outcome tool.Make moment None text (empty_area moment)
+  pub record_found : IsGateOpen was → HasRecord was
+  pub replayed : IsGrowthSafe was → ReplayInto AreEmpty was
+  pub now : HasNewBase moment after
+
+-- no base is made: there was no memory, and nothing was done; or the disk counted a fault
+abbrev pub IsNotMade : Device → Device → OpenError → Type 0
+IsNotMade before after error = ((error ≡ no_memory) × (after ≡ before)) ⊎ ((error ≡ StoreFault) × Rose before.faults after.faults)
+
+-- why: the journal's record stops here, and nothing was written; or one of the recovered files is not empty, and nothing more was written
+abbrev pub RefusesMaking : Device → Device → ToolError → Type 0
+RefusesMaking before after (BadJournal at) = ForSome before.contents (IsRefusedOver (BadRecord at) after)
+RefusesMaking before after AlreadyThere = ForSome before.contents (λ was. IsRecoveredTo HoldSomething was after)
+RefusesMaking before after (Open error) = IsNotMade before after error
+RefusesMaking before after (TextFull length) = ⊥
+
+-- the answer of `make`
+abbrev pub Makes : ℕ → Device → Device → Answer → Type 0
+Makes moment before after (Ok text) = ForSome before.contents (λ was. IsMade moment text was after)
+Makes moment before after (Err error) = RefusesMaking before after error
+
+-- files that replay to empty ones, or to those of the new base
+abbrev pub AreNoneOrNew : ℕ → Files → Type 0
+AreNoneOrNew moment files = ReplayInto AreEmpty files ⊎ ReplayInto (AreNew moment) files
+
+-- a crash at any moment leaves files that replay to exactly what some replay to that it might have left at the start; or the base replayed to empty files, and these replay to empty ones or to those of the new base
+abbrev pub KeepsOrMakes : ℕ → Device → Device → Type 0
+KeepsOrMakes moment before after = ForSome before.contents (λ was. IsGrowthSafe was
+    → LeavesOnly before after (λ files. ReplaysAsAtStart before.moments files ⊎ ReplayInto AreEmpty was × AreNoneOrNew moment files))
+
+-- an empty change, with room for the one that makes a base
+pub record IsRoom (change : Change) : Type 0 where
+  pub no_lengths : change.lengths ≡ []
+  pub no_pieces : change.pieces ≡ []
+  pub room : HasRoom 4 1 FIXED_HEADER_BYTES change
+
+-- a length for each file of a new base, so that each is there then
+abbrev pub base_lengths : List Length
+base_lengths = record { file = Jhr; len = FIXED_HEADER_BYTES } ∷ record { file = Jdt; len = 0 } ∷ record { file = Jdx; len = 0 } ∷ record { file = Jlr; len = 0 } ∷ []
+
+-- the change that makes a base of empty files
+pub record BringsBase (moment : ℕ) (change : Change) : Type 0 where
+  pub lengths : change.lengths ≡ base_lengths
+  pub pieces : change.pieces ≡ Bytes Jhr 0 (fixed_header_bytes (new_header moment)) ∷ []
+  pub back : fixed_header_of (fixed_header_bytes (new_header moment)) ≡ new_header moment
+
+-- whether the four files are empty
+abbrev pub IsFoundEmpty : Bool → Files → Type 0
+IsFoundEmpty true files = AreEmpty files
+IsFoundEmpty false files = HoldSomething files
+
+-- behind a closed gate four empty files
+pub record AreShutAndEmpty (files : Files) : Type 0 where
+  pub empty : AreEmpty files
+  pub shut : IsGateOpen files → ⊥
