@@ -8,8 +8,10 @@ use Rattle.jb_host.specs.Desk.{Desk, Disks, GivesDisk, Place, TakesBack, handed_
 use Rattle.jb_tool.specs.Answers.{AnswersTool, KeepsOpening}
 use Rattle.jb_tool.specs.declared.error.ToolError.{ToolError}
 use Rattle.jb_tool.specs.declared.tool.Tool.{Tool}
-use Rattle.board.specs.Run.{Answer, AnswersAs, UsesDisk, answer_of}
-use Rattle.board.specs.declared.fault.Fault.TheVariants.{Words, HostFault}
+use Rattle.board.specs.Run.{Answer, AnswersAs, AnswersWords, UsesDisk, answer_of}
+use Rattle.board.specs.Words.{Words, run_load, show_help, use_tool}
+use Rattle.jb_host.specs.Wire.{Wire}
+use Rattle.board.specs.declared.fault.Fault.TheVariants.{Words as NoWords, HostFault}
 
 -- the place that was changed
 here : (dir name : List ℕ) (place : Place) (disks : Disks) → with_place dir name place disks dir name ≡ place
@@ -56,7 +58,7 @@ no_host_fault (Ok text) is = cc
 no_host_fault (Err error) is = cc
 
 -- nor one of words
-pub no_words : (answer : Result (List ℕ) ToolError) → answer_of answer ≡ Err Words → ⊥
+pub no_words : (answer : Result (List ℕ) ToolError) → answer_of answer ≡ Err NoWords → ⊥
 no_words (Ok text) is = cc
 no_words (Err error) is = cc
 
@@ -64,3 +66,11 @@ no_words (Err error) is = cc
 pub still_there : {A B : Type 0} (f : A → B) (o : Option A) → IsSome o → IsSome (option_map f o)
 still_there f None there = there
 still_there f (Some x) there = there
+
+-- what is answered does not hang on the console that the host has back
+pub other_console : (words : Option Words) (moment : ℕ) (old mid : Desk) (console : Option Wire) (answer : Answer) → AnswersWords words moment old mid answer
+    → AnswersWords words moment old (record mid { console = console }) answer
+other_console None moment old mid console answer is = (is.0, record { calls = is.1.calls; disks = is.1.disks; faults = is.1.faults })
+other_console (Some (use_tool tool dir name)) moment old mid console answer is = record { calls = is.calls; disk = is.disk; cause = is.cause; known = is.known; later = is.later }
+other_console (Some (run_load seed count)) moment old mid console answer is = (is.0, record { calls = is.1.calls; disks = is.1.disks; faults = is.1.faults })
+other_console (Some show_help) moment old mid console answer is = (is.0, record { calls = is.1.calls; disks = is.1.disks; faults = is.1.faults })

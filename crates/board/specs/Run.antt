@@ -5,13 +5,15 @@ use Rattle.jb_base.specs.Fault.{Rose}
 use Rattle.jb_disk.specs.Device.{Device}
 use Rattle.jb_host.specs.Desk.{Desk, Disks, has_disk, with_place, asked_disk, and_call}
 use Rattle.jb_host.specs.Wire.{Wire, Begins, Sends}
+use Rattle.jb_load.specs.Summary.{summary_of}
+use Rattle.jb_load.specs.Workload.{load_run}
 use Rattle.jb_tool.specs.Answers.{AnswersTool, KeepsOpening}
 use Rattle.jb_tool.specs.declared.error.ToolError.{ToolError}
 use Rattle.jb_tool.specs.declared.tool.Tool.{Tool as ToolName}
 use Rattle.board.specs.declared.fault.Fault.{Fault}
 use Rattle.board.specs.declared.fault.Fault.TheVariants.{Words as NoWords, Tool, HostFault, OutOfMemory}
 use Rattle.board.specs.Faults.{line_of, status_of}
-use Rattle.board.specs.Words.{Words, use_tool, show_help, command_line_of, help_text}
+use Rattle.board.specs.Words.{Words, use_tool, run_load, show_help, command_line_of, help_text}
 
 -- what a run answers: the text to print, or why it is refused
 abbrev pub Answer : Type 0
@@ -59,11 +61,16 @@ pub record AsksNothing (old new : Desk) : Type 0 where
   pub disks : new.disks ≡ old.disks
   pub faults : new.faults ≡ old.faults
 
+-- this text is answered, or that there was no memory
+abbrev pub Says : List ℕ → Answer → Type 0
+Says text answer = (answer ≡ Ok text) ⊎ (answer ≡ Err OutOfMemory)
+
 -- the run of these words, if they are a command line
 abbrev pub AnswersWords : Option Words → ℕ → Desk → Desk → Answer → Type 0
 AnswersWords None moment old new answer = (answer ≡ Err NoWords) × AsksNothing old new
 AnswersWords (Some (use_tool tool dir name)) moment old new answer = UsesTool tool moment dir name old new answer
-AnswersWords (Some show_help) moment old new answer = ((answer ≡ Ok help_text) ⊎ (answer ≡ Err OutOfMemory)) × AsksNothing old new
+AnswersWords (Some (run_load seed count)) moment old new answer = Says (summary_of (load_run seed count)) answer × AsksNothing old new
+AnswersWords (Some show_help) moment old new answer = Says help_text answer × AsksNothing old new
 
 -- a write of the console failed, and only a beginning of these bytes was sent
 pub record Stops (old new : Wire) (bytes : List ℕ) : Type 0 where

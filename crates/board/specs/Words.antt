@@ -1,18 +1,30 @@
 -- The words of a command line.
-use Rattle.std.specs.Prelude.{ℕ, bytes_eq, ◌||◌, ◌==◌, List, [], ◌∷◌, ◌++◌, length, Option, Some, None, codes, if◌then◌else◌}
+use Rattle.std.specs.Prelude.{ℕ, ◌≤◌, bytes_eq, nat_le, ◌&&◌, ◌||◌, ◌==◌, Bool, List, [], ◌∷◌, ◌++◌, length, Option, Some, None, codes, if◌then◌else◌}
+use Rattle.std.specs.Char.{is_ascii_digit}
+use Rattle.std.specs.List.{list_all}
+use Rattle.std.specs.Str.Parse.{digits_value}
 use Rattle.jb_tool.specs.declared.tool.Tool.{Tool}
-use Rattle.jb_tool.specs.declared.tool.Tool.TheVariants.{List as Listing, Check, Pack, Relink}
+use Rattle.jb_tool.specs.declared.tool.Tool.TheVariants.{List as Listing, Check, Make, Pack, Relink}
+use Rattle.board.specs.declared.command.TheConstants.{MOST_SEED, MOST_STEPS}
 use Rattle.board.specs.declared.command.CommandLine.{CommandLine}
-use Rattle.board.specs.declared.command.CommandLine.TheVariants.{Use, Help}
+use Rattle.board.specs.declared.command.CommandLine.TheVariants.{Use, Load, Help}
 
--- a command line: a tool with the folder and the name of a base, or a call for help
+-- a command line: a tool with the folder and the name of a base, the workload with a seed and a count of steps, or a call for help
 pub data Words : Type 0 where
   use_tool : Tool → List ℕ → List ℕ → Words
+  run_load : ℕ → ℕ → Words
   show_help : Words
+
+-- a workload has at most the steps that it may have
+abbrev pub HasFewSteps : Words → Type 0
+HasFewSteps (use_tool tool dir name) = Unit {0}
+HasFewSteps (run_load seed count) = count ≤ MOST_STEPS
+HasFewSteps show_help = Unit {0}
 
 -- the command line that the program made of its words
 abbrev pub words_of : CommandLine → Words
 words_of (Use tool dir name) = use_tool tool dir.now name.now
+words_of (Load seed count) = run_load seed count
 words_of Help = show_help
 
 -- the tool that a word names
@@ -20,6 +32,7 @@ abbrev pub tool_named : List ℕ → Option Tool
 tool_named verb =
     if bytes_eq verb (codes "list") then Some Listing
     else if bytes_eq verb (codes "check") then Some Check
+    else if bytes_eq verb (codes "make") then Some Make
     else if bytes_eq verb (codes "pack") then Some Pack
     else if bytes_eq verb (codes "relink") then Some Relink
     else None
@@ -29,14 +42,28 @@ abbrev pub tool_line : Option Tool → List ℕ → List ℕ → Option Words
 tool_line None dir name = None
 tool_line (Some tool) dir name = if (length dir == 0) || (length name == 0) then None else Some (use_tool tool dir name)
 
--- three words of which the first names a tool, or `help` alone
+-- one to ten digits
+abbrev pub are_digits : List ℕ → Bool
+are_digits word = nat_le 1 (length word) && (nat_le (length word) 10 && list_all is_ascii_digit word)
+
+-- the number that a word writes, at most this
+abbrev pub number_up_to : ℕ → List ℕ → Option ℕ
+number_up_to most word = if are_digits word && nat_le (digits_value 10 word) most then Some (digits_value 10 word) else None
+
+-- a seed and a count of steps
+abbrev pub load_line : Option ℕ → Option ℕ → Option Words
+load_line (Some seed) (Some count) = Some (run_load seed count)
+load_line _ _ = None
+
+-- three words of which the first is `load` or names a tool, or `help` alone
 abbrev pub command_line_of : List (List ℕ) → Option Words
 command_line_of (verb ∷ []) = if bytes_eq verb (codes "help") then Some show_help else None
-command_line_of (verb ∷ dir ∷ name ∷ []) = tool_line (tool_named verb) dir name
+command_line_of (verb ∷ first ∷ second ∷ []) =
+    if bytes_eq verb (codes "load") then load_line (number_up_to MOST_SEED first) (number_up_to MOST_STEPS second) else tool_line (tool_named verb) first second
 command_line_of _ = None
 
 -- what `help` prints: the forms of words, each with the program's name before it
 abbrev pub help_text : List ℕ
 help_text =
-    codes "board list DIR NAME" ++ 10 ∷ codes "board check DIR NAME" ++ 10 ∷ codes "board pack DIR NAME" ++ 10 ∷ codes "board relink DIR NAME" ++ 10
-    ∷ codes "board help" ++ 10 ∷ []
+    codes "board list DIR NAME" ++ 10 ∷ codes "board check DIR NAME" ++ 10 ∷ codes "board make DIR NAME" ++ 10 ∷ codes "board pack DIR NAME" ++ 10
+    ∷ codes "board relink DIR NAME" ++ 10 ∷ codes "board load SEED COUNT" ++ 10 ∷ codes "board help" ++ 10 ∷ []

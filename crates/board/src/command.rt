@@ -1,9 +1,15 @@
 //! The words of the command line.
 ghost use Rattle.std.specs.Prelude.{◌≡◌, IfNone, IfSome, None, Some, map};
 ghost use Rattle.std.specs.String.{string_bytes};
-ghost use Rattle.board.specs.Words.{command_line_of, tool_line, tool_named, words_of};
+ghost use Rattle.board.specs.Words.{HasFewSteps, command_line_of, load_line, number_up_to, tool_line, tool_named, words_of};
 
+use crate::number::number_up_to;
 use jb_tool::Tool;
+
+/// The greatest seed of a workload.
+pub const MOST_SEED: u32 = 4_294_967_295;
+/// The greatest count of its steps.
+pub const MOST_STEPS: u32 = 50_000;
 
 /// What the words of a command line ask for.
 #[derive(Clone, Copy, Debug)]
@@ -13,6 +19,11 @@ pub enum CommandLine<'a> {
         tool: Tool,
         dir: &'a str,
         name: &'a str,
+    },
+    /// `load SEED COUNT`: the workload of a seed, in at most [`MOST_STEPS`] steps.
+    Load {
+        seed: u32,
+        count: u32,
     },
     /// `help`.
     Help,
@@ -28,6 +39,9 @@ fn tool_named(verb: &str) -> Option<Tool>
     if verb == "check" {
         return Some(Tool::Check);
     }
+    if verb == "make" {
+        return Some(Tool::Make);
+    }
     if verb == "pack" {
         return Some(Tool::Pack);
     }
@@ -41,6 +55,7 @@ fn tool_named(verb: &str) -> Option<Tool>
 fn tool_line<'a>(verb: &str, dir: &'a str, name: &'a str) -> Option<CommandLine<'a>>
     ensures found { IfSome result (λ line. tool_line (tool_named verb.now) dir.now name.now ≡ Some (words_of line)) }
     ensures none { IfNone result (tool_line (tool_named verb.now) dir.now name.now ≡ None) }
+    ensures few { IfSome result (λ line. HasFewSteps (words_of line)) }
 {
     let tool = tool_named(verb)?;
     if dir.is_empty() || name.is_empty() {
@@ -49,12 +64,25 @@ fn tool_line<'a>(verb: &str, dir: &'a str, name: &'a str) -> Option<CommandLine<
     Some(CommandLine::Use { tool, dir, name })
 }
 
+/// The command line of a workload.
+fn load_line<'a>(seed: &str, count: &str) -> Option<CommandLine<'a>>
+    ensures found { IfSome result (λ line. load_line (number_up_to MOST_SEED seed.now) (number_up_to MOST_STEPS count.now) ≡ Some (words_of line)) }
+    ensures none { IfNone result (load_line (number_up_to MOST_SEED seed.now) (number_up_to MOST_STEPS count.now) ≡ None) }
+    ensures few { IfSome result (λ line. HasFewSteps (words_of line)) }
+{
+    let seed = number_up_to(MOST_SEED, seed)?;
+    let count = number_up_to(MOST_STEPS, count)?;
+    Some(CommandLine::Load { seed, count })
+}
+
 /// The command line that these words are, if they are one.
 pub fn command<'a>(words: &'a [String]) -> Option<CommandLine<'a>>
     ensures found { IfSome result (λ line. command_line_of (map string_bytes words.now) ≡ Some (words_of line)) }
     ensures none { IfNone result (command_line_of (map string_bytes words.now) ≡ None) }
+    ensures few { IfSome result (λ line. HasFewSteps (words_of line)) }
 {
     match words {
+        [verb, seed, count] if verb.as_str() == "load" => load_line(seed.as_str(), count.as_str()),
         [verb, dir, name] => tool_line(verb.as_str(), dir.as_str(), name.as_str()),
         [verb] if verb.as_str() == "help" => Some(CommandLine::Help),
         _ => None,

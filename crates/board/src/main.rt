@@ -8,8 +8,11 @@ ghost use Rattle.std.specs.Prelude.{IsSome};
 
 mod command;
 mod fault;
+mod number;
 #[cfg(test)]
 mod real_files;
+#[cfg(test)]
+mod real_tools;
 #[cfg(test)]
 mod tests;
 mod top;

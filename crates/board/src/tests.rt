@@ -2,6 +2,8 @@
 ghost use Rattle.std.specs.Prelude.{IfOk, IsSome};
 ghost use Rattle.jb_host.specs.Shelves.{memory_desk};
 
+mod tools;
+
 use crate::top::board;
 use jb_base::Bytes;
 use jb_disk::{FileId, MemDisk};
@@ -354,15 +356,19 @@ fn a_failing_disk_or_console_ends_the_run_at_each_call(rt: HostRuntime) -> Resul
 }
 
 #[test]
-fn helps_checks_packs_and_relinks(rt: HostRuntime) -> Result<(), Fail> {
+fn helps_checks_packs_relinks_and_loads(rt: HostRuntime) -> Result<(), Fail> {
     let alloc = rt.alloc();
-    let cases: [(&str, &[u8]); 4] = [
+    let cases: [(&str, &[u8]); 5] = [
         (
             "help",
-            b"board list DIR NAME\nboard check DIR NAME\nboard pack DIR NAME\nboard relink DIR NAME\nboard help\n",
+            b"board list DIR NAME\nboard check DIR NAME\nboard make DIR NAME\nboard pack DIR NAME\nboard relink DIR NAME\nboard load SEED COUNT\nboard help\n",
         ),
         ("pack a general", b"Packed: base 1, live 1, dropped 0.\n"),
         ("relink a general", b"Relinked: 0 changed.\n"),
+        (
+            "load 4294967295 0000000030",
+            b"posts 27\nreads 3\nkills 3\nlive 24\nlinked 9\nunread 12\nbase 1\nnext 28\nJHR 4462\nJDT 1710\nJDX 216\n",
+        ),
         (
             "check a general",
             b"base 1\nnext 2\nlive 1\nkilled 0\nempty 0\nmsgids 1\nlinked yes\n",
@@ -395,6 +401,14 @@ fn refuses_words_that_are_no_command_line(rt: HostRuntime) -> Result<(), Fail> {
         "check a",
         "pack a",
         "relinks a general",
+        "load 7",
+        "load 4294967296 1",
+        "load 7 50001",
+        "load 00000000007 1",
+        "load +7 1",
+        "load 7 -1",
+        "load 7x 1",
+        "load  1",
     ] {
         let one = disk(alloc, headers(alloc, MESSAGE)?, TEXT, INDEX, &[])?;
         check(

@@ -1,19 +1,21 @@
 //! The program over any host.
-ghost use Rattle.std.specs.Prelude.{◌≡◌, ◌≤◌, IsSome, map, Some};
+ghost use Rattle.std.specs.Prelude.{◌≡◌, ◌≤◌, Err, IfOk, IsSome, Ok, OnErr, Some, map};
 ghost use Rattle.std.specs.String.{string_bytes};
 ghost use Rattle.board.specs.Run.{AnswersWords, HasRun, IsPrinted, UsesTool, answer_of};
 ghost use Rattle.board.specs.Words.{command_line_of};
+ghost use Rattle.board.specs.declared.fault.Fault.TheVariants.{OutOfMemory as no_memory};
 
 use crate::command::{CommandLine, command};
 use crate::fault::Fault;
-use jb_base::Bytes;
+use jb_base::{Bytes, OutOfMemory};
 use jb_host::{Host, HostError, Link, send};
+use jb_load::load_in_memory;
 use jb_tool::{Tool, ToolError};
 use std::alloc::Global;
 
 /// The forms of words, each with the program's name before it.
 const HELP: &[u8] =
-    b"board list DIR NAME\nboard check DIR NAME\nboard pack DIR NAME\nboard relink DIR NAME\nboard help\n";
+    b"board list DIR NAME\nboard check DIR NAME\nboard make DIR NAME\nboard pack DIR NAME\nboard relink DIR NAME\nboard load SEED COUNT\nboard help\n";
 
 /// What a tool answered, as what the run answers.
 fn answered(answer: Result<Bytes, ToolError>) -> Result<Bytes, Fault>
@@ -22,6 +24,17 @@ fn answered(answer: Result<Bytes, ToolError>) -> Result<Bytes, Fault>
     match answer {
         Ok(text) => Ok(text),
         Err(error) => Err(Fault::Tool(error)),
+    }
+}
+
+/// What a text without any other refusal is answered as.
+fn told(text: Result<Bytes, OutOfMemory>) -> Result<Bytes, Fault>
+    ensures told { IfOk text (λ said. result ≡ Ok said) }
+    ensures none { OnErr text (result ≡ Err no_memory) }
+{
+    match text {
+        Ok(text) => Ok(text),
+        Err(_) => Err(Fault::OutOfMemory),
     }
 }
 
@@ -61,10 +74,8 @@ fn answer<H: Host>(
         Some(CommandLine::Use { tool, dir, name }) => use_tool(
             alloc, tool, moment, dir, name, host,
         ),
-        Some(CommandLine::Help) => match Bytes::copy(alloc, HELP) {
-            Ok(text) => Ok(text),
-            Err(_) => Err(Fault::OutOfMemory),
-        },
+        Some(CommandLine::Load { seed, count }) => told(load_in_memory(alloc, seed, count)),
+        Some(CommandLine::Help) => told(Bytes::copy(alloc, HELP)),
         None => Err(Fault::Words),
     }
 }
