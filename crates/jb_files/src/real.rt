@@ -11,6 +11,8 @@ use std::{fs, io};
 pub(crate) struct RealFile {
     path: String,
     open: Open,
+    // The length that the last change gave it, or that was found by a write.
+    known_len: Option<u64>,
     has_failed_sync: bool,
 }
 
@@ -27,6 +29,7 @@ impl RealFile {
         RealFile {
             path,
             open: Open::Closed,
+            known_len: None,
             has_failed_sync: false,
         }
     }
@@ -63,18 +66,26 @@ impl RealFile {
         }
     }
 
-    /// Writes over what is there. A range that passes the end is an error, and nothing is written.
+    /// Writes over what is there. A range that passes the end is an error, and nothing is written. The system is asked for the
+    /// end where no earlier call of this disk has found or set it.
     pub(crate) fn write_at<R: Files<File = File>>(
         &mut self,
         rt: &R,
         at: u64,
         bytes: &[u8],
     ) -> io::Result<()> {
-        within(self.len(rt)?, at, bytes.len())?;
-        match self.writable(rt)? {
-            Some(file) => file.write_all_at(bytes, at),
-            None => Ok(()),
-        }
+        let known = self.known_len;
+        let Some(file) = self.writable(rt)? else {
+            return within(0, at, bytes.len());
+        };
+        let len = match known {
+            Some(len) => len,
+            None => file.metadata()?.len(),
+        };
+        within(len, at, bytes.len())?;
+        file.write_all_at(bytes, at)?;
+        self.known_len = Some(len);
+        Ok(())
     }
 
     /// Makes an empty file where none is there, and says whether it did.
@@ -93,10 +104,13 @@ impl RealFile {
 
     /// Sets the length of a file that is there.
     pub(crate) fn set_len<R: Files<File = File>>(&mut self, rt: &R, len: u64) -> io::Result<()> {
-        match self.writable(rt)? {
-            Some(file) => file.set_len(len),
-            None => Err(io::ErrorKind::NotFound.into()),
-        }
+        self.known_len = None;
+        let Some(file) = self.writable(rt)? else {
+            return Err(io::ErrorKind::NotFound.into());
+        };
+        file.set_len(len)?;
+        self.known_len = Some(len);
+        Ok(())
     }
 
     /// Sends what it holds to the device, and says whether it is there. The system may have dropped what a failed sync did
