@@ -1,0 +1,415 @@
+#!/usr/bin/env python3
+"""Tries the tools of the built program on a real base, and on copies of it in another order and state.
+
+usage: real_base.py PROGRAM
+
+The base in tests/peer was written by another program as it tossed a packet. The copies have their headers and texts in a drawn
+order with dead bytes between, killed messages, holes in the index, marks, and another base number. Each tool is used on each of
+them; what it prints and what the files then hold is compared with a reading of its own, which knows the tables of the JAM proposal
+("Header file", "Message header", "Index file", "Lastread file") and nothing of the program. Then the tools are used where a change waits
+in the journal, where nothing may be written, and on damaged files.
+"""
+import os
+import random
+import re
+import shutil
+import struct
+import subprocess
+import sys
+import tempfile
+import time
+
+PEER = os.path.join(os.path.dirname(os.path.abspath(__file__)), "peer")
+DELETED = 0x80000000
+EMPTY = 0xFFFFFFFF
+FILES = ("jhr", "jdt", "jdx", "jlr")
+FIELDS = ("reserved subfields read msgid_crc reply_crc reply_to reply_first reply_next written received processed number "
+          "attribute attribute2 offset length password cost").split()
+LINKS = ("reply_to", "reply_first", "reply_next")
+NOBODY = 65534
+ALREADY_THERE = b"fault 3.17 AlreadyThere\n"
+SHORT_HEADER = b"fault 3.1 ShortHeader\n"
+STORE_FAULT = b"fault 4 StoreFault\n"
+
+
+class Message:
+    """A header with its subfields and its text, and the UserCRC of its index record."""
+
+    def __init__(self, head, fields, text, owner):
+        self.head, self.fields, self.text, self.owner = head, fields, text, owner
+
+    def first(self, kind):
+        """The data of the first subfield of this kind, or None."""
+        at = 0
+        while at < len(self.fields):
+            found, _, size = struct.unpack_from("<HHI", self.fields, at)
+            if found == kind:
+                return self.fields[at + 8:at + 8 + size]
+            at += 8 + size
+        return None
+
+    def is_live(self):
+        return not self.head["attribute"] & DELETED
+
+
+class Base:
+    """What the four files of a base hold: a message or None for each number from the base number on."""
+
+    def __init__(self, fixed, slots, marks):
+        self.fixed, self.slots, self.marks = fixed, slots, marks
+
+    @property
+    def number(self):
+        return struct.unpack_from("<I", self.fixed, 20)[0]
+
+    def live(self):
+        return {self.number + n: m for n, m in enumerate(self.slots) if m is not None and m.is_live()}
+
+
+def read_files(folder, name):
+    found = {}
+    for extension in FILES + ("jnl",):
+        path = f"{folder}/{name}.{extension}"
+        found[extension] = open(path, "rb").read() if os.path.exists(path) else b""
+    return found
+
+
+def read(folder, name):
+    """The base in these files, and how many bytes of .JHR and .JDT no message has."""
+    files = read_files(folder, name)
+    headers, texts = files["jhr"], files["jdt"]
+    slots, header_bytes, text_bytes = [], 1024, 0
+    for owner, at in struct.iter_unpack("<II", files["jdx"]):
+        if at == EMPTY:
+            slots.append(None)
+            continue
+        assert headers[at:at + 6] == b"JAM\0\1\0", (name, len(slots))
+        values = struct.unpack_from("<HIIIIIIIIIIIIIIIII", headers, at + 6)
+        head = dict(zip(FIELDS, values))
+        fields = headers[at + 76:at + 76 + head["subfields"]]
+        text = texts[head["offset"]:head["offset"] + head["length"]]
+        slots.append(Message(head, fields, text, owner))
+        header_bytes += 76 + len(fields)
+        text_bytes += len(text)
+    base = Base(headers[:1024], slots, files["jlr"])
+    return base, len(headers) - header_bytes, len(texts) - text_bytes
+
+
+def write(folder, name, base, draw=None):
+    """Writes the base one message behind another, or in a drawn order with dead bytes between."""
+    headers, texts, index = [base.fixed], [], [struct.pack("<II", EMPTY, EMPTY)] * len(base.slots)
+    at, text_at = 1024, 0
+    places = [n for n, message in enumerate(base.slots) if message is not None]
+    if draw:
+        draw.shuffle(places)
+    for n in places:
+        message = base.slots[n]
+        if draw:
+            dead = draw.randbytes(draw.randrange(0, 90))
+            headers.append(dead)
+            at += len(dead)
+            dead = draw.randbytes(draw.randrange(0, 90))
+            texts.append(dead)
+            text_at += len(dead)
+        message.head["offset"], message.head["length"] = text_at, len(message.text)
+        values = [message.head[field] for field in FIELDS]
+        headers.append(b"JAM\0\1\0" + struct.pack("<HIIIIIIIIIIIIIIIII", *values) + message.fields)
+        texts.append(message.text)
+        index[n] = struct.pack("<II", message.owner, at)
+        at += 76 + len(message.fields)
+        text_at += len(message.text)
+    for extension, parts in zip(FILES, (headers, texts, index, [base.marks])):
+        with open(f"{folder}/{name}.{extension}", "wb") as file:
+            file.write(b"".join(parts))
+
+
+def links_of(base):
+    """The three link fields that each live message has in a linked base."""
+    live = base.live()
+    numbers = sorted(live)
+    parents = {}
+    for n in numbers:
+        wanted = live[n].first(5)
+        if wanted is None:
+            kept = live[n].head["reply_to"]
+            parents[n] = kept if kept in live and kept < n else 0
+        else:
+            parents[n] = next((m for m in numbers if m < n and live[m].first(4) == wanted), 0)
+    firsts = {n: next((m for m in numbers if parents[m] == n), 0) for n in numbers}
+    nexts = {n: next((m for m in numbers if m > n and parents[m] == parents[n]), 0) if parents[n] else 0 for n in numbers}
+    return {n: (parents[n], firsts[n], nexts[n]) for n in numbers}
+
+
+def held_links(base):
+    return {n: tuple(message.head[link] for link in LINKS) for n, message in base.live().items()}
+
+
+def has_id(message):
+    """Whether the text of the first MSGID is an address, a space and eight hexadecimal digits (FTS-0009)."""
+    text = message.first(4)
+    return text is not None and re.fullmatch(rb'([^ "]+|"([^"]|"")+") [0-9A-Fa-f]{8}', text) is not None
+
+
+def shown(text):
+    return bytes(63 if byte < 32 or byte == 127 else byte for byte in text or b"")
+
+
+def listing(base):
+    return b"".join(b"%8d  %s > %s  %s\n" % (n, shown(m.first(2)), shown(m.first(3)), shown(m.first(6)))
+                    for n, m in sorted(base.live().items()))
+
+
+def figures(base):
+    live, slots = base.live(), base.slots
+    linked = b"yes" if held_links(base) == links_of(base) else b"no"
+    return (b"base %d\nnext %d\nlive %d\nkilled %d\nempty %d\nmsgids %d\nlinked %s\n"
+            % (base.number, base.number + len(slots), len(live), sum(m is not None for m in slots) - len(live),
+               slots.count(None), sum(has_id(m) for m in live.values()), linked))
+
+
+class Trial:
+    """Uses of the program in one folder, each with what it must print and its status; tells what was otherwise."""
+
+    def __init__(self, program, folder):
+        self.program, self.folder, self.wrong, self.tried = program, folder, 0, 0
+
+    def holds(self, what, is_so):
+        self.tried += 1
+        if not is_so:
+            self.wrong += 1
+            print(f"wrong: {what}")
+
+    def uses(self, word, name, text, status=0, **run):
+        done = subprocess.run([self.program, word, self.folder, name], stdin=subprocess.DEVNULL, capture_output=True,
+                              check=False, **run)
+        self.holds(f"{word} {name}: status {done.returncode} and {done.stdout[:200]!r}, where {status} and {text[:200]!r} are wanted",
+                   (done.returncode, done.stdout) == (status, text))
+
+
+def same_but_links(old, new, kept_numbers):
+    """Whether the messages that were live are there as they were, but for their links, their places, and the numbers in their headers
+    where these are not kept."""
+    free = set(LINKS) | {"offset"} | (set() if kept_numbers else {"number"})
+    was, now = old.live(), new.live()
+    return was.keys() == now.keys() and all(
+        (was[n].fields, was[n].text, was[n].owner) == (now[n].fields, now[n].text, now[n].owner)
+        and all(was[n].head[field] == now[n].head[field] for field in FIELDS if field not in free) for n in was)
+
+
+def count_grew(old, new, grows):
+    """Whether the counter of changes grew by one, or stayed, and the number of live messages stands where it grew."""
+    was, now = struct.unpack_from("<II", old.fixed, 8), struct.unpack_from("<II", new.fixed, 8)
+    rest = old.fixed[:8] + old.fixed[16:20] + old.fixed[24:] == new.fixed[:8] + new.fixed[16:20] + new.fixed[24:]
+    return rest and (now == ((was[0] + 1) % 2**32, len(new.live())) if grows else now == was)
+
+
+def try_tools(trial, name):
+    """Uses each tool that there is on a base that is whole."""
+    base, _, _ = read(trial.folder, name)
+    before = read_files(trial.folder, name)
+    trial.uses("list", name, listing(base))
+    trial.uses("check", name, figures(base))
+    trial.holds(f"{name}: list and check write nothing", read_files(trial.folder, name) == before)
+
+    changed = sum(held_links(base)[n] != links for n, links in links_of(base).items())
+    trial.uses("relink", name, b"Relinked: %d changed.\n" % changed)
+    linked, _, _ = read(trial.folder, name)
+    after = read_files(trial.folder, name)
+    trial.holds(f"{name}: relink keeps all but the links", same_but_links(base, linked, True)
+                and all(before[e] == after[e] for e in ("jdt", "jdx", "jlr")) and len(before["jhr"]) == len(after["jhr"]))
+    trial.holds(f"{name}: relink links", held_links(linked) == links_of(base) == links_of(linked))
+    trial.holds(f"{name}: relink counts a change", count_grew(base, linked, changed > 0))
+    trial.uses("relink", name, b"Relinked: 0 changed.\n")
+    trial.uses("list", name, listing(base))
+
+    live = base.live()
+    killed = sum(m is not None for m in base.slots) - len(live)
+    next_number = base.number + len(base.slots)
+    first = min(live, default=next_number)
+    trial.uses("pack", name, b"Packed: base %d, live %d, dropped %d.\n" % (first, len(live), killed))
+    packed, header_gaps, text_gaps = read(trial.folder, name)
+    after = read_files(trial.folder, name)
+    trial.holds(f"{name}: pack keeps each message", same_but_links(base, packed, False))
+    trial.holds(f"{name}: pack writes the numbers", all(m.head["number"] == n for n, m in packed.live().items()))
+    trial.holds(f"{name}: pack leaves no gap", (header_gaps, text_gaps) == (0, 0))
+    places = [at for _, at in struct.iter_unpack("<II", after["jdx"]) if at != EMPTY]
+    offsets = [m.head["offset"] for _, m in sorted(packed.live().items())]
+    trial.holds(f"{name}: pack keeps the order", places == sorted(places) and offsets == sorted(offsets))
+    trial.holds(f"{name}: pack leaves no killed message", all(m is None or m.is_live() for m in packed.slots))
+    trial.holds(f"{name}: pack keeps base, next number and marks", packed.number == first
+                and packed.number + len(packed.slots) == next_number and after["jlr"] == before["jlr"])
+    trial.holds(f"{name}: pack links", held_links(packed) == links_of(base))
+    trial.holds(f"{name}: pack counts a change", count_grew(linked, packed, True))
+    trial.uses("list", name, listing(base))
+    trial.uses("check", name, figures(packed))
+
+
+def copy(trial, name):
+    for extension in FILES:
+        shutil.copyfile(f"{PEER}/PLAIN.{extension}", f"{trial.folder}/{name}.{extension}")
+
+
+def drawn_base(seed, draw):
+    """The real base with killed messages, holes, marks and another base number."""
+    base, _, _ = read(PEER, "PLAIN")
+    shift = draw.choice((0, 0, 1, 40_000))
+    for n, message in enumerate(base.slots):
+        message.head["number"] += shift
+        for link in LINKS:
+            message.head[link] = draw.choice((0, message.head[link], draw.randrange(0, 2**32), shift + draw.randrange(1, 61)))
+        if draw.random() < (0.9 if seed % 4 == 0 else 0.3):
+            message.head["attribute"] |= DELETED
+        message.head["read"] = draw.randrange(0, 9)
+        if draw.random() < 0.1:
+            base.slots[n] = None
+    base.slots += [None] * draw.randrange(0, 3)
+    base.marks = draw.randbytes(16 * draw.randrange(0, 4))
+    base.fixed = base.fixed[:8] + struct.pack("<II", draw.choice((0, EMPTY)), draw.randrange(0, 2**32)) + base.fixed[16:20] \
+        + struct.pack("<I", 1 + shift) + base.fixed[24:]
+    return base
+
+
+def record_of(pieces):
+    """A journal whose gate is open, with a record of these pieces: the file's number, the place and the bytes of each."""
+    record = b"JBJ1" + struct.pack("<II", 0, len(pieces))
+    for file, at, data in pieces:
+        record += struct.pack("<III", file, at, len(data)) + data
+    return b"\1" + bytes(15) + record + b"JBJE"
+
+
+def try_journal(trial):
+    """A change that waits in the journal is done first, and a journal that holds none is refused."""
+    base, _, _ = read(PEER, "PLAIN")
+    at = struct.unpack_from("<II", read_files(PEER, "PLAIN")["jdx"], 8 * 9)[1]
+    killed = struct.pack("<I", base.slots[9].head["attribute"] | DELETED)
+    for word in ("list", "check", "relink", "pack", "make"):
+        name = f"waiting_{word}"
+        copy(trial, name)
+        with open(f"{trial.folder}/{name}.jnl", "wb") as file:
+            file.write(record_of([(0, at + 52, killed)]))
+        base, _, _ = read(PEER, "PLAIN")
+        base.slots[9].head["attribute"] |= DELETED
+        changed = sum(held_links(base)[n] != links for n, links in links_of(base).items())
+        trial.uses(word, name, {"list": listing(base), "check": figures(base), "relink": b"Relinked: %d changed.\n" % changed,
+                                "pack": b"Packed: base 1, live 59, dropped 1.\n", "make": ALREADY_THERE}[word],
+                   3 if word == "make" else 0)
+        trial.holds(f"{name}: the gate is closed", read_files(trial.folder, name)["jnl"][0] == 0)
+        trial.uses("list", name, listing(base))
+        name = f"refused_{word}"
+        copy(trial, name)
+        with open(f"{trial.folder}/{name}.jnl", "wb") as file:
+            file.write(record_of([(0, at + 52, killed)])[:-5])
+        before = read_files(trial.folder, name)
+        place = 16 + 12
+        trial.uses(word, name, b"fault 3.14 BadJournal %d\n" % place, 3)
+        trial.holds(f"{name}: the files are as they were", read_files(trial.folder, name) == before)
+
+
+def is_as_before(trial, before):
+    return [(name, open(f"{trial.folder}/{name}", "rb").read()) for name in sorted(os.listdir(trial.folder))] == before
+
+
+def try_kept(trial):
+    """Where nothing may be written or read, what is asked is refused by its name, and all is left as it is."""
+    copy(trial, "kept")
+    copy(trial, "shut")
+    base, _, _ = read(PEER, "PLAIN")
+    before = [(name, open(f"{trial.folder}/{name}", "rb").read()) for name in sorted(os.listdir(trial.folder))]
+    os.chmod(f"{trial.folder}/shut.jhr", 0)
+    os.chmod(trial.folder, 0o555)
+    by_another = {"user": NOBODY, "group": NOBODY, "extra_groups": []} if os.geteuid() == 0 else {}
+    trial.uses("list", "kept", listing(base), **by_another)
+    trial.uses("check", "kept", figures(base), **by_another)
+    trial.uses("make", "kept", ALREADY_THERE, 3, **by_another)
+    for word in ("relink", "pack"):
+        trial.uses(word, "kept", STORE_FAULT, 4, **by_another)
+    for word in ("list", "check", "relink", "pack"):
+        trial.uses(word, "nothing", SHORT_HEADER, 3, **by_another)
+    trial.uses("make", "nothing", STORE_FAULT, 4, **by_another)
+    for word in ("list", "check", "relink", "pack", "make"):
+        trial.uses(word, "shut", STORE_FAULT, 4, **by_another)
+    os.chmod(trial.folder, 0o755)
+    os.chmod(f"{trial.folder}/shut.jhr", 0o644)
+    trial.holds("what may not be written is as it was", is_as_before(trial, before))
+
+
+def try_made(trial):
+    """A base that is made is empty and whole, and is not made over another."""
+    since = int(time.time())
+    trial.uses("make", "made", b"")
+    found = {extension: open(f"{trial.folder}/made.{extension}", "rb").read() for extension in ("JHR", "JDT", "JDX", "JLR")}
+    created = struct.unpack_from("<I", found["JHR"], 4)[0]
+    trial.holds("make writes a fixed header", found["JHR"] == b"JAM\0" + struct.pack("<5I", created, 0, 0, EMPTY, 1) + bytes(1000)
+                and since <= created <= time.time())
+    trial.holds("make leaves three empty files", (found["JDT"], found["JDX"], found["JLR"]) == (b"", b"", b""))
+    trial.uses("list", "made", b"")
+    trial.uses("check", "made", b"base 1\nnext 1\nlive 0\nkilled 0\nempty 0\nmsgids 0\nlinked yes\n")
+    trial.uses("make", "made", ALREADY_THERE, 3)
+    for extension in ("JHR", "JDT", "JDX", "JLR"):
+        path = f"{trial.folder}/only_{extension}.{extension}"
+        with open(path, "wb") as file:
+            file.write(b"J")
+        trial.uses("make", f"only_{extension}", ALREADY_THERE, 3)
+        trial.holds(f"make keeps a .{extension}", open(path, "rb").read() == b"J")
+
+
+def try_damaged(trial):
+    """What is wrong is named, with its place, and the files are left as they are."""
+    index = read_files(PEER, "PLAIN")["jdx"]
+    places = [at for _, at in struct.iter_unpack("<II", index)]
+    damages = {
+        "3.1 ShortHeader": ("jhr", lambda data: data[:1023]),
+        "3.2 BadSignature": ("jhr", lambda data: b"jAM\0" + data[4:]),
+        "3.3 BaseZero": ("jhr", lambda data: data[:20] + bytes(4) + data[24:]),
+        "3.4 IndexLength": ("jdx", lambda data: data + bytes(4)),
+        "3.5 LastreadLength": ("jlr", lambda data: data + bytes(15)),
+        "3.6 TooManySlots": ("jdx", lambda data: data + b"\xff" * (8 * 65_000)),
+        "3.7 NumberRange": ("jhr", lambda data: data[:20] + b"\xff" * 4 + data[24:]),
+        "3.8 HeaderPlace 7": ("jdx", lambda data: data[:52] + struct.pack("<I", 1023) + data[56:]),
+        "3.9 HeaderSignature 8": ("jhr", lambda data: data[:places[7]] + b"X" + data[places[7] + 1:]),
+        "3.10 HeaderRevision 9": ("jhr", lambda data: data[:places[8] + 4] + b"\2" + data[places[8] + 5:]),
+        "3.12 TextPlace 60": ("jdt", lambda data: data[:-1]),
+        "3.13 HeadersOverlap 3 5": ("jdx", lambda data: data[:36] + data[20:24] + data[40:]),
+    }
+    for text, (extension, damage) in damages.items():
+        for word in ("list", "check", "relink", "pack", "make"):
+            name = "damaged"
+            copy(trial, name)
+            path = f"{trial.folder}/{name}.{extension}"
+            data = damage(open(path, "rb").read())
+            with open(path, "wb") as file:
+                file.write(data)
+            before = read_files(trial.folder, name)
+            trial.uses(word, name, ALREADY_THERE if word == "make" else f"fault {text}\n".encode(), 3)
+            trial.holds(f"{word} of {text} leaves the files", read_files(trial.folder, name) == before)
+
+
+def main(program):
+    folder = tempfile.mkdtemp()
+    try:
+        os.chmod(folder, 0o755)
+        shutil.copy(program, f"{folder}/board")
+        os.mkdir(f"{folder}/bases")
+        trial = Trial(f"{folder}/board", f"{folder}/bases")
+        base, _, _ = read(PEER, "PLAIN")
+        trial.holds("the listing is the stored one", listing(base) == open(f"{PEER}/PLAIN.list", "rb").read())
+        copy(trial, "plain")
+        try_tools(trial, "plain")
+        for seed in range(24):
+            draw = random.Random(seed)
+            write(trial.folder, f"drawn{seed}", drawn_base(seed, draw), draw)
+            try_tools(trial, f"drawn{seed}")
+        try_journal(trial)
+        try_made(trial)
+        try_kept(trial)
+        try_damaged(trial)
+    finally:
+        shutil.rmtree(folder)
+    print(f"tools on a real base: {trial.tried - trial.wrong} as they must, {trial.wrong} otherwise")
+    return 1 if trial.wrong else 0
+
+
+if __name__ == "__main__":
+    if len(sys.argv) != 2:
+        sys.exit(__doc__)
+    sys.exit(main(sys.argv[1]))
