@@ -1,10 +1,11 @@
 #!/usr/bin/env python3
 """Writes a compact JAM base of so many messages.
 
-usage: make_base.py DIR NAME COUNT
+usage: make_base.py DIR NAME COUNT [used]
 
 Each message has a sender, a receiver, a MSGID, a subject and a text of 120 to 219 bytes. The headers stand one behind
-another from the fixed header on (JAM, "Header file", "Message header", "Index file").
+another from the fixed header on (JAM, "Header file", "Message header", "Index file"). Of a used base every third message
+answers one of the hundred before it by its MSGID, no reply is linked, and every tenth message is killed.
 """
 import struct
 import sys
@@ -20,18 +21,26 @@ def subfield(kind, data):
     return struct.pack("<HHI", kind, 0, len(data)) + data
 
 
-def write(folder, name, count):
+def answered(n):
+    """The number of the message that this one of a used base answers, or 0."""
+    return max(1, n - 1 - n * 7 % 100) if n > 1 and n % 3 == 0 else 0
+
+
+def write(folder, name, count, is_used):
     names = [b"Ada Lovelace", b"Grace Hopper", b"Edsger Dijkstra", b"Barbara Liskov", b"Tony Hoare"]
     headers = [b"JAM\0" + struct.pack("<5I", 1_000_000_000, count, count, 0xFFFFFFFF, 1) + bytes(1000)]
     texts, index, at, text_at = [], [], 1024, 0
     for n in range(1, count + 1):
         receiver = names[(n + 1) % 5]
         msgid = b"2:5020/1042 %08x" % n
+        reply_id = b"2:5020/1042 %08x" % answered(n) if is_used and answered(n) else None
         fields = b"".join([subfield(2, names[n % 5]), subfield(3, receiver), subfield(4, msgid),
-                           subfield(6, b"Message %d of the base" % n)])
+                           subfield(5, reply_id) if reply_id else b"", subfield(6, b"Message %d of the base" % n)])
+        reply_crc = jam_crc(reply_id) if reply_id else 0xFFFFFFFF
+        attribute = 0x80800001 if is_used and n % 10 == 0 else 0x00800001
         text = (b"The text of message %d. " % n * 10)[:120 + n % 100]
-        head = b"JAM\0" + struct.pack("<HHIIIIIIIIIIIIIIIII", 1, 0, len(fields), 0, jam_crc(msgid), 0xFFFFFFFF, 0, 0, 0,
-                                      1_000_000_000 + n, 0, 0, n, 0x00800001, 0, text_at, len(text), 0xFFFFFFFF, 0)
+        head = b"JAM\0" + struct.pack("<HHIIIIIIIIIIIIIIIII", 1, 0, len(fields), 0, jam_crc(msgid), reply_crc, 0, 0, 0,
+                                      1_000_000_000 + n, 0, 0, n, attribute, 0, text_at, len(text), 0xFFFFFFFF, 0)
         headers.append(head + fields)
         texts.append(text)
         index.append(struct.pack("<II", jam_crc(receiver), at))
@@ -43,6 +52,6 @@ def write(folder, name, count):
 
 
 if __name__ == "__main__":
-    if len(sys.argv) != 4:
+    if len(sys.argv) not in (4, 5) or sys.argv[4:] not in ([], ["used"]):
         sys.exit(__doc__)
-    write(sys.argv[1], sys.argv[2], int(sys.argv[3]))
+    write(sys.argv[1], sys.argv[2], int(sys.argv[3]), sys.argv[4:] == ["used"])
