@@ -8,8 +8,6 @@
 
 mod asking;
 mod parties;
-#[cfg(test)]
-mod tests;
 
 pub use asking::allowed;
 pub use jb_base::Action;

@@ -14,8 +14,6 @@ mod memory;
 mod name;
 mod number;
 mod subfield;
-#[cfg(test)]
-mod tests;
 mod user;
 
 pub use area::{Action, AreaRules, Kind, Rule};

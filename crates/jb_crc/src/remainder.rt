@@ -51,30 +51,3 @@ pub fn jam_crc(bytes: &[u8]) -> u32
     }
     crc
 }
-
-#[cfg(test)]
-mod tests {
-    use super::*;
-
-    #[test]
-    fn gives_the_complement_of_the_usual_crc_of_the_text_in_lower_case(rt: HostRuntime) {
-        let vectors: [(&[u8], u32); 13] = [
-            (b"", 0xffff_ffff),
-            (b"123456789", 0x340b_c6d9),
-            (b"hello", 0xc9ef_5979),
-            (b"Hello", 0xc9ef_5979),
-            (b"test", 0x2780_81f3),
-            (b"Test", 0x2780_81f3),
-            (b"abc", 0xcadb_be3d),
-            (b"2:5020/1042 01000001", 0xcbd7_1f53),
-            (b"Joaquim Homrighausen", 0x3c21_9896),
-            (b"J\x99RG", 0xb63d_5b74),
-            (b"@[`{", 0x876c_7a9c),
-            (b"AZaz", 0xc871_9fc7),
-            (b"The quick brown fox jumps over the lazy dog", 0x31f3_aeeb),
-        ];
-        for (bytes, want) in vectors {
-            assert_eq!(rt; jam_crc(bytes), want);
-        }
-    }
-}

@@ -9,8 +9,6 @@
 
 mod extent;
 mod overlap;
-#[cfg(test)]
-mod tests;
 
 pub use extent::Extent;
 pub use overlap::{Overlap, first_overlap};

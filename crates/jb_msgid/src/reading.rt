@@ -37,6 +37,3 @@ fn read(alloc: Global, text: &[u8]) -> Result<MsgId, MsgIdError>
         }),
     }
 }
-
-#[cfg(test)]
-mod tests;

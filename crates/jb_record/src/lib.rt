@@ -10,8 +10,6 @@ mod index;
 mod lastread;
 mod message;
 mod signature;
-#[cfg(test)]
-mod tests;
 
 pub use fixed::{FIXED_HEADER_BYTES, FixedHeader, RESERVED_BYTES, decode_fixed, encode_fixed};
 pub use index::{EMPTY_SLOT, INDEX_RECORD_BYTES, IndexRecord, decode_index, encode_index};

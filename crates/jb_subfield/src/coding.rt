@@ -67,6 +67,3 @@ fn read(alloc: Global, bytes: &[u8]) -> Result<Subfields, SubfieldError>
     }
     Ok(fields)
 }
-
-#[cfg(test)]
-mod tests;

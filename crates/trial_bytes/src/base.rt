@@ -1,0 +1,105 @@
+//! Byte strings, names, an area's rules and the bits of an attribute.
+
+use crate::words::{byte, own as word};
+use jb_base::{
+    AreaRules, Bytes, DELETED, Kind, LOCAL, NODISP, OutOfMemory, PRIVATE, READ, TYPEECHO, TYPELOCAL,
+};
+use std::alloc::Global;
+use trial_rows::{Row, RowError, shown};
+
+/// `same NAME NAME`: whether the two are one name.
+pub fn same(alloc: Global, row: &Row) -> Result<String, RowError> {
+    let one = row.name(alloc, 1)?;
+    let other = row.name(alloc, 2)?;
+    word(alloc, if one.same(&other) { "same" } else { "another" })
+}
+
+/// `grow BYTES BYTES ..`: a copy of the empty byte string with these behind it one after another, its length, and whether
+/// there are none.
+pub fn grow(alloc: Global, row: &Row) -> Result<String, RowError> {
+    let mut bytes = Bytes::new(alloc);
+    for place in 1..row.len() {
+        bytes.append(row.bytes(alloc, place)?.as_slice())?;
+    }
+    copied(alloc, &bytes)
+}
+
+fn copied(alloc: Global, bytes: &Bytes) -> Result<String, RowError> {
+    let state = if bytes.is_empty() { "empty" } else { "filled" };
+    let copy = Bytes::copy(alloc, bytes.as_slice())?;
+    let text = shown(alloc, copy.as_slice())?;
+    Ok(format!(in alloc; "{text} {} {state}", copy.len())?)
+}
+
+/// `own BYTES`: a byte string made of a list.
+pub fn own(alloc: Global, row: &Row) -> Result<String, RowError> {
+    let list = row.bytes(alloc, 1)?.as_slice().to_vec(alloc)?;
+    shown(alloc, Bytes::from(list).as_slice())
+}
+
+/// `name NAME`: a name's bytes.
+pub fn name(alloc: Global, row: &Row) -> Result<String, RowError> {
+    shown(alloc, row.name(alloc, 1)?.as_slice())
+}
+
+/// `no-memory`: how want of memory is told.
+pub fn no_memory(alloc: Global) -> Result<String, RowError> {
+    Ok(format!(in alloc; "{OutOfMemory}")?)
+}
+
+/// `rules ORDINAL ADDRESS KIND READ POST SYSOP SLOTS`: a copy of these rules, in the same words.
+pub fn rules(alloc: Global, row: &Row) -> Result<String, RowError> {
+    let rules = AreaRules {
+        ordinal: byte(row, 1)?,
+        address: row.bytes(alloc, 2)?,
+        kind: kind(row, 3)?,
+        read: byte(row, 4)?,
+        post: byte(row, 5)?,
+        sysop: byte(row, 6)?,
+        slots: row.u32(7)?,
+    };
+    let copy = rules.copy(alloc)?;
+    told(alloc, &copy)
+}
+
+fn kind(row: &Row, place: usize) -> Result<Kind, RowError> {
+    match row.word(place)? {
+        "local" => Ok(Kind::Local),
+        "echo" => Ok(Kind::Echo),
+        _ => Err(RowError::Unknown(place)),
+    }
+}
+
+fn told(alloc: Global, rules: &AreaRules) -> Result<String, RowError> {
+    let kind = match rules.kind {
+        Kind::Local => "local",
+        Kind::Echo => "echo",
+    };
+    let address = shown(alloc, rules.address.as_slice())?;
+    Ok(format!(in alloc;
+        "{} {address} {kind} {} {} {} {}",
+        rules.ordinal, rules.read, rules.post, rules.sysop, rules.slots
+    )?)
+}
+
+/// `bits WORD WORD ..`: the attribute with these bits, the place of its lowest bit, and how many it has.
+pub fn bits(alloc: Global, row: &Row) -> Result<String, RowError> {
+    let mut bits = 0;
+    for place in 1..row.len() {
+        bits |= bit(row, place)?;
+    }
+    Ok(format!(in alloc; "{bits} {} {}", bits.trailing_zeros(), bits.count_ones())?)
+}
+
+fn bit(row: &Row, place: usize) -> Result<u32, RowError> {
+    match row.word(place)? {
+        "local" => Ok(LOCAL),
+        "private" => Ok(PRIVATE),
+        "read" => Ok(READ),
+        "typelocal" => Ok(TYPELOCAL),
+        "typeecho" => Ok(TYPEECHO),
+        "nodisp" => Ok(NODISP),
+        "deleted" => Ok(DELETED),
+        _ => Err(RowError::Unknown(place)),
+    }
+}

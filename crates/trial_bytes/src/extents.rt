@@ -1,0 +1,26 @@
+//! Extents that share a byte: `overlap START LEN START LEN ..`.
+
+use crate::words::own as word;
+use jb_extent::{Extent, first_overlap};
+use std::alloc::Global;
+use trial_rows::{Row, RowError};
+
+/// The places of the first two extents that share a byte.
+pub fn overlap(alloc: Global, row: &Row) -> Result<String, RowError> {
+    let extents = extents(alloc, row)?;
+    match first_overlap(alloc, extents.as_slice())? {
+        Some(overlap) => Ok(format!(in alloc; "{} {}", overlap.one, overlap.other)?),
+        None => word(alloc, "none"),
+    }
+}
+
+fn extents(alloc: Global, row: &Row) -> Result<Vec<Extent>, RowError> {
+    let mut extents = Vec::new(alloc);
+    for pair in 0..row.len() / 2 {
+        extents.push(Extent {
+            start: row.number(pair * 2 + 1)?,
+            len: row.number(pair * 2 + 2)?,
+        })?;
+    }
+    Ok(extents)
+}

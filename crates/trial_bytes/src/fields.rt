@@ -1,0 +1,95 @@
+//! Subfields, as a list and as bytes.
+ghost use Rattle.std.specs.Prelude.{◌+◌, ◌<◌, ◌^◌, All, IsTrue, length};
+
+use crate::words::own as word;
+use jb_base::{MSGID, RECEIVER_NAME, REPLYID, SENDER_NAME, SUBJECT, Subfield, Subfields};
+use jb_subfield::{SubfieldError, decode, encode};
+use std::alloc::Global;
+use trial_rows::{Row, RowError, hexed, shown};
+
+/// `id WORD`: the LoID of the subfields of this kind.
+pub fn id(alloc: Global, row: &Row) -> Result<String, RowError> {
+    let id = match row.word(1)? {
+        "sender-name" => SENDER_NAME,
+        "receiver-name" => RECEIVER_NAME,
+        "msgid" => MSGID,
+        "replyid" => REPLYID,
+        "subject" => SUBJECT,
+        _ => return Err(RowError::Unknown(1)),
+    };
+    Ok(format!(in alloc; "{id}")?)
+}
+
+/// `first ID ID HI BYTES ID HI BYTES ..`: how many subfields there are, and the data of the first with the LoID that is
+/// asked for.
+pub fn first(alloc: Global, row: &Row) -> Result<String, RowError> {
+    let id = row.u16(1)?;
+    let fields = listed(alloc, row)?;
+    let data = match fields.first(id) {
+        Some(data) => shown(alloc, data)?,
+        None => word(alloc, "absent")?,
+    };
+    Ok(format!(in alloc; "{} {data}", fields.as_slice().len())?)
+}
+
+/// The subfields from the third word on.
+fn listed(alloc: Global, row: &Row) -> Result<Subfields, RowError> {
+    let mut fields = Subfields::new(alloc);
+    for group in 0..row.len().saturating_sub(2) / 3 {
+        fields.push(field(alloc, row, group * 3 + 2)?)?;
+    }
+    Ok(fields)
+}
+
+fn field(alloc: Global, row: &Row, place: usize) -> Result<Subfield, RowError>
+    requires { place + 2 < 2 ^ 64 }
+{
+    Ok(Subfield {
+        id: row.u16(place)?,
+        hi: row.u16(place + 1)?,
+        bytes: row.bytes(alloc, place + 2)?,
+    })
+}
+
+/// `subfields BYTES`: how many subfields stand in the bytes, LoID, HiID and data of each, and the bytes that are written
+/// for them; or the place at which they are cut.
+pub fn subfields(alloc: Global, row: &Row) -> Result<String, RowError> {
+    let bytes = row.bytes(alloc, 1)?;
+    if bytes.len() > 262_144 {
+        return Err(RowError::Bytes(1));
+    }
+    match decode(alloc, bytes.as_slice()) {
+        Ok(fields) => both_ways(alloc, fields.as_slice()),
+        Err(SubfieldError::Cut { at }) => Ok(format!(in alloc; "cut {at}")?),
+        Err(SubfieldError::OutOfMemory) => Err(RowError::OutOfMemory),
+    }
+}
+
+fn both_ways(alloc: Global, list: &[Subfield]) -> Result<String, RowError> {
+    let mut text = format!(in alloc; "{} ", list.len())?;
+    for field in list {
+        text.push_str(one(alloc, field)?.as_str())?;
+    }
+    text.push_str(written(alloc, list)?.as_str())?;
+    Ok(text)
+}
+
+fn one(alloc: Global, field: &Subfield) -> Result<String, RowError> {
+    let data = shown(alloc, field.bytes.as_slice())?;
+    Ok(format!(in alloc; "{} {} {data} ", field.id, field.hi)?)
+}
+
+fn written(alloc: Global, list: &[Subfield]) -> Result<String, RowError> {
+    if !are_short(list) {
+        return Err(RowError::Bytes(1));
+    }
+    let bytes = encode(alloc, list)?;
+    hexed(alloc, bytes.as_slice())
+}
+
+/// Whether each has data that its length can tell.
+fn are_short(list: &[Subfield]) -> bool
+    ensures { IsTrue result → All (λ field. length field.bytes < 2 ^ 32) list.now }
+{
+    list.iter().all(|field| field.bytes.len() < 4_294_967_296)
+}
