@@ -22,8 +22,6 @@ mod parents;
 mod relinking;
 mod scan;
 mod splicing;
-#[cfg(test)]
-mod tests;
 mod threads;
 
 pub use changes::changed;

@@ -12,7 +12,5 @@
 
 mod marks;
 mod order;
-#[cfg(test)]
-mod tests;
 
 pub use marks::Marks;

@@ -18,8 +18,6 @@ mod ids;
 mod kept;
 mod laws;
 mod replies;
-#[cfg(test)]
-mod tests;
 
 pub use laws::{rests_on_slots, stays_under_heads, stays_under_relink};
 pub use replies::Replies;

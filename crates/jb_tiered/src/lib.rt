@@ -10,8 +10,6 @@
 #![tactic(auto)]
 
 mod pieces;
-#[cfg(test)]
-mod tests;
 mod tiered;
 
 pub use tiered::Tiered;

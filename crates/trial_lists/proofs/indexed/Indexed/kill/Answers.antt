@@ -2,7 +2,7 @@ use Rattle.std.proofs.Common.{◌≡◌, ◌+◌, ◌-◌, arith, subst}
 use Rattle.jb_model.specs.Loaded.{with_slot_at}
 use Rattle.jb_model.specs.declared.loaded.LoadedSlot.TheVariants.{Killed}
 use Rattle.jb_replies.specs.Index.{IsIndexOf}
-use Rattle.jb_replies.proofs.tests.Indexed.kill.Goals as goal
+use Rattle.trial_lists.proofs.indexed.Indexed.kill.Goals as goal
 
 pub invariant_of-self : goal.invariant_of-self
 invariant_of-self c =
