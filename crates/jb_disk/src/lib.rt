@@ -22,6 +22,3 @@ pub use memory::MemDisk;
 pub use piece::{Length, Piece, PieceHead};
 pub use redo::Redo;
 pub use steady::SteadyDisk;
-
-#[cfg(test)]
-mod tests;

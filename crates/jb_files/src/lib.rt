@@ -10,6 +10,3 @@ mod real;
 mod spelling;
 
 pub use disk::FolderDisk;
-
-#[cfg(test)]
-mod tests;

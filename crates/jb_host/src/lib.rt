@@ -17,6 +17,3 @@ pub use memory::MemLink;
 pub use memory_host::MemHost;
 pub use real::{ConsoleLink, RealHost};
 pub use sending::send;
-
-#[cfg(test)]
-mod tests;

@@ -1,0 +1,69 @@
+//! The words of a row for a file, for the calls that fail, and for an answer.
+ghost use Rattle.std.specs.Prelude.{◌≡◌};
+ghost use Rattle.jb_disk.specs.Files.{ceiling_of};
+
+use jb_base::{
+    HEADERS_CEILING, INDEX_CEILING, JOURNAL_CEILING, LASTREAD_CEILING, SHADOW_CEILING,
+    TEXTS_CEILING,
+};
+use jb_disk::FileId;
+use std::alloc::Global;
+use trial_rows::{Row, RowError};
+
+/// The file that the word at this place names.
+pub(crate) fn file(row: &Row, place: usize) -> Result<FileId, RowError> {
+    match row.word(place)? {
+        "JHR" => Ok(FileId::Jhr),
+        "JDT" => Ok(FileId::Jdt),
+        "JDX" => Ok(FileId::Jdx),
+        "JLR" => Ok(FileId::Jlr),
+        "JNL" => Ok(FileId::Jnl),
+        "NDT" => Ok(FileId::Ndt),
+        _ => Err(RowError::Unknown(place)),
+    }
+}
+
+/// The word of a file.
+pub(crate) fn name(file: FileId) -> &'static str {
+    match file {
+        FileId::Jhr => "JHR",
+        FileId::Jdt => "JDT",
+        FileId::Jdx => "JDX",
+        FileId::Jlr => "JLR",
+        FileId::Jnl => "JNL",
+        FileId::Ndt => "NDT",
+    }
+}
+
+/// The greatest length that a file is given.
+pub(crate) fn ceiling(file: FileId) -> u64
+    ensures { result ≡ ceiling_of file }
+{
+    match file {
+        FileId::Jhr => HEADERS_CEILING,
+        FileId::Jdt => TEXTS_CEILING,
+        FileId::Jdx => INDEX_CEILING,
+        FileId::Jlr => LASTREAD_CEILING,
+        FileId::Jnl => JOURNAL_CEILING,
+        FileId::Ndt => SHADOW_CEILING,
+    }
+}
+
+/// The numbers from this place on.
+pub(crate) fn numbers(alloc: Global, row: &Row, from: usize) -> Result<Vec<u64>, RowError> {
+    let mut numbers = Vec::new(alloc);
+    for place in from..row.len() {
+        numbers.push(row.number(place)?)?;
+    }
+    Ok(numbers)
+}
+
+/// A word as a text of its own.
+pub(crate) fn text(alloc: Global, word: &str) -> Result<String, RowError> {
+    Ok(String::from_str(alloc, word)?)
+}
+
+/// The word for a call that answers nothing but whether it was done.
+pub(crate) fn done(alloc: Global, is_ok: bool) -> Result<String, RowError> {
+    text(alloc, if is_ok { "ok" } else { "failed" })
+}
