@@ -31,6 +31,3 @@ pub use preparing::prepare;
 pub use recovery::recover;
 pub use settling::settle;
 pub use stopped::Stopped;
-
-#[cfg(test)]
-mod tests;

@@ -19,6 +19,3 @@ mod testing;
 pub use applying::apply_record;
 pub use error::RecordError;
 pub use testing::test_record;
-
-#[cfg(test)]
-mod tests;
