@@ -20,8 +20,6 @@ mod rule;
 mod run;
 mod slots;
 mod state;
-#[cfg(test)]
-mod tests;
 
 pub use fit::may_run;
 pub use run::{Replies, run_slow};

@@ -17,8 +17,6 @@ mod neighbours;
 mod posts;
 mod reads;
 mod relinks;
-#[cfg(test)]
-mod tests;
 
 pub use drafts::Draft;
 pub use fields::headed_length;

@@ -1,0 +1,206 @@
+//! The plain, slow program: commands are collected and then run over the area as a plain value.
+
+use crate::{showing, words};
+use jb_base::{AreaRules, Bytes, MSGID, Name, REPLYID, Subfield, Subfields};
+use jb_model::{Area, Asked, Command, Head, Marks, Message, Slot, Slots};
+use jb_plain::{Replies, may_run, run_slow};
+use std::alloc::Global;
+use std::fmt::Write;
+use std::mem;
+use trial_rows::{Row, RowError};
+
+/// A header of zeros.
+const HEAD: Head = Head {
+    reserved: 0,
+    times_read: 0,
+    msgid_crc: 0,
+    reply_crc: 0,
+    reply_to: 0,
+    reply_first: 0,
+    reply_next: 0,
+    written: 0,
+    received: 0,
+    processed: 0,
+    attribute: 0,
+    attribute2: 0,
+    password: 0,
+    cost: 0,
+};
+
+/// An area as a plain value, and what is asked of it in the next run.
+#[derive(Debug, Drop)]
+pub(crate) struct Plain {
+    area: Area,
+    list: Vec<Asked>,
+}
+
+/// An area of no slots and no marks from this number on.
+fn empty(alloc: Global, base: u32) -> Area {
+    Area {
+        base,
+        slots: Slots::new(alloc),
+        marks: Marks::new(alloc),
+    }
+}
+
+/// Puts a subfield with these bytes behind the others, where there are bytes.
+fn put_field(subfields: &mut Subfields, id: u16, bytes: Bytes) -> Result<(), RowError> {
+    if !bytes.is_empty() {
+        subfields.push(Subfield { id, hi: 0, bytes })?;
+    }
+    Ok(())
+}
+
+/// A post, by the words of a row.
+fn post(alloc: Global, row: &Row) -> Result<Command, RowError> {
+    let written = words::written_in(alloc, row)?;
+    Ok(Command::Post {
+        to: Name::copy(alloc, written.to.as_slice())?,
+        subject: written.subject,
+        text: written.text,
+        reply_to: written.reply_to,
+        private: written.private,
+    })
+}
+
+/// A command about this number.
+fn numbered(word: &str, number: u32) -> Result<Command, RowError> {
+    match word {
+        "read" => Ok(Command::Read { number }),
+        "peek" => Ok(Command::Peek { number }),
+        "kill" => Ok(Command::Kill { number }),
+        "mark" => Ok(Command::SetMark { number }),
+        _ => Err(RowError::Unknown(1)),
+    }
+}
+
+/// The command that a row asks.
+fn command(alloc: Global, row: &Row) -> Result<Command, RowError> {
+    match row.word(1)? {
+        "post" => post(alloc, row),
+        "pack" => Ok(Command::Pack),
+        "relink" => Ok(Command::Relink),
+        word => numbered(word, words::number(row)?),
+    }
+}
+
+/// Each reply on a line.
+fn told(alloc: Global, replies: &Replies) -> Result<String, RowError> {
+    let mut text = String::new(alloc);
+    for reply in replies.as_slice() {
+        let line = showing::reply(alloc, reply)?;
+        showing::put_line(&mut text, line.as_str())?;
+    }
+    Ok(text)
+}
+
+/// A live message: the fields of its header, its subfields and its text.
+fn message_shown(alloc: Global, message: &Message) -> Result<String, RowError> {
+    let mut line = showing::header(alloc, &message.head, &message.subfields)?;
+    showing::put_bytes(alloc, &mut line, message.text.as_slice())?;
+    Ok(line)
+}
+
+/// What stands in a slot.
+fn kind_of(slot: &Slot) -> &'static str {
+    match slot {
+        Slot::Live(_) => "live",
+        Slot::Killed => "killed",
+        Slot::Empty => "empty",
+    }
+}
+
+impl Plain {
+    /// An empty area from this number on, of which nothing is asked.
+    pub(crate) fn new(alloc: Global, base: u32) -> Plain {
+        Plain {
+            area: empty(alloc, base),
+            list: Vec::new(alloc),
+        }
+    }
+
+    /// Puts a message with a MSGID and a REPLYID, or without, behind the others.
+    pub(crate) fn message(&mut self, alloc: Global, row: &Row) -> Result<String, RowError> {
+        let mut subfields = Subfields::new(alloc);
+        put_field(&mut subfields, MSGID, words::part(alloc, row, 1)?)?;
+        put_field(&mut subfields, REPLYID, words::part(alloc, row, 2)?)?;
+        self.area.slots.push(Slot::Live(Message {
+            head: HEAD,
+            subfields,
+            text: Bytes::new(alloc),
+        }))?;
+        words::done(alloc)
+    }
+
+    /// Puts a command behind what is asked.
+    pub(crate) fn ask(
+        &mut self,
+        alloc: Global,
+        moment: u32,
+        row: &Row,
+    ) -> Result<String, RowError> {
+        let command = command(alloc, row)?;
+        let user = words::user(alloc, row)?;
+        self.list.push(Asked {
+            user,
+            moment,
+            command,
+        })?;
+        words::done(alloc)
+    }
+
+    /// Runs what is asked, and tells the replies.
+    pub(crate) fn run(&mut self, alloc: Global, rules: &AreaRules) -> Result<String, RowError> {
+        let area = mem::replace(&mut self.area, empty(alloc, 1));
+        let list = mem::replace(&mut self.list, Vec::new(alloc));
+        if !may_run(&area, rules.slots) {
+            return Ok(String::from_str(alloc, "not-allowed")?);
+        }
+        let (area, replies) = run_slow(alloc, rules, area, list.as_slice())?;
+        self.area = area;
+        told(alloc, &replies)
+    }
+
+    /// The base number, and what stands in each slot.
+    pub(crate) fn slots(&self, alloc: Global) -> Result<String, RowError> {
+        let mut text = format!(in alloc; "base {}", self.area.base)?;
+        for slot in self.area.slots.as_slice() {
+            write!(text, " {}", kind_of(slot))?;
+        }
+        Ok(text)
+    }
+
+    /// Each live message on a line.
+    pub(crate) fn messages(&self, alloc: Global) -> Result<String, RowError> {
+        let mut text = String::new(alloc);
+        for slot in self.area.slots.as_slice() {
+            if let Slot::Live(message) = slot {
+                let line = message_shown(alloc, message)?;
+                showing::put_line(&mut text, line.as_str())?;
+            }
+        }
+        Ok(text)
+    }
+
+    /// ReplyTo, Reply1st and ReplyNext of each live message.
+    pub(crate) fn links(&self, alloc: Global) -> Result<String, RowError> {
+        let mut text = String::from_str(alloc, "links")?;
+        for slot in self.area.slots.as_slice() {
+            if let Slot::Live(message) = slot {
+                let head = &message.head;
+                write!(
+                    text,
+                    " {}/{}/{}",
+                    head.reply_to, head.reply_first, head.reply_next
+                )?;
+            }
+        }
+        Ok(text)
+    }
+
+    /// The marks.
+    pub(crate) fn marks(&self, alloc: Global) -> Result<String, RowError> {
+        let marks = self.area.marks.as_slice();
+        Ok(format!(in alloc; "{marks:?}")?)
+    }
+}

@@ -1,0 +1,110 @@
+//! What the words of a row stand for.
+
+use jb_base::{AreaRules, Bytes, Kind, User};
+use std::alloc::Global;
+use trial_rows::{Row, RowError};
+
+/// What is written to be posted.
+#[derive(Debug, Drop)]
+pub(crate) struct Written {
+    pub to: Bytes,
+    pub subject: Bytes,
+    pub text: Bytes,
+    pub reply_to: u32,
+    pub private: bool,
+}
+
+/// The answer to a row that only sets something.
+pub(crate) fn done(alloc: Global) -> Result<String, RowError> {
+    Ok(String::from_str(alloc, "ok")?)
+}
+
+/// The number of at most 8 bits at this place.
+fn small(row: &Row, place: usize) -> Result<u8, RowError> {
+    match u8::try_from(row.number(place)?) {
+        Ok(number) => Ok(number),
+        Err(_) => Err(RowError::Number(place)),
+    }
+}
+
+/// How messages are marked, by the word at this place.
+fn kind(row: &Row, place: usize) -> Result<Kind, RowError> {
+    match row.word(place)? {
+        "local" => Ok(Kind::Local),
+        "echo" => Ok(Kind::Echo),
+        _ => Err(RowError::Unknown(place)),
+    }
+}
+
+/// The rules of an area: ordinal, address, kind, the levels that read, post and tend, and the most slots.
+pub(crate) fn rules(alloc: Global, row: &Row) -> Result<AreaRules, RowError> {
+    let ordinal = small(row, 1)?;
+    let kind = kind(row, 3)?;
+    let read = small(row, 4)?;
+    let post = small(row, 5)?;
+    let sysop = small(row, 6)?;
+    let slots = row.u32(7)?;
+    Ok(AreaRules {
+        ordinal,
+        address: row.bytes(alloc, 2)?,
+        kind,
+        read,
+        post,
+        sysop,
+        slots,
+    })
+}
+
+/// The user who asks: name, number and level stand behind the word of the command.
+pub(crate) fn user(alloc: Global, row: &Row) -> Result<User, RowError> {
+    let id = row.u32(3)?;
+    let level = small(row, 4)?;
+    let name = row.name(alloc, 2)?;
+    Ok(User { name, id, level })
+}
+
+/// The number of a message, behind the user.
+pub(crate) fn number(row: &Row) -> Result<u32, RowError> {
+    row.u32(5)
+}
+
+/// So many letters `a`, of the count in this word.
+fn letters(alloc: Global, count: &str, place: usize) -> Result<Bytes, RowError> {
+    match count.parse::<u16>() {
+        Ok(count) => Ok(Bytes::from(vec![in alloc; b'a'; usize::from(count)]?)),
+        Err(_) => Err(RowError::Number(place)),
+    }
+}
+
+/// The bytes at this place, where `*16384` is so many letters.
+pub(crate) fn part(alloc: Global, row: &Row, place: usize) -> Result<Bytes, RowError> {
+    match row.word(place)?.strip_prefix("*") {
+        Some(count) => letters(alloc, count, place),
+        None => row.bytes(alloc, place),
+    }
+}
+
+/// Whether a post is a private one.
+fn is_private(row: &Row, place: usize) -> Result<bool, RowError> {
+    match row.word(place)? {
+        "private" => Ok(true),
+        "public" => Ok(false),
+        _ => Err(RowError::Unknown(place)),
+    }
+}
+
+/// What is posted: receiver, subject, text, the number that it answers or 0, and whether it is private, behind the user.
+pub(crate) fn written_in(alloc: Global, row: &Row) -> Result<Written, RowError> {
+    let reply_to = row.u32(8)?;
+    let private = is_private(row, 9)?;
+    let to = part(alloc, row, 5)?;
+    let subject = part(alloc, row, 6)?;
+    let text = part(alloc, row, 7)?;
+    Ok(Written {
+        to,
+        subject,
+        text,
+        reply_to,
+        private,
+    })
+}
