@@ -9,8 +9,6 @@
 mod laws;
 mod marking;
 mod posting;
-#[cfg(test)]
-mod tests;
 
 pub use laws::appending_keeps_sound;
 pub use marking::put_new_mark;

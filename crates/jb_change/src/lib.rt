@@ -11,8 +11,6 @@ mod area;
 mod header;
 mod laws;
 mod piece;
-#[cfg(test)]
-mod tests;
 
 pub use area::{put_counts, put_mark};
 pub use header::{put_kill, put_links, put_reading};

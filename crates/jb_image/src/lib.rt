@@ -22,6 +22,3 @@ mod seen;
 
 pub use error::OpenError;
 pub use opening::decode;
-
-#[cfg(test)]
-mod tests;

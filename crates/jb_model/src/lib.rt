@@ -17,8 +17,6 @@ mod message;
 mod reply;
 mod short;
 mod summary;
-#[cfg(test)]
-mod tests;
 
 pub use area::{Area, Message, Slot, Slots};
 pub use command::{Asked, Command, Field};

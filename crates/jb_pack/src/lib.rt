@@ -19,8 +19,6 @@ mod place;
 mod planning;
 mod sizes;
 mod slots;
-#[cfg(test)]
-mod tests;
 mod texts;
 
 pub use error::PackError;

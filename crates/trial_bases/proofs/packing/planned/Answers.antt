@@ -1,5 +1,5 @@
 use Rattle.std.proofs.Common.{◌∙◌}
-use Rattle.jb_pack.proofs.tests.planned.Goals as goal
+use Rattle.trial_bases.proofs.packing.planned.Goals as goal
 
 pub plan-requires-clause-links : goal.plan-requires-clause-links
 plan-requires-clause-links c = λ texts. c.as_slice.ensures ∙ c.in_ok-links.ensures texts

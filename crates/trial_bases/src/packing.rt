@@ -1,0 +1,32 @@
+//! The pack of a base.
+
+use jb_disk::{MemDisk, Redo};
+use jb_image::decode;
+use jb_link::relink_plan;
+use jb_pack::{Packing, plan};
+use std::alloc::Global;
+use trial_rows::RowError;
+
+/// What a pack of the base on this disk comes to, and the change that makes it.
+fn planned(alloc: Global, disk: &mut MemDisk, redo: &mut Redo) -> Result<Packing, RowError> {
+    let Ok(loaded) = decode(alloc, disk, 65_000) else {
+        return Err(RowError::Unknown(0));
+    };
+    let links = relink_plan(alloc, &loaded)?;
+    let mut fresh = Redo::new(alloc);
+    let Ok(packing) = plan(alloc, disk, &loaded, links.as_slice(), &mut fresh) else {
+        return Err(RowError::OutOfMemory);
+    };
+    *redo = fresh;
+    Ok(packing)
+}
+
+/// What a pack comes to.
+pub(crate) fn plan_of(
+    alloc: Global,
+    disk: &mut MemDisk,
+    redo: &mut Redo,
+) -> Result<String, RowError> {
+    let packing = planned(alloc, disk, redo)?;
+    Ok(format!(in alloc; "{packing:?}")?)
+}
