@@ -8,8 +8,6 @@
 mod editor;
 mod key;
 mod line;
-#[cfg(test)]
-mod tests;
 
 pub use editor::{LineEditor, Typed};
 pub use key::{Echo, Key};

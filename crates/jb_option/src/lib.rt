@@ -8,8 +8,6 @@ mod answer;
 mod laws;
 mod options;
 mod side;
-#[cfg(test)]
-mod tests;
 
 pub use answer::Answer3;
 pub use laws::exchanges_end;

@@ -9,8 +9,6 @@ mod decoder;
 mod encoder;
 mod event;
 mod laws;
-#[cfg(test)]
-mod tests;
 mod verb;
 
 pub use codes::{AYT, DO, DONT, EC, EL, IAC, SB, SE, WILL, WONT};

@@ -14,8 +14,6 @@ mod dates;
 mod letters;
 mod lines;
 mod standing;
-#[cfg(test)]
-mod tests;
 mod writing;
 
 pub use answers::{fault, reply};
