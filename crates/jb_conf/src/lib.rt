@@ -16,8 +16,6 @@ mod login;
 mod reading;
 mod rows;
 mod tables;
-#[cfg(test)]
-mod tests;
 mod user;
 
 pub use board::{Board, BoardArea, BoardUser};

@@ -16,8 +16,6 @@ mod login;
 mod menu;
 mod moves;
 mod state;
-#[cfg(test)]
-mod tests;
 mod top;
 mod writing;
 

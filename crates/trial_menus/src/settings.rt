@@ -1,0 +1,164 @@
+//! The rows on the settings file.
+ghost use Rattle.std.specs.Prelude.{IfOk};
+ghost use Rattle.jb_conf.specs.InRange.{IsInRange};
+
+use crate::words::rest_bytes;
+use jb_base::Bytes;
+use jb_conf::{Board, BoardArea, BoardUser, check_login, read};
+use std::alloc::Global;
+use trial_rows::{Row, RowError, shown};
+
+/// The board of a file.
+pub fn board_of(alloc: Global, file: &[u8]) -> Result<Board, RowError>
+    ensures { IfOk result IsInRange }
+{
+    match read(alloc, file) {
+        Ok(board) => Ok(board),
+        Err(_) => Err(RowError::Unknown(0)),
+    }
+}
+
+fn is_line_feed(byte: &u8) -> bool {
+    *byte == b'\n'
+}
+
+/// Puts a line and its end behind a file.
+pub fn append_line(file: &mut Bytes, line: &[u8]) -> Result<(), RowError> {
+    file.append(line)?;
+    file.append(b"\n")?;
+    Ok(())
+}
+
+/// The file with this text in the place of so many lines, of which the first has this place, counted from 0.
+fn with_instead(
+    alloc: Global,
+    file: &[u8],
+    from: u64,
+    count: u64,
+    text: &[u8],
+) -> Result<Bytes, RowError> {
+    let mut changed = Bytes::new(alloc);
+    for (place, line) in file.split(is_line_feed).enumerate() {
+        let place = place as u64;
+        if place == from {
+            append_line(&mut changed, text)?;
+        }
+        if place < from || place - from >= count {
+            append_line(&mut changed, line)?;
+        }
+    }
+    Ok(changed)
+}
+
+/// What is said of a file.
+fn refusal(alloc: Global, file: &[u8]) -> Result<String, RowError> {
+    match read(alloc, file) {
+        Ok(_) => Ok(String::from_str(alloc, "read")?),
+        Err(error) => Ok(format!(in alloc; "{error}")?),
+    }
+}
+
+/// `broken FROM COUNT TEXT`: what is said of the file with TEXT in the place of COUNT lines, of which the first is line FROM.
+pub fn broken(alloc: Global, file: &[u8], row: &Row) -> Result<String, RowError> {
+    let from = row.number(1)?.saturating_sub(1);
+    let count = row.number(2)?;
+    let text = rest_bytes(alloc, row, 3)?;
+    let changed = with_instead(alloc, file, from, count, text.as_slice())?;
+    refusal(alloc, changed.as_slice())
+}
+
+/// `board`: the fields of the board itself.
+pub fn board(alloc: Global, file: &[u8]) -> Result<String, RowError> {
+    let board = board_of(alloc, file)?;
+    let mut line = shown(alloc, board.name.as_slice())?;
+    line.push_str(" address ")?;
+    line.push_str(shown(alloc, board.address.as_slice())?.as_str())?;
+    line.push_str(numbers_of(alloc, &board)?.as_str())?;
+    Ok(line)
+}
+
+/// The numbers of a board, and how many areas and users it has.
+fn numbers_of(alloc: Global, board: &Board) -> Result<String, RowError> {
+    let port = board.port;
+    let nodes = board.nodes;
+    let offset = board.offset;
+    let minutes = board.pack_minutes;
+    let areas = board.areas.as_slice().len();
+    let users = board.users.as_slice().len();
+    Ok(format!(in alloc;
+        " port {port} nodes {nodes} offset {offset} pack {minutes} areas {areas} users {users}"
+    )?)
+}
+
+/// `area PLACE`: the fields of an area, by its place from 0.
+pub fn area(alloc: Global, file: &[u8], row: &Row) -> Result<String, RowError> {
+    let place = row.u32(1)?;
+    let board = board_of(alloc, file)?;
+    match board.areas.as_slice().get(place as usize) {
+        Some(area) => area_line(alloc, area),
+        None => Ok(String::from_str(alloc, "none")?),
+    }
+}
+
+fn area_line(alloc: Global, area: &BoardArea) -> Result<String, RowError> {
+    let mut line = shown(alloc, area.name.as_slice())?;
+    line.push_str(" dir ")?;
+    line.push_str(area.dir.as_str())?;
+    line.push_str(" base ")?;
+    line.push_str(area.base.as_str())?;
+    line.push_str(" address ")?;
+    line.push_str(shown(alloc, area.rules.address.as_slice())?.as_str())?;
+    line.push_str(rules_of(alloc, area)?.as_str())?;
+    Ok(line)
+}
+
+/// The rules of an area, but its address.
+fn rules_of(alloc: Global, area: &BoardArea) -> Result<String, RowError> {
+    let rules = &area.rules;
+    let ordinal = rules.ordinal;
+    let kind = rules.kind;
+    let read = rules.read;
+    let post = rules.post;
+    let sysop = rules.sysop;
+    let slots = rules.slots;
+    Ok(format!(in alloc;
+        " kind {kind:?} ordinal {ordinal} read {read} post {post} sysop {sysop} slots {slots}"
+    )?)
+}
+
+/// `user PLACE`: the fields of a user, by its place from 0.
+pub fn user(alloc: Global, file: &[u8], row: &Row) -> Result<String, RowError> {
+    let place = row.u32(1)?;
+    let board = board_of(alloc, file)?;
+    match board.users.as_slice().get(place as usize) {
+        Some(user) => user_line(alloc, user),
+        None => Ok(String::from_str(alloc, "none")?),
+    }
+}
+
+fn user_line(alloc: Global, user: &BoardUser) -> Result<String, RowError> {
+    let id = user.user.id;
+    let level = user.user.level;
+    let name = shown(alloc, user.user.name.as_slice())?;
+    let salt = shown(alloc, user.salt.as_slice())?;
+    Ok(format!(in alloc; "{name} id {id} level {level} salt {salt}")?)
+}
+
+/// `login NAME PASSWORD`: the place of the user who logs in.
+pub fn login(alloc: Global, file: &[u8], row: &Row) -> Result<String, RowError> {
+    let name = row.bytes(alloc, 1)?;
+    let password = row.bytes(alloc, 2)?;
+    let board = board_of(alloc, file)?;
+    place_line(
+        alloc,
+        check_login(&board, name.as_slice(), password.as_slice()),
+    )
+}
+
+/// The place of a user, from 0.
+pub fn place_line(alloc: Global, place: Option<u32>) -> Result<String, RowError> {
+    match place {
+        Some(place) => Ok(format!(in alloc; "user {place}")?),
+        None => Ok(String::from_str(alloc, "nobody")?),
+    }
+}
