@@ -1,22 +1,13 @@
 //! The program `board`: the tools of an operator of JAM message bases.
 //!
-//! `top::board` is the whole program over any host; `main` gives it the real one. Its contract says, for every list of
-//! words, what is asked of the host, what is printed, and with which status the program ends (`specs/Run.antt`).
+//! `main` makes the real host and hands it to [`jb_board::board`], with the words and the moment. That is the whole program over
+//! any host: its contract says, for every list of words, what is asked of the host, what is printed, and with which status the
+//! program ends.
 #![tactic(auto)]
 
 ghost use Rattle.std.specs.Prelude.{IsSome};
 
-mod command;
-mod fault;
-mod number;
-#[cfg(test)]
-mod real_files;
-#[cfg(test)]
-mod real_tools;
-#[cfg(test)]
-mod tests;
-mod top;
-
+use jb_board::{Fault, board};
 use jb_host::RealHost;
 use std::process::ExitCode;
 use std::time::{SystemTime, UNIX_EPOCH};
@@ -46,7 +37,7 @@ fn main(rt: HostRuntime) -> ExitCode {
     let alloc = rt.alloc();
     let mut host = RealHost::new(rt, rt, alloc);
     match words(&rt) {
-        Ok(words) => ExitCode::from(top::board(alloc, words.as_slice(), moment(&rt), &mut host)),
+        Ok(words) => ExitCode::from(board(alloc, words.as_slice(), moment(&rt), &mut host)),
         Err(error) => without_words(&rt, &error, &mut host),
     }
 }
@@ -56,9 +47,9 @@ fn without_words(rt: &HostRuntime, error: &io::Error, host: &mut RealHost<HostRu
     requires { IsSome host.old.console }
 {
     if error.kind() == io::ErrorKind::InvalidData {
-        return ExitCode::from(top::board(rt.alloc(), &[], moment(rt), host));
+        return ExitCode::from(board(rt.alloc(), &[], moment(rt), host));
     }
-    let fault = fault::Fault::OutOfMemory;
+    let fault = Fault::OutOfMemory;
     let line = fault.line();
     let _ = rt.print(line.as_str());
     ExitCode::from(fault.status())

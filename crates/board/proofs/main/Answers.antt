@@ -1,4 +1,4 @@
-use Rattle.board.proofs.Placing.{still_there}
+use Rattle.board.proofs.Console.{still_there}
 use Rattle.board.proofs.main.Goals as goal
 
 pub board-requires : goal.board-requires

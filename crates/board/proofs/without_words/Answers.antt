@@ -1,4 +1,4 @@
-use Rattle.board.proofs.Placing.{still_there}
+use Rattle.board.proofs.Console.{still_there}
 use Rattle.board.proofs.without_words.Goals as goal
 
 pub board-requires : goal.board-requires

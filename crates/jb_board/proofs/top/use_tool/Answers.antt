@@ -1,7 +1,7 @@
 use Rattle.std.proofs.Common.{◌∙◌, inl, inr, arith, sym, subst}
-use Rattle.board.proofs.Placing.{answers_as, no_host_fault, no_words, used_disk}
-use Rattle.board.specs.Run.{Answer, UsesTool}
-use Rattle.board.proofs.top.use_tool.Goals as goal
+use Rattle.jb_board.proofs.Placing.{answers_as, no_host_fault, no_words, used_disk}
+use Rattle.jb_board.specs.Run.{Answer, UsesTool}
+use Rattle.jb_board.proofs.top.use_tool.Goals as goal
 
 pub returns-clause-found : goal.returns-clause-found
 returns-clause-found g c =

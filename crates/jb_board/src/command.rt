@@ -1,7 +1,7 @@
 //! The words of the command line.
 ghost use Rattle.std.specs.Prelude.{◌≡◌, IfNone, IfSome, None, Some, map};
 ghost use Rattle.std.specs.String.{string_bytes};
-ghost use Rattle.board.specs.Words.{HasFewSteps, command_line_of, load_line, number_up_to, tool_line, tool_named, words_of};
+ghost use Rattle.jb_board.specs.Words.{HasFewSteps, command_line_of, load_line, number_up_to, tool_line, tool_named, words_of};
 
 use crate::number::number_up_to;
 use jb_tool::Tool;

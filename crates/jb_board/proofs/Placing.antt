@@ -1,6 +1,6 @@
 -- A disk that was handed out, used and put back.
 use Rattle.std.proofs.Common.{◌≡◌, ℕ, ◌≤◌, Bool, true, false, ◌&&◌, List, ap, ◌∙◌, refl}
-use Rattle.std.specs.Prelude.{bytes_eq, if◌then◌else◌, Option, Some, None, IsSome, Result, Ok, Err}
+use Rattle.std.specs.Prelude.{bytes_eq, if◌then◌else◌, Option, Some, None, Result, Ok, Err}
 use Rattle.std.specs.Option.{ForSome, option_map}
 use Rattle.std.proofs.lemmas.Slice.Eq.{bytes_eq-Decides}
 use Rattle.jb_disk.specs.Device.{Device}
@@ -8,10 +8,10 @@ use Rattle.jb_host.specs.Desk.{Desk, Disks, GivesDisk, Place, TakesBack, handed_
 use Rattle.jb_tool.specs.Answers.{AnswersTool, KeepsOpening}
 use Rattle.jb_tool.specs.declared.error.ToolError.{ToolError}
 use Rattle.jb_tool.specs.declared.tool.Tool.{Tool}
-use Rattle.board.specs.Run.{Answer, AnswersAs, AnswersWords, UsesDisk, answer_of}
-use Rattle.board.specs.Words.{Words, run_load, show_help, use_tool}
+use Rattle.jb_board.specs.Run.{Answer, AnswersAs, AnswersWords, UsesDisk, answer_of}
+use Rattle.jb_board.specs.Words.{Words, run_load, show_help, use_tool}
 use Rattle.jb_host.specs.Wire.{Wire}
-use Rattle.board.specs.declared.fault.Fault.TheVariants.{Words as NoWords, HostFault}
+use Rattle.jb_board.specs.declared.fault.Fault.TheVariants.{Words as NoWords, HostFault}
 
 -- the place that was changed
 here : (dir name : List ℕ) (place : Place) (disks : Disks) → with_place dir name place disks dir name ≡ place
@@ -61,11 +61,6 @@ no_host_fault (Err error) is = cc
 pub no_words : (answer : Result (List ℕ) ToolError) → answer_of answer ≡ Err NoWords → ⊥
 no_words (Ok text) is = cc
 no_words (Err error) is = cc
-
--- a value that is there is there when it is seen otherwise
-pub still_there : {A B : Type 0} (f : A → B) (o : Option A) → IsSome o → IsSome (option_map f o)
-still_there f None there = there
-still_there f (Some x) there = there
 
 -- what is answered does not hang on the console that the host has back
 pub other_console : (words : Option Words) (moment : ℕ) (old mid : Desk) (console : Option Wire) (answer : Answer) → AnswersWords words moment old mid answer

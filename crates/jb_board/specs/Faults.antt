@@ -4,8 +4,8 @@ use Rattle.jb_image.specs.declared.error.OpenError.{OpenError}
 use Rattle.jb_image.specs.declared.error.OpenError.TheVariants as refused
 use Rattle.jb_tool.specs.declared.error.ToolError.{ToolError}
 use Rattle.jb_tool.specs.declared.error.ToolError.TheVariants.{BadJournal, Open, AlreadyThere, TextFull}
-use Rattle.board.specs.declared.fault.Fault.{Fault}
-use Rattle.board.specs.declared.fault.Fault.TheVariants.{Words, Tool, HostFault, OutOfMemory}
+use Rattle.jb_board.specs.declared.fault.Fault.{Fault}
+use Rattle.jb_board.specs.declared.fault.Fault.TheVariants.{Words, Tool, HostFault, OutOfMemory}
 
 -- the exit status of a base that is not opened: 4 a store fault, 6 want of memory, 3 all that its files are refused for
 abbrev pub base_status : OpenError → ℕ

@@ -1,9 +1,9 @@
 //! The program over any host.
 ghost use Rattle.std.specs.Prelude.{◌≡◌, ◌≤◌, Err, IfOk, IsSome, Ok, OnErr, Some, map};
 ghost use Rattle.std.specs.String.{string_bytes};
-ghost use Rattle.board.specs.Run.{AnswersWords, HasRun, IsPrinted, UsesTool, answer_of};
-ghost use Rattle.board.specs.Words.{command_line_of};
-ghost use Rattle.board.specs.declared.fault.Fault.TheVariants.{OutOfMemory as no_memory};
+ghost use Rattle.jb_board.specs.Run.{AnswersWords, HasRun, IsPrinted, UsesTool, answer_of};
+ghost use Rattle.jb_board.specs.Words.{command_line_of};
+ghost use Rattle.jb_board.specs.declared.fault.Fault.TheVariants.{OutOfMemory as no_memory};
 
 use crate::command::{CommandLine, command};
 use crate::fault::Fault;

@@ -10,10 +10,10 @@ use Rattle.jb_load.specs.Workload.{load_run}
 use Rattle.jb_tool.specs.Answers.{AnswersTool, KeepsOpening}
 use Rattle.jb_tool.specs.declared.error.ToolError.{ToolError}
 use Rattle.jb_tool.specs.declared.tool.Tool.{Tool as ToolName}
-use Rattle.board.specs.declared.fault.Fault.{Fault}
-use Rattle.board.specs.declared.fault.Fault.TheVariants.{Words as NoWords, Tool, HostFault, OutOfMemory}
-use Rattle.board.specs.Faults.{line_of, status_of}
-use Rattle.board.specs.Words.{Words, use_tool, run_load, show_help, command_line_of, help_text}
+use Rattle.jb_board.specs.declared.fault.Fault.{Fault}
+use Rattle.jb_board.specs.declared.fault.Fault.TheVariants.{Words as NoWords, Tool, HostFault, OutOfMemory}
+use Rattle.jb_board.specs.Faults.{line_of, status_of}
+use Rattle.jb_board.specs.Words.{Words, use_tool, run_load, show_help, command_line_of, help_text}
 
 -- what a run answers: the text to print, or why it is refused
 abbrev pub Answer : Type 0

@@ -3,7 +3,7 @@ ghost use Rattle.std.specs.Prelude.{◌≡◌, ◌≤◌, IfSome, IsTrue, length
 ghost use Rattle.std.specs.Char.{is_ascii_digit};
 ghost use Rattle.std.specs.List.{list_all};
 ghost use Rattle.std.specs.Str.Parse.{digits_value};
-ghost use Rattle.board.specs.Words.{are_digits, number_up_to};
+ghost use Rattle.jb_board.specs.Words.{are_digits, number_up_to};
 
 /// Digits of a number.
 const MOST_DIGITS: usize = 10;

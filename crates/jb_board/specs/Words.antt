@@ -5,9 +5,9 @@ use Rattle.std.specs.List.{list_all}
 use Rattle.std.specs.Str.Parse.{digits_value}
 use Rattle.jb_tool.specs.declared.tool.Tool.{Tool}
 use Rattle.jb_tool.specs.declared.tool.Tool.TheVariants.{List as Listing, Check, Make, Pack, Relink}
-use Rattle.board.specs.declared.command.TheConstants.{MOST_SEED, MOST_STEPS}
-use Rattle.board.specs.declared.command.CommandLine.{CommandLine}
-use Rattle.board.specs.declared.command.CommandLine.TheVariants.{Use, Load, Help}
+use Rattle.jb_board.specs.declared.command.TheConstants.{MOST_SEED, MOST_STEPS}
+use Rattle.jb_board.specs.declared.command.CommandLine.{CommandLine}
+use Rattle.jb_board.specs.declared.command.CommandLine.TheVariants.{Use, Load, Help}
 
 -- a command line: a tool with the folder and the name of a base, the workload with a seed and a count of steps, or a call for help
 pub data Words : Type 0 where

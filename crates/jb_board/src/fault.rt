@@ -1,6 +1,6 @@
 //! How a run that is refused ends: its status and its line on the console.
 ghost use Rattle.std.specs.Prelude.{◌≡◌, ◌≤◌, ◌+◌, ◌++◌, [], ◌∷◌, length};
-ghost use Rattle.board.specs.Faults.{base_line, base_status, line_of, status_of, tool_fault_line, tool_status, value_text};
+ghost use Rattle.jb_board.specs.Faults.{base_line, base_status, line_of, status_of, tool_fault_line, tool_status, value_text};
 
 use arrayvec::ArrayString;
 use itoa::Buffer;

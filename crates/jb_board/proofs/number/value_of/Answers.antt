@@ -1,6 +1,6 @@
 use Rattle.std.proofs.Common.{arith}
-use Rattle.board.proofs.Digits.{digit_at, value_bound, value_more}
-use Rattle.board.proofs.number.value_of.Goals as goal
+use Rattle.jb_board.proofs.Digits.{digit_at, value_bound, value_more}
+use Rattle.jb_board.proofs.number.value_of.Goals as goal
 
 pub overflow_mul-value : goal.overflow_mul-value
 overflow_mul-value c =

@@ -2,10 +2,10 @@ use Rattle.std.proofs.Common.{◌∙◌, ap, sym, subst}
 use Rattle.std.specs.Prelude.{Some, map}
 use Rattle.std.specs.String.{string_bytes}
 use Rattle.jb_host.specs.Desk.{Desk}
-use Rattle.board.proofs.Placing.{other_console}
-use Rattle.board.specs.Run.{AnswersWords}
-use Rattle.board.specs.Words.{command_line_of}
-use Rattle.board.proofs.top.board.Goals as goal
+use Rattle.jb_board.proofs.Placing.{other_console}
+use Rattle.jb_board.specs.Run.{AnswersWords}
+use Rattle.jb_board.specs.Words.{command_line_of}
+use Rattle.jb_board.proofs.top.board.Goals as goal
 
 pub returns : goal.returns
 returns g c =
