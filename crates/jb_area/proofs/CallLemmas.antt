@@ -1,10 +1,10 @@
 -- A call that was decided is begun, and then it ends.
-use Rattle.std.proofs.Common.{◌≡◌, ℕ, ◌+◌, ◌≤◌, Bool, List, [], ◌∷◌, length, Result, Ok, Err, IfErr, OnErr, OnOk, Some, ap, sym, ◌∙◌, subst, arith}
+use Rattle.std.proofs.Common.{◌≡◌, ℕ, ◌+◌, ◌≤◌, Bool, List, [], ◌∷◌, length, Result, Ok, Err, IfErr, IsOk, OnErr, OnOk, Some, ap, refl, sym, ◌∙◌, subst, arith}
 use Rattle.std.specs.Option.{ForSome}
 use Rattle.jb_base.specs.Fault.{Rose}
 use Rattle.jb_base.specs.declared.area.AreaRules.{AreaRules}
 use Rattle.jb_base.specs.declared.user.User.{User}
-use Rattle.jb_decide.specs.Decided.{IsNoPack, IsTold}
+use Rattle.jb_decide.specs.Decided.{ChangesNothing, IsNoPack, IsTold}
 use Rattle.jb_decide.specs.Headers.{KeepsHeaders, PacksHeaders}
 use Rattle.jb_decide.specs.Errors.{FaultRose}
 use Rattle.jb_decide.specs.declared.error.AreaError.{AreaError}
@@ -28,12 +28,12 @@ use Rattle.jb_model.specs.declared.reply.Reply.TheVariants.{Posted}
 use Rattle.jb_model.specs.declared.reply.Reply.TheVariants as replies
 use Rattle.jb_pack.specs.Standing.{StandTogether}
 use Rattle.jb_record.specs.Message.{message_header_of}
-use Rattle.jb_area.specs.Area.{files_after, HasBegun, HasMade, IsDoubtful, IsResting, RestsAt}
+use Rattle.jb_area.specs.Area.{files_after, HasBegun, HasMade, HasNoChange, IsDoubtful, IsResting, RestsAt}
 use Rattle.jb_area.specs.Calls.{BeginsCall, EndsCall, FailsWith, HasAnswered, HasStoppedIn, IsBegunFor, MeetsCall}
 use Rattle.jb_area.specs.Holds.{OpensToEither}
 use Rattle.jb_area.specs.declared.area.OpenArea.{OpenArea}
 use Rattle.jb_area.proofs.Outcomes.{if_ok_then2}
-use Rattle.jb_area.proofs.StartLemmas.{fails_with}
+use Rattle.jb_area.proofs.StartLemmas.{err_not_ok, fails_with}
 
 -- what a crash leaves, from a device that was at most read since
 only_from : (P : Files → Type 0) (old mid new : Device) → OnlyReads old mid → LeavesOnly mid new P → LeavesOnly old new P
@@ -61,6 +61,11 @@ err_gives {T} {E} result error P refused claim = subst (λ (r : Result T E). IfE
 fault_rose : {T : Type 0} (result : Result T AreaError) (before mid now : ℕ) → before ≤ mid → IfErr result (λ error. error ≡ StoreFault) → OnErr result (Rose mid now) → IfErr result (FaultRose before now)
 fault_rose (Ok value) before mid now later fault cause = tt
 fault_rose (Err error) before mid now later fault cause = subst (FaultRose before now) (sym fault) (omega (arith, cause, later))
+
+-- a call that is stopped has a change
+stopped_some : {T E : Type 0} (result : Result T E) (P H : Type 0) (Q : Type 0) → OnErr result P → (H → IsOk result × Q) → OnErr result (P × (H → ⊥))
+stopped_some (Ok value) P H Q stopped idle = tt
+stopped_some {T} {E} (Err error) P H Q stopped idle = (stopped, λ none. err_not_ok {T = T} {E = E} (Err error) error refl (idle none).0)
 
 -- a call that is stopped fails so
 fails_so : {T : Type 0} (result : Result T AreaError) (P : Type 0) (Q : AreaError → Type 0) → IfErr result (λ error. error ≡ StoreFault) → OnErr result P → (P → Q StoreFault) → IfErr result Q
@@ -124,6 +129,15 @@ module _ {D : Type 0} (shown : D → Device) (old mid new : OpenArea D) (texts :
       (subst (λ (l : Loaded). Step mid.rules (state_of texts l) user moment command begun.reply (state_of begun.coming.texts begun.coming.to)) loaded
       (begun.step (subst (IsTold begun.reply) (sym same.contents) told)))
 
+  -- a call that changes nothing has no change, and leaves the device
+  idle_before : (HasNoChange mid → shown new.disk ≡ shown mid.disk) → ChangesNothing command begun.reply
+      → OnlyReads (shown old.disk) (shown new.disk) × (begun.coming ≡ record { to = old.held.loaded; texts = texts })
+  idle_before left nothing =
+      let none = begun.idle nothing in (
+        subst (OnlyReads (shown old.disk)) (sym (left none.0)) same,
+        none.1 ∙ ap (λ (l : Loaded). record { to = l; texts = texts }) loaded,
+      )
+
   -- what a crash leaves meanwhile
   crash_before : ForSome (shown mid.disk).contents (λ files. LeavesOnly (shown mid.disk) (shown new.disk) (OpensToEither mid.held.loaded texts begun.coming))
       → ForSome (shown old.disk).contents (λ files. LeavesOnly (shown old.disk) (shown new.disk) (OpensToEither old.held.loaded texts begun.coming))
@@ -150,12 +164,14 @@ module _ {D : Type 0} (shown : D → Device) (old mid new : OpenArea D) (texts :
 
   -- finished
   answered_by : (reply : Reply) → (reply ≡ begun.reply) × RestsAt shown new begun.coming.texts begun.coming.to → HasMade shown mid new
+      → (HasNoChange mid → shown new.disk ≡ shown mid.disk)
       → ForSome (shown mid.disk).contents (λ files. LeavesOnly (shown mid.disk) (shown new.disk) (OpensToEither mid.held.loaded texts begun.coming))
       → HasAnswered shown old new texts user moment command reply
-  answered_by reply done made crash = record {
+  answered_by reply done made left crash = record {
     coming = begun.coming;
     step = subst (λ (r : Reply). IsTold r (shown old.disk).contents → Step old.rules (state_of texts old.held.loaded) user moment command r (state_of begun.coming.texts begun.coming.to)) (sym done.0) step_before;
     rests = done.1;
+    idle = λ nothing. idle_before left (subst (ChangesNothing command) done.0 nothing);
     headers = λ in_place was there now here.
         subst (λ (r : Reply). KeepsHeaders r old.held.loaded begun.coming.to was now) (sym done.0) (headers_then made in_place was there now here);
     packs = λ was there now here. subst (λ (r : Reply). PacksHeaders r begun.coming.to now) (sym done.0) (packs_then made was there now here);
@@ -163,12 +179,12 @@ module _ {D : Type 0} (shown : D → Device) (old mid new : OpenArea D) (texts :
   }
 
   -- stopped
-  stopped_by : IsDoubtful shown new texts (Some begun.coming)
+  stopped_by : IsDoubtful shown new texts (Some begun.coming) → (HasNoChange mid → ⊥)
       → ForSome (shown mid.disk).contents (λ files. LeavesOnly (shown mid.disk) (shown new.disk) (OpensToEither mid.held.loaded texts begun.coming))
       → HasStoppedIn shown old new texts user moment command
-  stopped_by doubt crash = record {
+  stopped_by doubt some crash = record {
     coming = Some begun.coming;
-    change = (begun.reply, step_before);
+    change = (begun.reply, (λ nothing. some (begun.idle nothing).0), step_before);
     doubt = doubt;
     crash = crash_before crash;
   }
@@ -190,10 +206,10 @@ module _ {D : Type 0} (shown : D → Device) where
       record {
         answered = if_ok_then2 result _ _ _ ends.done ends.made (λ reply done made texts resting.
             let is = ok_gives began value _ ok begins.begun texts resting in
-            answered_by shown old mid new texts user moment command begins.reads begins.loaded begins.rules is reply (done texts is.reply is.coming is.begun) made (ends.crash texts is.reply is.coming is.begun));
-        failed = fails_so result _ (λ error. (texts : List ℕ) → IsResting shown old texts → FailsWith shown error old new texts user moment command) ends.fault ends.doubt (λ doubt texts resting.
+            answered_by shown old mid new texts user moment command begins.reads begins.loaded begins.rules is reply (done texts is.reply is.coming is.begun) made (λ none. (ends.idle none).1) (ends.crash texts is.reply is.coming is.begun));
+        failed = fails_so result _ (λ error. (texts : List ℕ) → IsResting shown old texts → FailsWith shown error old new texts user moment command) ends.fault (stopped_some result _ _ _ ends.doubt ends.idle) (λ stopped texts resting.
             let is = ok_gives began value _ ok begins.begun texts resting in
-            stopped_by shown old mid new texts user moment command begins.reads begins.loaded begins.rules is (doubt texts is.reply is.coming is.begun) (ends.crash texts is.reply is.coming is.begun));
+            stopped_by shown old mid new texts user moment command begins.reads begins.loaded begins.rules is (stopped.0 texts is.reply is.coming is.begun) stopped.1 (ends.crash texts is.reply is.coming is.begun));
         cause = fault_rose result _ _ _ begins.later ends.fault ends.cause;
         later = omega (arith, earlier, later);
         rules = ends.rules ∙ begins.rules;

@@ -11,7 +11,7 @@ use Rattle.std.specs.Option.{ForSome}
 use Rattle.jb_disk.specs.Files.{Files}
 use Rattle.jb_journal.specs.Commit.{AgreeButJournal, changed}
 use Rattle.jb_decide.specs.Decided.{IsNoChange, IsPending, made}
-use Rattle.jb_area.specs.Area.{done_in, redo_in, redo_of, HasMade, IsBegun, IsBetween, RestsAt}
+use Rattle.jb_area.specs.Area.{done_in, redo_in, redo_of, HasMade, HasNoChange, IsBegun, IsBetween, RestsAt}
 use Rattle.jb_area.specs.Commits.{IsSettledAs, IsStoppedAs, MayCommit}
 use Rattle.jb_decide.specs.Held.{IsKeptWhole}
 use Rattle.jb_decide.specs.declared.held.Held.{Held}
@@ -30,6 +30,10 @@ same_reply one other first second is = cc
 
 pub same_pending : (one other : Reply) (first second : Pending) → Begun one first ≡ Begun other second → first ≡ second
 same_pending one other first second is = cc
+
+-- a call that is begun with something pending has a change
+pub some_change : {D : Type 0} (area : OpenArea D) (reply : Reply) (pending : Pending) → area.stage ≡ Begun reply pending → pending ≢ Nothing → HasNoChange area → ⊥
+some_change area reply pending is some idle = some (same_pending reply idle.reply pending Nothing (sym is ∙ idle.stage))
 
 -- nothing changes where nothing is pending
 pub none_pending : (limit : ℕ) (contents : Option Files) (redo : Change) (pending : Pending) (from : Loaded) (texts : List ℕ) (coming : Coming) → pending ≡ Nothing

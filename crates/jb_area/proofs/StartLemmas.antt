@@ -74,7 +74,7 @@ module _ {T E : Type 0} (result : Result T E) where
   ok_not_err value error ok err = cc
 
   -- what is refused is not done
-  err_not_ok : (error : E) → result ≡ Err error → IsOk result → ⊥
+  pub err_not_ok : (error : E) → result ≡ Err error → IsOk result → ⊥
   err_not_ok error err ok = cc
 
   -- it is refused for one thing
@@ -130,6 +130,7 @@ module _ {D : Type 0} (shown : D → Device) where
           coming = decides.coming;
           begun = record { pending = decided.pending; stage = refl; kept = kept_read given (Begun decided.reply decided.pending) texts resting.kept; change = subst (Changes decided.pending texts decides.coming) (sym reads.contents) decides.change };
           step = λ told. decides.step (subst (λ (o : Option Files). IsTold decided.reply o) reads.contents told);
+          idle = λ nothing. let none = decides.idle nothing in (record { reply = decided.reply; stage = ap (λ (p : Pending). Begun decided.reply p) none.none }, none.same);
           headers = decides.headers;
           packs = decides.packs;
         })

@@ -55,6 +55,11 @@ module _ {D : Type 0} where
   abbrev pub files_after : OpenArea D → Files → Files
   files_after area files = done_in area.stage (redo_of area) files
 
+  -- the call that is begun has no change
+  pub record HasNoChange (area : OpenArea D) : Type 0 where
+    pub reply : Reply
+    pub stage : area.stage ≡ Begun reply Nothing
+
   -- what is loaded is sound and has no more slots than the rules allow, which are as they may be; and the texts have its length
   pub record IsSoundFor (area : OpenArea D) (texts : List ℕ) : Type 0 where
     pub few_slots : area.rules.slots ≤ MOST_SLOTS

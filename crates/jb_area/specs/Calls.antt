@@ -4,7 +4,7 @@ use Rattle.std.specs.Option.{ForSome}
 use Rattle.jb_base.specs.Fault.{Rose}
 use Rattle.jb_base.specs.declared.user.User.{User}
 use Rattle.jb_decide.specs.Coming.{Coming}
-use Rattle.jb_decide.specs.Decided.{IsNoPack, IsTold}
+use Rattle.jb_decide.specs.Decided.{ChangesNothing, IsNoPack, IsTold}
 use Rattle.jb_decide.specs.Errors.{FaultRose}
 use Rattle.jb_decide.specs.Headers.{KeepsHeaders, PacksHeaders}
 use Rattle.jb_decide.specs.Holds.{Holds}
@@ -21,7 +21,7 @@ use Rattle.jb_model.specs.State.{state_of}
 use Rattle.jb_model.specs.Step.{Step}
 use Rattle.jb_model.specs.declared.command.Command.{Command}
 use Rattle.jb_model.specs.declared.reply.Reply.{Reply}
-use Rattle.jb_area.specs.Area.{files_after, small_redo_of, DoubtOpens, HasMade, IsBegun, IsDoubtful, IsResting, IsUnchanged, RestsAt}
+use Rattle.jb_area.specs.Area.{files_after, small_redo_of, DoubtOpens, HasMade, HasNoChange, IsBegun, IsDoubtful, IsResting, IsUnchanged, RestsAt}
 use Rattle.jb_area.specs.Holds.{OpensToEither}
 use Rattle.jb_area.specs.declared.area.OpenArea.{OpenArea}
 use Rattle.jb_area.specs.declared.stage.Stage.{Stage}
@@ -41,6 +41,8 @@ module _ {D : Type 0} (shown : D → Device) where
     pub begun : IsBegun shown area texts reply coming
     pub step : IsTold reply (shown area.disk).contents
         → Step area.rules (state_of texts area.held.loaded) user moment command reply (state_of coming.texts coming.to)
+    -- a refusal, a look, and a relink that finds no wrong link have no change
+    pub idle : ChangesNothing command reply → HasNoChange area × (coming ≡ record { to = area.held.loaded; texts = texts })
     -- but for a pack, each header stays in its place in whatever files hold the area
     pub headers : IsNoPack command → (files : Files) → Holds area.held.loaded texts files
         → KeepsHeaders reply area.held.loaded coming.to files (files_after area files)
@@ -53,6 +55,8 @@ module _ {D : Type 0} (shown : D → Device) where
     pub step : IsTold reply (shown old.disk).contents
         → Step old.rules (state_of texts old.held.loaded) user moment command reply (state_of coming.texts coming.to)
     pub rests : RestsAt shown new coming.texts coming.to
+    -- for a refusal, a look, and a relink that found no wrong link, the device was only read
+    pub idle : ChangesNothing command reply → OnlyReads (shown old.disk) (shown new.disk) × (coming ≡ record { to = old.held.loaded; texts = texts })
     -- but for a pack, each header stayed in its place
     pub headers : IsNoPack command → ForSome (shown old.disk).contents (λ was. ForSome (shown new.disk).contents (λ now.
         KeepsHeaders reply old.held.loaded coming.to was now))
@@ -61,10 +65,10 @@ module _ {D : Type 0} (shown : D → Device) where
     pub crash : ForSome (shown old.disk).contents (λ files.
         LeavesOnly (shown old.disk) (shown new.disk) (OpensToEither old.held.loaded texts coming))
 
-  -- what the change of a call in doubt would come to, as it would have been answered
+  -- what the change of a call in doubt would come to, as it would have been answered; a call that changes nothing has none
   abbrev pub IsChangeOf : OpenArea D → List ℕ → User → ℕ → Command → Option Coming → Type 0
   IsChangeOf old texts user moment command None = Unit {0}
-  IsChangeOf old texts user moment command (Some coming) = (reply : Reply) × (IsTold reply (shown old.disk).contents
+  IsChangeOf old texts user moment command (Some coming) = (reply : Reply) × (ChangesNothing command reply → ⊥) × (IsTold reply (shown old.disk).contents
       → Step old.rules (state_of texts old.held.loaded) user moment command reply (state_of coming.texts coming.to))
 
   -- the call was stopped by a fault: its change, where it had one, may stand or not
@@ -108,6 +112,8 @@ module _ {D : Type 0} (shown : D → Device) where
     pub done : IfOk result (λ reply. (texts : List ℕ) (decided : Reply) (coming : Coming) → IsBegun shown old texts decided coming
         → (reply ≡ decided) × RestsAt shown new coming.texts coming.to)
     pub made : OnOk result (HasMade shown old new)
+    -- a call without a change is done, and the device is as it was
+    pub idle : HasNoChange old → IsOk result × (shown new.disk ≡ shown old.disk)
     pub fault : IfErr result (λ error. error ≡ StoreFault)
     pub doubt : OnErr result ((texts : List ℕ) (decided : Reply) (coming : Coming) → IsBegun shown old texts decided coming
         → IsDoubtful shown new texts (Some coming))

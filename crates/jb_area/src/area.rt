@@ -24,7 +24,7 @@ pub struct OpenArea<D: Disk> {
 }
 
 impl<D: Disk> OpenArea<D> {
-    ghost use Rattle.std.specs.Prelude.{◌≡◌, ◌≤◌, List, ℕ, Option, Some, IfOk, IfErr, IsTrue, OnOk, OnErr, false};
+    ghost use Rattle.std.specs.Prelude.{◌≡◌, ◌≤◌, List, ℕ, Option, Some, IfOk, IfErr, IsOk, IsTrue, OnOk, OnErr, false};
     ghost use Rattle.std.specs.Option.{ForSome};
     ghost use Rattle.jb_base.specs.Fault.{Rose};
     ghost use Rattle.jb_disk.specs.Device.{Device};
@@ -32,7 +32,7 @@ impl<D: Disk> OpenArea<D> {
     ghost use Rattle.jb_model.specs.declared.reply.Reply.{Reply};
     ghost use Rattle.jb_area.specs.Holds.{OpensToEither};
     ghost use Rattle.jb_decide.specs.Coming.{Coming};
-    ghost use Rattle.jb_area.specs.Area.{device_of, loaded_of, rules_of, small_redo_of, DoubtOpens, HasBegun, HasDoubt, HasMade, IsBegun, IsDoubtful, IsResting, RestsAt, SettlesAt};
+    ghost use Rattle.jb_area.specs.Area.{device_of, loaded_of, rules_of, small_redo_of, DoubtOpens, HasBegun, HasDoubt, HasMade, HasNoChange, IsBegun, IsDoubtful, IsResting, RestsAt, SettlesAt};
 
     /// The area without its texts; while a call is begun or in doubt, as it was before that call.
     pub fn loaded(&self) -> &Loaded
@@ -58,6 +58,7 @@ impl<D: Disk> OpenArea<D> {
         ensures done { IfOk result (λ reply. (texts : List ℕ) (decided : Reply) (coming : Coming) → IsBegun D.device self.old texts decided coming
             → (reply ≡ decided) × RestsAt D.device self.new coming.texts coming.to) }
         ensures made { OnOk result (HasMade D.device self.old self.new) }
+        ensures idle { HasNoChange self.old → IsOk result × (device_of D.device self.new ≡ device_of D.device self.old) }
 
         // Stopped: only by a fault, and with a change that may stand or not.
         ensures doubt { OnErr result ((texts : List ℕ) (decided : Reply) (coming : Coming) → IsBegun D.device self.old texts decided coming

@@ -48,7 +48,7 @@ use Rattle.jb_marks.specs.Places.{HasNone, IsPlaceOf}
 use Rattle.jb_model.specs.Marks.{mark_of, with_mark}
 use Rattle.jb_model.specs.declared.mark.Mark.{Mark}
 use Rattle.jb_step.specs.declared.kills.Killing.{Killing}
-use Rattle.jb_decide.specs.Decided.{IsDecided, IsTold, made}
+use Rattle.jb_decide.specs.Decided.{ChangesNothing, IsDecided, IsLook, IsTold, made}
 use Rattle.jb_decide.specs.Headers.{KeepsHeaders, PacksHeaders, Updates}
 use Rattle.jb_decide.proofs.HeaderLemmas.{keeps_all, keeps_headers}
 use Rattle.jb_decide.proofs.BringLemmas.{brings_same}
@@ -93,6 +93,12 @@ no_pack (reply.TextFull len) refusal to files = tt
 no_pack (reply.NumbersSpent next) refusal to files = tt
 no_pack (reply.MarksFull marks) refusal to files = tt
 
+-- a command that is answered, does not look, and is no relink that finds no wrong link changes something
+pub something : (command : Command) (answer : Reply) → is_refusal answer ≡ false → (IsLook command → ⊥) → (answer ≡ reply.Relinked 0 → ⊥) → ChangesNothing command answer → ⊥
+something command answer done acts links (inl refused) = false≢true (sym done ∙ refused)
+something command answer done acts links (inr (inl look)) = acts look
+something command answer done acts links (inr (inr none)) = links none
+
 -- a reply that leaves the area as it is
 pub unchanged_decided : (rules : AreaRules) (from : Loaded) (texts : List ℕ) (contents : Option Files) (redo : Change) (user : User) (moment : ℕ) (command : Command) (decided : Decided) (answer : Reply)
     → decided.reply ≡ answer → decided.pending ≡ Nothing
@@ -104,6 +110,7 @@ unchanged_decided rules from texts contents redo user moment command decided ans
   change = inl (record { none = none; same = refl });
   step = λ told. subst (λ (r : Reply). Step rules (state_of texts from) user moment command r (state_of texts from)) (sym reply)
       (step (subst (λ (r : Reply). IsTold r contents) reply told));
+  idle = λ nothing. record { none = none; same = refl };
   headers = λ same files holds. subst (λ (p : Pending). KeepsHeaders decided.reply from from files (made p redo files)) (sym none) (keeps_all decided.reply from files);
   packs = λ files holds. subst (λ (r : Reply). PacksHeaders r from (made decided.pending redo files)) (sym reply) (packs from (made decided.pending redo files));
 }
@@ -148,6 +155,7 @@ kill_decided rules from texts contents redo user moment number counter active ki
         live = omega (arith, fewer, live);
       });
       step = λ told. is.step texts moment;
+      idle = λ nothing. absurd (something (Kill number) (reply.Killed number) refl (λ look. look) (λ links. cc) nothing);
       packs = λ files holds. tt;
       headers = λ same files holds. keeps_headers (reply.Killed number) redo from to [] updates (length-set from.slots killing.place _) files holds.loads;
     }
@@ -194,6 +202,7 @@ mark_decided rules from texts contents redo user moment number mark place is bef
         live = refl;
       });
       step = λ told. is.step texts moment;
+      idle = λ nothing. absurd (something (SetMark number) (reply.Marked mark.last mark.high) refl (λ look. look) (λ links. cc) nothing);
       packs = λ files holds. tt;
       headers = λ same files holds. keeps_headers (reply.Marked mark.last mark.high) redo from to [] makes refl files holds.loads;
     }
@@ -257,6 +266,7 @@ read_decided rules from texts contents redo user moment number counter active re
       });
       step = λ told. subst (λ (l : Letter). Step rules (state_of texts from) user moment (Read number) (reply.Text l) (state_of texts to))
           (sym (of_letter contents letter _ told shown)) (is.step texts);
+      idle = λ nothing. absurd (something (Read number) (reply.Text letter) refl (λ look. look) (λ links. cc) nothing);
       packs = λ files holds. tt;
       headers = λ same files holds. keeps_headers (reply.Text letter) redo from to [] updates (length-set from.slots reading.place _) files holds.loads;
     }

@@ -38,6 +38,7 @@ use Rattle.jb_replies.specs.Index.{IsIndexOf, ReplyIndex}
 use Rattle.jb_step.specs.After.{live_messages}
 use Rattle.jb_decide.specs.Decided.{IsDecided}
 use Rattle.jb_decide.specs.Holds.{AreTexts}
+use Rattle.jb_decide.proofs.DecidedLemmas.{something}
 use Rattle.jb_decide.specs.declared.pending.Pending.TheVariants.{Nothing, Packed}
 
 -- a sound area is so under a higher limit
@@ -183,6 +184,7 @@ pack_decided rules from texts contents redo user moment base live dropped plan r
       });
       step = λ told. step_of rules state user _ allowed answer.0
           ((λ i. record { reply = answer.1 i; state = packed_state state }) ∙ ap (λ (s : AreaState). record { reply = reply.Packed base live dropped; state = s }) (sym (state_packed rules.slots texts from sound are.sized)));
+      idle = λ nothing. absurd (something Pack (reply.Packed base live dropped) refl (λ look. look) (λ links. cc) nothing);
       headers = λ none files holds. absurd none;
       packs = λ files holds. makes.together files holds.loads;
     }

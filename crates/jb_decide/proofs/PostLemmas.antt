@@ -29,7 +29,7 @@ use Rattle.jb_step.specs.Post.{IsPosting}
 use Rattle.jb_step.specs.declared.neighbours.Neighbour.{Neighbour}
 use Rattle.jb_step.specs.declared.posts.Posting.{Posting}
 use Rattle.jb_decide.proofs.BringLemmas.{brings}
-use Rattle.jb_decide.proofs.DecidedLemmas.{counted_some, headed_is}
+use Rattle.jb_decide.proofs.DecidedLemmas.{counted_some, headed_is, something}
 use Rattle.jb_decide.specs.Decided.{IsDecided}
 use Rattle.jb_decide.specs.Headers.{StandsBehind, Updates}
 use Rattle.jb_decide.proofs.HeaderLemmas.{last_message}
@@ -154,6 +154,7 @@ post_decided rules from texts contents redo user moment counter active size draf
         live = is.live ∙ sym live;
       });
       step = λ told. is.step before texts as_long;
+      idle = λ nothing. absurd (something (post_of draft) (reply.Posted posting.number) refl (λ look. look) (λ links. cc) nothing);
       packs = λ files holds. tt;
       headers = λ same files holds. record {
         places = updates.places;

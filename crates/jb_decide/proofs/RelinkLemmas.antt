@@ -29,7 +29,7 @@ use Rattle.jb_step.specs.After.{live_messages, next_counter}
 use Rattle.jb_step.specs.Relink.{IsPlaced, IsRelinking, after_relink, with_links_in, with_links_of}
 use Rattle.jb_step.specs.declared.relinks.Relinking.{Relinking}
 use Rattle.jb_decide.proofs.BringLemmas.{brings_same}
-use Rattle.jb_decide.proofs.DecidedLemmas.{counted_some, within_is}
+use Rattle.jb_decide.proofs.DecidedLemmas.{counted_some, something, within_is}
 use Rattle.jb_decide.specs.Decided.{IsDecided}
 use Rattle.jb_decide.specs.Headers.{Updates}
 use Rattle.jb_decide.specs.Links.{HasNearHeaders}
@@ -216,6 +216,10 @@ texts_of [] loaded = refl
 texts_of (links ∷ plan) loaded =
     texts_of plan (with_links_in links (loaded_at loaded links.number) loaded) ∙ texts_in links (loaded_at loaded links.number) loaded
 
+-- two replies of a relink are one
+same_count : (one other : ℕ) → reply.Relinked one ≡ reply.Relinked other → one ≡ other
+same_count one other is = cc
+
 -- a relink
 pub relink_decided : (rules : AreaRules) (from : Loaded) (texts : List ℕ) (contents : Option Files) (redo : Change) (user : User) (moment counter active : ℕ) (relinking : Relinking)
     → IsRelinking rules from user relinking → IsSound rules.slots from → length texts ≡ from.texts_len → relinking.changed ≢ 0
@@ -244,6 +248,7 @@ relink_decided rules from texts contents redo user moment counter active relinki
         live = is.live ∙ sym live;
       });
       step = λ told. is.step texts moment;
+      idle = λ nothing. absurd (something Relink (reply.Relinked relinking.changed) refl (λ look. look) (λ none. some (same_count relinking.changed 0 none)) nothing);
       packs = λ files holds. tt;
       headers = λ same_places files holds. keeps_headers (reply.Relinked relinking.changed) redo from to [] updates
           (ap (λ (l : Loaded). length l.slots) (sym same) ∙ length_of relinking.plan from) files holds.loads;

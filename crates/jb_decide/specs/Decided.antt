@@ -1,5 +1,5 @@
 -- What a command comes to over an area as it is loaded.
-use Rattle.std.specs.Prelude.{◌≡◌, ◌≢◌, ◌⊎◌, ℕ, ◌≤◌, List, length, IsSome, Option}
+use Rattle.std.specs.Prelude.{◌≡◌, ◌≢◌, ◌⊎◌, ℕ, ◌≤◌, List, length, IsSome, Option, true}
 use Rattle.jb_base.specs.declared.area.AreaRules.{AreaRules}
 use Rattle.jb_base.specs.declared.limits.TheConstants.{MOST_SLOTS}
 use Rattle.jb_base.specs.declared.user.User.{User}
@@ -7,14 +7,15 @@ use Rattle.jb_change.specs.Makes.{done}
 use Rattle.jb_disk.specs.Change.{Change}
 use Rattle.jb_disk.specs.Files.{Files}
 use Rattle.jb_model.specs.Sound.{IsSound}
+use Rattle.jb_model.specs.Standing.{is_refusal}
 use Rattle.jb_model.specs.State.{state_of}
 use Rattle.jb_model.specs.Step.{Step}
 use Rattle.jb_model.specs.declared.command.Command.{Command}
-use Rattle.jb_model.specs.declared.command.Command.TheVariants.{Pack}
+use Rattle.jb_model.specs.declared.command.Command.TheVariants.{Pack, Peek}
 use Rattle.jb_model.specs.declared.loaded.Loaded.{Loaded}
 use Rattle.jb_model.specs.declared.reply.Letter.{Letter}
 use Rattle.jb_model.specs.declared.reply.Reply.{Reply}
-use Rattle.jb_model.specs.declared.reply.Reply.TheVariants.{Text}
+use Rattle.jb_model.specs.declared.reply.Reply.TheVariants.{Relinked, Text}
 use Rattle.jb_step.specs.After.{live_messages}
 use Rattle.jb_decide.specs.Coming.{Coming, IsChange}
 use Rattle.jb_decide.specs.Headers.{KeepsHeaders, PacksHeaders}
@@ -63,10 +64,20 @@ abbrev pub IsNoPack : Command → Type 0
 IsNoPack Pack = ⊥
 IsNoPack _ = Unit {0}
 
+-- a command that looks
+abbrev pub IsLook : Command → Type 0
+IsLook (Peek number) = Unit {0}
+IsLook _ = ⊥
+
+-- a command that is answered so changes nothing: it is refused, it is a look, or a relink that finds no wrong link
+abbrev pub ChangesNothing : Command → Reply → Type 0
+ChangesNothing command reply = (is_refusal reply ≡ true) ⊎ (IsLook command ⊎ (reply ≡ Relinked 0))
+
 -- the command is answered so, and what is pending, in this redo, is what it changes; whether a letter is right rests on the texts
 pub record IsDecided (rules : AreaRules) (from : Loaded) (texts : List ℕ) (contents : Option Files) (redo : Change) (user : User) (moment : ℕ) (command : Command) (decided : Decided) : Type 0 where
   pub coming : Coming
   pub change : IsNoChange decided.pending from texts coming ⊎ IsPending rules.slots contents redo decided.pending from texts coming
   pub step : IsTold decided.reply contents → Step rules (state_of texts from) user moment command decided.reply (state_of coming.texts coming.to)
+  pub idle : ChangesNothing command decided.reply → IsNoChange decided.pending from texts coming
   pub headers : IsNoPack command → (files : Files) → Holds from texts files → KeepsHeaders decided.reply from coming.to files (made decided.pending redo files)
   pub packs : (files : Files) → Holds from texts files → PacksHeaders decided.reply coming.to (made decided.pending redo files)

@@ -1,10 +1,12 @@
 use Rattle.std.proofs.Common.{refl}
+use Rattle.jb_area.proofs.StartLemmas.{err_not_ok}
 use Rattle.jb_area.proofs.area.OpenArea.done.Goals as goal
 
 pub returns-in-Ok : goal.returns-in-Ok
 returns-in-Ok g c = record {
   done = c.in-Ok.ensures.done;
   made = c.in-Ok.ensures.made;
+  idle = λ none. (refl, (c.finish.ensures.idle none).1);
   fault = tt;
   doubt = tt;
   cause = tt;
@@ -18,6 +20,7 @@ pub returns-in-Err : goal.returns-in-Err
 returns-in-Err g c = record {
   done = tt;
   made = tt;
+  idle = λ none. absurd (err_not_ok c.finish.result _ c.in-Err.is (c.finish.ensures.idle none).0);
   fault = refl;
   doubt = c.in-Err.ensures.doubt;
   cause = c.in-Err.ensures.cause;

@@ -1,6 +1,6 @@
 use Rattle.std.proofs.Common.{None, refl, sym, ◌∙◌}
 use Rattle.jb_area.proofs.CommitLemmas.{idle_opens}
-use Rattle.jb_area.proofs.StageLemmas.{between, fits, live, made_change, made_nothing, may_commit, numbered, rests_changed, rests_unchanged, some_in}
+use Rattle.jb_area.proofs.StageLemmas.{between, fits, live, made_change, made_nothing, may_commit, numbered, rests_changed, rests_unchanged, some_change, some_in}
 use Rattle.jb_area.proofs.area.OpenArea.finish.Goals as goal
 
 pub returns-in-Nothing-clause-done : goal.returns-in-Nothing-clause-done
@@ -10,6 +10,17 @@ returns-in-Nothing-clause-done g c = λ texts decided coming begun.
 pub returns-in-Nothing-clause-made : goal.returns-in-Nothing-clause-made
 returns-in-Nothing-clause-made g c =
     made_nothing g.D.Disk.device c.args.self.now c.in-Begun.reply c.in-Begun.pending (sym c.replace.ensures.value ∙ c.in-Begun.is) c.args.self.now.disk c.args.self.now.held None c.replace.new.dest c.in-Nothing.is refl
+
+pub returns-in-Nothing-clause-idle : goal.returns-in-Nothing-clause-idle
+returns-in-Nothing-clause-idle g c = λ none. (refl, refl)
+
+pub returns-in-Ok-clause-idle : goal.returns-in-Ok-clause-idle
+returns-in-Ok-clause-idle g c = λ none.
+    absurd (some_change c.args.self.now c.in-Begun.reply c.in-Begun.pending (sym c.replace.ensures.value ∙ c.in-Begun.is) c.in_default-pending.not-Nothing none)
+
+pub returns-in-Err-clause-idle : goal.returns-in-Err-clause-idle
+returns-in-Err-clause-idle g c = λ none.
+    absurd (some_change c.args.self.now c.in-Begun.reply c.in-Begun.pending (sym c.replace.ensures.value ∙ c.in-Begun.is) c.in_default-pending.not-Nothing none)
 
 pub returns-in-Ok-clause-made : goal.returns-in-Ok-clause-made
 returns-in-Ok-clause-made g c =
