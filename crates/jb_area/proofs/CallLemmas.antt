@@ -62,6 +62,11 @@ fault_rose : {T : Type 0} (result : Result T AreaError) (before mid now : ℕ) �
 fault_rose (Ok value) before mid now later fault cause = tt
 fault_rose (Err error) before mid now later fault cause = subst (FaultRose before now) (sym fault) (omega (arith, cause, later))
 
+-- two claims on a refusal
+on_err_both : {T E : Type 0} (result : Result T E) (P Q : Type 0) → OnErr result P → OnErr result Q → OnErr result (P × Q)
+on_err_both (Ok value) P Q first second = tt
+on_err_both (Err error) P Q first second = (first, second)
+
 -- a call that is stopped has a change
 stopped_some : {T E : Type 0} (result : Result T E) (P H : Type 0) (Q : Type 0) → OnErr result P → (H → IsOk result × Q) → OnErr result (P × (H → ⊥))
 stopped_some (Ok value) P H Q stopped idle = tt
@@ -179,13 +184,14 @@ module _ {D : Type 0} (shown : D → Device) (old mid new : OpenArea D) (texts :
   }
 
   -- stopped
-  stopped_by : IsDoubtful shown new texts (Some begun.coming) → (HasNoChange mid → ⊥)
+  stopped_by : IsDoubtful shown new texts (Some begun.coming) → new.held.loaded ≡ mid.held.loaded → (HasNoChange mid → ⊥)
       → ForSome (shown mid.disk).contents (λ files. LeavesOnly (shown mid.disk) (shown new.disk) (OpensToEither mid.held.loaded texts begun.coming))
       → HasStoppedIn shown old new texts user moment command
-  stopped_by doubt some crash = record {
+  stopped_by doubt stays some crash = record {
     coming = Some begun.coming;
     change = (begun.reply, (λ nothing. some (begun.idle nothing).0), step_before);
     doubt = doubt;
+    loaded = stays ∙ loaded;
     crash = crash_before crash;
   }
 
@@ -207,9 +213,9 @@ module _ {D : Type 0} (shown : D → Device) where
         answered = if_ok_then2 result _ _ _ ends.done ends.made (λ reply done made texts resting.
             let is = ok_gives began value _ ok begins.begun texts resting in
             answered_by shown old mid new texts user moment command begins.reads begins.loaded begins.rules is reply (done texts is.reply is.coming is.begun) made (λ none. (ends.idle none).1) (ends.crash texts is.reply is.coming is.begun));
-        failed = fails_so result _ (λ error. (texts : List ℕ) → IsResting shown old texts → FailsWith shown error old new texts user moment command) ends.fault (stopped_some result _ _ _ ends.doubt ends.idle) (λ stopped texts resting.
+        failed = fails_so result _ (λ error. (texts : List ℕ) → IsResting shown old texts → FailsWith shown error old new texts user moment command) ends.fault (stopped_some result _ _ _ (on_err_both result _ _ ends.doubt ends.loaded) ends.idle) (λ stopped texts resting.
             let is = ok_gives began value _ ok begins.begun texts resting in
-            stopped_by shown old mid new texts user moment command begins.reads begins.loaded begins.rules is (stopped.0 texts is.reply is.coming is.begun) stopped.1 (ends.crash texts is.reply is.coming is.begun));
+            stopped_by shown old mid new texts user moment command begins.reads begins.loaded begins.rules is (stopped.0.0 texts is.reply is.coming is.begun) stopped.0.1 stopped.1 (ends.crash texts is.reply is.coming is.begun));
         cause = fault_rose result _ _ _ begins.later ends.fault ends.cause;
         later = omega (arith, earlier, later);
         rules = ends.rules ∙ begins.rules;
@@ -220,7 +226,7 @@ module _ {D : Type 0} (shown : D → Device) where
       → BeginsCall shown old new user moment command began → began ≡ Err error → MeetsCall shown old new user moment command (Err error)
   meets_not old new user moment command began error begins refused = record {
     answered = tt;
-    failed = λ texts resting. fails_with shown error old new texts user moment command begins.reads resting (err_gives began error _ refused begins.failed texts resting);
+    failed = λ texts resting. fails_with shown error old new texts user moment command begins.reads begins.loaded resting (err_gives began error _ refused begins.failed texts resting);
     cause = err_gives began error _ refused begins.cause;
     later = begins.later;
     rules = begins.rules;

@@ -176,12 +176,13 @@ module _ {D : Type 0} (shown : D → Device) where
     }
 
   -- a call that changed nothing was stopped
-  pub stopped_unchanged : (old new : OpenArea D) (texts : List ℕ) (user : User) (moment : ℕ) (command : Command) → OnlyReads (shown old.disk) (shown new.disk) → IsResting shown old texts
+  pub stopped_unchanged : (old new : OpenArea D) (texts : List ℕ) (user : User) (moment : ℕ) (command : Command) → OnlyReads (shown old.disk) (shown new.disk) → new.held.loaded ≡ old.held.loaded → IsResting shown old texts
       → IsUnchanged shown new texts → HasStoppedIn shown old new texts user moment command
-  stopped_unchanged old new texts user moment command same resting unchanged = record {
+  stopped_unchanged old new texts user moment command same loaded resting unchanged = record {
     coming = None;
     change = tt;
     doubt = unchanged;
+    loaded = loaded;
     crash = λ files there. record {
       first = settled_opens old.held.loaded texts (shown old.disk) files there resting.kept.settled;
       run = runs-refl (Opens old.held.loaded texts) _ _ same.moments;
@@ -189,7 +190,7 @@ module _ {D : Type 0} (shown : D → Device) where
   }
 
   -- why a call was not begun, as what it leaves
-  pub fails_with : (error : AreaError) (old new : OpenArea D) (texts : List ℕ) (user : User) (moment : ℕ) (command : Command) → OnlyReads (shown old.disk) (shown new.disk) → IsResting shown old texts
+  pub fails_with : (error : AreaError) (old new : OpenArea D) (texts : List ℕ) (user : User) (moment : ℕ) (command : Command) → OnlyReads (shown old.disk) (shown new.disk) → new.held.loaded ≡ old.held.loaded → IsResting shown old texts
       → IsNotBegun shown error old new texts → FailsWith shown error old new texts user moment command
-  fails_with StoreFault old new texts user moment command same resting not = stopped_unchanged old new texts user moment command same resting not
-  fails_with OutOfMemory old new texts user moment command same resting not = not
+  fails_with StoreFault old new texts user moment command same loaded resting not = stopped_unchanged old new texts user moment command same loaded resting not
+  fails_with OutOfMemory old new texts user moment command same loaded resting not = not

@@ -71,11 +71,12 @@ module _ {D : Type 0} (shown : D → Device) where
   IsChangeOf old texts user moment command (Some coming) = (reply : Reply) × (ChangesNothing command reply → ⊥) × (IsTold reply (shown old.disk).contents
       → Step old.rules (state_of texts old.held.loaded) user moment command reply (state_of coming.texts coming.to))
 
-  -- the call was stopped by a fault: its change, where it had one, may stand or not
+  -- the call was stopped by a fault: its change, where it had one, may stand or not, and the area is loaded as before
   pub record HasStoppedIn (old new : OpenArea D) (texts : List ℕ) (user : User) (moment : ℕ) (command : Command) : Type 0 where
     pub coming : Option Coming
     pub change : IsChangeOf old texts user moment command coming
     pub doubt : IsDoubtful shown new texts coming
+    pub loaded : new.held.loaded ≡ old.held.loaded
     pub crash : ForSome (shown old.disk).contents (λ files.
         LeavesOnly (shown old.disk) (shown new.disk) (DoubtOpens old.held.loaded texts coming))
 
@@ -117,6 +118,7 @@ module _ {D : Type 0} (shown : D → Device) where
     pub fault : IfErr result (λ error. error ≡ StoreFault)
     pub doubt : OnErr result ((texts : List ℕ) (decided : Reply) (coming : Coming) → IsBegun shown old texts decided coming
         → IsDoubtful shown new texts (Some coming))
+    pub loaded : OnErr result (new.held.loaded ≡ old.held.loaded)
     pub cause : OnErr result (Rose (shown old.disk).faults (shown new.disk).faults)
     pub later : (shown old.disk).faults ≤ (shown new.disk).faults
     pub crash : (texts : List ℕ) (decided : Reply) (coming : Coming) → IsBegun shown old texts decided coming

@@ -63,6 +63,7 @@ impl<D: Disk> OpenArea<D> {
         // Stopped: only by a fault, and with a change that may stand or not.
         ensures doubt { OnErr result ((texts : List ℕ) (decided : Reply) (coming : Coming) → IsBegun D.device self.old texts decided coming
             → IsDoubtful D.device self.new texts (Some coming)) }
+        ensures loaded { OnErr result (loaded_of self.new ≡ loaded_of self.old) }
         ensures cause { OnErr result (Rose (device_of D.device self.old).faults (device_of D.device self.new).faults) }
         ensures later { (device_of D.device self.old).faults ≤ (device_of D.device self.new).faults }
 
@@ -137,6 +138,7 @@ impl<D: Disk> OpenArea<D> {
         // Stopped: only by a fault, and in doubt as before.
         ensures still { OnErr result ((texts : List ℕ) (coming : Option Coming) → IsDoubtful D.device self.old texts coming
             → IsDoubtful D.device self.new texts coming) }
+        ensures loaded { OnErr result (loaded_of self.new ≡ loaded_of self.old) }
         ensures cause { OnErr result (Rose (device_of D.device self.old).faults (device_of D.device self.new).faults) }
         ensures later { (device_of D.device self.old).faults ≤ (device_of D.device self.new).faults }
 
