@@ -193,4 +193,4 @@ module _ {D : Type 0} (shown : D → Device) where
   pub fails_with : (error : AreaError) (old new : OpenArea D) (texts : List ℕ) (user : User) (moment : ℕ) (command : Command) → OnlyReads (shown old.disk) (shown new.disk) → new.held.loaded ≡ old.held.loaded → IsResting shown old texts
       → IsNotBegun shown error old new texts → FailsWith shown error old new texts user moment command
   fails_with StoreFault old new texts user moment command same loaded resting not = stopped_unchanged old new texts user moment command same loaded resting not
-  fails_with OutOfMemory old new texts user moment command same loaded resting not = not
+  fails_with OutOfMemory old new texts user moment command same loaded resting not = (not, same)

@@ -85,10 +85,10 @@ module _ {D : Type 0} (shown : D → Device) where
   IsNotBegun StoreFault old new texts = IsUnchanged shown new texts
   IsNotBegun OutOfMemory old new texts = RestsAt shown new texts old.held.loaded
 
-  -- what a call that was not done leaves: after a fault a doubt, after want of memory all as it was
+  -- what a call that was not done leaves: after a fault a doubt, after want of memory all as it was, and the device was only read
   abbrev pub FailsWith : AreaError → OpenArea D → OpenArea D → List ℕ → User → ℕ → Command → Type 0
   FailsWith StoreFault old new texts user moment command = HasStoppedIn old new texts user moment command
-  FailsWith OutOfMemory old new texts user moment command = RestsAt shown new texts old.held.loaded
+  FailsWith OutOfMemory old new texts user moment command = RestsAt shown new texts old.held.loaded × OnlyReads (shown old.disk) (shown new.disk)
 
   -- a call at rest: it is answered and done, or fails and leaves what its error says; a fault has its cause, and the rules stay
   pub record MeetsCall (old new : OpenArea D) (user : User) (moment : ℕ) (command : Command) (result : Result Reply AreaError) : Type 0 where
