@@ -1,2 +1,3 @@
+pub mod PrefixFree
 pub mod ReadAgain
 pub mod Spelled

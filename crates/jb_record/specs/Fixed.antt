@@ -33,3 +33,8 @@ pub record FitsFixedHeader (header : FixedHeader) : Type 0 where
   pub active : header.active < 2 ^ 32
   pub password : header.password < 2 ^ 32
   pub base : header.base < 2 ^ 32
+
+-- and its reserved bytes are all there
+pub record IsFixedRecord (header : FixedHeader) : Type 0 where
+  pub numbers : FitsFixedHeader header
+  pub reserved : length header.reserved ≡ 1000

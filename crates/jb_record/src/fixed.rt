@@ -21,7 +21,8 @@ pub struct FixedHeader {
     pub reserved: [u8; 1000],
 }
 
-ghost use Rattle.jb_record.specs.Fixed.{FitsFixedHeader, fixed_header_of, fixed_header_bytes, IsFixedHeader};
+ghost use Rattle.jb_record.specs.Fixed.{FitsFixedHeader, IsFixedRecord, fixed_header_of, fixed_header_bytes, IsFixedHeader};
+ghost use Rattle.jb_record.specs.Laws.{IsPrefixFree};
 
 /// The header of which these are the bytes; `None` exactly where there are not 1,024 of them, or the signature is another.
 #[tactic(auto, unfolding(crate::specs::Fixed::fixed_header_of, crate::specs::Fixed::fixed_header_bytes))]
@@ -52,6 +53,7 @@ pub fn decode_fixed(bytes: &[u8]) -> Option<FixedHeader>
 pub fn encode_fixed(value: &FixedHeader) -> [u8; 1024]
     ensures exact { result ≡ fixed_header_bytes value.now }
     ensures back { fixed_header_of result ≡ value.now }
+    ensures prefix_free { IsPrefixFree IsFixedRecord fixed_header_bytes }
 {
     spell(value)
 }

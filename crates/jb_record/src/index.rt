@@ -16,6 +16,7 @@ pub struct IndexRecord {
 }
 
 ghost use Rattle.jb_record.specs.Index.{FitsIndexRecord, index_record_of, index_record_bytes};
+ghost use Rattle.jb_record.specs.Laws.{IsPrefixFree};
 
 /// The record of which these are the bytes; `None` exactly where there are not 8 of them.
 #[tactic(auto, unfolding(crate::specs::Index::index_record_of, crate::specs::Index::index_record_bytes))]
@@ -37,6 +38,7 @@ pub fn decode_index(bytes: &[u8]) -> Option<IndexRecord>
 pub fn encode_index(value: &IndexRecord) -> [u8; 8]
     ensures exact { result ≡ index_record_bytes value.now }
     ensures back { index_record_of result ≡ value.now }
+    ensures prefix_free { IsPrefixFree FitsIndexRecord index_record_bytes }
 {
     spell(value)
 }

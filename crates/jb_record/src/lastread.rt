@@ -16,6 +16,7 @@ pub struct MarkRecord {
 }
 
 ghost use Rattle.jb_record.specs.Lastread.{FitsMarkRecord, lastread_record_of, lastread_record_bytes};
+ghost use Rattle.jb_record.specs.Laws.{IsPrefixFree};
 
 /// The record of which these are the bytes; `None` exactly where there are not 16 of them.
 #[tactic(auto, unfolding(crate::specs::Lastread::lastread_record_of, crate::specs::Lastread::lastread_record_bytes))]
@@ -39,6 +40,7 @@ pub fn decode_mark(bytes: &[u8]) -> Option<MarkRecord>
 pub fn encode_mark(value: &MarkRecord) -> [u8; 16]
     ensures exact { result ≡ lastread_record_bytes value.now }
     ensures back { lastread_record_of result ≡ value.now }
+    ensures prefix_free { IsPrefixFree FitsMarkRecord lastread_record_bytes }
 {
     spell(value)
 }

@@ -35,6 +35,7 @@ pub struct MessageHeader {
 }
 
 ghost use Rattle.jb_record.specs.Message.{FitsMessageHeader, message_header_of, message_header_bytes, IsMessageHeader};
+ghost use Rattle.jb_record.specs.Laws.{IsPrefixFree};
 
 /// The header of which these are the bytes; `None` exactly where there are not 76 of them, the signature is another, or the
 /// Revision is not 1.
@@ -79,6 +80,7 @@ pub fn decode_message(bytes: &[u8]) -> Option<MessageHeader>
 pub fn encode_message(value: &MessageHeader) -> [u8; 76]
     ensures exact { result ≡ message_header_bytes value.now }
     ensures back { message_header_of result ≡ value.now }
+    ensures prefix_free { IsPrefixFree FitsMessageHeader message_header_bytes }
 {
     spell(value)
 }
