@@ -6,9 +6,9 @@ use Rattle.jb_base.specs.declared.attribute.TheConstants.{DELETED}
 use Rattle.jb_base.specs.Number.{number_bytes}
 use Rattle.jb_base.proofs.Numbers.{little_endian-back}
 use Rattle.jb_disk.specs.Change.{Change}
-use Rattle.jb_disk.specs.declared.file.FileId.TheVariants.{Jhr}
+use Rattle.jb_disk.specs.declared.file.FileId.TheVariants.{Jhr, Jdx}
 use Rattle.jb_disk.specs.Files.{Files, number_of, overwritten}
-use Rattle.jb_disk.specs.FileLaws.{with_file-here}
+use Rattle.jb_disk.specs.FileLaws.{with_file-here, with_file-other}
 use Rattle.jb_model.specs.Loaded.{IsMessageAt, with_head_at, with_killed_at}
 use Rattle.jb_model.specs.declared.loaded.Loaded.{Loaded}
 use Rattle.jb_model.specs.declared.loaded.LoadedMessage.{LoadedMessage}
@@ -18,7 +18,7 @@ use Rattle.jb_record.specs.declared.message.MessageHeader.{MessageHeader}
 use Rattle.jb_record.specs.Message.{message_header_of}
 use Rattle.jb_image.specs.Places.{bytes_at, header_in}
 use Rattle.jb_image.specs.Stands.{Loads, head_of, IsDeleted}
-use Rattle.jb_change.specs.Changing.{ChangesHead, ChangesHeader, ChangesMessage, WritesOnly, Puts, head_with_links, header_with_attribute, header_with_links}
+use Rattle.jb_change.specs.Changing.{ChangesHead, ChangesHeader, ChangesMessage, LeavesIndex, WritesOnly, Puts, head_with_links, header_with_attribute, header_with_links}
 use Rattle.jb_change.specs.Makes.{Makes, done}
 use Rattle.jb_change.proofs.HeaderLemmas.{with_bytes, header_put}
 use Rattle.jb_change.proofs.LoadsLemmas.{slot_there, header_room, loads_head, loads_killed}
@@ -152,6 +152,16 @@ module _ (at attribute : ℕ) (old new : Change) (fits : at + 76 < 2 ^ 32) (smal
   -- no byte outside it is another
   pub kill_only : WritesOnly old new Jhr at 76
   kill_only = header_only at 52 kill_bytes old new puts kill_inside
+
+  -- nor is one outside its attribute
+  pub kill_attribute : WritesOnly old new Jhr (at + 52) 4
+  kill_attribute = put_only Jhr (at + 52) kill_bytes old new puts (at + 52) 4 (omega arith) (omega arith)
+
+  -- the index is as it was
+  pub kill_index : LeavesIndex old new
+  kill_index files =
+      ap (λ (f : Files). f Jdx) (put_done Jhr (at + 52) kill_bytes old new puts files)
+      ∙ with_file-other Jhr Jdx (overwritten (at + 52) kill_bytes (done old files Jhr)) (done old files) (λ same. absurd (omega (arith, ap number_of same)))
 
   -- what the change makes then
   pub kill_makes : ChangesMessage old new at with_killed_at

@@ -3,7 +3,7 @@ use Rattle.std.specs.Prelude.{◌≡◌, ℕ, ◌+◌, ◌<◌, ◌≤◌, ◌^�
 use Rattle.jb_disk.specs.Change.{Change, held_by}
 use Rattle.jb_disk.specs.declared.file.FileId.{FileId}
 use Rattle.jb_disk.specs.declared.piece.Piece.TheVariants.{Bytes}
-use Rattle.jb_disk.specs.declared.file.FileId.TheVariants.{Jhr}
+use Rattle.jb_disk.specs.declared.file.FileId.TheVariants.{Jhr, Jdx}
 use Rattle.jb_disk.specs.Files.{Files, InFile}
 use Rattle.jb_disk.specs.Steps.{Torn}
 use Rattle.jb_image.specs.Places.{header_in}
@@ -42,6 +42,10 @@ ChangesHeader old new at act = (files : Files) → at + 76 ≤ length (done old 
 abbrev pub WritesOnly : Change → Change → FileId → ℕ → ℕ → Type 0
 WritesOnly old new file at len = (files : Files) → at + len ≤ length (done old files file)
     → InFile file (Torn at len) (done old files) (done new files)
+
+-- in the files that the change makes, the index is as it was: each record of it, and how many there are
+abbrev pub LeavesIndex : Change → Change → Type 0
+LeavesIndex old new = (files : Files) → done new files Jdx ≡ done old files Jdx
 
 -- a message's fields with other links
 abbrev pub head_with_links : ℕ → ℕ → ℕ → Head → Head

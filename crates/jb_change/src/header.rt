@@ -1,7 +1,7 @@
 //! Fields of a message header (JAM, "Message header").
 ghost use Rattle.std.specs.Prelude.{◌≡◌, ◌+◌, ◌<◌, ◌^◌, bit_and, bit_or};
 ghost use Rattle.jb_base.specs.declared.attribute.TheConstants.{DELETED};
-ghost use Rattle.jb_change.specs.Changing.{ChangesHead, ChangesHeader, ChangesMessage, WritesOnly, head_with_links, head_with_reading, header_with_attribute, header_with_links, header_with_reading, KeepsRoom};
+ghost use Rattle.jb_change.specs.Changing.{ChangesHead, ChangesHeader, ChangesMessage, LeavesIndex, WritesOnly, head_with_links, head_with_reading, header_with_attribute, header_with_links, header_with_reading, KeepsRoom};
 ghost use Rattle.jb_change.specs.Makes.{record_size};
 ghost use Rattle.jb_disk.specs.Change.{HasRoom, Spends};
 ghost use Rattle.jb_disk.specs.declared.file.FileId.TheVariants.{Jhr};
@@ -93,16 +93,16 @@ pub fn put_kill(redo: &mut Redo, at: u32, attribute: u32)
     ensures header { ChangesHeader redo.old redo.new at (header_with_attribute (bit_or attribute DELETED)) }
     ensures only { WritesOnly redo.old redo.new Jhr at 76 }
 
+    // Nothing else is another: no byte but the four of its Attribute, and no record of the index.
+    ensures attribute_alone { WritesOnly redo.old redo.new Jhr (at + 52) 4 }
+    ensures index { LeavesIndex redo.old redo.new }
+
     // What it takes of the redo and of the journal.
     ensures lengths { redo.new.lengths ≡ redo.old.lengths }
     ensures room { Spends 0 1 4 redo.old redo.new }
     ensures kept { KeepsRoom redo.old redo.new }
     ensures size { record_size redo.new ≡ record_size redo.old + 16 }
 {
-    put_piece(
-        redo,
-        FileId::Jhr,
-        at + ATTRIBUTE_AT,
-        &one_number(attribute | DELETED),
-    );
+    let killed = attribute | DELETED;
+    put_piece(redo, FileId::Jhr, at + ATTRIBUTE_AT, &one_number(killed));
 }
