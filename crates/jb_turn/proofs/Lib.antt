@@ -3,4 +3,3 @@ pub mod TurnKeeps
 pub mod Places
 pub mod Out
 pub mod Callers
-pub mod Sums

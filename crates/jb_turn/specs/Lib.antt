@@ -3,4 +3,3 @@ pub mod Rule
 pub mod Steps
 pub mod Seats
 pub mod Whole
-pub mod Sums

@@ -10,8 +10,6 @@
 mod kept;
 mod rule;
 mod seat;
-#[cfg(test)]
-mod tests;
 mod turn;
 mod view;
 
