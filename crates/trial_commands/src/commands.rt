@@ -8,7 +8,7 @@ use std::alloc::Global;
 use trial_rows::{Answers, Row, RowError};
 
 /// The rules and the moment of every command, the area of the plain program, and the loaded area.
-#[derive(Debug, Drop)]
+#[derive(Drop)]
 pub(crate) struct Commands {
     rules: AreaRules,
     moment: u32,
@@ -17,18 +17,23 @@ pub(crate) struct Commands {
 }
 
 impl Commands {
-    /// Both areas empty, under rules that let everybody do everything.
+    /// Both areas empty, and rules that let everybody do everything.
     pub(crate) fn new(alloc: Global) -> Result<Commands, RowError> {
+        let rules = open_rules(alloc)?;
         Ok(Commands {
-            rules: open_rules(alloc),
+            rules,
             moment: 0,
             plain: Plain::new(alloc, 1),
             loaded: steps::loaded(alloc, 1, 1_024, 0)?,
         })
     }
 
+    /// The levels that read, post and tend, and the most slots.
     fn set_rules(&mut self, alloc: Global, row: &Row) -> Result<String, RowError> {
-        self.rules = words::rules(alloc, row)?;
+        self.rules.read = words::small(row, 1)?;
+        self.rules.post = words::small(row, 2)?;
+        self.rules.sysop = words::small(row, 3)?;
+        self.rules.slots = row.u32(4)?;
         words::done(alloc)
     }
 
@@ -48,17 +53,17 @@ impl Commands {
     }
 }
 
-/// Rules that ask for no level, of an area without an address.
-fn open_rules(alloc: Global) -> AreaRules {
-    AreaRules {
+/// Rules of a local area that ask for no level.
+fn open_rules(alloc: Global) -> Result<AreaRules, RowError> {
+    Ok(AreaRules {
         ordinal: 1,
-        address: Bytes::new(alloc),
+        address: Bytes::copy(alloc, b"2:5020/1042")?,
         kind: Kind::Local,
         read: 0,
         post: 0,
         sysop: 0,
         slots: 65_000,
-    }
+    })
 }
 
 impl Answers for Commands {

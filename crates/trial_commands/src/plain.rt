@@ -28,7 +28,7 @@ const HEAD: Head = Head {
 };
 
 /// An area as a plain value, and what is asked of it in the next run.
-#[derive(Debug, Drop)]
+#[derive(Drop)]
 pub(crate) struct Plain {
     area: Area,
     list: Vec<Asked>,
@@ -80,7 +80,7 @@ fn command(alloc: Global, row: &Row) -> Result<Command, RowError> {
         "post" => post(alloc, row),
         "pack" => Ok(Command::Pack),
         "relink" => Ok(Command::Relink),
-        word => numbered(word, words::number(row)?),
+        word => numbered(word, row.u32(5)?),
     }
 }
 

@@ -11,6 +11,7 @@ use jb_model::{Loaded, LoadedMarks, LoadedMessage, LoadedSlot, LoadedSlots, Mark
 use jb_replies::Replies;
 use jb_step::{Draft, Neighbour, Posting, headed_length, kill, peek, post, read, relink, set_mark};
 use std::alloc::Global;
+use std::fmt::Debug;
 use trial_rows::{Row, RowError};
 
 /// An area without a slot, from this number on, with files of these lengths.
@@ -55,45 +56,31 @@ pub(crate) fn step(
     match row.word(1)? {
         "post" => step_post(alloc, loaded, rules, &user, moment, row),
         "relink" => step_relink(alloc, loaded, rules, &user),
-        "read" => step_read(alloc, loaded, rules, &user, moment, row),
-        "peek" => step_peek(alloc, loaded, rules, &user, row),
-        "kill" => step_kill(alloc, loaded, rules, &user, row),
-        "mark" => step_mark(alloc, loaded, rules, &user, row),
+        word => numbered(alloc, loaded, rules, &user, moment, word, row.u32(5)?),
+    }
+}
+
+/// What a command about this number decides.
+fn numbered(
+    alloc: Global,
+    loaded: &mut Loaded,
+    rules: &AreaRules,
+    user: &User,
+    moment: u32,
+    word: &str,
+    number: u32,
+) -> Result<String, RowError> {
+    match word {
+        "read" => told(alloc, read(loaded, rules, user, moment, number)),
+        "peek" => told(alloc, peek(loaded, rules, user, number)),
+        "kill" => told(alloc, kill(loaded, rules, user, number)),
+        "mark" => step_mark(alloc, loaded, rules, user, number),
         _ => Err(RowError::Unknown(1)),
     }
 }
 
-fn step_read(
-    alloc: Global,
-    loaded: &Loaded,
-    rules: &AreaRules,
-    user: &User,
-    moment: u32,
-    row: &Row,
-) -> Result<String, RowError> {
-    let decided = read(loaded, rules, user, moment, words::number(row)?);
-    Ok(format!(in alloc; "{decided:?}")?)
-}
-
-fn step_peek(
-    alloc: Global,
-    loaded: &Loaded,
-    rules: &AreaRules,
-    user: &User,
-    row: &Row,
-) -> Result<String, RowError> {
-    let decided = peek(loaded, rules, user, words::number(row)?);
-    Ok(format!(in alloc; "{decided:?}")?)
-}
-
-fn step_kill(
-    alloc: Global,
-    loaded: &Loaded,
-    rules: &AreaRules,
-    user: &User,
-    row: &Row,
-) -> Result<String, RowError> {
-    let decided = kill(loaded, rules, user, words::number(row)?);
+/// What was decided, or the refusal.
+fn told<T: Debug + Drop>(alloc: Global, decided: Result<T, Reply>) -> Result<String, RowError> {
     Ok(format!(in alloc; "{decided:?}")?)
 }
 
@@ -106,8 +93,7 @@ fn step_relink(
     if !is_numbered(loaded) {
         return Err(RowError::Unknown(0));
     }
-    let decided = relink(alloc, loaded, rules, user)?;
-    Ok(format!(in alloc; "{decided:?}")?)
+    told(alloc, relink(alloc, loaded, rules, user)?)
 }
 
 /// The mark that a user sets, or why it is not set.
@@ -143,13 +129,13 @@ fn step_mark(
     loaded: &mut Loaded,
     rules: &AreaRules,
     user: &User,
-    row: &Row,
+    number: u32,
 ) -> Result<String, RowError> {
-    let decided = mark_of(alloc, loaded, rules, user, words::number(row)?)?;
+    let decided = mark_of(alloc, loaded, rules, user, number)?;
     if let Ok(mark) = &decided {
         keep_mark(loaded, *mark)?;
     }
-    Ok(format!(in alloc; "{decided:?}")?)
+    told(alloc, decided)
 }
 
 /// What is written, as a draft.
@@ -183,7 +169,10 @@ fn posting_of(
 /// message whose header it changes.
 fn posting_shown(alloc: Global, posting: &Posting) -> Result<String, RowError> {
     let message = &posting.message;
-    let place = posting.neighbour.map(|neighbour| neighbour.place);
+    let place = match posting.neighbour {
+        Some(neighbour) => Some(neighbour.place),
+        None => None,
+    };
     Ok(format!(in alloc;
         "Posted {} owner {} header {} text {} {} neighbour {place:?}",
         posting.number, message.owner, message.header_at, message.text_at, message.text_len

@@ -1,11 +1,11 @@
 //! What the words of a row stand for.
 
-use jb_base::{AreaRules, Bytes, Kind, User};
+use jb_base::{Bytes, User};
 use std::alloc::Global;
 use trial_rows::{Row, RowError};
 
 /// What is written to be posted.
-#[derive(Debug, Drop)]
+#[derive(Drop)]
 pub(crate) struct Written {
     pub to: Bytes,
     pub subject: Bytes,
@@ -20,39 +20,11 @@ pub(crate) fn done(alloc: Global) -> Result<String, RowError> {
 }
 
 /// The number of at most 8 bits at this place.
-fn small(row: &Row, place: usize) -> Result<u8, RowError> {
+pub(crate) fn small(row: &Row, place: usize) -> Result<u8, RowError> {
     match u8::try_from(row.number(place)?) {
         Ok(number) => Ok(number),
         Err(_) => Err(RowError::Number(place)),
     }
-}
-
-/// How messages are marked, by the word at this place.
-fn kind(row: &Row, place: usize) -> Result<Kind, RowError> {
-    match row.word(place)? {
-        "local" => Ok(Kind::Local),
-        "echo" => Ok(Kind::Echo),
-        _ => Err(RowError::Unknown(place)),
-    }
-}
-
-/// The rules of an area: ordinal, address, kind, the levels that read, post and tend, and the most slots.
-pub(crate) fn rules(alloc: Global, row: &Row) -> Result<AreaRules, RowError> {
-    let ordinal = small(row, 1)?;
-    let kind = kind(row, 3)?;
-    let read = small(row, 4)?;
-    let post = small(row, 5)?;
-    let sysop = small(row, 6)?;
-    let slots = row.u32(7)?;
-    Ok(AreaRules {
-        ordinal,
-        address: row.bytes(alloc, 2)?,
-        kind,
-        read,
-        post,
-        sysop,
-        slots,
-    })
 }
 
 /// The user who asks: name, number and level stand behind the word of the command.
@@ -61,11 +33,6 @@ pub(crate) fn user(alloc: Global, row: &Row) -> Result<User, RowError> {
     let level = small(row, 4)?;
     let name = row.name(alloc, 2)?;
     Ok(User { name, id, level })
-}
-
-/// The number of a message, behind the user.
-pub(crate) fn number(row: &Row) -> Result<u32, RowError> {
-    row.u32(5)
 }
 
 /// So many letters `a`, of the count in this word.
