@@ -8,12 +8,6 @@
 mod command;
 mod fault;
 mod number;
-#[cfg(test)]
-mod real_files;
-#[cfg(test)]
-mod real_tools;
-#[cfg(test)]
-mod tests;
 mod top;
 
 pub use fault::{Fault, Line};

@@ -13,8 +13,6 @@ mod loading;
 mod making;
 mod running;
 mod summary;
-#[cfg(test)]
-mod tests;
 mod workload;
 
 pub use jb_area::AreaError;

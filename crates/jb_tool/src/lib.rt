@@ -14,8 +14,6 @@ mod listing;
 mod making;
 mod reading;
 mod tending;
-#[cfg(test)]
-mod tests;
 mod tool;
 
 pub use checking::check;

@@ -15,9 +15,6 @@ use jb_journal::{Stopped, commit, prepare, recover};
 use jb_record::{FIXED_HEADER_BYTES, FixedHeader, RESERVED_BYTES, encode_fixed};
 use std::alloc::Global;
 
-#[cfg(test)]
-mod tests;
-
 /// PasswordCRC of a base without a password.
 pub const NO_PASSWORD: u32 = 0xFFFF_FFFF;
 

@@ -1,0 +1,60 @@
+//! Whole runs of the program over a host in memory.
+ghost use Rattle.std.specs.Prelude.{IfOk, IsSome};
+ghost use Rattle.jb_host.specs.Shelves.{memory_desk};
+
+use crate::base::{Base, failing};
+use jb_base::Bytes;
+use jb_board::board;
+use jb_disk::MemDisk;
+use jb_host::{MemHost, MemLink};
+use std::alloc::Global;
+use trial_rows::{Row, RowError, shown};
+
+/// A host with the base `general` in the folder `a`, whose console fails the calls with these numbers.
+fn host(alloc: Global, general: MemDisk, failing: Vec<u64>) -> Result<MemHost, RowError>
+    ensures { IfOk result (λ host. IsSome (memory_desk host).console) }
+{
+    let console = MemLink::new(alloc, Bytes::new(alloc), failing);
+    let mut host = MemHost::new(alloc, console, Vec::new(alloc));
+    host.add_disk("a", "general", general)?;
+    Ok(host)
+}
+
+/// The words of the command line; `-` is one of no characters.
+fn words(alloc: Global, row: &Row, from: usize) -> Result<Vec<String>, RowError> {
+    let mut words = Vec::new(alloc);
+    for place in from..row.len() {
+        let word = row.word(place)?;
+        let word = if word == "-" { "" } else { word };
+        words.push(String::from_str(alloc, word)?)?;
+    }
+    Ok(words)
+}
+
+/// What was printed.
+fn printed(alloc: Global, host: &MemHost) -> Result<String, RowError> {
+    match host.console_link() {
+        Some(console) => shown(alloc, console.sent()),
+        None => Ok(String::from_str(alloc, "the console is out")?),
+    }
+}
+
+/// How the run ended. The base takes the files of its disk.
+fn ended(alloc: Global, status: u8, host: &MemHost, base: &mut Base) -> Result<String, RowError> {
+    let Some(disk) = host.disk_at("a", "general") else {
+        return Ok(String::from_str(alloc, "the disk is out")?);
+    };
+    base.take(alloc, disk)?;
+    let printed = printed(alloc, host)?;
+    Ok(format!(in alloc; "{status} {printed}")?)
+}
+
+/// `board MOMENT DISK CONSOLE WORD..`: a run of the words over the base, in which these calls of its disk and of the console fail.
+pub fn run(alloc: Global, row: &Row, base: &mut Base) -> Result<String, RowError> {
+    let moment = row.u32(1)?;
+    let words = words(alloc, row, 4)?;
+    let disk = base.disk(alloc, row, 2)?;
+    let mut host = host(alloc, disk, failing(alloc, row, 3)?)?;
+    let status = board(alloc, words.as_slice(), moment, &mut host);
+    ended(alloc, status, &host, base)
+}
