@@ -7,3 +7,4 @@ pub mod Refusals
 pub mod FileBytes
 pub mod SlotsSoFar
 pub mod Theorems
+pub mod WindowLemmas

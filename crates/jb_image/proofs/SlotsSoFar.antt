@@ -9,9 +9,8 @@ use Rattle.jb_disk.specs.Device.{Device, OnlyReads}
 use Rattle.jb_disk.specs.Files.{Files}
 use Rattle.jb_model.specs.declared.loaded.LoadedSlot.{LoadedSlot}
 use Rattle.jb_model.specs.declared.mark.Mark.{Mark}
-use Rattle.jb_record.specs.Lastread.{lastread_record_of}
 use Rattle.jb_image.specs.declared.seen.SeenSlot.{SeenSlot}
-use Rattle.jb_image.specs.Places.{bytes_at, entry_in}
+use Rattle.jb_image.specs.Places.{entry_in, mark_in}
 use Rattle.jb_image.specs.Reading.{AreSlotsOf, IsLoadedFrom, IsSeenAs, IsSeenWithin}
 use Rattle.jb_image.specs.Stands.{HasSlot, mark_record}
 use Rattle.jb_image.specs.Tests.{IsWholeSlot}
@@ -108,6 +107,22 @@ AreLoadedSoFar-next old mid new texts_len k seen slots pushed slot so_far kept l
     })
 
 -- k marks are read
-pub record AreMarksSoFar (bytes : List ℕ) (k : ℕ) (marks : List Mark) : Type 0 where
+pub record AreMarksSoFar (old now : Device) (k : ℕ) (marks : List Mark) : Type 0 where
+  pub kept : OnlyReads old now
+  pub later : old.faults ≤ now.faults
   pub count_is : length marks ≡ k
-  pub each : (j : ℕ) (d : Mark) → j < length marks → mark_record (slice_index_or marks j d) ≡ lastread_record_of (bytes_at (16 * j) 16 bytes)
+  pub told : ForSome old.contents (λ files. (j : ℕ) (d : Mark) → j < length marks → mark_record (slice_index_or marks j d) ≡ mark_in files j)
+
+-- one mark more
+pub AreMarksSoFar-next : (old mid new : Device) (k : ℕ) (marks pushed : List Mark) (mark : Mark) → AreMarksSoFar old mid k marks → OnlyReads mid new
+    → mid.faults ≤ new.faults → pushed ≡ marks ++ mark ∷ [] → ForSome mid.contents (λ files. mark_record mark ≡ mark_in files k)
+    → AreMarksSoFar old new (k + 1) pushed
+AreMarksSoFar-next old mid new k marks pushed mark so_far kept later pushed_is told =
+    subst (AreMarksSoFar old new (k + 1)) (sym pushed_is) (record {
+      kept = reads_on old mid new so_far.kept kept;
+      later = omega arith;
+      count_is = length_push marks mark ∙ ap (λ (n : ℕ). n + 1) so_far.count_is;
+      told = λ files contents_is.
+          each_push (λ j m. mark_record m ≡ mark_in files j) marks mark k so_far.count_is (so_far.told files contents_is)
+          (told files (so_far.kept.contents ∙ contents_is));
+    })

@@ -6,3 +6,4 @@ pub mod Places
 pub mod Reading
 pub mod Stands
 pub mod Tests
+pub mod Windows

@@ -10,13 +10,16 @@ ghost use Rattle.jb_image.specs.Lengths.{AreLengths};
 ghost use Rattle.jb_image.specs.Places.{header_in};
 ghost use Rattle.jb_image.specs.Reading.{IsSeenAs, IsSeenWithin};
 ghost use Rattle.jb_image.specs.Stands.{HasHeader};
+ghost use Rattle.jb_image.specs.Windows.{IsWindowOn};
+ghost use Rattle.jb_disk.specs.declared.file.FileId.TheVariants.{Jhr as headers_file};
 
 use crate::error::{Damage, ReadError};
 use crate::lengths::Lengths;
 use crate::place::is_within;
 use crate::seen::{SeenMessage, SeenSlot};
+use crate::window::Window;
 use jb_base::{DELETED, MOST_SUBFIELD_BYTES};
-use jb_disk::{Disk, FileId};
+use jb_disk::Disk;
 use jb_record::{EMPTY_SLOT, IndexRecord, MESSAGE_HEADER_BYTES, MessageHeader, decode_message};
 
 /// Whether bytes begin with `JAM` and a zero byte.
@@ -27,19 +30,22 @@ fn is_signed(bytes: &[u8]) -> bool
     &bytes[..4] == b"JAM\0".as_slice()
 }
 
-/// The message header that an index record names, or what is wrong with it.
+/// The message header that an index record names, or what is wrong with it, by a window on .JHR.
 fn read_header<D: Disk>(
     disk: &mut D,
+    window: &mut Window,
     entry: &IndexRecord,
     lengths: &Lengths,
 ) -> Result<Result<MessageHeader, Damage>, ReadError>
     requires lengths { ForSome (D.device disk.old).contents (AreLengths lengths.now) }
+    requires window { IsWindowOn headers_file lengths.now.headers (D.device disk.old).contents window.old }
     requires there { entry.now.offset ≢ empty_slot }
     ensures inside { IfOk result (λ read. OnOk read (IsWithin lengths.now.headers entry.now.offset 76)) }
     ensures found { IfOk result (λ read. IfOk read (λ header. ForSome (D.device disk.old).contents (λ files.
         HasHeader files entry.now.offset × (header ≡ header_in files entry.now.offset)))) }
     ensures damaged { IfOk result (λ read. IfErr read (λ damage. ForSome (D.device disk.old).contents (λ files.
         IsDamaged files entry.now damage))) }
+    ensures window { IsWindowOn headers_file lengths.now.headers (D.device disk.new).contents window.new }
     ensures kept { OnlyReads (D.device disk.old) (D.device disk.new) }
     ensures later { (D.device disk.old).faults ≤ (D.device disk.new).faults }
     ensures cause { IfErr result (FaultRose (D.device disk.old).faults (D.device disk.new).faults) }
@@ -47,12 +53,12 @@ fn read_header<D: Disk>(
     if !is_within(lengths.headers, entry.offset, MESSAGE_HEADER_BYTES as u32) {
         return Ok(Err(Damage::HeaderPlace));
     }
-    let mut bytes = [0; MESSAGE_HEADER_BYTES];
-    disk.read_at(FileId::Jhr, entry.offset as u64, &mut bytes)?;
-    if !is_signed(&bytes) {
+    window.reach(disk, entry.offset as u64, MESSAGE_HEADER_BYTES)?;
+    let bytes = window.view(entry.offset as u64, MESSAGE_HEADER_BYTES);
+    if !is_signed(bytes) {
         return Ok(Err(Damage::HeaderSignature));
     }
-    match decode_message(&bytes) {
+    match decode_message(bytes) {
         Some(header) => Ok(Ok(header)),
         None => Ok(Err(Damage::HeaderRevision)),
     }
@@ -70,10 +76,12 @@ fn are_subfields_within(headers_len: u64, at: u32, subfields: u32) -> bool
 /// At most one device read.
 pub(crate) fn see_slot<D: Disk>(
     disk: &mut D,
+    window: &mut Window,
     entry: &IndexRecord,
     lengths: &Lengths,
 ) -> Result<Result<SeenSlot, Damage>, ReadError>
-    requires { ForSome (D.device disk.old).contents (AreLengths lengths.now) }
+    requires lengths { ForSome (D.device disk.old).contents (AreLengths lengths.now) }
+    requires window { IsWindowOn headers_file lengths.now.headers (D.device disk.old).contents window.old }
 
     // The slot, or the first test that it fails.
     ensures within { IfOk result (λ read. IfOk read (IsSeenWithin lengths.now.headers)) }
@@ -83,6 +91,7 @@ pub(crate) fn see_slot<D: Disk>(
         IsDamaged files entry.now damage))) }
 
     // The disk is only read.
+    ensures window { IsWindowOn headers_file lengths.now.headers (D.device disk.new).contents window.new }
     ensures kept { OnlyReads (D.device disk.old) (D.device disk.new) }
     ensures later { (D.device disk.old).faults ≤ (D.device disk.new).faults }
     ensures cause { IfErr result (FaultRose (D.device disk.old).faults (D.device disk.new).faults) }
@@ -91,7 +100,7 @@ pub(crate) fn see_slot<D: Disk>(
         return Ok(Ok(SeenSlot::Empty));
     }
     let header_at = entry.offset;
-    let header = match read_header(disk, entry, lengths)? {
+    let header = match read_header(disk, window, entry, lengths)? {
         Ok(header) => header,
         Err(damage) => return Ok(Err(damage)),
     };

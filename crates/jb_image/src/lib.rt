@@ -19,6 +19,7 @@ mod opening;
 mod overlap;
 mod place;
 mod seen;
+mod window;
 
 pub use error::OpenError;
 pub use opening::decode;

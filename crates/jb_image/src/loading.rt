@@ -2,16 +2,19 @@
 ghost use Rattle.std.specs.Prelude.{◌≡◌, ◌+◌, ◌<◌, ◌≤◌, ℕ, IfOk, IfErr, OnOk, All, length};
 ghost use Rattle.std.specs.Option.{ForSome};
 ghost use Rattle.jb_disk.specs.Device.{OnlyReads};
+ghost use Rattle.jb_disk.specs.declared.file.FileId.TheVariants.{Jhr as headers_file};
 ghost use Rattle.jb_image.specs.Answers.{OpenFaultRose};
 ghost use Rattle.jb_image.specs.Lengths.{AreLengths};
 ghost use Rattle.jb_image.specs.Places.{entry_in, fixed_in};
 ghost use Rattle.jb_image.specs.Reading.{AreLoadedFrom, AreSeen, AreSlotsOf, IsRefusedBySlot, IsSeenWithin};
 ghost use Rattle.jb_image.specs.Tests.{IsWholeSlot};
+ghost use Rattle.jb_image.specs.Windows.{IsWindowOn};
 
 use crate::OpenError;
 use crate::lengths::Lengths;
 use crate::message::load_slot;
 use crate::seen::SeenSlot;
+use crate::window::Window;
 use jb_disk::Disk;
 use jb_model::LoadedSlots;
 use std::alloc::Global;
@@ -21,11 +24,13 @@ use std::alloc::Global;
 pub(crate) fn test_slots<D: Disk>(
     alloc: Global,
     disk: &mut D,
+    window: &mut Window,
     seen: &[SeenSlot],
     lengths: &Lengths,
     base: u32,
 ) -> Result<(), OpenError>
     requires lengths { ForSome (D.device disk.old).contents (AreLengths lengths.now) }
+    requires window { IsWindowOn headers_file lengths.now.headers (D.device disk.old).contents window.old }
     requires base { ForSome (D.device disk.old).contents (λ files. base ≡ (fixed_in files).base) }
     requires seen { ForSome (D.device disk.old).contents (λ files. AreSeen files seen.now) }
     requires within { All (IsSeenWithin lengths.now.headers) seen.now }
@@ -44,7 +49,7 @@ pub(crate) fn test_slots<D: Disk>(
 {
     let mut number = base;
     for slot in seen {
-        match load_slot(alloc, disk, slot, lengths)? {
+        match load_slot(alloc, disk, window, slot, lengths)? {
             Ok(_whole) => number += 1,
             Err(damage) => return Err(damage.of_number(number)),
         }
@@ -57,11 +62,13 @@ pub(crate) fn test_slots<D: Disk>(
 pub(crate) fn load_slots<D: Disk>(
     alloc: Global,
     disk: &mut D,
+    window: &mut Window,
     seen: &[SeenSlot],
     lengths: &Lengths,
     base: u32,
 ) -> Result<LoadedSlots, OpenError>
     requires lengths { ForSome (D.device disk.old).contents (AreLengths lengths.now) }
+    requires window { IsWindowOn headers_file lengths.now.headers (D.device disk.old).contents window.old }
     requires base { ForSome (D.device disk.old).contents (λ files. base ≡ (fixed_in files).base) }
     requires seen { ForSome (D.device disk.old).contents (λ files. AreSeen files seen.now) }
     requires within { All (IsSeenWithin lengths.now.headers) seen.now }
@@ -81,7 +88,7 @@ pub(crate) fn load_slots<D: Disk>(
     let mut slots = LoadedSlots::new(alloc)?;
     let mut number = base;
     for slot in seen {
-        match load_slot(alloc, disk, slot, lengths)? {
+        match load_slot(alloc, disk, window, slot, lengths)? {
             Ok(loaded) => slots.push(loaded)?,
             Err(damage) => return Err(damage.of_number(number)),
         }

@@ -3,7 +3,7 @@ ghost use Rattle.std.specs.Prelude.{◌≡◌, ◌+◌, ◌≤◌, IfOk, IfErr, 
 ghost use Rattle.std.specs.Option.{ForSome};
 ghost use Rattle.jb_base.specs.Subfields.{IsSubfieldList, subfield_bytes};
 ghost use Rattle.jb_disk.specs.Device.{OnlyReads};
-ghost use Rattle.jb_disk.specs.declared.file.FileId.TheVariants.{Jhr as headers};
+ghost use Rattle.jb_disk.specs.declared.file.FileId.TheVariants.{Jhr as headers_file};
 ghost use Rattle.jb_model.specs.Sound.{IsTextWithin};
 ghost use Rattle.jb_record.specs.declared.index.IndexRecord.{IndexRecord};
 ghost use Rattle.jb_image.specs.Answers.{FaultRose, IsDamaged};
@@ -11,13 +11,15 @@ ghost use Rattle.jb_image.specs.Lengths.{AreLengths};
 ghost use Rattle.jb_image.specs.Places.{bytes_at};
 ghost use Rattle.jb_image.specs.Reading.{IsCutBy, IsLoadedFrom, IsSeenAs, IsSeenLive, IsSeenWithin};
 ghost use Rattle.jb_image.specs.Stands.{HasSlot, IsLiveIn, head_of};
+ghost use Rattle.jb_image.specs.Windows.{IsWindowOn};
 
 use crate::error::{Damage, ReadError};
 use crate::lengths::Lengths;
 use crate::place::is_text_within;
 use crate::seen::{SeenMessage, SeenSlot};
+use crate::window::Window;
 use jb_base::Subfields;
-use jb_disk::{Disk, FileId};
+use jb_disk::Disk;
 use jb_model::{Head, LoadedMessage, LoadedSlot};
 use jb_record::{MESSAGE_HEADER_BYTES, MessageHeader};
 use jb_subfield::SubfieldError;
@@ -27,23 +29,27 @@ use std::alloc::Global;
 fn read_subfields<D: Disk>(
     alloc: Global,
     disk: &mut D,
+    window: &mut Window,
+    headers_len: u64,
     at: u32,
     len: u32,
 ) -> Result<Result<Subfields, Damage>, ReadError>
     requires few { len ≤ 262_144 }
-    requires inside { ForSome (D.device disk.old).contents (λ files. at + len ≤ length (files headers)) }
+    requires inside { at + len ≤ headers_len }
+    requires window { IsWindowOn headers_file headers_len (D.device disk.old).contents window.old }
     ensures size { IfOk result (λ read. IfOk read (λ fields. length (subfield_bytes fields) ≡ len)) }
     ensures found { IfOk result (λ read. IfOk read (λ fields. ForSome (D.device disk.old).contents (λ files.
-        IsSubfieldList fields (bytes_at at len (files headers))))) }
+        IsSubfieldList fields (bytes_at at len (files headers_file))))) }
     ensures cut { IfOk result (λ read. IfErr read (λ damage. ForSome (D.device disk.old).contents (λ files.
-        IsCutBy (bytes_at at len (files headers)) damage))) }
+        IsCutBy (bytes_at at len (files headers_file)) damage))) }
+    ensures window { IsWindowOn headers_file headers_len (D.device disk.new).contents window.new }
     ensures kept { OnlyReads (D.device disk.old) (D.device disk.new) }
     ensures later { (D.device disk.old).faults ≤ (D.device disk.new).faults }
     ensures cause { IfErr result (FaultRose (D.device disk.old).faults (D.device disk.new).faults) }
 {
-    let mut bytes = vec![in alloc; 0; len as usize]?;
-    disk.read_at(FileId::Jhr, at as u64, bytes.as_mut_slice())?;
-    match jb_subfield::decode(alloc, bytes.as_slice()) {
+    window.reach(disk, at as u64, len as usize)?;
+    let bytes = window.view(at as u64, len as usize);
+    match jb_subfield::decode(alloc, bytes) {
         Ok(fields) => Ok(Ok(fields)),
         Err(SubfieldError::Cut { at }) => Ok(Err(Damage::Subfields { at })),
         Err(SubfieldError::OutOfMemory) => Err(ReadError::OutOfMemory),
@@ -76,10 +82,12 @@ fn head_of(header: &MessageHeader) -> Head
 fn load_message<D: Disk>(
     alloc: Global,
     disk: &mut D,
+    window: &mut Window,
     seen: &SeenMessage,
     lengths: &Lengths,
 ) -> Result<Result<LoadedMessage, Damage>, ReadError>
     requires lengths { ForSome (D.device disk.old).contents (AreLengths lengths.now) }
+    requires window { IsWindowOn headers_file lengths.now.headers (D.device disk.old).contents window.old }
     requires within { IsSeenWithin lengths.now.headers (SeenSlot.Live seen.now) }
     ensures found { IfOk result (λ read. IfOk read (λ message.
         IsLoadedFrom lengths.now.texts (SeenSlot.Live seen.now) (LoadedSlot.Live message))) }
@@ -88,13 +96,14 @@ fn load_message<D: Disk>(
         → (entry.user_crc ≡ message.owner) × IsLiveIn files message))) }
     ensures damaged { IfOk result (λ read. IfErr read (λ damage. ForSome (D.device disk.old).contents (λ files.
         (entry : IndexRecord) → IsSeenLive files entry seen.now → IsDamaged files entry damage))) }
+    ensures window { IsWindowOn headers_file lengths.now.headers (D.device disk.new).contents window.new }
     ensures kept { OnlyReads (D.device disk.old) (D.device disk.new) }
     ensures later { (D.device disk.old).faults ≤ (D.device disk.new).faults }
     ensures cause { IfErr result (FaultRose (D.device disk.old).faults (D.device disk.new).faults) }
 {
     let header = &seen.header;
     let begin = seen.header_at + MESSAGE_HEADER_BYTES as u32;
-    let subfields = match read_subfields(alloc, disk, begin, header.subfields)? {
+    let subfields = match read_subfields(alloc, disk, window, lengths.headers, begin, header.subfields)? {
         Ok(subfields) => subfields,
         Err(damage) => return Ok(Err(damage)),
     };
@@ -116,10 +125,12 @@ fn load_message<D: Disk>(
 pub(crate) fn load_slot<D: Disk>(
     alloc: Global,
     disk: &mut D,
+    window: &mut Window,
     seen: &SeenSlot,
     lengths: &Lengths,
 ) -> Result<Result<LoadedSlot, Damage>, ReadError>
     requires lengths { ForSome (D.device disk.old).contents (AreLengths lengths.now) }
+    requires window { IsWindowOn headers_file lengths.now.headers (D.device disk.old).contents window.old }
     requires within { IsSeenWithin lengths.now.headers seen.now }
 
     // The slot, or the first test that it fails.
@@ -130,6 +141,7 @@ pub(crate) fn load_slot<D: Disk>(
         (entry : IndexRecord) → IsSeenAs files entry seen.now → IsDamaged files entry damage))) }
 
     // The disk is only read.
+    ensures window { IsWindowOn headers_file lengths.now.headers (D.device disk.new).contents window.new }
     ensures kept { OnlyReads (D.device disk.old) (D.device disk.new) }
     ensures later { (D.device disk.old).faults ≤ (D.device disk.new).faults }
     ensures cause { IfErr result (FaultRose (D.device disk.old).faults (D.device disk.new).faults) }
@@ -139,7 +151,7 @@ pub(crate) fn load_slot<D: Disk>(
         SeenSlot::Killed { header_at } => Ok(Ok(LoadedSlot::Killed {
             header_at: *header_at,
         })),
-        SeenSlot::Live(message) => match load_message(alloc, disk, message, lengths)? {
+        SeenSlot::Live(message) => match load_message(alloc, disk, window, message, lengths)? {
             Ok(message) => Ok(Ok(LoadedSlot::Live(message))),
             Err(damage) => Ok(Err(damage)),
         },

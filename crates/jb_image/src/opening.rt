@@ -3,7 +3,6 @@ ghost use Rattle.std.specs.Prelude.{◌≡◌, ◌+◌, ◌*◌, ◌≤◌, ℕ,
 ghost use Rattle.std.specs.Option.{ForSome};
 ghost use Rattle.jb_base.specs.Fault.{Rose};
 ghost use Rattle.jb_disk.specs.Device.{OnlyReads};
-ghost use Rattle.jb_disk.specs.declared.file.FileId.TheVariants.{Jdx as index_file};
 ghost use Rattle.jb_extent.specs.Extents.{AreDisjoint};
 ghost use Rattle.jb_model.specs.Sound.{IsSound, IsSlotWithin, AreApart};
 ghost use Rattle.jb_image.specs.Answers.{AnswersFor, FaultRose, IsRefusedBy, OpenFaultRose, OpensTo};
@@ -16,13 +15,14 @@ ghost use Rattle.jb_image.specs.Stands.{fixed_of};
 use crate::OpenError;
 use crate::error::ReadError;
 use crate::fixed::{count_slots, read_fixed};
-use crate::index::{Seen, read_index, see_slots};
+use crate::index::{Seen, see_slots};
 use crate::lengths::Lengths;
 use crate::loading::{load_slots, test_slots};
 use crate::marks::read_marks;
 use crate::overlap::overlap_of;
+use crate::window::Window;
 use jb_base::OutOfMemory;
-use jb_disk::Disk;
+use jb_disk::{Disk, FileId};
 use jb_model::{Loaded, LoadedMarks, LoadedSlots};
 use jb_record::FixedHeader;
 use std::alloc::Global;
@@ -56,16 +56,14 @@ fn later_refusal(alloc: Global, seen: &Seen, base: u32) -> Result<Option<OpenErr
 fn read_slots<D: Disk>(
     alloc: Global,
     disk: &mut D,
-    index: &[u8],
     lengths: &Lengths,
     base: u32,
     count: u32,
 ) -> Result<LoadedSlots, OpenError>
-    requires all { length index.now ≡ 8 * count }
+    requires all { lengths.now.index ≡ 8 * count }
     requires numbers { base + count ≤ 4_294_967_295 }
     requires lengths { ForSome (D.device disk.old).contents (AreLengths lengths.now) }
     requires base { ForSome (D.device disk.old).contents (λ files. base ≡ (fixed_in files).base) }
-    requires index { ForSome (D.device disk.old).contents (λ files. index.now ≡ files index_file) }
 
     // The slots.
     ensures count_is { IfOk result (λ slots. length slots ≡ count) }
@@ -80,13 +78,15 @@ fn read_slots<D: Disk>(
     ensures later { (D.device disk.old).faults ≤ (D.device disk.new).faults }
     ensures cause { IfErr result (OpenFaultRose (D.device disk.old).faults (D.device disk.new).faults) }
 {
-    let seen = see_slots(alloc, disk, index, lengths, count as usize)?;
+    let mut window = Window::new(alloc, FileId::Jhr, lengths.headers);
+    let seen = see_slots(alloc, disk, &mut window, lengths, count as usize)?;
+    let slots = seen.slots.as_slice();
     match later_refusal(alloc, &seen, base)? {
         Some(later) => {
-            test_slots(alloc, disk, seen.slots.as_slice(), lengths, base)?;
+            test_slots(alloc, disk, &mut window, slots, lengths, base)?;
             Err(later)
         }
-        None => load_slots(alloc, disk, seen.slots.as_slice(), lengths, base),
+        None => load_slots(alloc, disk, &mut window, slots, lengths, base),
     }
 }
 
@@ -137,8 +137,7 @@ fn read_area<D: Disk>(
 {
     let fixed = read_fixed(disk, lengths, limit)?;
     let count = count_slots(&fixed, lengths, limit)?;
-    let index = read_index(alloc, disk, lengths.index)?;
-    let slots = read_slots(alloc, disk, index.as_slice(), lengths, fixed.base, count)?;
+    let slots = read_slots(alloc, disk, lengths, fixed.base, count)?;
     let marks = read_marks(alloc, disk, lengths.lastread)?;
     Ok(loaded_of(&fixed, lengths, slots, marks))
 }

@@ -6,24 +6,25 @@ use Rattle.jb_image.proofs.loading.test_slots.Goals as goal
 pub returns-in-Err-clause-refused : goal.returns-in-Err-clause-refused
 returns-in-Err-clause-refused g c = λ files contents_is.
     let damaged = rw c.in-Err.is at c.in_ok-_whole.ensures.damaged in
-    let so_far = c.loop-slot.invariant.1 in
+    let so_far = c.loop-slot.invariant.so_far in
     let seen = c.requires.seen files contents_is in
     let low = c.loop-slot-test.true in
     refused_by_slot files c.loop-slot.number c.in-Err.damage _ c.of_number.ensures
-    (first_damaged files c.args.base c.loop-slot.number c.loop-slot.slot-index c.in-Err.damage (c.requires.base files contents_is) c.loop-slot.invariant.0
+    (first_damaged files c.args.base c.loop-slot.number c.loop-slot.slot-index c.in-Err.damage (c.requires.base files contents_is) c.loop-slot.invariant.numbered
     (omega (arith, seen.few)) (so_far.told files contents_is)
     (damaged files (so_far.kept.contents ∙ contents_is) _ (seen.each c.loop-slot.slot-index _ low)))
 
 pub loop-slot-preserved : goal.loop-slot-preserved
 loop-slot-preserved g c =
     let named = rw c.in-Ok.is at c.in_ok-_whole.ensures.named in
-    let so_far = c.loop-slot.invariant.1 in
-    let low = c.loop-slot-test.true in (
-      omega (arith, c.loop-slot.invariant.0),
-      AreWholeSoFar-next _ _ _ c.loop-slot.slot-index _ so_far c.load_slot.ensures.kept c.load_slot.ensures.later
-          (λ files contents_is. named files (so_far.kept.contents ∙ contents_is) _ ((c.requires.seen files contents_is).each c.loop-slot.slot-index _ low)),
-    )
+    let so_far = c.loop-slot.invariant.so_far in
+    let low = c.loop-slot-test.true in record {
+      numbered = omega (arith, c.loop-slot.invariant.numbered);
+      so_far = AreWholeSoFar-next _ _ _ c.loop-slot.slot-index _ so_far c.load_slot.ensures.kept c.load_slot.ensures.later
+          (λ files contents_is. named files (so_far.kept.contents ∙ contents_is) _ ((c.requires.seen files contents_is).each c.loop-slot.slot-index _ low));
+      window = c.load_slot.ensures.window;
+    }
 
 pub returns-clause-passed : goal.returns-clause-passed
 returns-clause-passed g c = λ files contents_is k low.
-    c.loop-slot.invariant.1.told files contents_is k (omega (arith, low))
+    c.loop-slot.invariant.so_far.told files contents_is k (omega (arith, low))

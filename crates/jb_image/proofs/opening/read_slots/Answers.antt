@@ -18,8 +18,8 @@ returns-in-Some-clause-refused g c = λ files contents_is.
     let now = c.see_slots.ensures.kept.contents ∙ contents_is in
     let later = rw c.in-Some.is at c.in_ok-later.ensures.found in
     let passed = c.in_ok-test_slots-in-Some.ensures.passed files now in
-    let same = ap length c.as_slice.ensures.value in
-    let index_is = ap length (c.requires.index files contents_is) in
+    let same = ap length c.as_slice-slots.ensures.value in
+    let index_is = (c.requires.lengths files contents_is).index in
     later_refused files c.args.base c.args.count c.in_ok-seen.seen.slots.items c.in_ok-seen.seen.damage c.in-Some.later
     (c.requires.base files contents_is) (omega (arith, c.requires.all, index_is)) (c.in_ok-seen.ensures.found files contents_is)
     (λ k low. passed k (omega (arith, low, same)))
@@ -28,13 +28,13 @@ returns-in-Some-clause-refused g c = λ files contents_is.
 
 pub returns-clause-within : goal.returns-clause-within
 returns-clause-within g c =
-    let found = subst (λ (l : List SeenSlot). IfOk c.load_slots.result (AreLoadedFrom c.args.lengths.now.texts l)) c.as_slice-in-None.ensures.value c.load_slots.ensures.found in
+    let found = subst (λ (l : List SeenSlot). IfOk c.load_slots.result (AreLoadedFrom c.args.lengths.now.texts l)) c.as_slice-slots.ensures.value c.load_slots.ensures.found in
     IfOk-weaker c.load_slots.result _ (All (IsSlotWithin c.args.lengths.now.headers c.args.lengths.now.texts))
     (λ made from. all_within c.args.lengths.now.headers c.args.lengths.now.texts c.in_ok-seen.seen.slots.items made c.in_ok-seen.ensures.within from) found
 
 pub returns-clause-apart : goal.returns-clause-apart
 returns-clause-apart g c =
-    let found = subst (λ (l : List SeenSlot). IfOk c.load_slots.result (AreLoadedFrom c.args.lengths.now.texts l)) c.as_slice-in-None.ensures.value c.load_slots.ensures.found in
+    let found = subst (λ (l : List SeenSlot). IfOk c.load_slots.result (AreLoadedFrom c.args.lengths.now.texts l)) c.as_slice-slots.ensures.value c.load_slots.ensures.found in
     let none = rw c.in-None.is at c.in_ok-later.ensures.none in
     let whole = rw c.in-None.is at c.in_ok-later.ensures.whole in
     IfOk-weaker c.load_slots.result _ (AllPairs AreApart)
