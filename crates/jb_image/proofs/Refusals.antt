@@ -7,9 +7,7 @@ use Rattle.jb_image.specs.declared.error.Damage.{Damage}
 use Rattle.jb_image.specs.declared.error.Damage.TheVariants as damaged
 use Rattle.jb_image.specs.declared.error.OpenError.{OpenError}
 use Rattle.jb_image.specs.declared.error.OpenError.TheVariants as refused
-use Rattle.jb_image.specs.declared.error.ReadError.{ReadError}
-use Rattle.jb_image.specs.declared.error.ReadError.TheVariants as unread
-use Rattle.jb_image.specs.Answers.{IsDamaged, IsFirstDamaged, IsRefusedBy, opening_of, refusal_of}
+use Rattle.jb_image.specs.Answers.{IsDamaged, IsFirstDamaged, refusal_of}
 use Rattle.jb_image.specs.Places.{entry_in, fixed_in}
 use Rattle.jb_image.specs.Reading.{IsRefusedAmongSlots, IsRefusedBySlot}
 use Rattle.jb_image.specs.Tests.{IsWholeSlot, slots_in}
@@ -59,8 +57,3 @@ first_damaged files base number slot damage base_is number_is inside lower here 
 pub refused_among_slots : (files : Files) (error : OpenError) → IsRefusedBySlot files error → IsRefusedAmongSlots files error
 refused_among_slots files (refused.HeadersOverlap a b) is = absurd is
 refused_among_slots files _ is = is
-
--- a part that is not read refuses nothing of the files
-pub refused_in_part : (limit : ℕ) (files : Files) (part : ReadError) (error : OpenError) → error ≡ opening_of part → IsRefusedBy limit files error
-refused_in_part limit files unread.StoreFault error error_is = subst (IsRefusedBy limit files) (sym error_is) tt
-refused_in_part limit files unread.OutOfMemory error error_is = subst (IsRefusedBy limit files) (sym error_is) tt

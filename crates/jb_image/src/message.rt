@@ -103,7 +103,14 @@ fn load_message<D: Disk>(
 {
     let header = &seen.header;
     let begin = seen.header_at + MESSAGE_HEADER_BYTES as u32;
-    let subfields = match read_subfields(alloc, disk, window, lengths.headers, begin, header.subfields)? {
+    let subfields = match read_subfields(
+        alloc,
+        disk,
+        window,
+        lengths.headers,
+        begin,
+        header.subfields,
+    )? {
         Ok(subfields) => subfields,
         Err(damage) => return Ok(Err(damage)),
     };

@@ -1,4 +1,4 @@
-use Rattle.std.proofs.Common.{◌≡◌, ◌∙◌, sym, subst, arith}
+use Rattle.std.proofs.Common.{◌∙◌, subst, arith}
 use Rattle.jb_record.specs.declared.index.IndexRecord.{IndexRecord}
 use Rattle.jb_image.specs.Reading.{IsSeenAs}
 use Rattle.jb_image.proofs.FileBytes.{reads_on}

@@ -1,4 +1,4 @@
-use Rattle.std.proofs.Common.{◌≡◌, refl, rules}
+use Rattle.std.proofs.Common.{refl}
 use Rattle.jb_image.proofs.WindowLemmas.{window_empty, window_same}
 use Rattle.jb_image.proofs.window.Window.fill.Goals as goal
 

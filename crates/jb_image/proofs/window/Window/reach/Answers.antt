@@ -1,6 +1,6 @@
-use Rattle.std.proofs.Common.{◌≡◌, ℕ, ◌+◌, ap, ◌∙◌, refl, arith, Result, Ok, Err, OnOk}
+use Rattle.std.proofs.Common.{ap, ◌∙◌, refl, arith, Result, Ok, Err, OnOk}
 use Rattle.jb_image.specs.Places.{bytes_at}
-use Rattle.jb_image.specs.Windows.{Covers, seen_at}
+use Rattle.jb_image.specs.Windows.{seen_at}
 use Rattle.jb_image.proofs.WindowLemmas.{seen_shown}
 use Rattle.jb_image.proofs.window.Window.reach.Goals as goal
 
