@@ -1,14 +1,16 @@
 -- The head of the journal is written.
-use Rattle.std.proofs.Common.{◌≡◌, inl, inr, ℕ, ◌<◌, ◌≤◌, length, replicate, refl, ap, sym, ◌∙◌, subst, arith, Option, Some, None}
+use Rattle.std.proofs.Common.{◌≡◌, ◌≢◌, inl, inr, ℕ, ◌<◌, ◌≤◌, List, [], ◌∷◌, length, replicate, refl, ap, sym, ◌∙◌, subst, arith, Option, Some, None}
 use Rattle.std.specs.Option.{ForSome, option_map}
 use Rattle.jb_disk.specs.declared.file.FileId.{FileId}
 use Rattle.jb_disk.specs.declared.file.FileId.TheVariants.{Jnl}
 use Rattle.jb_disk.specs.Files.{Files, with_file, InFile}
 use Rattle.jb_disk.specs.FileLaws.{same_file, same_files, with_file-here, with_file-other}
 use Rattle.jb_disk.specs.Steps.{Torn, Cut}
-use Rattle.jb_disk.specs.Device.{Device, Turns}
+use Rattle.jb_disk.specs.Device.{Device, Turns, MayChange, and_then}
+use Rattle.jb_disk.specs.Images.{Images, Unsynced, just_synced, with_image}
+use Rattle.jb_disk.specs.ImageLaws.{with_image-here, with_image-other}
 use Rattle.jb_disk.specs.Runs.{LeavesNow, Shows, Keeps, IsAllSynced}
-use Rattle.jb_journal.specs.Prepare.{IsPrepared, IsPreparing}
+use Rattle.jb_journal.specs.Prepare.{AddsNoneUnsynced, FromNewest, IsPrepared, IsPreparing}
 use Rattle.jb_journal.proofs.Told.{only_told, told_back}
 use Rattle.jb_journal.proofs.SyncLemmas.{leaves_map, leaves_both}
 
@@ -82,3 +84,49 @@ synced_prepared old new short told durable keeps synced = λ final there.
       | inl same ↦ subst (λ (f : FileId). left f ≡ with_file Jnl (replicate 16 0) start f) (sym same) (jnl ∙ sym (with_file-here Jnl (replicate 16 0) start))
       | inr other ↦ is.same file other ∙ sym (with_file-other Jnl file (replicate 16 0) start other)
     ]) ∙ sym back.2) shows.left (durable start back.1)
+
+-- but for one file a crash leaves what it might have left before
+abbrev AgreeBut : FileId → Images → Images → Type 0
+AgreeBut file was now = (other : FileId) → other ≢ file → now other ≡ was other
+
+-- nothing has come
+pub newest_same : (P : Images → Images → Type 0) (old new : List Images) → ((images : Images) → P images images) → new ≡ old → FromNewest P old new
+newest_same P old new is same = subst (FromNewest P old) (sym same) (by_moments old)
+  where
+    by_moments : (moments : List Images) → FromNewest P moments moments
+    by_moments [] = tt
+    by_moments (now ∷ earlier) = is now
+
+-- a call for one file
+pub newest_change : (file : FileId) (change : Unsynced → Unsynced) (old new : List Images) → MayChange (with_image file change) old new → FromNewest (AgreeBut file) old new
+newest_change file change old new (inl same) = newest_same (AgreeBut file) old new (λ images other ne. refl) same
+newest_change file change old new (inr more) = subst (FromNewest (AgreeBut file) old) (sym more) (by_moments old)
+  where
+    by_moments : (moments : List Images) → FromNewest (AgreeBut file) moments (and_then (with_image file change) moments)
+    by_moments [] = tt
+    by_moments (now ∷ earlier) = λ other ne. with_image-other file other change now ne
+
+-- one call after another
+pub newest_then : (P Q R : Images → Images → Type 0) (a b c : List Images) → ((x y z : Images) → P x y → Q y z → R x z) → FromNewest P a b → FromNewest Q b c → FromNewest R a c
+newest_then P Q R [] [] [] both p q = tt
+newest_then P Q R [] [] (z ∷ zs) both p q = absurd q
+newest_then P Q R [] (y ∷ ys) c both p q = absurd p
+newest_then P Q R (x ∷ xs) [] c both p q = absurd p
+newest_then P Q R (x ∷ xs) (y ∷ ys) [] both p q = absurd q
+newest_then P Q R (x ∷ xs) (y ∷ ys) (z ∷ zs) both p q = both x y z p q
+
+-- two calls for one file, and its sync
+pub newest_synced : (files : Files) (a b c d : List Images) → FromNewest (AgreeBut Jnl) a b → FromNewest (AgreeBut Jnl) b c → d ≡ and_then (with_image Jnl (λ _. just_synced (files Jnl))) c
+    → FromNewest (AddsNoneUnsynced files) a d
+newest_synced files a b c d first second synced =
+    let two = newest_then (AgreeBut Jnl) (AgreeBut Jnl) (AgreeBut Jnl) a b c (λ x y z p q other ne. q other ne ∙ p other ne) first second in
+    subst (FromNewest (AddsNoneUnsynced files) a) (sym synced) (by_moments a c two)
+  where
+    by_moments : (from moments : List Images) → FromNewest (AgreeBut Jnl) from moments → FromNewest (AddsNoneUnsynced files) from (and_then (with_image Jnl (λ _. just_synced (files Jnl))) moments)
+    by_moments [] [] same = tt
+    by_moments [] (now ∷ since) same = absurd same
+    by_moments (was ∷ earlier) [] same = absurd same
+    by_moments (was ∷ earlier) (now ∷ since) same = λ file. elim (same_file file Jnl) [
+      | inl jnl ↦ inr (subst (λ (f : FileId). with_image Jnl (λ _. just_synced (files Jnl)) now f ≡ just_synced (files f)) (sym jnl) (with_image-here Jnl (λ _. just_synced (files Jnl)) now))
+      | inr other ↦ inl (with_image-other Jnl file (λ _. just_synced (files Jnl)) now other ∙ same file other)
+    ]

@@ -1,8 +1,10 @@
 -- What a commit that was stopped leaves, and what settling makes of it.
 use Rattle.std.specs.Prelude.{◌≡◌, ◌≢◌, ◌⊎◌, ◌≤◌, Bool, length, slice_index, if◌then◌else◌}
+use Rattle.std.specs.Option.{ForSome}
 use Rattle.jb_disk.specs.declared.file.FileId.TheVariants.{Jnl}
 use Rattle.jb_disk.specs.Change.{Change}
-use Rattle.jb_disk.specs.Device.{Device}
+use Rattle.jb_disk.specs.Device.{Device, MayChange}
+use Rattle.jb_disk.specs.Images.{just_synced, with_image}
 use Rattle.jb_disk.specs.Files.{Files}
 use Rattle.jb_disk.specs.Runs.{Shows}
 use Rattle.jb_disk.specs.Gate.{IsGateOpen}
@@ -35,6 +37,11 @@ pub record HasStopped (stopped : Stopped) (change : Change) (device : Device) : 
 abbrev pub DoubtReplays : Stopped → Change → Files → Files → Type 0
 DoubtReplays Early change start files = IsBeforeOrAfter change start files
 DoubtReplays Late change start files = ReplaysTo (changed change start) files
+
+-- behind a gate that reads as open nothing was tried but to sync the journal, so that the gate was not read yet
+abbrev pub HasTriedToSync : Device → Device → Type 0
+HasTriedToSync old new = ForSome old.contents (λ files. IsGateOpen files
+    → MayChange (with_image Jnl (λ _. just_synced (files Jnl))) old.moments new.moments)
 
 -- the files as the answer says: with the change, or as they were
 abbrev pub answered : Bool → Change → Files → Files

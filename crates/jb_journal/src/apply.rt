@@ -1,5 +1,5 @@
 //! Stage 3: the lengths are set, the pieces are written, and the changed files are synced.
-ghost use Rattle.std.specs.Prelude.{◌≡◌, ◌≢◌, ◌<◌, All, List, length, OnOk, false};
+ghost use Rattle.std.specs.Prelude.{◌≡◌, ◌≢◌, ◌↔◌, ◌<◌, All, List, length, OnOk, false};
 ghost use Rattle.std.specs.Option.{option_map, ForSome};
 ghost use Rattle.jb_disk.specs.declared.file.FileId.{FileId};
 ghost use Rattle.jb_disk.specs.declared.piece.Length.{Length};
@@ -77,7 +77,7 @@ fn put_pieces<D: Disk>(disk: &mut D, redo: &Redo) -> Result<(), DiskFailed>
 
 // Whether a new length is one of this file.
 fn sets(lengths: &[Length], file: FileId) -> bool
-    ensures { result ≡ false → All (λ entry. number_of (entry.file) ≢ number_of file) lengths.now }
+    ensures { (result ≡ false) ↔ All (λ entry. number_of (entry.file) ≢ number_of file) lengths.now }
 {
     lengths
         .iter()
@@ -86,7 +86,7 @@ fn sets(lengths: &[Length], file: FileId) -> bool
 
 // Whether a piece is written into this file.
 fn writes(redo: &Redo, file: FileId) -> bool
-    ensures { result ≡ false → All (λ piece.
+    ensures { (result ≡ false) ↔ All (λ piece.
         number_of (target_of piece) ≢ number_of file) redo.now.pieces }
 {
     for k in 0..redo.pieces() {
@@ -99,18 +99,20 @@ fn writes(redo: &Redo, file: FileId) -> bool
 
 // Whether the change speaks of this file.
 fn is_changed(redo: &Redo, file: FileId) -> bool
-    ensures { result ≡ false → IsUnmentioned redo.now.lengths redo.now.pieces file }
+    ensures { (result ≡ false) ↔ IsUnmentioned redo.now.lengths redo.now.pieces file }
 {
     sets(redo.lengths(), file) || writes(redo, file)
 }
 
-// Syncs a file of which the change speaks.
+// Syncs a file of which the change speaks, and does nothing with another.
 fn sync_if_changed<D: Disk>(disk: &mut D, redo: &Redo, file: FileId) -> Result<(), DiskFailed>
     ensures kept { OnOk result ((D.device disk.new).contents ≡ (D.device disk.old).contents) }
     ensures durable { OnOk result ((start : Files)
         → Shows (IsOnTheWay redo.now.lengths redo.now.pieces start) (D.device disk.old)
         → ForSome (D.device disk.old).contents (λ final. LeavesNow (λ left.
         left file ≡ final file) (D.device disk.new).moments)) }
+    ensures quiet { IsUnmentioned redo.now.lengths redo.now.pieces file
+        → D.device disk.new ≡ D.device disk.old }
 
     // What was known of what a crash leaves.
     ensures keeps { (start : Files)

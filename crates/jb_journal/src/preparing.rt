@@ -7,7 +7,7 @@ ghost use Rattle.jb_disk.specs.Device.{FailsBy, StaysSilent, Turns};
 ghost use Rattle.jb_disk.specs.Files.{Files, with_file};
 ghost use Rattle.jb_disk.specs.Runs.{LeavesNow, Shows, Keeps, LeavesOnly, IsAllSynced};
 ghost use Rattle.jb_journal.specs.declared.stopped.Stopped.TheVariants.{Early};
-ghost use Rattle.jb_journal.specs.Prepare.{IsPrepared, IsPreparing};
+ghost use Rattle.jb_journal.specs.Prepare.{AddsNoneUnsynced, FromNewest, IsPrepared, IsPreparing};
 
 use crate::Stopped;
 use jb_disk::{Disk, DiskFailed, FileId};
@@ -18,6 +18,8 @@ fn write_head<D: Disk>(disk: &mut D) -> Result<(), DiskFailed>
         16 0)) (D.device disk.old).contents) }
     ensures durable { OnOk result (ForSome (D.device disk.old).contents (λ files. LeavesNow (λ left.
         left Jnl ≡ replicate 16 0) (D.device disk.new).moments)) }
+    ensures own { OnOk result (ForSome (D.device disk.new).contents (λ files.
+        FromNewest (AddsNoneUnsynced files) (D.device disk.old).moments (D.device disk.new).moments)) }
     ensures keeps { (start : Files) → length (start Jnl) ≤ 16
         → Keeps (IsPreparing start) (D.device disk.old) (D.device disk.new) }
     ensures cause { FailsBy ⊥ (D.device disk.old) (D.device disk.new) result }
@@ -33,6 +35,8 @@ pub(crate) fn make_head<D: Disk>(disk: &mut D) -> Result<(), DiskFailed>
         (D.device disk.new).contents) }
     ensures durable { OnOk result (IsAllSynced (D.device disk.old)
         → IsAllSynced (D.device disk.new)) }
+    ensures own { OnOk result (ForSome (D.device disk.new).contents (λ files.
+        FromNewest (AddsNoneUnsynced files) (D.device disk.old).moments (D.device disk.new).moments)) }
     ensures keeps { ForSome (D.device disk.old).contents (λ start.
         Keeps (IsPreparing start) (D.device disk.old) (D.device disk.new)) }
     ensures cause { FailsBy ⊥ (D.device disk.old) (D.device disk.new) result }
@@ -52,6 +56,10 @@ pub fn prepare<D: Disk>(disk: &mut D) -> Result<(), Stopped>
         (D.device disk.new).contents) }
     ensures durable { OnOk result (IsAllSynced (D.device disk.old)
         → IsAllSynced (D.device disk.new)) }
+
+    // It leaves no unsynced write of its own, whatever was unsynced before.
+    ensures own { OnOk result (ForSome (D.device disk.new).contents (λ files.
+        FromNewest (AddsNoneUnsynced files) (D.device disk.old).moments (D.device disk.new).moments)) }
 
     // A refusal is early, and has a fault as its cause.
     ensures early { IfErr result (λ stopped. stopped ≡ Early) }

@@ -4,15 +4,16 @@ ghost use Rattle.std.specs.Option.{ForSome};
 ghost use Rattle.jb_base.specs.Fault.{Rose};
 ghost use Rattle.jb_disk.specs.declared.file.FileId.TheVariants.{Jnl};
 ghost use Rattle.jb_disk.specs.Change.{Change};
-ghost use Rattle.jb_disk.specs.Device.{FailsBy, StaysSilent};
+ghost use Rattle.jb_disk.specs.Device.{FailsBy, MayChange, StaysSilent};
 ghost use Rattle.jb_disk.specs.Files.{Files};
+ghost use Rattle.jb_disk.specs.Images.{just_synced, with_image};
 ghost use Rattle.jb_disk.specs.Runs.{LeavesNow, Shows, Keeps, LeavesOnly, IsAllSynced};
 ghost use Rattle.jb_disk.specs.Gate.{IsGateOpen};
 ghost use Rattle.jb_redo.specs.Rules.{AreLegalLengths};
 ghost use Rattle.jb_journal.specs.declared.stopped.Stopped.{Stopped};
 ghost use Rattle.jb_journal.specs.declared.stopped.Stopped.TheVariants.{Early, Late};
 ghost use Rattle.jb_journal.specs.Commit.{IsReady};
-ghost use Rattle.jb_journal.specs.Doubt.{IsInDoubt, HasStopped, DoubtReplays, IsSettledAt, answered};
+ghost use Rattle.jb_journal.specs.Doubt.{IsInDoubt, HasStopped, HasTriedToSync, DoubtReplays, IsSettledAt, answered};
 
 use crate::Stopped;
 use crate::committing::finish;
@@ -27,6 +28,9 @@ fn sync_gate<D: Disk>(disk: &mut D) -> Result<bool, DiskFailed>
     ensures kept { OnOk result ((D.device disk.new).contents ≡ (D.device disk.old).contents) }
     ensures durable { OnOk result (ForSome (D.device disk.old).contents (λ files. LeavesNow (λ left.
         left Jnl ≡ files Jnl) (D.device disk.new).moments)) }
+    ensures asks { ForSome (D.device disk.old).contents (λ files.
+        MayChange (with_image Jnl (λ _. just_synced (files Jnl))) (D.device disk.old).moments
+        (D.device disk.new).moments) }
     ensures keeps { (stopped : Stopped) (change : Change) (start : Files)
         → Keeps (IsInDoubt stopped change start) (D.device disk.old) (D.device disk.new) }
     ensures cause { FailsBy ⊥ (D.device disk.old) (D.device disk.new) result }
@@ -58,7 +62,8 @@ pub fn settle<D: Disk>(disk: &mut D, redo: &Redo, stopped: Stopped) -> Result<bo
         → ForSome (D.device disk.old).contents (λ files. IsTrue stands ↔ IsGateOpen files)) }
     ensures late { IfOk result (λ stands. stopped ≡ Late → IsTrue stands) }
 
-    // Stopped again: only by a fault, with the doubt that it says; late stays late, and becomes late by an open gate alone.
+    // Stopped again: only by a fault, with the doubt that it says. Late stays late, and early becomes late by an open gate
+    // alone; by one it does, but for a stop that comes before the gate is read.
     ensures cause { OnErr result (Rose (D.device disk.old).faults (D.device disk.new).faults) }
     ensures later { (D.device disk.old).faults ≤ (D.device disk.new).faults }
     ensures still { IfErr result (λ again. (start : Files) → IsReady redo.now start
@@ -67,6 +72,8 @@ pub fn settle<D: Disk>(disk: &mut D, redo: &Redo, stopped: Stopped) -> Result<bo
     ensures late_stays { IfErr result (λ again. stopped ≡ Late → again ≡ Late) }
     ensures late_by { IfErr result (λ again. stopped ≡ Early → again ≡ Late
         → ForSome (D.device disk.old).contents IsGateOpen) }
+    ensures early_by { IfErr result (λ again. again ≡ Early
+        → HasTriedToSync (D.device disk.old) (D.device disk.new)) }
 
     // A crash at any moment leaves what the doubt allows.
     ensures crash { (start : Files) → IsReady redo.now start

@@ -1,10 +1,14 @@
-use Rattle.std.proofs.Common.{◌≡◌, sym, ◌∙◌}
+use Rattle.std.proofs.Common.{◌≡◌, Bool, true, false, sym, ◌∙◌}
 use Rattle.jb_redo.specs.OnTheWay.{IsOnTheWay}
 use Rattle.jb_disk.proofs.RunLemmas.{keeps-sync, durable}
 use Rattle.jb_journal.proofs.Told.{on_ok}
 use Rattle.jb_journal.proofs.ApplyLemmas.{unmentioned_same}
 use Rattle.jb_journal.proofs.SyncLemmas.{leaves_map}
 use Rattle.jb_journal.proofs.apply.sync_if_changed.Goals as goal
+
+-- true is not false
+not_both : {b : Bool} → b ≡ true → b ≡ false → ⊥
+not_both first second = cc
 
 pub returns-then-is_changed-clause-durable : goal.returns-then-is_changed-clause-durable
 returns-then-is_changed-clause-durable g c = on_ok c.sync.result _ _ (λ done. λ start shows final there.
@@ -18,8 +22,11 @@ returns-then-is_changed-clause-others g c = λ other final. keeps-sync (λ left.
 
 pub returns-else-is_changed-clause-durable : goal.returns-else-is_changed-clause-durable
 returns-else-is_changed-clause-durable g c = λ start shows final there.
-    let none = c.is_changed.ensures c.if-is_changed.false in
+    let none = c.is_changed.ensures.0 c.if-is_changed.false in
     let lengths = c.args.redo.now.lengths in
     let pieces = c.args.redo.now.pieces in
     leaves_map (IsOnTheWay lengths pieces start) (λ left. left c.args.file ≡ final c.args.file) _
     (λ left way. unmentioned_same lengths pieces c.args.file start left none way ∙ sym (unmentioned_same lengths pieces c.args.file start final none (shows.read final there))) shows.left
+
+pub returns-then-is_changed-clause-quiet : goal.returns-then-is_changed-clause-quiet
+returns-then-is_changed-clause-quiet g c = λ none. absurd (not_both c.if-is_changed.true (c.is_changed.ensures.1 none))

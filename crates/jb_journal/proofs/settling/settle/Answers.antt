@@ -243,3 +243,11 @@ returns-in-Late-clause-crash g c = λ start ready shows.
     let keeps = c.sync_gate.ensures.keeps stopped redo start in
     let shows1 = keeps.shows shows in
     record { first = doubt_first redo start ready stopped d0 shows; run = doubt_run redo start ready stopped d0 d1 keeps shows }
+
+pub returns-in_default-clause-early_by : goal.returns-in_default-clause-early_by
+returns-in_default-clause-early_by g c = λ early files there is_open. c.sync_gate.ensures.asks files there
+
+pub returns-in_default-make_head-clause-early_by : goal.returns-in_default-make_head-clause-early_by
+returns-in_default-make_head-clause-early_by g c = λ early files there is_open.
+    let yes = (c.in-Ok.ensures.found files there).1 is_open in
+    absurd (not_true (sym c.if-is_open.false ∙ yes))

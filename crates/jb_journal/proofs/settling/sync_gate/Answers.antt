@@ -1,4 +1,4 @@
-use Rattle.std.proofs.Common.{◌≡◌, sym, subst}
+use Rattle.std.proofs.Common.{◌≡◌, inl, inr, sym, ◌∙◌, subst}
 use Rattle.jb_disk.specs.declared.file.FileId.TheVariants.{Jnl}
 use Rattle.jb_disk.specs.Runs.{LeavesNow}
 use Rattle.jb_disk.proofs.RunLemmas.{keeps-then, keeps-reads, keeps-sync, durable}
@@ -18,3 +18,9 @@ pub returns-clause-durable : goal.returns-clause-durable
 returns-clause-durable g c = on_ok_always c.is_gate_open.result _ (λ files there.
     subst (LeavesNow (λ left. left Jnl ≡ files Jnl)) (sym c.is_gate_open.ensures.kept.moments)
     (durable Jnl files (g.D.Disk.device c.args.disk.now) (g.D.Disk.device c.sync.new.self) there c.in_ok-sync.ensures.changed.done))
+
+pub returns-in_err-sync-clause-asks : goal.returns-in_err-sync-clause-asks
+returns-in_err-sync-clause-asks g c = λ files there. inl c.in_err-sync.ensures.changed.failed
+
+pub returns-clause-asks : goal.returns-clause-asks
+returns-clause-asks g c = λ files there. inr (c.is_gate_open.ensures.kept.moments ∙ c.in_ok-sync.ensures.changed.done files there)
