@@ -1,6 +1,7 @@
 -- A call that was decided is begun, and then it ends.
 use Rattle.std.proofs.Common.{◌≡◌, ℕ, ◌+◌, ◌≤◌, Bool, List, [], ◌∷◌, length, Result, Ok, Err, IfErr, IsOk, OnErr, OnOk, Some, ap, refl, sym, ◌∙◌, subst, arith}
 use Rattle.std.specs.Option.{ForSome}
+use Rattle.std.specs.Prelude.{is_some}
 use Rattle.jb_base.specs.Fault.{Rose}
 use Rattle.jb_base.specs.declared.area.AreaRules.{AreaRules}
 use Rattle.jb_base.specs.declared.user.User.{User}
@@ -32,7 +33,7 @@ use Rattle.jb_area.specs.Area.{files_after, HasBegun, HasMade, HasNoChange, IsDo
 use Rattle.jb_area.specs.Calls.{BeginsCall, EndsCall, FailsWith, HasAnswered, HasStoppedIn, IsBegunFor, MeetsCall}
 use Rattle.jb_area.specs.Holds.{OpensToEither}
 use Rattle.jb_area.specs.declared.area.OpenArea.{OpenArea}
-use Rattle.jb_area.proofs.Outcomes.{if_ok_then2}
+use Rattle.jb_area.proofs.Outcomes.{if_ok_then2, on_ok_then}
 use Rattle.jb_area.proofs.StartLemmas.{err_not_ok, fails_with}
 
 -- what a crash leaves, from a device that was at most read since
@@ -184,13 +185,14 @@ module _ {D : Type 0} (shown : D → Device) (old mid new : OpenArea D) (texts :
   }
 
   -- stopped
-  stopped_by : IsDoubtful shown new texts (Some begun.coming) → new.held.loaded ≡ mid.held.loaded → (HasNoChange mid → ⊥)
+  stopped_by : IsDoubtful shown new texts (Some begun.coming) → ForSome (shown new.disk).contents (OpensToEither mid.held.loaded texts begun.coming) → new.held.loaded ≡ mid.held.loaded → (HasNoChange mid → ⊥)
       → ForSome (shown mid.disk).contents (λ files. LeavesOnly (shown mid.disk) (shown new.disk) (OpensToEither mid.held.loaded texts begun.coming))
       → HasStoppedIn shown old new texts user moment command
-  stopped_by doubt stays some crash = record {
+  stopped_by doubt opens stays some crash = record {
     coming = Some begun.coming;
     change = (begun.reply, (λ nothing. some (begun.idle nothing).0), step_before);
     doubt = doubt;
+    opens = λ files there. subst (λ (l : Loaded). OpensToEither l texts begun.coming files) loaded (opens files there);
     loaded = stays ∙ loaded;
     crash = crash_before crash;
   }
@@ -213,10 +215,12 @@ module _ {D : Type 0} (shown : D → Device) where
         answered = if_ok_then2 result _ _ _ ends.done ends.made (λ reply done made texts resting.
             let is = ok_gives began value _ ok begins.begun texts resting in
             answered_by shown old mid new texts user moment command begins.reads begins.loaded begins.rules is reply (done texts is.reply is.coming is.begun) made (λ none. (ends.idle none).1) (ends.crash texts is.reply is.coming is.begun));
-        failed = fails_so result _ (λ error. (texts : List ℕ) → IsResting shown old texts → FailsWith shown error old new texts user moment command) ends.fault (stopped_some result _ _ _ (on_err_both result _ _ ends.doubt ends.loaded) ends.idle) (λ stopped texts resting.
+        failed = fails_so result _ (λ error. (texts : List ℕ) → IsResting shown old texts → FailsWith shown error old new texts user moment command) ends.fault (stopped_some result _ _ _ (on_err_both result _ _ ends.doubt (on_err_both result _ _ ends.opens ends.loaded)) ends.idle) (λ stopped texts resting.
             let is = ok_gives began value _ ok begins.begun texts resting in
-            stopped_by shown old mid new texts user moment command begins.reads begins.loaded begins.rules is (stopped.0.0 texts is.reply is.coming is.begun) stopped.0.1 stopped.1 (ends.crash texts is.reply is.coming is.begun));
+            stopped_by shown old mid new texts user moment command begins.reads begins.loaded begins.rules is (stopped.0.0 texts is.reply is.coming is.begun) (stopped.0.1.0 texts is.reply is.coming is.begun) stopped.0.1.1 stopped.1 (ends.crash texts is.reply is.coming is.begun));
         cause = fault_rose result _ _ _ begins.later ends.fault ends.cause;
+        quiet = on_ok_then result _ _ ends.quiet (λ quiet. quiet ∙ ok_gives began value _ ok begins.quiet);
+        alike = ends.alike ∙ ap is_some begins.reads.contents;
         later = omega (arith, earlier, later);
         rules = ends.rules ∙ begins.rules;
       }
@@ -228,6 +232,8 @@ module _ {D : Type 0} (shown : D → Device) where
     answered = tt;
     failed = λ texts resting. fails_with shown error old new texts user moment command begins.reads begins.loaded resting (err_gives began error _ refused begins.failed texts resting);
     cause = err_gives began error _ refused begins.cause;
+    quiet = tt;
+    alike = ap is_some begins.reads.contents;
     later = begins.later;
     rules = begins.rules;
   }

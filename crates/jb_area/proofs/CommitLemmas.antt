@@ -7,6 +7,7 @@ use Rattle.jb_disk.specs.Files.{Files}
 use Rattle.jb_disk.specs.Images.{Images}
 use Rattle.jb_disk.specs.Runs.{IsAllSynced, LeavesNow, LeavesOnly, Shows}
 use Rattle.jb_disk.proofs.RunLemmas.{runs-refl, runs-weaken}
+use Rattle.jb_journal.proofs.SettleLemmas.{doubt_replays}
 use Rattle.jb_journal.specs.Commit.{AgreeButJournal, IsBeforeOrAfter, IsReady, changed, committed}
 use Rattle.jb_journal.specs.Doubt.{DoubtReplays, HasStopped, IsInDoubt, IsSettledAt, answered}
 use Rattle.jb_journal.specs.declared.stopped.Stopped.{Stopped}
@@ -99,6 +100,15 @@ module _ (change : Change) where
   doubt_opens Early from texts coming start files rests is replays = opens_either change from texts coming start files is rests.holds replays
   doubt_opens Late from texts coming start files rests is replays =
       inr (opens_to (changed change start) files coming.to coming.texts (is.holds start rests.holds) replays)
+
+  -- what is read then opens to one of the two
+  pub stopped_opens : (stopped : Stopped) (device : Device) (from : Loaded) (texts : List ℕ) (coming : Coming) → IsStoppedAs stopped change from texts device → IsChange device.contents change from texts coming
+      → ForSome device.contents (OpensToEither from texts coming)
+  stopped_opens stopped device from texts coming doubt is files there =
+      let in_doubt = doubt files there in
+      let brings = is.brings files there in
+      let may = ready change from texts coming in_doubt.start brings in_doubt.rests in
+      doubt_opens stopped from texts coming in_doubt.start files in_doubt.rests brings (doubt_replays change in_doubt.start may stopped files (in_doubt.shows.read files there))
 
   -- settled as it is answered
   answered_rests : (stands : Bool) (from : Loaded) (texts : List ℕ) (coming : Coming) (start : Files) (device : Device) → IsAtRest from texts start → Brings change from texts coming.to coming.texts

@@ -1,7 +1,8 @@
 -- What a settling makes of an area in doubt.
 use Rattle.std.proofs.Common.{◌≡◌, ◌≢◌, ℕ, List, Option, None, Some, true, false, ap, sym, refl, ◌∙◌, subst, ◌+◌, ◌≤◌, length}
+use Rattle.std.specs.Option.{ForSome}
 use Rattle.jb_disk.specs.Change.{Change}
-use Rattle.jb_disk.specs.Device.{Device, StaysSilent}
+use Rattle.jb_disk.specs.Device.{Device, TellsAlike}
 use Rattle.jb_disk.specs.Files.{Files}
 use Rattle.jb_disk.specs.Runs.{LeavesOnly}
 use Rattle.jb_disk.proofs.RunLemmas.{runs-refl}
@@ -22,7 +23,8 @@ use Rattle.jb_decide.specs.declared.pending.Pending.{Pending}
 use Rattle.jb_decide.specs.declared.pending.Pending.TheVariants.{Nothing}
 use Rattle.jb_area.specs.declared.stage.Stage.{Stage}
 use Rattle.jb_area.specs.declared.stage.Stage.TheVariants.{Resting, Doubtful}
-use Rattle.jb_area.proofs.CommitLemmas.{settled_opens}
+use Rattle.jb_area.proofs.CommitLemmas.{settled_opens, stopped_opens}
+use Rattle.jb_area.proofs.HoldLemmas.{rest_opens}
 use Rattle.jb_area.proofs.StageLemmas.{pending_later}
 
 -- two doubtful stages are one
@@ -36,6 +38,12 @@ same_pending one other first second is = cc
 pub at_doubt : {D : Type 0} (shown : D → Device) (area : OpenArea D) (texts : List ℕ) (coming : Option Coming) → IsDoubtful shown area texts coming → (stopped : Stopped) × (pending : Pending) × (area.stage ≡ Doubtful stopped pending)
 at_doubt shown area texts None doubt = (doubt.stopped, Nothing, doubt.stage)
 at_doubt shown area texts (Some coming) doubt = (doubt.stopped, doubt.pending, doubt.stage)
+
+-- what is read of an area in doubt opens to one of the two
+pub doubt_reads : {D : Type 0} (shown : D → Device) (area : OpenArea D) (texts : List ℕ) (coming : Option Coming) → IsDoubtful shown area texts coming
+    → ForSome (shown area.disk).contents (DoubtOpens area.held.loaded texts coming)
+doubt_reads shown area texts None doubt = λ files there. rest_opens area.held.loaded texts files (doubt.kept.settled.rests files there)
+doubt_reads shown area texts (Some coming) doubt = stopped_opens (redo_of area) doubt.stopped (shown area.disk) area.held.loaded texts coming doubt.doubt doubt.change.change
 
 module _ {D : Type 0} (shown : D → Device) (area : OpenArea D) (stopped : Stopped) (pending : Pending) (is : area.stage ≡ Doubtful stopped pending) where
   -- a call that had no change
@@ -156,12 +164,12 @@ module _ {D : Type 0} (shown : D → Device) (area : OpenArea D) (stopped : Stop
       }
 
       -- stopped again
-      pub still : (disk : D) (large : Option Change) (again : Stopped) → redo ≡ redo_in large area.redo → StaysSilent (shown area.disk) (shown disk)
+      pub still : (disk : D) (large : Option Change) (again : Stopped) → redo ≡ redo_in large area.redo → TellsAlike (shown area.disk) (shown disk)
           → ((from : Loaded) (texts : List ℕ) (coming : Coming) → IsStoppedAs stopped redo from texts (shown area.disk) → IsChange (shown area.disk).contents redo from texts coming → IsStoppedAs again redo from texts (shown disk))
           → (texts : List ℕ) (coming : Option Coming) → IsDoubtful shown area texts coming
           → IsDoubtful shown (record area { disk = disk; large = large; stage = Doubtful again pending }) texts coming
-      still disk large again kept silent answer texts None doubt = absurd (no_none texts doubt)
-      still disk large again kept silent answer texts (Some coming) doubt =
+      still disk large again kept alike answer texts None doubt = absurd (no_none texts doubt)
+      still disk large again kept alike answer texts (Some coming) doubt =
           let change = change_in texts coming doubt in
           record {
             stopped = again;
@@ -169,7 +177,7 @@ module _ {D : Type 0} (shown : D → Device) (area : OpenArea D) (stopped : Stop
             stage = refl;
             ruled = record { few_slots = doubt.ruled.few_slots; address = doubt.ruled.address; sound = doubt.ruled.sound; sized = doubt.ruled.sized; whole = doubt.ruled.whole; room = doubt.ruled.room };
             change = subst (λ (r : Change). IsPending area.rules.slots (shown disk).contents r pending area.held.loaded texts coming) kept
-                (pending_later area.rules.slots (shown area.disk) (shown disk) redo pending area.held.loaded texts coming silent change);
+                (pending_later area.rules.slots (shown area.disk) (shown disk) redo pending area.held.loaded texts coming alike change);
             doubt = subst (λ (r : Change). IsStoppedAs again r area.held.loaded texts (shown disk)) kept (answer area.held.loaded texts coming (doubt_in texts coming doubt) change.change);
           }
 

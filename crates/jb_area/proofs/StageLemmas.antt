@@ -1,7 +1,8 @@
 -- What is on its way in an open area, from its stage.
 use Rattle.std.proofs.Common.{◌≡◌, ◌≢◌, ◌⊎◌, inl, inr, ℕ, ◌+◌, ◌≤◌, List, length, Option, None, ap, sym, refl, ◌∙◌, subst}
-use Rattle.jb_disk.specs.Device.{Device, StaysSilent}
+use Rattle.jb_disk.specs.Device.{Device, TellsAlike}
 use Rattle.jb_disk.specs.Change.{Change}
+use Rattle.jb_disk.proofs.RunLemmas.{stays_silent}
 use Rattle.jb_model.specs.Sound.{IsSound}
 use Rattle.jb_model.specs.declared.loaded.Loaded.{Loaded}
 use Rattle.jb_model.specs.declared.reply.Reply.{Reply}
@@ -48,13 +49,13 @@ some_pending limit contents redo pending from texts coming some (inl nothing) = 
 some_pending limit contents redo pending from texts coming some (inr change) = change
 
 -- what is pending is so when a disk was tried that does not begin to tell
-pub pending_later : (limit : ℕ) (old new : Device) (redo : Change) (pending : Pending) (from : Loaded) (texts : List ℕ) (coming : Coming) → StaysSilent old new
+pub pending_later : (limit : ℕ) (old new : Device) (redo : Change) (pending : Pending) (from : Loaded) (texts : List ℕ) (coming : Coming) → TellsAlike old new
     → IsPending limit old.contents redo pending from texts coming → IsPending limit new.contents redo pending from texts coming
-pending_later limit old new redo pending from texts coming silent is = record {
+pending_later limit old new redo pending from texts coming alike is = record {
   some = is.some;
   becomes = is.becomes;
   change = record {
-    brings = told_before old new silent (Brings redo from texts coming.to coming.texts) is.change.brings;
+    brings = told_before old new (stays_silent old.contents new.contents alike) (Brings redo from texts coming.to coming.texts) is.change.brings;
     writable = is.change.writable;
   };
   fit = is.fit;
@@ -147,10 +148,10 @@ module _ {D : Type 0} (shown : D → Device) where
 
     -- a call that was stopped is in doubt
     pub between : (reply : Reply) (pending : Pending) (disk : D) (large : Option Change) (redo : Change) (stopped : Stopped) → redo ≡ redo_of area → redo ≡ redo_in large area.redo → area.stage ≡ Begun reply pending
-        → pending ≢ Nothing → StaysSilent (shown area.disk) (shown disk)
+        → pending ≢ Nothing → TellsAlike (shown area.disk) (shown disk)
         → ((from : Loaded) (texts : List ℕ) (coming : Coming) → IsSettledAs from texts (shown area.disk) → IsChange (shown area.disk).contents redo from texts coming → IsStoppedAs stopped redo from texts (shown disk))
         → IsBetween shown (record area { disk = disk; large = large; stage = Doubtful stopped pending }) texts coming
-    between reply pending disk large redo stopped used kept is some silent doubt =
+    between reply pending disk large redo stopped used kept is some alike doubt =
         let change = some_in reply pending redo used is some in
         record {
           stopped = stopped;
@@ -158,7 +159,7 @@ module _ {D : Type 0} (shown : D → Device) where
           stage = refl;
           ruled = record { few_slots = begun.kept.ruled.few_slots; address = begun.kept.ruled.address; sound = begun.kept.ruled.sound; sized = begun.kept.ruled.sized; whole = begun.kept.ruled.whole; room = begun.kept.ruled.room };
           change = subst (λ (r : Change). IsPending area.rules.slots (shown disk).contents r pending area.held.loaded texts coming) kept
-              (pending_later area.rules.slots (shown area.disk) (shown disk) redo pending area.held.loaded texts coming silent change);
+              (pending_later area.rules.slots (shown area.disk) (shown disk) redo pending area.held.loaded texts coming alike change);
           doubt = subst (λ (r : Change). IsStoppedAs stopped r area.held.loaded texts (shown disk)) kept (doubt area.held.loaded texts coming begun.kept.settled change.change);
         }
 

@@ -33,6 +33,7 @@ use Rattle.jb_area.specs.declared.area.OpenArea.{OpenArea}
 use Rattle.jb_area.specs.declared.stage.Stage.{Stage}
 use Rattle.jb_area.specs.declared.stage.Stage.TheVariants.{Resting, Begun, Doubtful}
 use Rattle.jb_area.proofs.CommitLemmas.{settled_opens}
+use Rattle.jb_area.proofs.HoldLemmas.{rest_opens}
 
 -- an area at rest holds what is loaded, by the texts of its own file
 pub holds_own : (loaded : Loaded) (texts : List ℕ) (device : Device) → IsSettledAs loaded texts device → ForSome device.contents (λ files. Holds loaded (files Jdt) files)
@@ -67,6 +68,11 @@ settled_read loaded texts old new same settled = record {
 -- and its count of faults is as it was
 pub same_faults : (device : Device) → device.faults ≤ device.faults
 same_faults device = omega arith
+
+-- a count that stays is as it was
+pub ok_same : {T E : Type 0} (result : Result T E) (count : ℕ) → OnOk result (count ≡ count)
+ok_same (Ok value) count = refl
+ok_same (Err error) count = tt
 
 module _ {T E : Type 0} (result : Result T E) where
   -- what is done is not refused
@@ -160,15 +166,23 @@ module _ {D : Type 0} (shown : D → Device) where
     same_cause (Err one) (Err other) answer cause =
         subst (FaultRose (shown area.disk).faults (shown disk).faults) (sym (same_error (Err other) other one refl answer)) cause
 
+    -- what is begun raised no count, as what was decided
+    same_quiet : (decided : Result Decided AreaError) (result : Result (Unit {0}) AreaError) → AnswersAs decided result → OnOk decided ((shown disk).faults ≡ (shown area.disk).faults)
+        → OnOk result ((shown disk).faults ≡ (shown area.disk).faults)
+    same_quiet decided (Err error) answer quiet = tt
+    same_quiet (Ok decided) (Ok done) answer quiet = quiet
+    same_quiet (Err error) (Ok done) answer quiet = absurd (ok_not_err (Ok done) done error refl answer)
+
     -- a call is begun, or not
     pub begins : (decided : Result Decided AreaError) (result : Result (Unit {0}) AreaError) (user : User) (moment : ℕ) (command : Command) → StartsAs decided area.stage new.stage → new.large ≡ large_after decided given area.large → AnswersAs decided result
         → IfOk decided (λ one. (texts : List ℕ) → AreTexts area.held.loaded texts (shown area.disk).contents → IsDecided area.rules area.held.loaded texts (shown area.disk).contents (redo_in given redo) user moment command one)
-        → IfErr decided (FaultRose (shown area.disk).faults (shown disk).faults) → (shown area.disk).faults ≤ (shown disk).faults
+        → IfErr decided (FaultRose (shown area.disk).faults (shown disk).faults) → OnOk decided ((shown disk).faults ≡ (shown area.disk).faults) → (shown area.disk).faults ≤ (shown disk).faults
         → BeginsCall shown area new user moment command result
-    begins decided result user moment command stage is_large answer is cause later = record {
+    begins decided result user moment command stage is_large answer is cause quiet later = record {
       begun = starts decided result user moment command stage is_large answer is;
       failed = starts_not decided result stage is_large answer;
       cause = subst (λ (d : D). IfErr result (FaultRose (shown area.disk).faults (shown d).faults)) (sym is_disk) (same_cause decided result answer cause);
+      quiet = subst (λ (d : D). OnOk result ((shown d).faults ≡ (shown area.disk).faults)) (sym is_disk) (same_quiet decided result answer quiet);
       reads = subst (λ (d : D). OnlyReads (shown area.disk) (shown d)) (sym is_disk) reads;
       later = subst (λ (d : D). (shown area.disk).faults ≤ (shown d).faults) (sym is_disk) later;
       loaded = ap (λ (h : Held). h.loaded) is_held;
@@ -182,6 +196,7 @@ module _ {D : Type 0} (shown : D → Device) where
     coming = None;
     change = tt;
     doubt = unchanged;
+    opens = λ files there. subst (λ (l : Loaded). Opens l texts files) loaded (rest_opens new.held.loaded texts files (unchanged.kept.settled.rests files there));
     loaded = loaded;
     crash = λ files there. record {
       first = settled_opens old.held.loaded texts (shown old.disk) files there resting.kept.settled;

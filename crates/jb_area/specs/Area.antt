@@ -141,7 +141,7 @@ module _ {D : Type 0} (shown : D → Device) where
   SettlesAt true from texts None area = ⊥
   SettlesAt true from texts (Some coming) area = RestsAt area coming.texts coming.to
 
--- what a crash may leave opens to the area before the change or after it, or to the one where nothing changes
+-- these files, read or left by a crash, open to the area before the change or after it, or to the one where nothing changes
 abbrev pub DoubtOpens : Loaded → List ℕ → Option Coming → Files → Type 0
 DoubtOpens from texts None files = Opens from texts files
 DoubtOpens from texts (Some coming) files = OpensToEither from texts coming files

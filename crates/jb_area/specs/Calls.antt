@@ -13,7 +13,7 @@ use Rattle.jb_decide.specs.declared.error.AreaError.{AreaError}
 use Rattle.jb_decide.specs.declared.error.AreaError.TheVariants.{StoreFault, OutOfMemory}
 use Rattle.jb_decide.specs.declared.pending.Pending.TheVariants.{Nothing}
 use Rattle.jb_disk.specs.Change.{Change}
-use Rattle.jb_disk.specs.Device.{Device, OnlyReads}
+use Rattle.jb_disk.specs.Device.{Device, OnlyReads, TellsAlike}
 use Rattle.jb_disk.specs.Files.{Files}
 use Rattle.jb_disk.specs.Runs.{LeavesOnly}
 use Rattle.jb_journal.specs.declared.stopped.Stopped.TheVariants.{Early}
@@ -76,6 +76,7 @@ module _ {D : Type 0} (shown : D → Device) where
     pub coming : Option Coming
     pub change : IsChangeOf old texts user moment command coming
     pub doubt : IsDoubtful shown new texts coming
+    pub opens : ForSome (shown new.disk).contents (DoubtOpens old.held.loaded texts coming)
     pub loaded : new.held.loaded ≡ old.held.loaded
     pub crash : ForSome (shown old.disk).contents (λ files.
         LeavesOnly (shown old.disk) (shown new.disk) (DoubtOpens old.held.loaded texts coming))
@@ -90,12 +91,14 @@ module _ {D : Type 0} (shown : D → Device) where
   FailsWith StoreFault old new texts user moment command = HasStoppedIn old new texts user moment command
   FailsWith OutOfMemory old new texts user moment command = RestsAt shown new texts old.held.loaded × OnlyReads (shown old.disk) (shown new.disk)
 
-  -- a call at rest: it is answered and done, or fails and leaves what its error says; a fault has its cause, and the rules stay
+  -- a call at rest: it is answered and done, or fails and leaves what its error says; a fault has its cause, and no other answer hides one; the disk tells as before, and the rules stay
   pub record MeetsCall (old new : OpenArea D) (user : User) (moment : ℕ) (command : Command) (result : Result Reply AreaError) : Type 0 where
     pub answered : IfOk result (λ reply. (texts : List ℕ) → IsResting shown old texts → HasAnswered old new texts user moment command reply)
     pub failed : IfErr result (λ error. (texts : List ℕ) → IsResting shown old texts → FailsWith error old new texts user moment command)
     pub cause : IfErr result (FaultRose (shown old.disk).faults (shown new.disk).faults)
+    pub quiet : OnOk result ((shown new.disk).faults ≡ (shown old.disk).faults)
     pub later : (shown old.disk).faults ≤ (shown new.disk).faults
+    pub alike : TellsAlike (shown old.disk) (shown new.disk)
     pub rules : new.rules ≡ old.rules
 
   -- a call at rest is begun, or not; its files are only read, and the area is loaded as before
@@ -103,6 +106,7 @@ module _ {D : Type 0} (shown : D → Device) where
     pub begun : OnOk result ((texts : List ℕ) → IsResting shown old texts → IsBegunFor new texts user moment command)
     pub failed : IfErr result (λ error. (texts : List ℕ) → IsResting shown old texts → IsNotBegun error old new texts)
     pub cause : IfErr result (FaultRose (shown old.disk).faults (shown new.disk).faults)
+    pub quiet : OnOk result ((shown new.disk).faults ≡ (shown old.disk).faults)
     pub reads : OnlyReads (shown old.disk) (shown new.disk)
     pub later : (shown old.disk).faults ≤ (shown new.disk).faults
     pub loaded : new.held.loaded ≡ old.held.loaded
@@ -118,9 +122,13 @@ module _ {D : Type 0} (shown : D → Device) where
     pub fault : IfErr result (λ error. error ≡ StoreFault)
     pub doubt : OnErr result ((texts : List ℕ) (decided : Reply) (coming : Coming) → IsBegun shown old texts decided coming
         → IsDoubtful shown new texts (Some coming))
+    pub opens : OnErr result ((texts : List ℕ) (decided : Reply) (coming : Coming) → IsBegun shown old texts decided coming
+        → ForSome (shown new.disk).contents (OpensToEither old.held.loaded texts coming))
     pub loaded : OnErr result (new.held.loaded ≡ old.held.loaded)
     pub cause : OnErr result (Rose (shown old.disk).faults (shown new.disk).faults)
+    pub quiet : OnOk result ((shown new.disk).faults ≡ (shown old.disk).faults)
     pub later : (shown old.disk).faults ≤ (shown new.disk).faults
+    pub alike : TellsAlike (shown old.disk) (shown new.disk)
     pub crash : (texts : List ℕ) (decided : Reply) (coming : Coming) → IsBegun shown old texts decided coming
         → ForSome (shown old.disk).contents (λ files. LeavesOnly (shown old.disk) (shown new.disk) (OpensToEither old.held.loaded texts coming))
     pub room : small_redo_of new ≡ small_redo_of old

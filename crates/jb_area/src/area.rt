@@ -27,7 +27,7 @@ impl<D: Disk> OpenArea<D> {
     ghost use Rattle.std.specs.Prelude.{◌≡◌, ◌≤◌, List, ℕ, Option, Some, IfOk, IfErr, IsOk, IsTrue, OnOk, OnErr, false};
     ghost use Rattle.std.specs.Option.{ForSome};
     ghost use Rattle.jb_base.specs.Fault.{Rose};
-    ghost use Rattle.jb_disk.specs.Device.{Device};
+    ghost use Rattle.jb_disk.specs.Device.{Device, TellsAlike};
     ghost use Rattle.jb_disk.specs.Runs.{LeavesOnly};
     ghost use Rattle.jb_model.specs.declared.reply.Reply.{Reply};
     ghost use Rattle.jb_area.specs.Holds.{OpensToEither};
@@ -63,9 +63,13 @@ impl<D: Disk> OpenArea<D> {
         // Stopped: only by a fault, and with a change that may stand or not.
         ensures doubt { OnErr result ((texts : List ℕ) (decided : Reply) (coming : Coming) → IsBegun D.device self.old texts decided coming
             → IsDoubtful D.device self.new texts (Some coming)) }
+        ensures opens { OnErr result ((texts : List ℕ) (decided : Reply) (coming : Coming) → IsBegun D.device self.old texts decided coming
+            → ForSome (device_of D.device self.new).contents (OpensToEither (loaded_of self.old) texts coming)) }
         ensures loaded { OnErr result (loaded_of self.new ≡ loaded_of self.old) }
         ensures cause { OnErr result (Rose (device_of D.device self.old).faults (device_of D.device self.new).faults) }
+        ensures quiet { OnOk result ((device_of D.device self.new).faults ≡ (device_of D.device self.old).faults) }
         ensures later { (device_of D.device self.old).faults ≤ (device_of D.device self.new).faults }
+        ensures alike { TellsAlike (device_of D.device self.old) (device_of D.device self.new) }
 
         // A crash at any moment leaves what opens to the area before the call or after it.
         ensures crash { (texts : List ℕ) (decided : Reply) (coming : Coming) → IsBegun D.device self.old texts decided coming
@@ -117,9 +121,12 @@ impl<D: Disk> OpenArea<D> {
         self.stage = Stage::Resting;
     }
 
-    /// Whether a call was stopped by a fault of the device and is not settled.
+    /// Whether a call was stopped by a fault of the device and is not settled. While it is so, what the disk reads opens to the
+    /// area before the change of that call or to the one after it.
     pub fn in_doubt(&self) -> bool
         ensures doubt { HasDoubt D.device self.now → IsTrue result }
+        ensures opens { (texts : List ℕ) (coming : Option Coming) → IsDoubtful D.device self.now texts coming
+            → ForSome (device_of D.device self.now).contents (DoubtOpens (loaded_of self.now) texts coming) }
         ensures rests { (texts : List ℕ) → IsResting D.device self.now texts → result ≡ false }
         ensures begun { HasBegun D.device self.now → result ≡ false }
     {
@@ -138,9 +145,13 @@ impl<D: Disk> OpenArea<D> {
         // Stopped: only by a fault, and in doubt as before.
         ensures still { OnErr result ((texts : List ℕ) (coming : Option Coming) → IsDoubtful D.device self.old texts coming
             → IsDoubtful D.device self.new texts coming) }
+        ensures opens { OnErr result ((texts : List ℕ) (coming : Option Coming) → IsDoubtful D.device self.old texts coming
+            → ForSome (device_of D.device self.new).contents (DoubtOpens (loaded_of self.old) texts coming)) }
         ensures loaded { OnErr result (loaded_of self.new ≡ loaded_of self.old) }
         ensures cause { OnErr result (Rose (device_of D.device self.old).faults (device_of D.device self.new).faults) }
+        ensures quiet { OnOk result ((device_of D.device self.new).faults ≡ (device_of D.device self.old).faults) }
         ensures later { (device_of D.device self.old).faults ≤ (device_of D.device self.new).faults }
+        ensures alike { TellsAlike (device_of D.device self.old) (device_of D.device self.new) }
 
         // A crash at any moment leaves what the doubt allows.
         ensures crash { (texts : List ℕ) (coming : Option Coming) → IsDoubtful D.device self.old texts coming

@@ -2,7 +2,7 @@
 ghost use Rattle.std.specs.Prelude.{◌≡◌, ◌≤◌, List, ℕ, None, IfOk, IfErr, OnErr, OnOk};
 ghost use Rattle.std.specs.Option.{ForSome};
 ghost use Rattle.jb_base.specs.Fault.{Rose};
-ghost use Rattle.jb_disk.specs.Device.{StaysSilent};
+ghost use Rattle.jb_disk.specs.Device.{TellsAlike};
 ghost use Rattle.jb_disk.specs.Runs.{LeavesOnly};
 ghost use Rattle.jb_journal.specs.Commit.{AgreeButJournal, changed};
 ghost use Rattle.jb_model.specs.declared.loaded.Loaded.{Loaded};
@@ -34,11 +34,12 @@ pub(crate) fn commit_change<D: Disk>(disk: &mut D, redo: &Redo) -> Result<(), St
     ensures doubt { IfErr result (λ stopped. (from : Loaded) (texts : List ℕ) (coming : Coming) → IsSettledAs from texts (D.device disk.old)
         → IsChange (D.device disk.old).contents redo.now from texts coming → IsStoppedAs stopped redo.now from texts (D.device disk.new)) }
     ensures cause { OnErr result (Rose (D.device disk.old).faults (D.device disk.new).faults) }
+    ensures quiet { OnOk result ((D.device disk.new).faults ≡ (D.device disk.old).faults) }
     ensures later { (D.device disk.old).faults ≤ (D.device disk.new).faults }
     ensures crash { (from : Loaded) (texts : List ℕ) (coming : Coming) → IsSettledAs from texts (D.device disk.old)
         → IsChange (D.device disk.old).contents redo.now from texts coming
         → ForSome (D.device disk.old).contents (λ _. LeavesOnly (D.device disk.old) (D.device disk.new) (OpensToEither from texts coming)) }
-    ensures silent { StaysSilent (D.device disk.old) (D.device disk.new) }
+    ensures alike { TellsAlike (D.device disk.old) (D.device disk.new) }
 {
     commit(disk, redo)
 }
@@ -55,11 +56,12 @@ pub(crate) fn settle_change<D: Disk>(
     ensures still { IfErr result (λ again. (from : Loaded) (texts : List ℕ) (coming : Coming) → IsStoppedAs stopped redo.now from texts (D.device disk.old)
         → IsChange (D.device disk.old).contents redo.now from texts coming → IsStoppedAs again redo.now from texts (D.device disk.new)) }
     ensures cause { OnErr result (Rose (D.device disk.old).faults (D.device disk.new).faults) }
+    ensures quiet { OnOk result ((D.device disk.new).faults ≡ (D.device disk.old).faults) }
     ensures later { (D.device disk.old).faults ≤ (D.device disk.new).faults }
     ensures crash { (from : Loaded) (texts : List ℕ) (coming : Coming) → IsStoppedAs stopped redo.now from texts (D.device disk.old)
         → IsChange (D.device disk.old).contents redo.now from texts coming
         → ForSome (D.device disk.old).contents (λ _. LeavesOnly (D.device disk.old) (D.device disk.new) (OpensToEither from texts coming)) }
-    ensures silent { StaysSilent (D.device disk.old) (D.device disk.new) }
+    ensures alike { TellsAlike (D.device disk.old) (D.device disk.new) }
 {
     settle(disk, redo, stopped)
 }

@@ -6,13 +6,12 @@ use Rattle.jb_area.specs.Holds.{Opens}
 use Rattle.jb_area.specs.declared.area.OpenArea.{OpenArea}
 use Rattle.jb_area_open.specs.declared.error.OpeningError.{OpeningError}
 use Rattle.jb_area_open.specs.declared.error.OpeningError.TheVariants.{BadJournal, Base}
-use Rattle.jb_base.specs.Fault.{Rose}
 use Rattle.jb_disk.specs.Device.{Device}
 use Rattle.jb_disk.specs.Files.{Files}
 use Rattle.jb_disk.specs.Gate.{IsGateOpen}
 use Rattle.jb_disk.specs.Images.{Images}
 use Rattle.jb_disk.specs.Runs.{IsAllSynced, LeavesOnly}
-use Rattle.jb_image.specs.Answers.{IsRefusedBy}
+use Rattle.jb_image.specs.Answers.{IsRefusedBy, OpenFaultRose}
 use Rattle.jb_image.specs.declared.error.OpenError.{OpenError}
 use Rattle.jb_image.specs.declared.error.OpenError.TheVariants.{StoreFault}
 use Rattle.jb_journal.specs.Commit.{ReplaysTo}
@@ -53,10 +52,10 @@ abbrev pub Refuses : ℕ → Device → Device → OpeningError → Type 0
 Refuses limit before after (BadJournal at) = ForSome before.contents (IsRefusedOver (BadRecord at) after)
 Refuses limit before after (Base error) = error ≢ StoreFault → RefusesFiles limit before after error
 
--- a fault has its cause: the disk's count rose
+-- a fault has its cause: the disk's count rose; and no other refusal of the base hides one
 abbrev pub FaultRose : ℕ → ℕ → OpeningError → Type 0
 FaultRose before now (BadJournal at) = Unit {0}
-FaultRose before now (Base error) = error ≡ StoreFault → Rose before now
+FaultRose before now (Base error) = OpenFaultRose before now error
 
 -- a refusal of recovery, as one of the opening
 abbrev pub of_journal : JournalError → OpeningError

@@ -1,9 +1,9 @@
 //! The files of an area are recovered and read, and its journal is prepared.
-ghost use Rattle.std.specs.Prelude.{◌≤◌, IfErr, IfOk, OnOk};
+ghost use Rattle.std.specs.Prelude.{◌≡◌, ◌≤◌, IfErr, IfOk, OnOk};
 ghost use Rattle.std.specs.Option.{ForSome};
 ghost use Rattle.jb_area.specs.Holds.{IsAtRest};
 ghost use Rattle.jb_area_open.specs.Opening.{FaultRose, IsRecovered, KeepsOpening, OpensFirmly, Refuses};
-ghost use Rattle.jb_disk.specs.Device.{StaysSilent};
+ghost use Rattle.jb_disk.specs.Device.{TellsAlike};
 ghost use Rattle.jb_disk.specs.Runs.{IsAllSynced};
 ghost use Rattle.jb_disk.specs.declared.file.FileId.TheVariants.{Jdt as texts_file};
 ghost use Rattle.jb_model.specs.Sound.{IsSound};
@@ -28,12 +28,13 @@ pub(crate) fn load<D: Disk>(alloc: Global, disk: &mut D, slots: u32) -> Result<L
     // Why it is refused.
     ensures refused { IfErr result (Refuses slots (D.device disk.old) (D.device disk.new)) }
     ensures cause { IfErr result (FaultRose (D.device disk.old).faults (D.device disk.new).faults) }
+    ensures quiet { OnOk result ((D.device disk.new).faults ≡ (D.device disk.old).faults) }
     ensures later { (D.device disk.old).faults ≤ (D.device disk.new).faults }
 
-    // A crash at any moment, and a disk that tells nothing.
+    // A crash at any moment, and that the disk tells as before.
     ensures crash { KeepsOpening (D.device disk.old) (D.device disk.new) }
     ensures firm { OpensFirmly (D.device disk.old) (D.device disk.new) }
-    ensures silent { StaysSilent (D.device disk.old) (D.device disk.new) }
+    ensures alike { TellsAlike (D.device disk.old) (D.device disk.new) }
 {
     let _ = recover(disk)?;
     let loaded = decode(alloc, disk, slots)?;

@@ -11,7 +11,7 @@ use Rattle.jb_tool.specs.declared.tool.Tool.{Tool}
 use Rattle.jb_board.specs.Run.{Answer, AnswersAs, AnswersWords, UsesDisk, answer_of}
 use Rattle.jb_board.specs.Words.{Words, run_load, show_help, use_tool}
 use Rattle.jb_host.specs.Wire.{Wire}
-use Rattle.jb_board.specs.declared.fault.Fault.TheVariants.{Words as NoWords, HostFault}
+use Rattle.jb_board.specs.declared.fault.Fault.TheVariants.{Words as NoWords, HostFault, OutOfMemory}
 
 -- the place that was changed
 here : (dir name : List ℕ) (place : Place) (disks : Disks) → with_place dir name place disks dir name ≡ place
@@ -57,6 +57,11 @@ pub no_host_fault : (answer : Result (List ℕ) ToolError) → answer_of answer 
 no_host_fault (Ok text) is = cc
 no_host_fault (Err error) is = cc
 
+-- nor want of memory of the host
+pub no_want : (answer : Result (List ℕ) ToolError) → answer_of answer ≡ Err OutOfMemory → ⊥
+no_want (Ok text) is = cc
+no_want (Err error) is = cc
+
 -- nor one of words
 pub no_words : (answer : Result (List ℕ) ToolError) → answer_of answer ≡ Err NoWords → ⊥
 no_words (Ok text) is = cc
@@ -66,6 +71,6 @@ no_words (Err error) is = cc
 pub other_console : (words : Option Words) (moment : ℕ) (old mid : Desk) (console : Option Wire) (answer : Answer) → AnswersWords words moment old mid answer
     → AnswersWords words moment old (record mid { console = console }) answer
 other_console None moment old mid console answer is = (is.0, record { calls = is.1.calls; disks = is.1.disks; faults = is.1.faults })
-other_console (Some (use_tool tool dir name)) moment old mid console answer is = record { calls = is.calls; disk = is.disk; cause = is.cause; known = is.known; later = is.later }
+other_console (Some (use_tool tool dir name)) moment old mid console answer is = record { calls = is.calls; disk = is.disk; cause = is.cause; memory = is.memory; known = is.known; later = is.later }
 other_console (Some (run_load seed count)) moment old mid console answer is = (is.0, record { calls = is.1.calls; disks = is.1.disks; faults = is.1.faults })
 other_console (Some show_help) moment old mid console answer is = (is.0, record { calls = is.1.calls; disks = is.1.disks; faults = is.1.faults })

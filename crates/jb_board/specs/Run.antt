@@ -45,13 +45,14 @@ pub record UsesDisk (tool : ToolName) (moment : ℕ) (dir name : List ℕ) (disk
 -- no disk was handed out, and why
 abbrev pub GetsNoDisk : Desk → Desk → Answer → Type 0
 GetsNoDisk old new answer =
-    (new.disks ≡ old.disks) × (((answer ≡ Err HostFault) × Rose old.faults new.faults) ⊎ (answer ≡ Err OutOfMemory))
+    (new.disks ≡ old.disks) × (((answer ≡ Err HostFault) × Rose old.faults new.faults) ⊎ ((answer ≡ Err OutOfMemory) × (new.faults ≡ old.faults)))
 
--- the run of a tool: one call of the host, for that disk alone
+-- the run of a tool: one call of the host, for that disk alone; want of memory hides no fault of the host
 pub record UsesTool (tool : ToolName) (moment : ℕ) (dir name : List ℕ) (old new : Desk) (answer : Answer) : Type 0 where
   pub calls : (new.calls ≡ and_call (asked_disk dir name) old.calls) ⊎ ((answer ≡ Err OutOfMemory) × (new.calls ≡ old.calls))
   pub disk : GetsNoDisk old new answer ⊎ ForSome old.disks (λ disks. UsesDisk tool moment dir name disks new.disks answer)
   pub cause : answer ≡ Err HostFault → Rose old.faults new.faults
+  pub memory : answer ≡ Err OutOfMemory → new.faults ≡ old.faults
   pub known : answer ≡ Err NoWords → ⊥
   pub later : old.faults ≤ new.faults
 

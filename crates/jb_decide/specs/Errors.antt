@@ -1,15 +1,15 @@
 -- Why a call of an open area is not done.
-use Rattle.std.specs.Prelude.{ℕ}
+use Rattle.std.specs.Prelude.{◌≡◌, ℕ}
 use Rattle.jb_base.specs.Fault.{Rose}
 use Rattle.jb_decide.specs.declared.error.AreaError.{AreaError}
 use Rattle.jb_decide.specs.declared.error.AreaError.TheVariants.{StoreFault, OutOfMemory}
 use Rattle.jb_pack.specs.declared.error.PackError.{PackError}
 use Rattle.jb_pack.specs.declared.error.PackError.TheVariants as pack_error
 
--- a fault of the store has its cause: the device's count rose
+-- a fault of the store has its cause: the device's count rose; and want of memory hides none
 abbrev pub FaultRose : ℕ → ℕ → AreaError → Type 0
 FaultRose before now StoreFault = Rose before now
-FaultRose before now OutOfMemory = Unit {0}
+FaultRose before now OutOfMemory = now ≡ before
 
 -- why an area is not packed, as why the call is not done
 abbrev pub area_error : PackError → AreaError

@@ -1,12 +1,12 @@
 -- How a run of calls goes on.
 use Rattle.std.proofs.Common.{◌≡◌, ◌⊎◌, inl, inr, ℕ, ◌+◌, ◌≤◌, length, List, [], ◌∷◌, ◌++◌, Option, Some, None, refl, sym, ◌∙◌, ap, subst, arith, Result, Ok, Err, true, false}
 use Rattle.std.proofs.lemmas.List.{append_assoc}
-use Rattle.std.specs.Prelude.{IsErr, OnOk}
+use Rattle.std.specs.Prelude.{IsErr, OnOk, is_some}
 use Rattle.std.specs.Option.{ForSome, option_map}
 use Rattle.jb_disk.specs.declared.file.FileId.{FileId}
 use Rattle.jb_disk.specs.Files.{Files, InFile, IsResized, overwritten, written}
 use Rattle.jb_disk.specs.Images.{Images, just_synced, torn, cut, with_image}
-use Rattle.jb_disk.specs.Device.{Device, OnlyReads, Tears, Resizes, Syncs, MayChange, Turns, IsPast, FailsBy, TellsAnImage, and_then}
+use Rattle.jb_disk.specs.Device.{Device, OnlyReads, Tears, Resizes, Syncs, MayChange, Turns, IsPast, FailsBy, TellsAlike, TellsAnImage, and_then}
 use Rattle.jb_disk.specs.Moments.{AtEach, IsPossible, MightLeave}
 use Rattle.jb_disk.specs.Steps.{Torn, Cut}
 use Rattle.jb_disk.specs.Runs.{Leaves, LeavesNow, LeavesAlways, Runs, LeavesOnly, Shows, Keeps}
@@ -93,6 +93,16 @@ none-before change (now ∷ earlier) new (inr more) none = absurd (some-moment (
 -- false is not true
 not-true : false ≡ true → ⊥
 not-true is = cc
+
+-- where nothing was told, and as much is told now, nothing is told
+pub stays_silent : (was now : Option Files) → is_some now ≡ is_some was → was ≡ None → now ≡ None
+stays_silent was None alike none = refl
+stays_silent None (Some files) alike none = absurd (not-true (sym alike))
+stays_silent (Some before) (Some files) alike none = absurd (cc)
+
+-- a disk that is only read tells as before
+pub reads_alike : (old new : Device) → OnlyReads old new → TellsAlike old new
+reads_alike old new reads = ap is_some reads.contents
 
 -- a write over bytes that are there
 torn-overwritten : (at : ℕ) (bytes old : List ℕ) → at + length bytes ≤ length old → Torn at (length bytes) old (overwritten at bytes old)

@@ -1,5 +1,5 @@
 -- What is known of a disk before and after a call.
-use Rattle.std.specs.Prelude.{◌≡◌, ◌≢◌, ◌⊎◌, ℕ, ◌<◌, ◌≤◌, List, [], ◌∷◌, length, Option, Some, None, Result, IsErr, OnOk, OnErr}
+use Rattle.std.specs.Prelude.{◌≡◌, ◌≢◌, ◌⊎◌, ℕ, ◌<◌, ◌≤◌, List, [], ◌∷◌, length, is_some, Option, Some, None, Result, IsErr, OnOk, OnErr}
 use Rattle.std.specs.Option.{ForSome}
 use Rattle.jb_base.specs.Fault.{Rose}
 use Rattle.jb_disk.specs.declared.file.FileId.{FileId}
@@ -65,16 +65,17 @@ abbrev pub IsPast : Option Files → FileId → ℕ → Type 0
 IsPast None file end = ⊥
 IsPast (Some files) file end = length (files file) < end
 
--- a disk that tells nothing goes on telling nothing
-abbrev pub StaysSilent : Device → Device → Type 0
-StaysSilent old new = old.contents ≡ None → new.contents ≡ None
+-- a disk that tells its contents goes on telling them, and one that tells nothing goes on telling nothing
+abbrev pub TellsAlike : Device → Device → Type 0
+TellsAlike old new = is_some new.contents ≡ is_some old.contents
 
--- a refusal has a cause: the count rose, or the range passed the file's end, which raises no count; and a silent disk stays silent
+-- a call that is done raises no count; a refusal has a cause: the count rose, or the range passed the file's end, which raises no count; and the disk tells as before
 pub record FailsBy {T E : Type 0} (past : Type 0) (old new : Device) (result : Result T E) : Type 0 where
+  pub kept : OnOk result (new.faults ≡ old.faults)
   pub later : old.faults ≤ new.faults
   pub failed : OnErr result (Rose old.faults new.faults ⊎ past)
   pub refused : past → IsErr result × (new.faults ≡ old.faults)
-  pub silent : StaysSilent old new
+  pub alike : TellsAlike old new
 
 -- what a read gives now is one of the images, a disk that tells images tells its contents, and each moment has an image
 pub record TellsAnImage (disk : Device) : Type 0 where

@@ -9,7 +9,8 @@ use crate::FileId;
 use std::error::Error;
 use std::fmt;
 
-/// The device did not do it. Where that was no call past a file's end, its count of faults rose.
+/// The device did not do it. Where that was no call past a file's end, its count of faults rose; a call that is done raises it
+/// never.
 #[derive(Clone, Copy, Debug, PartialEq, Eq)]
 pub struct DiskFailed;
 

@@ -41,23 +41,23 @@ pub record Desk : Type 0 where
 abbrev pub and_call : HostCall → Option (List HostCall) → Option (List HostCall)
 and_call call calls = option_map (λ earlier. earlier ++ call ∷ []) calls
 
--- a disk was handed out: the one that was there
+-- a disk was handed out: the one that was there; no fault was counted
 pub record GivesDisk (dir name : List ℕ) (device : Device) (old new : Desk) : Type 0 where
   pub was : ForSome old.disks (λ disks. disks dir name ≡ has_disk device)
   pub out : new.disks ≡ option_map (with_place dir name handed_out) old.disks
   pub calls : new.calls ≡ and_call (asked_disk dir name) old.calls
   pub console : new.console ≡ old.console
-  pub later : old.faults ≤ new.faults
+  pub faults : new.faults ≡ old.faults
 
 -- the calls that a host tells after it refused one
 abbrev pub calls_after : HostError → HostCall → Option (List HostCall) → Option (List HostCall)
 calls_after Failed call calls = and_call call calls
 calls_after OutOfMemory call calls = calls
 
--- the cause of a refusal
+-- the cause of a refusal; want of memory hides no fault
 abbrev pub HasHostCause : HostError → Desk → Desk → Type 0
 HasHostCause Failed old new = Rose old.faults new.faults
-HasHostCause OutOfMemory old new = Unit {0}
+HasHostCause OutOfMemory old new = new.faults ≡ old.faults
 
 -- no disk was handed out, and why
 pub record KeepsDisks (dir name : List ℕ) (error : HostError) (old new : Desk) : Type 0 where

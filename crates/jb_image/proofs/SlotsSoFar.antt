@@ -36,20 +36,20 @@ SeenTold files slots = (j : ℕ) (d : SeenSlot) → j < length slots → IsSeenA
 -- the headers of k slots are read
 pub record AreSeenSoFar (old now : Device) (headers_len k : ℕ) (slots : List SeenSlot) : Type 0 where
   pub kept : OnlyReads old now
-  pub later : old.faults ≤ now.faults
+  pub quiet : now.faults ≡ old.faults
   pub count_is : length slots ≡ k
   pub within : All (IsSeenWithin headers_len) slots
   pub told : ForSome old.contents (λ files. SeenTold files slots)
 
 -- one header more
 pub AreSeenSoFar-next : (old mid new : Device) (headers_len k : ℕ) (slots pushed : List SeenSlot) (slot : SeenSlot)
-    → AreSeenSoFar old mid headers_len k slots → OnlyReads mid new → mid.faults ≤ new.faults → pushed ≡ slots ++ slot ∷ []
+    → AreSeenSoFar old mid headers_len k slots → OnlyReads mid new → new.faults ≡ mid.faults → pushed ≡ slots ++ slot ∷ []
     → IsSeenWithin headers_len slot → ForSome old.contents (λ files. IsSeenAs files (entry_in files k) slot)
     → AreSeenSoFar old new headers_len (k + 1) pushed
-AreSeenSoFar-next old mid new headers_len k slots pushed slot so_far kept later pushed_is within told =
+AreSeenSoFar-next old mid new headers_len k slots pushed slot so_far kept quiet pushed_is within told =
     subst (AreSeenSoFar old new headers_len (k + 1)) (sym pushed_is) (record {
       kept = reads_on old mid new so_far.kept kept;
-      later = omega arith;
+      quiet = quiet ∙ so_far.quiet;
       count_is = length_push slots slot ∙ ap (λ (n : ℕ). n + 1) so_far.count_is;
       within = All-push (IsSeenWithin headers_len) slots slot so_far.within within;
       told = λ files contents_is.
@@ -59,7 +59,7 @@ AreSeenSoFar-next old mid new headers_len k slots pushed slot so_far kept later 
 -- k slots are whole
 pub record AreWholeSoFar (old now : Device) (k : ℕ) : Type 0 where
   pub kept : OnlyReads old now
-  pub later : old.faults ≤ now.faults
+  pub quiet : now.faults ≡ old.faults
   pub told : ForSome old.contents (λ files. (j : ℕ) → j < k → IsWholeSlot files (entry_in files j))
 
 -- what holds below k and at k holds below k + 1
@@ -72,11 +72,11 @@ below_next P k below here j low = elim (cases_lt j k) [
 ]
 
 -- one slot more
-pub AreWholeSoFar-next : (old mid new : Device) (k : ℕ) (slot : LoadedSlot) → AreWholeSoFar old mid k → OnlyReads mid new → mid.faults ≤ new.faults
+pub AreWholeSoFar-next : (old mid new : Device) (k : ℕ) (slot : LoadedSlot) → AreWholeSoFar old mid k → OnlyReads mid new → new.faults ≡ mid.faults
     → ForSome old.contents (λ files. HasSlot files (entry_in files k) slot) → AreWholeSoFar old new (k + 1)
-AreWholeSoFar-next old mid new k slot so_far kept later told = record {
+AreWholeSoFar-next old mid new k slot so_far kept quiet told = record {
   kept = reads_on old mid new so_far.kept kept;
-  later = omega arith;
+  quiet = quiet ∙ so_far.quiet;
   told = λ files contents_is.
       below_next (λ j. IsWholeSlot files (entry_in files j)) k (so_far.told files contents_is) (has_slot_whole files (entry_in files k) slot (told files contents_is));
 }
@@ -94,12 +94,12 @@ pub record AreLoadedSoFar (old now : Device) (texts_len k : ℕ) (seen : List Se
 
 -- one slot more
 pub AreLoadedSoFar-next : (old mid new : Device) (texts_len k : ℕ) (seen : List SeenSlot) (slots pushed : List LoadedSlot) (slot : LoadedSlot)
-    → AreLoadedSoFar old mid texts_len k seen slots → OnlyReads mid new → mid.faults ≤ new.faults → pushed ≡ slots ++ slot ∷ []
+    → AreLoadedSoFar old mid texts_len k seen slots → OnlyReads mid new → new.faults ≡ mid.faults → pushed ≡ slots ++ slot ∷ []
     → ((d : SeenSlot) → IsLoadedFrom texts_len (slice_index_or seen k d) slot) → ForSome old.contents (λ files. HasSlot files (entry_in files k) slot)
     → AreLoadedSoFar old new texts_len (k + 1) seen pushed
-AreLoadedSoFar-next old mid new texts_len k seen slots pushed slot so_far kept later pushed_is here told =
+AreLoadedSoFar-next old mid new texts_len k seen slots pushed slot so_far kept quiet pushed_is here told =
     subst (AreLoadedSoFar old new texts_len (k + 1) seen) (sym pushed_is) (record {
-      whole = AreWholeSoFar-next old mid new k slot so_far.whole kept later told;
+      whole = AreWholeSoFar-next old mid new k slot so_far.whole kept quiet told;
       count_is = length_push slots slot ∙ ap (λ (n : ℕ). n + 1) so_far.count_is;
       each = each_push (λ j s. (d : SeenSlot) → IsLoadedFrom texts_len (slice_index_or seen j d) s) slots slot k so_far.count_is so_far.each here;
       named = λ files contents_is.
@@ -109,18 +109,18 @@ AreLoadedSoFar-next old mid new texts_len k seen slots pushed slot so_far kept l
 -- k marks are read
 pub record AreMarksSoFar (old now : Device) (k : ℕ) (marks : List Mark) : Type 0 where
   pub kept : OnlyReads old now
-  pub later : old.faults ≤ now.faults
+  pub quiet : now.faults ≡ old.faults
   pub count_is : length marks ≡ k
   pub told : ForSome old.contents (λ files. (j : ℕ) (d : Mark) → j < length marks → mark_record (slice_index_or marks j d) ≡ mark_in files j)
 
 -- one mark more
 pub AreMarksSoFar-next : (old mid new : Device) (k : ℕ) (marks pushed : List Mark) (mark : Mark) → AreMarksSoFar old mid k marks → OnlyReads mid new
-    → mid.faults ≤ new.faults → pushed ≡ marks ++ mark ∷ [] → ForSome mid.contents (λ files. mark_record mark ≡ mark_in files k)
+    → new.faults ≡ mid.faults → pushed ≡ marks ++ mark ∷ [] → ForSome mid.contents (λ files. mark_record mark ≡ mark_in files k)
     → AreMarksSoFar old new (k + 1) pushed
-AreMarksSoFar-next old mid new k marks pushed mark so_far kept later pushed_is told =
+AreMarksSoFar-next old mid new k marks pushed mark so_far kept quiet pushed_is told =
     subst (AreMarksSoFar old new (k + 1)) (sym pushed_is) (record {
       kept = reads_on old mid new so_far.kept kept;
-      later = omega arith;
+      quiet = quiet ∙ so_far.quiet;
       count_is = length_push marks mark ∙ ap (λ (n : ℕ). n + 1) so_far.count_is;
       told = λ files contents_is.
           each_push (λ j m. mark_record m ≡ mark_in files j) marks mark k so_far.count_is (so_far.told files contents_is)

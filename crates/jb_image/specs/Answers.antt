@@ -95,12 +95,12 @@ refusal_of number HeaderRevision = refused.HeaderRevision number
 refusal_of number (Subfields at) = refused.Subfields number at
 refusal_of number TextPlace = refused.TextPlace number
 
--- a fault has its cause: the disk's count rose
+-- a fault has its cause: the disk's count rose; and want of memory hides none
 abbrev pub FaultRose : ℕ → ℕ → ReadError → Type 0
 FaultRose before now FaultInPart = Rose before now
-FaultRose before now NoMemoryForPart = Unit {0}
+FaultRose before now NoMemoryForPart = now ≡ before
 
--- the same of a base that is not opened
+-- the same of a base that is not opened: no other refusal hides a fault
 abbrev pub OpenFaultRose : ℕ → ℕ → OpenError → Type 0
 OpenFaultRose before now refused.StoreFault = Rose before now
-OpenFaultRose before now _ = Unit {0}
+OpenFaultRose before now _ = now ≡ before

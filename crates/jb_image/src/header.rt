@@ -47,6 +47,7 @@ fn read_header<D: Disk>(
         IsDamaged files entry.now damage))) }
     ensures window { IsWindowOn headers_file lengths.now.headers (D.device disk.new).contents window.new }
     ensures kept { OnlyReads (D.device disk.old) (D.device disk.new) }
+    ensures quiet { OnOk result ((D.device disk.new).faults ≡ (D.device disk.old).faults) }
     ensures later { (D.device disk.old).faults ≤ (D.device disk.new).faults }
     ensures cause { IfErr result (FaultRose (D.device disk.old).faults (D.device disk.new).faults) }
 {
@@ -93,6 +94,7 @@ pub(crate) fn see_slot<D: Disk>(
     // The disk is only read.
     ensures window { IsWindowOn headers_file lengths.now.headers (D.device disk.new).contents window.new }
     ensures kept { OnlyReads (D.device disk.old) (D.device disk.new) }
+    ensures quiet { OnOk result ((D.device disk.new).faults ≡ (D.device disk.old).faults) }
     ensures later { (D.device disk.old).faults ≤ (D.device disk.new).faults }
     ensures cause { IfErr result (FaultRose (D.device disk.old).faults (D.device disk.new).faults) }
 {

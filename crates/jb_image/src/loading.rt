@@ -44,6 +44,7 @@ pub(crate) fn test_slots<D: Disk>(
 
     // The disk is only read.
     ensures kept { OnlyReads (D.device disk.old) (D.device disk.new) }
+    ensures quiet { OnOk result ((D.device disk.new).faults ≡ (D.device disk.old).faults) }
     ensures later { (D.device disk.old).faults ≤ (D.device disk.new).faults }
     ensures cause { IfErr result (OpenFaultRose (D.device disk.old).faults (D.device disk.new).faults) }
 {
@@ -82,6 +83,7 @@ pub(crate) fn load_slots<D: Disk>(
 
     // The disk is only read.
     ensures kept { OnlyReads (D.device disk.old) (D.device disk.new) }
+    ensures quiet { OnOk result ((D.device disk.new).faults ≡ (D.device disk.old).faults) }
     ensures later { (D.device disk.old).faults ≤ (D.device disk.new).faults }
     ensures cause { IfErr result (OpenFaultRose (D.device disk.old).faults (D.device disk.new).faults) }
 {

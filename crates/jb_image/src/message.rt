@@ -1,5 +1,5 @@
 //! The second look at a slot: the subfields of a live message, and the place of its text.
-ghost use Rattle.std.specs.Prelude.{◌≡◌, ◌+◌, ◌≤◌, IfOk, IfErr, length};
+ghost use Rattle.std.specs.Prelude.{◌≡◌, ◌+◌, ◌≤◌, IfOk, IfErr, length, OnOk};
 ghost use Rattle.std.specs.Option.{ForSome};
 ghost use Rattle.jb_base.specs.Subfields.{IsSubfieldList, subfield_bytes};
 ghost use Rattle.jb_disk.specs.Device.{OnlyReads};
@@ -44,6 +44,7 @@ fn read_subfields<D: Disk>(
         IsCutBy (bytes_at at len (files headers_file)) damage))) }
     ensures window { IsWindowOn headers_file headers_len (D.device disk.new).contents window.new }
     ensures kept { OnlyReads (D.device disk.old) (D.device disk.new) }
+    ensures quiet { OnOk result ((D.device disk.new).faults ≡ (D.device disk.old).faults) }
     ensures later { (D.device disk.old).faults ≤ (D.device disk.new).faults }
     ensures cause { IfErr result (FaultRose (D.device disk.old).faults (D.device disk.new).faults) }
 {
@@ -98,6 +99,7 @@ fn load_message<D: Disk>(
         (entry : IndexRecord) → IsSeenLive files entry seen.now → IsDamaged files entry damage))) }
     ensures window { IsWindowOn headers_file lengths.now.headers (D.device disk.new).contents window.new }
     ensures kept { OnlyReads (D.device disk.old) (D.device disk.new) }
+    ensures quiet { OnOk result ((D.device disk.new).faults ≡ (D.device disk.old).faults) }
     ensures later { (D.device disk.old).faults ≤ (D.device disk.new).faults }
     ensures cause { IfErr result (FaultRose (D.device disk.old).faults (D.device disk.new).faults) }
 {
@@ -150,6 +152,7 @@ pub(crate) fn load_slot<D: Disk>(
     // The disk is only read.
     ensures window { IsWindowOn headers_file lengths.now.headers (D.device disk.new).contents window.new }
     ensures kept { OnlyReads (D.device disk.old) (D.device disk.new) }
+    ensures quiet { OnOk result ((D.device disk.new).faults ≡ (D.device disk.old).faults) }
     ensures later { (D.device disk.old).faults ≤ (D.device disk.new).faults }
     ensures cause { IfErr result (FaultRose (D.device disk.old).faults (D.device disk.new).faults) }
 {

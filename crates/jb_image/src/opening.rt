@@ -1,7 +1,6 @@
 //! The opening of a base.
-ghost use Rattle.std.specs.Prelude.{◌≡◌, ◌+◌, ◌*◌, ◌≤◌, ℕ, IfOk, IfErr, IfSome, IfNone, IsErrOf, All, AllPairs, length, map};
+ghost use Rattle.std.specs.Prelude.{◌≡◌, ◌+◌, ◌*◌, ◌≤◌, ℕ, IfOk, IfErr, IfSome, IfNone, All, AllPairs, length, map, OnOk};
 ghost use Rattle.std.specs.Option.{ForSome};
-ghost use Rattle.jb_base.specs.Fault.{Rose};
 ghost use Rattle.jb_disk.specs.Device.{OnlyReads};
 ghost use Rattle.jb_extent.specs.Extents.{AreDisjoint};
 ghost use Rattle.jb_model.specs.Sound.{IsSound, IsSlotWithin, AreApart};
@@ -31,7 +30,7 @@ use std::alloc::Global;
 fn later_refusal(alloc: Global, seen: &Seen, base: u32) -> Result<Option<OpenError>, OutOfMemory>
     requires numbers { base + length seen.now.slots.items ≤ 4_294_967_295 }
     ensures found { IfOk result (λ some. IfSome some (IsLaterRefusal base seen.now.slots.items seen.now.damage)) }
-    ensures quiet { IfOk result (λ some. IfSome some (λ error. (before now : ℕ) → OpenFaultRose before now error)) }
+    ensures quiet { IfOk result (λ some. IfSome some (λ error. (before now : ℕ) → now ≡ before → OpenFaultRose before now error)) }
     ensures none { IfOk result (λ some. IfNone some (IfNone seen.now.damage
         (AllPairs AreDisjoint (map extent_seen seen.now.slots.items)))) }
     ensures whole { IfOk result (λ some. IfNone some (IfSome seen.now.damage (λ _. ⊥))) }
@@ -75,6 +74,7 @@ fn read_slots<D: Disk>(
 
     // The disk is only read.
     ensures kept { OnlyReads (D.device disk.old) (D.device disk.new) }
+    ensures quiet { OnOk result ((D.device disk.new).faults ≡ (D.device disk.old).faults) }
     ensures later { (D.device disk.old).faults ≤ (D.device disk.new).faults }
     ensures cause { IfErr result (OpenFaultRose (D.device disk.old).faults (D.device disk.new).faults) }
 {
@@ -132,6 +132,7 @@ fn read_area<D: Disk>(
 
     // The disk is only read.
     ensures kept { OnlyReads (D.device disk.old) (D.device disk.new) }
+    ensures quiet { OnOk result ((D.device disk.new).faults ≡ (D.device disk.old).faults) }
     ensures later { (D.device disk.old).faults ≤ (D.device disk.new).faults }
     ensures cause { IfErr result (OpenFaultRose (D.device disk.old).faults (D.device disk.new).faults) }
 {
@@ -147,8 +148,9 @@ fn read_base<D: Disk>(alloc: Global, disk: &mut D, slots: u32) -> Result<Loaded,
     ensures answer { ForSome (D.device disk.old).contents (λ files. AnswersFor slots files result) }
     ensures sound { IfOk result (IsSound slots) }
     ensures kept { OnlyReads (D.device disk.old) (D.device disk.new) }
+    ensures quiet { OnOk result ((D.device disk.new).faults ≡ (D.device disk.old).faults) }
     ensures later { (D.device disk.old).faults ≤ (D.device disk.new).faults }
-    ensures fault { IsErrOf result OpenError.StoreFault → Rose (D.device disk.old).faults (D.device disk.new).faults }
+    ensures cause { IfErr result (OpenFaultRose (D.device disk.old).faults (D.device disk.new).faults) }
 {
     let lengths = Lengths::of(disk)?;
     read_area(alloc, disk, &lengths, slots)
@@ -160,9 +162,10 @@ fn read_base<D: Disk>(alloc: Global, disk: &mut D, slots: u32) -> Result<Loaded,
 ///
 /// Four questions for a length, three reads, and at most two a slot; no text is read.
 pub fn decode<D: Disk>(alloc: Global, disk: &mut D, slots: u32) -> Result<Loaded, OpenError>
-    // What the files say, where the disk tells them.
+    // What the files say, where the disk tells them; a fault comes only where the count rose, and each other answer only where
+    // it did not.
     ensures answer { ForSome (D.device disk.old).contents (λ files. AnswersFor slots files result) }
-    ensures fault { IsErrOf result OpenError.StoreFault → Rose (D.device disk.old).faults (D.device disk.new).faults }
+    ensures cause { IfErr result (OpenFaultRose (D.device disk.old).faults (D.device disk.new).faults) }
 
     // The files have no other answer.
     ensures alone { HasOneStateAtMost }
@@ -172,6 +175,7 @@ pub fn decode<D: Disk>(alloc: Global, disk: &mut D, slots: u32) -> Result<Loaded
     // On every disk.
     ensures sound { IfOk result (IsSound slots) }
     ensures kept { OnlyReads (D.device disk.old) (D.device disk.new) }
+    ensures quiet { OnOk result ((D.device disk.new).faults ≡ (D.device disk.old).faults) }
     ensures later { (D.device disk.old).faults ≤ (D.device disk.new).faults }
 {
     read_base(alloc, disk, slots)

@@ -101,6 +101,7 @@ impl Window {
         ensures at_is { OnOk result (self.new.at ≡ range.at) }
         ensures len_is { OnOk result (vec_len self.new.bytes ≡ range.len) }
         ensures kept { OnlyReads (D.device disk.old) (D.device disk.new) }
+        ensures quiet { OnOk result ((D.device disk.new).faults ≡ (D.device disk.old).faults) }
         ensures later { (D.device disk.old).faults ≤ (D.device disk.new).faults }
         ensures cause { IfErr result (FaultRose (D.device disk.old).faults (D.device disk.new).faults) }
     {
@@ -136,6 +137,7 @@ impl Window {
 
         // The disk is only read.
         ensures kept { OnlyReads (D.device disk.old) (D.device disk.new) }
+        ensures quiet { OnOk result ((D.device disk.new).faults ≡ (D.device disk.old).faults) }
         ensures later { (D.device disk.old).faults ≤ (D.device disk.new).faults }
         ensures cause { IfErr result (FaultRose (D.device disk.old).faults (D.device disk.new).faults) }
     {
@@ -171,6 +173,7 @@ fn read_into<D: Disk>(
     ensures found { OnOk result (ForSome (D.device disk.old).contents (λ files.
         bytes.new.items ≡ bytes_at at (vec_len bytes.old) (files file))) }
     ensures kept { OnlyReads (D.device disk.old) (D.device disk.new) }
+    ensures quiet { OnOk result ((D.device disk.new).faults ≡ (D.device disk.old).faults) }
     ensures later { (D.device disk.old).faults ≤ (D.device disk.new).faults }
     ensures cause { OnErr result (Rose (D.device disk.old).faults (D.device disk.new).faults) }
 {

@@ -7,7 +7,7 @@ use Rattle.jb_disk.specs.declared.piece.Length.{Length}
 use Rattle.jb_disk.specs.declared.piece.Piece.{Piece}
 use Rattle.jb_disk.specs.Files.{Files, written}
 use Rattle.jb_disk.specs.FileLaws.{with_file-other}
-use Rattle.jb_disk.specs.Device.{Device, OnlyReads, Tears, FailsBy, StaysSilent, IsPast, TellsAnImage}
+use Rattle.jb_disk.specs.Device.{Device, OnlyReads, Tears, FailsBy, TellsAlike, IsPast, TellsAnImage}
 use Rattle.jb_disk.specs.Runs.{Keeps}
 use Rattle.jb_disk.proofs.RunLemmas.{keeps-refl, keeps-then, keeps-reads, keeps-write}
 use Rattle.jb_redo.specs.OnTheWay.{IsOnTheWay}
@@ -66,8 +66,8 @@ pub record Moving (initial now : Device) (from : FileId) (from_at : ℕ) (to : F
   pub apart : ForSome now.contents (λ files. from ≢ to)
   pub source : Reaches now.contents from (from_at + len)
   pub target : Reaches now.contents to (to_at + len)
-  pub counted : initial.faults ≤ now.faults
-  pub silent : StaysSilent initial now
+  pub counted : now.faults ≡ initial.faults
+  pub alike : TellsAlike initial now
   pub keeps : (lengths : List Length) (pieces : List Piece) (start : Files) → IsWrittenBy start pieces to to_at len → Keeps (IsOnTheWay lengths pieces start) initial now
 
 -- nothing is copied yet
@@ -79,8 +79,8 @@ moving_start device from from_at to to_at len apart source target = record {
   apart = apart;
   source = source;
   target = target;
-  counted = omega arith;
-  silent = λ none. none;
+  counted = refl;
+  alike = refl;
   keeps = λ lengths pieces start covers. keeps-refl (IsOnTheWay lengths pieces start) device;
 }
   where
@@ -93,10 +93,10 @@ moving_start device from from_at to to_at len apart source target = record {
 
 -- one part more
 pub moving_on : (initial now next : Device) (from : FileId) (from_at : ℕ) (to : FileId) (to_at len moved count : ℕ) → Moving initial now from from_at to to_at len moved → moved + count ≤ len
-    → next.contents ≡ option_map (copied from (from_at + moved) to (to_at + moved) count) now.contents → now.faults ≤ next.faults → StaysSilent now next
+    → next.contents ≡ option_map (copied from (from_at + moved) to (to_at + moved) count) now.contents → next.faults ≡ now.faults → TellsAlike now next
     → ((lengths : List Length) (pieces : List Piece) (start : Files) → IsWrittenBy start pieces to (to_at + moved) count → Keeps (IsOnTheWay lengths pieces start) now next)
     → Moving initial next from from_at to to_at len (moved + count)
-moving_on initial now next from from_at to to_at len moved count moving within told later silent keeps =
+moving_on initial now next from from_at to to_at len moved count moving within told kept alike keeps =
     let step : Files → Files = copied from (from_at + moved) to (to_at + moved) count in
     let sizes : (files : Files) (end : ℕ) (file : FileId) → now.contents ≡ Some files → end ≤ length (files file) → end ≤ length (step files file) = λ files end file is low.
     (Reaches-written (Some files) (Some (step files)) to file (to_at + moved) end (take count (drop (from_at + moved) (files from))) refl (here files is) (some_low files end file low)) (step files) refl in
@@ -110,8 +110,8 @@ moving_on initial now next from from_at to to_at len moved count moving within t
       apart = λ files is. let back = told_back now.contents next.contents step files told is in moving.apart back.0 back.1;
       source = λ files is. let back = told_back now.contents next.contents step files told is in subst (λ (x : Files). from_at + len ≤ length (x from)) (sym back.2) (sizes back.0 (from_at + len) from back.1 (moving.source back.0 back.1));
       target = λ files is. let back = told_back now.contents next.contents step files told is in subst (λ (x : Files). to_at + len ≤ length (x to)) (sym back.2) (sizes back.0 (to_at + len) to back.1 (moving.target back.0 back.1));
-      counted = omega (arith, moving.counted);
-      silent = λ none. silent (moving.silent none);
+      counted = kept ∙ moving.counted;
+      alike = alike ∙ moving.alike;
       keeps = λ lengths pieces start covers. keeps-then (IsOnTheWay lengths pieces start) initial now next (moving.keeps lengths pieces start covers)
           (keeps lengths pieces start (λ i over under. covers i (omega (arith, over)) (omega (arith, under))));
     }
@@ -132,11 +132,11 @@ moving_on initial now next from from_at to to_at len moved count moving within t
 
 -- the same, by the length of the part
 pub moving_by : (initial now next : Device) (from : FileId) (from_at : ℕ) (to : FileId) (to_at len moved count part : ℕ) → Moving initial now from from_at to to_at len moved → moved + count ≤ len → part ≡ count
-    → next.contents ≡ option_map (copied from (from_at + moved) to (to_at + moved) part) now.contents → now.faults ≤ next.faults → StaysSilent now next
+    → next.contents ≡ option_map (copied from (from_at + moved) to (to_at + moved) part) now.contents → next.faults ≡ now.faults → TellsAlike now next
     → ((lengths : List Length) (pieces : List Piece) (start : Files) → IsWrittenBy start pieces to (to_at + moved) part → Keeps (IsOnTheWay lengths pieces start) now next)
     → Moving initial next from from_at to to_at len (moved + count)
-moving_by initial now next from from_at to to_at len moved count part moving within size told later silent keeps =
-    moving_on initial now next from from_at to to_at len moved count moving within (told ∙ ap (λ (n : ℕ). option_map (copied from (from_at + moved) to (to_at + moved) n) now.contents) size) later silent
+moving_by initial now next from from_at to to_at len moved count part moving within size told kept alike keeps =
+    moving_on initial now next from from_at to to_at len moved count moving within (told ∙ ap (λ (n : ℕ). option_map (copied from (from_at + moved) to (to_at + moved) n) now.contents) size) kept alike
     (λ lengths pieces start covers. keeps lengths pieces start (subst (λ (n : ℕ). IsWrittenBy start pieces to (to_at + moved) n) (sym size) covers))
 
 -- a part that was refused

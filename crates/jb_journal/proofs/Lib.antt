@@ -14,7 +14,7 @@ mod ReadyLemmas
 mod RecordLemmas
 mod RecoverLemmas
 mod SettingLemmas
-mod SettleLemmas
+pub mod SettleLemmas
 mod SyncLemmas
 mod Told
 mod Touching

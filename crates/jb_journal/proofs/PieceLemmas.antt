@@ -16,7 +16,7 @@ use Rattle.jb_disk.specs.Change.{head_of, bytes_of}
 use Rattle.jb_disk.specs.Files.{Files, number_of, overwritten, written}
 use Rattle.jb_disk.specs.FileLaws.{with_file-here, with_file-other, number-injective}
 use Rattle.jb_disk.specs.Steps.{IsCovered, patched, Span}
-use Rattle.jb_disk.specs.Device.{Device, StaysSilent}
+use Rattle.jb_disk.specs.Device.{Device, TellsAlike}
 use Rattle.jb_disk.specs.Runs.{Keeps}
 use Rattle.jb_disk.proofs.RunLemmas.{keeps-refl, keeps-then}
 use Rattle.jb_redo.specs.OnTheWay.{IsOnTheWay}
@@ -130,22 +130,22 @@ sizes-with piece files place = λ i. λ file. length-written (target_of piece) f
 pub record Putting (initial now : Device) (pieces rest : List Piece) : Type 0 where
   pub told : option_map (with_pieces rest) now.contents ≡ option_map (with_pieces pieces) initial.contents
   pub place : ForSome now.contents (λ files. All (HasPlace files) pieces)
-  pub counted : initial.faults ≤ now.faults
-  pub silent : StaysSilent initial now
+  pub counted : now.faults ≡ initial.faults
+  pub alike : TellsAlike initial now
   pub keeps : (lengths : List Length) (start : Files) → IsLegal (sizes_of start) lengths pieces → Keeps (IsOnTheWay lengths pieces start) initial now
 
 -- none is written yet
 pub putting_start : (device : Device) (pieces : List Piece) → ForSome device.contents (λ files. All (HasPlace files) pieces) → Putting device device pieces pieces
-putting_start device pieces place = record { told = refl; place = place; counted = omega arith; silent = λ none. none; keeps = λ lengths start legal. keeps-refl (IsOnTheWay lengths pieces start) device }
+putting_start device pieces place = record { told = refl; place = place; counted = refl; alike = refl; keeps = λ lengths start legal. keeps-refl (IsOnTheWay lengths pieces start) device }
 
 -- the place of the next
 pub putting_place : (initial now : Device) (pieces rest : List Piece) (k : ℕ) → Putting initial now pieces rest → k < length pieces → ForSome now.contents (λ files. HasPlace files (nth_piece pieces k))
 putting_place initial now pieces rest k putting low = λ files there. putting.place files there k (Bytes Jhr 0 []) low
 
 -- one piece more
-pub putting_on : (initial now next : Device) (pieces : List Piece) (k : ℕ) → Putting initial now pieces (drop k pieces) → k < length pieces → next.contents ≡ option_map (with_piece (nth_piece pieces k)) now.contents → now.faults ≤ next.faults → StaysSilent now next
+pub putting_on : (initial now next : Device) (pieces : List Piece) (k : ℕ) → Putting initial now pieces (drop k pieces) → k < length pieces → next.contents ≡ option_map (with_piece (nth_piece pieces k)) now.contents → next.faults ≡ now.faults → TellsAlike now next
     → ((lengths : List Length) (start : Files) → IsLegal (sizes_of start) lengths pieces → Keeps (IsOnTheWay lengths pieces start) now next) → Putting initial next pieces (drop (k + 1) pieces)
-putting_on initial now next pieces k putting low told later silent keeps =
+putting_on initial now next pieces k putting low told kept alike keeps =
     let piece = nth_piece pieces k in
     let more : drop k pieces ≡ piece ∷ drop (k + 1) pieces = drop_more pieces k (Bytes Jhr 0 []) low in
     record {
@@ -159,8 +159,8 @@ putting_on initial now next pieces k putting low told later silent keeps =
           let was = putting.place back.0 back.1 in
           let same : sizes_of files ≡ sizes_of back.0 = ap sizes_of back.2 ∙ sizes-with piece back.0 (was k (Bytes Jhr 0 []) low) in
           subst (λ (sizes : FileId → ℕ). All (IsLegalPiece sizes sizes) pieces) (sym same) was;
-      counted = omega (arith, putting.counted);
-      silent = λ none. silent (putting.silent none);
+      counted = kept ∙ putting.counted;
+      alike = alike ∙ putting.alike;
       keeps = λ lengths start legal. keeps-then (IsOnTheWay lengths pieces start) initial now next (putting.keeps lengths start legal) (keeps lengths start legal);
     }
 

@@ -4,7 +4,7 @@ use Rattle.std.specs.Prelude.{IsErr}
 use Rattle.std.specs.Option.{option_map}
 use Rattle.jb_disk.specs.declared.file.FileId.TheVariants.{Jnl}
 use Rattle.jb_disk.specs.Files.{Files, written}
-use Rattle.jb_disk.specs.Device.{Device, Tears, FailsBy, StaysSilent, IsPast, TellsAnImage}
+use Rattle.jb_disk.specs.Device.{Device, Tears, FailsBy, TellsAlike, IsPast, TellsAnImage}
 use Rattle.jb_disk.specs.Runs.{Keeps}
 use Rattle.jb_disk.proofs.RunLemmas.{keeps-refl, keeps-then, keeps-write}
 use Rattle.jb_journal.specs.Stages.{IsUntouched}
@@ -28,7 +28,7 @@ pub puts_then : {T E U F : Type 0} (at place : ℕ) (front back whole : List ℕ
 puts_then at place front back whole old mid new value result room place_is parts first second = record {
   done = on_ok result _ _ (told_join old.contents mid.contents new.contents Jnl at place front back whole room place_is parts first.done) second.done;
   keeps = λ start. keeps-then (IsUntouched start) old mid new (first.keeps start) (second.keeps start);
-  cause = fails_then old mid new result first.cause.later first.cause.silent second.cause;
+  cause = fails_then old mid new result first.cause.kept first.cause.alike second.cause;
 }
 
 -- a part that was refused
@@ -41,8 +41,8 @@ pub record Writing (initial now : Device) (at place : ℕ) (whole rest : List �
   pub end : place + length rest ≡ at + length whole
   pub told : option_map (written Jnl place rest) now.contents ≡ option_map (written Jnl at whole) initial.contents
   pub room : Reaches now.contents Jnl (at + length whole)
-  pub counted : initial.faults ≤ now.faults
-  pub silent : StaysSilent initial now
+  pub counted : now.faults ≡ initial.faults
+  pub alike : TellsAlike initial now
   pub keeps : (start : Files) → Keeps (IsUntouched start) initial now
 
 -- nothing is written yet
@@ -52,8 +52,8 @@ writing_start device at whole behind room = record {
   end = refl;
   told = refl;
   room = room;
-  counted = omega arith;
-  silent = λ none. none;
+  counted = refl;
+  alike = refl;
   keeps = λ start. keeps-refl (IsUntouched start) device;
 }
 
@@ -75,8 +75,8 @@ writing_on initial now next at place n whole rest front back value w size parts 
           ∙ ap (λ (l : List ℕ). option_map (written Jnl place l) now.contents) (sym parts)
           ∙ w.told;
       room = Reaches-written now.contents next.contents Jnl Jnl place (at + length whole) front puts.done here w.room;
-      counted = omega (arith, w.counted, puts.cause.later);
-      silent = λ none. puts.cause.silent (w.silent none);
+      counted = puts.cause.kept ∙ w.counted;
+      alike = puts.cause.alike ∙ w.alike;
       keeps = λ start. keeps-then (IsUntouched start) initial now next (w.keeps start) (puts.keeps start);
     }
 
@@ -92,7 +92,7 @@ pub writing_failed : {T E U F : Type 0} (initial now next : Device) (at place : 
 writing_failed initial now next at place whole rest front first result w fails err puts = record {
   done = none_done result _ err;
   keeps = λ start. keeps-then (IsUntouched start) initial now next (w.keeps start) (puts.keeps start);
-  cause = fails_then initial now next result w.counted w.silent (fails_as now next first result fails err puts.cause);
+  cause = fails_then initial now next result w.counted w.alike (fails_as now next first result fails err puts.cause);
 }
 
 -- all is written
@@ -102,7 +102,7 @@ writing_end initial now at place whole rest value w none = record {
       sym (option_map-id (written Jnl place []) now.contents (λ files is. written-nil Jnl place files (omega (arith, w.room files is, w.end, ap length none))))
       ∙ ap (λ (l : List ℕ). option_map (written Jnl place l) now.contents) (sym none) ∙ w.told;
   keeps = w.keeps;
-  cause = record { later = w.counted; failed = tt; refused = λ never. absurd never; silent = w.silent };
+  cause = record { kept = w.counted; later = omega (arith, w.counted); failed = tt; refused = λ never. absurd never; alike = w.alike };
 }
 
 -- room that is left after a part

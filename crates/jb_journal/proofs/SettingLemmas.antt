@@ -10,7 +10,7 @@ use Rattle.jb_disk.specs.declared.piece.Piece.{Piece}
 use Rattle.jb_disk.specs.Files.{Files, number_of, IsResized, InFile}
 use Rattle.jb_disk.specs.FileLaws.{same_file, number-injective}
 use Rattle.jb_disk.specs.Steps.{Cut}
-use Rattle.jb_disk.specs.Device.{Device, StaysSilent, Turns, Resizes, TellsAnImage}
+use Rattle.jb_disk.specs.Device.{Device, TellsAlike, Turns, Resizes, TellsAnImage}
 use Rattle.jb_disk.specs.Runs.{Keeps}
 use Rattle.jb_disk.proofs.RunLemmas.{keeps-refl, keeps-then, keeps-resize}
 use Rattle.jb_redo.specs.OnTheWay.{IsOnTheWay}
@@ -78,8 +78,8 @@ resized_none files file = record { size = refl; same = λ i within low. refl }
 pub record Setting (initial now : Device) (lengths rest : List Length) : Type 0 where
   pub rising : AllPairs IsBefore rest
   pub told : (final : Option Files) → Turns (AreResized rest) now.contents final → Turns (AreResized lengths) initial.contents final
-  pub counted : initial.faults ≤ now.faults
-  pub silent : StaysSilent initial now
+  pub counted : now.faults ≡ initial.faults
+  pub alike : TellsAlike initial now
   pub keeps : (pieces : List Piece) (start : Files) → Keeps (IsOnTheWay lengths pieces start) initial now
 
 -- none is set yet
@@ -87,8 +87,8 @@ pub setting_start : (device : Device) (lengths : List Length) → AllPairs IsBef
 setting_start device lengths rising = record {
   rising = rising;
   told = λ final turns. turns;
-  counted = omega arith;
-  silent = λ none. none;
+  counted = refl;
+  alike = refl;
   keeps = λ pieces start. keeps-refl (IsOnTheWay lengths pieces start) device;
 }
 
@@ -113,16 +113,16 @@ keeps_set lengths i d old new result rising low tells_old tells_new resizes piec
 
 -- one length more
 pub setting_on : {T E : Type 0} (initial now next : Device) (lengths : List Length) (i : ℕ) (d : Length) (value : T) → Setting initial now lengths (drop i lengths) → AllPairs IsBefore lengths → i < length lengths
-    → TellsAnImage now → TellsAnImage next → Resizes {T = T} {E = E} (get_or lengths i d).file (get_or lengths i d).len now next (Ok value) → now.faults ≤ next.faults → StaysSilent now next → Setting initial next lengths (drop (i + 1) lengths)
-setting_on initial now next lengths i d value setting rising low tells_now tells_next resizes later silent =
+    → TellsAnImage now → TellsAnImage next → Resizes {T = T} {E = E} (get_or lengths i d).file (get_or lengths i d).len now next (Ok value) → next.faults ≡ now.faults → TellsAlike now next → Setting initial next lengths (drop (i + 1) lengths)
+setting_on initial now next lengths i d value setting rising low tells_now tells_next resizes kept alike =
     let entry = get_or lengths i d in
     let more : drop i lengths ≡ entry ∷ drop (i + 1) lengths = drop_more lengths i d low in
     let pairs : AllPairs IsBefore (entry ∷ drop (i + 1) lengths) = subst (AllPairs IsBefore) more setting.rising in
     record {
       rising = pairs_tail entry (drop (i + 1) lengths) pairs;
       told = λ final rest. setting.told final (subst (λ (l : List Length). Turns (AreResized l) now.contents final) (sym more) (told_more entry (drop (i + 1) lengths) now.contents next.contents final (pairs_head entry (drop (i + 1) lengths) pairs) resizes.done rest));
-      counted = omega (arith, setting.counted);
-      silent = λ none. silent (setting.silent none);
+      counted = kept ∙ setting.counted;
+      alike = alike ∙ setting.alike;
       keeps = λ pieces start. keeps-then (IsOnTheWay lengths pieces start) initial now next (setting.keeps pieces start) (keeps_set lengths i d now next (Ok value) rising low tells_now tells_next resizes pieces start);
     }
 

@@ -5,7 +5,7 @@ use Rattle.std.specs.Option.{option_map, ForSome}
 use Rattle.std.proofs.lemmas.List.{same_lists, places, get_or_default}
 use Rattle.jb_disk.specs.declared.file.FileId.{FileId}
 use Rattle.jb_disk.specs.Files.{Files, with_file, overwritten, written, IsResized, InFile}
-use Rattle.jb_disk.specs.Device.{Device, IsPast, FailsBy, StaysSilent, Turns, and_then}
+use Rattle.jb_disk.specs.Device.{Device, IsPast, FailsBy, TellsAlike, Turns, and_then}
 use Rattle.jb_disk.specs.Images.{just_synced, with_image}
 use Rattle.jb_disk.specs.Runs.{LeavesNow}
 use Rattle.jb_disk.proofs.RunLemmas.{durable}
@@ -19,26 +19,28 @@ not_past (Some files) f end reaches past = omega (arith, reaches files refl, pas
 
 -- a call within a file fails for a fault alone
 pub fails_here : {T E : Type 0} (o : Option Files) (f : FileId) (end : ℕ) (old new : Device) (result : Result T E) → Reaches o f end → FailsBy (IsPast o f end) old new result → FailsBy ⊥ old new result
-fails_here o f end old new (Ok value) reaches cause = record { later = cause.later; failed = tt; refused = λ none. absurd none; silent = cause.silent }
+fails_here o f end old new (Ok value) reaches cause = record { kept = cause.kept; later = cause.later; failed = tt; refused = λ none. absurd none; alike = cause.alike }
 fails_here o f end old new (Err error) reaches cause = record {
+  kept = tt;
   later = cause.later;
   failed = elim cause.failed [ inl rose ↦ inl rose | inr past ↦ absurd (not_past o f end reaches past) ];
   refused = λ none. absurd none;
-  silent = cause.silent;
+  alike = cause.alike;
 }
 
 -- a call that was done, and one after it
-pub fails_then : {T E : Type 0} (a b c : Device) (result : Result T E) → a.faults ≤ b.faults → StaysSilent a b → FailsBy ⊥ b c result → FailsBy ⊥ a c result
-fails_then a b c (Ok value) later silent cause =
+pub fails_then : {T E : Type 0} (a b c : Device) (result : Result T E) → b.faults ≡ a.faults → TellsAlike a b → FailsBy ⊥ b c result → FailsBy ⊥ a c result
+fails_then a b c (Ok value) same alike cause =
     let after = cause.later in
-    record { later = omega arith; failed = tt; refused = λ none. absurd none; silent = λ none. cause.silent (silent none) }
-fails_then a b c (Err error) later silent cause =
+    record { kept = cause.kept ∙ same; later = omega (arith, same, after); failed = tt; refused = λ none. absurd none; alike = cause.alike ∙ alike }
+fails_then a b c (Err error) same alike cause =
     let after = cause.later in
     record {
-      later = omega arith;
-      failed = elim cause.failed [ inl rose ↦ inl (omega (arith, rose)) | inr none ↦ absurd none ];
+      kept = tt;
+      later = omega (arith, same, after);
+      failed = elim cause.failed [ inl rose ↦ inl (omega (arith, rose, same)) | inr none ↦ absurd none ];
       refused = λ none. absurd none;
-      silent = λ none. cause.silent (silent none);
+      alike = cause.alike ∙ alike;
     }
 
 -- false is not true
@@ -49,7 +51,7 @@ not-true is = cc
 pub fails_as : {T E U F : Type 0} (old new : Device) (first : Result T E) (result : Result U F) → IsErr first → IsErr result → FailsBy ⊥ old new first → FailsBy ⊥ old new result
 fails_as old new (Ok value) result fails err cause = absurd (not-true fails)
 fails_as old new first (Ok value) fails err cause = absurd (not-true err)
-fails_as old new (Err error) (Err other) fails err cause = record { later = cause.later; failed = cause.failed; refused = λ none. absurd none; silent = cause.silent }
+fails_as old new (Err error) (Err other) fails err cause = record { kept = tt; later = cause.later; failed = cause.failed; refused = λ none. absurd none; alike = cause.alike }
 
 -- no call is done that was refused
 pub none_done : {T E : Type 0} (result : Result T E) (P : Type 0) → IsErr result → OnOk result P

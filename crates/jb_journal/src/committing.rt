@@ -2,7 +2,7 @@
 ghost use Rattle.std.specs.Prelude.{◌≡◌, ◌≤◌, IfErr, OnOk, OnErr};
 ghost use Rattle.std.specs.Option.{ForSome, option_map};
 ghost use Rattle.jb_base.specs.Fault.{Rose};
-ghost use Rattle.jb_disk.specs.Device.{FailsBy, StaysSilent};
+ghost use Rattle.jb_disk.specs.Device.{FailsBy, TellsAlike};
 ghost use Rattle.jb_disk.specs.Files.{Files};
 ghost use Rattle.jb_disk.specs.Runs.{Shows, Runs, LeavesOnly, IsAllSynced};
 ghost use Rattle.jb_redo.specs.Rules.{AreLegalLengths};
@@ -88,6 +88,7 @@ pub fn commit<D: Disk>(disk: &mut D, redo: &Redo) -> Result<(), Stopped>
 
     // Stopped: only by a fault, and with what settling is to go on from.
     ensures cause { OnErr result (Rose (D.device disk.old).faults (D.device disk.new).faults) }
+    ensures quiet { OnOk result ((D.device disk.new).faults ≡ (D.device disk.old).faults) }
     ensures later { (D.device disk.old).faults ≤ (D.device disk.new).faults }
     ensures in_doubt { IfErr result (λ stopped. ForSome (D.device disk.old).contents (λ start.
         Shows (IsInDoubt stopped redo.now start) (D.device disk.new))) }
@@ -101,8 +102,8 @@ pub fn commit<D: Disk>(disk: &mut D, redo: &Redo) -> Result<(), Stopped>
         (OpensFor result (ReplaysTo (changed redo.now start)) (D.device disk.old).moments
         (D.device disk.new).moments)) }
 
-    // A disk that tells nothing goes on telling nothing, whatever is answered.
-    ensures silent { StaysSilent (D.device disk.old) (D.device disk.new) }
+    // A disk that tells its files goes on telling them, and one that tells nothing goes on so, whatever is answered.
+    ensures alike { TellsAlike (D.device disk.old) (D.device disk.new) }
 {
     let Ok(()) = begin(disk, redo) else {
         return Err(Stopped::Early);

@@ -28,6 +28,6 @@ mod stopped;
 pub use committing::commit;
 pub use error::{JournalError, Recovered};
 pub use preparing::prepare;
-pub use recovery::recover;
+pub use recovery::{recover, sync_all};
 pub use settling::settle;
 pub use stopped::Stopped;

@@ -3,7 +3,7 @@ ghost use Rattle.std.specs.Prelude.{◌≡◌, ◌≤◌, replicate, length, IfE
 ghost use Rattle.std.specs.Option.{ForSome, option_map};
 ghost use Rattle.jb_base.specs.Fault.{Rose};
 ghost use Rattle.jb_disk.specs.declared.file.FileId.TheVariants.{Jnl};
-ghost use Rattle.jb_disk.specs.Device.{FailsBy, StaysSilent, Turns};
+ghost use Rattle.jb_disk.specs.Device.{FailsBy, TellsAlike, Turns};
 ghost use Rattle.jb_disk.specs.Files.{Files, with_file};
 ghost use Rattle.jb_disk.specs.Runs.{LeavesNow, Shows, Keeps, LeavesOnly, IsAllSynced};
 ghost use Rattle.jb_journal.specs.declared.stopped.Stopped.TheVariants.{Early};
@@ -64,6 +64,7 @@ pub fn prepare<D: Disk>(disk: &mut D) -> Result<(), Stopped>
     // A refusal is early, and has a fault as its cause.
     ensures early { IfErr result (λ stopped. stopped ≡ Early) }
     ensures cause { OnErr result (Rose (D.device disk.old).faults (D.device disk.new).faults) }
+    ensures quiet { OnOk result ((D.device disk.new).faults ≡ (D.device disk.old).faults) }
     ensures later { (D.device disk.old).faults ≤ (D.device disk.new).faults }
 
     // At each moment, and after a refusal, the other files are as they were, and a gate that was closed stays so.
@@ -72,8 +73,8 @@ pub fn prepare<D: Disk>(disk: &mut D) -> Result<(), Stopped>
     ensures crash { ForSome (D.device disk.old).contents (λ start. IsAllSynced (D.device disk.old)
         → LeavesOnly (D.device disk.old) (D.device disk.new) (IsPreparing start)) }
 
-    // A disk that tells nothing goes on telling nothing, whatever is answered.
-    ensures silent { StaysSilent (D.device disk.old) (D.device disk.new) }
+    // A disk that tells its files goes on telling them, and one that tells nothing goes on so, whatever is answered.
+    ensures alike { TellsAlike (D.device disk.old) (D.device disk.new) }
 {
     match make_head(disk) {
         Ok(()) => Ok(()),

@@ -3,7 +3,7 @@ ghost use Rattle.std.specs.Prelude.{◌≡◌, ◌≤◌, List, Some, IsSome, If
 ghost use Rattle.std.specs.Option.{ForSome};
 ghost use Rattle.jb_disk.specs.declared.piece.Length.{Length};
 ghost use Rattle.jb_disk.specs.declared.piece.Piece.{Piece};
-ghost use Rattle.jb_disk.specs.Device.{FailsBy, StaysSilent};
+ghost use Rattle.jb_disk.specs.Device.{FailsBy, TellsAlike};
 ghost use Rattle.jb_disk.specs.Files.{Files};
 ghost use Rattle.jb_disk.specs.Images.{Images};
 ghost use Rattle.jb_disk.specs.Runs.{LeavesNow, Runs, Shows, Keeps, LeavesOnly, IsAllSynced};
@@ -41,8 +41,8 @@ fn sync_base<D: Disk>(disk: &mut D) -> Result<(), DiskFailed>
     disk.sync(FileId::Jlr)
 }
 
-// Syncs every file.
-fn sync_all<D: Disk>(disk: &mut D) -> Result<(), DiskFailed>
+/// Syncs every file: six calls. From there on a crash leaves what is read.
+pub fn sync_all<D: Disk>(disk: &mut D) -> Result<(), DiskFailed>
     ensures kept { OnOk result ((D.device disk.new).contents ≡ (D.device disk.old).contents) }
     ensures durable { OnOk result (IsAllSynced (D.device disk.new)) }
     ensures first { (first : List Images) → Keeps (MightBe first) (D.device disk.old)
@@ -87,8 +87,9 @@ fn redo_record<D: Disk>(disk: &mut D) -> Result<(), JournalError>
         → Runs (ReplaysAs was) (D.device disk.old).moments (D.device disk.new).moments) }
     ensures fault { IfErr result (λ error. ForSome (D.device disk.old).contents (λ was.
         error ≡ StoreFault)) }
+    ensures quiet { OnOk result ((D.device disk.new).faults ≡ (D.device disk.old).faults) }
     ensures later { (D.device disk.old).faults ≤ (D.device disk.new).faults }
-    ensures silent { StaysSilent (D.device disk.old) (D.device disk.new) }
+    ensures alike { TellsAlike (D.device disk.old) (D.device disk.new) }
     ensures cause { IfErr result (FaultRose (D.device disk.old).faults (D.device disk.new).faults) }
 {
     apply_record(disk)?;
@@ -119,6 +120,7 @@ pub fn recover<D: Disk>(disk: &mut D) -> Result<Recovered, JournalError>
     ensures refused { IfErr result (λ error. ForSome
         (D.device disk.old).contents (IsRefusedOver error (D.device disk.new))) }
     ensures cause { IfErr result (FaultRose (D.device disk.old).faults (D.device disk.new).faults) }
+    ensures quiet { OnOk result ((D.device disk.new).faults ≡ (D.device disk.old).faults) }
     ensures later { (D.device disk.old).faults ≤ (D.device disk.new).faults }
 
     // A crash at any moment leaves files that replay to what some files replay to that it might have left at the start.
@@ -131,8 +133,8 @@ pub fn recover<D: Disk>(disk: &mut D) -> Result<Recovered, JournalError>
     ensures firm { ForSome (D.device disk.old).contents (λ was. IsGrowthSafe was
         → FirmSince (ReplaysAs was) (D.device disk.old).moments (D.device disk.new).moments) }
 
-    // A disk that tells nothing goes on telling nothing, whatever is answered.
-    ensures silent { StaysSilent (D.device disk.old) (D.device disk.new) }
+    // A disk that tells its files goes on telling them, and one that tells nothing goes on so, whatever is answered.
+    ensures alike { TellsAlike (D.device disk.old) (D.device disk.new) }
 {
     sync_all(disk)?;
     if !is_gate_open(disk)? {

@@ -4,7 +4,7 @@ ghost use Rattle.std.specs.Option.{ForSome};
 ghost use Rattle.jb_base.specs.Fault.{Rose};
 ghost use Rattle.jb_disk.specs.declared.file.FileId.TheVariants.{Jnl};
 ghost use Rattle.jb_disk.specs.Change.{Change};
-ghost use Rattle.jb_disk.specs.Device.{FailsBy, MayChange, StaysSilent};
+ghost use Rattle.jb_disk.specs.Device.{FailsBy, MayChange, TellsAlike};
 ghost use Rattle.jb_disk.specs.Files.{Files};
 ghost use Rattle.jb_disk.specs.Images.{just_synced, with_image};
 ghost use Rattle.jb_disk.specs.Runs.{LeavesNow, Shows, Keeps, LeavesOnly, IsAllSynced};
@@ -65,6 +65,7 @@ pub fn settle<D: Disk>(disk: &mut D, redo: &Redo, stopped: Stopped) -> Result<bo
     // Stopped again: only by a fault, with the doubt that it says. Late stays late, and early becomes late by an open gate
     // alone; by one it does, but for a stop that comes before the gate is read.
     ensures cause { OnErr result (Rose (D.device disk.old).faults (D.device disk.new).faults) }
+    ensures quiet { OnOk result ((D.device disk.new).faults ≡ (D.device disk.old).faults) }
     ensures later { (D.device disk.old).faults ≤ (D.device disk.new).faults }
     ensures still { IfErr result (λ again. (start : Files) → IsReady redo.now start
         → Shows (IsInDoubt stopped redo.now start) (D.device disk.old)
@@ -80,8 +81,8 @@ pub fn settle<D: Disk>(disk: &mut D, redo: &Redo, stopped: Stopped) -> Result<bo
         → Shows (IsInDoubt stopped redo.now start) (D.device disk.old)
         → LeavesOnly (D.device disk.old) (D.device disk.new) (DoubtReplays stopped redo.now start) }
 
-    // A disk that tells nothing goes on telling nothing, whatever is answered.
-    ensures silent { StaysSilent (D.device disk.old) (D.device disk.new) }
+    // A disk that tells its files goes on telling them, and one that tells nothing goes on so, whatever is answered.
+    ensures alike { TellsAlike (D.device disk.old) (D.device disk.new) }
 {
     let Ok(is_open) = sync_gate(disk) else {
         return Err(stopped);

@@ -1,19 +1,19 @@
 -- The area at the end of a run.
 use Rattle.std.proofs.Common.{◌≡◌, ℕ, ◌≤◌, List, length, ap, sym, ◌∙◌, subst, arith}
-use Rattle.std.specs.Prelude.{Result, Ok, Err, IfErr, IfOk}
+use Rattle.std.specs.Prelude.{Result, Ok, Err, IfErr, IfOk, IsSome}
 use Rattle.jb_area.specs.declared.area.OpenArea.{OpenArea}
 use Rattle.jb_base.specs.declared.area.AreaRules.{AreaRules}
 use Rattle.jb_base.specs.declared.limits.TheConstants.{MOST_SLOTS}
 use Rattle.jb_decide.specs.Errors.{FaultRose}
 use Rattle.jb_decide.specs.Holds.{Holds}
 use Rattle.jb_decide.specs.declared.error.AreaError.{AreaError}
-use Rattle.jb_disk.specs.Device.{Device}
+use Rattle.jb_disk.specs.Device.{Device, TellsAlike}
 use Rattle.jb_disk.specs.Files.{Files}
 use Rattle.jb_image.specs.Stands.{StandsFor}
 use Rattle.jb_model.specs.State.{AreaState, state_of}
 use Rattle.jb_model.specs.declared.loaded.Loaded.{Loaded}
 use Rattle.jb_load.proofs.RunLemmas.{fault_later}
-use Rattle.jb_load.specs.Runs.{AlwaysTells, IsAt, IsFilled, IsLoaded, RestsAs, run_at}
+use Rattle.jb_load.specs.Runs.{IsAt, IsFilled, IsLoaded, RestsAs, run_at}
 use Rattle.jb_load.specs.Summary.{summary_of}
 use Rattle.jb_load.specs.Workload.{LoadRun, empty_area}
 use Rattle.jb_load.specs.declared.counts.Counts.{Counts}
@@ -48,13 +48,13 @@ module _ {D : Type 0} (shown : D → Device) where
       }
 
   -- so of an answer
-  pub filled_answer : (seed count : ℕ) (answer : Result (List ℕ) AreaError) (old area : OpenArea D) (after : Device) → RestsAs shown old empty_area → shown area.disk ≡ after
-      → IfOk answer (λ text. AlwaysTells shown → RestsAs shown old empty_area → IsFilled shown seed count text area)
-      → IfOk answer (λ text. AlwaysTells shown → IsLoaded seed count text after)
-  filled_answer seed count (Ok text) old area after rests same filled = λ tells. subst (IsLoaded seed count text) same (filled_loaded seed count text area (filled tells rests))
-  filled_answer seed count (Err error) old area after rests same filled = tt
+  pub filled_answer : (seed count : ℕ) (answer : Result (List ℕ) AreaError) (before : Device) (old area : OpenArea D) (after : Device) → TellsAlike before (shown old.disk) → RestsAs shown old empty_area → shown area.disk ≡ after
+      → IfOk answer (λ text. IsSome (shown old.disk).contents → RestsAs shown old empty_area → IsFilled shown seed count text area)
+      → IfOk answer (λ text. IsSome before.contents → IsLoaded seed count text after)
+  filled_answer seed count (Ok text) before old area after alike rests same filled = λ tells. subst (IsLoaded seed count text) same (filled_loaded seed count text area (filled (alike ∙ tells) rests))
+  filled_answer seed count (Err error) before old area after alike rests same filled = tt
 
 -- a fault of a later part is one of the whole
-pub fault_answer : (answer : Result (List ℕ) AreaError) (a b : ℕ) (mid after : Device) → a ≤ b → mid ≡ after → IfErr answer (FaultRose b mid.faults) → IfErr answer (FaultRose a after.faults)
-fault_answer (Ok text) a b mid after later same rose = tt
-fault_answer (Err error) a b mid after later same rose = fault_later a b after.faults error later (subst (λ (d : Device). FaultRose b d.faults error) same rose)
+pub fault_answer : (answer : Result (List ℕ) AreaError) (a b : ℕ) (mid after : Device) → b ≡ a → mid ≡ after → IfErr answer (FaultRose b mid.faults) → IfErr answer (FaultRose a after.faults)
+fault_answer (Ok text) a b mid after quiet same rose = tt
+fault_answer (Err error) a b mid after quiet same rose = fault_later a b after.faults error quiet (subst (λ (d : Device). FaultRose b d.faults error) same rose)

@@ -2,14 +2,13 @@
 use Rattle.std.proofs.Common.{◌≡◌, ◌≢◌, ◌+◌, ◌*◌, ◌/◌, ◌%◌, ◌≤◌, ℕ, suc, true, false, length, ap, refl, sym, ◌∙◌, subst, arith}
 use Rattle.std.proofs.lemmas.List.{length-map}
 use Rattle.std.proofs.lemmas.Bool.Decides.{nat_tests}
-use Rattle.std.specs.Prelude.{◌==◌, Ok, Err, Result}
+use Rattle.std.specs.Prelude.{◌==◌, Ok, Err, IsSome, Result}
 use Rattle.jb_area.specs.Calls.{MeetsCall}
 use Rattle.jb_area.specs.declared.area.OpenArea.{OpenArea}
 use Rattle.jb_base.specs.declared.area.AreaRules.{AreaRules}
 use Rattle.jb_decide.specs.Errors.{FaultRose}
 use Rattle.jb_decide.specs.declared.error.AreaError.{AreaError}
-use Rattle.jb_decide.specs.declared.error.AreaError.TheVariants.{OutOfMemory, StoreFault}
-use Rattle.jb_disk.specs.Device.{Device}
+use Rattle.jb_disk.specs.Device.{Device, TellsAlike}
 use Rattle.jb_model.specs.Answered.{Answered}
 use Rattle.jb_model.specs.State.{AreaState, next_number, slot_state, state_of}
 use Rattle.jb_model.specs.Step.{Step}
@@ -17,14 +16,13 @@ use Rattle.jb_model.specs.declared.command.Command.{Command}
 use Rattle.jb_model.specs.declared.command.Command.TheVariants.{Pack}
 use Rattle.jb_model.specs.declared.loaded.Loaded.{Loaded}
 use Rattle.jb_model.specs.declared.reply.Reply.{Reply}
-use Rattle.jb_load.specs.Runs.{AlwaysTells, Goes, IsAt, IsReady, RestsAs, answers_in}
+use Rattle.jb_load.specs.Runs.{Goes, IsAt, IsReady, RestsAs, answers_in}
 use Rattle.jb_load.specs.Workload.{LoadRun, asked, behind_step, in_step, kills_in, load_rules, loader, marked, post_of_step, posts_in, reads_in, run_to, tenth}
 use Rattle.jb_load.specs.declared.counts.Counts.{Counts}
 
 -- a fault of a later part is one of the whole
-pub fault_later : (a b c : ℕ) (error : AreaError) → a ≤ b → FaultRose b c error → FaultRose a c error
-fault_later a b c StoreFault later rose = omega (arith, later, rose)
-fault_later a b c OutOfMemory later rose = tt
+pub fault_later : (a b c : ℕ) (error : AreaError) → b ≡ a → FaultRose b c error → FaultRose a c error
+fault_later a b c error same rose = subst (λ (n : ℕ). FaultRose n c error) same rose
 
 -- the run that an answered command leads to
 asked_is : (moment : ℕ) (command : Command) (run : LoadRun) (reply : Reply) (state : AreaState) → Step load_rules run.area loader moment command reply state
@@ -71,51 +69,59 @@ module _ {D : Type 0} (shown : D → Device) where
     done = λ tells run at. subst (IsAt shown new now) (same run at) (goes.done tells run at);
     few = goes.few;
     cause = tt;
+    quiet = goes.quiet;
     later = goes.later;
+    alike = goes.alike;
   }
-  goes_as most old new was now f g (Err error) same goes = record { ready = tt; done = tt; few = goes.few; cause = goes.cause; later = goes.later }
+  goes_as most old new was now f g (Err error) same goes = record { ready = tt; done = tt; few = goes.few; cause = goes.cause; quiet = tt; later = goes.later; alike = goes.alike }
 
   -- commands, and others behind them
   pub goes_then : (m n : ℕ) (a b c : OpenArea D) (x y z : Counts) (f g : LoadRun → LoadRun) (result : Result (Unit {0}) AreaError)
       → Goes shown m a b x y f (Ok tt) → Goes shown n b c y z g result → Goes shown (m + n) a c x z (λ run. g (f run)) result
   goes_then m n a b c x y z f g (Ok done) one two = record {
     ready = two.ready;
-    done = λ tells run at. two.done tells (f run) (one.done tells run at);
+    done = λ tells run at. two.done (one.alike ∙ tells) (f run) (one.done tells run at);
     few = let first = one.few in let second = two.few in omega (arith, first, second);
     cause = tt;
+    quiet = two.quiet ∙ one.quiet;
     later = let first = one.later in let second = two.later in omega (arith, first, second);
+    alike = two.alike ∙ one.alike;
   }
   goes_then m n a b c x y z f g (Err error) one two = record {
     ready = tt;
     done = tt;
     few = let first = one.few in let second = two.few in omega (arith, first, second);
-    cause = fault_later (shown a.disk).faults (shown b.disk).faults (shown c.disk).faults error one.later two.cause;
+    cause = fault_later (shown a.disk).faults (shown b.disk).faults (shown c.disk).faults error one.quiet two.cause;
+    quiet = tt;
     later = let first = one.later in let second = two.later in omega (arith, first, second);
+    alike = two.alike ∙ one.alike;
   }
 
   -- the same, of more commands
   pub goes_more : (m n : ℕ) (a b : OpenArea D) (x y : Counts) (f : LoadRun → LoadRun) (result : Result (Unit {0}) AreaError) → Goes shown m a b x y f result → Goes shown (m + n) a b x y f result
-  goes_more m n a b x y f result one = record { ready = one.ready; done = one.done; few = let first = one.few in omega (arith, first); cause = one.cause; later = one.later }
+  goes_more m n a b x y f result one = record { ready = one.ready; done = one.done; few = let first = one.few in omega (arith, first); cause = one.cause; quiet = one.quiet; later = one.later; alike = one.alike }
 
   -- so many steps were done since the first half may have ended before the first
   pub record HasGone (seed count steps : ℕ) (old new : OpenArea D) (was now : Counts) : Type 0 where
     pub ready : IsReady shown new
-    pub done : AlwaysTells shown → (run : LoadRun) → IsAt shown old was (behind_step count 0 run) → IsAt shown new now (run_to seed count steps run)
+    pub done : IsSome (shown old.disk).contents → (run : LoadRun) → IsAt shown old was (behind_step count 0 run) → IsAt shown new now (run_to seed count steps run)
     pub few : answers_in now ≤ answers_in was + 4 * steps
-    pub later : (shown old.disk).faults ≤ (shown new.disk).faults
+    pub quiet : (shown new.disk).faults ≡ (shown old.disk).faults
+    pub alike : TellsAlike (shown old.disk) (shown new.disk)
 
   -- none yet
   pub gone_nowhere : (seed count : ℕ) (area : OpenArea D) (counts : Counts) → IsReady shown area → HasGone seed count 0 area area counts counts
-  gone_nowhere seed count area counts ready = record { ready = ready; done = λ tells run at. at; few = omega arith; later = omega arith }
+  gone_nowhere seed count area counts ready = record { ready = ready; done = λ tells run at. at; few = omega arith; quiet = refl; alike = refl }
 
   module _ (seed count steps : ℕ) (a b c : OpenArea D) (x y z : Counts) (gone : HasGone seed count steps a b x y) where
     -- one more
     pub gone_further : Goes shown 4 b c y z (λ run. behind_step count (steps + 1) (in_step seed (steps + 1) run)) (Ok tt) → HasGone seed count (steps + 1) a c x z
     gone_further goes = record {
       ready = goes.ready;
-      done = λ tells run at. subst (IsAt shown c z) (one_step (steps + 1) run (omega arith)) (goes.done tells (run_to seed count steps run) (gone.done tells run at));
+      done = λ tells run at. subst (IsAt shown c z) (one_step (steps + 1) run (omega arith)) (goes.done (gone.alike ∙ tells) (run_to seed count steps run) (gone.done tells run at));
       few = let first = gone.few in let second = goes.few in omega (arith, first, second);
-      later = let first = gone.later in let second = goes.later in omega (arith, first, second);
+      quiet = goes.quiet ∙ gone.quiet;
+      alike = goes.alike ∙ gone.alike;
     }
       where
         one_step : (next : ℕ) (run : LoadRun) → next ≡ suc steps → behind_step count next (in_step seed next (run_to seed count steps run)) ≡ run_to seed count next run
@@ -125,7 +131,7 @@ module _ {D : Type 0} (shown : D → Device) where
     -- a command that failed
     pub ask_failed : (counts : Counts) (error : AreaError) → MeetsCall shown old new loader moment command (Err error)
         → Goes shown 1 old new counts counts (asked moment command) (Err error)
-    ask_failed counts error meets = record { ready = tt; done = tt; few = omega arith; cause = meets.cause; later = meets.later }
+    ask_failed counts error meets = record { ready = tt; done = tt; few = omega arith; cause = meets.cause; quiet = tt; later = meets.later; alike = meets.alike }
 
     -- a command that was answered, and is counted
     pub ask_done : (was now : Counts) (reply : Reply) → IsReady shown old → MeetsCall shown old new loader moment command (Ok reply)
@@ -139,7 +145,7 @@ module _ {D : Type 0} (shown : D → Device) where
       done = λ tells run at.
           let answered = meets.answered at.rests.texts at.rests.rests in
           let after = state_of answered.coming.texts answered.coming.to in
-          let one = answered.step (λ letter is. tells old.disk) in
+          let one = answered.step (λ letter is. tells) in
           let two = subst (λ (r : AreaRules). Step r (state_of at.rests.texts old.held.loaded) loader moment command reply after) ready.rules one in
           let three = subst (λ (s : AreaState). Step load_rules s loader moment command reply after) at.rests.is two in
           subst (IsAt shown new now) (sym (asked_is moment command run reply after three)) (record {
@@ -154,5 +160,7 @@ module _ {D : Type 0} (shown : D → Device) where
           });
       few = few;
       cause = tt;
+      quiet = meets.quiet;
       later = meets.later;
+      alike = meets.alike;
     }

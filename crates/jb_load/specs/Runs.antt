@@ -7,7 +7,7 @@ use Rattle.jb_area.specs.declared.area.OpenArea.{OpenArea}
 use Rattle.jb_base.specs.declared.limits.TheConstants.{MOST_SLOTS}
 use Rattle.jb_decide.specs.Errors.{FaultRose}
 use Rattle.jb_decide.specs.declared.error.AreaError.{AreaError}
-use Rattle.jb_disk.specs.Device.{Device}
+use Rattle.jb_disk.specs.Device.{Device, TellsAlike}
 use Rattle.jb_disk.specs.Runs.{IsAllSynced}
 use Rattle.jb_image.specs.Stands.{StandsFor}
 use Rattle.jb_model.specs.State.{AreaState, state_of}
@@ -22,10 +22,6 @@ answers_in counts = counts.posts + counts.reads + counts.kills
 -- this area, and what was counted
 abbrev pub run_at : AreaState → Counts → LoadRun
 run_at area counts = record { area = area; posts = counts.posts; reads = counts.reads; kills = counts.kills }
-
--- disks of this kind always tell what they hold
-abbrev pub AlwaysTells : {D : Type 0} → (D → Device) → Type 0
-AlwaysTells {D} shown = (disk : D) → IsSome (shown disk).contents
 
 -- of a disk that shows itself so
 module _ {D : Type 0} (shown : D → Device) where
@@ -50,10 +46,12 @@ module _ {D : Type 0} (shown : D → Device) where
   -- commands were done, which take a run so far; or the disk failed, or there was no memory
   pub record Goes (most : ℕ) (old new : OpenArea D) (was now : Counts) (further : LoadRun → LoadRun) (result : Result (Unit {0}) AreaError) : Type 0 where
     pub ready : OnOk result (IsReady new)
-    pub done : OnOk result (AlwaysTells shown → (run : LoadRun) → IsAt old was run → IsAt new now (further run))
+    pub done : OnOk result (IsSome (shown old.disk).contents → (run : LoadRun) → IsAt old was run → IsAt new now (further run))
     pub few : answers_in now ≤ answers_in was + most
     pub cause : IfErr result (FaultRose (shown old.disk).faults (shown new.disk).faults)
+    pub quiet : OnOk result ((shown new.disk).faults ≡ (shown old.disk).faults)
     pub later : (shown old.disk).faults ≤ (shown new.disk).faults
+    pub alike : TellsAlike (shown old.disk) (shown new.disk)
 
   -- the text is the summary of the whole run, and the area rests at its end
   pub record IsFilled (seed count : ℕ) (text : List ℕ) (area : OpenArea D) : Type 0 where

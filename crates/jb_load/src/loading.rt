@@ -1,11 +1,10 @@
 //! The workload on a disk, and its summary.
-ghost use Rattle.std.specs.Prelude.{◌≡◌, ◌≤◌, IfErr, IfOk};
+ghost use Rattle.std.specs.Prelude.{◌≡◌, ◌≤◌, IfErr, IfOk, IsSome};
 ghost use Rattle.std.specs.Option.{ForSome};
 ghost use Rattle.jb_area.specs.Area.{device_of};
 ghost use Rattle.jb_decide.specs.Errors.{FaultRose};
-ghost use Rattle.jb_disk.specs.Runs.{IsAllSynced};
 ghost use Rattle.jb_load.specs.Base.{AreEmpty};
-ghost use Rattle.jb_load.specs.Runs.{AlwaysTells, IsFilled, IsLoaded, IsReady, RestsAs};
+ghost use Rattle.jb_load.specs.Runs.{IsFilled, IsLoaded, IsReady, RestsAs};
 ghost use Rattle.jb_load.specs.Summary.{summary_of};
 ghost use Rattle.jb_load.specs.Workload.{empty_area, load_run};
 
@@ -31,7 +30,7 @@ fn fill<D: Disk>(
 ) -> Result<Bytes, AreaError>
     requires ready { IsReady D.device area.old }
     requires count { count ≤ 50_000 }
-    ensures filled { IfOk result (λ text. AlwaysTells D.device → RestsAs D.device area.old empty_area
+    ensures filled { IfOk result (λ text. IsSome (device_of D.device area.old).contents → RestsAs D.device area.old empty_area
         → IsFilled D.device seed count text area.new) }
     ensures cause { IfErr result (FaultRose (device_of D.device area.old).faults (device_of D.device area.new).faults) }
     ensures later { (device_of D.device area.old).faults ≤ (device_of D.device area.new).faults }
@@ -48,8 +47,7 @@ fn fill<D: Disk>(
 pub fn load<D: Disk>(alloc: Global, disk: D, seed: u32, count: u32) -> (D, Result<Bytes, AreaError>)
     requires count { count ≤ 50_000 }
     requires empty { ForSome (D.device disk).contents AreEmpty }
-    requires synced { IsAllSynced (D.device disk) }
-    ensures loaded { IfOk result.1 (λ text. AlwaysTells D.device → IsLoaded seed count text (D.device result.0)) }
+    ensures loaded { IfOk result.1 (λ text. IsSome (D.device disk).contents → IsLoaded seed count text (D.device result.0)) }
     ensures cause { IfErr result.1 (FaultRose (D.device disk).faults (D.device result.0).faults) }
     ensures later { (D.device disk).faults ≤ (D.device result.0).faults }
 {

@@ -4,6 +4,7 @@ ghost use Rattle.std.specs.Option.{ForSome, option_map};
 ghost use Rattle.jb_base.specs.Fault.{Rose};
 ghost use Rattle.jb_decide.specs.Errors.{FaultRose};
 ghost use Rattle.jb_decide.specs.declared.error.AreaError.TheVariants.{OutOfMemory as no_memory};
+ghost use Rattle.jb_disk.specs.Device.{TellsAlike};
 ghost use Rattle.jb_disk.specs.Files.{with_file};
 ghost use Rattle.jb_disk.specs.Runs.{IsAllSynced};
 ghost use Rattle.jb_disk.specs.declared.file.FileId.TheVariants.{Jhr};
@@ -16,7 +17,7 @@ use crate::workload::load_rules;
 use jb_area::{AreaError, OpenArea};
 use jb_base::OutOfMemory;
 use jb_disk::{Disk, DiskFailed, FileId};
-use jb_journal::prepare;
+use jb_journal::{prepare, sync_all};
 use jb_model::{Loaded, LoadedMarks, LoadedSlots};
 use jb_record::{FixedHeader, encode_fixed};
 use std::alloc::Global;
@@ -42,7 +43,9 @@ fn write_header<D: Disk>(disk: &mut D) -> Result<(), DiskFailed>
         ≡ option_map (with_file Jhr (fixed_header_bytes empty_header)) (D.device disk.old).contents) }
     ensures synced { OnOk result (IsAllSynced (D.device disk.old) → IsAllSynced (D.device disk.new)) }
     ensures cause { OnErr result (Rose (D.device disk.old).faults (D.device disk.new).faults) }
+    ensures quiet { OnOk result ((D.device disk.new).faults ≡ (D.device disk.old).faults) }
     ensures later { (D.device disk.old).faults ≤ (D.device disk.new).faults }
+    ensures alike { TellsAlike (D.device disk.old) (D.device disk.new) }
 {
     let bytes = header();
     disk.set_len(FileId::Jhr, 1_024)?;
@@ -50,15 +53,17 @@ fn write_header<D: Disk>(disk: &mut D) -> Result<(), DiskFailed>
     disk.sync(FileId::Jhr)
 }
 
-/// Makes the files of an empty base, and its journal ready.
+/// Makes the files of an empty base, and its journal ready. What was not synced before is.
 fn make<D: Disk>(disk: &mut D) -> Result<(), AreaError>
     requires empty { ForSome (D.device disk.old).contents AreEmpty }
-    requires synced { IsAllSynced (D.device disk.old) }
     ensures made { OnOk result (ForSome (D.device disk.new).contents IsEmptyBase) }
     ensures synced { OnOk result (IsAllSynced (D.device disk.new)) }
     ensures cause { IfErr result (FaultRose (D.device disk.old).faults (D.device disk.new).faults) }
+    ensures quiet { OnOk result ((D.device disk.new).faults ≡ (D.device disk.old).faults) }
     ensures later { (D.device disk.old).faults ≤ (D.device disk.new).faults }
+    ensures alike { TellsAlike (D.device disk.old) (D.device disk.new) }
 {
+    sync_all(disk)?;
     write_header(disk)?;
     match prepare(disk) {
         Ok(()) => Ok(()),
@@ -110,11 +115,12 @@ fn open<D: Disk>(alloc: Global, disk: D) -> Result<OpenArea<D>, (D, AreaError)>
 /// Makes an empty base on a disk with empty files, and opens its area.
 pub(crate) fn make_area<D: Disk>(alloc: Global, disk: D) -> Result<OpenArea<D>, (D, AreaError)>
     requires empty { ForSome (D.device disk).contents AreEmpty }
-    requires synced { IsAllSynced (D.device disk) }
     ensures ready { IfOk result (IsReady D.device) }
     ensures empty { IfOk result (λ area. RestsAs D.device area empty_area) }
     ensures cause { IfErr result (λ back. FaultRose (D.device disk).faults (D.device back.0).faults back.1) }
+    ensures quiet { OnOk result ((device_then D.device result).faults ≡ (D.device disk).faults) }
     ensures later { (D.device disk).faults ≤ (device_then D.device result).faults }
+    ensures alike { TellsAlike (D.device disk) (device_then D.device result) }
 {
     let mut disk = disk;
     match make(&mut disk) {

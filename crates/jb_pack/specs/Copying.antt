@@ -41,7 +41,7 @@ pub record PutsTexts (contents : Option Files) (slots : List LoadedSlot) (old ne
   pub lays : Lays Jdt (length slots + 1) bytes old new
   pub told : ForSome contents (λ files. bytes ≡ texts_in (files Jdt) slots)
 
--- a fault has its cause: the disk's count rose
+-- a fault has its cause: the disk's count rose; and want of memory hides none
 abbrev pub FaultRose : ℕ → ℕ → PackError → Type 0
 FaultRose before now StoreFault = Rose before now
-FaultRose before now OutOfMemory = Unit {0}
+FaultRose before now OutOfMemory = now ≡ before

@@ -5,7 +5,7 @@ ghost use Rattle.jb_base.specs.Fault.{Rose};
 ghost use Rattle.jb_disk.specs.declared.file.FileId.{FileId};
 ghost use Rattle.jb_disk.specs.declared.piece.Length.{Length};
 ghost use Rattle.jb_disk.specs.declared.piece.Piece.{Piece};
-ghost use Rattle.jb_disk.specs.Device.{Turns, StaysSilent};
+ghost use Rattle.jb_disk.specs.Device.{Turns, TellsAlike};
 ghost use Rattle.jb_disk.specs.Files.{Files, number_of, written, InFile, IsResized};
 ghost use Rattle.jb_disk.specs.Runs.{Keeps};
 ghost use Rattle.jb_redo.specs.Applying.{IsSound, HasRoom, copied, copied_chunk, AreResized, pieced, KeepsInRange, KeepsWay, ArePieced, HasPieced, IsFault};
@@ -45,9 +45,10 @@ fn copy_chunk<D: Disk>(
     ensures ok { OnOk result ((D.device disk.new).contents
         ≡ option_map (copied_chunk part.now done (length chunk.old)) (D.device disk.old).contents) }
 
-    // What a crash leaves, that a silent disk stays silent, and why it is refused.
+    // What a crash leaves, that the disk tells as before, and why it is refused.
     ensures images { KeepsInRange part.now.to (part.now.to_at + done) (length chunk.old) (D.device disk.old) (D.device disk.new) }
-    ensures silent { StaysSilent (D.device disk.old) (D.device disk.new) }
+    ensures alike { TellsAlike (D.device disk.old) (D.device disk.new) }
+    ensures quiet { OnOk result ((D.device disk.new).faults ≡ (D.device disk.old).faults) }
     ensures later { (D.device disk.old).faults ≤ (D.device disk.new).faults }
     ensures cause { OnErr result (Rose (D.device disk.old).faults (D.device disk.new).faults) }
 {
@@ -64,9 +65,10 @@ fn copy_part<D: Disk>(disk: &mut D, part: &Part) -> Result<(), DiskFailed>
     ensures ok { OnOk result ((D.device disk.new).contents
         ≡ option_map (copied part.now part.now.len) (D.device disk.old).contents) }
 
-    // What a crash leaves, that a silent disk stays silent, and why it is refused.
+    // What a crash leaves, that the disk tells as before, and why it is refused.
     ensures images { KeepsInRange part.now.to part.now.to_at part.now.len (D.device disk.old) (D.device disk.new) }
-    ensures silent { StaysSilent (D.device disk.old) (D.device disk.new) }
+    ensures alike { TellsAlike (D.device disk.old) (D.device disk.new) }
+    ensures quiet { OnOk result ((D.device disk.new).faults ≡ (D.device disk.old).faults) }
     ensures later { (D.device disk.old).faults ≤ (D.device disk.new).faults }
     ensures cause { OnErr result (Rose (D.device disk.old).faults (D.device disk.new).faults) }
 {
@@ -95,11 +97,12 @@ fn set_one<D: Disk>(
     ensures ok { OnOk result (Turns (InFile file (IsResized (size_in ends.now file)))
         (D.device disk.old).contents (D.device disk.new).contents) }
 
-    // What a crash leaves, that a silent disk stays silent, and why it is refused.
+    // What a crash leaves, that the disk tells as before, and why it is refused.
     ensures images { (lengths : List Length) (pieces : List Piece) (start : Files)
         → new_sizes lengths (sizes_of start) file ≡ size_in ends.now file
         → Keeps (IsOnTheWay lengths pieces start) (D.device disk.old) (D.device disk.new) }
-    ensures silent { StaysSilent (D.device disk.old) (D.device disk.new) }
+    ensures alike { TellsAlike (D.device disk.old) (D.device disk.new) }
+    ensures quiet { OnOk result ((D.device disk.new).faults ≡ (D.device disk.old).faults) }
     ensures later { (D.device disk.old).faults ≤ (D.device disk.new).faults }
     ensures cause { OnErr result (Rose (D.device disk.old).faults (D.device disk.new).faults) }
 {
@@ -118,11 +121,12 @@ fn set_lengths<D: Disk>(disk: &mut D, sizes: &Sizes, ends: &Sizes) -> Result<(),
     // What a read gives then.
     ensures ok { OnOk result (Turns (AreResized ends.now) (D.device disk.old).contents (D.device disk.new).contents) }
 
-    // What a crash leaves, that a silent disk stays silent, and why it is refused.
+    // What a crash leaves, that the disk tells as before, and why it is refused.
     ensures images { (lengths : List Length) (pieces : List Piece) (start : Files)
         → ((file : FileId) → new_sizes lengths (sizes_of start) file ≡ size_in ends.now file)
         → Keeps (IsOnTheWay lengths pieces start) (D.device disk.old) (D.device disk.new) }
-    ensures silent { StaysSilent (D.device disk.old) (D.device disk.new) }
+    ensures alike { TellsAlike (D.device disk.old) (D.device disk.new) }
+    ensures quiet { OnOk result ((D.device disk.new).faults ≡ (D.device disk.old).faults) }
     ensures later { (D.device disk.old).faults ≤ (D.device disk.new).faults }
     ensures cause { OnErr result (Rose (D.device disk.old).faults (D.device disk.new).faults) }
 {
@@ -144,10 +148,11 @@ fn apply_pieces<D: Disk>(disk: &mut D, lengths: &NewLengths) -> Result<u64, Reco
     ensures ok { IfOk result (λ at. Turns (λ files now. HasPieced files at lengths.now.ends now)
         (D.device disk.old).contents (D.device disk.new).contents) }
 
-    // What a crash leaves, that a silent disk stays silent, and why it is refused.
+    // What a crash leaves, that the disk tells as before, and why it is refused.
     ensures images { KeepsWay (D.device disk.old) (D.device disk.new) }
     ensures fault { IfErr result (λ error. ForSome (D.device disk.old).contents (λ _. IsFault error)) }
-    ensures silent { StaysSilent (D.device disk.old) (D.device disk.new) }
+    ensures alike { TellsAlike (D.device disk.old) (D.device disk.new) }
+    ensures quiet { OnOk result ((D.device disk.new).faults ≡ (D.device disk.old).faults) }
     ensures later { (D.device disk.old).faults ≤ (D.device disk.new).faults }
     ensures cause { IfErr result (FaultRose (D.device disk.old).faults (D.device disk.new).faults) }
 {
@@ -177,10 +182,11 @@ fn write_pieces<D: Disk>(disk: &mut D, lengths: &NewLengths) -> Result<(), Recor
     // What a read gives then.
     ensures ok { OnOk result (Turns ArePieced (D.device disk.old).contents (D.device disk.new).contents) }
 
-    // What a crash leaves, that a silent disk stays silent, and why it is refused.
+    // What a crash leaves, that the disk tells as before, and why it is refused.
     ensures images { KeepsWay (D.device disk.old) (D.device disk.new) }
     ensures fault { IfErr result (λ error. ForSome (D.device disk.old).contents (λ _. IsFault error)) }
-    ensures silent { StaysSilent (D.device disk.old) (D.device disk.new) }
+    ensures alike { TellsAlike (D.device disk.old) (D.device disk.new) }
+    ensures quiet { OnOk result ((D.device disk.new).faults ≡ (D.device disk.old).faults) }
     ensures later { (D.device disk.old).faults ≤ (D.device disk.new).faults }
     ensures cause { IfErr result (FaultRose (D.device disk.old).faults (D.device disk.new).faults) }
 {
@@ -200,10 +206,11 @@ fn apply<D: Disk>(disk: &mut D) -> Result<(), RecordError>
         IsAppliedTo files (D.device disk.new).contents)) }
     ensures told { OnOk result (IsSome (D.device disk.old).contents → IsSome (D.device disk.new).contents) }
 
-    // What a crash leaves, that a silent disk stays silent, and why it is refused.
+    // What a crash leaves, that the disk tells as before, and why it is refused.
     ensures images { KeepsWay (D.device disk.old) (D.device disk.new) }
     ensures fault { IfErr result (λ error. ForSome (D.device disk.old).contents (λ _. IsFault error)) }
-    ensures silent { StaysSilent (D.device disk.old) (D.device disk.new) }
+    ensures alike { TellsAlike (D.device disk.old) (D.device disk.new) }
+    ensures quiet { OnOk result ((D.device disk.new).faults ≡ (D.device disk.old).faults) }
     ensures later { (D.device disk.old).faults ≤ (D.device disk.new).faults }
     ensures cause { IfErr result (FaultRose (D.device disk.old).faults (D.device disk.new).faults) }
 {
@@ -236,11 +243,12 @@ pub fn apply_record<D: Disk>(disk: &mut D) -> Result<(), RecordError>
 
     // Why it is refused.
     ensures fault { IfErr result (λ error. ForSome (D.device disk.old).contents (λ _. IsFault error)) }
+    ensures quiet { OnOk result ((D.device disk.new).faults ≡ (D.device disk.old).faults) }
     ensures later { (D.device disk.old).faults ≤ (D.device disk.new).faults }
     ensures cause { IfErr result (FaultRose (D.device disk.old).faults (D.device disk.new).faults) }
 
-    // A disk that tells nothing goes on telling nothing, whatever is answered.
-    ensures silent { StaysSilent (D.device disk.old) (D.device disk.new) }
+    // A disk that tells its files goes on telling them, and one that tells nothing goes on so, whatever is answered.
+    ensures alike { TellsAlike (D.device disk.old) (D.device disk.new) }
 {
     apply(disk)
 }

@@ -1,5 +1,5 @@
 //! The reading of one field of the journal.
-ghost use Rattle.std.specs.Prelude.{◌≡◌, ◌+◌, ◌^◌, ◌<◌, ◌≤◌, ℕ, IfOk, IfSome, IfNone, IsTrue, OnErr, length, take, drop, true, false};
+ghost use Rattle.std.specs.Prelude.{◌≡◌, ◌+◌, ◌^◌, ◌<◌, ◌≤◌, ℕ, IfOk, IfSome, IfNone, IsTrue, OnErr, length, take, drop, true, false, OnOk};
 ghost use Rattle.std.specs.Option.{ForSome};
 ghost use Rattle.jb_base.specs.Fault.{Rose};
 ghost use Rattle.jb_base.specs.Number.{number_bytes};
@@ -31,6 +31,7 @@ pub(crate) fn read_bytes<D: Disk>(
 
     // The disk is only read.
     ensures kept { OnlyReads (D.device disk.old) (D.device disk.new) }
+    ensures quiet { OnOk result ((D.device disk.new).faults ≡ (D.device disk.old).faults) }
     ensures later { (D.device disk.old).faults ≤ (D.device disk.new).faults }
     ensures cause { OnErr result (Rose (D.device disk.old).faults (D.device disk.new).faults) }
 {
@@ -60,6 +61,7 @@ pub(crate) fn read_number<D: Disk>(
 
     // The disk is only read.
     ensures kept { OnlyReads (D.device disk.old) (D.device disk.new) }
+    ensures quiet { OnOk result ((D.device disk.new).faults ≡ (D.device disk.old).faults) }
     ensures later { (D.device disk.old).faults ≤ (D.device disk.new).faults }
     ensures cause { OnErr result (Rose (D.device disk.old).faults (D.device disk.new).faults) }
 {
@@ -88,6 +90,7 @@ pub(crate) fn has_mark<D: Disk>(
 
     // The disk is only read.
     ensures kept { OnlyReads (D.device disk.old) (D.device disk.new) }
+    ensures quiet { OnOk result ((D.device disk.new).faults ≡ (D.device disk.old).faults) }
     ensures later { (D.device disk.old).faults ≤ (D.device disk.new).faults }
     ensures cause { OnErr result (Rose (D.device disk.old).faults (D.device disk.new).faults) }
 {

@@ -1,5 +1,5 @@
 //! The first part of a record: the new lengths.
-ghost use Rattle.std.specs.Prelude.{◌≡◌, ◌+◌, ◌^◌, ◌<◌, ◌≤◌, ℕ, IfOk, IfErr, IfSome, IfNone, [], OnErr, length};
+ghost use Rattle.std.specs.Prelude.{◌≡◌, ◌+◌, ◌^◌, ◌<◌, ◌≤◌, ℕ, IfOk, IfErr, IfSome, IfNone, [], OnErr, length, OnOk};
 ghost use Rattle.std.specs.Option.{ForSome};
 ghost use Rattle.jb_base.specs.Fault.{Rose};
 ghost use Rattle.jb_disk.specs.Device.{OnlyReads};
@@ -52,6 +52,7 @@ fn read_length<D: Disk>(
 
     // The disk is only read.
     ensures kept { OnlyReads (D.device disk.old) (D.device disk.new) }
+    ensures quiet { OnOk result ((D.device disk.new).faults ≡ (D.device disk.old).faults) }
     ensures later { (D.device disk.old).faults ≤ (D.device disk.new).faults }
     ensures cause { OnErr result (Rose (D.device disk.old).faults (D.device disk.new).faults) }
 {
@@ -75,6 +76,7 @@ fn read_count<D: Disk>(disk: &mut D, end: u64) -> Result<u32, RecordError>
 
     // The disk is only read.
     ensures kept { OnlyReads (D.device disk.old) (D.device disk.new) }
+    ensures quiet { OnOk result ((D.device disk.new).faults ≡ (D.device disk.old).faults) }
     ensures later { (D.device disk.old).faults ≤ (D.device disk.new).faults }
     ensures cause { IfErr result (FaultRose (D.device disk.old).faults (D.device disk.new).faults) }
 {
@@ -104,6 +106,7 @@ pub(crate) fn read_lengths<D: Disk>(disk: &mut D, sizes: &Sizes) -> Result<NewLe
 
     // The disk is only read.
     ensures kept { OnlyReads (D.device disk.old) (D.device disk.new) }
+    ensures quiet { OnOk result ((D.device disk.new).faults ≡ (D.device disk.old).faults) }
     ensures later { (D.device disk.old).faults ≤ (D.device disk.new).faults }
     ensures cause { IfErr result (FaultRose (D.device disk.old).faults (D.device disk.new).faults) }
 {

@@ -1,5 +1,5 @@
 //! The lengths of the six files.
-ghost use Rattle.std.specs.Prelude.{◌≡◌, ◌≤◌, ◌^◌, ◌<◌, IfOk, OnErr};
+ghost use Rattle.std.specs.Prelude.{◌≡◌, ◌≤◌, ◌^◌, ◌<◌, IfOk, OnErr, OnOk};
 ghost use Rattle.std.specs.Option.{ForSome};
 ghost use Rattle.jb_base.specs.Fault.{Rose};
 ghost use Rattle.jb_disk.specs.Device.{OnlyReads};
@@ -19,6 +19,7 @@ impl Sizes {
     pub(crate) fn of<D: Disk>(disk: &mut D) -> Result<Sizes, DiskFailed>
         ensures found { IfOk result (λ sizes. ForSome (D.device disk.old).contents (AreSizes sizes)) }
         ensures kept { OnlyReads (D.device disk.old) (D.device disk.new) }
+        ensures quiet { OnOk result ((D.device disk.new).faults ≡ (D.device disk.old).faults) }
         ensures later { (D.device disk.old).faults ≤ (D.device disk.new).faults }
         ensures cause { OnErr result (Rose (D.device disk.old).faults (D.device disk.new).faults) }
     {

@@ -1,5 +1,5 @@
 //! Whether the journal holds a record.
-ghost use Rattle.std.specs.Prelude.{◌≡◌, ◌≤◌, ◌<◌, ◌^◌, IfOk, IfErr, IsErrOf};
+ghost use Rattle.std.specs.Prelude.{◌≡◌, ◌≤◌, ◌<◌, ◌^◌, IfOk, IfErr, IsErrOf, OnOk};
 ghost use Rattle.std.specs.Option.{ForSome};
 ghost use Rattle.jb_base.specs.Fault.{Rose};
 ghost use Rattle.jb_disk.specs.Device.{OnlyReads};
@@ -35,6 +35,7 @@ fn test_pieces<D: Disk>(
 
     // The disk is only read.
     ensures kept { OnlyReads (D.device disk.old) (D.device disk.new) }
+    ensures quiet { OnOk result ((D.device disk.new).faults ≡ (D.device disk.old).faults) }
     ensures later { (D.device disk.old).faults ≤ (D.device disk.new).faults }
     ensures cause { IfErr result (FaultRose (D.device disk.old).faults (D.device disk.new).faults) }
 {
@@ -56,6 +57,7 @@ fn test_pieces<D: Disk>(
 fn walk_record<D: Disk>(disk: &mut D) -> Result<(), RecordError>
     ensures answer { ForSome (D.device disk.old).contents (λ files. AnswersFor files result) }
     ensures kept { OnlyReads (D.device disk.old) (D.device disk.new) }
+    ensures quiet { OnOk result ((D.device disk.new).faults ≡ (D.device disk.old).faults) }
     ensures later { (D.device disk.old).faults ≤ (D.device disk.new).faults }
     ensures cause { IfErr result (FaultRose (D.device disk.old).faults (D.device disk.new).faults) }
 {
@@ -81,6 +83,7 @@ pub fn test_record<D: Disk>(disk: &mut D) -> Result<(), RecordError>
 
     // On every disk.
     ensures kept { OnlyReads (D.device disk.old) (D.device disk.new) }
+    ensures quiet { OnOk result ((D.device disk.new).faults ≡ (D.device disk.old).faults) }
     ensures later { (D.device disk.old).faults ≤ (D.device disk.new).faults }
     ensures cause { IfErr result (FaultRose (D.device disk.old).faults (D.device disk.new).faults) }
 {

@@ -16,8 +16,7 @@ use Rattle.jb_model.specs.State.{AreaState, state_of}
 use Rattle.jb_model.specs.declared.command.Command.{Command}
 use Rattle.jb_model.specs.declared.loaded.Loaded.{Loaded}
 use Rattle.jb_model.specs.declared.reply.Reply.{Reply}
-use Rattle.jb_tool.specs.Changing.{OpensToEither}
-use Rattle.jb_tool.specs.Tending.{OpensAs, answer_to}
+use Rattle.jb_tool.specs.Tending.{OpensAs, OpensToEither, answer_to}
 
 -- files that hold a loaded area stand for its state
 pub holds_stands : (loaded : Loaded) (texts : List ℕ) (files : Files) → length loaded.slots ≤ MOST_SLOTS → Holds loaded texts files → StandsFor MOST_SLOTS files (state_of texts loaded)

@@ -25,8 +25,8 @@ use Rattle.jb_model.specs.declared.loaded.Loaded.{Loaded}
 use Rattle.jb_model.specs.declared.reply.Reply.{Reply}
 use Rattle.jb_tool.proofs.ChangingLemmas.{either_way, few_resting, holds_stands, leaves_only_after, leaves_only_weaken, left_reading}
 use Rattle.jb_tool.proofs.Recovering.{rose_later}
-use Rattle.jb_tool.specs.Changing.{ChangesArea, HasNoLine, IsStoppedBy, OpensToEither, of_area}
-use Rattle.jb_tool.specs.Tending.{answer_to, tool_answer, tool_rules, tool_user}
+use Rattle.jb_tool.specs.Changing.{ChangesArea, HasNoLine, IsStoppedBy, of_area}
+use Rattle.jb_tool.specs.Tending.{OpensToEither, answer_to, tool_answer, tool_rules, tool_user}
 use Rattle.jb_tool.specs.declared.error.ToolError.{ToolError}
 
 module _ {D : Type 0} (shown : D → Device) (command : Command) (old : OpenArea D) where
@@ -34,7 +34,7 @@ module _ {D : Type 0} (shown : D → Device) (command : Command) (old : OpenArea
   stopped_by : (error : AreaError) (new : OpenArea D) → FaultRose (shown old.disk).faults (shown new.disk).faults error → OnlyReads (shown old.disk) (shown new.disk)
       → IsStoppedBy shown command old new (of_area error)
   stopped_by failed.StoreFault new rose kept = inl (refl, rose)
-  stopped_by failed.OutOfMemory new rose kept = inr (inl (refl, kept))
+  stopped_by failed.OutOfMemory new quiet kept = inr (inl (refl, kept, quiet))
 
   -- it was not begun
   pub not_begun : (new : OpenArea D) (error : AreaError) → BeginsCall shown old new tool_user 0 command (Err error) → ChangesArea shown command old new (Err (of_area error))
@@ -126,7 +126,7 @@ module _ {D : Type 0} (shown : D → Device) (command : Command) (old : OpenArea
           now = tt;
           synced = tt;
           failed = elim none [
-            | inl memory ↦ inr (inl (memory, kept))
+            | inl memory ↦ inr (inl (memory, kept, ap (λ (d : Device). d.faults) same ∙ begins.quiet))
             | inr full ↦ inr (inr (
               full.0,
               full.1,

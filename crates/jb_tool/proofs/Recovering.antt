@@ -11,8 +11,8 @@ use Rattle.jb_disk.specs.Images.{Images}
 use Rattle.jb_disk.specs.Runs.{LeavesNow, Runs, IsAllSynced}
 use Rattle.jb_disk.specs.declared.file.FileId.TheVariants.{Jdt}
 use Rattle.jb_image.specs.declared.error.OpenError.{OpenError}
-use Rattle.jb_image.specs.declared.error.OpenError.TheVariants.{OutOfMemory as no_memory, StoreFault as DiskFault}
-use Rattle.jb_image.specs.Answers.{IsRefusedBy, OpensTo}
+use Rattle.jb_image.specs.declared.error.OpenError.TheVariants.{OutOfMemory as no_memory}
+use Rattle.jb_image.specs.Answers.{IsRefusedBy, OpenFaultRose, OpensTo}
 use Rattle.jb_image.specs.Stands.{StandsFor}
 use Rattle.jb_journal.specs.declared.error.JournalError.{JournalError}
 use Rattle.jb_journal.specs.declared.error.JournalError.TheVariants.{BadRecord, StoreFault}
@@ -77,7 +77,7 @@ opens_stands files loaded opens = record { loaded = loaded; loads = opens.loads;
 pub refused : (before after : Device) (error : JournalError) → ForSome before.contents (IsRefusedOver error after) → FaultRose before.faults after.faults error
     → RefusesReading before after (of_journal error)
 refused before after (BadRecord at) is rose = is
-refused before after StoreFault is rose = record { files = λ other. absurd (other refl); fault = λ _. rose }
+refused before after StoreFault is rose = record { files = λ other. absurd (other refl); cause = rose }
 
 -- reads after a recovery leave no more
 pub crash_then : (before mid after : Device) → KeepsReplay before mid → OnlyReads mid after → KeepsReplay before after
@@ -93,16 +93,16 @@ rose_later before mid now later rose = omega (arith, later, rose)
 pub unopened : (before mid after : Device) (found : Recovered) (error : OpenError) → ForSome before.contents (IsFound found)
     → ForSome before.contents (λ was. IsGrowthSafe was → ForSome mid.contents (Replays was))
     → IsAllSynced mid → (IsSome before.contents → IsSome mid.contents)
-    → before.faults ≤ mid.faults → OnlyReads mid after → ForSome mid.contents (λ files. IsRefusedBy MOST_SLOTS files error)
-    → (error ≡ DiskFault → Rose mid.faults after.faults) → RefusesBase before after error
-unopened before mid after found error is done synced told later kept refuses rose = record {
+    → mid.faults ≡ before.faults → OnlyReads mid after → ForSome mid.contents (λ files. IsRefusedBy MOST_SLOTS files error)
+    → OpenFaultRose mid.faults after.faults error → RefusesBase before after error
+unopened before mid after found error is done synced told quiet kept refuses rose = record {
   files = λ other. recovered (λ files. IsRefusedBy MOST_SLOTS files error) before mid after found is done synced told kept refuses;
-  fault = λ same. rose_later before.faults mid.faults after.faults later (rose same);
+  cause = subst (λ (n : ℕ). OpenFaultRose n after.faults error) quiet rose;
 }
 
 -- a base that was recovered, and no memory then
-pub unlisted : (property : Files → Type 0) (before after : Device) → ForSome before.contents (λ was. IsRecoveredTo property was after) → RefusesBase before after no_memory
-unlisted property before after is = record {
+pub unlisted : (property : Files → Type 0) (before after : Device) → ForSome before.contents (λ was. IsRecoveredTo property was after) → after.faults ≡ before.faults → RefusesBase before after no_memory
+unlisted property before after is quiet = record {
   files = λ other was there. recovered_has property (λ files. IsRefusedBy MOST_SLOTS files no_memory) was after (λ files has. tt) (is was there);
-  fault = λ same. absurd (cc);
+  cause = quiet;
 }

@@ -8,19 +8,21 @@ use Rattle.jb_area.specs.declared.area.OpenArea.{OpenArea}
 use Rattle.jb_area_open.specs.Opening.{FaultRose, IsOpenAt, IsRecovered, KeepsOpening, OpensAsAtStart, Refuses}
 use Rattle.jb_area_open.specs.declared.error.OpeningError.{OpeningError}
 use Rattle.jb_area_open.specs.declared.error.OpeningError.TheVariants.{BadJournal as bad_journal, Base}
+use Rattle.jb_base.specs.Fault.{Rose}
 use Rattle.jb_base.specs.declared.limits.TheConstants.{MOST_SLOTS}
 use Rattle.jb_disk.proofs.RunLemmas.{runs-refl, runs-then, runs-weaken}
 use Rattle.jb_disk.specs.Device.{Device, OnlyReads}
 use Rattle.jb_disk.specs.Files.{Files}
 use Rattle.jb_disk.specs.Images.{Images}
 use Rattle.jb_disk.specs.Runs.{LeavesNow}
+use Rattle.jb_image.specs.Stands.{StandsFor}
 use Rattle.jb_journal.specs.Recover.{IsGrowthSafe}
 use Rattle.jb_model.specs.State.{AreaState, state_of}
 use Rattle.jb_model.specs.declared.command.Command.{Command}
 use Rattle.jb_tool.proofs.ChangingLemmas.{few_resting, holds_stands, leaves_only_weaken, leaves_weaken, opens_area}
-use Rattle.jb_tool.proofs.Recovering.{IsTold, is_told, rose_later}
-use Rattle.jb_tool.specs.Changing.{ChangesArea, OpensToEither, of_opening}
-use Rattle.jb_tool.specs.Tending.{Answer, IsOldOrNew, KeepsOrTends, OpensAs, Tends, answer_to}
+use Rattle.jb_tool.proofs.Recovering.{IsTold, is_told}
+use Rattle.jb_tool.specs.Changing.{ChangesArea, of_opening}
+use Rattle.jb_tool.specs.Tending.{Answer, IsOldOrNew, IsOpenedTo, KeepsOrTends, OpensAs, OpensToEither, Tends, answer_to}
 use Rattle.jb_tool.specs.declared.error.ToolError.{ToolError}
 
 -- what a crash leaves now opens to just what some opens to that it might leave now
@@ -79,7 +81,18 @@ module _ {D : Type 0} (shown : D → Device) (command : Command) (before : Devic
       opens_area area.held.loaded rest.texts was (few_resting shown command area rest.texts rest.rests)
       (subst (λ (t : List ℕ). Opens area.held.loaded t was) (sym one ∙ other) at.opens)
 
-  module _ (new : OpenArea D) (later : before.faults ≤ (shown area.disk).faults) where
+  -- the area for which its files stand
+  opened_stands : ForSome (shown area.disk).contents (λ files. StandsFor MOST_SLOTS files from)
+  opened_stands files is = holds_stands area.held.loaded rest.texts files (few_resting shown command area rest.texts rest.rests) (rest.rests.kept.settled.rests files is).holds
+
+  -- and what a crash leaves since then
+  opened_to : (new : OpenArea D) (answer : Answer) → ChangesArea shown command area new answer → (was : Files) → before.contents ≡ Some was
+      → IsOpenedTo command from was (shown area.disk) (shown new.disk)
+  opened_to new answer changes was there =
+      let now = opened_files was there in
+      record { recovered = recovered was there; stands = opened_stands; since = changes.crash now.files now.is rest.texts rest.rests }
+
+  module _ (new : OpenArea D) (quiet : (shown area.disk).faults ≡ before.faults) where
     -- the command is tended, or not
     pub tends_opened : (answer : Answer) → ChangesArea shown command area new answer → Tends command before (shown new.disk) answer
     tends_opened (Ok text) changes = λ was there.
@@ -89,16 +102,18 @@ module _ {D : Type 0} (shown : D → Device) (command : Command) (before : Devic
           new = (answer_to command from).state;
           outcome = (changes.answered now.files now.is rest.texts rest.rests, refl);
           record_found = (recovered was there).record_found;
+          opening = shown area.disk;
+          opened_to = opened_to new (Ok text) changes was there;
           opened = opened_as was there;
           now = changes.now now.files now.is rest.texts rest.rests;
           synced = changes.synced;
         }
     tends_opened (Err error) changes = elim changes.failed [
       | inl fault ↦ subst (λ (e : ToolError). Tends command before (shown new.disk) (Err e)) (sym fault.0)
-          (inr (λ other. absurd (other refl), λ same. rose_later before.faults (shown area.disk).faults (shown new.disk).faults later fault.1))
+          (inr (λ other. absurd (other refl), subst (λ (n : ℕ). Rose n (shown new.disk).faults) quiet fault.1))
       | inr unchanged ↦ elim unchanged [
         | inl memory ↦ subst (λ (e : ToolError). Tends command before (shown new.disk) (Err e)) (sym memory.0)
-            (inr (λ other. record { recovered = λ was there. recovered_read was (shown area.disk) (shown new.disk) memory.1 (recovered was there); refused = λ files is. tt }, λ same. absurd (cc)))
+            (inr (λ other. record { recovered = λ was there. recovered_read was (shown area.disk) (shown new.disk) memory.1 (recovered was there); refused = λ files is. tt }, memory.2 ∙ quiet))
         | inr full ↦ subst (λ (e : ToolError). Tends command before (shown new.disk) (Err e)) (sym full.1) (λ was there.
             let now = opened_files was there in
             let kept = full.2 in
@@ -107,6 +122,8 @@ module _ {D : Type 0} (shown : D → Device) (command : Command) (before : Devic
               new = from;
               outcome = (full.3 now.files now.is rest.texts rest.rests, refl);
               record_found = (recovered was there).record_found;
+              opening = shown area.disk;
+              opened_to = opened_to new (Err error) changes was there;
               opened = opened_as was there;
               now = λ last last_is. holds_stands area.held.loaded rest.texts last (few_resting shown command area rest.texts rest.rests)
                   (rest.rests.kept.settled.rests last (sym kept.contents ∙ last_is)).holds;

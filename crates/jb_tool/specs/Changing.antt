@@ -18,7 +18,7 @@ use Rattle.jb_model.specs.declared.reply.Reply.{Reply}
 use Rattle.jb_model.specs.declared.reply.Reply.TheVariants as reply
 use Rattle.jb_area_open.specs.declared.error.OpeningError.{OpeningError}
 use Rattle.jb_area_open.specs.declared.error.OpeningError.TheVariants as opening
-use Rattle.jb_tool.specs.Tending.{Answer, OpensAs, answer_to, tool_answer}
+use Rattle.jb_tool.specs.Tending.{Answer, OpensToEither, answer_to, tool_answer}
 use Rattle.jb_tool.specs.declared.error.ToolError.{ToolError}
 use Rattle.jb_tool.specs.declared.error.ToolError.TheVariants.{BadJournal, Open, TextFull}
 
@@ -36,21 +36,17 @@ of_opening (opening.Base error) = Open error
 abbrev pub HasNoLine : Reply → ToolError → Type 0
 HasNoLine said error = (error ≡ Open refused.OutOfMemory) ⊎ ((length : ℕ) × (error ≡ TextFull length) × (said ≡ reply.TextFull length))
 
--- files that open to this area, or to the one that the command makes of it
-abbrev pub OpensToEither : Command → AreaState → Files → Type 0
-OpensToEither command area files = OpensAs area files ⊎ OpensAs (answer_to command area).state files
-
 -- of a disk that shows itself so
 module _ {D : Type 0} (shown : D → Device) where
   -- this of the area at rest, where the disk tells what it holds
   abbrev pub WhereTold : OpenArea D → (AreaState → Type 0) → Type 0
   WhereTold area claim = ForSome (shown area.disk).contents (λ files. (texts : List ℕ) → IsResting shown area texts → claim (state_of texts area.held.loaded))
 
-  -- why the command was not done: a fault that the disk counted, or want of memory, or texts that are too long, and after these nothing was written
+  -- why the command was not done: a fault that the disk counted, or want of memory, which hides none, or texts that are too long, and after these nothing was written
   abbrev pub IsStoppedBy : Command → OpenArea D → OpenArea D → ToolError → Type 0
   IsStoppedBy command old new error =
       ((error ≡ Open refused.StoreFault) × Rose (shown old.disk).faults (shown new.disk).faults)
-      ⊎ (((error ≡ Open refused.OutOfMemory) × OnlyReads (shown old.disk) (shown new.disk))
+      ⊎ (((error ≡ Open refused.OutOfMemory) × OnlyReads (shown old.disk) (shown new.disk) × ((shown new.disk).faults ≡ (shown old.disk).faults))
       ⊎ ((length : ℕ) × (error ≡ TextFull length) × OnlyReads (shown old.disk) (shown new.disk)
       × WhereTold old (λ area. tool_answer (answer_to command area).reply ≡ Err (TextFull length))))
 

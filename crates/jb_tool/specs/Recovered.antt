@@ -1,7 +1,6 @@
 -- What becomes of the files of a base that is recovered and then only read.
 use Rattle.std.specs.Prelude.{◌≡◌, ◌≢◌, Some}
 use Rattle.std.specs.Option.{ForSome}
-use Rattle.jb_base.specs.Fault.{Rose}
 use Rattle.jb_base.specs.declared.limits.TheConstants.{MOST_SLOTS}
 use Rattle.jb_disk.specs.Device.{Device}
 use Rattle.jb_disk.specs.Files.{Files}
@@ -9,7 +8,7 @@ use Rattle.jb_disk.specs.Gate.{IsGateOpen}
 use Rattle.jb_disk.specs.Runs.{LeavesNow, LeavesOnly}
 use Rattle.jb_image.specs.declared.error.OpenError.{OpenError}
 use Rattle.jb_image.specs.declared.error.OpenError.TheVariants.{StoreFault}
-use Rattle.jb_image.specs.Answers.{IsRefusedBy}
+use Rattle.jb_image.specs.Answers.{IsRefusedBy, OpenFaultRose}
 use Rattle.jb_journal.specs.declared.error.JournalError.{JournalError}
 use Rattle.jb_journal.specs.declared.error.JournalError.TheVariants.{BadRecord, StoreFault as JournalFault}
 use Rattle.jb_journal.specs.Recover.{IsGrowthSafe, IsRefusedOver, ReplaysAsAtStart}
@@ -32,10 +31,10 @@ pub record IsRecoveredTo (property : Files → Type 0) (was : Files) (after : De
   pub replayed : IsGrowthSafe was → HasReplayed property was after
   pub now : ForSome after.contents property
 
--- a base that is not opened, and why: what its files hold once they are recovered, or a fault of its disk
+-- a base that is not opened, and why: what its files hold once they are recovered, or a fault of its disk, which no other refusal hides
 pub record RefusesBase (before after : Device) (error : OpenError) : Type 0 where
   pub files : error ≢ StoreFault → ForSome before.contents (λ was. IsRecoveredTo (λ files. IsRefusedBy MOST_SLOTS files error) was after)
-  pub fault : error ≡ StoreFault → Rose before.faults after.faults
+  pub cause : OpenFaultRose before.faults after.faults error
 
 -- a refusal of recovery, as one of a tool
 abbrev pub of_journal : JournalError → ToolError

@@ -1,7 +1,7 @@
 -- What a tool that tends the area answers, and what it makes of the files of a base.
 use Rattle.std.specs.Prelude.{◌≡◌, ◌⊎◌, ℕ, List, [], ◌∷◌, ◌++◌, Result, Ok, Err, codes}
 use Rattle.std.specs.Option.{ForSome}
-use Rattle.jb_area_open.specs.Opening.{FaultRose, OpensAsAtStart, Refuses}
+use Rattle.jb_area_open.specs.Opening.{FaultRose, IsRecovered, OpensAsAtStart, Refuses}
 use Rattle.jb_area_open.specs.declared.error.OpeningError.TheVariants.{BadJournal as bad_journal, Base}
 use Rattle.jb_base.specs.declared.area.AreaRules.{AreaRules}
 use Rattle.jb_base.specs.declared.area.Kind.TheVariants.{Local}
@@ -59,12 +59,24 @@ pub record OpensAs (area : AreaState) (files : Files) : Type 0 where
   pub replays : Replays files after
   pub stands : StandsFor MOST_SLOTS after area
 
--- the command was answered: of the area to which the base opened, where the record behind an open gate writes each byte past an old end; and the files, synced, stand for the area that it leaves
+-- files that open to this area, or to the one that the command makes of it
+abbrev pub OpensToEither : Command → AreaState → Files → Type 0
+OpensToEither command area files = OpensAs area files ⊎ OpensAs (answer_to command area).state files
+
+-- the disk as the opening left it: recovered, with files that stand for this area; from then on a crash at any moment leaves files that open to it, or to the one that the command makes of it
+pub record IsOpenedTo (command : Command) (area : AreaState) (was : Files) (opening after : Device) : Type 0 where
+  pub recovered : IsRecovered was opening
+  pub stands : ForSome opening.contents (λ files. StandsFor MOST_SLOTS files area)
+  pub since : LeavesOnly opening after (OpensToEither command area)
+
+-- the command was answered: of the area for which the files stood once they were opened, to which the base opened at the start where the record behind an open gate writes each byte past an old end; and the files, synced, stand for the area that it leaves
 pub record IsTended (command : Command) (answer : Answer) (was : Files) (after : Device) : Type 0 where
   pub old : AreaState
   pub new : AreaState
   pub outcome : tended command old answer new
   pub record_found : IsGateOpen was → HasRecord was
+  pub opening : Device
+  pub opened_to : IsOpenedTo command old was opening after
   pub opened : IsGrowthSafe was → OpensAs old was
   pub now : ForSome after.contents (λ files. StandsFor MOST_SLOTS files new)
   pub synced : IsAllSynced after

@@ -1,5 +1,5 @@
 //! A base is recovered and read.
-ghost use Rattle.std.specs.Prelude.{◌≤◌, IfErr, IfOk};
+ghost use Rattle.std.specs.Prelude.{◌≡◌, ◌≤◌, IfErr, IfOk, OnOk};
 ghost use Rattle.std.specs.Option.{ForSome};
 ghost use Rattle.jb_base.specs.declared.limits.TheConstants.{MOST_SLOTS};
 ghost use Rattle.jb_image.specs.Answers.{OpensTo};
@@ -24,6 +24,7 @@ pub(crate) fn read_base<D: Disk>(alloc: Global, disk: &mut D) -> Result<Loaded, 
     // On every disk.
     ensures sound { IfOk result (IsSound MOST_SLOTS) }
     ensures crash { KeepsReplay (D.device disk.old) (D.device disk.new) }
+    ensures quiet { OnOk result ((D.device disk.new).faults ≡ (D.device disk.old).faults) }
     ensures later { (D.device disk.old).faults ≤ (D.device disk.new).faults }
 {
     let _ = recover(disk)?;

@@ -1,3 +1,4 @@
+use Rattle.jb_disk.proofs.RunLemmas.{stays_silent}
 use Rattle.jb_area.proofs.CommitLemmas.{ready_as, done_as, made_as, stopped_as, crash_as}
 use Rattle.jb_area.proofs.Outcomes.{if_err_then, on_ok_then, on_ok_then2}
 use Rattle.jb_area.proofs.committing.commit_change.Goals as goal
@@ -17,7 +18,7 @@ returns-clause-made g c = on_ok_then c.commit.result _ _ c.commit.ensures.done (
 
 pub returns-clause-doubt : goal.returns-clause-doubt
 returns-clause-doubt g c = if_err_then c.commit.result _ _ c.commit.ensures.in_doubt (λ stopped doubt from texts coming settled is.
-    stopped_as c.args.redo.now stopped (g.D.Disk.device c.args.disk.now) (g.D.Disk.device c.commit.new.disk) from texts c.commit.ensures.silent doubt settled)
+    stopped_as c.args.redo.now stopped (g.D.Disk.device c.args.disk.now) (g.D.Disk.device c.commit.new.disk) from texts (stays_silent _ _ c.commit.ensures.alike) doubt settled)
 
 pub returns-clause-crash : goal.returns-clause-crash
 returns-clause-crash g c = λ from texts coming settled is was there.

@@ -1,3 +1,4 @@
+use Rattle.jb_disk.proofs.RunLemmas.{stays_silent}
 use Rattle.jb_area.proofs.CommitLemmas.{has_stopped, answer_as, again_as, settling_as}
 use Rattle.jb_area.proofs.Outcomes.{if_err_then, if_ok_then2}
 use Rattle.jb_area.proofs.committing.settle_change.Goals as goal
@@ -9,11 +10,11 @@ settle-requires-clause-in_doubt g c = λ was there.
 
 pub returns-clause-answer : goal.returns-clause-answer
 returns-clause-answer g c = if_ok_then2 c.settle.result _ _ _ c.settle.ensures.answer c.settle.ensures.durable (λ stands answer durable from texts coming doubt is.
-    answer_as c.args.redo.now stands c.args.stopped (g.D.Disk.device c.args.disk.now) (g.D.Disk.device c.settle.new.disk) from texts coming c.settle.ensures.silent answer durable doubt is)
+    answer_as c.args.redo.now stands c.args.stopped (g.D.Disk.device c.args.disk.now) (g.D.Disk.device c.settle.new.disk) from texts coming (stays_silent _ _ c.settle.ensures.alike) answer durable doubt is)
 
 pub returns-clause-still : goal.returns-clause-still
 returns-clause-still g c = if_err_then c.settle.result _ _ c.settle.ensures.still (λ again still from texts coming doubt is.
-    again_as c.args.redo.now c.args.stopped again (g.D.Disk.device c.args.disk.now) (g.D.Disk.device c.settle.new.disk) from texts coming c.settle.ensures.silent still doubt is)
+    again_as c.args.redo.now c.args.stopped again (g.D.Disk.device c.args.disk.now) (g.D.Disk.device c.settle.new.disk) from texts coming (stays_silent _ _ c.settle.ensures.alike) still doubt is)
 
 pub returns-clause-crash : goal.returns-clause-crash
 returns-clause-crash g c = λ from texts coming doubt is was there.

@@ -1,5 +1,5 @@
 use Rattle.std.proofs.Common.{◌∙◌, inl, inr, arith, sym, subst}
-use Rattle.jb_board.proofs.Placing.{answers_as, no_host_fault, no_words, used_disk}
+use Rattle.jb_board.proofs.Placing.{answers_as, no_host_fault, no_want, no_words, used_disk}
 use Rattle.jb_board.specs.Run.{Answer, UsesTool}
 use Rattle.jb_board.proofs.top.use_tool.Goals as goal
 
@@ -14,6 +14,7 @@ returns-clause-found g c =
       disk = inr (used_disk c.args.tool c.args.moment _ _ before after _ _ _ _ given c.put_back.ensures
           (answers_as c.args.tool c.args.moment before after said c.run-disk.ensures.answer) c.run-disk.ensures.crash c.run-disk.ensures.later);
       cause = λ is. absurd (no_host_fault said is);
+      memory = λ is. absurd (no_want said is);
       known = λ is. no_words said is;
-      later = omega (arith, given.later, c.put_back.ensures.faults);
+      later = omega (arith, given.faults, c.put_back.ensures.faults);
     })

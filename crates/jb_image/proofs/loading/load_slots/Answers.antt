@@ -26,7 +26,7 @@ loop-slot-preserved g c =
     let low = c.loop-slot-test.true in record {
       numbered = omega (arith, c.loop-slot.invariant.numbered);
       so_far = AreLoadedSoFar-next _ _ _ c.args.lengths.now.texts c.loop-slot.slot-index c.args.seen.now c.loop-slot.slots _ c.in-Ok.loaded
-          c.loop-slot.invariant.so_far c.load_slot.ensures.kept c.load_slot.ensures.later c.in_ok-push-in-Ok.ensures.ok
+          c.loop-slot.invariant.so_far c.load_slot.ensures.kept c.in_ok-loaded.ensures.quiet c.in_ok-push-in-Ok.ensures.ok
           (λ d. subst (λ (s : SeenSlot). IsLoadedFrom c.args.lengths.now.texts s c.in-Ok.loaded) (get_or_default c.args.seen.now c.loop-slot.slot-index Empty d low) found)
           (λ files contents_is. named files (so_far.kept.contents ∙ contents_is) _ ((c.requires.seen files contents_is).each c.loop-slot.slot-index _ low));
       window = c.load_slot.ensures.window;

@@ -20,7 +20,7 @@ loop-slot-preserved g c =
     let so_far = c.loop-slot.invariant.so_far in
     let low = c.loop-slot-test.true in record {
       numbered = omega (arith, c.loop-slot.invariant.numbered);
-      so_far = AreWholeSoFar-next _ _ _ c.loop-slot.slot-index _ so_far c.load_slot.ensures.kept c.load_slot.ensures.later
+      so_far = AreWholeSoFar-next _ _ _ c.loop-slot.slot-index _ so_far c.load_slot.ensures.kept c.in_ok-_whole.ensures.quiet
           (λ files contents_is. named files (so_far.kept.contents ∙ contents_is) _ ((c.requires.seen files contents_is).each c.loop-slot.slot-index _ low));
       window = c.load_slot.ensures.window;
     }

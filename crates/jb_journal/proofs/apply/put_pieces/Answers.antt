@@ -10,4 +10,4 @@ returns-in_err-put_piece-clause-keeps g c = λ lengths start legal. keeps-then (
 pub loop-k-preserved : goal.loop-k-preserved
 loop-k-preserved g c =
     let low : c.loop-k.k < length c.args.redo.now.pieces = omega (arith, c.loop-k-test.true, c.pieces-k-end.ensures) in
-    putting_on _ _ _ c.args.redo.now.pieces c.loop-k.k c.loop-k.invariant low c.in_ok-put_piece.ensures.told c.put_piece.ensures.cause.later c.put_piece.ensures.cause.silent c.put_piece.ensures.keeps
+    putting_on _ _ _ c.args.redo.now.pieces c.loop-k.k c.loop-k.invariant low c.in_ok-put_piece.ensures.told c.in_ok-put_piece.ensures.cause.kept c.put_piece.ensures.cause.alike c.put_piece.ensures.keeps

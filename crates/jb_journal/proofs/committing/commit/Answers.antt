@@ -1,5 +1,5 @@
 use Rattle.std.proofs.Common.{inr}
-use Rattle.jb_disk.proofs.RunLemmas.{runs-then, runs-weaken}
+use Rattle.jb_disk.proofs.RunLemmas.{runs-then, runs-weaken, stays_silent}
 use Rattle.jb_journal.specs.Commit.{IsBeforeOrAfter, ReplaysTo, changed}
 use Rattle.jb_journal.specs.Stages.{opened}
 use Rattle.jb_journal.proofs.ReadyLemmas.{opened_is, from_opened}
@@ -61,12 +61,12 @@ returns-clause-opening g c = λ start there.
 
 pub returns-clause-done : goal.returns-clause-done
 returns-clause-done g c =
-    told_committed c.args.redo.now _ _ _ c.requires.ready c.in-Ok.ensures.told c.finish.ensures.cause.silent
+    told_committed c.args.redo.now _ _ _ c.requires.ready c.in-Ok.ensures.told (stays_silent _ _ c.finish.ensures.cause.alike)
     (λ start there. let ready = c.requires.ready start there in c.in-Ok-finish.ensures.done (opened c.args.redo.now start) (opened_is c.args.redo.now start ready) (c.in-Ok.ensures.going start there))
 
 pub returns-clause-durable : goal.returns-clause-durable
 returns-clause-durable g c =
-    synced_at_end c.args.redo.now _ _ (g.D.Disk.device c.finish.new.disk) c.in-Ok.ensures.told c.finish.ensures.cause.silent
+    synced_at_end c.args.redo.now _ _ (g.D.Disk.device c.finish.new.disk) c.in-Ok.ensures.told (stays_silent _ _ c.finish.ensures.cause.alike)
     (λ start there. let ready = c.requires.ready start there in c.in-Ok-finish.ensures.synced (opened c.args.redo.now start) (opened_is c.args.redo.now start ready) (c.in-Ok.ensures.going start there))
 
 pub returns-clause-settled : goal.returns-clause-settled

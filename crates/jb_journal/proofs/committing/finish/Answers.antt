@@ -3,7 +3,7 @@ use Rattle.std.specs.Option.{option_map}
 use Rattle.jb_disk.specs.declared.file.FileId.TheVariants.{Jnl}
 use Rattle.jb_disk.specs.Files.{Files, written}
 use Rattle.jb_disk.specs.Runs.{Shows}
-use Rattle.jb_disk.proofs.RunLemmas.{runs-then, runs-weaken}
+use Rattle.jb_disk.proofs.RunLemmas.{runs-then, runs-weaken, stays_silent}
 use Rattle.jb_journal.specs.Commit.{ReplaysTo, changed}
 use Rattle.jb_journal.specs.Stages.{IsGoing, IsClosing}
 use Rattle.jb_journal.proofs.Told.{on_ok, on_ok_both, option_map-twice}
@@ -24,7 +24,7 @@ returns-in_err-apply-clause-run g c = λ from is shows.
     runs-weaken (IsGoing c.args.redo.now from) (ReplaysTo (changed c.args.redo.now from)) (going_replays c.args.redo.now from is) _ _ ((c.apply.ensures.keeps from is.has.legal).run shows)
 
 pub set_gate-requires : goal.set_gate-requires
-set_gate-requires g c = gate_room c.args.redo.now _ _ c.apply.ensures.cause.silent c.requires.going (λ from is way. c.in_ok-apply.ensures.told from is.has.legal is.grown way)
+set_gate-requires g c = gate_room c.args.redo.now _ _ (stays_silent _ _ c.apply.ensures.cause.alike) c.requires.going (λ from is way. c.in_ok-apply.ensures.told from is.has.legal is.grown way)
 
 pub returns-clause-done : goal.returns-clause-done
 returns-clause-done g c = on_ok c.set_gate.result _ _ (λ told. λ from is shows.

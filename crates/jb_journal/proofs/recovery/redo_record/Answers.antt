@@ -1,6 +1,6 @@
 use Rattle.std.proofs.Common.{◌≡◌, inl, inr, ◌∙◌, subst, Some}
 use Rattle.jb_disk.specs.Runs.{Keeps, Shows}
-use Rattle.jb_disk.proofs.RunLemmas.{runs-then, runs-weaken, keeps-then}
+use Rattle.jb_disk.proofs.RunLemmas.{runs-then, runs-weaken, keeps-then, stays_silent}
 use Rattle.jb_redo.specs.OnTheWay.{IsOnTheWay}
 use Rattle.jb_redo.specs.Replay.{Replays}
 use Rattle.jb_redo.proofs.WayLemmas.{way_start, replays_to_applied}
@@ -111,7 +111,7 @@ returns-clause-durable g c =
     let d2 = g.D.Disk.device c.sync_base.new.disk in
     let d3 = g.D.Disk.device c.close_gate.new.disk in
     elim (silent_or_told d0.contents) [
-      | inl none ↦ none_told _ d3.contents (c.close_gate.ensures.cause.silent (c.in_ok-sync_base.ensures.kept ∙ c.apply_record.ensures.silent none))
+      | inl none ↦ none_told _ d3.contents (stays_silent _ _ c.close_gate.ensures.cause.alike (c.in_ok-sync_base.ensures.kept ∙ stays_silent _ _ c.apply_record.ensures.alike none))
       | inr before ↦
           let was = before.0 in
           let there = before.1 in
@@ -128,7 +128,7 @@ returns-clause-closed g c =
     let d2 = g.D.Disk.device c.sync_base.new.disk in
     let d3 = g.D.Disk.device c.close_gate.new.disk in
     elim (silent_or_told d0.contents) [
-      | inl none ↦ none_told _ d3.contents (c.close_gate.ensures.cause.silent (c.in_ok-sync_base.ensures.kept ∙ c.apply_record.ensures.silent none))
+      | inl none ↦ none_told _ d3.contents (stays_silent _ _ c.close_gate.ensures.cause.alike (c.in_ok-sync_base.ensures.kept ∙ stays_silent _ _ c.apply_record.ensures.alike none))
       | inr before ↦
           let was = before.0 in
           let there = before.1 in

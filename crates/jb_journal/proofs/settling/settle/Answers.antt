@@ -8,6 +8,7 @@ use Rattle.jb_journal.specs.Doubt.{IsInDoubt, IsEarly}
 use Rattle.jb_journal.specs.Stages.{opened}
 use Rattle.jb_journal.proofs.ReadyLemmas.{opened_is}
 use Rattle.jb_journal.proofs.SettleLemmas.{doubt_first, doubt_run, finish_run, head_run, shows_going, shows_late, synced_late, synced_early, shows_finished, shows_late_again, shows_prepared, shows_early_again, preparing_run, doubt_under_way}
+use Rattle.jb_disk.proofs.RunLemmas.{stays_silent}
 use Rattle.jb_journal.proofs.settling.settle.Goals as goal
 
 -- false is not true
@@ -133,7 +134,7 @@ returns-in_default-make_head-clause-still g c = λ start ready shows.
     let synced1 = synced_early redo start ready d1 tells1 stopped shows1 durable1 c.in-Early.is in
     let d2 = g.D.Disk.device c.make_head.new.disk in
     let tells2 = g.met.D.Disk.told c.make_head.new.disk in
-    shows_early_again redo start ready d1 d2 tells1 tells2 early1 shut1 synced1 c.make_head.ensures.keeps c.make_head.ensures.cause.silent
+    shows_early_again redo start ready d1 d2 tells1 tells2 early1 shut1 synced1 c.make_head.ensures.keeps (stays_silent _ _ c.make_head.ensures.cause.alike)
 
 pub returns-in_default-make_head-clause-crash : goal.returns-in_default-make_head-clause-crash
 returns-in_default-make_head-clause-crash g c = λ start ready shows.
@@ -152,7 +153,7 @@ returns-in_default-make_head-clause-crash g c = λ start ready shows.
     let tells2 = g.met.D.Disk.told c.make_head.new.disk in
     record {
       first = doubt_first redo start ready stopped d0 shows;
-      run = head_run redo start ready stopped d0 d1 d2 c.in-Early.is (doubt_run redo start ready stopped d0 d1 keeps shows) (preparing_run redo start ready d1 d2 tells1 tells2 early1 shut1 synced1 c.make_head.ensures.keeps c.make_head.ensures.cause.silent);
+      run = head_run redo start ready stopped d0 d1 d2 c.in-Early.is (doubt_run redo start ready stopped d0 d1 keeps shows) (preparing_run redo start ready d1 d2 tells1 tells2 early1 shut1 synced1 c.make_head.ensures.keeps (stays_silent _ _ c.make_head.ensures.cause.alike));
     }
 
 pub returns-in-Ok-make_head-clause-crash : goal.returns-in-Ok-make_head-clause-crash
@@ -172,7 +173,7 @@ returns-in-Ok-make_head-clause-crash g c = λ start ready shows.
     let tells2 = g.met.D.Disk.told c.make_head.new.disk in
     record {
       first = doubt_first redo start ready stopped d0 shows;
-      run = head_run redo start ready stopped d0 d1 d2 c.in-Early.is (doubt_run redo start ready stopped d0 d1 keeps shows) (preparing_run redo start ready d1 d2 tells1 tells2 early1 shut1 synced1 c.make_head.ensures.keeps c.make_head.ensures.cause.silent);
+      run = head_run redo start ready stopped d0 d1 d2 c.in-Early.is (doubt_run redo start ready stopped d0 d1 keeps shows) (preparing_run redo start ready d1 d2 tells1 tells2 early1 shut1 synced1 c.make_head.ensures.keeps (stays_silent _ _ c.make_head.ensures.cause.alike));
     }
 
 pub returns-in-Ok-make_head-clause-answer : goal.returns-in-Ok-make_head-clause-answer

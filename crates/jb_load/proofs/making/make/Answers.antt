@@ -1,7 +1,9 @@
+use Rattle.std.proofs.Common.{◌∙◌, sym}
 use Rattle.jb_load.proofs.BaseLemmas.{base_made}
 use Rattle.jb_load.proofs.making.make.Goals as goal
 
 pub returns-in-Ok-clause-made : goal.returns-in-Ok-clause-made
 returns-in-Ok-clause-made g c =
     let device = g.D.Disk.device in
-    base_made (device c.args.disk.now).contents (device c.write_header.new.disk).contents (device c.prepare.new.disk).contents c.requires.empty c.in_ok-write_header.ensures.told c.in-Ok.ensures.made
+    base_made (device c.sync_all.new.disk).contents (device c.write_header.new.disk).contents (device c.prepare.new.disk).contents
+    (λ files there. c.requires.empty files (sym c.in_ok-sync_all.ensures.kept ∙ there)) c.in_ok-write_header.ensures.told c.in-Ok.ensures.made

@@ -26,7 +26,7 @@ loop-slot-preserved-in-Some g c =
       copied = copied_joined c.args.loaded.now contents c.args.slots.now c.args.redo.now c.loop-slot.redo c.loop-slot.run c.in-Some.more c.loop-slot.end k message rest
           c.in-Some.ensures.joined (c.in-Some.ensures.run c.args.loaded.now.texts_len here.run_is within.text) here;
       kept = c.loop-slot.invariant.kept;
-      later = c.loop-slot.invariant.later;
+      quiet = c.loop-slot.invariant.quiet;
     }
 
 -- a text that has bytes is a part to read
@@ -54,5 +54,5 @@ loop-slot-preserved g c =
           (subst (λ (o : Option Files). PutsRun o c.loop-slot.run c.loop-slot.redo c.put_run.new.redo) kept.contents c.in_ok-end.ensures.puts)
           c.in_ok-end.ensures.next c.in_ok-end.ensures.room (text_run c.args.loaded.now.texts_len message.text_at message.text_len c.in_default-joined.ensures.other within.text) here;
       kept = record { contents = keeps.contents ∙ kept.contents; moments = keeps.moments ∙ kept.moments };
-      later = omega (arith, c.loop-slot.invariant.later, c.in_ok-end.ensures.later);
+      quiet = c.in_ok-end.ensures.quiet ∙ c.loop-slot.invariant.quiet;
     }

@@ -1,4 +1,5 @@
-use Rattle.std.proofs.Common.{◌≡◌, ◌∙◌, sym, arith}
+use Rattle.std.proofs.Common.{◌≡◌, ◌∙◌, ap, refl, sym, arith}
+use Rattle.std.specs.Prelude.{is_some}
 use Rattle.jb_redo.proofs.ApplyLemmas.{nothing_keeps, keeps_after, keeps_before, keeps_part, told_start, told_done, told_fixed, told_none_back, told_part_room, told_next, told_covers}
 use Rattle.jb_redo.proofs.OneReading.{record_or_bad_place}
 use Rattle.jb_redo.proofs.WalkLemmas.{bad_piece_count, no_number}
@@ -16,8 +17,8 @@ loop-init g c =
     let fits = rw c.in-Some.is at c.in_ok-count.ensures.fits in
     let kept = c.read_number.ensures.kept.contents in
     record {
-      later = omega arith;
-      silent = λ none. none;
+      quiet = refl;
+      alike = refl;
       told = told_start c.in-Some.count c.args.lengths.now.at c.args.lengths.now.ends (g.D.Disk.device c.read_number.new.disk).contents
           (λ files is. c.requires.lengths files (sym kept ∙ is)) fits (λ files is. found files (sym kept ∙ is));
       images = nothing_keeps (g.D.Disk.device c.read_number.new.disk);
@@ -78,12 +79,9 @@ loop-preserved g c =
     let part = c.in-Some-2.part in
     let sound = rw c.in-Some-2.is at c.in_ok-part.ensures.sound in
     let found = rw c.in-Some-2.is at c.in_ok-part.ensures.found in
-    let later_was = c.loop.invariant.later in
-    let later_read = c.read_part.ensures.later in
-    let later = c.copy_part.ensures.later in
     record {
-      later = omega arith;
-      silent = λ none. c.copy_part.ensures.silent (c.read_part.ensures.kept.contents ∙ c.loop.invariant.silent none);
+      quiet = c.in_ok-copy_part.ensures.quiet ∙ c.in_ok-part.ensures.quiet ∙ c.loop.invariant.quiet;
+      alike = c.copy_part.ensures.alike ∙ ap is_some c.read_part.ensures.kept.contents ∙ c.loop.invariant.alike;
       told = told_next c.in-Some.count c.loop.counter c.loop.at c.args.lengths.now.ends (device c.read_number.new.disk).contents (device c.loop.disk).contents
           (λ f here. c.requires.sized f (sym kept ∙ here)) c.loop.invariant.told part sound found (device c.copy_part.new.disk).contents c.loop-test.true
           (rw c.read_part.ensures.kept.contents at c.in_ok-copy_part.ensures.ok);

@@ -1,4 +1,4 @@
-use Rattle.std.proofs.Common.{◌≡◌, ◌+◌, ◌≤◌, length, take, drop, arith, rules}
+use Rattle.std.proofs.Common.{◌≡◌, ◌∙◌, refl, ◌+◌, ◌≤◌, length, take, drop, arith, rules}
 use Rattle.std.proofs.lemmas.List.{length-take-le, length-append, length-drop}
 use Rattle.jb_disk.proofs.RunLemmas.{keeps-refl}
 use Rattle.jb_redo.specs.OnTheWay.{IsOnTheWay}
@@ -9,8 +9,8 @@ pub loop-done-init : goal.loop-done-init
 loop-done-init g c = record {
   size = search rules;
   few = omega arith;
-  later = omega arith;
-  silent = λ none. none;
+  quiet = refl;
+  alike = refl;
   told = told_none c.args.part.now (g.D.Disk.device c.args.disk.now).contents;
   images = λ lengths pieces start covers. keeps-refl (IsOnTheWay lengths pieces start) (g.D.Disk.device c.args.disk.now);
 }
@@ -37,15 +37,13 @@ loop-done-preserved g c =
     let buffer = c.loop-done.invariant.size in
     let count = c.min-count.ensures in
     let few = c.loop-done.invariant.few in
-    let later = c.copy_chunk.ensures.later in
-    let later_was = c.loop-done.invariant.later in
     let size : n ≡ c.min-count.result = length-take-le c.min-count.result c.loop-done.buffer (omega (arith, count)) in
     let whole : c.loop-done.done + n ≤ part.len = omega (arith, size, count) in
     record {
       size = omega (arith, length-append c.copy_chunk.new.chunk (drop c.min-count.result c.loop-done.buffer), length-drop c.min-count.result c.loop-done.buffer, c.copy_chunk.ensures.size, size, count);
       few = omega (arith, count);
-      later = omega arith;
-      silent = λ none. c.copy_chunk.ensures.silent (c.loop-done.invariant.silent none);
+      quiet = c.in_ok-copy_chunk.ensures.quiet ∙ c.loop-done.invariant.quiet;
+      alike = c.copy_chunk.ensures.alike ∙ c.loop-done.invariant.alike;
       told = rw size at (told_more part c.loop-done.done n (g.D.Disk.device c.args.disk.now).contents (g.D.Disk.device c.loop-done.disk).contents (g.D.Disk.device c.copy_chunk.new.disk).contents
           c.requires.sound c.requires.room whole c.loop-done.invariant.told c.in_ok-copy_chunk.ensures.ok);
       images = range_keeps part.to part.to_at part.len (part.to_at + c.loop-done.done) n (g.D.Disk.device c.args.disk.now) (g.D.Disk.device c.loop-done.disk) (g.D.Disk.device c.copy_chunk.new.disk)

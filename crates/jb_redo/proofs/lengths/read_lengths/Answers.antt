@@ -14,12 +14,10 @@ loop-preserved g c =
     let found = rw c.in-Some.is at c.in_ok-entry.ensures.found in
     let kept = c.read_length.ensures.kept in
     let was = c.loop.invariant.kept in
-    let later = c.read_length.ensures.later in
-    let later_was = c.loop.invariant.later in
     let place = c.loop.invariant.place in
     record {
       kept = record { contents = kept.contents ∙ was.contents; moments = kept.moments ∙ was.moments };
-      later = omega arith;
+      quiet = c.in_ok-entry.ensures.quiet ∙ c.loop.invariant.quiet;
       place = omega arith;
       within = within_set c.args.sizes.now c.loop.ends c.set.new.self c.in-Some.entry c.loop.invariant.within legal.0 c.set.ensures;
       told = λ files start.

@@ -14,7 +14,7 @@ loop-init g c =
     let fits = rw c.in-Some.is at c.in_ok-count.ensures.fits in
     record {
       kept = record { contents = refl; moments = refl };
-      later = omega arith;
+      quiet = refl;
       told = λ files now.
           let is = sym c.read_number.ensures.kept.contents ∙ now in
           pieces_start files c.in-Some.count c.args.lengths.now.at c.args.lengths.now.ends (c.requires.lengths files is) fits (found files is);
@@ -31,11 +31,9 @@ loop-preserved g c =
     let found = rw c.in-Some-2.is at c.in_ok-part.ensures.found in
     let kept = c.read_part.ensures.kept in
     let was = c.loop.invariant.kept in
-    let later = c.read_part.ensures.later in
-    let later_was = c.loop.invariant.later in
     record {
       kept = record { contents = kept.contents ∙ was.contents; moments = kept.moments ∙ was.moments };
-      later = omega arith;
+      quiet = c.in_ok-part.ensures.quiet ∙ c.loop.invariant.quiet;
       told = λ files start.
           next_piece files c.in-Some.count c.loop.counter c.loop.at c.args.lengths.now.ends (c.loop.invariant.told files start) c.in-Some-2.part c.loop-test.true (found files (was.contents ∙ start));
     }

@@ -19,7 +19,7 @@ returns-in_err-checked-clause-answer g c =
     let p = err_from_is_err_and c.from_residual-in_err-checked.result c.from_residual-in_err-checked.ensures.1 in
     let is = p.1 ∙ ap (λ (f : ToolError). Err f) p.2 in
     subst (λ (a : Answer). LooksAt Checking before after a) (sym is)
-    (unlisted (λ files. OpensTo MOST_SLOTS files c.in_ok-loaded.loaded) before after c.in_ok-loaded.ensures.opened)
+    (unlisted (λ files. OpensTo MOST_SLOTS files c.in_ok-loaded.loaded) before after c.in_ok-loaded.ensures.opened c.in_ok-loaded.ensures.quiet)
 
 pub returns-clause-answer : goal.returns-clause-answer
 returns-clause-answer g c = λ was there.

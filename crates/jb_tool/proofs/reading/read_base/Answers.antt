@@ -2,7 +2,6 @@ use Rattle.std.proofs.Common.{◌∙◌, ap, sym, subst}
 use Rattle.std.specs.Prelude.{Err, IfErr, Result}
 use Rattle.std.proofs.lemmas.Result.{err_from_is_err_and}
 use Rattle.jb_base.specs.declared.limits.TheConstants.{MOST_SLOTS}
-use Rattle.jb_image.specs.declared.error.OpenError.{OpenError}
 use Rattle.jb_image.specs.Answers.{OpensTo}
 use Rattle.jb_model.specs.declared.loaded.Loaded.{Loaded}
 use Rattle.jb_tool.proofs.Recovering.{crash_then, recovered, refused, unopened}
@@ -27,7 +26,7 @@ returns-in_err-loaded-clause-refused g c =
     let is = p.1 ∙ ap (λ (f : ToolError). Err f) p.2 in
     subst (λ (r : Result Loaded ToolError). IfErr r (RefusesReading before after)) (sym is)
     (unopened before mid after _ c.in_err-loaded.field-0.0 c.in_ok-recover.ensures.found c.in_ok-recover.ensures.done c.in_ok-recover.ensures.durable c.in_ok-recover.ensures.told
-    c.recover.ensures.later c.decode.ensures.kept c.in_err-loaded.ensures.answer (λ same. c.in_err-loaded.ensures.fault (ap (λ (e : OpenError). Err e) same)))
+    c.in_ok-recover.ensures.quiet c.decode.ensures.kept c.in_err-loaded.ensures.answer c.in_err-loaded.ensures.cause)
 
 pub returns-in_err-loaded-clause-crash : goal.returns-in_err-loaded-clause-crash
 returns-in_err-loaded-clause-crash g c =

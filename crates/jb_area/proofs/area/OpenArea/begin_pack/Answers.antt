@@ -14,4 +14,4 @@ returns-clause-begins g c = λ moment.
     begins g.D.Disk.device c.args.self.now c.start.new.self c.decide_pack-decided.new.disk c.args.self.now.redo (Some c.decide_pack-decided.new.redo) c.start.ensures.disk c.start.ensures.rules c.start.ensures.held c.start.ensures.redo
     c.decide_pack-decided.ensures.reads has.rests.kept.ruled.room c.decide_pack-decided.result c.start.result c.args.user.now moment _ c.start.ensures.stage c.start.ensures.large c.start.ensures.answer
     (if_ok_then c.decide_pack-decided.result _ _ c.decide_pack-decided.ensures.decided (λ decided is. is moment))
-    c.decide_pack-decided.ensures.cause c.decide_pack-decided.ensures.later
+    c.decide_pack-decided.ensures.cause c.decide_pack-decided.ensures.quiet c.decide_pack-decided.ensures.later

@@ -1,11 +1,11 @@
-use Rattle.std.proofs.Common.{IfOk, IfErr, List, ℕ, Result, Some, subst, sym}
+use Rattle.std.proofs.Common.{IfOk, IfErr, List, ℕ, Result, Some, refl, subst, sym}
 use Rattle.jb_model.specs.declared.command.Command.TheVariants.{Relink}
 use Rattle.jb_decide.specs.Decided.{IsDecided}
 use Rattle.jb_decide.specs.Errors.{FaultRose}
 use Rattle.jb_decide.specs.Holds.{AreTexts}
 use Rattle.jb_decide.specs.declared.decided.Decided.{Decided}
 use Rattle.jb_decide.specs.declared.error.AreaError.{AreaError}
-use Rattle.jb_area.proofs.StartLemmas.{begins, reads_itself, same_faults}
+use Rattle.jb_area.proofs.StartLemmas.{begins, ok_same, reads_itself, same_faults}
 use Rattle.jb_area.proofs.area.OpenArea.begin_relink.Goals.{in-Ok, in-Err}
 use Rattle.jb_area.proofs.area.OpenArea.begin_relink.Goals as goal
 
@@ -22,7 +22,7 @@ returns-clause-begins g c = λ moment.
     ] in
     let cause : IfErr c.match-decide_relink.decided (FaultRose device.faults device.faults) = elim c.match-decide_relink.branch [
       | in-Ok w ↦ subst (λ (r : Result Decided AreaError). IfErr r (FaultRose device.faults device.faults)) (sym w.decided-is) tt
-      | in-Err w ↦ subst (λ (r : Result Decided AreaError). IfErr r (FaultRose device.faults device.faults)) (sym w.decided-is) tt
+      | in-Err w ↦ subst (λ (r : Result Decided AreaError). IfErr r (FaultRose device.faults device.faults)) (sym w.decided-is) refl
     ] in
     begins g.D.Disk.device area c.start.new.self area.disk area.redo (Some c.decide_relink.new.redo) c.start.ensures.disk c.start.ensures.rules c.start.ensures.held c.start.ensures.redo
-    (reads_itself device) has.rests.kept.ruled.room c.match-decide_relink.decided c.start.result c.args.user.now moment _ c.start.ensures.stage c.start.ensures.large c.start.ensures.answer is cause (same_faults device)
+    (reads_itself device) has.rests.kept.ruled.room c.match-decide_relink.decided c.start.result c.args.user.now moment _ c.start.ensures.stage c.start.ensures.large c.start.ensures.answer is cause (ok_same c.match-decide_relink.decided device.faults) (same_faults device)

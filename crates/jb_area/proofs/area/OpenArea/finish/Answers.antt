@@ -1,5 +1,6 @@
-use Rattle.std.proofs.Common.{None, refl, sym, ◌∙◌}
+use Rattle.std.proofs.Common.{None, Some, refl, sym, ◌∙◌}
 use Rattle.jb_area.proofs.CommitLemmas.{idle_opens}
+use Rattle.jb_area.proofs.DoubtLemmas.{doubt_reads}
 use Rattle.jb_area.proofs.StageLemmas.{between, fits, live, made_change, made_nothing, may_commit, numbered, rests_changed, rests_unchanged, some_change, some_in}
 use Rattle.jb_area.proofs.area.OpenArea.finish.Goals as goal
 
@@ -49,7 +50,11 @@ returns-in-Ok-clause-crash g c = λ texts decided coming begun was there.
 pub returns-in-Err-clause-doubt : goal.returns-in-Err-clause-doubt
 returns-in-Err-clause-doubt g c = λ texts decided coming begun.
     between g.D.Disk.device c.args.self.now texts decided coming begun c.in-Begun.reply c.in-Begun.pending c.commit_change.new.disk c.args.self.now.large c.in_use.result.now c.in-Err.stopped
-    c.in_use.ensures c.in_use.ensures (sym c.replace.ensures.value ∙ c.in-Begun.is) c.in_default-pending.not-Nothing c.commit_change.ensures.silent c.in-Err.ensures.doubt
+    c.in_use.ensures c.in_use.ensures (sym c.replace.ensures.value ∙ c.in-Begun.is) c.in_default-pending.not-Nothing c.commit_change.ensures.alike c.in-Err.ensures.doubt
+
+pub returns-in-Err-clause-opens : goal.returns-in-Err-clause-opens
+returns-in-Err-clause-opens g c = λ texts decided coming begun.
+    doubt_reads g.D.Disk.device _ texts (Some coming) (returns-in-Err-clause-doubt g c texts decided coming begun)
 
 pub returns-in-Err-clause-crash : goal.returns-in-Err-clause-crash
 returns-in-Err-clause-crash g c = λ texts decided coming begun was there.

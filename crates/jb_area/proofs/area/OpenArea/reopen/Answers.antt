@@ -1,6 +1,6 @@
 use Rattle.std.proofs.Common.{None, Bool, refl, sym, subst, ◌∙◌}
 use Rattle.jb_area.specs.Commits.{IsAnsweredAs}
-use Rattle.jb_area.proofs.DoubtLemmas.{at_doubt, crashes, falls, fits, idle, live, may_settle, numbered, stands, still, whole_is}
+use Rattle.jb_area.proofs.DoubtLemmas.{at_doubt, crashes, doubt_reads, falls, fits, idle, live, may_settle, numbered, stands, still, whole_is}
 use Rattle.jb_area.proofs.area.OpenArea.reopen.Goals as goal
 
 pub unreachable-requires : goal.unreachable-requires
@@ -43,7 +43,10 @@ returns-in-Ok-false-clause-crash g c =
 pub returns-in-Err-clause-still : goal.returns-in-Err-clause-still
 returns-in-Err-clause-still g c =
     still g.D.Disk.device c.args.self.now c.in-Doubtful.stopped c.in-Doubtful.pending (sym c.replace.ensures.value ∙ c.in-Doubtful.is) c.in_default-pending.not-Nothing c.in_use.result.now c.in_use.ensures
-    c.settle_change.new.disk c.args.self.now.large c.in-Err.stopped c.in_use.ensures c.settle_change.ensures.silent c.in-Err.ensures.still
+    c.settle_change.new.disk c.args.self.now.large c.in-Err.stopped c.in_use.ensures c.settle_change.ensures.alike c.in-Err.ensures.still
+
+pub returns-in-Err-clause-opens : goal.returns-in-Err-clause-opens
+returns-in-Err-clause-opens g c = λ texts coming doubt. doubt_reads g.D.Disk.device _ texts coming (returns-in-Err-clause-still g c texts coming doubt)
 
 pub returns-in-Err-clause-crash : goal.returns-in-Err-clause-crash
 returns-in-Err-clause-crash g c =
