@@ -1,0 +1,5 @@
+pub mod ListLemmas
+pub mod MakingLemmas
+pub mod PlaceLemmas
+pub mod ThreadLemmas
+pub mod AreaLemmas

@@ -1,0 +1,9 @@
+pub mod Answer
+pub mod Area
+pub mod Cut
+pub mod Index
+pub mod Inside
+pub mod Laws
+pub mod Making
+pub mod Thread
+pub mod Wanted

@@ -1,0 +1,203 @@
+//! The index of an area.
+ghost use Rattle.std.specs.Prelude.{◌≡◌, ◌+◌, ◌≤◌, ℕ, [], List, IfOk, length, map, take};
+ghost use Rattle.jb_base.specs.declared.limits.TheConstants.{MOST_MARKS};
+ghost use Rattle.jb_index.specs.Answer.{answer_to, figures_to, first_from, last_of, high_of, listed_to, mark_in, received_by, thread_to, unread_to};
+ghost use Rattle.jb_index.specs.Index.{index_of, parents_in};
+ghost use Rattle.jb_model.specs.Sound.{IsSound};
+ghost use Rattle.jb_model.specs.State.{state_of};
+
+use crate::listing::{count_wanted, first_wanted};
+use crate::making::summaries_of;
+use crate::shown::Wanted;
+use crate::threads::first_of_thread;
+use jb_base::{AreaRules, MOST_MARKS, OutOfMemory, User};
+use jb_crc::jam_crc;
+use jb_marks::Marks;
+use jb_model::{Answer, Figures, Loaded, Mark, Question, Summaries, Summary};
+use jb_tiered::Tiered;
+use std::alloc::Global;
+use std::marker::Model;
+
+/// The summaries of an area's live messages in rising order of their numbers, its marks, its base number and next number,
+/// and its rules. There is room for as many summaries as the rules have slots, and for 65,000 marks.
+#[derive(Debug, Drop)]
+pub struct Index {
+    summaries: Tiered<Summary>,
+    marks: Marks,
+    base: u32,
+    next: u32,
+    rules: AreaRules,
+    alloc: Global,
+}
+
+impl Model for Index {
+    ghost use Rattle.jb_index.specs.Index.{AreaIndex};
+
+    ghost Value = { AreaIndex };
+
+    ghost use Rattle.jb_index.specs.Inside.{IsHeld, index_in};
+
+    ghost view = { index_in };
+
+    ghost invariant = { IsHeld };
+}
+
+/// These marks, with room for as many as an area may have.
+fn roomy_marks(alloc: Global, from: &[Mark]) -> Result<Marks, OutOfMemory>
+    requires { length from.now ≤ MOST_MARKS }
+    ensures marks { IfOk result (λ marks. marks.marks ≡ from.now) }
+    ensures room { IfOk result (λ marks. MOST_MARKS ≤ length marks.marks + marks.room) }
+{
+    let mut marks = Marks::copy(alloc, from)?;
+    marks.reserve(MOST_MARKS - from.len() as u32)?;
+    Ok(marks)
+}
+
+impl Index {
+    /// The index of this area. `parents` has the parent of each live message, in rising order of their numbers, as
+    /// `jb_link::relink_plan` gives them.
+    pub fn of(
+        alloc: Global,
+        loaded: &Loaded,
+        rules: &AreaRules,
+        parents: &[u32],
+    ) -> Result<Index, OutOfMemory>
+        requires sound { IsSound rules.now.slots loaded.now }
+        requires parents { parents.now ≡ parents_in (state_of [] loaded.now) }
+        ensures { (texts : List ℕ) → IfOk result (λ index. index ≡ index_of rules.now (state_of texts loaded.now)) }
+    {
+        let slots = loaded.slots.as_slice();
+        let mut summaries = summaries_of(alloc, loaded.base, slots, parents)?;
+        summaries.reserve(rules.slots as usize - summaries.len())?;
+        let marks = roomy_marks(alloc, loaded.marks.as_slice())?;
+        let rules = rules.copy(alloc)?;
+        Ok(Index {
+            summaries,
+            marks,
+            base: loaded.base,
+            next: loaded.base + slots.len() as u32,
+            rules,
+            alloc,
+        })
+    }
+
+    /// The user's mark.
+    fn mark(&self, user: &User) -> Option<Mark>
+        ensures { result ≡ mark_in self.now user.now }
+    {
+        self.marks.find(jam_crc(user.name.as_slice()), user.id)
+    }
+
+    /// The number that the user's mark has as read last, or 0.
+    fn last(&self, user: &User) -> u32
+        ensures { result ≡ last_of (mark_in self.now user.now) }
+    {
+        match self.mark(user) {
+            Some(mark) => mark.last,
+            None => 0,
+        }
+    }
+
+    /// The highest number that the user's mark has had, or 0.
+    fn high(&self, user: &User) -> u32
+        ensures { result ≡ high_of (mark_in self.now user.now) }
+    {
+        match self.mark(user) {
+            Some(mark) => mark.high,
+            None => 0,
+        }
+    }
+
+    /// The first `most` messages that the user sees, with numbers from this one on.
+    pub fn listed(&self, user: &User, from: u32, most: u32) -> Result<Summaries, OutOfMemory>
+        ensures { IfOk result (λ found. found ≡ first_from from most (listed_to self.now user.now)) }
+    {
+        first_wanted(
+            self.alloc,
+            &self.summaries,
+            &self.rules,
+            user,
+            Wanted::All,
+            from,
+            most,
+        )
+    }
+
+    /// The first `most` messages that the user sees and has not read, with numbers from this one on: those above the number
+    /// that the user's mark has as read last.
+    pub fn unread(&self, user: &User, from: u32, most: u32) -> Result<Summaries, OutOfMemory>
+        ensures { IfOk result (λ found. found ≡ first_from from most (unread_to self.now user.now)) }
+    {
+        first_wanted(
+            self.alloc,
+            &self.summaries,
+            &self.rules,
+            user,
+            Wanted::Above(self.last(user)),
+            from,
+            most,
+        )
+    }
+
+    /// The first `most` messages that the user sees and whose receiver is the user, with numbers from this one on.
+    pub fn received(&self, user: &User, from: u32, most: u32) -> Result<Summaries, OutOfMemory>
+        ensures { IfOk result (λ found. found ≡ first_from from most (received_by self.now user.now)) }
+    {
+        first_wanted(
+            self.alloc,
+            &self.summaries,
+            &self.rules,
+            user,
+            Wanted::Received,
+            from,
+            most,
+        )
+    }
+
+    /// The first `most` messages of the thread of this one that the user sees; none where the user does not see this one.
+    pub fn thread(&self, user: &User, number: u32, most: u32) -> Result<Summaries, OutOfMemory>
+        ensures { IfOk result (λ found. found ≡ take most (thread_to self.now user.now number)) }
+    {
+        first_of_thread(self.alloc, &self.summaries, &self.rules, user, number, most)
+    }
+
+    /// The answer to a question.
+    pub fn ask(&self, user: &User, question: &Question) -> Result<Answer, OutOfMemory>
+        ensures { IfOk result (λ answer. answer ≡ answer_to self.now user.now question.now) }
+    {
+        let found = match *question {
+            Question::List { from, most } => self.listed(user, from, most)?,
+            Question::Unread { from, most } => self.unread(user, from, most)?,
+            Question::Thread { number, most } => self.thread(user, number, most)?,
+            Question::To { from, most } => self.received(user, from, most)?,
+            Question::Figures => return Ok(Answer::Figures(self.figures(user))),
+        };
+        Ok(Answer::Summaries(found))
+    }
+
+    /// How many messages the user has not read. It takes no memory.
+    pub fn unread_count(&self, user: &User) -> u32
+        ensures { result ≡ length (unread_to self.now user.now) }
+    {
+        count_wanted(
+            &self.summaries,
+            &self.rules,
+            user,
+            Wanted::Above(self.last(user)),
+        )
+    }
+
+    /// The numbers of the area and of the user's mark. It takes no memory.
+    pub fn figures(&self, user: &User) -> Figures
+        ensures { result ≡ figures_to self.now user.now }
+    {
+        Figures {
+            base: self.base,
+            next: self.next,
+            visible: count_wanted(&self.summaries, &self.rules, user, Wanted::All),
+            unread: self.unread_count(user),
+            last: self.last(user),
+            high: self.high(user),
+        }
+    }
+}
