@@ -1,6 +1,9 @@
 -- One shelf is changed: what the shelves hold then.
 use Rattle.std.proofs.Common.{◌≡◌, ℕ, zero, suc, ◌<◌, ◌≤◌, Bool, true, false, ◌&&◌, List, [], ◌∷◌, length, set, ap, sym, ◌∙◌, refl, subst, arith}
-use Rattle.std.specs.Prelude.{bytes_eq, slice_index_or, if◌then◌else◌, Option, Some, None, IfSome}
+use Rattle.std.specs.Prelude.{◌≢◌, bytes_eq, slice_index_or, if◌then◌else◌, Option, Some, None, IfSome, IfNone}
+use Rattle.std.proofs.Common.{Bor, ◌++◌}
+use Rattle.std.specs.Option.{option_copied}
+use Rattle.jb_disk.specs.Device.{Device}
 use Rattle.std.proofs.lemmas.Bool.{and_parts, false≢true}
 use Rattle.std.proofs.lemmas.Slice.Eq.{bytes_eq-Decides}
 use Rattle.jb_base.specs.Fault.{Rose}
@@ -8,7 +11,7 @@ use Rattle.jb_disk.specs.Memory.{Recording, device_of}
 use Rattle.jb_host.specs.declared.host.HostError.{HostError}
 use Rattle.jb_host.specs.declared.host.HostError.TheVariants.{Failed}
 use Rattle.jb_host.specs.declared.memory_host.Shelf.{Shelf}
-use Rattle.jb_host.specs.Desk.{Desk, KeepsDisks, Place, has_disk, and_call, asked_disk, no_disk, with_place}
+use Rattle.jb_host.specs.Desk.{Desk, KeepsDisks, Place, has_disk, and_call, asked_disk, no_disk, handed_out, or_behind, with_behind, with_place}
 use Rattle.jb_host.specs.Shelves.{is_for, shelved, stands_on}
 
 -- the shelf of a folder and a name has these
@@ -107,3 +110,42 @@ stood_there stood (Some disk) place same is = is ∙ ap stands_on (sym same)
 pub if_some : {A : Type 0} (o : Option A) (P : Type 0) → P → IfSome o (λ _. P)
 if_some None P p = tt
 if_some (Some x) P p = p
+
+-- what is lent is what stands there
+pub lent_there : (place : Place) (stood : Option Recording) (lent : Option (Bor Recording)) → option_copied lent ≡ stood → place ≡ stands_on stood → IfSome lent (λ disk. place ≡ has_disk (device_of disk.now))
+lent_there place stood None same is = tt
+lent_there place stood (Some disk) same is = is ∙ ap stands_on (sym same)
+
+-- and where nothing is lent, no disk stands there
+pub lent_none : (place : Place) (stood : Option Recording) (lent : Option (Bor Recording)) → option_copied lent ≡ stood → place ≡ stands_on stood → IfNone lent ((device : Device) → place ≢ has_disk device)
+lent_none place stood (Some disk) same is = tt
+lent_none place stood None same is = λ device there. let out : handed_out ≡ has_disk device = sym (is ∙ ap stands_on (sym same)) ∙ there in absurd (cc)
+
+-- a fact that holds anyway
+pub if_none : {A : Type 0} (o : Option A) (P : Type 0) → P → IfNone o P
+if_none None P p = p
+if_none (Some x) P p = tt
+
+-- a place with another behind it
+or_further : (first : Bool) (stood : Option Recording) (rest more behind : Place) → more ≡ or_behind rest behind
+    → (if first then stands_on stood else more) ≡ or_behind (if first then stands_on stood else rest) behind
+or_further true None rest more behind is = refl
+or_further true (Some disk) rest more behind is = refl
+or_further false stood rest more behind is = is
+
+-- one shelf more, behind the others
+shelved-behind : (dir name : List ℕ) (shelves : List Shelf) (shelf : Shelf) (other_dir other_name : List ℕ) → shelf.dir ≡ dir → shelf.name ≡ name
+    → shelved (shelves ++ shelf ∷ []) other_dir other_name ≡ with_behind dir name (stands_on shelf.disk) (shelved shelves) other_dir other_name
+shelved-behind dir name [] shelf other_dir other_name same_dir same_name =
+    ap (λ (d : List ℕ). if bytes_eq other_dir d && bytes_eq other_name shelf.name then stands_on shelf.disk else no_disk) same_dir
+    ∙ ap (λ (n : List ℕ). if bytes_eq other_dir dir && bytes_eq other_name n then stands_on shelf.disk else no_disk) same_name
+shelved-behind dir name (first ∷ shelves) shelf other_dir other_name same_dir same_name =
+    or_further (is_for other_dir other_name first) first.disk (shelved shelves other_dir other_name) (shelved (shelves ++ shelf ∷ []) other_dir other_name)
+    (if bytes_eq other_dir dir && bytes_eq other_name name then stands_on shelf.disk else no_disk)
+    (shelved-behind dir name shelves shelf other_dir other_name same_dir same_name)
+
+-- the same, of all places at once
+pub shelved-push : (dir name : List ℕ) (shelves : List Shelf) (shelf : Shelf) → shelf.dir ≡ dir → shelf.name ≡ name
+    → shelved (shelves ++ shelf ∷ []) ≡ with_behind dir name (stands_on shelf.disk) (shelved shelves)
+shelved-push dir name shelves shelf same_dir same_name =
+    λ i. λ other_dir other_name. shelved-behind dir name shelves shelf other_dir other_name same_dir same_name i

@@ -26,6 +26,17 @@ abbrev pub with_place : List ℕ → List ℕ → Place → Disks → Disks
 with_place dir name place disks other_dir other_name =
     if bytes_eq other_dir dir && bytes_eq other_name name then place else disks other_dir other_name
 
+-- what is found first: this place, or where no disk has it, that one
+abbrev pub or_behind : Place → Place → Place
+or_behind no_disk behind = behind
+or_behind handed_out behind = handed_out
+or_behind (has_disk device) behind = has_disk device
+
+-- the same disks and one more behind them, found at its folder and name where none was
+abbrev pub with_behind : List ℕ → List ℕ → Place → Disks → Disks
+with_behind dir name place disks other_dir other_name =
+    or_behind (disks other_dir other_name) (if bytes_eq other_dir dir && bytes_eq other_name name then place else no_disk)
+
 -- a host, as its user sees it
 pub record Desk : Type 0 where
   -- how often it has failed

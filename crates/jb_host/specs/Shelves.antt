@@ -1,5 +1,5 @@
 -- The disks and calls of a host in memory.
-use Rattle.std.specs.Prelude.{◌≡◌, ℕ, ◌<◌, bytes_eq, ◌&&◌, Bool, true, false, List, [], ◌∷◌, length, map, slice_index_or, Option, Some, None, if◌then◌else◌}
+use Rattle.std.specs.Prelude.{◌≡◌, ℕ, ◌+◌, ◌-◌, ◌^◌, ◌<◌, min, Contains, bytes_eq, ◌&&◌, Bool, true, false, List, [], ◌∷◌, length, map, slice_index_or, Option, Some, None, if◌then◌else◌}
 use Rattle.std.specs.Option.{option_map}
 use Rattle.jb_disk.specs.Memory.{Recording, device_of}
 use Rattle.jb_host.specs.declared.memory_host.DiskCall.{DiskCall}
@@ -30,12 +30,20 @@ IsAt shelves dir name (Some k) =
     (k < length shelves) × ((d : Shelf) → is_for dir name (slice_index_or shelves k d) ≡ true)
     × ((j : ℕ) (d : Shelf) → j < k → is_for dir name (slice_index_or shelves j d) ≡ false)
 
+-- the disks of a host in memory
+abbrev pub standing : MemHost → Disks
+standing host = shelved host.shelves.items
+
+-- the host was told to fail the call for a disk that comes next
+abbrev pub FailsNext : MemHost → Type 0
+FailsNext host = Contains host.failing.items (min (host.asked + 1) (2 ^ 64 - 1))
+
 -- a host in memory, which tells all
 abbrev pub memory_desk : MemHost → Desk
 memory_desk host = record {
   faults = host.faults;
   calls = Some (map (λ (call : DiskCall). asked_disk call.dir call.name) host.calls.items);
-  disks = Some (shelved host.shelves.items);
+  disks = Some (standing host);
   console = option_map memory_wire host.console;
 }
 

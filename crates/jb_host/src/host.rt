@@ -1,5 +1,5 @@
 //! The trait of a host.
-ghost use Rattle.std.specs.Prelude.{◌≡◌, Some, None, IsSome, IfOk, IfErr};
+ghost use Rattle.std.specs.Prelude.{◌≡◌, Some, None, IsErr, IsSome, IfOk, IfErr};
 ghost use Rattle.jb_disk.specs.Device.{Device};
 ghost use Rattle.jb_host.specs.Desk.{Desk, GivesDisk, KeepsDisks, TakesBack};
 
@@ -24,10 +24,14 @@ pub trait Host {
     /// Its count of faults, its console while that is not out, and where it tells them its calls and its disks.
     ghost desk: { Self → Desk };
 
+    /// The call for a disk that comes next is one that it was told to fail, as a host in memory is for a test.
+    ghost fails_next: { Self → Type 0 } = { λ _. ⊥ };
+
     /// The disk of the base with this name in this folder.
     fn disk(&mut self, dir: &str, name: &str) -> Result<Self::Disk, HostError>
         ensures ok { IfOk result (λ disk. GivesDisk dir.now name.now (Self.Disk.device disk) (desk self.old) (desk self.new)) }
-        ensures err { IfErr result (λ error. KeepsDisks dir.now name.now error (desk self.old) (desk self.new)) };
+        ensures err { IfErr result (λ error. KeepsDisks dir.now name.now error (desk self.old) (desk self.new)) }
+        ensures listed { fails_next self.old → IsErr result };
 
     /// Takes a disk back that was handed out for this folder and name.
     fn put_back(&mut self, dir: &str, name: &str, disk: Self::Disk)

@@ -1,5 +1,5 @@
 //! The trait of a link.
-ghost use Rattle.std.specs.Prelude.{◌≡◌, ◌<◌, ◌≤◌, ℕ, List, [], Option, Ok, IfOk, OnErr, length, take};
+ghost use Rattle.std.specs.Prelude.{◌≡◌, ◌<◌, ◌≤◌, ℕ, List, [], Option, Ok, IsErr, IfOk, OnOk, OnErr, length, take};
 ghost use Rattle.std.specs.Option.{ForSome};
 ghost use Rattle.jb_base.specs.Fault.{HasCause, Rose};
 ghost use Rattle.jb_host.specs.Wire.{Wire, Takes, Sends};
@@ -12,6 +12,9 @@ pub struct LinkFailed;
 pub trait Link {
     /// Its counts, and where it tells them the bytes to come and those sent.
     ghost wire: { Self → Wire };
+
+    /// The call that comes next is one that it was told to fail, as a link in memory is for a test.
+    ghost fails_next: { Self → Type 0 } = { λ _. ⊥ };
 
     /// Takes some bytes, at most as many as the slice holds, and answers how many. Into a slice that is not empty it gives
     /// 0 only at the end of input.
@@ -26,6 +29,7 @@ pub trait Link {
         ensures quiet { (result ≡ Ok 0 → 0 < length into.old → ⊥) → (wire self.new).ends ≡ (wire self.old).ends }
         ensures sent { (wire self.new).sent ≡ (wire self.old).sent }
         ensures unsent { (wire self.new).unsent ≡ (wire self.old).unsent }
+        ensures listed { fails_next self.old → IsErr result }
         ensures cause { HasCause (wire self.old).faults (wire self.new).faults result };
 
     /// Sends some of the bytes, and answers how many: at least one of a slice that is not empty.
@@ -39,5 +43,7 @@ pub trait Link {
         ensures to_come { (wire self.new).to_come ≡ (wire self.old).to_come }
         ensures ends { (wire self.new).ends ≡ (wire self.old).ends }
         ensures unsent { HasCause (wire self.old).unsent (wire self.new).unsent result }
+        ensures quiet { OnOk result ((wire self.new).unsent ≡ (wire self.old).unsent) }
+        ensures listed { fails_next self.old → IsErr result }
         ensures cause { HasCause (wire self.old).faults (wire self.new).faults result };
 }

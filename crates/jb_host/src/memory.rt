@@ -1,5 +1,5 @@
 //! A link in memory.
-ghost use Rattle.std.specs.Prelude.{◌≡◌, ◌+◌, ◌-◌, ◌<◌, ◌≤◌, ◌++◌, ◌∷◌, [], List, ℕ, Option, None, Some, length, take, drop, slice_range};
+ghost use Rattle.std.specs.Prelude.{◌≡◌, IsTrue, ◌+◌, ◌-◌, ◌<◌, ◌≤◌, ◌++◌, ◌∷◌, [], List, ℕ, Option, None, Some, length, take, drop, slice_range};
 
 use crate::link::{Link, LinkFailed};
 use jb_base::Bytes;
@@ -33,11 +33,13 @@ fn fill(into: &mut [u8], from: &[u8]) -> usize
 }
 
 impl MemLink {
-    ghost use Rattle.jb_host.specs.Memory.{memory_wire, fresh_wire};
+    ghost use Rattle.jb_host.specs.Memory.{FailsNext, memory_wire, fresh_wire};
 
     /// A link on which these bytes come, and which fails the calls with these numbers.
     pub fn new(alloc: Global, input: Bytes, failing: Vec<u64>) -> MemLink
-        ensures { memory_wire result ≡ fresh_wire input }
+        ensures fresh { memory_wire result ≡ fresh_wire input }
+        ensures told { result.failing ≡ failing }
+        ensures none { result.calls ≡ 0 }
     {
         MemLink {
             input,
@@ -60,6 +62,7 @@ impl MemLink {
 
     /// Whether this call is one that fails.
     fn fails(&mut self) -> bool
+        ensures listed { FailsNext self.old → IsTrue result }
         ensures input { self.new.input ≡ self.old.input }
         ensures at { self.new.at ≡ self.old.at }
         ensures output { self.new.output ≡ self.old.output }
@@ -74,9 +77,11 @@ impl MemLink {
 }
 
 impl Link for MemLink {
-    ghost use Rattle.jb_host.specs.Memory.{memory_wire};
+    ghost use Rattle.jb_host.specs.Memory.{FailsNext, memory_wire};
 
     ghost wire = { memory_wire };
+
+    ghost fails_next = { FailsNext };
 
     fn read(&mut self, into: &mut [u8]) -> Result<usize, LinkFailed> {
         if self.fails() {

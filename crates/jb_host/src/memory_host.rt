@@ -1,9 +1,10 @@
 //! A host in memory.
-ghost use Rattle.std.specs.Prelude.{◌≡◌, ◌<◌, ◌≤◌, ℕ, Some, None, true, false, IfOk, IfErr, IfSome, IfNone, OnOk, OnErr, bytes_eq, ◌&&◌, ◌++◌, ◌∷◌, length, slice_index_or};
-ghost use Rattle.std.specs.Option.{ForSome};
+ghost use Rattle.std.specs.Prelude.{◌≡◌, ◌≢◌, ◌<◌, ◌≤◌, ℕ, Some, None, true, false, IfOk, IfErr, IfSome, IfNone, OnOk, OnErr, bytes_eq, ◌&&◌, ◌++◌, ◌∷◌, length, slice_index_or};
+ghost use Rattle.std.specs.Option.{ForSome, option_map};
 ghost use Rattle.jb_base.specs.Fault.{Rose};
+ghost use Rattle.jb_disk.specs.Device.{Device};
 ghost use Rattle.jb_disk.specs.Memory.{device_of};
-ghost use Rattle.jb_host.specs.Desk.{handed_out, has_disk, with_place};
+ghost use Rattle.jb_host.specs.Desk.{handed_out, has_disk, with_behind, with_place};
 ghost use Rattle.jb_host.specs.Shelves.{IsAt, shelved};
 
 use crate::host::{Host, HostError};
@@ -88,13 +89,15 @@ fn put_on(shelves: &mut Vec<Shelf>, dir: &[u8], name: &[u8], disk: MemDisk)
 }
 
 impl MemHost {
-    ghost use Rattle.jb_host.specs.Shelves.{memory_desk, empty_desk};
+    ghost use Rattle.jb_host.specs.Shelves.{memory_desk, empty_desk, standing};
     ghost use Rattle.jb_host.specs.Memory.{memory_wire};
     ghost use Rattle.jb_host.specs.Desk.{and_call, asked_disk};
 
     /// A host with this console and no disk, which fails the calls for a disk with these numbers.
     pub fn new(alloc: Global, console: MemLink, failing: Vec<u64>) -> MemHost
-        ensures { memory_desk result ≡ empty_desk (memory_wire console) }
+        ensures fresh { memory_desk result ≡ empty_desk (memory_wire console) }
+        ensures told { result.failing ≡ failing }
+        ensures none { result.asked ≡ 0 }
     {
         MemHost {
             alloc,
@@ -109,6 +112,10 @@ impl MemHost {
 
     /// Adds the disk of a base, behind those that are there.
     pub fn add_disk(&mut self, dir: &str, name: &str, disk: MemDisk) -> Result<(), OutOfMemory>
+        ensures ok { OnOk result (memory_desk self.new ≡ record (memory_desk self.old) {
+          disks = Some (with_behind dir.now name.now (has_disk (device_of disk)) (standing self.old));
+        }) }
+        ensures err { OnErr result (memory_desk self.new ≡ memory_desk self.old) }
         ensures kept { self.new.console ≡ self.old.console }
     {
         let shelf = Shelf {
@@ -121,12 +128,18 @@ impl MemHost {
     }
 
     /// The console, while it is not out.
-    pub fn console_link(&self) -> Option<&MemLink> {
+    pub fn console_link(&self) -> Option<&MemLink>
+        ensures found { IfSome result (λ link. (memory_desk self.now).console ≡ Some (memory_wire link.now)) }
+        ensures none { IfNone result ((memory_desk self.now).console ≡ None) }
+    {
         self.console.as_ref()
     }
 
     /// The disk of a base, while it is not out.
-    pub fn disk_at(&self, dir: &str, name: &str) -> Option<&MemDisk> {
+    pub fn disk_at(&self, dir: &str, name: &str) -> Option<&MemDisk>
+        ensures found { IfSome result (λ disk. standing self.now dir.now name.now ≡ has_disk (device_of disk.now)) }
+        ensures none { IfNone result ((device : Device) → standing self.now dir.now name.now ≢ has_disk device) }
+    {
         let k = shelf_at(self.shelves.as_slice(), dir.as_bytes(), name.as_bytes())?;
         self.shelves[k].disk.as_ref()
     }
@@ -138,6 +151,8 @@ impl MemHost {
         ensures console { self.new.console ≡ self.old.console }
         ensures shelves { self.new.shelves ≡ self.old.shelves }
         ensures faults { self.new.faults ≡ self.old.faults }
+        ensures asked { self.new.asked ≡ self.old.asked }
+        ensures failing { self.new.failing ≡ self.old.failing }
     {
         let Ok(dir) = Bytes::copy(self.alloc, dir.as_bytes()) else {
             return Err(HostError::OutOfMemory);
@@ -169,9 +184,11 @@ impl Host for MemHost {
 
     type Link = MemLink;
 
-    ghost use Rattle.jb_host.specs.Shelves.{memory_desk};
+    ghost use Rattle.jb_host.specs.Shelves.{FailsNext, memory_desk};
 
     ghost desk = { memory_desk };
+
+    ghost fails_next = { FailsNext };
 
     fn disk(&mut self, dir: &str, name: &str) -> Result<MemDisk, HostError> {
         self.note(dir, name)?;

@@ -18,6 +18,6 @@ loop-at-preserved g c =
       rw (← take_then c.loop-at.at c.in_ok-at.field-0 c.args.bytes.now small) (sends_more _ _ _ _ _ c.loop-at.invariant.1 c.in_ok-at.ensures.sent),
       c.in_ok-at.ensures.to_come ∙ c.loop-at.invariant.2,
       c.in_ok-at.ensures.ends ∙ c.loop-at.invariant.3,
-      omega (arith, c.loop-at.invariant.4, c.in_ok-at.ensures.unsent.later),
+      c.in_ok-at.ensures.quiet ∙ c.loop-at.invariant.4,
       omega (arith, c.loop-at.invariant.5, c.in_ok-at.ensures.cause.later),
     )

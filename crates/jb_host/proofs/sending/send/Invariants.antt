@@ -8,7 +8,7 @@ invariant-loop-at g l =
     × Sends (g.L.Link.wire l.initial.link).sent (take l.at l.bytes) (g.L.Link.wire l.link).sent
     × ((g.L.Link.wire l.link).to_come ≡ (g.L.Link.wire l.initial.link).to_come)
     × ((g.L.Link.wire l.link).ends ≡ (g.L.Link.wire l.initial.link).ends)
-    × ((g.L.Link.wire l.initial.link).unsent ≤ (g.L.Link.wire l.link).unsent)
+    × ((g.L.Link.wire l.link).unsent ≡ (g.L.Link.wire l.initial.link).unsent)
     × ((g.L.Link.wire l.initial.link).faults ≤ (g.L.Link.wire l.link).faults)
 
 abbrev pub decreases-loop-at : goal.decreases-loop-at
