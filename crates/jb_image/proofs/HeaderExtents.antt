@@ -125,14 +125,14 @@ later_refused files base count slots (Some damage) error base_is count_is are wh
     (first_damaged files base (base + length slots) (length slots) damage base_is refl (omega (arith, part)) whole here))
 
 -- a byte that a loaded slot covers is one of the extent that was seen
-covers_held : (texts_len : ℕ) (slot : SeenSlot) (made : LoadedSlot) (i : ℕ) → IsLoadedFrom texts_len slot made → Covers made i → Holds (extent_seen slot) i
+pub covers_held : (texts_len : ℕ) (slot : SeenSlot) (made : LoadedSlot) (i : ℕ) → IsLoadedFrom texts_len slot made → Covers made i → Holds (extent_seen slot) i
 covers_held texts_len seen.Empty loaded.Empty i is covers = absurd covers
 covers_held texts_len (seen.Killed header_at) (loaded.Killed loaded_at) i is covers = (omega (arith, is, covers.0), omega (arith, is, covers.1))
 covers_held texts_len (seen.Live message) (loaded.Live letter) i is covers = (omega (arith, is.0, covers.0), omega (arith, is.0, is.2, covers.1))
 covers_held texts_len _ _ i is covers = absurd is
 
 -- a slot that is loaded lies where it was seen
-within_loaded : (headers_len texts_len : ℕ) (slot : SeenSlot) (made : LoadedSlot) → IsSeenWithin headers_len slot → IsLoadedFrom texts_len slot made → IsSlotWithin headers_len texts_len made
+pub within_loaded : (headers_len texts_len : ℕ) (slot : SeenSlot) (made : LoadedSlot) → IsSeenWithin headers_len slot → IsLoadedFrom texts_len slot made → IsSlotWithin headers_len texts_len made
 within_loaded headers_len texts_len seen.Empty loaded.Empty within is = tt
 within_loaded headers_len texts_len (seen.Killed header_at) (loaded.Killed loaded_at) within is =
     let inside = within.inside in

@@ -5,6 +5,7 @@ pub mod Once
 pub mod Opened
 pub mod Refusals
 pub mod FileBytes
+pub mod RisingSoFar
 pub mod SlotsSoFar
 pub mod Theorems
 pub mod WindowLemmas

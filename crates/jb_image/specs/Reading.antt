@@ -5,7 +5,7 @@ use Rattle.jb_base.specs.declared.subfield.Subfield.{Subfield}
 use Rattle.jb_base.specs.Subfields.{IsCutAt, IsSubfieldList, subfield_bytes}
 use Rattle.jb_disk.specs.Files.{Files}
 use Rattle.jb_disk.specs.declared.file.FileId.TheVariants.{Jhr}
-use Rattle.jb_extent.specs.Extents.{IsFirstOverlap}
+use Rattle.jb_extent.specs.Extents.{Holds, IsFirstOverlap}
 use Rattle.jb_extent.specs.declared.extent.Extent.{Extent}
 use Rattle.jb_extent.specs.declared.overlap.Overlap.{Overlap}
 use Rattle.jb_model.specs.declared.loaded.LoadedSlot.{LoadedSlot}
@@ -42,6 +42,12 @@ abbrev pub extent_seen : SeenSlot → Extent
 extent_seen seen.Empty = record { start = 0; len = 0 }
 extent_seen (seen.Killed header_at) = record { start = header_at; len = 76 }
 extent_seen (seen.Live message) = record { start = message.header_at; len = 76 + message.header.subfields }
+
+-- headers that end here end there with these bytes, none of which lies before them
+pub record IsEndBehind (extent : Extent) (end behind : ℕ) : Type 0 where
+  pub later : end ≤ behind
+  pub begin : (i : ℕ) → Holds extent i → end ≤ i
+  pub below : (i : ℕ) → Holds extent i → i < behind
 
 -- the index record names this killed header
 pub record IsSeenKilled (files : Files) (entry : IndexRecord) (header_at : ℕ) : Type 0 where

@@ -8,28 +8,33 @@ ghost use Rattle.jb_image.specs.Answers.{IsRefusedBy, OpenFaultRose};
 ghost use Rattle.jb_image.specs.Lengths.{AreLengths};
 ghost use Rattle.jb_image.specs.Places.{bytes_at, fixed_in};
 ghost use Rattle.jb_image.specs.Reading.{IsCount, IsMiscounted};
+ghost use Rattle.jb_image.specs.Windows.{IsWindowOn};
 
 use crate::OpenError;
 use crate::lengths::Lengths;
+use crate::window::Window;
 use jb_base::LASTREAD_CEILING;
-use jb_disk::{Disk, FileId};
+use jb_disk::Disk;
 use jb_record::{
     FIXED_HEADER_BYTES, FixedHeader, INDEX_RECORD_BYTES, MARK_RECORD_BYTES, decode_fixed,
 };
 
-/// The fixed header. One device read.
+/// The fixed header, by a window on .JHR. At most one device read.
 pub(crate) fn read_fixed<D: Disk>(
     disk: &mut D,
+    window: &mut Window,
     lengths: &Lengths,
     limit: u32,
 ) -> Result<FixedHeader, OpenError>
     requires lengths { ForSome (D.device disk.old).contents (AreLengths lengths.now) }
+    requires window { IsWindowOn headers_file lengths.now.headers (D.device disk.old).contents window.old }
     ensures base { IfOk result (λ fixed. 1 ≤ fixed.base) }
     ensures long { IfOk result (λ _. 1024 ≤ lengths.now.headers) }
     ensures found { IfOk result (λ fixed. ForSome (D.device disk.old).contents (λ files.
         IsFixedHeader (bytes_at 0 1024 (files headers_file)) × (fixed ≡ fixed_in files))) }
     ensures refused { IfErr result (λ error. ForSome (D.device disk.old).contents (λ files.
         IsRefusedBy limit files error)) }
+    ensures window { IsWindowOn headers_file lengths.now.headers (D.device disk.new).contents window.new }
     ensures kept { OnlyReads (D.device disk.old) (D.device disk.new) }
     ensures quiet { OnOk result ((D.device disk.new).faults ≡ (D.device disk.old).faults) }
     ensures later { (D.device disk.old).faults ≤ (D.device disk.new).faults }
@@ -38,9 +43,8 @@ pub(crate) fn read_fixed<D: Disk>(
     if lengths.headers < FIXED_HEADER_BYTES as u64 {
         return Err(OpenError::ShortHeader);
     }
-    let mut bytes = [0; FIXED_HEADER_BYTES];
-    disk.read_at(FileId::Jhr, 0, &mut bytes)?;
-    let Some(fixed) = decode_fixed(&bytes) else {
+    window.reach(disk, 0, FIXED_HEADER_BYTES)?;
+    let Some(fixed) = decode_fixed(window.view(0, FIXED_HEADER_BYTES)) else {
         return Err(OpenError::BadSignature);
     };
     if fixed.base == 0 {

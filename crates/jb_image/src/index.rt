@@ -19,7 +19,7 @@ use jb_record::{INDEX_RECORD_BYTES, IndexRecord, decode_index};
 use std::alloc::Global;
 
 /// The index record at a place, counted in records, by a window on .JDX.
-fn read_entry<D: Disk>(
+pub(crate) fn read_entry<D: Disk>(
     disk: &mut D,
     index: &mut Window,
     index_len: u64,

@@ -18,6 +18,7 @@ mod message;
 mod opening;
 mod overlap;
 mod place;
+mod rising;
 mod seen;
 mod window;
 

@@ -2,6 +2,7 @@
 ghost use Rattle.std.specs.Prelude.{◌≡◌, ◌+◌, ◌*◌, ◌≤◌, ℕ, IfOk, IfErr, IfSome, IfNone, All, AllPairs, length, map, OnOk};
 ghost use Rattle.std.specs.Option.{ForSome};
 ghost use Rattle.jb_disk.specs.Device.{OnlyReads};
+ghost use Rattle.jb_disk.specs.declared.file.FileId.TheVariants.{Jhr as headers_file};
 ghost use Rattle.jb_extent.specs.Extents.{AreDisjoint};
 ghost use Rattle.jb_model.specs.Sound.{IsSound, IsSlotWithin, AreApart};
 ghost use Rattle.jb_image.specs.Answers.{AnswersFor, FaultRose, IsRefusedBy, OpenFaultRose, OpensTo};
@@ -10,6 +11,7 @@ ghost use Rattle.jb_image.specs.Lengths.{AreLengths};
 ghost use Rattle.jb_image.specs.Places.{entry_in, fixed_in};
 ghost use Rattle.jb_image.specs.Reading.{AreSeen, AreSlotsOf, IsLaterRefusal, IsRefusedAmongSlots, extent_seen};
 ghost use Rattle.jb_image.specs.Stands.{fixed_of};
+ghost use Rattle.jb_image.specs.Windows.{IsWindowOn};
 
 use crate::OpenError;
 use crate::error::ReadError;
@@ -19,6 +21,7 @@ use crate::lengths::Lengths;
 use crate::loading::{load_slots, test_slots};
 use crate::marks::read_marks;
 use crate::overlap::overlap_of;
+use crate::rising::load_rising;
 use crate::window::Window;
 use jb_base::OutOfMemory;
 use jb_disk::{Disk, FileId};
@@ -48,13 +51,15 @@ fn later_refusal(alloc: Global, seen: &Seen, base: u32) -> Result<Option<OpenErr
     }
 }
 
-/// The slots that the index names, with the subfields of the live messages; or the first test of a slot that fails.
+/// The slots that the index names, in whatever order their headers stand, with the subfields of the live messages; or the
+/// first test of a slot that fails.
 ///
 /// Where a test fails nothing is kept of the slots before it, so that a base that names one long header again and again
 /// is refused in little memory.
-fn read_slots<D: Disk>(
+fn read_mixed_slots<D: Disk>(
     alloc: Global,
     disk: &mut D,
+    window: &mut Window,
     lengths: &Lengths,
     base: u32,
     count: u32,
@@ -62,6 +67,7 @@ fn read_slots<D: Disk>(
     requires all { lengths.now.index ≡ 8 * count }
     requires numbers { base + count ≤ 4_294_967_295 }
     requires lengths { ForSome (D.device disk.old).contents (AreLengths lengths.now) }
+    requires window { IsWindowOn headers_file lengths.now.headers (D.device disk.old).contents window.old }
     requires base { ForSome (D.device disk.old).contents (λ files. base ≡ (fixed_in files).base) }
 
     // The slots.
@@ -78,15 +84,50 @@ fn read_slots<D: Disk>(
     ensures later { (D.device disk.old).faults ≤ (D.device disk.new).faults }
     ensures cause { IfErr result (OpenFaultRose (D.device disk.old).faults (D.device disk.new).faults) }
 {
-    let mut window = Window::new(alloc, FileId::Jhr, lengths.headers);
-    let seen = see_slots(alloc, disk, &mut window, lengths, count as usize)?;
+    let seen = see_slots(alloc, disk, window, lengths, count as usize)?;
     let slots = seen.slots.as_slice();
     match later_refusal(alloc, &seen, base)? {
         Some(later) => {
-            test_slots(alloc, disk, &mut window, slots, lengths, base)?;
+            test_slots(alloc, disk, window, slots, lengths, base)?;
             Err(later)
         }
-        None => load_slots(alloc, disk, &mut window, slots, lengths, base),
+        None => load_slots(alloc, disk, window, slots, lengths, base),
+    }
+}
+
+/// The slots that the index names, with the subfields of the live messages; or the first test of a slot that fails. Where
+/// the headers stand in the order of the index, each part of .JHR is read once.
+fn read_slots<D: Disk>(
+    alloc: Global,
+    disk: &mut D,
+    window: &mut Window,
+    lengths: &Lengths,
+    base: u32,
+    count: u32,
+) -> Result<LoadedSlots, OpenError>
+    requires all { lengths.now.index ≡ 8 * count }
+    requires numbers { base + count ≤ 4_294_967_295 }
+    requires lengths { ForSome (D.device disk.old).contents (AreLengths lengths.now) }
+    requires window { IsWindowOn headers_file lengths.now.headers (D.device disk.old).contents window.old }
+    requires base { ForSome (D.device disk.old).contents (λ files. base ≡ (fixed_in files).base) }
+
+    // The slots.
+    ensures count_is { IfOk result (λ slots. length slots ≡ count) }
+    ensures within { IfOk result (All (IsSlotWithin lengths.now.headers lengths.now.texts)) }
+    ensures apart { IfOk result (AllPairs AreApart) }
+    ensures named { IfOk result (λ slots. ForSome (D.device disk.old).contents (λ files. AreSlotsOf files slots)) }
+    ensures refused { IfErr result (λ error. ForSome (D.device disk.old).contents (λ files.
+        IsRefusedAmongSlots files error)) }
+
+    // The disk is only read.
+    ensures kept { OnlyReads (D.device disk.old) (D.device disk.new) }
+    ensures quiet { OnOk result ((D.device disk.new).faults ≡ (D.device disk.old).faults) }
+    ensures later { (D.device disk.old).faults ≤ (D.device disk.new).faults }
+    ensures cause { IfErr result (OpenFaultRose (D.device disk.old).faults (D.device disk.new).faults) }
+{
+    match load_rising(alloc, disk, window, lengths, base, count)? {
+        Some(slots) => Ok(slots),
+        None => read_mixed_slots(alloc, disk, window, lengths, base, count),
     }
 }
 
@@ -136,9 +177,10 @@ fn read_area<D: Disk>(
     ensures later { (D.device disk.old).faults ≤ (D.device disk.new).faults }
     ensures cause { IfErr result (OpenFaultRose (D.device disk.old).faults (D.device disk.new).faults) }
 {
-    let fixed = read_fixed(disk, lengths, limit)?;
+    let mut window = Window::new(alloc, FileId::Jhr, lengths.headers);
+    let fixed = read_fixed(disk, &mut window, lengths, limit)?;
     let count = count_slots(&fixed, lengths, limit)?;
-    let slots = read_slots(alloc, disk, lengths, fixed.base, count)?;
+    let slots = read_slots(alloc, disk, &mut window, lengths, fixed.base, count)?;
     let marks = read_marks(alloc, disk, lengths.lastread)?;
     Ok(loaded_of(&fixed, lengths, slots, marks))
 }

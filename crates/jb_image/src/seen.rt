@@ -1,7 +1,7 @@
 //! What is kept of a slot from the first look at its header.
 
-ghost use Rattle.std.specs.Prelude.{◌≡◌};
-ghost use Rattle.jb_image.specs.Reading.{extent_seen};
+ghost use Rattle.std.specs.Prelude.{◌≡◌, IfSome};
+ghost use Rattle.jb_image.specs.Reading.{IsEndBehind, extent_seen};
 
 use jb_extent::Extent;
 use jb_record::{MESSAGE_HEADER_BYTES, MessageHeader};
@@ -39,5 +39,23 @@ impl SeenSlot {
                 len: MESSAGE_HEADER_BYTES as u64 + message.header.subfields as u64,
             },
         }
+    }
+
+    /// Where the headers end with this one behind those that end here, or nothing where it begins before that.
+    pub(crate) fn end_behind(&self, end: u64) -> Option<u64>
+        ensures { IfSome result (IsEndBehind (extent_seen self.now) end) }
+    {
+        let (begin, len) = match self {
+            SeenSlot::Empty => return Some(end),
+            SeenSlot::Killed { header_at } => (*header_at as u64, MESSAGE_HEADER_BYTES as u64),
+            SeenSlot::Live(message) => (
+                message.header_at as u64,
+                MESSAGE_HEADER_BYTES as u64 + message.header.subfields as u64,
+            ),
+        };
+        if begin < end {
+            return None;
+        }
+        Some(begin + len)
     }
 }

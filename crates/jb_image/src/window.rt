@@ -23,7 +23,7 @@ const MOST_LOOKS: usize = WINDOW_BYTES / BYTES_A_LOOK;
 /// A look that the window holds reads nothing. The first window is a whole one; each later one has 4,096 bytes for each
 /// look that the one before it answered, at most 65,536, or the bytes that are asked for where these are more. So where
 /// records stand in order, rising or falling, each read takes a whole window; and in whatever order they stand no more is
-/// read than 4,096 bytes a look beside what is asked for.
+/// read than 65,536 bytes, 4,096 a look and what is asked for.
 #[derive(Debug, Drop)]
 pub(crate) struct Window {
     file: FileId,
@@ -69,7 +69,7 @@ impl Window {
     }
 
     /// The bytes that the next window reads, so that it holds these. Where they lie less than a window before this one,
-    /// they are the last of them, else the first.
+    /// they are the last of them, else the first. Near the end of the file it begins earlier, so that it is no smaller.
     fn next(&self, at: u64, len: usize) -> Range
         requires { at + len ≤ self.now.file_len }
         ensures from { result.at ≤ at }
@@ -78,18 +78,21 @@ impl Window {
     {
         let file_len = self.file_len;
         let size = len.max(self.looks.min(MOST_LOOKS) * BYTES_A_LOOK) as u64;
-        if at < self.at && self.at - at <= size {
-            let end = at + len as u64;
-            let begin = end.saturating_sub(size);
+        if file_len <= size {
             return Range {
-                at: begin,
-                len: (end - begin) as usize,
+                at: 0,
+                len: file_len as usize,
             };
         }
-        let rest = file_len - at;
+        let last = file_len - size;
+        let begin = if at < self.at && self.at - at <= size {
+            (at + len as u64).saturating_sub(size)
+        } else {
+            at
+        };
         Range {
-            at,
-            len: rest.min(size) as usize,
+            at: begin.min(last),
+            len: size as usize,
         }
     }
 
