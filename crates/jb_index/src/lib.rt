@@ -19,8 +19,10 @@ mod index;
 mod laws;
 mod listing;
 mod making;
+mod parents;
 mod shown;
 mod threads;
 
 pub use index::Index;
 pub use laws::answers_of_the_area;
+pub use parents::parents_of;
