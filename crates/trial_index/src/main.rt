@@ -1,0 +1,85 @@
+//! Trials of the answers of an index: areas that rows build, and what users ask of them.
+//!
+//! A row speaks of what the rows before it made: of the last area, of its levels, and of the last user. Each question makes
+//! the index of the area as it then is.
+#![tactic(auto)]
+
+mod answers;
+mod area;
+mod message;
+
+use area::SoundArea;
+use jb_base::{Name, OutOfMemory, User};
+use std::alloc::Global;
+use std::io;
+use trial_rows::{Answers, Row, RowError};
+
+/// What the rows so far have made.
+#[derive(Drop)]
+struct Trial {
+    area: SoundArea,
+    read: u8,
+    sysop: u8,
+    user: User,
+}
+
+impl Trial {
+    /// An area without a message, and a user without a name.
+    fn new(alloc: Global) -> Result<Trial, OutOfMemory> {
+        let name = Name::copy(alloc, &[])?;
+        Ok(Trial {
+            area: SoundArea::new(alloc, 1)?,
+            read: 0,
+            sysop: 255,
+            user: User {
+                name,
+                id: 0,
+                level: 0,
+            },
+        })
+    }
+
+    /// `levels READ SYSOP`: the levels that the area asks for.
+    fn set_levels(&mut self, alloc: Global, row: &Row) -> Result<String, RowError> {
+        self.read = level(row, 1)?;
+        self.sysop = level(row, 2)?;
+        Ok(String::from_str(alloc, "levels")?)
+    }
+
+    /// `user NAME ID LEVEL`: who asks.
+    fn set_user(&mut self, alloc: Global, row: &Row) -> Result<String, RowError> {
+        let (id, level) = (row.u32(2)?, level(row, 3)?);
+        let name = row.name(alloc, 1)?;
+        self.user = User { name, id, level };
+        Ok(String::from_str(alloc, "user")?)
+    }
+}
+
+/// The level at this place of a row.
+fn level(row: &Row, place: usize) -> Result<u8, RowError> {
+    match u8::try_from(row.number(place)?) {
+        Ok(level) => Ok(level),
+        Err(_) => Err(RowError::Number(place)),
+    }
+}
+
+impl Answers for Trial {
+    fn answer(&mut self, alloc: Global, row: &Row) -> Result<String, RowError> {
+        match row.word(0)? {
+            "levels" => self.set_levels(alloc, row),
+            "user" => self.set_user(alloc, row),
+            "area" | "live" | "chain" | "kill" | "mark" => area::answer(alloc, &mut self.area, row),
+            _ => {
+                let index = self.area.index(alloc, self.read, self.sysop)?;
+                answers::answer(alloc, &index, &self.user, row)
+            }
+        }
+    }
+}
+
+fn main(rt: HostRuntime) -> io::Result<()> {
+    match Trial::new(rt.alloc()) {
+        Ok(mut trial) => trial_rows::run(&rt, &mut trial),
+        Err(OutOfMemory) => println!(rt; "out of memory"),
+    }
+}
