@@ -1,5 +1,5 @@
 -- A sound area stays sound with one more message or mark, and without a message.
-use Rattle.std.proofs.Common.{◌≡◌, ℕ, ◌+◌, ◌^◌, ◌-◌, ◌≤◌, ◌<◌, inl, true, nat_lt, List, [], ◌∷◌, ◌++◌, Some, get_or, length, min, slice_get, sym, ◌∙◌, ap, subst, arith}
+use Rattle.std.proofs.Common.{◌≡◌, ℕ, ◌+◌, ◌^◌, ◌-◌, ◌<◌, inl, true, nat_lt, List, [], ◌∷◌, ◌++◌, Some, get_or, length, min, slice_get, sym, ◌∙◌, ap, subst, arith}
 use Rattle.std.proofs.lemmas.Bool.{ltb-true}
 use Rattle.std.proofs.lemmas.Option.{slice_get-get_or}
 use Rattle.std.specs.Prelude.{slice_set}
