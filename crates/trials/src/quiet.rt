@@ -36,6 +36,54 @@ fn without(holes: Holes, file: FileId, at: u64) -> u64
     at.saturating_sub(hole_before(holes, file, at))
 }
 
+// Dead bytes of a file: where they begin, and how many they are.
+#[derive(Clone, Copy)]
+struct Dead {
+    begin: u64,
+    len: u64,
+}
+
+// The dead bytes of a file.
+fn dead_bytes(holes: Holes, file: FileId) -> Dead {
+    match file {
+        FileId::Jhr => Dead {
+            begin: 1_024,
+            len: holes.headers,
+        },
+        FileId::Jdt => Dead {
+            begin: 0,
+            len: holes.texts,
+        },
+        _ => Dead { begin: 0, len: 0 },
+    }
+}
+
+// Reads what lies before the dead bytes and behind them, and zeros for them.
+fn read_around(
+    disk: &mut MemDisk,
+    dead: Dead,
+    file: FileId,
+    at: u64,
+    into: &mut [u8],
+) -> Result<(), DiskFailed> {
+    if dead.len == 0 {
+        return disk.read_at(file, at, into);
+    }
+    let len = into.len();
+    let end = dead.begin.saturating_add(dead.len);
+    let before = (dead.begin.saturating_sub(at) as usize).min(len);
+    let behind = (at.saturating_add(len as u64).saturating_sub(end) as usize).min(len);
+    into.fill(0);
+    if before > 0 {
+        disk.read_at(file, at, &mut into[..before])?;
+    }
+    if behind > 0 {
+        let from = at.max(end).saturating_sub(dead.len);
+        disk.read_at(file, from, &mut into[len - behind..])?;
+    }
+    Ok(())
+}
+
 /// Files in memory that tell nothing. Contracts see only how often the disk has failed.
 #[derive(Drop)]
 pub(crate) struct Quiet {
@@ -106,7 +154,7 @@ impl Disk for Quiet {
     }
 
     fn read_at(&mut self, file: FileId, at: u64, into: &mut [u8]) -> Result<(), DiskFailed> {
-        match self.disk.read_at(file, without(self.holes, file, at), into) {
+        match read_around(&mut self.disk, dead_bytes(self.holes, file), file, at, into) {
             Ok(()) => Ok(()),
             Err(failed) => {
                 self.faults = self.faults.saturating_add(1);
