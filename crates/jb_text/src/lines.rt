@@ -1,5 +1,5 @@
 //! The lines of a session, but for messages, replies and faults.
-ghost use Rattle.std.specs.Prelude.{◌≡◌, IfOk};
+ghost use Rattle.std.specs.Prelude.{◌≡◌, ◌++◌, IfOk, OnOk};
 ghost use Rattle.jb_text.specs.Fixed.{fixed_text};
 ghost use Rattle.jb_text.specs.Lines.{area_line_text, figures_text, listing_text, prompt_text, replying_text, start_text, welcome_text};
 
@@ -108,6 +108,26 @@ pub fn replying(alloc: Global, from: &[u8], subject: &[u8]) -> Result<Bytes, Out
     Ok(text)
 }
 
+/// Puts a message in a list behind a text: its number right in 8 places, sender, receiver and subject.
+pub fn append_listing(
+    text: &mut Bytes,
+    number: u32,
+    from: &[u8],
+    to: &[u8],
+    subject: &[u8],
+) -> Result<(), OutOfMemory>
+    ensures { OnOk result (text.new ≡ text.old ++ listing_text number from.now to.now subject.now) }
+{
+    append_right(text, 8, u64::from(number))?;
+    text.append(b"  ")?;
+    append_shown(text, from)?;
+    text.append(b" > ")?;
+    append_shown(text, to)?;
+    text.append(b"  ")?;
+    append_shown(text, subject)?;
+    Ok(())
+}
+
 /// A message in a list: its number right in 8 places, sender, receiver and subject.
 pub fn listing(
     alloc: Global,
@@ -119,12 +139,6 @@ pub fn listing(
     ensures { IfOk result (λ text. text ≡ listing_text number from.now to.now subject.now) }
 {
     let mut text = Bytes::new(alloc);
-    append_right(&mut text, 8, u64::from(number))?;
-    text.append(b"  ")?;
-    append_shown(&mut text, from)?;
-    text.append(b" > ")?;
-    append_shown(&mut text, to)?;
-    text.append(b"  ")?;
-    append_shown(&mut text, subject)?;
+    append_listing(&mut text, number, from, to, subject)?;
     Ok(text)
 }

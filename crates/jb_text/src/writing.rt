@@ -1,5 +1,5 @@
 //! The parts of a line: bytes as they are shown, numbers and columns.
-ghost use Rattle.std.specs.Prelude.{◌≡◌, ◌++◌, OnOk, decimal, replicate};
+ghost use Rattle.std.specs.Prelude.{◌≡◌, ◌++◌, IsTrue, OnOk, decimal, replicate};
 ghost use Rattle.jb_text.specs.Lines.{line_end};
 ghost use Rattle.jb_text.specs.Numbers.{left_in, right_in};
 ghost use Rattle.jb_text.specs.Shown.{shown, shown_byte};
@@ -14,10 +14,25 @@ pub fn show(byte: u8) -> u8
     if byte < 32 || byte == 127 { b'?' } else { byte }
 }
 
+/// Whether no byte is a control character, so that each is shown as it is.
+fn are_plain(bytes: &[u8]) -> bool
+    ensures { IsTrue result → shown bytes.now ≡ bytes.now }
+{
+    for byte in bytes {
+        if show(*byte) != *byte {
+            return false;
+        }
+    }
+    true
+}
+
 /// Puts bytes behind a text as they are shown.
 pub fn append_shown(text: &mut Bytes, bytes: &[u8]) -> Result<(), OutOfMemory>
     ensures { OnOk result (text.new ≡ text.old ++ shown bytes.now) }
 {
+    if are_plain(bytes) {
+        return text.append(bytes);
+    }
     for byte in bytes {
         text.append(&[show(*byte)])?;
     }

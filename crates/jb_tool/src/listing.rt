@@ -12,6 +12,7 @@ use crate::reading::read_base;
 use jb_base::{Bytes, OutOfMemory, RECEIVER_NAME, SENDER_NAME, SUBJECT, Subfields};
 use jb_disk::Disk;
 use jb_model::{Loaded, LoadedSlot};
+use jb_text::append_listing;
 use std::alloc::Global;
 
 /// The data of the first subfield with this LoID, or nothing.
@@ -22,37 +23,25 @@ fn field(fields: &Subfields, id: u16) -> &[u8]
 }
 
 /// Puts the line of a message behind a text.
-fn append_message(
-    alloc: Global,
-    text: &mut Bytes,
-    number: u32,
-    fields: &Subfields,
-) -> Result<(), OutOfMemory>
+fn append_message(text: &mut Bytes, number: u32, fields: &Subfields) -> Result<(), OutOfMemory>
     ensures { OnOk result (text.new ≡ text.old ++ message_line number fields.now) }
 {
-    let line = jb_text::listing(
-        alloc,
+    append_listing(
+        text,
         number,
         field(fields, SENDER_NAME),
         field(fields, RECEIVER_NAME),
         field(fields, SUBJECT),
     )?;
-    text.append(line.as_slice())?;
-    text.append(b"\n")?;
-    Ok(())
+    text.append(b"\n")
 }
 
 /// Puts the line of a slot behind a text, where it is live.
-fn append_slot(
-    alloc: Global,
-    text: &mut Bytes,
-    number: u32,
-    slot: &LoadedSlot,
-) -> Result<(), OutOfMemory>
+fn append_slot(text: &mut Bytes, number: u32, slot: &LoadedSlot) -> Result<(), OutOfMemory>
     ensures { OnOk result ((texts : List ℕ) → text.new ≡ text.old ++ slot_line number (slot_state texts slot.now)) }
 {
     match slot {
-        LoadedSlot::Live(message) => append_message(alloc, text, number, &message.subfields),
+        LoadedSlot::Live(message) => append_message(text, number, &message.subfields),
         LoadedSlot::Empty | LoadedSlot::Killed { .. } => Ok(()),
     }
 }
@@ -66,7 +55,7 @@ fn listing(alloc: Global, loaded: &Loaded) -> Result<Bytes, OutOfMemory>
     let mut text = Bytes::new(alloc);
     let mut number = loaded.base;
     for slot in loaded.slots.as_slice() {
-        append_slot(alloc, &mut text, number, slot)?;
+        append_slot(&mut text, number, slot)?;
         number += 1;
     }
     Ok(text)
