@@ -202,7 +202,9 @@ fn read_base<D: Disk>(alloc: Global, disk: &mut D, slots: u32) -> Result<Loaded,
 /// fail, with the number and the place: see [`OpenError`]. The journal is not looked at: a change that waits there is to be
 /// done before.
 ///
-/// Four questions for a length, three reads, and at most two a slot; no text is read.
+/// Four questions for a length, and the reads of a window on each of three files; no text is read. Where the headers stand
+/// in the order of the index, each read of .JHR takes 65,536 bytes, and none is read twice but a record across a border; in
+/// whatever order they stand, at most one read a look, and at most four looks a slot.
 pub fn decode<D: Disk>(alloc: Global, disk: &mut D, slots: u32) -> Result<Loaded, OpenError>
     // What the files say, where the disk tells them; a fault comes only where the count rose, and each other answer only where
     // it did not.
