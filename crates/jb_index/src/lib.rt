@@ -1,8 +1,9 @@
 //! What users ask about an area without changing it: lists of its messages and its figures, answered from an index of
 //! the area that needs neither its texts nor its subfields.
 //!
-//! The layer above may rely on this: [`Index::of`] makes the index of an area that is loaded, and [`Index::ask`] answers
-//! each question with the filter of the index's summaries that the question names. Of the index of an area such an
+//! The layer above may rely on this: [`Index::of`] makes the index of an area that is loaded, from the parents that
+//! [`parents_of`] gives, and [`Index::ask`] answers each question with the filter of the index's summaries that the
+//! question names. Of the index of an area such an
 //! answer is what the area itself shows ([`answers_of_the_area`]).
 //!
 //! The summaries stand in pieces (`jb_tiered`), so that a change of one message can be made later without a copy of the
