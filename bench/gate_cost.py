@@ -50,19 +50,27 @@ def place_of(pid):
 class Watch:
     """The processor time of every process of the prover that a run started, by its number and the moment of its start."""
 
-    def __init__(self):
-        self.seconds, self.places = {}, {}
+    def __init__(self, run):
+        self.run, self.seconds, self.places = str(run), {}, {}
 
     def look(self):
+        stats = {}
         for pid in filter(str.isdigit, os.listdir("/proc")):
             stat = read(f"/proc/{pid}/stat").rpartition(b")")[2].split()
-            if len(stat) < 20:
-                continue
+            if len(stat) >= 20:
+                stats[pid] = stat
+        for pid, stat in stats.items():
             key = pid, stat[19]
             if key not in self.places:
-                self.places[key] = place_of(pid)
+                self.places[key] = place_of(pid) if self.is_below(pid, stats) else None
             if self.places[key]:
                 self.seconds[key] = (int(stat[11]) + int(stat[12])) / TICKS
+
+    def is_below(self, pid, stats):
+        """Whether the run started this process, or one that started it: another run beside it is not counted."""
+        while pid in stats and pid != self.run:
+            pid = stats[pid][1].decode()
+        return pid == self.run
 
     def table(self):
         found = defaultdict(lambda: dict.fromkeys(KINDS, 0.0))
@@ -102,9 +110,10 @@ def main():
     with tempfile.TemporaryDirectory(prefix="gate-cost-") as room:
         copy = f"{room}/copy"
         shutil.copytree(TOP, copy, ignore=shutil.ignore_patterns("out"), symlinks=True)
-        uses, watch, began = uses_of(f"{copy}/crates.txt"), Watch(), time.monotonic()
+        uses, began = uses_of(f"{copy}/crates.txt"), time.monotonic()
         with open(f"{room}/log", "w+") as log:
             gate = subprocess.Popen(["rt", "ci", "--anew", *given.names], cwd=copy, stdin=subprocess.DEVNULL, stdout=log, stderr=log)
+            watch = Watch(gate.pid)
             while gate.poll() is None:
                 watch.look()
                 time.sleep(0.5)
