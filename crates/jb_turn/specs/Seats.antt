@@ -1,5 +1,5 @@
 -- What contracts see of a turn and of its seats.
-use Rattle.std.specs.Prelude.{◌≡◌, ℕ, ◌+◌, List, [], ◌∷◌, length, map, slice_get, Option, Some, None}
+use Rattle.std.specs.Prelude.{◌≡◌, ℕ, ◌+◌, List, [], ◌∷◌, length, slice_get, Option, Some, None}
 use Rattle.atomic_table.specs.Seated.{TableId}
 use Rattle.jb_turn.specs.declared.view.Row.{Row}
 use Rattle.jb_turn.specs.declared.view.Stage.TheVariants.{Idle, Came}
@@ -37,10 +37,6 @@ module _ {S O E Q : Type 0} where
   -- what the seat was given back with
   abbrev pub remarks : Seat S O E Q → List Q
   remarks s = (row_of s).remarks
-
-  -- what each of the seats knows
-  abbrev pub rows_of : List (Seat S O E Q) → List (Row O E Q)
-  rows_of seats = map row_of seats
 
   -- the turn that the seat was made with
   abbrev pub turn_of : Seat S O E Q → TurnId

@@ -10,9 +10,11 @@
 mod kept;
 mod rule;
 mod seat;
+mod seated;
 mod turn;
 mod view;
 
 pub use kept::{Kept, NamesEntry, NamesRemark};
 pub use seat::{Held, RestingSeat, Seat, Turn};
+pub use seated::Seated;
 pub use view::{Row, Stage, View};

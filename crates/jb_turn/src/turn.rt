@@ -2,12 +2,13 @@
 ghost use Rattle.std.specs.Prelude.{◌≡◌, ℕ, ◌+◌, ◌^◌, ◌<◌, ◌≤◌, List, [], ◌∷◌, ◌++◌, map, length, slice_get, Some, None, All, IfOk, IfErr, OnOk, MatchOption, IsTrue, ◌↔◌};
 ghost use Rattle.jb_turn.specs.Rows.{Begins, IsOwn, StandsFrom, calls};
 ghost use Rattle.jb_turn.specs.Steps.{seen, noted, given};
-ghost use Rattle.jb_turn.specs.Seats.{node, opening, front, mine, row_of, rows_of, turn_of, id_of, seats_of, resting_row, resting_turn, IsResting, Rests, Holds, AreNew};
+ghost use Rattle.jb_turn.specs.Seats.{node, opening, front, mine, row_of, turn_of, id_of, seats_of, resting_row, resting_turn, IsResting, Rests, Holds, AreNew};
 ghost use Rattle.jb_turn.specs.Whole.{HasAll, HasNode, IsLowestMissing, IsWhole};
 
 use crate::kept::{Kept, NamesEntry, NamesRemark};
 use crate::rule::{Come, Count, Cut, Draw, Give, Glue, Key, Note};
 use crate::seat::{Held, RestingSeat, Seat, Turn};
+use crate::seated::Seated;
 use atomic_table::{Refused, Table};
 use crossbeam_utils::Backoff;
 use std::alloc::Global;
@@ -59,24 +60,24 @@ impl<S, O, E, Q> Seat<S, O, E, Q> {
     }
 }
 
-fn has_node<S, O, E, Q>(seats: &[Seat<S, O, E, Q>], number: u32) -> bool
-    ensures { IsTrue result ↔ HasNode (rows_of seats.now) number }
+fn has_node<S, O, E, Q, P: Seated<S, O, E, Q>>(seats: &[P], number: u32) -> bool
+    ensures { IsTrue result ↔ HasNode (map P.knows seats.now) number }
 {
     for seat in seats {
-        if seat.node() == number {
+        if seat.number() == number {
             return true;
         }
     }
     false
 }
 
-fn first_missing<S, O, E, Q>(seats: &[Seat<S, O, E, Q>], count: u32) -> Option<u32>
+fn first_missing<S, O, E, Q, P: Seated<S, O, E, Q>>(seats: &[P], count: u32) -> Option<u32>
     requires { count ≤ 33 }
-    ensures { MatchOption result (HasAll (rows_of seats.now) count)
-        (IsLowestMissing (rows_of seats.now) count) }
+    ensures { MatchOption result (HasAll (map P.knows seats.now) count)
+        (IsLowestMissing (map P.knows seats.now) count) }
 {
     for number in 1..count + 1 {
-        if !has_node(seats, number) {
+        if !has_node::<S, O, E, Q, P>(seats, number) {
             return Some(number);
         }
     }
@@ -205,29 +206,31 @@ impl<S: Kept<O, E>, O, E, Q> Turn<S, O, E, Q> {
     /// Ends the turn where all its seats are there, and gives the state. It takes no memory.
     ///
     /// `Err` hands the turn and the seats back with the lowest number, from 1, whose seat is not among them.
-    pub fn close(
+    pub fn close<P: Seated<S, O, E, Q> + Drop>(
         self,
-        mut seats: Vec<Seat<S, O, E, Q>>,
-    ) -> Result<S, (Turn<S, O, E, Q>, Vec<Seat<S, O, E, Q>>, u32)>
-        requires seats { All (Rests self) seats.items }
+        mut seats: Vec<P>,
+    ) -> Result<S, (Turn<S, O, E, Q>, Vec<P>, u32)>
+        requires seats { All (λ seat. P.rests seat (id_of self)) seats.items }
 
         // All seats are there, and what they know is of one history, for which the state stands.
-        ensures all { OnOk result (HasAll (rows_of seats.items) (seats_of self)) }
-        ensures whole { IfOk result (IsWhole S.stands S.caller (rows_of seats.items)) }
+        ensures all { OnOk result (HasAll (map P.knows seats.items) (seats_of self)) }
+        ensures whole { IfOk result (IsWhole S.stands S.caller (map P.knows seats.items)) }
 
         // A seat is missing, and nothing has changed.
-        ensures missing { IfErr result (λ r. IsLowestMissing (rows_of seats.items) (seats_of self) r.2) }
+        ensures missing { IfErr result (λ r. IsLowestMissing (map P.knows seats.items) (seats_of self) r.2) }
         ensures kept { IfErr result (λ r. (r.0 ≡ self) × (r.1.items ≡ seats.items)) }
     {
-        if let Some(number) = first_missing(seats.as_slice(), self.seats) {
+        if let Some(number) = first_missing::<S, O, E, Q, P>(seats.as_slice(), self.seats) {
             return Err((self, seats, number));
         }
         let Some(last) = seats.pop() else {
             unreachable!()
         };
         let Turn { table, seats: _ } = self;
+        let last = last.into_seat();
         let mut place = last.into_place();
         while let Some(seat) = seats.pop() {
+            let seat = seat.into_seat();
             let other = seat.into_place();
             table.shared.join_seat::<Glue>(&mut place, other);
         }

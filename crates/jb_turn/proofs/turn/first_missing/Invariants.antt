@@ -1,7 +1,6 @@
-use Rattle.std.proofs.Common.{ℕ, ◌<◌}
-use Rattle.jb_turn.specs.Seats.{rows_of}
+use Rattle.std.proofs.Common.{ℕ, ◌<◌, map}
 use Rattle.jb_turn.specs.Whole.{HasNode}
 use Rattle.jb_turn.proofs.turn.first_missing.Given as goal
 
 abbrev pub invariant-loop-number : goal.invariant-loop-number
-invariant-loop-number g l = (m : ℕ) → 0 < m → m < l.number → HasNode (rows_of l.seats) m
+invariant-loop-number g l = (m : ℕ) → 0 < m → m < l.number → HasNode (map g.P.Seated.knows l.seats) m

@@ -1,8 +1,6 @@
 use Rattle.std.proofs.Common.{◌≡◌, ◌<◌, List, [], ◌++◌, map, reverse, length}
 use Rattle.std.specs.Prelude.{All}
 use Rattle.jb_turn.specs.declared.view.Stage.TheVariants.{Idle}
-use Rattle.jb_turn.specs.declared.seat.Seat.{Seat}
-use Rattle.jb_turn.specs.Seats.{row_of, turn_of, IsResting}
 use Rattle.jb_turn.proofs.seat.Turn.close.Given as goal
 
 abbrev pub invariant-loop-seat : goal.invariant-loop-seat
@@ -12,8 +10,8 @@ invariant-loop-seat g l = record {
   stage : l.place.me.0.stage ≡ Idle;
   empty : l.place.me.1 ≡ [];
   some : 0 < length l.place.me.0.rows;
-  left : All (λ s. (turn_of s ≡ l.fn.self.table.shared.table_id) × IsResting s) l.seats.items;
-  taken : (rest : List (Seat g.row.S.Denot g.row.O.Denot g.row.E.Denot g.row.Q.Denot)) × (l.fn.seats.items ≡ l.seats.items ++ rest) × (l.place.me.0.rows ≡ reverse (map row_of rest));
+  left : All (λ s. g.P.Seated.rests s l.fn.self.table.shared.table_id) l.seats.items;
+  taken : (rest : List g.row.P.Denot) × (l.fn.seats.items ≡ l.seats.items ++ rest) × (l.place.me.0.rows ≡ reverse (map g.P.Seated.knows rest));
 }
 
 abbrev pub decreases-loop-seat : goal.decreases-loop-seat
