@@ -1,8 +1,8 @@
 -- The summaries of slots that are loaded.
-use Rattle.std.proofs.Common.{◌≡◌, ℕ, zero, suc, ◌+◌, ◌<◌, ◌≤◌, ◌==◌, List, [], ◌∷◌, ◌++◌, Option, Some, find, map, length, take, get_or, slice_get, length-append, length-take, append-nil, refl, sym, ◌∙◌, ap, subst, arith}
+use Rattle.std.proofs.Common.{◌≡◌, ℕ, zero, suc, ◌+◌, ◌<◌, ◌≤◌, ◌==◌, Bool, true, false, cond, List, [], ◌∷◌, ◌++◌, Option, Some, filter, find, map, length, take, get_or, slice_get, length-append, length-take, append-nil, refl, sym, ◌∙◌, ap, subst, arith}
 use Rattle.std.specs.Prelude.{unwrap_or, All, insert}
 use Rattle.std.proofs.lemmas.List.Edits.{insert_end}
-use Rattle.std.proofs.lemmas.List.Elements.{All-get_or}
+use Rattle.std.proofs.lemmas.List.Elements.{All-get_or, filter-append}
 use Rattle.jb_base.specs.declared.limits.TheConstants.{MOST_SUBFIELD_BYTES}
 use Rattle.jb_index.specs.Making.{HasFewBytes}
 use Rattle.std.specs.Option.{option_map}
@@ -210,3 +210,19 @@ pub same_index : (summaries summaries' : List Summary) (marks marks' : List Mark
     → ◌≡◌ {A = AreaIndex} (record { summaries = summaries; marks = marks; base = base; next = next; rules = rules })
     (record { summaries = summaries'; marks = marks'; base = base; next = next'; rules = rules' })
 same_index summaries summaries' marks marks' base next next' rules rules' e f g h = cc
+
+-- one more slot, and what passes of it
+pub unread_more : (p : Summary → Bool) (live : List Linkable) (base k : ℕ) (slots : List LoadedSlot) (slot : LoadedSlot) (before here after : ℕ) → k < length slots → slot ≡ get_or slots k slot
+    → before ≡ length (filter p (listed_from live base (take k slots))) → here ≡ length (filter p (listed_from live (base + k) (slot ∷ []))) → after ≡ before + here
+    → after ≡ length (filter p (listed_from live base (take (k + 1) slots)))
+unread_more p live base k slots slot before here after within read was is sum =
+    let parts : length (filter p (listed_from live base (take (k + 1) slots))) ≡ length (filter p (listed_from live base (take k slots))) + length (filter p (listed_from live (base + k) (slot ∷ []))) =
+    ap (λ l. length (filter p l)) (listed_more live base k slots slot within read)
+    ∙ ap length (filter-append p (listed_from live base (take k slots)) (listed_from live (base + k) (slot ∷ [])))
+    ∙ length-append (filter p (listed_from live base (take k slots))) (filter p (listed_from live (base + k) (slot ∷ []))) in
+    omega (arith, parts, was, is, sum)
+
+-- what passes of one alone
+pub one_passes : (p : Summary → Bool) (one : Summary) (b : Bool) → p one ≡ b → length (filter p (one ∷ [])) ≡ cond b 1 0
+one_passes p one true is = rw is refl
+one_passes p one false is = rw is refl

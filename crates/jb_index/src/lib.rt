@@ -4,7 +4,8 @@
 //! The layer above may rely on this: [`Index::of`] makes the index of an area that is loaded, from the parents that
 //! [`parents_of`] gives, and [`Index::ask`] answers each question with the filter of the index's summaries that the
 //! question names. Of the index of an area such an
-//! answer is what the area itself shows ([`answers_of_the_area`]).
+//! answer is what the area itself shows ([`answers_of_the_area`]). [`unread_in`] counts what a user has not read without an
+//! index.
 //!
 //! The summaries stand in pieces (`jb_tiered`), so that a change of one message can be made later without a copy of the
 //! others; there is room for as many as the area may have, and for as many marks.
@@ -16,6 +17,7 @@
 //! bytes a message while it lasts.
 #![tactic(auto)]
 
+mod counting;
 mod index;
 mod laws;
 mod listing;
@@ -24,6 +26,7 @@ mod parents;
 mod shown;
 mod threads;
 
+pub use counting::unread_in;
 pub use index::Index;
 pub use laws::answers_of_the_area;
 pub use parents::parents_of;

@@ -25,7 +25,7 @@ fn field(subfields: &Subfields, id: u16) -> &[u8]
 }
 
 /// The summary of a message with this number and this parent.
-fn summary(number: u32, message: &LoadedMessage, parent: u32) -> Summary
+pub(crate) fn summary(number: u32, message: &LoadedMessage, parent: u32) -> Summary
     requires { length (subfield_bytes message.now.subfields) ≤ MOST_SUBFIELD_BYTES }
     ensures { result ≡ summary_with number message.now.head message.now.subfields parent }
 {
