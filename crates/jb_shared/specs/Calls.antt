@@ -1,0 +1,62 @@
+-- What a call makes of what its pass knows, by its answer.
+use Rattle.std.specs.Prelude.{◌≡◌, ◌⊎◌, ℕ, ◌+◌, ◌<◌, ◌≤◌, Bool, List, [], ◌∷◌, ◌++◌, length, Option, Some, None, Result, Ok, Err}
+use Rattle.jb_base.specs.declared.limits.TheConstants.{MOST_ENTRIES}
+use Rattle.jb_base.specs.declared.user.User.{User}
+use Rattle.jb_model.specs.declared.command.Command.{Command}
+use Rattle.jb_model.specs.declared.entry.Entry.{Entry}
+use Rattle.jb_model.specs.declared.entry.Entry.TheVariants.{Called, Reopened}
+use Rattle.jb_model.specs.declared.entry.Outcome.{Outcome}
+use Rattle.jb_model.specs.declared.entry.Outcome.TheVariants.{Replied, InDoubt, NotBegun}
+use Rattle.jb_model.specs.declared.reply.Reply.{Reply}
+use Rattle.jb_turn.specs.Rows.{Begins, row}
+use Rattle.jb_turn.specs.Steps.{given, seen}
+use Rattle.jb_shared.specs.Histories.{IsHistory}
+use Rattle.jb_shared.specs.Passes.{Known}
+use Rattle.jb_shared.specs.declared.error.SharedError.{SharedError}
+use Rattle.jb_shared.specs.declared.error.SharedError.TheVariants.{StoreFault, RunSpent, OutOfMemory}
+use Rattle.jb_shared.specs.declared.opening.Opening.{Opening}
+use Rattle.jb_shared.specs.declared.pass.Remark.TheVariants.{Spent}
+
+-- the entry of the node's next call
+abbrev pub call_of : Known → User → ℕ → Command → Outcome → Entry
+call_of known user moment command outcome = Called known.node (length known.mine + 1) user moment command outcome
+
+-- what is known once a doubt has ended so, where there was one
+abbrev pub ending : Known → Option Bool → Known
+ending known None = known
+ending known (Some stands) = row known.node known.opening (known.front ++ Reopened stands ∷ []) known.mine known.remarks
+
+-- what is known once the node's call is recorded, as the last entry
+abbrev pub recording : Known → Entry → Known
+recording known call = row known.node known.opening (known.front ++ call ∷ []) (known.mine ++ call ∷ []) known.remarks
+
+-- a call that the device stopped: it was begun, and its change is in doubt; or the doubt before it could not be ended, and it was not begun
+abbrev pub IsStopped : Known → Known → User → ℕ → Command → Type 0
+IsStopped old new user moment command =
+    ((ended : Option Bool) × (faults : ℕ) × (new ≡ recording (ending old ended) (call_of old user moment command (InDoubt faults))))
+    ⊎ ((faults : ℕ) × (new ≡ recording old (call_of old user moment command (NotBegun faults))))
+
+-- what is known before, with the whole history taken, and after, by the answer. An answered call is recorded with its reply, and
+-- one that a fault stopped as such; want of memory leaves no entry of the call, and a history that is spent leaves none at all
+abbrev pub Answers : Known → Known → User → ℕ → Command → Result Reply SharedError → Type 0
+Answers old new user moment command (Ok reply) = (length old.front < MOST_ENTRIES)
+    × ((ended : Option Bool) × (new ≡ recording (ending old ended) (call_of old user moment command (Replied reply))))
+Answers old new user moment command (Err StoreFault) = (length old.front < MOST_ENTRIES) × IsStopped old new user moment command
+Answers old new user moment command (Err OutOfMemory) = (length old.front < MOST_ENTRIES) × ((ended : Option Bool) × (new ≡ ending old ended))
+Answers old new user moment command (Err RunSpent) = (MOST_ENTRIES ≤ length old.front) × (new ≡ given old (Some Spent))
+
+-- the same of a command that is done at rest
+abbrev pub Runs : Known → Known → User → ℕ → Command → Result Reply SharedError → Type 0
+Runs old new user moment command (Ok reply) = new ≡ recording old (call_of old user moment command (Replied reply))
+Runs old new user moment command (Err StoreFault) = (faults : ℕ) × (new ≡ recording old (call_of old user moment command (InDoubt faults)))
+Runs old new user moment command (Err OutOfMemory) = new ≡ old
+Runs old new user moment command (Err RunSpent) = ⊥
+
+-- a call: it takes the whole history, which goes on from what the pass had seen, and leaves a legal one
+pub record Calls (old new : Known) (user : User) (moment : ℕ) (command : Command) (result : Result Reply SharedError) : Type 0 where
+  pub opening : Opening
+  pub from : old.opening ≡ Some opening
+  pub taken : List Entry
+  pub grows : Begins old.front taken
+  pub answers : Answers (seen old taken) new user moment command result
+  pub history : IsHistory opening new.front

@@ -1,0 +1,13 @@
+//! What the history of a shared area began from.
+
+use jb_base::{AreaRules, Bytes};
+use jb_model::Loaded;
+
+/// How an area stood when it was shared: its rules, what was loaded, its texts where the disk tells its files, and how often
+/// its device had failed. No value of it is made: it exists in proofs alone.
+pub struct Opening {
+    pub rules: AreaRules,
+    pub loaded: Loaded,
+    pub texts: Option<Bytes>,
+    pub faults: u64,
+}
