@@ -10,7 +10,7 @@ use Rattle.jb_model.specs.declared.look.Answer.TheVariants as answer
 use Rattle.jb_model.specs.declared.reply.Reply.TheVariants as reply
 use Rattle.jb_menu.specs.Answers.{acting_row, listing_row, marking_row, reading_row, seeking_row}
 use Rattle.jb_menu.specs.Areas.{area_command, area_row}
-use Rattle.jb_menu.specs.Awaits.{Awaits, IsFor, awaited_in, wanted_by}
+use Rattle.jb_menu.specs.Awaits.{AsksHere, Awaits, IsFor, awaited_in, wanted_by}
 use Rattle.jb_menu.specs.Boards.{area_named, is_named_for, level_of, may_read, next_area}
 use Rattle.jb_menu.specs.CommandLines.{command_of}
 use Rattle.jb_menu.specs.LogIn.{login_row, name_row, password_row, refused_row}
@@ -35,10 +35,11 @@ use Rattle.jb_menu.specs.declared.state.Visit.{Visit}
 pub record Holds (on : Board) (before : State) (given : Given) (moved : Moved) : Type 0 where
   pub board : IsFor on moved.state
   pub awaits : Awaits before given → awaited_in moved.state ≡ wanted_by moved.step
+  pub here : AsksHere moved.step moved.state
 
--- a move that asks for what the state after it waits for
+-- a move that asks for what the state after it waits for, in its area
 abbrev Fits : Board → Moved → Type 0
-Fits on moved = IsFor on moved.state × (awaited_in moved.state ≡ wanted_by moved.step)
+Fits on moved = IsFor on moved.state × (awaited_in moved.state ≡ wanted_by moved.step) × AsksHere moved.step moved.state
 
 -- what is not asked for is not given
 never : {X : Type 0} → false ≡ true → X
@@ -46,7 +47,7 @@ never e = absurd (grind arith)
 
 -- such a move holds, whatever was given
 fitting : (on : Board) (before : State) (given : Given) (moved : Moved) → Fits on moved → Holds on before given moved
-fitting on before given moved fits = record { board = fits.0; awaits = λ _. fits.1 }
+fitting on before given moved fits = record { board = fits.0; awaits = λ _. fits.1; here = fits.2 }
 
 -- whichever way a test comes out
 either : (on : Board) (b : Bool) (then_so else_so : Moved) → Fits on then_so → Fits on else_so → Fits on (if b then then_so else else_so)
@@ -82,18 +83,18 @@ named_within on user number n found = found_within (is_named_for (level_of on us
 -- the log-in
 fits_refused : (on : Board) (refused : ℕ) → Fits on (refused_row refused)
 unfolding IsFor awaited_in
-fits_refused on refused = either on (nat_lt refused 2) _ _ (tt, refl) (tt, refl)
+fits_refused on refused = either on (nat_lt refused 2) _ _ (tt, refl, refl) (tt, refl, refl)
 
 fits_login : (on : Board) (refused : ℕ) (found : Option ℕ) → ((user : ℕ) → found ≡ Some user → user < length on.users)
     → Fits on (login_row on refused found)
 unfolding IsFor awaited_in
-fits_login on refused (Some user) within = (within user refl, refl)
+fits_login on refused (Some user) within = (within user refl, refl, refl)
 fits_login on refused None within = fits_refused on refused
 
 holds_name : (on : Board) (refused : ℕ) (given : Given) → Holds on (state.Name refused) given (name_row refused given)
 unfolding IsFor awaited_in
-holds_name on refused (Line typed) = record { board = tt; awaits = λ _. refl }
-holds_name on refused _ = record { board = tt; awaits = λ _. refl }
+holds_name on refused (Line typed) = record { board = tt; awaits = λ _. refl; here = refl }
+holds_name on refused _ = record { board = tt; awaits = λ _. refl; here = refl }
 
 holds_password : (on : Board) (refused : ℕ) (name : List ℕ) (given : Given)
     → Holds on (state.Password refused name) given (password_row on refused name given)
@@ -101,36 +102,36 @@ unfolding IsFor awaited_in
 holds_password on refused name (Line typed) =
     fitting on (state.Password refused name) (Line typed) (password_row on refused name (Line typed))
     (fits_login on refused (position (logs_in name typed) on.users) (λ user found. found_within (logs_in name typed) on.users user found))
-holds_password on refused name _ = record { board = tt; awaits = λ _. refl }
+holds_password on refused name _ = record { board = tt; awaits = λ _. refl; here = refl }
 
 -- outside of the areas
 fits_count : (on : Board) (user : ℕ) (lines : List ℕ) (next : Option ℕ) → user < length on.users
     → ((area : ℕ) → next ≡ Some area → area < length on.areas) → Fits on (count_row user lines next)
 unfolding IsFor awaited_in
-fits_count on user lines (Some area) is_user within = ((is_user, within area refl), refl)
-fits_count on user lines None is_user within = (is_user, refl)
+fits_count on user lines (Some area) is_user within = ((is_user, within area refl), refl, refl)
+fits_count on user lines None is_user within = (is_user, refl, refl)
 
 fits_enter : (on : Board) (user : ℕ) (area : Option ℕ) → user < length on.users
     → ((place : ℕ) → area ≡ Some place → place < length on.areas) → Fits on (enter_row user area)
 unfolding IsFor awaited_in
-fits_enter on user (Some area) is_user within = ((is_user, within area refl), refl)
-fits_enter on user None is_user within = (is_user, refl)
+fits_enter on user (Some area) is_user within = ((is_user, within area refl), refl, refl)
+fits_enter on user None is_user within = (is_user, refl, refl)
 
 fits_top : (on : Board) (user : ℕ) (typed : CommandLine) → user < length on.users → Fits on (top_command on user typed)
 unfolding IsFor awaited_in
-fits_top on user Empty is_user = (is_user, refl)
+fits_top on user Empty is_user = (is_user, refl, refl)
 fits_top on user (Letter A) is_user =
     fits_count on user [] (next_area on user 0) is_user (λ area found. next_within on user 0 area found)
-fits_top on user (Letter Q) is_user = (tt, refl)
+fits_top on user (Letter Q) is_user = (tt, refl, refl)
 fits_top on user (Number number) is_user =
     fits_enter on user (area_named on user number) is_user (λ area found. named_within on user number area found)
-fits_top on user _ is_user = (is_user, refl)
+fits_top on user _ is_user = (is_user, refl, refl)
 
 holds_top : (on : Board) (user : ℕ) (given : Given) → user < length on.users → Holds on (state.Top user) given (top_row on user given)
 unfolding IsFor awaited_in
 holds_top on user (Line typed) is_user =
     fitting on (state.Top user) (Line typed) (top_row on user (Line typed)) (fits_top on user (command_of typed) is_user)
-holds_top on user _ is_user = record { board = is_user; awaits = λ _. refl }
+holds_top on user _ is_user = record { board = is_user; awaits = λ _. refl; here = refl }
 
 holds_counting : (on : Board) (user area : ℕ) (lines : List ℕ) (given : Given) → user < length on.users → area < length on.areas
     → Holds on (state.Counting user area lines) given (counting_row on user area lines given)
@@ -138,15 +139,15 @@ unfolding IsFor awaited_in
 holds_counting on user area lines (Count unread) is_user is_area =
     fitting on (state.Counting user area lines) (Count unread) (counting_row on user area lines (Count unread))
     (fits_count on user _ (next_area on user (area + 1)) is_user (λ place found. next_within on user (area + 1) place found))
-holds_counting on user area lines (Fault fault) is_user is_area = record { board = is_user; awaits = λ _. refl }
-holds_counting on user area lines _ is_user is_area = record { board = (is_user, is_area); awaits = λ asked. never asked }
+holds_counting on user area lines (Fault fault) is_user is_area = record { board = is_user; awaits = λ _. refl; here = refl }
+holds_counting on user area lines _ is_user is_area = record { board = (is_user, is_area); awaits = λ asked. never asked; here = refl }
 
 holds_entering : (on : Board) (user area : ℕ) (given : Given) → user < length on.users → area < length on.areas
     → Holds on (state.Entering user area) given (entering_row on user area given)
 unfolding IsFor awaited_in
-holds_entering on user area (Answer (answer.Figures numbers)) is_user is_area = record { board = (is_user, is_area); awaits = λ _. refl }
-holds_entering on user area (Fault fault) is_user is_area = record { board = is_user; awaits = λ _. refl }
-holds_entering on user area _ is_user is_area = record { board = (is_user, is_area); awaits = λ asked. never asked }
+holds_entering on user area (Answer (answer.Figures numbers)) is_user is_area = record { board = (is_user, is_area); awaits = λ _. refl; here = refl }
+holds_entering on user area (Fault fault) is_user is_area = record { board = is_user; awaits = λ _. refl; here = refl }
+holds_entering on user area _ is_user is_area = record { board = (is_user, is_area); awaits = λ asked. never asked; here = refl }
 
 -- the board has the user and the area of a visit
 abbrev IsPlace : Board → Visit → Type 0
@@ -155,92 +156,92 @@ IsPlace on visit = (visit.user < length on.users) × (visit.area < length on.are
 -- the commands of an area
 fits_reply : (on : Board) (visit : Visit) (shown : Option Shown) → IsPlace on visit → Fits on (reply_row on visit shown)
 unfolding IsFor awaited_in
-fits_reply on visit None place = (place, refl)
-fits_reply on visit (Some shown) place = (place, refl)
+fits_reply on visit None place = (place, refl, refl)
+fits_reply on visit (Some shown) place = (place, refl, refl)
 
 fits_area : (on : Board) (visit : Visit) (typed : CommandLine) → IsPlace on visit → Fits on (area_command on visit typed)
 unfolding IsFor awaited_in
-fits_area on visit (Letter B) place = (place.0, refl)
-fits_area on visit (Letter Q) place = (tt, refl)
+fits_area on visit (Letter B) place = (place.0, refl, refl)
+fits_area on visit (Letter Q) place = (tt, refl, refl)
 fits_area on visit (Letter R) place = fits_reply on visit visit.shown place
-fits_area on visit (LetterNumber K number) place = (place, refl)
-fits_area on visit _ place = (place, refl)
+fits_area on visit (LetterNumber K number) place = (place, refl, refl)
+fits_area on visit _ place = (place, refl, refl)
 
 holds_area : (on : Board) (visit : Visit) (given : Given) → IsPlace on visit → Holds on (state.Area visit stage.Prompt) given (area_row on visit given)
 unfolding IsFor awaited_in
 holds_area on visit (Line typed) place =
     fitting on (state.Area visit stage.Prompt) (Line typed) (area_row on visit (Line typed)) (fits_area on visit (command_of typed) place)
-holds_area on visit _ place = record { board = place; awaits = λ _. refl }
+holds_area on visit _ place = record { board = place; awaits = λ _. refl; here = refl }
 
 -- what an area answers
 holds_listing : (on : Board) (visit : Visit) (given : Given) → IsPlace on visit
     → Holds on (state.Area visit stage.Listing) given (listing_row on visit given)
 unfolding IsFor awaited_in
-holds_listing on visit (Answer (answer.Summaries messages)) place = record { board = place; awaits = λ _. refl }
-holds_listing on visit (Fault fault) place = record { board = place; awaits = λ _. refl }
-holds_listing on visit _ place = record { board = place; awaits = λ asked. never asked }
+holds_listing on visit (Answer (answer.Summaries messages)) place = record { board = place; awaits = λ _. refl; here = refl }
+holds_listing on visit (Fault fault) place = record { board = place; awaits = λ _. refl; here = refl }
+holds_listing on visit _ place = record { board = place; awaits = λ asked. never asked; here = refl }
 
 holds_seeking : (on : Board) (visit : Visit) (given : Given) → IsPlace on visit
     → Holds on (state.Area visit stage.Seeking) given (seeking_row on visit given)
 unfolding IsFor awaited_in
-holds_seeking on visit (Answer (answer.Summaries [])) place = record { board = place; awaits = λ _. refl }
-holds_seeking on visit (Answer (answer.Summaries (first ∷ rest))) place = record { board = place; awaits = λ _. refl }
-holds_seeking on visit (Fault fault) place = record { board = place; awaits = λ _. refl }
-holds_seeking on visit _ place = record { board = place; awaits = λ asked. never asked }
+holds_seeking on visit (Answer (answer.Summaries [])) place = record { board = place; awaits = λ _. refl; here = refl }
+holds_seeking on visit (Answer (answer.Summaries (first ∷ rest))) place = record { board = place; awaits = λ _. refl; here = refl }
+holds_seeking on visit (Fault fault) place = record { board = place; awaits = λ _. refl; here = refl }
+holds_seeking on visit _ place = record { board = place; awaits = λ asked. never asked; here = refl }
 
 holds_reading : (on : Board) (visit : Visit) (marks : Bool) (given : Given) → IsPlace on visit
     → Holds on (state.Area visit (stage.Reading marks)) given (reading_row on visit marks given)
 unfolding IsFor awaited_in
-holds_reading on visit true (Reply (reply.Text letter)) place = record { board = place; awaits = λ _. refl }
-holds_reading on visit false (Reply (reply.Text letter)) place = record { board = place; awaits = λ _. refl }
-holds_reading on visit true (Reply other) place = record { board = place; awaits = λ _. refl }
-holds_reading on visit false (Reply other) place = record { board = place; awaits = λ _. refl }
-holds_reading on visit true (Fault fault) place = record { board = place; awaits = λ _. refl }
-holds_reading on visit false (Fault fault) place = record { board = place; awaits = λ _. refl }
-holds_reading on visit true _ place = record { board = place; awaits = λ asked. never asked }
-holds_reading on visit false _ place = record { board = place; awaits = λ asked. never asked }
+holds_reading on visit true (Reply (reply.Text letter)) place = record { board = place; awaits = λ _. refl; here = refl }
+holds_reading on visit false (Reply (reply.Text letter)) place = record { board = place; awaits = λ _. refl; here = refl }
+holds_reading on visit true (Reply other) place = record { board = place; awaits = λ _. refl; here = refl }
+holds_reading on visit false (Reply other) place = record { board = place; awaits = λ _. refl; here = refl }
+holds_reading on visit true (Fault fault) place = record { board = place; awaits = λ _. refl; here = refl }
+holds_reading on visit false (Fault fault) place = record { board = place; awaits = λ _. refl; here = refl }
+holds_reading on visit true _ place = record { board = place; awaits = λ asked. never asked; here = refl }
+holds_reading on visit false _ place = record { board = place; awaits = λ asked. never asked; here = refl }
 
 holds_marking : (on : Board) (visit : Visit) (text : List ℕ) (given : Given) → IsPlace on visit
     → Holds on (state.Area visit (stage.Marking text)) given (marking_row on visit text given)
 unfolding IsFor awaited_in
-holds_marking on visit text (Reply (reply.Marked last high)) place = record { board = place; awaits = λ _. refl }
-holds_marking on visit text (Reply other) place = record { board = place; awaits = λ _. refl }
-holds_marking on visit text (Fault fault) place = record { board = place; awaits = λ _. refl }
-holds_marking on visit text _ place = record { board = place; awaits = λ asked. never asked }
+holds_marking on visit text (Reply (reply.Marked last high)) place = record { board = place; awaits = λ _. refl; here = refl }
+holds_marking on visit text (Reply other) place = record { board = place; awaits = λ _. refl; here = refl }
+holds_marking on visit text (Fault fault) place = record { board = place; awaits = λ _. refl; here = refl }
+holds_marking on visit text _ place = record { board = place; awaits = λ asked. never asked; here = refl }
 
 holds_acting : (on : Board) (visit : Visit) (given : Given) → IsPlace on visit
     → Holds on (state.Area visit stage.Acting) given (acting_row on visit given)
 unfolding IsFor awaited_in
-holds_acting on visit (Reply answer) place = record { board = place; awaits = λ _. refl }
-holds_acting on visit (Fault fault) place = record { board = place; awaits = λ _. refl }
-holds_acting on visit _ place = record { board = place; awaits = λ asked. never asked }
+holds_acting on visit (Reply answer) place = record { board = place; awaits = λ _. refl; here = refl }
+holds_acting on visit (Fault fault) place = record { board = place; awaits = λ _. refl; here = refl }
+holds_acting on visit _ place = record { board = place; awaits = λ asked. never asked; here = refl }
 
 -- a message that is written
 holds_to : (on : Board) (visit : Visit) (given : Given) → IsPlace on visit → Holds on (state.Area visit stage.To) given (to_row on visit given)
 unfolding IsFor awaited_in
-holds_to on visit (Line []) place = record { board = place; awaits = λ _. refl }
-holds_to on visit (Line (first ∷ rest)) place = record { board = place; awaits = λ _. refl }
-holds_to on visit _ place = record { board = place; awaits = λ _. refl }
+holds_to on visit (Line []) place = record { board = place; awaits = λ _. refl; here = refl }
+holds_to on visit (Line (first ∷ rest)) place = record { board = place; awaits = λ _. refl; here = refl }
+holds_to on visit _ place = record { board = place; awaits = λ _. refl; here = refl }
 
 holds_subject : (on : Board) (visit : Visit) (to : List ℕ) (given : Given) → IsPlace on visit
     → Holds on (state.Area visit (stage.Subject to)) given (subject_row visit to given)
 unfolding IsFor awaited_in
-holds_subject on visit to (Line typed) place = record { board = place; awaits = λ _. refl }
-holds_subject on visit to _ place = record { board = place; awaits = λ _. refl }
+holds_subject on visit to (Line typed) place = record { board = place; awaits = λ _. refl; here = refl }
+holds_subject on visit to _ place = record { board = place; awaits = λ _. refl; here = refl }
 
 holds_private : (on : Board) (visit : Visit) (to subject : List ℕ) (given : Given) → IsPlace on visit
     → Holds on (state.Area visit (stage.Private to subject)) given (private_row visit to subject given)
 unfolding IsFor awaited_in
-holds_private on visit to subject (Line typed) place = record { board = place; awaits = λ _. refl }
-holds_private on visit to subject _ place = record { board = place; awaits = λ _. refl }
+holds_private on visit to subject (Line typed) place = record { board = place; awaits = λ _. refl; here = refl }
+holds_private on visit to subject _ place = record { board = place; awaits = λ _. refl; here = refl }
 
 fits_text : (on : Board) (visit : Visit) (draft : Draft) (text typed : List ℕ) → IsPlace on visit
     → Fits on (text_row on visit draft text (Line typed))
 unfolding IsFor awaited_in
 fits_text on visit draft text typed place =
-    either on (bytes_eq typed (codes ".")) _ _ (place, refl)
-    (either on (bytes_eq typed (codes "!")) _ _ (place, refl)
-    (either on (nat_lt MOST_POSTED_TEXT_BYTES (length text + length typed + 1)) _ _ (place, refl) (place, refl)))
+    either on (bytes_eq typed (codes ".")) _ _ (place, refl, refl)
+    (either on (bytes_eq typed (codes "!")) _ _ (place, refl, refl)
+    (either on (nat_lt MOST_POSTED_TEXT_BYTES (length text + length typed + 1)) _ _ (place, refl, refl) (place, refl, refl)))
 
 holds_text : (on : Board) (visit : Visit) (draft : Draft) (text : List ℕ) (given : Given) → IsPlace on visit
     → Holds on (state.Area visit (stage.Text draft text)) given (text_row on visit draft text given)
@@ -248,7 +249,7 @@ unfolding IsFor awaited_in
 holds_text on visit draft text (Line typed) place =
     fitting on (state.Area visit (stage.Text draft text)) (Line typed) (text_row on visit draft text (Line typed))
     (fits_text on visit draft text typed place)
-holds_text on visit draft text _ place = record { board = place; awaits = λ _. refl }
+holds_text on visit draft text _ place = record { board = place; awaits = λ _. refl; here = refl }
 
 holds_stage : (on : Board) (visit : Visit) (at : Stage) (given : Given) → IsPlace on visit
     → Holds on (state.Area visit at) given (stage_turn on visit at given)
@@ -273,4 +274,4 @@ holds_everywhere on (state.Top user) given of = holds_top on user given of
 holds_everywhere on (state.Counting user area lines) given of = holds_counting on user area lines given of.0 of.1
 holds_everywhere on (state.Entering user area) given of = holds_entering on user area given of.0 of.1
 holds_everywhere on (state.Area visit at) given of = holds_stage on visit at given of
-holds_everywhere on state.Ended given of = record { board = tt; awaits = λ asked. never asked }
+holds_everywhere on state.Ended given of = record { board = tt; awaits = λ asked. never asked; here = refl }

@@ -1,5 +1,5 @@
 -- What a menu waits for, and which boards its states are of.
-use Rattle.std.specs.Prelude.{◌<◌, Bool, true, false, IsTrue, length}
+use Rattle.std.specs.Prelude.{◌≡◌, ◌<◌, ℕ, Bool, true, false, IsTrue, length, Option, Some, None}
 use Rattle.jb_conf.specs.declared.board.Board.{Board}
 use Rattle.jb_model.specs.declared.look.Answer.TheVariants as answer
 use Rattle.jb_model.specs.declared.look.Question.{Question}
@@ -84,3 +84,21 @@ IsFor board (Counting user area lines) = (user < length board.users) × (area < 
 IsFor board (Entering user area) = (user < length board.users) × (area < length board.areas)
 IsFor board (Area visit stage) = (visit.user < length board.users) × (visit.area < length board.areas)
 IsFor board Ended = Unit
+
+-- the area where the menu is, where it is in one
+abbrev pub area_in : State → Option ℕ
+area_in (Counting user area lines) = Some area
+area_in (Entering user area) = Some area
+area_in (Area visit stage) = Some visit.area
+area_in _ = None
+
+-- the area that a move asks, and without one where the menu is
+abbrev pub area_asked : Move → State → Option ℕ
+area_asked (move.Ask area command) state = Some area
+area_asked (move.Look area question) state = Some area
+area_asked (move.Count area) state = Some area
+area_asked _ state = area_in state
+
+-- no area is asked but the one where the menu is then
+abbrev pub AsksHere : Move → State → Type 0
+AsksHere step state = area_asked step state ≡ area_in state

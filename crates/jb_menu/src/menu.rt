@@ -2,7 +2,7 @@
 ghost use Rattle.std.specs.Prelude.{◌≡◌, ◌<◌, IfOk, OnErr, length};
 ghost use Rattle.jb_conf.specs.InRange.{IsInRange};
 ghost use Rattle.jb_text.specs.Lines.{start_text};
-ghost use Rattle.jb_menu.specs.Awaits.{Awaits, IsFor, Wanted, awaited_in, wanted_by};
+ghost use Rattle.jb_menu.specs.Awaits.{AsksHere, Awaits, IsFor, Wanted, awaited_in, wanted_by};
 ghost use Rattle.jb_menu.specs.Menu.{MenuStep, menu_turn, stage_turn, user_in};
 
 use crate::answers::{acting, listing_messages, marking, reading, seeking};
@@ -75,6 +75,8 @@ impl Menu {
         // The state stays one of the board, and a menu that is given what it waits for waits then for what it asks for.
         ensures of { IsFor board.now self.new }
         ensures awaits { Awaits self.old given.now → IfOk result (λ step. awaited_in self.new ≡ wanted_by step) }
+        // No area is asked but the one where the menu is.
+        ensures here { IfOk result (λ step. AsksHere step self.new) }
     {
         let state = mem::replace(&mut self.state, State::Ended);
         let moved = turn(alloc, board, state, given)?;

@@ -1,5 +1,5 @@
 use Rattle.std.proofs.Common.{◌≡◌, ap, sym, subst, ◌∙◌}
-use Rattle.jb_menu.specs.Awaits.{Awaits, IsFor, awaited_in, wanted_by}
+use Rattle.jb_menu.specs.Awaits.{AsksHere, Awaits, IsFor, awaited_in, wanted_by}
 use Rattle.jb_menu.specs.Menu.{menu_turn}
 use Rattle.jb_menu.specs.declared.moves.Moved.{Moved}
 use Rattle.jb_menu.specs.declared.state.State.{State}
@@ -22,3 +22,11 @@ returns-clause-awaits c =
     sym (c.in_ok-moved.ensures ∙ ap (λ (s : State). menu_turn board s given) (c.replace-state.ensures.value ∙ c.self.view_is)) in
     subst (λ (m : Moved). Awaits c.args.self.now given → awaited_in m.state ≡ wanted_by m.step) moved
     (holds_everywhere board c.args.self.now given c.requires.of).awaits
+
+pub returns-clause-here : goal.returns-clause-here
+returns-clause-here c =
+    let board = c.args.board.now in
+    let given = c.args.given.now in
+    let moved : menu_turn board c.args.self.now given ≡ c.in_ok-moved.moved =
+    sym (c.in_ok-moved.ensures ∙ ap (λ (s : State). menu_turn board s given) (c.replace-state.ensures.value ∙ c.self.view_is)) in
+    subst (λ (m : Moved). AsksHere m.step m.state) moved (holds_everywhere board c.args.self.now given c.requires.of).here
