@@ -1,6 +1,5 @@
 -- What a call keeps of what its pass knows.
-use Rattle.std.proofs.Common.{◌≡◌, ◌⊎◌, inl, inr, ℕ, ◌≤◌, List, [], ◌∷◌, ◌++◌, length, take, Bool, Option, Some, None, Result, Ok, Err, refl, sym, ◌∙◌, ap, subst}
-use Rattle.std.specs.Prelude.{filter_map}
+use Rattle.std.proofs.Common.{◌≡◌, inl, inr, ℕ, List, [], ◌∷◌, length, take, Bool, Option, Some, None, Result, Ok, Err, refl, sym, ◌∙◌, ap, subst}
 use Rattle.std.proofs.lemmas.List.{append-nil, take_at}
 use Rattle.std.proofs.lemmas.List.Elements.{filter_map-append}
 use Rattle.jb_area.specs.declared.area.OpenArea.{OpenArea}
@@ -22,7 +21,7 @@ use Rattle.jb_shared.specs.declared.error.SharedError.{SharedError}
 use Rattle.jb_shared.specs.declared.error.SharedError.TheVariants.{StoreFault, RunSpent, OutOfMemory}
 use Rattle.jb_shared.specs.declared.opening.Opening.{Opening}
 use Rattle.jb_shared.specs.declared.pass.Remark.TheVariants.{Spent}
-use Rattle.jb_shared.proofs.SettledLemmas.{begins_itself, begins_on, settled_begins, settled_begins_history}
+use Rattle.jb_shared.proofs.SettledLemmas.{begins_itself, begins_on, settled_begins_history}
 
 -- what a call keeps: the opening, the looks, and what was seen as a beginning
 pub record Keeps (old new : Known) : Type 0 where

@@ -1,17 +1,16 @@
 -- What closing shows of the passes.
-use Rattle.std.proofs.Common.{◌≡◌, ℕ, zero, suc, List, [], ◌∷◌, ◌++◌, length, map, All, Option, Some, sym, ◌∙◌, ap, subst}
+use Rattle.std.proofs.Common.{◌≡◌, zero, suc, List, [], ◌∷◌, All, Some, sym, ◌∙◌, ap, subst}
 use Rattle.std.specs.Prelude.{unwrap_or}
 use Rattle.std.proofs.lemmas.List.Elements.{All-head, All-map, All-tail, All-weaker}
-use mathlib.Core.Option.{some, some-injective}
+use mathlib.Core.Option.{some-injective}
 use Rattle.jb_area.specs.declared.area.OpenArea.{OpenArea}
 use Rattle.jb_disk.specs.Device.{Device}
 use Rattle.jb_model.specs.declared.entry.Entry.{Entry}
 use Rattle.jb_turn.specs.Rows.{Begins, Has}
-use Rattle.jb_turn.specs.Seats.{TurnId}
 use Rattle.jb_turn.specs.Whole.{IsWhole}
 use Rattle.jb_turn.proofs.Histories.{none_has}
 use Rattle.jb_shared.specs.Areas.{IsOf, area_id}
-use Rattle.jb_shared.specs.Closing.{Closes, IsPartOf, known_by}
+use Rattle.jb_shared.specs.Closing.{Closes, known_by}
 use Rattle.jb_shared.specs.Histories.{settled_of}
 use Rattle.jb_shared.specs.Passes.{HasShown, Known, PassView, shown_of}
 use Rattle.jb_shared.specs.Standing.{StandsFor, caller_of}

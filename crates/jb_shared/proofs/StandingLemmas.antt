@@ -1,14 +1,13 @@
 -- What each answer of an area makes of the history for which it stands.
-use Rattle.std.proofs.Common.{◌≡◌, ℕ, ◌+◌, ◌≤◌, Bool, true, false, cond, List, [], ◌∷◌, ◌++◌, length, Result, Ok, Err, Option, Some, None, inl, refl, sym, ◌∙◌, ap, subst, arith}
+use Rattle.std.proofs.Common.{◌≡◌, ℕ, ◌+◌, ◌≤◌, Bool, true, false, cond, List, [], ◌∷◌, ◌++◌, length, Ok, Err, Option, Some, None, inl, refl, sym, ◌∙◌, ap, subst, arith}
 use Rattle.std.specs.Prelude.{is_some, IfSome}
-use Rattle.jb_area.specs.Area.{device_of, loaded_of, rules_of, HasDoubt, IsDoubtful, IsResting, RestsAt, SettlesAt}
+use Rattle.jb_area.specs.Area.{device_of, loaded_of, rules_of, HasDoubt, IsDoubtful, IsResting, SettlesAt}
 use Rattle.jb_area.specs.Calls.{HasRest, IsChangeOf, MeetsCall}
 use Rattle.jb_area.specs.declared.area.OpenArea.{OpenArea}
 use Rattle.jb_base.specs.Fault.{Rose}
 use Rattle.jb_base.specs.declared.area.AreaRules.{AreaRules}
 use Rattle.jb_base.specs.declared.user.User.{User}
 use Rattle.jb_decide.specs.Coming.{Coming}
-use Rattle.jb_decide.specs.Decided.{ChangesNothing, IsTold}
 use Rattle.jb_decide.specs.declared.error.AreaError.TheVariants as area
 use Rattle.jb_disk.specs.Device.{Device, TellsAlike}
 use Rattle.jb_model.specs.Answered.{Answered}
@@ -23,7 +22,7 @@ use Rattle.jb_model.specs.declared.entry.Outcome.TheVariants.{Replied, InDoubt a
 use Rattle.jb_model.specs.declared.loaded.Loaded.{Loaded}
 use Rattle.jb_model.specs.declared.reply.Reply.{Reply}
 use Rattle.jb_model.proofs.HistoryLaws.{standing_after_push}
-use Rattle.jb_shared.specs.Histories.{Tells, first_of, leads_to}
+use Rattle.jb_shared.specs.Histories.{Tells, first_of}
 use Rattle.jb_shared.specs.Standing.{IsAt, StandsAt, StandsFor, StandsInDoubt, StandsSettled, doubt_between, state_to}
 use Rattle.jb_shared.specs.declared.opening.Opening.{Opening}
 use Rattle.jb_shared.proofs.HistoryLemmas.{history_push, last_new, last_same, rose_from}

@@ -1,5 +1,5 @@
 -- What closing a shared area shows.
-use Rattle.std.specs.Prelude.{◌≡◌, ℕ, ◌<◌, ◌≤◌, List, [], map, Some}
+use Rattle.std.specs.Prelude.{◌≡◌, ℕ, List, [], map, Some}
 use Rattle.jb_area.specs.declared.area.OpenArea.{OpenArea}
 use Rattle.jb_disk.specs.Device.{Device}
 use Rattle.jb_model.specs.History.{calls_of}

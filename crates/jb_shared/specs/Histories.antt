@@ -1,5 +1,5 @@
 -- The history of a shared area: from what it goes on, when it is legal, and where it leads.
-use Rattle.std.specs.Prelude.{◌≡◌, ℕ, List, [], IsSome, filter_map, unwrap_or}
+use Rattle.std.specs.Prelude.{List, [], IsSome, filter_map, unwrap_or}
 use Rattle.jb_model.specs.History.{AllowsEach, AreNumbered, Rises, faults_of, settled_prefix, standing_after}
 use Rattle.jb_model.specs.Standing.{Standing, Settled, InDoubt}
 use Rattle.jb_model.specs.State.{AreaState, state_of}

@@ -1,4 +1,4 @@
-use Rattle.std.proofs.Common.{◌≡◌, ◌≤◌, ◌+◌, filter, length, take, ap, arith, refl, ◌∙◌}
+use Rattle.std.proofs.Common.{◌≡◌, filter, length, take, ap, arith, refl, ◌∙◌}
 use Rattle.std.proofs.lemmas.List.{take_all}
 use Rattle.jb_index.specs.Making.{is_unread, slots_listed}
 use Rattle.jb_link.specs.Slots.{linkables_from}

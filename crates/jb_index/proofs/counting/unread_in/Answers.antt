@@ -1,4 +1,4 @@
-use Rattle.std.proofs.Common.{◌≡◌, Bool, List, filter, length, map, ap, sym, ◌∙◌}
+use Rattle.std.proofs.Common.{◌≡◌, List, filter, length, map, ap, sym, ◌∙◌}
 use Rattle.std.specs.Prelude.{nat_lt}
 use Rattle.jb_index.specs.Answer.{is_listed, last_of}
 use Rattle.jb_index.specs.Making.{is_unread, slots_listed}
@@ -12,7 +12,7 @@ use Rattle.jb_model.specs.State.{state_of}
 use Rattle.jb_model.specs.declared.loaded.LoadedSlot.{LoadedSlot}
 use Rattle.jb_model.specs.declared.summary.Summary.{Summary}
 use Rattle.jb_index.proofs.ListLemmas.{filter_filter}
-use Rattle.jb_index.proofs.MakingLemmas.{listed_from, listed_of_state}
+use Rattle.jb_index.proofs.MakingLemmas.{listed_of_state}
 use Rattle.jb_index.proofs.counting.unread_in.Goals as goal
 
 pub returns : goal.returns

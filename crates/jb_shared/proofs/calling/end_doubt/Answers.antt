@@ -1,4 +1,4 @@
-use Rattle.std.proofs.Common.{◌≡◌, ◌+◌, length, Some, arith}
+use Rattle.std.proofs.Common.{◌+◌, length, Some, arith}
 use Rattle.jb_area.specs.Area.{device_of}
 use Rattle.jb_model.specs.declared.entry.Outcome.TheVariants.{NotBegun}
 use Rattle.jb_turn.specs.Seats.{row_of}

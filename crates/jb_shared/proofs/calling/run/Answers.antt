@@ -1,4 +1,4 @@
-use Rattle.std.proofs.Common.{◌≡◌, ◌+◌, length, Result, Ok, Err, ap, subst, ◌∙◌}
+use Rattle.std.proofs.Common.{◌+◌, length, Result, Ok, Err, ap, subst, ◌∙◌}
 use Rattle.jb_area.specs.Area.{device_of}
 use Rattle.jb_area.specs.Calls.{MeetsCall}
 use Rattle.jb_decide.specs.declared.error.AreaError.{AreaError}

@@ -1,4 +1,4 @@
-use Rattle.std.proofs.Common.{rules, refl, All, ◌≡◌, ◌∷◌, [], ◌++◌, List, length, map, sym, ap, subst, ◌∙◌, append_assoc, append-nil, arith, Some}
+use Rattle.std.proofs.Common.{rules, refl, ◌≡◌, ◌∷◌, [], ◌++◌, List, length, map, sym, ap, ◌∙◌, append_assoc, append-nil, arith, Some}
 use Rattle.std.proofs.lemmas.List.{map_push}
 use Rattle.std.proofs.lemmas.List.Elements.{All-same}
 use Rattle.std.specs.Vec.Iter.{into_iter_items}

@@ -1,6 +1,5 @@
-use Rattle.std.proofs.Common.{rules, ◌≡◌, IfOk, Some, Result, length, ap, subst, sym, ◌∙◌}
-use Rattle.jb_index.specs.Answer.{answer_to, unread_to}
-use Rattle.jb_index.specs.Index.{AreaIndex}
+use Rattle.std.proofs.Common.{rules, ◌≡◌, IfOk, Some, Result, ap, subst, sym, ◌∙◌}
+use Rattle.jb_index.specs.Answer.{answer_to}
 use Rattle.jb_model.specs.declared.look.Answer.{Answer}
 use Rattle.jb_turn.specs.Seats.{row_of}
 use Rattle.jb_shared.specs.Looks.{Looks, LooksOn, OfSettled, OfShown}

@@ -1,9 +1,8 @@
-use Rattle.std.proofs.Common.{rules, ◌≡◌, IfOk, Some, Result, length, ap, subst, sym, ◌∙◌}
-use Rattle.jb_index.specs.Answer.{answer_to, unread_to}
+use Rattle.std.proofs.Common.{rules, ◌≡◌, Some, length, ap, subst, sym, ◌∙◌}
+use Rattle.jb_index.specs.Answer.{unread_to}
 use Rattle.jb_index.specs.Index.{AreaIndex}
-use Rattle.jb_model.specs.declared.look.Answer.{Answer}
 use Rattle.jb_turn.specs.Seats.{row_of}
-use Rattle.jb_shared.specs.Looks.{Looks, LooksOn, OfSettled, OfShown}
+use Rattle.jb_shared.specs.Looks.{Looks, LooksOn, OfShown}
 use Rattle.jb_shared.specs.Passes.{HasShown, Known}
 use Rattle.jb_shared.proofs.LookLemmas.{looks_from, looks_show, shown_holds}
 use Rattle.jb_shared.proofs.shared.SharedArea.unread_count.Goals as goal

@@ -1,7 +1,6 @@
 use Rattle.std.proofs.Common.{rules, ◌≡◌, ◌<◌, [], ◌∷◌, ◌++◌, map, reverse, length, Some, arith, sym, refl, ap, ◌∙◌, subst, append_assoc, length-append}
 use Rattle.std.specs.Prelude.{IsSome}
 use Rattle.std.proofs.lemmas.List.Elements.{All-pop}
-use Rattle.jb_turn.specs.Seats.{row_of}
 use Rattle.jb_turn.specs.Whole.{HasAll, IsLowestMissing, IsWhole}
 use Rattle.jb_turn.proofs.Places.{rows_joined, rows_left, same_some}
 use Rattle.jb_turn.proofs.TurnKeeps.{joins, ended}
