@@ -1,0 +1,56 @@
+-- What a move of the menus hands out.
+use Rattle.std.proofs.Common.{◌≡◌, ℕ, ◌<◌, List, [], ◌++◌, length, Option, Some, refl, sym, ap, subst, arith, append_assoc, append-nil}
+use Rattle.std.specs.Prelude.{unwrap_or, Result, Ok, Err, IfOk}
+use Rattle.jb_conf.specs.declared.board.Board.{Board}
+use Rattle.jb_menu.specs.Awaits.{AsksHere, IsFor, area_in}
+use Rattle.jb_menu.specs.Menu.{user_in}
+use Rattle.jb_menu.specs.declared.moves.Move.{Move}
+use Rattle.jb_menu.specs.declared.moves.Move.TheVariants as move
+use Rattle.jb_menu.specs.declared.state.State.{State}
+use Rattle.jb_menu.specs.declared.state.State.TheVariants as state
+use Rattle.jb_talk.specs.declared.request.Act.{Act}
+use Rattle.jb_talk.specs.declared.request.Act.TheVariants as act
+use Rattle.jb_talk.specs.Turns.{Place, Turn, behind, move_turn, requests, says}
+use Rattle.jb_talk.specs.Talking.{Hands, Talking, owing}
+
+-- the user who is logged in, in an area of the board
+record IsThere (board : Board) (at : State) (area : ℕ) : Type 0 where
+  logged_in : user_in at ≡ Some (unwrap_or (user_in at) 0)
+  user : unwrap_or (user_in at) 0 < length board.users
+  here : area < length board.areas
+
+is_there : (board : Board) (at : State) (area : ℕ) → IsFor board at → Some area ≡ area_in at → IsThere board at area
+unfolding IsFor
+is_there board (state.Counting user place lines) area of here =
+    let same : place ≡ area = ap (λ (o : Option ℕ). unwrap_or o 0) (sym here) in
+    record { logged_in = refl; user = of.0; here = subst (λ (w : ℕ). w < length board.areas) same of.1 }
+is_there board (state.Entering user place) area of here =
+    let same : place ≡ area = ap (λ (o : Option ℕ). unwrap_or o 0) (sym here) in
+    record { logged_in = refl; user = of.0; here = subst (λ (w : ℕ). w < length board.areas) same of.1 }
+is_there board (state.Area visit stage) area of here =
+    let same : visit.area ≡ area = ap (λ (o : Option ℕ). unwrap_or o 0) (sym here) in
+    record { logged_in = refl; user = of.0; here = subst (λ (w : ℕ). w < length board.areas) same of.1 }
+is_there board (state.Name refused) area of here = absurd (grind arith)
+is_there board (state.Password refused name) area of here = absurd (grind arith)
+is_there board (state.Top user) area of here = absurd (grind arith)
+is_there board state.Ended area of here = absurd (grind arith)
+
+hands_request : (board : Board) (talk : Talking) (place : Place) (area : ℕ) (wanted : Act) → IsFor board place.menu → Some area ≡ area_in place.menu
+    → Hands board (owing talk (requests place area wanted)) (requests place area wanted).request
+hands_request board talk place area wanted of here =
+    let there = is_there board place.menu area of here in
+    record { menu = of; waits = refl; of = record { logged_in = there.logged_in; user = there.user; area = there.here } }
+
+-- what a move of the menus hands out
+pub hands_moved : (board : Board) (talk : Talking) (step : Move) → IsFor board talk.place.menu → AsksHere step talk.place.menu
+    → Hands board (owing talk (move_turn talk.place step)) (move_turn talk.place step).request
+hands_moved board talk (move.Say text mask) of here = record { menu = of; waits = refl; of = tt }
+hands_moved board talk (move.End text end) of here = record { menu = of; waits = refl; of = tt }
+hands_moved board talk (move.Ask area command) of here = hands_request board talk talk.place area (act.Ask command) of here
+hands_moved board talk (move.Look area question) of here = hands_request board talk talk.place area (act.Look question) of here
+hands_moved board talk (move.Count area) of here = hands_request board talk talk.place area act.Count of here
+
+-- two facts of one answer
+pub ok_both : {T E : Type 0} (r : Result T E) (P Q R : T → Type 0) → ((x : T) → P x → Q x → R x) → IfOk r P → IfOk r Q → IfOk r R
+ok_both (Ok x) P Q R f p q = f x p q
+ok_both (Err e) P Q R f p q = tt

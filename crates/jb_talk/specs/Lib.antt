@@ -1,0 +1,5 @@
+pub mod Keys
+pub mod Turns
+pub mod Conversations
+pub mod Talking
+pub mod Laws
