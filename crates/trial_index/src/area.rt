@@ -1,11 +1,11 @@
 //! An area that is sound, and the rows that change it.
-ghost use Rattle.std.specs.Prelude.{◌≤◌, IsTrue};
+ghost use Rattle.std.specs.Prelude.{◌≡◌, ◌≤◌, IsTrue};
 ghost use Rattle.trial_index.specs.Room.{HasRoom};
 
 use crate::message::{fields_at, head_at, head_of};
-use jb_base::{AreaRules, Bytes, DELETED, Kind, OutOfMemory, Subfields};
+use jb_base::{AreaRules, Bytes, DELETED, Kind, OutOfMemory, Subfields, User};
 use jb_crc::jam_crc;
-use jb_index::{Index, parents_of};
+use jb_index::{Index, parents_of, unread_in};
 use jb_model::{Head, Loaded, LoadedMarks, LoadedMessage, LoadedSlot, LoadedSlots, Mark};
 use jb_step::headed_length;
 use std::alloc::Global;
@@ -111,17 +111,28 @@ impl SoundArea {
 
     /// The index of the area, in which it takes these levels to read and to be the sysop.
     pub(crate) fn index(&self, alloc: Global, read: u8, sysop: u8) -> Result<Index, OutOfMemory> {
-        let rules = AreaRules {
-            ordinal: 0,
-            address: Bytes::new(alloc),
-            kind: Kind::Local,
-            read,
-            post: 0,
-            sysop,
-            slots: MOST,
-        };
         let parents = parents_of(alloc, &self.loaded)?;
-        Index::of(alloc, &self.loaded, &rules, &parents)
+        Index::of(alloc, &self.loaded, &rules_of(alloc, read, sysop), &parents)
+    }
+
+    /// How many messages the user has not read, of the area itself, in which it takes these levels.
+    pub(crate) fn unread(&self, alloc: Global, read: u8, sysop: u8, user: &User) -> u32 {
+        unread_in(&self.loaded, &rules_of(alloc, read, sysop), user)
+    }
+}
+
+/// The rules of an area in which it takes these levels to read and to be the sysop.
+fn rules_of(alloc: Global, read: u8, sysop: u8) -> AreaRules
+    ensures { result.slots ≡ 1_000 }
+{
+    AreaRules {
+        ordinal: 0,
+        address: Bytes::new(alloc),
+        kind: Kind::Local,
+        read,
+        post: 0,
+        sysop,
+        slots: MOST,
     }
 }
 

@@ -69,6 +69,10 @@ impl Answers for Trial {
             "levels" => self.set_levels(alloc, row),
             "user" => self.set_user(alloc, row),
             "area" | "live" | "chain" | "kill" | "mark" => area::answer(alloc, &mut self.area, row),
+            "walk" => {
+                let unread = self.area.unread(alloc, self.read, self.sysop, &self.user);
+                Ok(format!(in alloc; "{unread} unread")?)
+            }
             _ => {
                 let index = self.area.index(alloc, self.read, self.sysop)?;
                 answers::answer(alloc, &index, &self.user, row)
