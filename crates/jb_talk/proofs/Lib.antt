@@ -1,3 +1,4 @@
 mod MoveLemmas
 mod Talked
 mod Growing
+mod Asking

@@ -1,5 +1,5 @@
 -- What a move of the menus hands out.
-use Rattle.std.proofs.Common.{◌≡◌, ℕ, ◌<◌, List, [], ◌++◌, length, Option, Some, refl, sym, ap, subst, arith, append_assoc, append-nil}
+use Rattle.std.proofs.Common.{◌≡◌, ℕ, ◌<◌, length, Option, Some, refl, sym, ap, subst, arith}
 use Rattle.std.specs.Prelude.{unwrap_or, Result, Ok, Err, IfOk}
 use Rattle.jb_conf.specs.declared.board.Board.{Board}
 use Rattle.jb_menu.specs.Awaits.{AsksHere, IsFor, area_in}
@@ -10,7 +10,7 @@ use Rattle.jb_menu.specs.declared.state.State.{State}
 use Rattle.jb_menu.specs.declared.state.State.TheVariants as state
 use Rattle.jb_talk.specs.declared.request.Act.{Act}
 use Rattle.jb_talk.specs.declared.request.Act.TheVariants as act
-use Rattle.jb_talk.specs.Turns.{Place, Turn, behind, move_turn, requests, says}
+use Rattle.jb_talk.specs.Turns.{Place, move_turn, requests}
 use Rattle.jb_talk.specs.Talking.{Hands, Talking, owing}
 
 -- the user who is logged in, in an area of the board

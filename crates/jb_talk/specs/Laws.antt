@@ -4,7 +4,8 @@ use Rattle.jb_conf.specs.declared.board.Board.{Board}
 use Rattle.jb_menu.specs.declared.given.Given.{Given}
 use Rattle.jb_talk.specs.declared.request.Request.{Request}
 use Rattle.jb_talk.specs.declared.standing.TalkEnd.{TalkEnd}
-use Rattle.jb_talk.specs.Conversations.{Talks}
+use Rattle.jb_talk.specs.Conversations.{Talks, end_of}
+use Rattle.jb_talk.specs.Talking.{HasTalked, Talking}
 
 -- the whole begins with the front
 pub record IsFront {T : Type 0} (front whole : List T) : Type 0 where
@@ -33,3 +34,9 @@ abbrev pub TalksGrow : Type 0
 TalksGrow = (board : Board) (bytes more : List ℕ) (answers later : List Given) (out all : List ℕ) (asked every : List Request) (end another : TalkEnd)
     → Talks board bytes answers out asked end → Talks board (bytes ++ more) (answers ++ later) all every another
     → IsFront out all × IsFront asked every
+
+-- a talk stands at all times where its conversation ends that has these bytes and answers
+abbrev pub EachStands : Type 0
+EachStands = (board : Board) (talk : Talking) (bytes sent : List ℕ) (answers : List Given) (asked : List Request)
+    → HasTalked board talk bytes answers sent asked
+    → Talks board bytes answers (sent ++ talk.owed) asked (end_of talk.place.standing talk.taken)

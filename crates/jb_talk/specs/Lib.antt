@@ -2,4 +2,5 @@ pub mod Keys
 pub mod Turns
 pub mod Conversations
 pub mod Talking
+pub mod Asking
 pub mod Laws

@@ -1,5 +1,5 @@
 //! That a conversation is well defined.
-ghost use Rattle.jb_talk.specs.Laws.{EachTalks, TalksGrow, TalksOneWay};
+ghost use Rattle.jb_talk.specs.Laws.{EachStands, EachTalks, TalksGrow, TalksOneWay};
 
 use jb_telnet::bytes_are_cut_one_way;
 
@@ -11,6 +11,8 @@ pub fn conversations_are_one()
     ensures some { EachTalks }
     ensures same { TalksOneWay }
     ensures grows { TalksGrow }
+    // What was handed out and is owed is the conversation over the bytes and answers so far.
+    ensures stands { EachStands }
 {
     bytes_are_cut_one_way();
 }

@@ -1,7 +1,7 @@
 //! A talk, from its greeting to its end.
-ghost use Rattle.std.specs.Prelude.{◌≡◌, ◌+◌, ◌<◌, ◌≤◌, ◌++◌, ◌∷◌, [], ℕ, List, None, Some, false, IfOk, IsTrue, OnErr, OnOk, length, take};
+ghost use Rattle.std.specs.Prelude.{◌≡◌, ◌+◌, ◌<◌, ◌≤◌, ◌++◌, ◌∷◌, [], ℕ, List, None, Some, false, true, IfOk, IsTrue, OnErr, OnOk, length, take};
 ghost use Rattle.std.specs.List.{flat_map};
-ghost use Rattle.std.specs.Option.{option_to_list};
+ghost use Rattle.std.specs.Option.{is_some, option_to_list};
 ghost use Rattle.jb_base.specs.declared.limits.TheConstants.{MOST_SESSION_BYTES};
 ghost use Rattle.jb_conf.specs.InRange.{IsInRange};
 ghost use Rattle.jb_conf.specs.declared.board.Board.{Board};
@@ -9,6 +9,7 @@ ghost use Rattle.jb_menu.specs.Awaits.{IsFor};
 ghost use Rattle.jb_menu.specs.declared.given.Given.{Given};
 ghost use Rattle.jb_option.specs.Table.{greeting_bytes};
 ghost use Rattle.jb_telnet.specs.Units.{doubled};
+ghost use Rattle.jb_talk.specs.Asking.{is_line, most_asked};
 ghost use Rattle.jb_talk.specs.Conversations.{Talks, end_of, is_waiting};
 ghost use Rattle.jb_talk.specs.Talking.{Hands, HasFailed, HasTalked, most_wanted};
 
@@ -145,6 +146,10 @@ impl Talk {
             → HasTalked board.now self.new bytes (answers ++ given.now ∷ []) sent (asked ++ option_to_list request)) }
         ensures hands { IfOk result (λ request. Hands board.now self.new request) }
         ensures counted { OnOk result (self.new.taken ≡ self.old.taken) }
+
+        // What a line asks of the areas comes to an end.
+        ensures fewer { IfOk result (λ request. is_line given.now ≡ false → is_some request ≡ true
+            → most_asked board.now self.new.place.menu < most_asked board.now self.old.place.menu) }
 
         // Want of memory.
         ensures err { OnErr result (HasFailed self.new) }

@@ -4,6 +4,7 @@ use Rattle.jb_talk.specs.declared.request.Request.{Request}
 use Rattle.jb_talk.specs.Conversations.{conversation, end_of}
 use Rattle.jb_talk.specs.Laws.{IsFront}
 use Rattle.jb_talk.proofs.Growing.{conversation_grows}
+use Rattle.jb_talk.proofs.Talked.{talks}
 use Rattle.jb_talk.proofs.laws.conversations_are_one.Goals as goal
 
 pub returns-clause-some : goal.returns-clause-some
@@ -40,3 +41,6 @@ returns-clause-grows c = λ board bytes more answers later out all asked every e
       subst (λ (w : List Request). IsFront asked w) (sym asks)
           (subst (λ (w : List Request). IsFront w (conversation board (answers ++ later) (one.events ++ on.more)).course.asked) (sym one.asks) grown.asked),
     )
+
+pub returns-clause-stands : goal.returns-clause-stands
+returns-clause-stands c = λ board talk bytes sent answers asked talked. talks board talk bytes sent answers asked talked

@@ -1,6 +1,11 @@
+use Rattle.jb_talk.proofs.Asking.{asks_fewer}
 use Rattle.jb_talk.proofs.Talked.{talked_answer}
 use Rattle.jb_talk.proofs.talk.Talk.answer.Goals as goal
 
 pub returns-in-Ok-clause-fits : goal.returns-in-Ok-clause-fits
 returns-in-Ok-clause-fits c = λ bytes sent answers asked talked.
     rw (c.in-Ok.ensures.turn, c.in-Ok.ensures.request) (talked_answer c.args.board.now c.args.self.now bytes sent answers asked c.args.given.now talked c.requires.waits)
+
+pub returns-in-Ok-clause-fewer : goal.returns-in-Ok-clause-fewer
+returns-in-Ok-clause-fewer c = λ line asks.
+    rw c.in-Ok.ensures.turn (asks_fewer c.args.board.now c.args.self.now.place c.args.given.now c.requires.of line (rw (← c.in-Ok.ensures.request) asks))
