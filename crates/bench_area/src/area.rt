@@ -4,10 +4,9 @@ ghost use Rattle.jb_area.specs.Calls.{HasRest};
 ghost use Rattle.jb_disk.specs.Silent.{silent_device};
 
 use crate::base::files;
-use crate::counting::Counting;
 use jb_area::OpenArea;
 use jb_base::{AreaRules, Bytes, Kind, Name, OutOfMemory, User};
-use jb_disk::{Disk, MemDisk};
+use jb_disk::{Disk, MemDisk, SilentDisk};
 use jb_image::decode;
 use jb_model::{Command, Reply};
 use std::alloc::Global;
@@ -74,7 +73,7 @@ fn user(alloc: Global, id: u32) -> Result<User, OutOfMemory>
 }
 
 // The area over so many messages.
-fn open(alloc: Global, messages: u32) -> Result<OpenArea<Counting>, Unmeasured>
+fn open(alloc: Global, messages: u32) -> Result<OpenArea<SilentDisk<MemDisk>>, Unmeasured>
     requires { messages ≤ 60_000 }
     ensures { IfOk result (HasRest (λ disk. silent_device disk.faults)) }
 {
@@ -91,7 +90,7 @@ fn open(alloc: Global, messages: u32) -> Result<OpenArea<Counting>, Unmeasured>
         sysop: 200,
         slots: 65_000,
     };
-    match OpenArea::from_loaded(alloc, Counting::new(disk), loaded, rules) {
+    match OpenArea::from_loaded(alloc, SilentDisk::new(disk), loaded, rules) {
         Ok(area) => Ok(area),
         Err(_disk) => Err(Unmeasured::OutOfMemory),
     }

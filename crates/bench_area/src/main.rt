@@ -8,7 +8,6 @@ ghost use Rattle.std.specs.Prelude.{◌≤◌, IfSome};
 
 mod area;
 mod base;
-mod counting;
 
 use area::{Act, measure};
 use std::{env, io};

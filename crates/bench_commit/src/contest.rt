@@ -2,9 +2,8 @@
 ghost use Rattle.std.specs.Prelude.{◌≤◌};
 
 use crate::change::{FIXED_BYTES, post};
-use crate::counting::Counting;
 use crate::plain::{Journal, Plain};
-use jb_disk::{Disk, DiskFailed, FileId};
+use jb_disk::{Disk, DiskFailed, FileId, SilentDisk};
 use jb_files::FolderDisk;
 use jb_journal::{commit, prepare};
 use std::io;
@@ -21,7 +20,7 @@ pub(crate) struct Figures {
 }
 
 // A base without messages, with a journal that has its head.
-fn make(disk: &mut Counting) -> Result<(), DiskFailed> {
+fn make<D: Disk>(disk: &mut D) -> Result<(), DiskFailed> {
     disk.set_len(FileId::Jhr, FIXED_BYTES as u64)?;
     disk.set_len(FileId::Jdt, 0)?;
     disk.set_len(FileId::Jdx, 0)?;
@@ -46,11 +45,11 @@ pub(crate) fn run(rt: HostRuntime, dir: &str, commits: u32) -> io::Result<Option
     let Ok(files) = FolderDisk::new(rt, rt.alloc(), dir, "commit") else {
         return Ok(None);
     };
-    let mut disk = Counting::new(files);
+    let mut disk = SilentDisk::new(files);
     if make(&mut disk).is_err() {
         return Ok(None);
     }
-    let (calls, syncs) = disk.calls();
+    let (calls, syncs) = (disk.calls(), disk.syncs());
     let plain = Plain::new(rt, dir, "plain")?;
     let journal = Journal::new(rt, dir, "plain")?;
     let in_place = Plain::new(rt, dir, "inplace")?;
@@ -77,8 +76,7 @@ pub(crate) fn run(rt: HostRuntime, dir: &str, commits: u32) -> io::Result<Option
         in_place.put(before)?;
         figures.in_place = and(figures.in_place, start.elapsed(&rt)?);
     }
-    let (all_calls, all_syncs) = disk.calls();
-    figures.calls = all_calls.saturating_sub(calls);
-    figures.syncs = all_syncs.saturating_sub(syncs);
+    figures.calls = disk.calls().saturating_sub(calls);
+    figures.syncs = disk.syncs().saturating_sub(syncs);
     Ok(Some(figures))
 }

@@ -10,7 +10,6 @@ ghost use Rattle.std.specs.Prelude.{◌≤◌, IfSome};
 
 mod change;
 mod contest;
-mod counting;
 mod plain;
 
 use std::{env, fs, io};

@@ -42,7 +42,7 @@ impl Model for Posting {
 
     ghost view = { λ s. tt };
 
-    ghost invariant = { λ s. HasRest (λ disk. silent_device disk.faults) s.area };
+    ghost invariant = { λ s. HasRest (λ disk. silent_device disk.disk.faults) s.area };
 }
 
 /// The rules of the area.

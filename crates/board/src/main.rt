@@ -1,6 +1,6 @@
 //! The program `board`: the tools of an operator of JAM message bases.
 //!
-//! `main` makes the real host and hands it to [`jb_board::board`], with the words and the moment. That is the whole program over
+//! `main` makes the real host and hands it to [`jb_board::board`], with the words. That is the whole program over
 //! any host: its contract says, for every list of words, what is asked of the host, what is printed, and with which status the
 //! program ends.
 #![tactic(auto)]
@@ -10,7 +10,6 @@ ghost use Rattle.std.specs.Prelude.{IsSome};
 use jb_board::{Fault, board};
 use jb_host::RealHost;
 use std::process::ExitCode;
-use std::time::{SystemTime, UNIX_EPOCH};
 use std::{env, io};
 
 /// The words after the program's name.
@@ -22,22 +21,11 @@ fn words(rt: &HostRuntime) -> io::Result<Vec<String>> {
     Ok(words)
 }
 
-/// The seconds since 1970; 0 where the clock fails, or shows a moment that four bytes do not hold.
-fn moment(rt: &HostRuntime) -> u32 {
-    let Ok(now) = SystemTime::now(rt) else {
-        return 0;
-    };
-    match now.duration_since(UNIX_EPOCH) {
-        Ok(since) => u32::try_from(since.as_secs()).unwrap_or(0),
-        Err(_) => 0,
-    }
-}
-
 fn main(rt: HostRuntime) -> ExitCode {
     let alloc = rt.alloc();
     let mut host = RealHost::new(rt, rt, alloc);
     match words(&rt) {
-        Ok(words) => ExitCode::from(board(alloc, words.as_slice(), moment(&rt), &mut host)),
+        Ok(words) => ExitCode::from(board(alloc, words.as_slice(), &mut host)),
         Err(error) => without_words(&rt, &error, &mut host),
     }
 }
@@ -47,7 +35,7 @@ fn without_words(rt: &HostRuntime, error: &io::Error, host: &mut RealHost<HostRu
     requires { IsSome host.old.console }
 {
     if error.kind() == io::ErrorKind::InvalidData {
-        return ExitCode::from(board(rt.alloc(), &[], moment(rt), host));
+        return ExitCode::from(board(rt.alloc(), &[], host));
     }
     let fault = Fault::OutOfMemory;
     let line = fault.line();

@@ -13,7 +13,7 @@ use Rattle.jb_journal.specs.Doubt.{DoubtReplays, HasStopped, IsInDoubt, IsSettle
 use Rattle.jb_journal.specs.declared.stopped.Stopped.{Stopped}
 use Rattle.jb_journal.specs.declared.stopped.Stopped.TheVariants.{Early, Late}
 use Rattle.jb_model.specs.declared.loaded.Loaded.{Loaded}
-use Rattle.jb_decide.specs.Coming.{Brings, Coming, IsChange}
+use Rattle.jb_decide.specs.Coming.{BringsComing, Coming, IsChange}
 use Rattle.jb_area.specs.Commits.{IsAnsweredAs, IsSettledAs, IsStopped, IsStoppedAs}
 use Rattle.jb_area.specs.Holds.{IsAtRest, Opens, OpensToEither}
 use Rattle.jb_area.proofs.HoldLemmas.{committed-agrees, opens_either, opens_to, ready, rest_opens, rests_committed, rests_settled}
@@ -79,14 +79,14 @@ module _ (change : Change) where
       told_before old new silent (IsStopped stopped change from texts new) (λ was some. record { start = was; rests = settled.rests was some; shows = doubt was some })
 
   -- what a crash meanwhile leaves opens to one of the two
-  pub crash_as : (old new : Device) (from : Loaded) (texts : List ℕ) (coming : Coming) (start : Files) → IsAtRest from texts start → Brings change from texts coming.to coming.texts
+  pub crash_as : (old new : Device) (from : Loaded) (texts : List ℕ) (coming : Coming) (start : Files) → IsAtRest from texts start → BringsComing change from texts coming
       → LeavesOnly old new (IsBeforeOrAfter change start) → LeavesOnly old new (OpensToEither from texts coming)
   crash_as old new from texts coming start rests is =
       only_weaken (IsBeforeOrAfter change start) (OpensToEither from texts coming) old new
       (λ files either. opens_either change from texts coming start files is rests.holds either)
 
   -- what is in doubt may be settled
-  pub has_stopped : (stopped : Stopped) (device : Device) (from : Loaded) (texts : List ℕ) (coming : Coming) → IsStopped stopped change from texts device → Brings change from texts coming.to coming.texts
+  pub has_stopped : (stopped : Stopped) (device : Device) (from : Loaded) (texts : List ℕ) (coming : Coming) → IsStopped stopped change from texts device → BringsComing change from texts coming
       → HasStopped stopped change device
   has_stopped stopped device from texts coming doubt is = record {
     start = doubt.start;
@@ -95,11 +95,11 @@ module _ (change : Change) where
   }
 
   -- each file that the doubt may leave opens to one of the two
-  pub doubt_opens : (stopped : Stopped) (from : Loaded) (texts : List ℕ) (coming : Coming) (start files : Files) → IsAtRest from texts start → Brings change from texts coming.to coming.texts
+  pub doubt_opens : (stopped : Stopped) (from : Loaded) (texts : List ℕ) (coming : Coming) (start files : Files) → IsAtRest from texts start → BringsComing change from texts coming
       → DoubtReplays stopped change start files → OpensToEither from texts coming files
   doubt_opens Early from texts coming start files rests is replays = opens_either change from texts coming start files is rests.holds replays
   doubt_opens Late from texts coming start files rests is replays =
-      inr (opens_to (changed change start) files coming.to coming.texts (is.holds start rests.holds) replays)
+      inr (opens_to (changed change start) files coming.to coming.texts (is.made start rests.holds) replays)
 
   -- what is read then opens to one of the two
   pub stopped_opens : (stopped : Stopped) (device : Device) (from : Loaded) (texts : List ℕ) (coming : Coming) → IsStoppedAs stopped change from texts device → IsChange device.contents change from texts coming
@@ -111,11 +111,11 @@ module _ (change : Change) where
       doubt_opens stopped from texts coming in_doubt.start files in_doubt.rests brings (doubt_replays change in_doubt.start may stopped files (in_doubt.shows.read files there))
 
   -- settled as it is answered
-  answered_rests : (stands : Bool) (from : Loaded) (texts : List ℕ) (coming : Coming) (start : Files) (device : Device) → IsAtRest from texts start → Brings change from texts coming.to coming.texts
+  answered_rests : (stands : Bool) (from : Loaded) (texts : List ℕ) (coming : Coming) (start : Files) (device : Device) → IsAtRest from texts start → BringsComing change from texts coming
       → ForSome device.contents (IsSettledAt (answered stands change start)) → IsAllSynced device → IsAnsweredAs stands from texts coming device
   answered_rests true from texts coming start device rests is settled synced = record {
     rests = λ files there. rests_settled (changed change start) files coming.to coming.texts
-        (is.holds start rests.holds) (settled files there);
+        (is.made start rests.holds) (settled files there);
     synced = synced;
   }
   answered_rests false from texts coming start device rests is settled synced = record {
@@ -153,7 +153,7 @@ module _ (change : Change) where
       record { start = in_doubt.start; rests = in_doubt.rests; shows = still in_doubt.start may in_doubt.shows })
 
   -- what a crash during a settling leaves
-  pub settling_as : (stopped : Stopped) (old new : Device) (from : Loaded) (texts : List ℕ) (coming : Coming) → IsStopped stopped change from texts old → Brings change from texts coming.to coming.texts
+  pub settling_as : (stopped : Stopped) (old new : Device) (from : Loaded) (texts : List ℕ) (coming : Coming) → IsStopped stopped change from texts old → BringsComing change from texts coming
       → ((start : Files) → IsReady change start → Shows (IsInDoubt stopped change start) old → LeavesOnly old new (DoubtReplays stopped change start))
       → LeavesOnly old new (OpensToEither from texts coming)
   settling_as stopped old new from texts coming doubt is crash =

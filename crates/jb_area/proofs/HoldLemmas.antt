@@ -26,7 +26,7 @@ use Rattle.jb_record.specs.Lastread.{lastread_record_of}
 use Rattle.jb_record.specs.Message.{IsMessageHeader, message_header_of}
 use Rattle.jb_base.specs.Subfields.{IsSubfieldList}
 use Rattle.jb_redo.specs.Record.{record_bytes}
-use Rattle.jb_decide.specs.Coming.{Brings, Coming}
+use Rattle.jb_decide.specs.Coming.{BringsComing, Coming}
 use Rattle.jb_decide.specs.Holds.{Holds}
 use Rattle.jb_area.specs.Holds.{IsAtRest, Opens, OpensToEither}
 
@@ -117,14 +117,14 @@ opens_to base files loaded texts holds to = record {
 }
 
 -- each file that a commit of the change may leave opens to one of the two
-pub opens_either : (change : Change) (from : Loaded) (texts : List ℕ) (coming : Coming) (start files : Files) → Brings change from texts coming.to coming.texts → Holds from texts start
+pub opens_either : (change : Change) (from : Loaded) (texts : List ℕ) (coming : Coming) (start files : Files) → BringsComing change from texts coming → Holds from texts start
     → IsBeforeOrAfter change start files → OpensToEither from texts coming files
 opens_either change from texts coming start files brings holds (inl before) = inl (opens_to start files from texts holds before)
 opens_either change from texts coming start files brings holds (inr after) =
-    inr (opens_to (changed change start) files coming.to coming.texts (brings.holds start holds) after)
+    inr (opens_to (changed change start) files coming.to coming.texts (brings.made start holds) after)
 
 -- the change may be committed over files at rest
-pub ready : (change : Change) (from : Loaded) (texts : List ℕ) (coming : Coming) (files : Files) → Brings change from texts coming.to coming.texts → IsAtRest from texts files → IsReady change files
+pub ready : (change : Change) (from : Loaded) (texts : List ℕ) (coming : Coming) (files : Files) → BringsComing change from texts coming → IsAtRest from texts files → IsReady change files
 ready change from texts coming files brings rest = record {
   legal = brings.legal files rest.holds;
   grown = brings.grown files rest.holds;
@@ -175,10 +175,10 @@ module _ (change : Change) (start : Files) where
       ∙ with_file-other Jnl file (journal_of change start) (changed change start) ne
 
 -- after a commit the files are at rest with the change done
-pub rests_committed : (change : Change) (from : Loaded) (texts : List ℕ) (coming : Coming) (files : Files) → Brings change from texts coming.to coming.texts → IsAtRest from texts files
+pub rests_committed : (change : Change) (from : Loaded) (texts : List ℕ) (coming : Coming) (files : Files) → BringsComing change from texts coming → IsAtRest from texts files
     → IsAtRest coming.to coming.texts (committed change files)
 rests_committed change from texts coming files brings rest = record {
-  holds = holds_agree (committed change files) (changed change files) coming.to coming.texts (committed-agrees change files) (brings.holds files rest.holds);
+  holds = holds_agree (committed change files) (changed change files) coming.to coming.texts (committed-agrees change files) (brings.made files rest.holds);
   long = length-committed change files rest.long;
   shut = λ one. let zero = gate-committed change files rest.long in omega (arith, zero, one);
 }

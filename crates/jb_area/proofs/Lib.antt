@@ -1,7 +1,7 @@
 mod CallLemmas
 mod CommitLemmas
 mod DoubtLemmas
-mod HoldLemmas
+pub mod HoldLemmas
 mod IndexLemmas
 mod Outcomes
 mod StageLemmas

@@ -7,7 +7,7 @@ use Rattle.jb_model.specs.Sound.{IsSound}
 use Rattle.jb_model.specs.declared.loaded.Loaded.{Loaded}
 use Rattle.jb_model.specs.declared.reply.Reply.{Reply}
 use Rattle.jb_journal.specs.declared.stopped.Stopped.{Stopped}
-use Rattle.jb_decide.specs.Coming.{Brings, Coming, IsChange}
+use Rattle.jb_decide.specs.Coming.{BringsComing, Coming, IsChange}
 use Rattle.std.specs.Option.{ForSome}
 use Rattle.jb_disk.specs.Files.{Files}
 use Rattle.jb_journal.specs.Commit.{AgreeButJournal, changed}
@@ -55,7 +55,7 @@ pending_later limit old new redo pending from texts coming alike is = record {
   some = is.some;
   becomes = is.becomes;
   change = record {
-    brings = told_before old new (stays_silent old.contents new.contents alike) (Brings redo from texts coming.to coming.texts) is.change.brings;
+    brings = told_before old new (stays_silent old.contents new.contents alike) (BringsComing redo from texts coming) is.change.brings;
     writable = is.change.writable;
   };
   fit = is.fit;

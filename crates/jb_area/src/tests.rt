@@ -8,7 +8,7 @@ ghost use Rattle.jb_model.specs.Sound.{IsSound};
 
 use crate::{AreaError, OpenArea};
 use jb_base::{AreaRules, Bytes, Kind, Name, OutOfMemory, User};
-use jb_disk::{Disk, DiskFailed, FileId, MemDisk};
+use jb_disk::{Disk, FileId, MemDisk, SilentDisk};
 use jb_image::decode;
 use jb_journal::recover;
 use jb_model::{Letter, Loaded, Reply};
@@ -22,71 +22,6 @@ const MOMENT: u32 = 1_000_000_000;
 
 // The fields of the fixed header of an empty base with number 1; 1,000 zeros stand behind them.
 const FIXED: &[u8] = b"JAM\0\x00\xCA\x9A\x3B\0\0\0\0\0\0\0\0\xFF\xFF\xFF\xFF\x01\0\0\0";
-
-/// A disk in memory that tells nothing, as one over real files.
-#[derive(Drop)]
-struct Quiet {
-    disk: MemDisk,
-    faults: u64,
-}
-
-impl Disk for Quiet {
-    ghost use Rattle.jb_disk.specs.Silent.{silent_device, tells_nothing};
-
-    ghost device = { λ disk. silent_device disk.faults };
-
-    fn len(&mut self, file: FileId) -> Result<u64, DiskFailed> {
-        match self.disk.len(file) {
-            Ok(len) => Ok(len),
-            Err(failed) => {
-                self.faults = self.faults.saturating_add(1);
-                Err(failed)
-            }
-        }
-    }
-
-    fn read_at(&mut self, file: FileId, at: u64, into: &mut [u8]) -> Result<(), DiskFailed> {
-        match self.disk.read_at(file, at, into) {
-            Ok(()) => Ok(()),
-            Err(failed) => {
-                self.faults = self.faults.saturating_add(1);
-                Err(failed)
-            }
-        }
-    }
-
-    fn write_at(&mut self, file: FileId, at: u64, bytes: &[u8]) -> Result<(), DiskFailed> {
-        match self.disk.write_at(file, at, bytes) {
-            Ok(()) => Ok(()),
-            Err(failed) => {
-                self.faults = self.faults.saturating_add(1);
-                Err(failed)
-            }
-        }
-    }
-
-    fn set_len(&mut self, file: FileId, len: u64) -> Result<(), DiskFailed> {
-        match self.disk.set_len(file, len) {
-            Ok(()) => Ok(()),
-            Err(failed) => {
-                self.faults = self.faults.saturating_add(1);
-                Err(failed)
-            }
-        }
-    }
-
-    fn sync(&mut self, file: FileId) -> Result<(), DiskFailed> {
-        match self.disk.sync(file) {
-            Ok(()) => Ok(()),
-            Err(failed) => {
-                self.faults = self.faults.saturating_add(1);
-                Err(failed)
-            }
-        }
-    }
-
-    ghost told = { λ disk. tells_nothing disk.faults };
-}
 
 /// What a user does.
 #[derive(Clone, Copy, Debug)]
@@ -139,7 +74,7 @@ fn headers(alloc: Global, fixed: &[u8], behind: &[&[u8]]) -> Result<Bytes, OutOf
 }
 
 // A disk with the empty base and a prepared journal, that fails the calls with these numbers.
-fn disk(alloc: Global, failing: &[u64]) -> Result<Quiet, OutOfMemory> {
+fn disk(alloc: Global, failing: &[u64]) -> Result<SilentDisk<MemDisk>, OutOfMemory> {
     let files = [
         headers(alloc, FIXED, &[])?,
         Bytes::new(alloc),
@@ -149,7 +84,7 @@ fn disk(alloc: Global, failing: &[u64]) -> Result<Quiet, OutOfMemory> {
         Bytes::new(alloc),
     ];
     let disk = MemDisk::new(alloc, files, failing.to_vec(alloc)?)?;
-    Ok(Quiet { disk, faults: 0 })
+    Ok(SilentDisk::new(disk))
 }
 
 // A local area, read and posted in from level 10 on, and tended from 200 on.
@@ -188,12 +123,16 @@ fn over<D: Disk + Drop, R: Abort>(
 }
 
 // The empty area, on a disk that fails the calls with these numbers.
-fn area<R: Abort>(rt: &R, alloc: Global, failing: &[u64]) -> Result<OpenArea<Quiet>, OutOfMemory>
+fn area<R: Abort>(
+    rt: &R,
+    alloc: Global,
+    failing: &[u64],
+) -> Result<OpenArea<SilentDisk<MemDisk>>, OutOfMemory>
     ensures { IfOk result (HasRest (λ disk. silent_device disk.faults)) }
 {
-    let mut quiet = disk(alloc, failing)?;
-    match decode(alloc, &mut quiet, 65_000) {
-        Ok(loaded) => over(rt, alloc, quiet, loaded),
+    let mut disk = disk(alloc, failing)?;
+    match decode(alloc, &mut disk, 65_000) {
+        Ok(loaded) => over(rt, alloc, disk, loaded),
         Err(error) => panic!(rt; "{error:?}"),
     }
 }
@@ -401,7 +340,7 @@ fn a_pack_drops_killed_messages_and_keeps_numbers_and_marks(rt: HostRuntime) -> 
     Ok(())
 }
 
-// How many calls there are before a kill; a kill makes 16.
+// How many calls there are before a kill; a kill makes 10.
 fn calls_before_a_kill<R: Abort>(rt: &R, alloc: Global, user: &User) -> Result<u64, OutOfMemory> {
     let mut area = area(rt, alloc, &[])?;
     let good = Act::Post(draft(b"Hello", b"Good\r", 0));
@@ -413,7 +352,7 @@ fn calls_before_a_kill<R: Abort>(rt: &R, alloc: Global, user: &User) -> Result<u
         &mut area,
         &[(user, Act::Kill(1), Wanted::Killed(1))],
     );
-    assert_eq!(rt; area.disk.disk.calls(), before.wrapping_add(16));
+    assert_eq!(rt; area.disk.disk.calls(), before.wrapping_add(10));
     Ok(before)
 }
 
@@ -447,8 +386,8 @@ fn a_kill_that_is_stopped_falls_or_stands_as_reopen_answers(rt: HostRuntime) -> 
     let alloc = rt.alloc();
     let test = user(alloc, b"Test", 7, 50)?;
     let before = calls_before_a_kill(&rt, alloc, &test)?;
-    kill_stops(&rt, alloc, &test, before.wrapping_add(9), false)?;
-    kill_stops(&rt, alloc, &test, before.wrapping_add(14), true)?;
+    kill_stops(&rt, alloc, &test, before.wrapping_add(3), false)?;
+    kill_stops(&rt, alloc, &test, before.wrapping_add(8), true)?;
     Ok(())
 }
 
@@ -468,8 +407,8 @@ fn post_stops<R: Abort>(
         assert!(rt; recover(&mut left).is_ok());
         let loaded = decode(alloc, &mut left, 65_000)?;
         let count = loaded.slots.as_slice().len();
-        assert!(rt; count == 1 || call < 20, "call {call}, pick {pick}");
-        assert!(rt; count == 0 || call > 18, "call {call}, pick {pick}");
+        assert!(rt; count == 1 || call < 5, "call {call}, pick {pick}");
+        assert!(rt; count == 0 || call > 3, "call {call}, pick {pick}");
         assert!(rt; count <= 1);
         assert_eq!(rt; loaded.active as usize, count);
     }
@@ -484,8 +423,8 @@ fn a_post_that_is_stopped_at_any_moment_is_there_or_not(rt: HostRuntime) -> Resu
     let mut area = area(&rt, alloc, &[])?;
     let before = area.disk.disk.calls();
     answers(&rt, alloc, &mut area, &[(&test, good, Wanted::Posted(1))]);
-    assert_eq!(rt; area.disk.disk.calls(), before.wrapping_add(33));
-    for call in 0..34 {
+    assert_eq!(rt; area.disk.disk.calls(), before.wrapping_add(17));
+    for call in 0..18 {
         post_stops(&rt, alloc, &area.disk.disk, before, call)?;
     }
     Ok(())

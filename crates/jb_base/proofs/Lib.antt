@@ -1,2 +1,4 @@
 pub mod Access
+mod Heads
 pub mod Numbers
+pub mod Spelled

@@ -26,6 +26,11 @@ pub record IsSubfieldList (fields : List Subfield) (bytes : List ℕ) : Type 0 w
   pub each : All IsSubfield fields
   pub spelled : subfield_bytes fields ≡ bytes
 
+-- these bytes are those of some subfields
+pub record AreSubfields (bytes : List ℕ) : Type 0 where
+  pub fields : List Subfield
+  pub are : IsSubfieldList fields bytes
+
 -- the bytes before this place belong to a list, bytes remain, and no beginning of them is one subfield
 pub record IsCutAt (bytes : List ℕ) (at : ℕ) : Type 0 where
   pub fields : List Subfield

@@ -13,6 +13,7 @@ mod limits;
 mod memory;
 mod name;
 mod number;
+mod part;
 mod subfield;
 mod user;
 
@@ -29,5 +30,6 @@ pub use limits::{
 pub use memory::OutOfMemory;
 pub use name::Name;
 pub use number::{get_u16, get_u32, put_u16, put_u32};
+pub use part::{Part, first_part};
 pub use subfield::{MSGID, RECEIVER_NAME, REPLYID, SENDER_NAME, SUBJECT, Subfield, Subfields};
 pub use user::User;

@@ -1,9 +1,11 @@
 //! The subfields of a message header (JAM, "SubFields").
-ghost use Rattle.std.specs.Prelude.{◌≡◌, [], ◌∷◌, ◌++◌, length, OnOk, OnErr};
+ghost use Rattle.std.specs.Prelude.{◌≡◌, [], ◌∷◌, ◌++◌, IfOk, OnOk, OnErr};
 ghost use Rattle.std.specs.Option.{option_map};
 ghost use Rattle.std.specs.Borrow.{Bor};
-ghost use Rattle.jb_base.specs.Subfields.{first_of};
+ghost use Rattle.jb_base.specs.Number.{number_bytes};
+ghost use Rattle.jb_base.specs.Subfields.{AreSubfields, IsSubfieldList, first_of};
 
+use crate::part::{HEAD, first_part};
 use crate::{Bytes, OutOfMemory};
 use std::alloc::Global;
 use std::marker::Model;
@@ -28,19 +30,24 @@ pub struct Subfield {
     pub bytes: Bytes,
 }
 
-/// The subfields of one message, in the order of its header. Contracts see the list of them.
+/// The subfields of one message, in the order of its header. They are kept as their bytes, as these stand on disk, so that
+/// they take one piece of memory. Contracts see the list of them.
 #[derive(Debug, Drop)]
 pub struct Subfields {
-    items: Vec<Subfield>,
+    bytes: Vec<u8>,
 }
 
 impl Model for Subfields {
     ghost use Rattle.std.specs.Prelude.{List};
+    ghost use Rattle.jb_base.specs.Spelled.{fields_in};
+    ghost use Rattle.jb_base.specs.Subfields.{IsSubfieldList};
     ghost use Rattle.jb_base.specs.declared.subfield.Subfield.{Subfield};
 
     ghost Value = { List Subfield };
 
-    ghost view = { λ s. s.items.items };
+    ghost view = { λ s. fields_in s.bytes.items };
+
+    ghost invariant = { λ s. IsSubfieldList (fields_in s.bytes.items) s.bytes.items };
 }
 
 impl Subfields {
@@ -49,23 +56,44 @@ impl Subfields {
         ensures { result ≡ [] }
     {
         Subfields {
-            items: Vec::new(alloc),
+            bytes: Vec::new(alloc),
         }
     }
 
-    /// The subfields, in order.
-    pub fn as_slice(&self) -> &[Subfield]
-        ensures { result.now ≡ self.now }
+    /// The subfields of which these are the bytes.
+    pub fn copy(alloc: Global, bytes: &[u8]) -> Result<Subfields, OutOfMemory>
+        requires { AreSubfields bytes.now }
+        ensures { IfOk result (λ fields. IsSubfieldList fields bytes.now) }
     {
-        self.items.as_slice()
+        let bytes = Vec::from_slice(alloc, bytes)?;
+        Ok(Subfields { bytes })
     }
 
-    /// Puts one behind the others, or for want of memory leaves all as it was.
+    /// Their bytes, one after another.
+    pub fn as_bytes(&self) -> &[u8]
+        ensures { IsSubfieldList self.now result.now }
+    {
+        self.bytes.as_slice()
+    }
+
+    /// Puts one behind the others, or for want of memory leaves all as it was. No header holds one of 2^32 bytes or more:
+    /// it is refused as memory is.
     pub fn push(&mut self, field: Subfield) -> Result<(), OutOfMemory>
         ensures ok { OnOk result (self.new ≡ self.old ++ field ∷ []) }
         ensures err { OnErr result (self.new ≡ self.old) }
     {
-        self.items.push(field)?;
+        let data = field.bytes.as_slice();
+        if data.len() > u32::MAX as usize {
+            return Err(OutOfMemory);
+        }
+        let head = head_of(field.id, field.hi, data.len() as u32);
+        self.bytes.reserve(HEAD + data.len())?;
+        let Ok(()) = self.bytes.extend_from_slice(&head) else {
+            unreachable!()
+        };
+        let Ok(()) = self.bytes.extend_from_slice(data) else {
+            unreachable!()
+        };
         Ok(())
     }
 
@@ -73,7 +101,29 @@ impl Subfields {
     pub fn first(&self, id: u16) -> Option<&[u8]>
         ensures { option_map (λ (bytes : Bor _). bytes.now) result ≡ first_of id self.now }
     {
-        let field = self.items.iter().find(|field| field.id == id)?;
-        Some(field.bytes.as_slice())
+        let mut rest = self.bytes.as_slice();
+        while let Some(part) = first_part(rest) {
+            if part.id == id {
+                return Some(part.content);
+            }
+            rest = part.behind;
+        }
+        None
     }
+}
+
+/// What stands before the data: LoID, HiID and the length of the data.
+fn head_of(id: u16, hi: u16, len: u32) -> [u8; HEAD]
+    ensures { result ≡ number_bytes 2 id ++ number_bytes 2 hi ++ number_bytes 4 len }
+{
+    [
+        (id % 256) as u8,
+        (id / 256) as u8,
+        (hi % 256) as u8,
+        (hi / 256) as u8,
+        (len % 256) as u8,
+        (len / 256 % 256) as u8,
+        (len / 256 / 256 % 256) as u8,
+        (len / 256 / 256 / 256) as u8,
+    ]
 }

@@ -5,7 +5,7 @@ use Rattle.std.specs.Option.{ForSome, option_map}
 use Rattle.std.proofs.lemmas.Slice.Eq.{bytes_eq-Decides}
 use Rattle.jb_disk.specs.Device.{Device}
 use Rattle.jb_host.specs.Desk.{Desk, Disks, GivesDisk, Place, TakesBack, handed_out, has_disk, with_place}
-use Rattle.jb_tool.specs.Answers.{AnswersTool, KeepsOpening}
+use Rattle.jb_tool.specs.Answers.{AnswersTool, KeepsUnderTool}
 use Rattle.jb_tool.specs.declared.error.ToolError.{ToolError}
 use Rattle.jb_tool.specs.declared.tool.Tool.{Tool}
 use Rattle.jb_board.specs.Run.{Answer, AnswersAs, AnswersWords, UsesDisk, answer_of}
@@ -32,7 +32,7 @@ twice_changed dir name first second disks =
 
 -- a disk that is put back after it was used
 pub used_disk : (tool : Tool) (moment : ℕ) (dir name : List ℕ) (before after : Device) (old mid new : Desk) (answer : Answer) → GivesDisk dir name before old mid → TakesBack dir name after mid new
-    → AnswersAs tool moment before after answer → KeepsOpening tool moment before after → before.faults ≤ after.faults
+    → AnswersAs tool moment before after answer → KeepsUnderTool tool moment before after → before.faults ≤ after.faults
     → ForSome old.disks (λ disks. UsesDisk tool moment dir name disks new.disks answer)
 used_disk tool moment dir name before after old mid new answer given back answers crash later = λ disks told.
     let out : mid.disks ≡ Some (with_place dir name handed_out disks) = given.out ∙ ap (option_map (with_place dir name handed_out)) told in

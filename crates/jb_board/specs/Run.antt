@@ -7,7 +7,7 @@ use Rattle.jb_host.specs.Desk.{Desk, Disks, has_disk, with_place, asked_disk, an
 use Rattle.jb_host.specs.Wire.{Wire, Begins, Sends}
 use Rattle.jb_load.specs.Summary.{summary_of}
 use Rattle.jb_load.specs.Workload.{load_run}
-use Rattle.jb_tool.specs.Answers.{AnswersTool, KeepsOpening}
+use Rattle.jb_tool.specs.Answers.{AnswersTool, KeepsUnderTool}
 use Rattle.jb_tool.specs.declared.error.ToolError.{ToolError}
 use Rattle.jb_tool.specs.declared.tool.Tool.{Tool as ToolName}
 use Rattle.jb_board.specs.declared.fault.Fault.{Fault}
@@ -39,7 +39,7 @@ pub record UsesDisk (tool : ToolName) (moment : ℕ) (dir name : List ℕ) (disk
   pub was : disks dir name ≡ has_disk before
   pub back : after ≡ Some (with_place dir name (has_disk then) disks)
   pub answers : AnswersAs tool moment before then answer
-  pub crash : KeepsOpening tool moment before then
+  pub crash : KeepsUnderTool tool moment before then
   pub later : before.faults ≤ then.faults
 
 -- no disk was handed out, and why
@@ -95,8 +95,12 @@ abbrev pub IsPrinted : Answer → ℕ → Wire → Wire → Type 0
 IsPrinted (Ok text) status old new = KeepsInput old new × (((status ≡ 0) × Sends old.sent text new.sent) ⊎ ((status ≡ 5) × Stops old new text))
 IsPrinted (Err fault) status old new = KeepsInput old new × (status ≡ status_of fault) × IsSent old new (line_of fault)
 
--- a whole run, at a moment in seconds since 1970
-pub record HasRun (words : List (List ℕ)) (moment : ℕ) (old new : Desk) (status : ℕ) : Type 0 where
+-- a whole run, at one moment: what the host's clocks give, where it tells that
+pub record HasRun (words : List (List ℕ)) (old new : Desk) (status : ℕ) : Type 0 where
+  -- in seconds since 1970
+  pub moment : ℕ
+  pub shown : ForSome old.reading (λ reading. moment ≡ reading)
+  pub reading : new.reading ≡ old.reading
   pub answer : Answer
   pub answers : AnswersWords (command_line_of words) moment old new answer
   pub console : Wire

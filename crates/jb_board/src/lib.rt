@@ -2,7 +2,7 @@
 //! status the run ends.
 //!
 //! [`board`] is a whole run. Its contract says all of it, for every list of words (`specs/Run.antt`). The program `board` hands in
-//! the words, the moment and the real host.
+//! the words and the real host.
 #![tactic(auto)]
 
 mod command;

@@ -8,7 +8,7 @@ ghost use Rattle.jb_board.specs.declared.fault.Fault.TheVariants.{OutOfMemory as
 use crate::command::{CommandLine, command};
 use crate::fault::Fault;
 use jb_base::{Bytes, OutOfMemory};
-use jb_host::{Host, HostError, Link, send};
+use jb_host::{Clock, Host, HostError, Link, send};
 use jb_load::load_in_memory;
 use jb_tool::{Tool, ToolError};
 use std::alloc::Global;
@@ -49,6 +49,7 @@ fn use_tool<H: Host>(
 ) -> Result<Bytes, Fault>
     ensures found { UsesTool tool moment dir.now name.now (H.desk host.old) (H.desk host.new) result }
     ensures console { (H.desk host.new).console ≡ (H.desk host.old).console }
+    ensures reading { (H.desk host.new).reading ≡ (H.desk host.old).reading }
 {
     let disk = match host.disk(dir, name) {
         Ok(disk) => disk,
@@ -69,6 +70,7 @@ fn answer<H: Host>(
 ) -> Result<Bytes, Fault>
     ensures found { AnswersWords (command_line_of (map string_bytes words.now)) moment (H.desk host.old) (H.desk host.new) result }
     ensures console { (H.desk host.new).console ≡ (H.desk host.old).console }
+    ensures reading { (H.desk host.new).reading ≡ (H.desk host.old).reading }
 {
     match command(words) {
         Some(CommandLine::Use { tool, dir, name }) => use_tool(
@@ -97,17 +99,19 @@ fn print<L: Link>(console: &mut L, answer: &Result<Bytes, Fault>) -> u8
     }
 }
 
-/// The whole program: answers the words at this moment, in seconds since 1970, prints on the host's console, and gives the exit
-/// status.
+/// The whole program: answers the words at the moment that the host's clock shows, prints on the host's console, and gives the
+/// exit status.
 ///
 /// 0: done and printed whole. 1: the words are no command line. 3: the base is refused. 4: its disk failed. 5: the host or
 /// the console failed. 6: want of memory. Under a status other than 0 the console has one line that begins with `fault`, or,
 /// where the console itself failed, a beginning of what was to be printed. Nothing is read from the console. The host is asked
 /// for the disk of the base alone, at most once, and has it back when the call returns.
-pub fn board<H: Host>(alloc: Global, words: &[String], moment: u32, host: &mut H) -> u8
+pub fn board<H: Host>(alloc: Global, words: &[String], host: &mut H) -> u8
     requires { IsSome (H.desk host.old).console }
-    ensures { HasRun (map string_bytes words.now) moment (H.desk host.old) (H.desk host.new) result }
+    ensures { HasRun (map string_bytes words.now) (H.desk host.old) (H.desk host.new) result }
 {
+    let mut clock = host.clock();
+    let moment = clock.now();
     let answer = answer(alloc, words, moment, host);
     let mut console = host.console();
     let status = print(&mut console, &answer);

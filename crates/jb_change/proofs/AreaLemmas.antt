@@ -225,8 +225,10 @@ makes_nothing change loaded no_lengths no_pieces =
     record {
       legal = λ files held. subst (λ (l : List Length). IsLegal (sizes_of files) l change.pieces) (sym no_lengths) (subst (IsLegal (sizes_of files) []) (sym no_pieces) (empty_legal files));
       grown = λ files held. subst (λ (l : List Length). IsGrowthCovered l change.pieces files) (sym no_lengths) (λ file i past low. absurd (omega (arith, past, low)));
-      loads = λ files held. subst (λ (f : Files). Loads f loaded) (sym (nothing files)) held;
-      texts = λ files held. ap (λ (f : Files). f Jdt) (nothing files) ∙ sym (append-nil (files Jdt));
+      made = λ files held. record {
+        loads = subst (λ (f : Files). Loads f loaded) (sym (nothing files)) held;
+        texts = ap (λ (f : Files). f Jdt) (nothing files) ∙ sym (append-nil (files Jdt));
+      };
     }
   where
     -- no length and no piece keep the rules

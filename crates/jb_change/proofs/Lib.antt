@@ -1,7 +1,16 @@
 mod AreaLemmas
+mod BaseLemmas
 mod ByteLemmas
 mod ChangeLemmas
+pub mod EndLemmas
 mod HeaderLemmas
+mod KeptLemmas
 mod LoadsLemmas
+mod LongerLemmas
+mod MarkLemmas
 mod PieceLemmas
+pub mod PostLemmas
 mod ReadingLemmas
+pub mod RecordLemmas
+pub mod SizeLemmas
+mod SoundLemmas

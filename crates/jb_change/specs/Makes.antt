@@ -17,11 +17,19 @@ done change files = applied change.lengths change.pieces files
 abbrev pub record_size : Change → ℕ
 record_size change = length (record_bytes change.lengths change.pieces)
 
--- of files that hold this area it makes files that hold that one, with these bytes behind the texts
-pub record Makes (change : Change) (from to : Loaded) (text : List ℕ) : Type 0 where
+-- of whatever files have the one property the change makes files of which, beside those before, the other is true
+pub record Brings (change : Change) (before : Files → Type 0) (after : Files → Files → Type 0) : Type 0 where
   -- it makes a record over them, which writes each byte past an old end
-  pub legal : (files : Files) → Loads files from → IsLegal (sizes_of files) change.lengths change.pieces
-  pub grown : (files : Files) → Loads files from → IsGrowthCovered change.lengths change.pieces files
-  -- what the files hold then
-  pub loads : (files : Files) → Loads files from → Loads (done change files) to
-  pub texts : (files : Files) → Loads files from → done change files Jdt ≡ files Jdt ++ text
+  pub legal : (files : Files) → before files → IsLegal (sizes_of files) change.lengths change.pieces
+  pub grown : (files : Files) → before files → IsGrowthCovered change.lengths change.pieces files
+  -- what the files are then
+  pub made : (files : Files) → before files → after files (done change files)
+
+-- the files then hold this area, with these bytes behind the texts
+pub record HoldsBehind (loaded : Loaded) (text : List ℕ) (files now : Files) : Type 0 where
+  pub loads : Loads now loaded
+  pub texts : now Jdt ≡ files Jdt ++ text
+
+-- of files that hold this area it makes files that hold that one, with these bytes behind the texts
+abbrev pub Makes : Change → Loaded → Loaded → List ℕ → Type 0
+Makes change from to text = Brings change (λ files. Loads files from) (HoldsBehind to text)

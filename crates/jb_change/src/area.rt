@@ -8,9 +8,10 @@ ghost use Rattle.jb_disk.specs.declared.file.FileId.TheVariants.{Jhr, Jlr};
 ghost use Rattle.jb_model.specs.Loaded.{with_counts};
 
 use crate::piece::{put_piece, two_numbers};
+use crate::records::mark_bytes;
 use jb_disk::{FileId, Redo};
 use jb_model::Mark;
-use jb_record::{MARK_RECORD_BYTES, MarkRecord, encode_mark};
+use jb_record::MARK_RECORD_BYTES;
 
 /// Where ModCounter stands in the fixed header, with ActiveMsgs behind it.
 const COUNTS_AT: u32 = 8;
@@ -43,16 +44,10 @@ pub fn put_mark(redo: &mut Redo, place: u32, mark: &Mark)
     ensures kept { KeepsRoom redo.old redo.new }
     ensures size { record_size redo.new ≡ record_size redo.old + 28 }
 {
-    let record = MarkRecord {
-        user_crc: mark.user_crc,
-        user_id: mark.user_id,
-        last: mark.last,
-        high: mark.high,
-    };
     put_piece(
         redo,
         FileId::Jlr,
         place * MARK_RECORD_BYTES as u32,
-        &encode_mark(&record),
+        &mark_bytes(mark),
     );
 }

@@ -1,17 +1,27 @@
-//! The changes of an open area as changes of its files. Each call puts one small change behind those that a [`Redo`]
-//! already holds: other counts in the fixed header, other links, the traces of a reading or the bit of a kill in the
-//! header of a message, another mark (JAM, "Header file", "Message header", "Lastread file").
+//! The write side of a base: the changes of an open area as changes of its files, and the records that they write (JAM,
+//! "Header file", "Message header", "SubFields", "Index file", "Lastread file").
 //!
-//! The layer above may rely on this: where the redo so far makes of files that hold one area files that hold another,
-//! the redo then makes files that hold that other area with the small change. No piece of the redo is seen above. The
-//! calls take no memory: the room that they spend is said, and is there before.
+//! The layer above may rely on this: where the redo so far makes of files that hold one area files that hold another, a
+//! small change puts itself behind, and the redo then makes files that hold that other area with the small change: other
+//! counts, other links, the traces of a reading, the bit of a kill, another mark. The small changes take no memory: the room
+//! that they spend is said, and is there before. [`put_post`] and [`put_new_mark`] begin an empty redo: they make the files
+//! longer, and leave each byte that these have. No piece of a redo is seen above. Each record is made here
+//! ([`message_bytes`], [`entry_bytes`], [`mark_bytes`], [`fixed_of`]) for all that write one.
 #![tactic(auto)]
 
 mod area;
+mod base;
 mod header;
 mod laws;
+mod marking;
 mod piece;
+mod posting;
+mod records;
 
 pub use area::{put_counts, put_mark};
+pub use base::{NO_PASSWORD, new_loaded, put_base};
 pub use header::{put_kill, put_links, put_reading};
-pub use laws::makes_nothing;
+pub use laws::{appending_keeps_sound, makes_nothing};
+pub use marking::put_new_mark;
+pub use posting::{SPARE_BYTES, SPARE_PIECES, put_post};
+pub use records::{entry_bytes, fixed_of, mark_bytes, message_bytes};

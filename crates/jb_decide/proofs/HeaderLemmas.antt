@@ -5,8 +5,8 @@ use Rattle.std.proofs.lemmas.Bool.{cases_eq, cases_lt}
 use Rattle.std.proofs.lemmas.Grind.{same_number_lists}
 use Rattle.std.proofs.lemmas.List.{places, take-append-drop}
 use Rattle.std.proofs.lemmas.Option.{slice_get_within}
-use Rattle.jb_append.proofs.EndLemmas.{below_end, same_length}
-use Rattle.jb_append.specs.Behind.{AppendsOnly}
+use Rattle.jb_change.proofs.EndLemmas.{below_end, same_length}
+use Rattle.jb_change.specs.Behind.{AppendsOnly}
 use Rattle.jb_change.specs.Changing.{ChangesArea, ChangesHead, ChangesHeader, ChangesMark, ChangesMessage, WritesOnly, head_with_links, head_with_reading, header_with_attribute, header_with_links, header_with_reading}
 use Rattle.jb_change.specs.Makes.{Makes, done}
 use Rattle.jb_disk.specs.Change.{Change}
@@ -170,7 +170,7 @@ module _ (old new : Change) (at : ℕ) (act : MessageHeader → MessageHeader) (
         makes = makes;
         places = λ p other own. places_set to.slots place p slot (here ∙ sym stands) ∙ was.places p other own;
         numbers = λ files loads p other own.
-            numbers_put files to place (was.makes.loads files loads) here p other (was.places p other own) ∙ was.numbers files loads p other own;
+            numbers_put files to place (was.makes.made files loads).loads here p other (was.places p other own) ∙ was.numbers files loads p other own;
       }
 
 -- the counts keep the numbers
@@ -187,7 +187,7 @@ pub updates_counted : (old new : Change) (counter active : ℕ) → ChangesArea 
 updates_counted old new counter active changes only from to text was = record {
   makes = changes from to text was.makes;
   places = was.places;
-  numbers = λ files loads p at is. numbers_counted old new only files to (was.makes.loads files loads) p at (was.places p at is) ∙ was.numbers files loads p at is;
+  numbers = λ files loads p at is. numbers_counted old new only files to (was.makes.made files loads).loads p at (was.places p at is) ∙ was.numbers files loads p at is;
 }
 
 -- what is only put behind files keeps the numbers
@@ -271,7 +271,7 @@ updates_mark old new place mark makes only from to text was within = record {
   makes = makes from to text was.makes within;
   places = was.places;
   numbers = λ files loads p at is.
-      let marks = (was.makes.loads files loads).lastread in
+      let marks = (was.makes.made files loads).loads.lastread in
       numbers_beside old new (16 * place) 16 only files (omega (arith, marks, within)) to p at (was.places p at is) ∙ was.numbers files loads p at is;
 }
 

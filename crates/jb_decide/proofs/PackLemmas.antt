@@ -153,7 +153,7 @@ pub pack_decided : (rules : AreaRules) (from : Loaded) (texts : List ℕ) (conte
 pack_decided rules from texts contents redo user moment base live dropped plan replies allowed sound few are answer is links index room =
     let state : AreaState = state_of texts from in
     let fits : texts_size (kept_slots from) ≤ TEXTS_CEILING = fits_when rules.slots from texts sound are.sized answer.0 in
-    let makes = is.makes in
+    let brings = is.brings in
     record {
       coming = record { to = packed from; texts = packed_texts texts from };
       change = inr (record {
@@ -161,11 +161,11 @@ pack_decided rules from texts contents redo user moment base live dropped plan r
         becomes = refl;
         change = record {
           brings = λ own told. record {
-            legal = λ files holds. makes.legal files holds.loads;
-            grown = λ files holds. makes.grown files holds.loads;
-            holds = λ files holds. record {
-              loads = makes.loads files holds.loads;
-              texts_are = makes.texts_are files holds.loads ∙ is.told own told ∙ ap (λ (t : List ℕ). packed_texts t from) (are.told own told);
+            legal = λ files holds. brings.legal files holds.loads;
+            grown = λ files holds. brings.grown files holds.loads;
+            made = λ files holds. record {
+              loads = (brings.made files holds.loads).loads;
+              texts_are = (brings.made files holds.loads).texts_are ∙ is.told own told ∙ ap (λ (t : List ℕ). packed_texts t from) (are.told own told);
             };
           };
           writable = is.writable;
@@ -186,5 +186,5 @@ pack_decided rules from texts contents redo user moment base live dropped plan r
           ((λ i. record { reply = answer.1 i; state = packed_state state }) ∙ ap (λ (s : AreaState). record { reply = reply.Packed base live dropped; state = s }) (sym (state_packed rules.slots texts from sound are.sized)));
       idle = λ nothing. absurd (something Pack (reply.Packed base live dropped) refl (λ look. look) (λ links. cc) nothing);
       headers = λ none files holds. absurd none;
-      packs = λ files holds. makes.together files holds.loads;
+      packs = λ files holds. (brings.made files holds.loads).together;
     }

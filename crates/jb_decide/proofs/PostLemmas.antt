@@ -6,7 +6,7 @@ use Rattle.jb_base.specs.declared.area.AreaRules.{AreaRules}
 use Rattle.jb_base.specs.declared.limits.TheConstants.{MOST_ADDRESS_BYTES, MOST_NAME_BYTES, MOST_SLOTS, TEXTS_CEILING}
 use Rattle.jb_base.specs.declared.user.User.{User}
 use Rattle.jb_change.specs.Changing.{head_with_links}
-use Rattle.jb_append.specs.Post.{HasNextNumber}
+use Rattle.jb_change.specs.Post.{HasNextNumber}
 use Rattle.jb_change.specs.Makes.{done}
 use Rattle.jb_disk.specs.Change.{Change}
 use Rattle.jb_disk.specs.Files.{Files}

@@ -1,6 +1,6 @@
 //! A message is posted.
 ghost use Rattle.std.specs.Prelude.{◌≡◌, ◌≤◌, ◌+◌, ◌∷◌, ℕ, [], List, Option, IfOk, OnOk, length};
-ghost use Rattle.jb_append.specs.Post.{HasNextNumber, IsNext};
+ghost use Rattle.jb_change.specs.Post.{HasNextNumber, IsNext};
 ghost use Rattle.jb_base.specs.declared.limits.TheConstants.{MOST_ADDRESS_BYTES, MOST_NAME_BYTES};
 ghost use Rattle.jb_change.specs.Changing.{KeepsRoom};
 ghost use Rattle.jb_change.specs.Makes.{Makes, record_size};
@@ -22,12 +22,12 @@ use crate::decided::Decided;
 use crate::deciding::empty;
 use crate::held::Held;
 use crate::pending::{Pending, SlotChange};
-use jb_append::put_post;
 use jb_base::{AreaRules, OutOfMemory, User};
-use jb_change::{put_counts, put_links};
+use jb_change::{put_counts, put_links, put_post};
 use jb_disk::Redo;
 use jb_model::{Loaded, LoadedSlot, Reply};
-use jb_step::{Draft, Neighbour, Posting, headed_length, post};
+use jb_step::{Draft, Neighbour, Posting, post};
+use jb_subfield::headed_length;
 use std::alloc::Global;
 
 /// Puts the neighbour's links into its header, where there is a neighbour.

@@ -40,11 +40,11 @@ tears-noted result first f at bytes done calls m n = record {
 }
 
 -- the same, of the disk
-pub tears : {T E : Type 0} (result : Result T E) (disk : Recording) (first : List (List ℕ)) (old new : List Call) (m n : ℕ) (f : FileId) (at : ℕ) (bytes : Vec ℕ Global) (len : ℕ) (done : Bool)
-    → record { first = first; calls = old; faults = m } ≡ disk → length bytes.items ≡ len → new ≡ old ++ Wrote f at bytes done ∷ []
-    → Tears f at len (device_of disk) (device_of (record { first = first; calls = new; faults = n })) result
-tears result disk first old new m n f at bytes len done view_is size is =
-    subst (λ (was : Recording). Tears f at len (device_of was) (device_of (record { first = first; calls = new; faults = n })) result) view_is
+pub tears : {T E : Type 0} (result : Result T E) (disk : Recording) (first : List (List ℕ)) (failing : List ℕ) (old new : List Call) (m n : ℕ) (f : FileId) (at : ℕ) (bytes : Vec ℕ Global) (len : ℕ) (done : Bool)
+    → record { first = first; calls = old; faults = m; failing = failing } ≡ disk → length bytes.items ≡ len → new ≡ old ++ Wrote f at bytes done ∷ []
+    → Tears f at len (device_of disk) (device_of (record { first = first; calls = new; faults = n; failing = failing })) result
+tears result disk first failing old new m n f at bytes len done view_is size is =
+    subst (λ (was : Recording). Tears f at len (device_of was) (device_of (record { first = first; calls = new; faults = n; failing = failing })) result) view_is
     (subst (λ (k : ℕ). Tears f at k (device_after (listed first) (reverse old) m) (device_after (listed first) (reverse new) n) result) size
     (subst (λ (calls : List Call). Tears f at (length bytes.items) (device_after (listed first) (reverse old) m) (device_after (listed first) calls n) result) (sym (newest old (Wrote f at bytes done) new is))
     (tears-noted result (listed first) f at bytes done (reverse old) m n)))
@@ -96,12 +96,12 @@ resizes-noted result first f len calls m n =
     }
 
 -- the same, of the disk
-pub resizes : {T E : Type 0} (result : Result T E) (disk : Recording) (first : List (List ℕ)) (old new : List Call) (m n : ℕ) (f : FileId) (len : ℕ) (done : Bool)
-    → record { first = first; calls = old; faults = m } ≡ disk → done ≡ true → new ≡ old ++ Resized f len done ∷ []
-    → Resizes f len (device_of disk) (device_of (record { first = first; calls = new; faults = n })) result
-resizes result disk first old new m n f len done view_is so is =
+pub resizes : {T E : Type 0} (result : Result T E) (disk : Recording) (first : List (List ℕ)) (failing : List ℕ) (old new : List Call) (m n : ℕ) (f : FileId) (len : ℕ) (done : Bool)
+    → record { first = first; calls = old; faults = m; failing = failing } ≡ disk → done ≡ true → new ≡ old ++ Resized f len done ∷ []
+    → Resizes f len (device_of disk) (device_of (record { first = first; calls = new; faults = n; failing = failing })) result
+resizes result disk first failing old new m n f len done view_is so is =
     let noted : new ≡ old ++ Resized f len true ∷ [] = subst (λ (b : Bool). new ≡ old ++ Resized f len b ∷ []) so is in
-    subst (λ (was : Recording). Resizes f len (device_of was) (device_of (record { first = first; calls = new; faults = n })) result) view_is
+    subst (λ (was : Recording). Resizes f len (device_of was) (device_of (record { first = first; calls = new; faults = n; failing = failing })) result) view_is
     (subst (λ (calls : List Call). Resizes f len (device_after (listed first) (reverse old) m) (device_after (listed first) calls n) result) (sym (newest old (Resized f len true) new noted))
     (resizes-noted result (listed first) f len (reverse old) m n))
 
@@ -117,10 +117,10 @@ syncs-none (Ok value) device n f fails = absurd (not_true fails)
 syncs-none (Err error) device n f fails = record { kept = tt; done = tt; tried = record { others = others-same f device.contents; steady = λ none. refl }; failed = refl }
 
 -- the same, of the disk
-pub syncs-not : {T E : Type 0} (result : Result T E) (disk : Recording) (first : List (List ℕ)) (old new : List Call) (m n : ℕ) (f : FileId) → IsErr result
-    → record { first = first; calls = old; faults = m } ≡ disk → new ≡ old → Syncs f (device_of disk) (device_of (record { first = first; calls = new; faults = n })) result
-syncs-not result disk first old new m n f fails view_is is =
-    subst (λ (was : Recording). Syncs f (device_of was) (device_of (record { first = first; calls = new; faults = n })) result) view_is
+pub syncs-not : {T E : Type 0} (result : Result T E) (disk : Recording) (first : List (List ℕ)) (failing : List ℕ) (old new : List Call) (m n : ℕ) (f : FileId) → IsErr result
+    → record { first = first; calls = old; faults = m; failing = failing } ≡ disk → new ≡ old → Syncs f (device_of disk) (device_of (record { first = first; calls = new; faults = n; failing = failing })) result
+syncs-not result disk first failing old new m n f fails view_is is =
+    subst (λ (was : Recording). Syncs f (device_of was) (device_of (record { first = first; calls = new; faults = n; failing = failing })) result) view_is
     (subst (λ (calls : List Call). Syncs f (device_after (listed first) (reverse old) m) (device_after (listed first) (reverse calls) n) result) (sym is)
     (syncs-none result (device_after (listed first) (reverse old) m) n f fails))
 

@@ -82,3 +82,8 @@ pub record TellsAnImage (disk : Device) : Type 0 where
   pub read : (files : Files) (now : Images) (earlier : List Images) → disk.contents ≡ Some files → disk.moments ≡ now ∷ earlier → IsImage now files
   pub both : disk.contents ≡ None → disk.moments ≡ []
   pub each : AtEach IsPossible disk.moments
+
+-- a call that was refused, after which all reads as before
+pub record IsRefused {T E : Type 0} (old new : Device) (result : Result T E) : Type 0 where
+  pub refused : IsErr result
+  pub contents : new.contents ≡ old.contents

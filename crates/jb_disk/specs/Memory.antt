@@ -1,5 +1,5 @@
 -- What six files hold and what a crash may leave, from what they held at first and the calls since.
-use Rattle.std.specs.Prelude.{◌≡◌, ◌⊎◌, ℕ, ◌+◌, ◌-◌, nat_le, List, [], ◌∷◌, ◌++◌, length, take, replicate, reverse, get_or, Some, if◌then◌else◌, ◌&&◌}
+use Rattle.std.specs.Prelude.{◌≡◌, ◌⊎◌, ℕ, ◌+◌, ◌-◌, nat_le, List, [], ◌∷◌, ◌++◌, length, take, replicate, reverse, get_or, Contains, Some, if◌then◌else◌, ◌&&◌}
 use Rattle.jb_disk.specs.declared.file.FileId.TheVariants.{Jhr, Jdt, Jdx, Jlr, Jnl, Ndt}
 use Rattle.jb_disk.specs.declared.call.Call.{Call}
 use Rattle.jb_disk.specs.declared.call.Call.TheVariants.{NoChange, Wrote, Resized, Synced}
@@ -55,11 +55,16 @@ earlier_after first (Synced file ∷ earlier) = images_after first earlier ∷ e
 abbrev pub IsQuiet : List Call → List Call → Type 0
 IsQuiet old new = (new ≡ old) ⊎ (new ≡ old ++ NoChange ∷ [])
 
--- a disk in memory, as contracts see it: what it held at first, synced, its calls since in order, and its count of faults
+-- a disk in memory, as contracts see it: what it held at first, synced, its calls since in order, its count of faults, and the numbers, from 1, of the calls that it was told to fail
 pub record Recording : Type 0 where
   pub first : List (List ℕ)
   pub calls : List Call
   pub faults : ℕ
+  pub failing : List ℕ
+
+-- the disk was told to fail the call that comes next
+abbrev pub FailsNext : Recording → Type 0
+FailsNext disk = Contains disk.failing (length disk.calls + 1)
 
 -- the device that has been called so
 abbrev pub device_after : Files → List Call → ℕ → Device

@@ -2,7 +2,7 @@
 ghost use Rattle.std.specs.Prelude.{◌≡◌, ◌+◌, ◌≤◌, length, take, drop, IfOk, OnOk};
 ghost use Rattle.std.specs.Option.{ForSome, option_map};
 ghost use Rattle.jb_disk.specs.Files.{ceiling_of, written};
-ghost use Rattle.jb_disk.specs.Device.{Device, OnlyReads, Tears, Resizes, Syncs, IsPast, FailsBy, TellsAnImage, and_then};
+ghost use Rattle.jb_disk.specs.Device.{Device, IsRefused, OnlyReads, Tears, Resizes, Syncs, IsPast, FailsBy, TellsAnImage, and_then};
 ghost use Rattle.jb_disk.specs.Images.{torn, cut, with_image};
 
 use crate::FileId;
@@ -27,10 +27,14 @@ pub trait Disk {
     /// Its count of faults, and where it tells them what the files hold and what a crash may leave.
     ghost device: { Self → Device };
 
+    /// The call that comes next is one that it was told to fail, as a disk in memory is for a test.
+    ghost fails_next: { Self → Type 0 } = { λ _. ⊥ };
+
     /// The length of a file in bytes; a file that is not there has length 0.
     fn len(&mut self, file: FileId) -> Result<u64, DiskFailed>
         ensures found { IfOk result (λ len. ForSome (device self.old).contents (λ files. len ≡ length (files file))) }
         ensures kept { OnlyReads (device self.old) (device self.new) }
+        ensures listed { fails_next self.old → IsRefused (device self.old) (device self.new) result }
         ensures cause { FailsBy ⊥ (device self.old) (device self.new) result };
 
     /// Fills the slice with the bytes from a place on. A read past the end is refused.
@@ -38,6 +42,7 @@ pub trait Disk {
         ensures found { OnOk result (ForSome (device self.old).contents (λ files.
             into.new ≡ take (length into.old) (drop at (files file)))) }
         ensures kept { OnlyReads (device self.old) (device self.new) }
+        ensures listed { fails_next self.old → IsRefused (device self.old) (device self.new) result }
         ensures cause { FailsBy (IsPast (device self.old).contents file (at + length into.old)) (device self.old) (device self.new) result };
 
     /// Writes over what is there. A write past the end is refused and changes nothing. Until a sync of this file a crash
@@ -50,6 +55,7 @@ pub trait Disk {
 
         // A range past the end, or a fault.
         ensures past { IsPast (device self.old).contents file (at + length bytes.now) → OnlyReads (device self.old) (device self.new) }
+        ensures listed { fails_next self.old → IsRefused (device self.old) (device self.new) result }
         ensures cause { FailsBy (IsPast (device self.old).contents file (at + length bytes.now)) (device self.old) (device self.new) result };
 
     /// Sets a file's length. Which bytes a growth brings is left open. Until a sync a crash may leave any length between,
@@ -58,12 +64,14 @@ pub trait Disk {
         requires { len ≤ ceiling_of file }
         ensures changed { Resizes file len (device self.old) (device self.new) result }
         ensures crash { OnOk result ((device self.new).moments ≡ and_then (with_image file (cut len)) (device self.old).moments) }
+        ensures listed { fails_next self.old → IsRefused (device self.old) (device self.new) result }
         ensures cause { FailsBy ⊥ (device self.old) (device self.new) result };
 
     /// Makes a file durable: from here on a crash leaves of it what a read gives. A fault may have lost what was written
     /// since the last sync: then this file may read as anything that a crash might leave of it.
     fn sync(&mut self, file: FileId) -> Result<(), DiskFailed>
         ensures changed { Syncs file (device self.old) (device self.new) result }
+        ensures listed { fails_next self.old → IsRefused (device self.old) (device self.new) result }
         ensures cause { FailsBy ⊥ (device self.old) (device self.new) result };
 
     /// What is read now is one of the images, a disk that tells images tells its contents, and each moment has an image.

@@ -1,7 +1,7 @@
 //! Six files in memory that tell what a crash at each moment may leave.
-ghost use Rattle.std.specs.Prelude.{◌≡◌, ◌+◌, ◌<◌, ◌≤◌, ◌↔◌, IsTrue, ◌++◌, [], ◌∷◌, length, reverse, IfOk, OnOk, OnErr};
+ghost use Rattle.std.specs.Prelude.{◌≡◌, ◌+◌, ◌<◌, ◌≤◌, ◌↔◌, IsTrue, ◌++◌, [], ◌∷◌, Contains, length, reverse, IfOk, OnOk, OnErr};
 ghost use Rattle.jb_base.specs.Fault.{Rose};
-ghost use Rattle.jb_disk.specs.Memory.{listed, device_of, fresh_device, IsQuiet};
+ghost use Rattle.jb_disk.specs.Memory.{FailsNext, listed, device_of, fresh_device, IsQuiet};
 ghost use Rattle.jb_disk.specs.MemoryLaws.{tells_an_image};
 ghost use Rattle.jb_disk.specs.Images.{IsImage};
 ghost use Rattle.jb_disk.specs.Moments.{MightLeave};
@@ -35,7 +35,7 @@ impl Model for MemDisk {
 
     ghost Value = { Recording };
 
-    ghost view = { λ disk. record { first = disk.first; calls = disk.calls.items; faults = disk.faults } };
+    ghost view = { λ disk. record { first = disk.first; calls = disk.calls.items; faults = disk.faults; failing = disk.failing.items } };
 
     ghost invariant = { λ disk. (file : FileId) → files_of disk.present file ≡ contents_after (listed disk.first) (reverse disk.calls.items) file };
 }
@@ -48,6 +48,7 @@ impl MemDisk {
     pub fn new(alloc: Global, files: [Bytes; 6], failing: Vec<u64>) -> Result<MemDisk, OutOfMemory>
         ensures first { IfOk result (λ disk. disk.first ≡ files) }
         ensures none { IfOk result (λ disk. disk.calls ≡ []) }
+        ensures told { IfOk result (λ disk. disk.failing ≡ failing.items) }
         ensures fresh { IfOk result (λ disk. device_of disk ≡ fresh_device (listed files)) }
     {
         let present = Six::copy(alloc, &files)?;
@@ -116,6 +117,8 @@ impl MemDisk {
 
 impl Disk for MemDisk {
     ghost device = { device_of };
+
+    ghost fails_next = { FailsNext };
 
     fn len(&mut self, file: FileId) -> Result<u64, DiskFailed> {
         let fails = fails(&self.failing, &self.calls);
@@ -201,7 +204,9 @@ pub(crate) fn passes(len: usize, at: u64, count: usize) -> bool
 }
 
 // Whether the call that comes now is one that fails.
-fn fails(failing: &[u64], calls: &[Call]) -> bool {
+fn fails(failing: &[u64], calls: &[Call]) -> bool
+    ensures { Contains failing.now (length calls.now + 1) → IsTrue result }
+{
     failing.contains(&(calls.len() as u64 + 1))
 }
 

@@ -1,13 +1,11 @@
 //! The disk over real files.
-ghost use Rattle.std.specs.Prelude.{◌≡◌, ◌≤◌, IfOk, OnOk, OnErr};
-ghost use Rattle.jb_base.specs.Fault.{Rose};
+ghost use Rattle.std.specs.Prelude.{◌≡◌, IfOk};
 
 use crate::folder::Folder;
 use jb_base::OutOfMemory;
-use jb_disk::{Disk, DiskFailed, FileId};
+use jb_disk::{Disk, DiskFailed, FileId, counted};
 use std::alloc::Global;
 use std::fs::File;
-use std::io;
 use std::rt::Files;
 
 /// The files `NAME.JHR`, `NAME.JDT`, `NAME.JDX`, `NAME.JLR`, `NAME.JNL` and `NAME.NDT` of one folder, or all in lower case.
@@ -19,8 +17,6 @@ pub struct FolderDisk<R: Files<File = File> + Drop> {
 }
 
 impl<R: Files<File = File> + Drop> FolderDisk<R> {
-    ghost use Rattle.jb_files.specs.Folder.{silent_device};
-
     /// The base of this name in a folder, which is the current one where its text is empty. Neither has to be there. The
     /// extensions are spelled as those of the header file that is there, upper case before lower case.
     pub fn new(rt: R, alloc: Global, dir: &str, name: &str) -> Result<FolderDisk<R>, OutOfMemory>
@@ -32,7 +28,7 @@ impl<R: Files<File = File> + Drop> FolderDisk<R> {
 }
 
 impl<R: Files<File = File> + Drop> Disk for FolderDisk<R> {
-    ghost use Rattle.jb_files.specs.Folder.{silent_device, tells_nothing};
+    ghost use Rattle.jb_disk.specs.Silent.{silent_device, tells_nothing};
 
     ghost device = { λ disk. silent_device disk.faults };
 
@@ -57,19 +53,4 @@ impl<R: Files<File = File> + Drop> Disk for FolderDisk<R> {
     }
 
     ghost told = { λ disk. tells_nothing disk.faults };
-}
-
-// The answer, with an error counted.
-fn counted<T: Drop>(faults: &mut u64, answer: io::Result<T>) -> Result<T, DiskFailed>
-    ensures ok { OnOk result (faults.new ≡ faults.old) }
-    ensures err { OnErr result (Rose faults.old faults.new) }
-    ensures later { faults.old ≤ faults.new }
-{
-    match answer {
-        Ok(value) => Ok(value),
-        Err(_) => {
-            *faults = faults.saturating_add(1);
-            Err(DiskFailed)
-        }
-    }
 }

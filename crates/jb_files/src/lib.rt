@@ -8,5 +8,6 @@ mod disk;
 mod folder;
 mod real;
 mod spelling;
+mod whole;
 
 pub use disk::FolderDisk;

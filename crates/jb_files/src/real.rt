@@ -1,5 +1,7 @@
 //! One file of the system: opened to be read, and anew to be written where that is first asked.
+ghost use Rattle.std.specs.Prelude.{◌≡◌, ◌↔◌, ◌+◌, ◌≤◌, IsTrue, IsErr, IsOk};
 
+use crate::whole::{OpenFile, write_whole};
 use std::fs::{File, OpenOptions};
 use std::os::fd::AsRawFd;
 use std::os::unix::fs::FileExt;
@@ -43,8 +45,11 @@ impl RealFile {
     }
 
     /// Its length, or 0 where it is not there.
-    pub(crate) fn len<R: Files<File = File>>(&mut self, rt: &R) -> io::Result<u64> {
-        match self.readable(rt)? {
+    pub(crate) fn len<R: Files<File = File>>(&mut self, rt: &R) -> io::Result<u64>
+        ensures kept { self.new.has_failed_sync ≡ self.old.has_failed_sync }
+    {
+        self.open_to_read(rt)?;
+        match self.file() {
             Some(file) => Ok(file.metadata()?.len()),
             None => Ok(0),
         }
@@ -56,11 +61,14 @@ impl RealFile {
         rt: &R,
         at: u64,
         into: &mut [u8],
-    ) -> io::Result<()> {
+    ) -> io::Result<()>
+        ensures kept { self.new.has_failed_sync ≡ self.old.has_failed_sync }
+    {
         if into.is_empty() {
             return within(self.len(rt)?, at, 0);
         }
-        match self.readable(rt)? {
+        self.open_to_read(rt)?;
+        match self.file() {
             Some(file) => file.read_exact_at(into, at),
             None => Err(io::ErrorKind::UnexpectedEof.into()),
         }
@@ -73,9 +81,12 @@ impl RealFile {
         rt: &R,
         at: u64,
         bytes: &[u8],
-    ) -> io::Result<()> {
+    ) -> io::Result<()>
+        ensures kept { self.new.has_failed_sync ≡ self.old.has_failed_sync }
+    {
+        self.open_to_write(rt)?;
         let known = self.known_len;
-        let Some(file) = self.writable(rt)? else {
+        let Some(file) = self.file() else {
             return within(0, at, bytes.len());
         };
         let len = match known {
@@ -83,14 +94,17 @@ impl RealFile {
             None => file.metadata()?.len(),
         };
         within(len, at, bytes.len())?;
-        file.write_all_at(bytes, at)?;
+        write_whole(&mut OpenFile { file }, at, bytes)?;
         self.known_len = Some(len);
         Ok(())
     }
 
     /// Makes an empty file where none is there, and says whether it did.
-    pub(crate) fn make<R: Files<File = File>>(&mut self, rt: &R) -> io::Result<bool> {
-        if self.readable(rt)?.is_some() {
+    pub(crate) fn make<R: Files<File = File>>(&mut self, rt: &R) -> io::Result<bool>
+        ensures kept { self.new.has_failed_sync ≡ self.old.has_failed_sync }
+    {
+        self.open_to_read(rt)?;
+        if self.file().is_some() {
             return Ok(false);
         }
         let file = OpenOptions::new()
@@ -103,9 +117,12 @@ impl RealFile {
     }
 
     /// Sets the length of a file that is there.
-    pub(crate) fn set_len<R: Files<File = File>>(&mut self, rt: &R, len: u64) -> io::Result<()> {
+    pub(crate) fn set_len<R: Files<File = File>>(&mut self, rt: &R, len: u64) -> io::Result<()>
+        ensures kept { self.new.has_failed_sync ≡ self.old.has_failed_sync }
+    {
         self.known_len = None;
-        let Some(file) = self.writable(rt)? else {
+        self.open_to_write(rt)?;
+        let Some(file) = self.file() else {
             return Err(io::ErrorKind::NotFound.into());
         };
         file.set_len(len)?;
@@ -115,29 +132,36 @@ impl RealFile {
 
     /// Sends what it holds to the device, and says whether it is there. The system may have dropped what a failed sync did
     /// not write, and would call the next one done; so each later one fails too.
-    pub(crate) fn sync<R: Files<File = File>>(&mut self, rt: &R) -> io::Result<bool> {
+    pub(crate) fn sync<R: Files<File = File>>(&mut self, rt: &R) -> io::Result<bool>
+        ensures stays { IsTrue self.old.has_failed_sync → IsErr result × IsTrue self.new.has_failed_sync }
+        ensures failed { IsTrue self.new.has_failed_sync → IsErr result }
+    {
         if self.has_failed_sync {
             return Err(io::ErrorKind::Other.into());
         }
-        let Some(file) = self.readable(rt)? else {
+        self.open_to_read(rt)?;
+        let Some(file) = self.file() else {
             return Ok(false);
         };
         let answer = file.sync_all();
-        self.has_failed_sync = answer.is_err();
-        answer?;
+        noted(&mut self.has_failed_sync, answer)?;
         Ok(true)
     }
 
-    // The file as it is open, or opened to be read; none where it is not there.
-    fn readable<R: Files<File = File>>(&mut self, rt: &R) -> io::Result<Option<&File>> {
+    // Opens the file to be read, where it is there and is not open.
+    fn open_to_read<R: Files<File = File>>(&mut self, rt: &R) -> io::Result<()>
+        ensures kept { self.new.has_failed_sync ≡ self.old.has_failed_sync }
+    {
         if matches!(self.open, Open::Closed) && is_there(rt, self.path.as_str())? {
             self.open = Open::ToRead(apart(File::open(rt, self.path.as_str())?)?);
         }
-        Ok(self.file())
+        Ok(())
     }
 
-    // The file opened to be written too; none where it is not there.
-    fn writable<R: Files<File = File>>(&mut self, rt: &R) -> io::Result<Option<&File>> {
+    // Opens the file to be written too, where it is there and is not open so.
+    fn open_to_write<R: Files<File = File>>(&mut self, rt: &R) -> io::Result<()>
+        ensures kept { self.new.has_failed_sync ≡ self.old.has_failed_sync }
+    {
         let is_open = matches!(self.open, Open::ToWrite(_));
         if !is_open && is_there(rt, self.path.as_str())? {
             let file = OpenOptions::new()
@@ -146,15 +170,25 @@ impl RealFile {
                 .open(rt, self.path.as_str())?;
             self.open = Open::ToWrite(apart(file)?);
         }
-        Ok(self.file())
+        Ok(())
     }
 
+    // The file, where it is open.
     fn file(&self) -> Option<&File> {
         match &self.open {
             Open::Closed => None,
             Open::ToRead(file) | Open::ToWrite(file) => Some(file),
         }
     }
+}
+
+// Notes whether a sync of the system failed, and hands its answer on.
+fn noted(has_failed: &mut bool, answer: io::Result<()>) -> io::Result<()>
+    ensures noted { IsTrue has_failed.new ↔ IsErr answer }
+    ensures same { result ≡ answer }
+{
+    *has_failed = answer.is_err();
+    answer
 }
 
 // Whether nothing has this name: it is not there, or what is called its folder is none.
@@ -181,7 +215,9 @@ fn apart(file: File) -> io::Result<File> {
 }
 
 // Whether a range ends within a file of this length.
-fn within(len: u64, at: u64, count: usize) -> io::Result<()> {
+fn within(len: u64, at: u64, count: usize) -> io::Result<()>
+    ensures { IsOk result ↔ (at + count ≤ len) }
+{
     match at.checked_add(count as u64) {
         Some(end) if end <= len => Ok(()),
         _ => Err(io::ErrorKind::UnexpectedEof.into()),

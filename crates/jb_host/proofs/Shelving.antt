@@ -95,11 +95,11 @@ shelved-none dir name (shelf ∷ rest) d none =
 
 -- a host that failed keeps its disks
 pub failed_keeps : (dir name : List ℕ) (error : HostError) (old new : Desk) → error ≡ Failed → new.disks ≡ old.disks
-    → new.calls ≡ and_call (asked_disk dir name) old.calls → new.console ≡ old.console → old.faults ≤ new.faults → Rose old.faults new.faults
+    → new.calls ≡ and_call (asked_disk dir name) old.calls → new.console ≡ old.console → new.reading ≡ old.reading → old.faults ≤ new.faults → Rose old.faults new.faults
     → KeepsDisks dir name error old new
-failed_keeps dir name error old new is disks calls console later rose =
+failed_keeps dir name error old new is disks calls console reading later rose =
     let P : HostError → Type 0 = λ e. KeepsDisks dir name e old new in
-    subst P (sym is) (record { disks = disks; calls = calls; console = console; later = later; cause = rose })
+    subst P (sym is) (record { disks = disks; calls = calls; console = console; reading = reading; later = later; cause = rose })
 
 -- what was taken off a shelf is what stood there
 pub stood_there : (stood taken : Option Recording) (place : Place) → taken ≡ stood → place ≡ stands_on stood → IfSome taken (λ disk. place ≡ has_disk (device_of disk))

@@ -47,6 +47,8 @@ pub record Desk : Type 0 where
   pub disks : Option Disks
   -- the console, while it is not out
   pub console : Option Wire
+  -- the one reading that its clocks always give, where it tells it
+  pub reading : Option ℕ
 
 -- a call more, where the host tells them
 abbrev pub and_call : HostCall → Option (List HostCall) → Option (List HostCall)
@@ -58,6 +60,7 @@ pub record GivesDisk (dir name : List ℕ) (device : Device) (old new : Desk) : 
   pub out : new.disks ≡ option_map (with_place dir name handed_out) old.disks
   pub calls : new.calls ≡ and_call (asked_disk dir name) old.calls
   pub console : new.console ≡ old.console
+  pub reading : new.reading ≡ old.reading
   pub faults : new.faults ≡ old.faults
 
 -- the calls that a host tells after it refused one
@@ -75,6 +78,7 @@ pub record KeepsDisks (dir name : List ℕ) (error : HostError) (old new : Desk)
   pub disks : new.disks ≡ old.disks
   pub calls : new.calls ≡ calls_after error (asked_disk dir name) old.calls
   pub console : new.console ≡ old.console
+  pub reading : new.reading ≡ old.reading
   pub later : old.faults ≤ new.faults
   pub cause : HasHostCause error old new
 
@@ -83,4 +87,5 @@ pub record TakesBack (dir name : List ℕ) (device : Device) (old new : Desk) : 
   pub back : ForSome old.disks (λ disks. disks dir name ≡ handed_out → new.disks ≡ option_map (with_place dir name (has_disk device)) old.disks)
   pub calls : new.calls ≡ old.calls
   pub console : new.console ≡ old.console
+  pub reading : new.reading ≡ old.reading
   pub faults : new.faults ≡ old.faults

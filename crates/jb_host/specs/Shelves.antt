@@ -45,8 +45,9 @@ memory_desk host = record {
   calls = Some (map (λ (call : DiskCall). asked_disk call.dir call.name) host.calls.items);
   disks = Some (standing host);
   console = option_map memory_wire host.console;
+  reading = Some host.reading;
 }
 
--- a host with this console, no disk and no call
-abbrev pub empty_desk : Wire → Desk
-empty_desk console = record { faults = 0; calls = Some []; disks = Some (shelved []); console = Some console }
+-- a host with this console, no disk and no call, whose clocks give this reading
+abbrev pub empty_desk : Wire → ℕ → Desk
+empty_desk console reading = record { faults = 0; calls = Some []; disks = Some (shelved []); console = Some console; reading = Some reading }

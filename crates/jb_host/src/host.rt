@@ -3,7 +3,7 @@ ghost use Rattle.std.specs.Prelude.{◌≡◌, Some, None, IsErr, IsSome, IfOk, 
 ghost use Rattle.jb_disk.specs.Device.{Device};
 ghost use Rattle.jb_host.specs.Desk.{Desk, GivesDisk, KeepsDisks, TakesBack};
 
-use crate::Link;
+use crate::{Clock, Link};
 use jb_disk::Disk;
 
 /// Why a host did not do it. Its disks and its console are as before.
@@ -15,13 +15,16 @@ pub enum HostError {
     OutOfMemory,
 }
 
-/// The surroundings of a program: disks by folder and name, and one console.
+/// The surroundings of a program: disks by folder and name, one console, and clocks.
 pub trait Host {
     type Disk: Disk + Drop;
 
     type Link: Link;
 
-    /// Its count of faults, its console while that is not out, and where it tells them its calls and its disks.
+    type Clock: Clock + Drop;
+
+    /// Its count of faults, its console while that is not out, and where it tells them its calls, its disks and the reading that
+    /// its clocks give.
     ghost desk: { Self → Desk };
 
     /// The call for a disk that comes next is one that it was told to fail, as a host in memory is for a test.
@@ -46,4 +49,9 @@ pub trait Host {
     /// Takes the console back.
     fn put_console(&mut self, link: Self::Link)
         ensures { desk self.new ≡ record (desk self.old) { console = Some (Self.Link.wire link) } };
+
+    /// A clock.
+    fn clock(&mut self) -> Self::Clock
+        ensures gives { Self.Clock.reading result ≡ (desk self.old).reading }
+        ensures same { desk self.new ≡ desk self.old };
 }

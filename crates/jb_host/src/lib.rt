@@ -1,9 +1,12 @@
-//! What a program is given by its surroundings: links that carry bytes, and a host that hands out a console and disks.
+//! What a program is given by its surroundings: links that carry bytes, clocks, and a host that hands out a console, disks and
+//! clocks.
 //!
-//! The layers above are generic over [`Link`] and [`Host`] and are proved once. [`MemLink`] and [`MemHost`] tell all that
-//! there is to tell. Clauses on bytes, calls and disks hold where they are told, clauses on faults always.
+//! The layers above are generic over [`Link`], [`Clock`] and [`Host`] and are proved once. [`MemLink`], [`MemClock`] and
+//! [`MemHost`] tell all that there is to tell. Clauses on bytes, readings, calls and disks hold where they are told, clauses on
+//! faults always.
 #![tactic(auto)]
 
+mod clock;
 mod host;
 mod link;
 mod memory;
@@ -11,6 +14,7 @@ mod memory_host;
 mod real;
 mod sending;
 
+pub use clock::{Clock, MemClock, SystemClock};
 pub use host::{Host, HostError};
 pub use link::{Link, LinkFailed};
 pub use memory::MemLink;

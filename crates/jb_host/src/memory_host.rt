@@ -7,6 +7,7 @@ ghost use Rattle.jb_disk.specs.Memory.{device_of};
 ghost use Rattle.jb_host.specs.Desk.{handed_out, has_disk, with_behind, with_place};
 ghost use Rattle.jb_host.specs.Shelves.{IsAt, shelved};
 
+use crate::clock::MemClock;
 use crate::host::{Host, HostError};
 use crate::memory::MemLink;
 use jb_base::{Bytes, OutOfMemory};
@@ -28,12 +29,13 @@ pub struct DiskCall {
     name: Bytes,
 }
 
-/// A host with a console and disks in memory. It fails the calls for a disk whose numbers, from 1, it was given, and those
+/// A host with a console, disks and clocks in memory. It fails the calls for a disk whose numbers, from 1, it was given, and those
 /// for a base that it does not have; it tells all that a host may tell.
 #[derive(Debug, Drop)]
 pub struct MemHost {
     alloc: Global,
     console: Option<MemLink>,
+    reading: u32,
     shelves: Vec<Shelf>,
     calls: Vec<DiskCall>,
     failing: Vec<u64>,
@@ -93,15 +95,17 @@ impl MemHost {
     ghost use Rattle.jb_host.specs.Memory.{memory_wire};
     ghost use Rattle.jb_host.specs.Desk.{and_call, asked_disk};
 
-    /// A host with this console and no disk, which fails the calls for a disk with these numbers.
-    pub fn new(alloc: Global, console: MemLink, failing: Vec<u64>) -> MemHost
-        ensures fresh { memory_desk result ≡ empty_desk (memory_wire console) }
+    /// A host with this console and no disk, whose clocks give this reading, and which fails the calls for a disk with these
+    /// numbers.
+    pub fn new(alloc: Global, console: MemLink, reading: u32, failing: Vec<u64>) -> MemHost
+        ensures fresh { memory_desk result ≡ empty_desk (memory_wire console) reading }
         ensures told { result.failing ≡ failing }
         ensures none { result.asked ≡ 0 }
     {
         MemHost {
             alloc,
             console: Some(console),
+            reading,
             shelves: Vec::new(alloc),
             calls: Vec::new(alloc),
             failing,
@@ -153,6 +157,7 @@ impl MemHost {
         ensures faults { self.new.faults ≡ self.old.faults }
         ensures asked { self.new.asked ≡ self.old.asked }
         ensures failing { self.new.failing ≡ self.old.failing }
+        ensures reading { self.new.reading ≡ self.old.reading }
     {
         let Ok(dir) = Bytes::copy(self.alloc, dir.as_bytes()) else {
             return Err(HostError::OutOfMemory);
@@ -172,6 +177,7 @@ impl MemHost {
         ensures console { self.new.console ≡ self.old.console }
         ensures shelves { self.new.shelves ≡ self.old.shelves }
         ensures calls { self.new.calls ≡ self.old.calls }
+        ensures reading { self.new.reading ≡ self.old.reading }
         ensures failed { result ≡ HostError.Failed }
     {
         self.faults = self.faults.saturating_add(1);
@@ -183,6 +189,8 @@ impl Host for MemHost {
     type Disk = MemDisk;
 
     type Link = MemLink;
+
+    type Clock = MemClock;
 
     ghost use Rattle.jb_host.specs.Shelves.{FailsNext, memory_desk};
 
@@ -213,5 +221,9 @@ impl Host for MemHost {
 
     fn put_console(&mut self, link: MemLink) {
         self.console = Some(link);
+    }
+
+    fn clock(&mut self) -> MemClock {
+        MemClock::new(self.reading)
     }
 }

@@ -1,8 +1,10 @@
-//! The real surroundings: standard input and output, and bases in folders. Nothing is assumed of them: they tell no bytes.
+//! The real surroundings: standard input and output, bases in folders, and the clock of the system. Nothing is assumed of them:
+//! they tell no bytes and no reading.
 ghost use Rattle.std.specs.Prelude.{◌≡◌, IsSome, Some};
 ghost use Rattle.std.specs.Option.{option_map};
 ghost use Rattle.jb_host.specs.Real.{silent_wire, silent_desk};
 
+use crate::clock::SystemClock;
 use crate::host::{Host, HostError};
 use crate::link::{Link, LinkFailed};
 use jb_files::FolderDisk;
@@ -10,6 +12,7 @@ use std::alloc::Global;
 use std::fs::File;
 use std::io::Read;
 use std::rt::Files;
+use std::time;
 
 /// Standard input and output as a link.
 #[derive(Drop)]
@@ -66,14 +69,14 @@ impl<R: Input + Print> Link for ConsoleLink<R> {
 
 /// The host of a process: bases in folders of its file system, and its standard input and output.
 #[derive(Drop)]
-pub struct RealHost<R: Files<File = File> + Input + Print + Clone + Drop> {
+pub struct RealHost<R: Files<File = File> + Input + Print + time::Clock + Copy + Drop> {
     rt: R,
     alloc: Global,
     console: Option<ConsoleLink<R>>,
     faults: u64,
 }
 
-impl<R: Files<File = File> + Input + Print + Clone + Drop> RealHost<R> {
+impl<R: Files<File = File> + Input + Print + time::Clock + Copy + Drop> RealHost<R> {
     /// The surroundings that this runtime reaches.
     pub fn new(rt: R, console: R, alloc: Global) -> RealHost<R>
         ensures console { IsSome result.console }
@@ -88,18 +91,17 @@ impl<R: Files<File = File> + Input + Print + Clone + Drop> RealHost<R> {
     }
 }
 
-impl<R: Files<File = File> + Input + Print + Clone + Drop> Host for RealHost<R> {
+impl<R: Files<File = File> + Input + Print + time::Clock + Copy + Drop> Host for RealHost<R> {
     type Disk = FolderDisk<R>;
 
     type Link = ConsoleLink<R>;
 
+    type Clock = SystemClock<R>;
+
     ghost desk = { λ host. silent_desk host.faults (option_map (λ link. silent_wire link.faults link.ends link.unsent) host.console) };
 
     fn disk(&mut self, dir: &str, name: &str) -> Result<FolderDisk<R>, HostError> {
-        let Ok(rt) = self.rt.clone() else {
-            return Err(HostError::OutOfMemory);
-        };
-        match FolderDisk::new(rt, self.alloc, dir, name) {
+        match FolderDisk::new(self.rt, self.alloc, dir, name) {
             Ok(disk) => Ok(disk),
             Err(_) => Err(HostError::OutOfMemory),
         }
@@ -113,5 +115,9 @@ impl<R: Files<File = File> + Input + Print + Clone + Drop> Host for RealHost<R> 
 
     fn put_console(&mut self, link: ConsoleLink<R>) {
         self.console = Some(link);
+    }
+
+    fn clock(&mut self) -> SystemClock<R> {
+        SystemClock::new(self.rt)
     }
 }

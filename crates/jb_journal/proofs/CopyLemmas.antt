@@ -1,5 +1,5 @@
 -- Bytes copied part by part from one file into another.
-use Rattle.std.proofs.Common.{◌≡◌, ◌≢◌, ℕ, ◌+◌, ◌-◌, ◌≤◌, List, ◌++◌, length, take, drop, refl, ap, sym, ◌∙◌, subst, arith, Some, Result, OnOk, length-take, length-drop}
+use Rattle.std.proofs.Common.{◌≡◌, ◌≢◌, ℕ, ◌+◌, ◌-◌, ◌≤◌, List, [], ◌++◌, length, take, drop, refl, ap, sym, ◌∙◌, subst, arith, Some, Result, OnOk, length-take, length-drop}
 use Rattle.std.specs.Option.{ForSome, option_map}
 use Rattle.std.proofs.lemmas.List.{same_lists, places}
 use Rattle.jb_disk.specs.declared.file.FileId.{FileId}
@@ -12,8 +12,10 @@ use Rattle.jb_disk.specs.Runs.{Keeps}
 use Rattle.jb_disk.proofs.RunLemmas.{keeps-refl, keeps-then, keeps-reads, keeps-write}
 use Rattle.jb_redo.specs.OnTheWay.{IsOnTheWay}
 use Rattle.jb_redo.proofs.WayLemmas.{way_torn}
-use Rattle.jb_journal.specs.Applying.{IsWrittenBy}
+use Rattle.jb_journal.specs.Coming.{ComeBy}
+use Rattle.jb_journal.specs.Filing.{IsWrittenBy}
 use Rattle.jb_journal.specs.Writing.{Reaches, copied}
+use Rattle.jb_journal.proofs.ComingLemmas.{come_none, come_on}
 use Rattle.jb_journal.proofs.Told.{option_map-same, option_map-twice, option_map-id, written-twice, written-nil, Reaches-written, told_back}
 
 -- a write where pieces are written
@@ -66,6 +68,7 @@ pub record Moving (initial now : Device) (from : FileId) (from_at : ℕ) (to : F
   pub apart : ForSome now.contents (λ files. from ≢ to)
   pub source : Reaches now.contents from (from_at + len)
   pub target : Reaches now.contents to (to_at + len)
+  pub come : ComeBy [] [] initial.moments now.moments
   pub counted : now.faults ≡ initial.faults
   pub alike : TellsAlike initial now
   pub keeps : (lengths : List Length) (pieces : List Piece) (start : Files) → IsWrittenBy start pieces to to_at len → Keeps (IsOnTheWay lengths pieces start) initial now
@@ -79,6 +82,7 @@ moving_start device from from_at to to_at len apart source target = record {
   apart = apart;
   source = source;
   target = target;
+  come = come_none device.moments;
   counted = refl;
   alike = refl;
   keeps = λ lengths pieces start covers. keeps-refl (IsOnTheWay lengths pieces start) device;
@@ -93,10 +97,10 @@ moving_start device from from_at to to_at len apart source target = record {
 
 -- one part more
 pub moving_on : (initial now next : Device) (from : FileId) (from_at : ℕ) (to : FileId) (to_at len moved count : ℕ) → Moving initial now from from_at to to_at len moved → moved + count ≤ len
-    → next.contents ≡ option_map (copied from (from_at + moved) to (to_at + moved) count) now.contents → next.faults ≡ now.faults → TellsAlike now next
+    → next.contents ≡ option_map (copied from (from_at + moved) to (to_at + moved) count) now.contents → ComeBy [] [] now.moments next.moments → next.faults ≡ now.faults → TellsAlike now next
     → ((lengths : List Length) (pieces : List Piece) (start : Files) → IsWrittenBy start pieces to (to_at + moved) count → Keeps (IsOnTheWay lengths pieces start) now next)
     → Moving initial next from from_at to to_at len (moved + count)
-moving_on initial now next from from_at to to_at len moved count moving within told kept alike keeps =
+moving_on initial now next from from_at to to_at len moved count moving within told come kept alike keeps =
     let step : Files → Files = copied from (from_at + moved) to (to_at + moved) count in
     let sizes : (files : Files) (end : ℕ) (file : FileId) → now.contents ≡ Some files → end ≤ length (files file) → end ≤ length (step files file) = λ files end file is low.
     (Reaches-written (Some files) (Some (step files)) to file (to_at + moved) end (take count (drop (from_at + moved) (files from))) refl (here files is) (some_low files end file low)) (step files) refl in
@@ -110,6 +114,7 @@ moving_on initial now next from from_at to to_at len moved count moving within t
       apart = λ files is. let back = told_back now.contents next.contents step files told is in moving.apart back.0 back.1;
       source = λ files is. let back = told_back now.contents next.contents step files told is in subst (λ (x : Files). from_at + len ≤ length (x from)) (sym back.2) (sizes back.0 (from_at + len) from back.1 (moving.source back.0 back.1));
       target = λ files is. let back = told_back now.contents next.contents step files told is in subst (λ (x : Files). to_at + len ≤ length (x to)) (sym back.2) (sizes back.0 (to_at + len) to back.1 (moving.target back.0 back.1));
+      come = come_on [] [] initial.moments now.moments next.moments moving.come come;
       counted = kept ∙ moving.counted;
       alike = alike ∙ moving.alike;
       keeps = λ lengths pieces start covers. keeps-then (IsOnTheWay lengths pieces start) initial now next (moving.keeps lengths pieces start covers)
@@ -132,11 +137,11 @@ moving_on initial now next from from_at to to_at len moved count moving within t
 
 -- the same, by the length of the part
 pub moving_by : (initial now next : Device) (from : FileId) (from_at : ℕ) (to : FileId) (to_at len moved count part : ℕ) → Moving initial now from from_at to to_at len moved → moved + count ≤ len → part ≡ count
-    → next.contents ≡ option_map (copied from (from_at + moved) to (to_at + moved) part) now.contents → next.faults ≡ now.faults → TellsAlike now next
+    → next.contents ≡ option_map (copied from (from_at + moved) to (to_at + moved) part) now.contents → ComeBy [] [] now.moments next.moments → next.faults ≡ now.faults → TellsAlike now next
     → ((lengths : List Length) (pieces : List Piece) (start : Files) → IsWrittenBy start pieces to (to_at + moved) part → Keeps (IsOnTheWay lengths pieces start) now next)
     → Moving initial next from from_at to to_at len (moved + count)
-moving_by initial now next from from_at to to_at len moved count part moving within size told kept alike keeps =
-    moving_on initial now next from from_at to to_at len moved count moving within (told ∙ ap (λ (n : ℕ). option_map (copied from (from_at + moved) to (to_at + moved) n) now.contents) size) kept alike
+moving_by initial now next from from_at to to_at len moved count part moving within size told come kept alike keeps =
+    moving_on initial now next from from_at to to_at len moved count moving within (told ∙ ap (λ (n : ℕ). option_map (copied from (from_at + moved) to (to_at + moved) n) now.contents) size) come kept alike
     (λ lengths pieces start covers. keeps lengths pieces start (subst (λ (n : ℕ). IsWrittenBy start pieces to (to_at + moved) n) (sym size) covers))
 
 -- a part that was refused
@@ -151,9 +156,5 @@ moving_failed initial now next from from_at to to_at len moved count part moving
 pub moving_end : (initial now : Device) (from : FileId) (from_at : ℕ) (to : FileId) (to_at len moved : ℕ) → Moving initial now from from_at to to_at len moved → len ≤ moved
     → now.contents ≡ option_map (copied from from_at to to_at len) initial.contents
 moving_end initial now from from_at to to_at len moved moving all =
-    sym (option_map-id (rest_of from from_at to to_at len moved) now.contents (λ files is. nothing files (moving.target files is))) ∙ moving.told
-  where
-    nothing : (files : Files) → to_at + len ≤ length (files to) → rest_of from from_at to to_at len moved files ≡ files
-    nothing files room =
-        let none : len - moved ≡ 0 = omega arith in
-        (λ i. copied from (from_at + moved) to (to_at + moved) (none i) files) ∙ written-nil to (to_at + moved) files (omega (arith, moving.within))
+    let none : len - moved ≡ 0 = omega arith in
+    sym (option_map-id (rest_of from from_at to to_at len moved) now.contents (λ files is. (λ i. copied from (from_at + moved) to (to_at + moved) (none i) files) ∙ written-nil to (to_at + moved) files)) ∙ moving.told

@@ -1,9 +1,9 @@
-mod ApplyLemmas
-mod BeginLemmas
+mod ComingLemmas
 mod CommitLemmas
 mod CopyLemmas
-mod FinishLemmas
+mod FilingLemmas
 pub mod FirmLemmas
+mod GatherLemmas
 mod OpenedLemmas
 mod OpeningLemmas
 mod Patching
@@ -11,6 +11,7 @@ mod PieceLemmas
 mod PrepareLemmas
 mod PutsLemmas
 mod ReadyLemmas
+mod RecordAndOpen
 mod RecordLemmas
 mod RecoverLemmas
 mod SettingLemmas
@@ -18,3 +19,4 @@ pub mod SettleLemmas
 mod SyncLemmas
 mod Told
 mod Touching
+mod WriteAndClose

@@ -1,5 +1,5 @@
 -- Pieces written one after another.
-use Rattle.std.proofs.Common.{◌≡◌, ◌≢◌, inl, inr, zero, suc, ℕ, ◌+◌, ◌<◌, ◌≤◌, List, [], ◌∷◌, All, length, take, drop, get_or, refl, ap, sym, ◌∙◌, subst, arith, Option, Some, None, true, false, length-drop}
+use Rattle.std.proofs.Common.{◌≡◌, ◌≢◌, inl, inr, zero, suc, ℕ, ◌+◌, ◌<◌, ◌≤◌, List, [], ◌∷◌, All, length, take, drop, get_or, refl, ap, sym, ◌∙◌, subst, arith, Option, Some, None, true, false, length-drop, Result, OnOk}
 use Rattle.std.specs.Prelude.{slice_get}
 use Rattle.std.specs.Option.{ForSome, option_map}
 use Rattle.std.proofs.lemmas.Bool.{cases_eq}
@@ -23,10 +23,14 @@ use Rattle.jb_redo.specs.OnTheWay.{IsOnTheWay}
 use Rattle.jb_redo.specs.Replay.{target_of, span_of, spans_in}
 use Rattle.jb_redo.specs.Rules.{sizes_of, new_sizes, IsLegalPiece, IsLegal}
 use Rattle.jb_redo.proofs.SpanLemmas.{spans_in-here, spans_in-other, spans_same, legal_target}
-use Rattle.jb_journal.specs.Applying.{with_piece, with_pieces, HasPlace, IsWrittenBy}
+use Rattle.jb_journal.specs.Pending.{Pending, seen, IsHeld, IsFrom, Flushes}
+use Rattle.jb_journal.specs.Filing.{with_piece, with_pieces, HasPlace, IsWrittenBy}
 use Rattle.jb_journal.specs.Spelling.{nth_piece}
-use Rattle.jb_journal.specs.Writing.{copied}
-use Rattle.jb_journal.proofs.Told.{option_map-twice, length-written, told_back}
+use Rattle.jb_journal.specs.Writing.{Reaches, copied}
+use Rattle.jb_journal.specs.Coming.{ComeBy}
+use Rattle.jb_journal.proofs.ComingLemmas.{come_none, come_on}
+use Rattle.jb_journal.proofs.GatherLemmas.{seen-none}
+use Rattle.jb_journal.proofs.Told.{option_map-twice, length-written, told_back, on_ok}
 
 -- true is not false
 not-false : true ≡ false → ⊥
@@ -126,48 +130,74 @@ length-head (Copy from from_at to to_at len) head bytes is copy same = absurd (n
 sizes-with : (piece : Piece) (files : Files) → HasPlace files piece → sizes_of (with_piece piece files) ≡ sizes_of files
 sizes-with piece files place = λ i. λ file. length-written (target_of piece) file (span_of files piece).at (span_of files piece).bytes files (piece-within piece files place) i
 
--- these pieces of all are still to be written
-pub record Putting (initial now : Device) (pieces rest : List Piece) : Type 0 where
-  pub told : option_map (with_pieces rest) now.contents ≡ option_map (with_pieces pieces) initial.contents
-  pub place : ForSome now.contents (λ files. All (HasPlace files) pieces)
+-- nor does it take room
+pub reaches-with : (piece : Piece) (o after : Option Files) (f : FileId) (end : ℕ) → after ≡ option_map (with_piece piece) o → ForSome o (λ files. HasPlace files piece) → Reaches o f end → Reaches after f end
+reaches-with piece o after f end told place reaches = λ files there.
+    let back = told_back o after (with_piece piece) files told there in
+    let same : sizes_of files ≡ sizes_of back.0 = ap sizes_of back.2 ∙ sizes-with piece back.0 (place back.0 back.1) in
+    let size : length (files f) ≡ length (back.0 f) = ap (λ (sizes : FileId → ℕ). sizes f) same in
+    omega (arith, size, reaches back.0 back.1)
+
+-- these pieces of all are still to be put
+pub record Putting (initial now : Device) (pending : Pending) (pieces rest : List Piece) : Type 0 where
+  pub told : option_map (with_pieces rest) (seen pending now.contents) ≡ option_map (with_pieces pieces) initial.contents
+  pub held : IsHeld pending now.contents
+  pub place : ForSome (seen pending now.contents) (λ files. All (HasPlace files) pieces)
+  pub come : ComeBy [] [] initial.moments now.moments
   pub counted : now.faults ≡ initial.faults
   pub alike : TellsAlike initial now
-  pub keeps : (lengths : List Length) (start : Files) → IsLegal (sizes_of start) lengths pieces → Keeps (IsOnTheWay lengths pieces start) initial now
+  pub keeps : (lengths : List Length) (start : Files) → IsLegal (sizes_of start) lengths pieces → IsFrom start pieces pending × Keeps (IsOnTheWay lengths pieces start) initial now
 
--- none is written yet
-pub putting_start : (device : Device) (pieces : List Piece) → ForSome device.contents (λ files. All (HasPlace files) pieces) → Putting device device pieces pieces
-putting_start device pieces place = record { told = refl; place = place; counted = refl; alike = refl; keeps = λ lengths start legal. keeps-refl (IsOnTheWay lengths pieces start) device }
+-- none is put yet, and nothing is on its way to the beginning of a file
+pub putting_start : (device : Device) (pending : Pending) (pieces : List Piece) → pending ≡ record { file = Jhr; at = 0; bytes = [] } → ForSome device.contents (λ files. All (HasPlace files) pieces) → Putting device device pending pieces pieces
+putting_start device pending pieces none place = subst (λ (p : Pending). Putting device device p pieces pieces) (sym none) (record {
+  told = ap (option_map (with_pieces pieces)) (seen-none Jhr 0 device.contents);
+  held = λ files there. omega arith;
+  place = subst (λ (o : Option Files). ForSome o (λ files. All (HasPlace files) pieces)) (sym (seen-none Jhr 0 device.contents)) place;
+  come = come_none device.moments;
+  counted = refl;
+  alike = refl;
+  keeps = λ lengths start legal. (λ i over under. absurd (omega (arith, over, under)), keeps-refl (IsOnTheWay lengths pieces start) device);
+})
 
 -- the place of the next
-pub putting_place : (initial now : Device) (pieces rest : List Piece) (k : ℕ) → Putting initial now pieces rest → k < length pieces → ForSome now.contents (λ files. HasPlace files (nth_piece pieces k))
-putting_place initial now pieces rest k putting low = λ files there. putting.place files there k (Bytes Jhr 0 []) low
+pub putting_place : (initial now : Device) (pending : Pending) (pieces rest : List Piece) (k : ℕ) → Putting initial now pending pieces rest → k < length pieces → ForSome (seen pending now.contents) (λ files. HasPlace files (nth_piece pieces k))
+putting_place initial now pending pieces rest k putting low = λ files there. putting.place files there k (Bytes Jhr 0 []) low
 
 -- one piece more
-pub putting_on : (initial now next : Device) (pieces : List Piece) (k : ℕ) → Putting initial now pieces (drop k pieces) → k < length pieces → next.contents ≡ option_map (with_piece (nth_piece pieces k)) now.contents → next.faults ≡ now.faults → TellsAlike now next
-    → ((lengths : List Length) (start : Files) → IsLegal (sizes_of start) lengths pieces → Keeps (IsOnTheWay lengths pieces start) now next) → Putting initial next pieces (drop (k + 1) pieces)
-putting_on initial now next pieces k putting low told kept alike keeps =
+pub putting_on : (initial now next : Device) (pending coming : Pending) (pieces : List Piece) (k : ℕ) → Putting initial now pending pieces (drop k pieces) → k < length pieces
+    → seen coming next.contents ≡ option_map (with_piece (nth_piece pieces k)) (seen pending now.contents) → IsHeld coming next.contents → ComeBy [] [] now.moments next.moments → next.faults ≡ now.faults → TellsAlike now next
+    → ((lengths : List Length) (start : Files) → IsLegal (sizes_of start) lengths pieces → IsFrom start pieces pending → IsFrom start pieces coming × Keeps (IsOnTheWay lengths pieces start) now next)
+    → Putting initial next coming pieces (drop (k + 1) pieces)
+putting_on initial now next pending coming pieces k putting low told held come kept alike keeps =
     let piece = nth_piece pieces k in
     let more : drop k pieces ≡ piece ∷ drop (k + 1) pieces = drop_more pieces k (Bytes Jhr 0 []) low in
     record {
       told =
           ap (option_map (with_pieces (drop (k + 1) pieces))) told
-          ∙ option_map-twice (with_piece piece) (with_pieces (drop (k + 1) pieces)) now.contents
-          ∙ ap (λ (l : List Piece). option_map (with_pieces l) now.contents) (sym more)
+          ∙ option_map-twice (with_piece piece) (with_pieces (drop (k + 1) pieces)) (seen pending now.contents)
+          ∙ ap (λ (l : List Piece). option_map (with_pieces l) (seen pending now.contents)) (sym more)
           ∙ putting.told;
+      held = held;
+      come = come_on [] [] initial.moments now.moments next.moments putting.come come;
       place = λ files there.
-          let back = told_back now.contents next.contents (with_piece piece) files told there in
+          let back = told_back (seen pending now.contents) (seen coming next.contents) (with_piece piece) files told there in
           let was = putting.place back.0 back.1 in
           let same : sizes_of files ≡ sizes_of back.0 = ap sizes_of back.2 ∙ sizes-with piece back.0 (was k (Bytes Jhr 0 []) low) in
           subst (λ (sizes : FileId → ℕ). All (IsLegalPiece sizes sizes) pieces) (sym same) was;
       counted = kept ∙ putting.counted;
       alike = alike ∙ putting.alike;
-      keeps = λ lengths start legal. keeps-then (IsOnTheWay lengths pieces start) initial now next (putting.keeps lengths start legal) (keeps lengths start legal);
+      keeps = λ lengths start legal.
+          let was = putting.keeps lengths start legal in
+          let now_is = keeps lengths start legal was.0 in
+          (now_is.0, keeps-then (IsOnTheWay lengths pieces start) initial now next was.1 now_is.1);
     }
 
--- all are written
-pub putting_end : (initial now : Device) (pieces rest : List Piece) → Putting initial now pieces rest → rest ≡ [] → now.contents ≡ option_map (with_pieces pieces) initial.contents
-putting_end initial now pieces rest putting none =
-    sym (same now.contents) ∙ ap (λ (l : List Piece). option_map (with_pieces l) now.contents) (sym none) ∙ putting.told
+-- all are put, and what was on its way is written
+pub putting_end : {T E : Type 0} (initial now next : Device) (pending coming : Pending) (pieces rest : List Piece) (result : Result T E) → Putting initial now pending pieces rest → rest ≡ [] → Flushes pending now coming next result
+    → OnOk result (next.contents ≡ option_map (with_pieces pieces) initial.contents)
+putting_end initial now next pending coming pieces rest result putting none flush = on_ok result _ _ (λ told.
+    told ∙ sym (same (seen pending now.contents)) ∙ ap (λ (l : List Piece). option_map (with_pieces l) (seen pending now.contents)) (sym none) ∙ putting.told) flush.told
   where
     same : (contents : Option Files) → option_map (with_pieces []) contents ≡ contents
     same None = refl

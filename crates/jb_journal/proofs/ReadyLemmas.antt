@@ -23,7 +23,7 @@ use Rattle.jb_redo.proofs.SpanLemmas.{spans_same}
 use Rattle.jb_redo.proofs.WayLemmas.{way_start}
 use Rattle.jb_journal.specs.Commit.{AgreeButJournal, IsReady, ReplaysTo, IsBeforeOrAfter, changed, journal_of, committed}
 use Rattle.jb_journal.specs.Doubt.{IsEarly}
-use Rattle.jb_journal.specs.Stages.{IsUntouched, IsAtGate, IsOpened, IsGoing, closed, staged, opened}
+use Rattle.jb_journal.specs.Stages.{IsUntouched, IsAtGate, IsOpened, IsGoing, closed, recorded, opened}
 use Rattle.jb_journal.proofs.SettingLemmas.{sizes_agree}
 use Rattle.jb_journal.proofs.RecordLemmas.{length-record}
 use Rattle.jb_journal.proofs.Patching.{first_written, written_over}
@@ -50,55 +50,55 @@ base_apart : (file : FileId) → number_of file < 4 → file ≢ Jnl
 base_apart file low is = let same : number_of file ≡ 4 = ap number_of is in omega (arith, same)
 
 module _ (change : Change) (start : Files) (ready : IsReady change start) where
-  -- the staged journal
-  pub staged-jnl : staged change start Jnl ≡ journal_of change start
-  staged-jnl = with_file-here Jnl (journal_of change start) start
+  -- the journal with the record
+  pub recorded-jnl : recorded change start Jnl ≡ journal_of change start
+  recorded-jnl = with_file-here Jnl (journal_of change start) start
 
   -- its head
   length-head : length (take 16 (start Jnl)) ≡ 16
   length-head = let long = ready.long in omega (arith, length-take 16 (start Jnl))
 
   -- its length
-  pub length-staged : length (staged change start Jnl) ≡ 16 + length (record_bytes change.lengths change.pieces)
-  length-staged = ap length staged-jnl ∙ length-append (take 16 (start Jnl)) (record_bytes change.lengths change.pieces) ∙ omega (arith, length-head)
+  pub length-recorded : length (recorded change start Jnl) ≡ 16 + length (record_bytes change.lengths change.pieces)
+  length-recorded = ap length recorded-jnl ∙ length-append (take 16 (start Jnl)) (record_bytes change.lengths change.pieces) ∙ omega (arith, length-head)
 
   -- it has more than its head
-  pub staged-longer : 16 < length (staged change start Jnl)
-  staged-longer = omega (arith, length-staged, length-record change.lengths change.pieces)
+  pub recorded-longer : 16 < length (recorded change start Jnl)
+  recorded-longer = omega (arith, length-recorded, length-record change.lengths change.pieces)
 
   -- it has a first byte
-  staged-some : 0 + 1 ≤ length (staged change start Jnl)
-  staged-some = omega (arith, staged-longer)
+  recorded-some : 0 + 1 ≤ length (recorded change start Jnl)
+  recorded-some = omega (arith, recorded-longer)
 
   -- the opened journal
-  pub opened-jnl : opened change start Jnl ≡ overwritten 0 (1 ∷ []) (staged change start Jnl)
-  opened-jnl = with_file-here Jnl (overwritten 0 (1 ∷ []) (staged change start Jnl)) (staged change start)
+  pub opened-jnl : opened change start Jnl ≡ overwritten 0 (1 ∷ []) (recorded change start Jnl)
+  opened-jnl = with_file-here Jnl (overwritten 0 (1 ∷ []) (recorded change start Jnl)) (recorded change start)
 
   -- its length
-  pub length-opened : length (opened change start Jnl) ≡ length (staged change start Jnl)
-  length-opened = ap length opened-jnl ∙ length-overwritten 0 (1 ∷ []) (staged change start Jnl) staged-some
+  pub length-opened : length (opened change start Jnl) ≡ length (recorded change start Jnl)
+  length-opened = ap length opened-jnl ∙ length-overwritten 0 (1 ∷ []) (recorded change start Jnl) recorded-some
 
   -- its gate
   pub gate-opened : slice_index (opened change start Jnl) 0 ≡ 1
-  gate-opened = ap (λ (l : List ℕ). slice_index l 0) opened-jnl ∙ first_written 1 (staged change start Jnl) staged-some
+  gate-opened = ap (λ (l : List ℕ). slice_index l 0) opened-jnl ∙ first_written 1 (recorded change start Jnl) recorded-some
 
   -- what stands behind it
-  pub behind-opened : (i : ℕ) → 1 ≤ i → slice_index (opened change start Jnl) i ≡ slice_index (staged change start Jnl) i
-  behind-opened i high = ap (λ (l : List ℕ). slice_index l i) opened-jnl ∙ get-behind 0 (1 ∷ []) (staged change start Jnl) staged-some i high
+  pub behind-opened : (i : ℕ) → 1 ≤ i → slice_index (opened change start Jnl) i ≡ slice_index (recorded change start Jnl) i
+  behind-opened i high = ap (λ (l : List ℕ). slice_index l i) opened-jnl ∙ get-behind 0 (1 ∷ []) (recorded change start Jnl) recorded-some i high
 
   -- the other files are as at the start
-  pub staged-agrees : AgreeButJournal (staged change start) start
-  staged-agrees file ne = with_file-other Jnl file _ start ne
+  pub recorded-agrees : AgreeButJournal (recorded change start) start
+  recorded-agrees file ne = with_file-other Jnl file _ start ne
 
   -- so they are with the gate open
   pub opened-agrees : AgreeButJournal (opened change start) start
-  opened-agrees file ne = with_file-other Jnl file _ (staged change start) ne ∙ staged-agrees file ne
+  opened-agrees file ne = with_file-other Jnl file _ (recorded change start) ne ∙ recorded-agrees file ne
 
   -- the record behind the head
   opened-record : record_part (opened change start) ≡ record_bytes change.lengths change.pieces
   opened-record =
-      drop_same 16 (opened change start Jnl) (staged change start Jnl) length-opened (λ i high. behind-opened i (omega arith))
-      ∙ ap (drop 16) staged-jnl
+      drop_same 16 (opened change start Jnl) (recorded change start Jnl) length-opened (λ i high. behind-opened i (omega arith))
+      ∙ ap (drop 16) recorded-jnl
       ∙ ap (λ (n : ℕ). drop n (journal_of change start)) (sym length-head)
       ∙ behind_first (take 16 (start Jnl)) (record_bytes change.lengths change.pieces)
 
@@ -153,7 +153,7 @@ module _ (change : Change) (start : Files) (ready : IsReady change start) where
   -- the gate stands open before the record
   pub opened_is : IsOpened change (opened change start)
   opened_is = record {
-    gate = record { longer = omega (arith, length-opened, staged-longer); gate = gate-opened };
+    gate = record { longer = omega (arith, length-opened, recorded-longer); gate = gate-opened };
     has = record { legal = opened_legal; begins = record { behind = []; is = opened-record ∙ sym (append-nil (record_bytes change.lengths change.pieces)) } };
     grown = opened_grown;
   }
@@ -172,8 +172,8 @@ module _ (change : Change) (start : Files) (ready : IsReady change start) where
     | inl same ↦ subst (λ (f : FileId). closed change (opened change start) f ≡ committed change start f) (sym same)
         (with_file-here Jnl (overwritten 0 (0 ∷ []) (changed change (opened change start) Jnl)) (changed change (opened change start))
         ∙ ap (overwritten 0 (0 ∷ [])) (done_journal change (opened change start) opened_is ∙ opened-jnl)
-        ∙ written_over 1 0 (staged change start Jnl) staged-some
-        ∙ ap (overwritten 0 (0 ∷ [])) (staged-jnl ∙ sym (with_file-here Jnl (journal_of change start) (changed change start)))
+        ∙ written_over 1 0 (recorded change start Jnl) recorded-some
+        ∙ ap (overwritten 0 (0 ∷ [])) (recorded-jnl ∙ sym (with_file-here Jnl (journal_of change start) (changed change start)))
         ∙ sym (with_file-here Jnl (overwritten 0 (0 ∷ []) (with_file Jnl (journal_of change start) (changed change start) Jnl)) (with_file Jnl (journal_of change start) (changed change start))))
     | inr other ↦
         with_file-other Jnl file (overwritten 0 (0 ∷ []) (changed change (opened change start) Jnl)) (changed change (opened change start)) other
@@ -196,9 +196,9 @@ module _ (change : Change) (start : Files) (ready : IsReady change start) where
   untouched_early files untouched = record { same = untouched.same; gate = λ is_open. absurd (untouched_shut files untouched is_open.gate) }
 
   -- and so is the gate being opened
-  pub at_gate_early : (files : Files) → IsAtGate (staged change start) files → IsEarly change start files
+  pub at_gate_early : (files : Files) → IsAtGate (recorded change start) files → IsEarly change start files
   at_gate_early files at = record {
-    same = λ file ne. at.same file ne ∙ staged-agrees file ne;
+    same = λ file ne. at.same file ne ∙ recorded-agrees file ne;
     gate = λ is_open. same_journal (files Jnl) (opened change start Jnl) (at.size ∙ sym length-opened) (is_open.gate ∙ sym gate-opened) (λ i high. at.behind i high ∙ sym (behind-opened i high));
   }
 

@@ -1,5 +1,5 @@
 -- New lengths set one after another.
-use Rattle.std.proofs.Common.{◌≡◌, ◌≢◌, inl, inr, zero, suc, ℕ, ◌+◌, ◌<◌, ◌≤◌, List, [], ◌∷◌, All, length, drop, get_or, refl, ap, sym, ◌∙◌, subst, arith, Option, Some, None, Result, Ok}
+use Rattle.std.proofs.Common.{◌≡◌, ◌≢◌, inl, inr, zero, suc, ℕ, ◌+◌, ◌<◌, List, [], ◌∷◌, All, length, drop, get_or, refl, ap, sym, ◌∙◌, subst, arith, Option, Some, None, Result, Ok}
 use Rattle.std.specs.List.{AllPairs}
 use Rattle.std.proofs.lemmas.Bool.{cases_eq}
 use Rattle.std.proofs.lemmas.List.{drop_more}
@@ -10,14 +10,17 @@ use Rattle.jb_disk.specs.declared.piece.Piece.{Piece}
 use Rattle.jb_disk.specs.Files.{Files, number_of, IsResized, InFile}
 use Rattle.jb_disk.specs.FileLaws.{same_file, number-injective}
 use Rattle.jb_disk.specs.Steps.{Cut}
-use Rattle.jb_disk.specs.Device.{Device, TellsAlike, Turns, Resizes, TellsAnImage}
+use Rattle.jb_disk.specs.Device.{Device, TellsAlike, Turns, Resizes, TellsAnImage, and_then}
+use Rattle.jb_disk.specs.Images.{Images, cut, with_image}
 use Rattle.jb_disk.specs.Runs.{Keeps}
 use Rattle.jb_disk.proofs.RunLemmas.{keeps-refl, keeps-then, keeps-resize}
 use Rattle.jb_redo.specs.OnTheWay.{IsOnTheWay}
 use Rattle.jb_redo.specs.Rules.{sizes_of, with_size, new_sizes, IsBefore}
 use Rattle.jb_redo.proofs.SizeLemmas.{with_size-here, with_size-other}
 use Rattle.jb_redo.proofs.WayLemmas.{way_cut, resized_same}
-use Rattle.jb_journal.specs.Applying.{AreResized}
+use Rattle.jb_journal.specs.Coming.{ComeBy}
+use Rattle.jb_journal.specs.Filing.{AreResized}
+use Rattle.jb_journal.proofs.ComingLemmas.{come_none, come_then, come_resized}
 
 -- a file that none of them sets
 pub none_sets : (lengths : List Length) (sizes : FileId → ℕ) (file : FileId) → All (λ entry. number_of (entry.file) ≢ number_of file) lengths → new_sizes lengths sizes file ≡ sizes file
@@ -78,6 +81,7 @@ resized_none files file = record { size = refl; same = λ i within low. refl }
 pub record Setting (initial now : Device) (lengths rest : List Length) : Type 0 where
   pub rising : AllPairs IsBefore rest
   pub told : (final : Option Files) → Turns (AreResized rest) now.contents final → Turns (AreResized lengths) initial.contents final
+  pub come : (final : List Images) → ComeBy rest [] now.moments final → ComeBy lengths [] initial.moments final
   pub counted : now.faults ≡ initial.faults
   pub alike : TellsAlike initial now
   pub keeps : (pieces : List Piece) (start : Files) → Keeps (IsOnTheWay lengths pieces start) initial now
@@ -87,6 +91,7 @@ pub setting_start : (device : Device) (lengths : List Length) → AllPairs IsBef
 setting_start device lengths rising = record {
   rising = rising;
   told = λ final turns. turns;
+  come = λ final rest. rest;
   counted = refl;
   alike = refl;
   keeps = λ pieces start. keeps-refl (IsOnTheWay lengths pieces start) device;
@@ -113,14 +118,17 @@ keeps_set lengths i d old new result rising low tells_old tells_new resizes piec
 
 -- one length more
 pub setting_on : {T E : Type 0} (initial now next : Device) (lengths : List Length) (i : ℕ) (d : Length) (value : T) → Setting initial now lengths (drop i lengths) → AllPairs IsBefore lengths → i < length lengths
-    → TellsAnImage now → TellsAnImage next → Resizes {T = T} {E = E} (get_or lengths i d).file (get_or lengths i d).len now next (Ok value) → next.faults ≡ now.faults → TellsAlike now next → Setting initial next lengths (drop (i + 1) lengths)
-setting_on initial now next lengths i d value setting rising low tells_now tells_next resizes kept alike =
+    → TellsAnImage now → TellsAnImage next → Resizes {T = T} {E = E} (get_or lengths i d).file (get_or lengths i d).len now next (Ok value)
+    → next.moments ≡ and_then (with_image (get_or lengths i d).file (cut (get_or lengths i d).len)) now.moments → next.faults ≡ now.faults → TellsAlike now next → Setting initial next lengths (drop (i + 1) lengths)
+setting_on initial now next lengths i d value setting rising low tells_now tells_next resizes moments kept alike =
     let entry = get_or lengths i d in
     let more : drop i lengths ≡ entry ∷ drop (i + 1) lengths = drop_more lengths i d low in
     let pairs : AllPairs IsBefore (entry ∷ drop (i + 1) lengths) = subst (AllPairs IsBefore) more setting.rising in
     record {
       rising = pairs_tail entry (drop (i + 1) lengths) pairs;
       told = λ final rest. setting.told final (subst (λ (l : List Length). Turns (AreResized l) now.contents final) (sym more) (told_more entry (drop (i + 1) lengths) now.contents next.contents final (pairs_head entry (drop (i + 1) lengths) pairs) resizes.done rest));
+      come = λ final rest. setting.come final (subst (λ (l : List Length). ComeBy l [] now.moments final) (sym more)
+          (come_then (entry ∷ []) (drop (i + 1) lengths) [] [] now.moments next.moments final (come_resized entry now.moments next.moments moments) rest));
       counted = kept ∙ setting.counted;
       alike = alike ∙ setting.alike;
       keeps = λ pieces start. keeps-then (IsOnTheWay lengths pieces start) initial now next (setting.keeps pieces start) (keeps_set lengths i d now next (Ok value) rising low tells_now tells_next resizes pieces start);
@@ -133,3 +141,7 @@ setting_end initial now lengths rest setting none = setting.told now.contents (s
     same : (contents : Option Files) → Turns (AreResized []) contents contents
     same None = tt
     same (Some files) = resized_none files
+
+-- by these lengths
+pub setting_come : (initial now : Device) (lengths rest : List Length) → Setting initial now lengths rest → rest ≡ [] → ComeBy lengths [] initial.moments now.moments
+setting_come initial now lengths rest setting none = setting.come now.moments (subst (λ (l : List Length). ComeBy l [] now.moments now.moments) (sym none) (come_none now.moments))

@@ -19,10 +19,10 @@ use Rattle.jb_journal.specs.Doubt.{IsEarly, IsLate, IsInDoubt, HasStopped, Doubt
 use Rattle.jb_journal.specs.Prepare.{IsPrepared, IsPreparing}
 use Rattle.jb_journal.specs.Stages.{IsAtGate, IsGoing, IsClosing, IsUnderWay, closed, opened}
 use Rattle.jb_journal.proofs.SyncLemmas.{leaves_map, leaves_both, shows_map}
-use Rattle.jb_journal.proofs.FinishLemmas.{shows_silent, shows_is, told_is}
+use Rattle.jb_journal.proofs.WriteAndClose.{shows_silent, shows_is, told_is}
 use Rattle.jb_journal.proofs.OpenedLemmas.{going_journal, closing_going, closing_replays, length-closed, gate-closed, closed-agrees}
 use Rattle.jb_journal.proofs.ReadyLemmas.{opened_is, opened_going, early_opened, from_opened, closed-committed, changed-agrees, committed-agrees}
-use Rattle.jb_journal.proofs.BeginLemmas.{early_before_or_after}
+use Rattle.jb_journal.proofs.RecordAndOpen.{early_before_or_after}
 use Rattle.jb_journal.proofs.PrepareLemmas.{shows_preparing}
 
 -- zero is not one

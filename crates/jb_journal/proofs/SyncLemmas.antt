@@ -6,7 +6,7 @@ use Rattle.jb_disk.specs.Files.{Files}
 use Rattle.jb_disk.specs.Images.{Images}
 use Rattle.jb_disk.specs.Device.{Device, OnlyReads}
 use Rattle.jb_disk.specs.Runs.{LeavesNow, Shows, IsAllSynced}
-use Rattle.jb_journal.specs.Applying.{AgreeBelow}
+use Rattle.jb_journal.specs.Filing.{AgreeBelow}
 use Rattle.jb_journal.proofs.Told.{only_told}
 
 -- a weaker property

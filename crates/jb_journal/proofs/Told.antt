@@ -121,9 +121,9 @@ unfolding overwritten
 overwritten-append at front back old within = same_lists _ _ (grind (arith, places)) (λ k d h. grind (arith, places))
 
 -- a write of nothing
-overwritten-nil : (at : ℕ) (old : List ℕ) → at ≤ length old → overwritten at [] old ≡ old
+overwritten-nil : (at : ℕ) (old : List ℕ) → overwritten at [] old ≡ old
 unfolding overwritten
-overwritten-nil at old within = same_lists _ _ (grind (arith, places)) (λ k d h. grind (arith, places))
+overwritten-nil at old = same_lists _ _ (grind (arith, places)) (λ k d h. grind (arith, places))
 
 -- the same of the files
 pub written-twice : (f : FileId) (at : ℕ) (front back : List ℕ) (files : Files) → at + length front + length back ≤ length (files f)
@@ -138,9 +138,9 @@ written-twice f at front back files within = same_files _ _ (λ g. elim (same_fi
 ])
 
 -- and of nothing
-pub written-nil : (f : FileId) (at : ℕ) (files : Files) → at ≤ length (files f) → written f at [] files ≡ files
-written-nil f at files within = same_files _ _ (λ g. elim (same_file g f) [
-  | inl same ↦ subst (λ (h : FileId). written f at [] files h ≡ files h) (sym same) (with_file-here f _ files ∙ overwritten-nil at (files f) within)
+pub written-nil : (f : FileId) (at : ℕ) (files : Files) → written f at [] files ≡ files
+written-nil f at files = same_files _ _ (λ g. elim (same_file g f) [
+  | inl same ↦ subst (λ (h : FileId). written f at [] files h ≡ files h) (sym same) (with_file-here f _ files ∙ overwritten-nil at (files f))
   | inr other ↦ with_file-other f g _ files other
 ])
 

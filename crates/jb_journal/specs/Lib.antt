@@ -1,7 +1,9 @@
-pub mod Applying
+pub mod Coming
 pub mod Commit
 pub mod Doubt
+pub mod Filing
 pub mod Opening
+pub mod Pending
 pub mod Prepare
 pub mod Recover
 pub mod Spelling

@@ -16,12 +16,12 @@ pub record IsUntouched (start files : Files) : Type 0 where
   pub head : (i : ℕ) → i < 16 → slice_index (files Jnl) i ≡ slice_index (start Jnl) i
 
 -- the record stands behind the head
-abbrev pub staged : Change → Files → Files
-staged change files = with_file Jnl (journal_of change files) files
+abbrev pub recorded : Change → Files → Files
+recorded change files = with_file Jnl (journal_of change files) files
 
 -- and the gate is open
 abbrev pub opened : Change → Files → Files
-opened change files = written Jnl 0 (1 ∷ []) (staged change files)
+opened change files = written Jnl 0 (1 ∷ []) (recorded change files)
 
 -- while the gate is written: all but the journal's first byte is as in these files
 pub record IsAtGate (base files : Files) : Type 0 where

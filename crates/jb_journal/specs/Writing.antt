@@ -1,24 +1,14 @@
 -- What the calls of each stage do to the disk.
-use Rattle.std.specs.Prelude.{◌≡◌, ℕ, ◌≤◌, List, ◌∷◌, ◌++◌, length, take, drop, Option, Result, Ok, Err, OnOk}
-use Rattle.std.specs.Option.{ForSome, option_map}
+use Rattle.std.specs.Prelude.{◌≡◌, ℕ, ◌≤◌, List, ◌∷◌, ◌++◌, length, take, drop, Option, Result, Ok, Err}
+use Rattle.std.specs.Option.{ForSome}
 use Rattle.jb_disk.specs.declared.file.FileId.{FileId}
-use Rattle.jb_disk.specs.declared.file.FileId.TheVariants.{Jnl}
-use Rattle.jb_disk.specs.Device.{Device, FailsBy}
 use Rattle.jb_disk.specs.Files.{Files, written}
 use Rattle.jb_disk.specs.Images.{Images, IsImage}
 use Rattle.jb_disk.specs.Moments.{AtNewest, AtEach}
-use Rattle.jb_disk.specs.Runs.{Keeps}
-use Rattle.jb_journal.specs.Stages.{IsUntouched}
 
 -- a file reaches to this place, where the disk tells
 abbrev pub Reaches : Option Files → FileId → ℕ → Type 0
 Reaches contents file end = ForSome contents (λ files. end ≤ length (files file))
-
--- bytes that were to be written into the journal behind its head
-pub record Puts {T E : Type 0} (at : ℕ) (bytes : List ℕ) (old new : Device) (result : Result T E) : Type 0 where
-  pub done : OnOk result (new.contents ≡ option_map (written Jnl at bytes) old.contents)
-  pub keeps : (start : Files) → Keeps (IsUntouched start) old new
-  pub cause : FailsBy ⊥ old new result
 
 -- moments have come, and at each of them a crash may leave what it might leave before
 pub record Widens (old new : List Images) : Type 0 where

@@ -1,24 +1,26 @@
 //! The four stages of a commit.
-ghost use Rattle.std.specs.Prelude.{◌≡◌, ◌≤◌, IfErr, OnOk, OnErr};
+ghost use Rattle.std.specs.Prelude.{◌≡◌, ◌≤◌, [], ◌∷◌, IfErr, OnOk, OnErr};
 ghost use Rattle.std.specs.Option.{ForSome, option_map};
 ghost use Rattle.jb_base.specs.Fault.{Rose};
+ghost use Rattle.jb_disk.specs.declared.file.FileId.TheVariants.{Jnl};
 ghost use Rattle.jb_disk.specs.Device.{FailsBy, TellsAlike};
 ghost use Rattle.jb_disk.specs.Files.{Files};
 ghost use Rattle.jb_disk.specs.Runs.{Shows, Runs, LeavesOnly, IsAllSynced};
 ghost use Rattle.jb_redo.specs.Rules.{AreLegalLengths};
+ghost use Rattle.jb_journal.specs.Coming.{ComeBy, SyncsChanged, HasSynced, journal_length};
 ghost use Rattle.jb_journal.specs.Commit.{IsWritable, IsReady, IsBeforeOrAfter, ReplaysTo, changed, committed};
 ghost use Rattle.jb_journal.specs.Doubt.{IsEarly, IsInDoubt, IsSettledAt};
 ghost use Rattle.jb_journal.specs.Opening.{StaysShut, OpensNow, OpensFor, WhereTold, OpensNowFor};
 ghost use Rattle.jb_journal.specs.Stages.{IsOpened, IsGoing, IsClosing, IsUnderWay, closed, opened};
 
 use crate::Stopped;
-use crate::apply::apply;
+use crate::filing::write_files;
 use crate::gate::set_gate;
-use crate::stage::stage;
+use crate::recording::write_record;
 use jb_disk::{Disk, DiskFailed, Redo};
 
 // Stages 1 and 2: the record, and then the gate open, each synced.
-fn begin<D: Disk>(disk: &mut D, redo: &Redo) -> Result<(), DiskFailed>
+fn record_and_open<D: Disk>(disk: &mut D, redo: &Redo) -> Result<(), DiskFailed>
     requires writable { IsWritable redo.now }
     requires ready { ForSome (D.device disk.old).contents (IsReady redo.now) }
     requires synced { IsAllSynced (D.device disk.old) }
@@ -37,14 +39,16 @@ fn begin<D: Disk>(disk: &mut D, redo: &Redo) -> Result<(), DiskFailed>
         WhereTold (D.device disk.old).moments
         (OpensNowFor result (ReplaysTo (changed redo.now start))
         (D.device disk.old).moments (D.device disk.new).moments)) }
+    ensures come { OnOk result (ComeBy (journal_length redo.now ∷ []) (Jnl ∷ Jnl ∷ [])
+        (D.device disk.old).moments (D.device disk.new).moments) }
     ensures cause { FailsBy ⊥ (D.device disk.old) (D.device disk.new) result }
 {
-    stage(disk, redo)?;
+    write_record(disk, redo)?;
     set_gate(disk, 1)
 }
 
 /// Stages 3 and 4: the change in the files of the base, and then the gate closed, each synced.
-pub(crate) fn finish<D: Disk>(disk: &mut D, redo: &Redo) -> Result<(), DiskFailed>
+pub(crate) fn write_and_close<D: Disk>(disk: &mut D, redo: &Redo) -> Result<(), DiskFailed>
     requires lengths { AreLegalLengths redo.now.lengths }
     requires going { ForSome (D.device disk.old).contents (IsUnderWay redo.now) }
 
@@ -62,9 +66,11 @@ pub(crate) fn finish<D: Disk>(disk: &mut D, redo: &Redo) -> Result<(), DiskFaile
         → Shows (IsGoing redo.now from) (D.device disk.old)
         → Runs (ReplaysTo (changed redo.now from)) (D.device disk.old).moments
         (D.device disk.new).moments }
+    ensures come { OnOk result (SyncsChanged [] (Jnl ∷ []) redo.now.lengths redo.now.lengths redo.now.pieces
+        (D.device disk.old).moments (D.device disk.new).moments) }
     ensures cause { FailsBy ⊥ (D.device disk.old) (D.device disk.new) result }
 {
-    apply(disk, redo)?;
+    write_files(disk, redo)?;
     set_gate(disk, 0)
 }
 
@@ -102,13 +108,16 @@ pub fn commit<D: Disk>(disk: &mut D, redo: &Redo) -> Result<(), Stopped>
         (OpensFor result (ReplaysTo (changed redo.now start)) (D.device disk.old).moments
         (D.device disk.new).moments)) }
 
+    // It syncs the journal three times and each file once of which the change speaks, and no other.
+    ensures syncs { OnOk result (HasSynced redo.now (D.device disk.old).moments (D.device disk.new).moments) }
+
     // A disk that tells its files goes on telling them, and one that tells nothing goes on so, whatever is answered.
     ensures alike { TellsAlike (D.device disk.old) (D.device disk.new) }
 {
-    let Ok(()) = begin(disk, redo) else {
+    let Ok(()) = record_and_open(disk, redo) else {
         return Err(Stopped::Early);
     };
-    let Ok(()) = finish(disk, redo) else {
+    let Ok(()) = write_and_close(disk, redo) else {
         return Err(Stopped::Late);
     };
     Ok(())

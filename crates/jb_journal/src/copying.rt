@@ -1,5 +1,5 @@
 //! A piece that is copied from another file.
-ghost use Rattle.std.specs.Prelude.{◌≡◌, ◌≢◌, ◌+◌, ◌<◌, ◌≤◌, ◌^◌, List, length, OnOk};
+ghost use Rattle.std.specs.Prelude.{◌≡◌, ◌≢◌, ◌+◌, ◌<◌, ◌≤◌, ◌^◌, List, [], length, OnOk};
 ghost use Rattle.std.specs.Option.{ForSome, option_map};
 ghost use Rattle.jb_disk.specs.declared.piece.Length.{Length};
 ghost use Rattle.jb_disk.specs.declared.piece.Piece.{Piece};
@@ -7,7 +7,8 @@ ghost use Rattle.jb_disk.specs.Device.{FailsBy};
 ghost use Rattle.jb_disk.specs.Files.{Files};
 ghost use Rattle.jb_disk.specs.Runs.{Keeps};
 ghost use Rattle.jb_redo.specs.OnTheWay.{IsOnTheWay};
-ghost use Rattle.jb_journal.specs.Applying.{IsWrittenBy};
+ghost use Rattle.jb_journal.specs.Coming.{ComeBy};
+ghost use Rattle.jb_journal.specs.Filing.{IsWrittenBy};
 ghost use Rattle.jb_journal.specs.Writing.{Reaches, copied};
 
 use jb_disk::{Disk, DiskFailed, FileId};
@@ -32,6 +33,7 @@ fn copy_part<D: Disk>(disk: &mut D, part: Copying, bytes: &mut [u8]) -> Result<(
     ensures keeps { (lengths : List Length) (pieces : List Piece) (start : Files)
         → IsWrittenBy start pieces part.to part.to_at (length bytes.old)
         → Keeps (IsOnTheWay lengths pieces start) (D.device disk.old) (D.device disk.new) }
+    ensures come { OnOk result (ComeBy [] [] (D.device disk.old).moments (D.device disk.new).moments) }
     ensures cause { FailsBy ⊥ (D.device disk.old) (D.device disk.new) result }
     ensures size { length bytes.new ≡ length bytes.old }
 {
@@ -51,6 +53,7 @@ pub(crate) fn copy<D: Disk>(disk: &mut D, whole: Copying, len: u32) -> Result<()
     ensures keeps { (lengths : List Length) (pieces : List Piece) (start : Files)
         → IsWrittenBy start pieces whole.to whole.to_at len
         → Keeps (IsOnTheWay lengths pieces start) (D.device disk.old) (D.device disk.new) }
+    ensures come { OnOk result (ComeBy [] [] (D.device disk.old).moments (D.device disk.new).moments) }
     ensures cause { FailsBy ⊥ (D.device disk.old) (D.device disk.new) result }
 {
     let mut buffer = [0; 4_096];

@@ -7,6 +7,7 @@ ghost use Rattle.jb_disk.specs.Files.{Files, written};
 ghost use Rattle.jb_disk.specs.Runs.{LeavesNow, Keeps};
 ghost use Rattle.jb_disk.specs.Gate.{IsGateOpen};
 ghost use Rattle.jb_journal.specs.Stages.{IsAtGate};
+ghost use Rattle.jb_journal.specs.Coming.{ComeBy};
 ghost use Rattle.jb_journal.specs.Opening.{WhereTold};
 ghost use Rattle.jb_journal.specs.Writing.{Reaches, WidensFor};
 
@@ -22,6 +23,7 @@ pub(crate) fn set_gate<D: Disk>(disk: &mut D, gate: u8) -> Result<(), DiskFailed
     ensures wide { WhereTold (D.device disk.old).moments (WidensFor result
         (D.device disk.old).moments (D.device disk.new).moments) }
     ensures keeps { (base : Files) → Keeps (IsAtGate base) (D.device disk.old) (D.device disk.new) }
+    ensures come { OnOk result (ComeBy [] (Jnl ∷ []) (D.device disk.old).moments (D.device disk.new).moments) }
     ensures cause { FailsBy ⊥ (D.device disk.old) (D.device disk.new) result }
 {
     disk.write_at(FileId::Jnl, 0, &[gate])?;

@@ -13,7 +13,7 @@ ghost use Rattle.jb_redo.specs.OnTheWay.{IsOnTheWay};
 ghost use Rattle.jb_redo.specs.Reading.{HasRecord};
 ghost use Rattle.jb_redo.specs.Replay.{Replays};
 ghost use Rattle.jb_journal.specs.declared.error.JournalError.TheVariants.{StoreFault};
-ghost use Rattle.jb_journal.specs.Applying.{AgreeBelow};
+ghost use Rattle.jb_journal.specs.Filing.{AgreeBelow};
 ghost use Rattle.jb_journal.specs.Stages.{IsAtGate};
 ghost use Rattle.jb_journal.specs.Recover.{IsFound, IsGrowthSafe, IsRefusedOver, FaultRose, FirmSince, ReplaysAs, MightBe, ReplaysAsAtStart};
 ghost use Rattle.jb_journal.specs.Writing.{Adds};

@@ -16,7 +16,7 @@ ghost use Rattle.jb_journal.specs.Commit.{IsReady};
 ghost use Rattle.jb_journal.specs.Doubt.{IsInDoubt, HasStopped, HasTriedToSync, DoubtReplays, IsSettledAt, answered};
 
 use crate::Stopped;
-use crate::committing::finish;
+use crate::committing::write_and_close;
 use crate::gate::is_gate_open;
 use crate::preparing::make_head;
 use jb_disk::{Disk, DiskFailed, FileId, Redo};
@@ -88,7 +88,7 @@ pub fn settle<D: Disk>(disk: &mut D, redo: &Redo, stopped: Stopped) -> Result<bo
         return Err(stopped);
     };
     if is_open {
-        let Ok(()) = finish(disk, redo) else {
+        let Ok(()) = write_and_close(disk, redo) else {
             return Err(Stopped::Late);
         };
         return Ok(true);

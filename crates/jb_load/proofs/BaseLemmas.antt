@@ -4,6 +4,7 @@ use Rattle.std.proofs.lemmas.List.{places, same_lists}
 use Rattle.std.specs.Option.{ForSome, option_map}
 use Rattle.std.specs.Prelude.{OnOk, slice_index}
 use Rattle.jb_area.specs.Holds.{IsAtRest}
+use Rattle.jb_change.specs.NewBase.{new_loaded}
 use Rattle.jb_decide.specs.Holds.{AreTexts}
 use Rattle.jb_disk.proofs.RunLemmas.{durable}
 use Rattle.jb_disk.specs.Device.{Device, Turns, and_then}
@@ -19,7 +20,7 @@ use Rattle.jb_journal.specs.Prepare.{IsPrepared}
 use Rattle.jb_record.proofs.ReadAgain.{fixed_header_of-back}
 use Rattle.jb_record.specs.Fields.{signature}
 use Rattle.jb_record.specs.Fixed.{FitsFixedHeader, fixed_header_bytes, fixed_header_of}
-use Rattle.jb_load.specs.Base.{AgreeButHeaders, AreEmpty, IsEmptyBase, empty_header, empty_loaded}
+use Rattle.jb_load.specs.Base.{AgreeButHeaders, HaveNoByte, IsEmptyBase, empty_header}
 
 -- a claim on success, from one
 pub on_ok : {T E : Type 0} (result : Result T E) (P Q : Type 0) → (P → Q) → OnOk result P → OnOk result Q
@@ -32,7 +33,7 @@ on_ok_both (Ok value) P Q R next p q = next p q
 on_ok_both (Err error) P Q R next p q = tt
 
 -- what is told of an empty disk is empty
-pub told_empty : (contents : Option Files) → contents ≡ Some (λ file. []) → ForSome contents AreEmpty
+pub told_empty : (contents : Option Files) → contents ≡ Some (λ file. []) → ForSome contents HaveNoByte
 told_empty contents none = λ files there file.
     let told : Some (λ (other : FileId). []) ≡ Some files = sym none ∙ there in
     let same : (λ (other : FileId). []) ≡ files = cc in
@@ -62,7 +63,7 @@ module _ (files : Files) (is : IsEmptyBase files) where
   header_there = ap (λ (l : List ℕ). bytes_at 0 1024 l) is.headers ∙ whole_list 1024 (fixed_header_bytes empty_header) header_size
 
   -- the files hold the empty area
-  empty_loads : Loads files empty_loaded
+  empty_loads : Loads files (new_loaded 0)
   empty_loads = record {
     header = record {
       size = ap (λ (l : List ℕ). length l) header_there ∙ header_size;
@@ -82,7 +83,7 @@ module _ (files : Files) (is : IsEmptyBase files) where
   }
 
   -- they are at rest
-  pub empty_rests : IsAtRest empty_loaded (files Jdt) files
+  pub empty_rests : IsAtRest (new_loaded 0) (files Jdt) files
   empty_rests = record {
     holds = record { loads = empty_loads; texts_are = refl };
     long = let size = ap (λ (l : List ℕ). length l) is.journal in omega (arith, size);
@@ -90,7 +91,7 @@ module _ (files : Files) (is : IsEmptyBase files) where
   }
 
 -- it has no texts
-pub empty_texts : (contents : Option Files) → ForSome contents IsEmptyBase → AreTexts empty_loaded [] contents
+pub empty_texts : (contents : Option Files) → ForSome contents IsEmptyBase → AreTexts (new_loaded 0) [] contents
 empty_texts contents made = record { sized = refl; told = λ files there. (made files there).texts }
 
 -- a file written over as a whole
@@ -145,7 +146,7 @@ synced_header bytes old last new told kept done keeps synced = λ final there.
     leaves_both P Q R (now ∷ earlier) both p q = λ files image. both files (p files image) (q files image)
 
 -- the base is made
-pub base_made : (o mid after : Option Files) → ForSome o AreEmpty → mid ≡ option_map (with_file Jhr (fixed_header_bytes empty_header)) o → Turns IsPrepared mid after → ForSome after IsEmptyBase
+pub base_made : (o mid after : Option Files) → ForSome o HaveNoByte → mid ≡ option_map (with_file Jhr (fixed_header_bytes empty_header)) o → Turns IsPrepared mid after → ForSome after IsEmptyBase
 base_made o None None empty told turns = λ files there. absurd (cc)
 base_made o None (Some now) empty told turns = absurd turns
 base_made o (Some was) None empty told turns = λ files there. absurd (cc)

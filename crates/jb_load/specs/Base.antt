@@ -1,19 +1,20 @@
--- The files of an empty base, and its area as it is loaded.
+-- The files of an empty base.
 use Rattle.std.specs.Prelude.{◌≡◌, ◌≢◌, [], replicate}
 use Rattle.jb_disk.specs.declared.file.FileId.{FileId}
 use Rattle.jb_disk.specs.declared.file.FileId.TheVariants.{Jhr, Jdt, Jdx, Jlr, Jnl}
 use Rattle.jb_disk.specs.Files.{Files}
-use Rattle.jb_model.specs.declared.loaded.Loaded.{Loaded}
+use Rattle.jb_change.specs.NewBase.{new_loaded}
+use Rattle.jb_image.specs.Stands.{fixed_of}
 use Rattle.jb_record.specs.Fixed.{fixed_header_bytes}
 use Rattle.jb_record.specs.declared.fixed.FixedHeader.{FixedHeader}
 
 -- no file has a byte
-abbrev pub AreEmpty : Files → Type 0
-AreEmpty files = (file : FileId) → files file ≡ []
+abbrev pub HaveNoByte : Files → Type 0
+HaveNoByte files = (file : FileId) → files file ≡ []
 
 -- the fixed header of a base that was just made, at the moment 0
 abbrev pub empty_header : FixedHeader
-empty_header = record { created = 0; counter = 0; active = 0; password = 0xFFFFFFFF; base = 1; reserved = replicate 1000 0 }
+empty_header = fixed_of (new_loaded 0)
 
 -- the files of that base: a fixed header, a journal that is ready for a change, and nothing else
 pub record IsEmptyBase (files : Files) : Type 0 where
@@ -22,21 +23,6 @@ pub record IsEmptyBase (files : Files) : Type 0 where
   pub index : files Jdx ≡ []
   pub marks : files Jlr ≡ []
   pub journal : files Jnl ≡ replicate 16 0
-
--- its area as it is loaded
-abbrev pub empty_loaded : Loaded
-empty_loaded = record {
-  created = 0;
-  counter = 0;
-  active = 0;
-  password = 0xFFFFFFFF;
-  reserved = replicate 1000 0;
-  base = 1;
-  slots = [];
-  marks = [];
-  headers_len = 1024;
-  texts_len = 0;
-}
 
 -- all files but .JHR are as they were
 abbrev pub AgreeButHeaders : Files → Files → Type 0

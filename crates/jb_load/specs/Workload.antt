@@ -4,6 +4,7 @@ use Rattle.jb_base.specs.declared.area.AreaRules.{AreaRules}
 use Rattle.jb_base.specs.declared.area.Kind.TheVariants.{Local}
 use Rattle.jb_base.specs.declared.limits.TheConstants.{MOST_SLOTS}
 use Rattle.jb_base.specs.declared.user.User.{User}
+use Rattle.jb_change.specs.NewBase.{new_area}
 use Rattle.jb_model.specs.Answered.{Answered}
 use Rattle.jb_model.specs.State.{AreaState, next_number}
 use Rattle.jb_model.specs.Step.{step}
@@ -22,18 +23,7 @@ loader = record { name = codes "Loader"; id = 1; level = 255 }
 
 -- the area of a base that was just made, at the moment 0
 abbrev pub empty_area : AreaState
-empty_area = record {
-  created = 0;
-  counter = 0;
-  active = 0;
-  password = 0xFFFFFFFF;
-  reserved = replicate 1000 0;
-  base = 1;
-  slots = [];
-  marks = [];
-  headers_len = 1024;
-  texts_len = 0;
-}
+empty_area = new_area 0
 
 -- a run so far: the area, and how many commands were answered as a post, as a reading and as a kill
 pub record LoadRun : Type 0 where

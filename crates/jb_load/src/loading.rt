@@ -3,7 +3,7 @@ ghost use Rattle.std.specs.Prelude.{◌≡◌, ◌≤◌, IfErr, IfOk, IsSome};
 ghost use Rattle.std.specs.Option.{ForSome};
 ghost use Rattle.jb_area.specs.Area.{device_of};
 ghost use Rattle.jb_decide.specs.Errors.{FaultRose};
-ghost use Rattle.jb_load.specs.Base.{AreEmpty};
+ghost use Rattle.jb_load.specs.Base.{HaveNoByte};
 ghost use Rattle.jb_load.specs.Runs.{IsFilled, IsLoaded, IsReady, RestsAs};
 ghost use Rattle.jb_load.specs.Summary.{summary_of};
 ghost use Rattle.jb_load.specs.Workload.{empty_area, load_run};
@@ -46,7 +46,7 @@ fn fill<D: Disk>(
 /// files are then those of the last area. A store fault ends it, or want of memory; then the files are those of some part of it.
 pub fn load<D: Disk>(alloc: Global, disk: D, seed: u32, count: u32) -> (D, Result<Bytes, AreaError>)
     requires count { count ≤ 50_000 }
-    requires empty { ForSome (D.device disk).contents AreEmpty }
+    requires empty { ForSome (D.device disk).contents HaveNoByte }
     ensures loaded { IfOk result.1 (λ text. IsSome (D.device disk).contents → IsLoaded seed count text (D.device result.0)) }
     ensures cause { IfErr result.1 (FaultRose (D.device disk).faults (D.device result.0).faults) }
     ensures later { (D.device disk).faults ≤ (D.device result.0).faults }

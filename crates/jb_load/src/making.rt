@@ -2,43 +2,39 @@
 ghost use Rattle.std.specs.Prelude.{◌≡◌, ◌≤◌, ℕ, List, [], IfErr, IfOk, OnErr, OnOk};
 ghost use Rattle.std.specs.Option.{ForSome, option_map};
 ghost use Rattle.jb_base.specs.Fault.{Rose};
+ghost use Rattle.jb_change.specs.NewBase.{new_loaded};
 ghost use Rattle.jb_decide.specs.Errors.{FaultRose};
 ghost use Rattle.jb_decide.specs.declared.error.AreaError.TheVariants.{OutOfMemory as no_memory};
 ghost use Rattle.jb_disk.specs.Device.{TellsAlike};
 ghost use Rattle.jb_disk.specs.Files.{with_file};
 ghost use Rattle.jb_disk.specs.Runs.{IsAllSynced};
 ghost use Rattle.jb_disk.specs.declared.file.FileId.TheVariants.{Jhr};
-ghost use Rattle.jb_load.specs.Base.{AreEmpty, IsEmptyBase, empty_header, empty_loaded};
+ghost use Rattle.jb_load.specs.Base.{HaveNoByte, IsEmptyBase, empty_header};
 ghost use Rattle.jb_load.specs.Runs.{IsReady, RestsAs, device_then};
 ghost use Rattle.jb_load.specs.Workload.{empty_area};
 ghost use Rattle.jb_record.specs.Fixed.{fixed_header_bytes};
 
 use crate::workload::load_rules;
 use jb_area::{AreaError, OpenArea};
-use jb_base::OutOfMemory;
+use jb_change::{fixed_of, new_loaded};
 use jb_disk::{Disk, DiskFailed, FileId};
 use jb_journal::{prepare, sync_all};
-use jb_model::{Loaded, LoadedMarks, LoadedSlots};
-use jb_record::{FixedHeader, encode_fixed};
+use jb_model::Loaded;
+use jb_record::encode_fixed;
 use std::alloc::Global;
 
-/// The fixed header of a base that was just made, at the moment 0.
-fn header() -> [u8; 1024]
+/// The bytes of its fixed header.
+fn header(loaded: &Loaded) -> [u8; 1024]
+    requires { loaded.now ≡ new_loaded 0 }
     ensures { result ≡ fixed_header_bytes empty_header }
 {
-    encode_fixed(&FixedHeader {
-        created: 0,
-        counter: 0,
-        active: 0,
-        password: 0xFFFF_FFFF,
-        base: 1,
-        reserved: [0; 1000],
-    })
+    encode_fixed(&fixed_of(loaded))
 }
 
 /// Writes the fixed header into an empty .JHR.
-fn write_header<D: Disk>(disk: &mut D) -> Result<(), DiskFailed>
-    requires { ForSome (D.device disk.old).contents AreEmpty }
+fn write_header<D: Disk>(disk: &mut D, loaded: &Loaded) -> Result<(), DiskFailed>
+    requires loaded { loaded.now ≡ new_loaded 0 }
+    requires empty { ForSome (D.device disk.old).contents HaveNoByte }
     ensures told { OnOk result ((D.device disk.new).contents
         ≡ option_map (with_file Jhr (fixed_header_bytes empty_header)) (D.device disk.old).contents) }
     ensures synced { OnOk result (IsAllSynced (D.device disk.old) → IsAllSynced (D.device disk.new)) }
@@ -47,15 +43,16 @@ fn write_header<D: Disk>(disk: &mut D) -> Result<(), DiskFailed>
     ensures later { (D.device disk.old).faults ≤ (D.device disk.new).faults }
     ensures alike { TellsAlike (D.device disk.old) (D.device disk.new) }
 {
-    let bytes = header();
+    let bytes = header(loaded);
     disk.set_len(FileId::Jhr, 1_024)?;
     disk.write_at(FileId::Jhr, 0, &bytes)?;
     disk.sync(FileId::Jhr)
 }
 
 /// Makes the files of an empty base, and its journal ready. What was not synced before is.
-fn make<D: Disk>(disk: &mut D) -> Result<(), AreaError>
-    requires empty { ForSome (D.device disk.old).contents AreEmpty }
+fn make<D: Disk>(disk: &mut D, loaded: &Loaded) -> Result<(), AreaError>
+    requires loaded { loaded.now ≡ new_loaded 0 }
+    requires empty { ForSome (D.device disk.old).contents HaveNoByte }
     ensures made { OnOk result (ForSome (D.device disk.new).contents IsEmptyBase) }
     ensures synced { OnOk result (IsAllSynced (D.device disk.new)) }
     ensures cause { IfErr result (FaultRose (D.device disk.old).faults (D.device disk.new).faults) }
@@ -64,35 +61,16 @@ fn make<D: Disk>(disk: &mut D) -> Result<(), AreaError>
     ensures alike { TellsAlike (D.device disk.old) (D.device disk.new) }
 {
     sync_all(disk)?;
-    write_header(disk)?;
+    write_header(disk, loaded)?;
     match prepare(disk) {
         Ok(()) => Ok(()),
         Err(_stopped) => Err(AreaError::StoreFault),
     }
 }
 
-/// The empty area as it is loaded.
-fn empty_loaded(alloc: Global) -> Result<Loaded, OutOfMemory>
-    ensures { IfOk result (λ loaded. loaded ≡ empty_loaded) }
-{
-    let slots = LoadedSlots::new(alloc)?;
-    let marks = LoadedMarks::new(alloc)?;
-    Ok(Loaded {
-        created: 0,
-        counter: 0,
-        active: 0,
-        password: 0xFFFF_FFFF,
-        reserved: [0; 1000],
-        base: 1,
-        slots,
-        marks,
-        headers_len: 1_024,
-        texts_len: 0,
-    })
-}
-
 /// Opens the area over the files of an empty base.
-fn open<D: Disk>(alloc: Global, disk: D) -> Result<OpenArea<D>, (D, AreaError)>
+fn open<D: Disk>(alloc: Global, disk: D, loaded: Loaded) -> Result<OpenArea<D>, (D, AreaError)>
+    requires loaded { loaded ≡ new_loaded 0 }
     requires made { ForSome (D.device disk).contents IsEmptyBase }
     requires synced { IsAllSynced (D.device disk) }
     ensures ready { IfOk result (IsReady D.device) }
@@ -100,9 +78,6 @@ fn open<D: Disk>(alloc: Global, disk: D) -> Result<OpenArea<D>, (D, AreaError)>
     ensures kept { device_then D.device result ≡ D.device disk }
     ensures err { IfErr result (λ back. back.1 ≡ no_memory) }
 {
-    let Ok(loaded) = empty_loaded(alloc) else {
-        return Err((disk, AreaError::OutOfMemory));
-    };
     let Ok(rules) = load_rules(alloc) else {
         return Err((disk, AreaError::OutOfMemory));
     };
@@ -114,7 +89,7 @@ fn open<D: Disk>(alloc: Global, disk: D) -> Result<OpenArea<D>, (D, AreaError)>
 
 /// Makes an empty base on a disk with empty files, and opens its area.
 pub(crate) fn make_area<D: Disk>(alloc: Global, disk: D) -> Result<OpenArea<D>, (D, AreaError)>
-    requires empty { ForSome (D.device disk).contents AreEmpty }
+    requires empty { ForSome (D.device disk).contents HaveNoByte }
     ensures ready { IfOk result (IsReady D.device) }
     ensures empty { IfOk result (λ area. RestsAs D.device area empty_area) }
     ensures cause { IfErr result (λ back. FaultRose (D.device disk).faults (D.device back.0).faults back.1) }
@@ -122,9 +97,12 @@ pub(crate) fn make_area<D: Disk>(alloc: Global, disk: D) -> Result<OpenArea<D>, 
     ensures later { (D.device disk).faults ≤ (device_then D.device result).faults }
     ensures alike { TellsAlike (D.device disk) (device_then D.device result) }
 {
+    let Ok(loaded) = new_loaded(alloc, 0) else {
+        return Err((disk, AreaError::OutOfMemory));
+    };
     let mut disk = disk;
-    match make(&mut disk) {
-        Ok(()) => open(alloc, disk),
+    match make(&mut disk, &loaded) {
+        Ok(()) => open(alloc, disk, loaded),
         Err(error) => Err((disk, error)),
     }
 }

@@ -9,6 +9,8 @@ use Rattle.std.proofs.lemmas.List.Kept.{AllPairs-cons}
 use Rattle.jb_base.specs.Subfields.{IsSubfield, subfield_bytes}
 use Rattle.jb_base.specs.declared.attribute.TheConstants.{DELETED}
 use Rattle.jb_base.specs.declared.limits.TheConstants.{HEADERS_CEILING, TEXTS_CEILING}
+use Rattle.jb_change.proofs.RecordLemmas.{length-entry, length-header, length-message, shaped_header}
+use Rattle.jb_change.specs.Records.{entry_for, message_bytes, numbered_header}
 use Rattle.jb_disk.specs.Files.{Files}
 use Rattle.jb_disk.specs.declared.file.FileId.TheVariants.{Jhr, Jdt, Jdx}
 use Rattle.jb_image.specs.Places.{bytes_at, entry_in, header_in}
@@ -32,25 +34,10 @@ use Rattle.jb_record.specs.Fields.{signature}
 use Rattle.jb_record.specs.declared.fixed.FixedHeader.{FixedHeader}
 use Rattle.jb_record.specs.declared.index.IndexRecord.{IndexRecord}
 use Rattle.jb_record.specs.declared.message.MessageHeader.{MessageHeader}
-use Rattle.jb_pack.specs.Bytes.{AreEntriesReadAgain, AreHeadersReadAgain, IsReadAgain, entry_for, headers_bytes, index_bytes, message_bytes, numbered_header}
+use Rattle.jb_pack.specs.Bytes.{AreEntriesReadAgain, AreHeadersReadAgain, IsReadAgain, headers_bytes, index_bytes}
 use Rattle.jb_pack.specs.Laws.{ArePacked, HoldsPacked}
 use Rattle.jb_pack.proofs.FitLemmas.{headers_fit_kept}
 use Rattle.jb_pack.specs.Packed.{headers_size, kept_slots, moved, new_base, packed, packed_from, slot_header_size, slot_text_size, texts_size}
-
--- a header's bytes are those of a header
-pub shaped_header : (header : MessageHeader) → IsMessageHeader (message_header_bytes header)
-unfolding message_header_bytes
-shaped_header header = record { size = refl; signed = refl; revision = refl }
-
--- a header has 76 bytes
-pub length-header : (header : MessageHeader) → length (message_header_bytes header) ≡ 76
-unfolding message_header_bytes
-length-header header = refl
-
--- an index record has eight bytes
-pub length-entry : (entry : IndexRecord) → length (index_record_bytes entry) ≡ 8
-unfolding index_record_bytes
-length-entry entry = refl
 
 -- the first part of bytes behind others
 pub first_behind : (front first rest all : List ℕ) (at len : ℕ) → all ≡ front ++ (first ++ rest) → at ≡ length front → len ≡ length first → bytes_at at len all ≡ first
@@ -65,11 +52,6 @@ length-packed live number header_at text_at (Empty ∷ slots) = ap suc (length-p
 length-packed live number header_at text_at (Killed at ∷ slots) = ap suc (length-packed live (number + 1) header_at text_at slots)
 length-packed live number header_at text_at (Live message ∷ slots) =
     ap suc (length-packed live (number + 1) (header_at + header_size message) (text_at + message.text_len) slots)
-
--- a message takes its header and its subfields
-pub length-message : (number : ℕ) (message : LoadedMessage) → length (message_bytes number message) ≡ header_size message
-length-message number message =
-    omega (arith, length-append (message_header_bytes (numbered_header number message)) (subfield_bytes message.subfields), length-header (numbered_header number message))
 
 -- how long the headers are together
 pub length-headers : (live : List Linkable) (number header_at text_at : ℕ) (slots : List LoadedSlot)

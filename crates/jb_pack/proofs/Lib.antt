@@ -1,5 +1,4 @@
 mod CopyLemmas
-mod FieldLemmas
 mod FitLemmas
 pub mod HeldLemmas
 mod LaidLemmas

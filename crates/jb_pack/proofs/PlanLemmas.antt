@@ -12,7 +12,7 @@ use Rattle.std.proofs.lemmas.List.{append-nil, drop_all, length-map, take_all}
 use Rattle.std.proofs.lemmas.List.Elements.{All-nil, All-cons}
 use Rattle.std.proofs.lemmas.List.Kept.{AllPairs-cons}
 use Rattle.jb_base.specs.declared.limits.TheConstants.{HEADERS_CEILING, TEXTS_CEILING}
-use Rattle.jb_change.specs.Makes.{done}
+use Rattle.jb_change.specs.Makes.{Brings, done}
 use Rattle.jb_disk.specs.Change.{Change}
 use Rattle.jb_disk.specs.Files.{Files, number_of}
 use Rattle.jb_disk.specs.FileLaws.{length-of_length}
@@ -40,7 +40,7 @@ use Rattle.jb_pack.specs.Copying.{PutsTexts}
 use Rattle.jb_pack.specs.Laid.{IsLaidOut, IsLegalIn, Lays, laid}
 use Rattle.jb_pack.specs.Laws.{ArePacked}
 use Rattle.jb_pack.specs.Packed.{headers_size, is_live_slot, kept_slots, killed_slots, live_slots, new_base, packed, slot_text_size, texts_size}
-use Rattle.jb_pack.specs.Plan.{IsPackOf, MakesPacked, PutsArea, lengths_with}
+use Rattle.jb_pack.specs.Plan.{IsPackOf, PutsArea, StandPacked, lengths_with}
 use Rattle.jb_pack.specs.Standing.{StandTogether}
 use Rattle.jb_pack.proofs.FitLemmas.{headers_fit_kept}
 use Rattle.jb_pack.proofs.HeldLemmas.{length-headers, length-index, length-packed, loads_packed}
@@ -238,15 +238,17 @@ module _ (limit : ℕ) (loaded : Loaded) (change : Change) (texts : List ℕ) (s
     together_there = packed_together limit loaded files (done change files) sound fits back loads packed_there
 
   -- the change packs the area
-  pub makes_packed : length (laid change.pieces Jhr) ≡ 1024 + headers_size (kept_slots loaded) → MakesPacked change loaded texts
+  pub makes_packed : length (laid change.pieces Jhr) ≡ 1024 + headers_size (kept_slots loaded) → Brings change (λ files. Loads files loaded) (λ _. StandPacked loaded texts)
   makes_packed headers_size_is = record {
     legal = λ files loads. legal_there files loads headers_size_is;
     grown = λ files loads. grown_there files loads headers_size_is;
-    loads = λ files loads. loads_there files loads headers_size_is;
-    headers = λ files loads. headers_there files loads headers_size_is;
-    index = λ files loads. index_there files loads headers_size_is;
-    texts_are = λ files loads. texts_there files loads headers_size_is;
-    together = λ files loads. together_there files loads headers_size_is;
+    made = λ files loads. record {
+      loads = loads_there files loads headers_size_is;
+      headers = headers_there files loads headers_size_is;
+      index = index_there files loads headers_size_is;
+      texts_are = texts_there files loads headers_size_is;
+      together = together_there files loads headers_size_is;
+    };
   }
 
 -- the new base is the number of the first live slot
@@ -299,7 +301,7 @@ pack_of limit loaded one two new contents sound limited fits lengths_are none ar
     let area_long = area.long in
     record {
       texts = texts.bytes;
-      makes =
+      brings =
           makes_packed limit loaded new texts.bytes sound limited fits all_lengths (lays.kept (area.kept (subst IsLaidOut (sym none) laid_out_none)))
           headers index (lays.here ∙ ap (λ (l : List ℕ). l ++ texts.bytes) no_texts) texts.size no_marks area.back (ap length headers ∙ area.long);
       writable = record {

@@ -24,13 +24,14 @@ use Rattle.jb_model.specs.declared.loaded.LoadedSlot.{LoadedSlot}
 use Rattle.jb_model.specs.declared.loaded.LoadedSlot.TheVariants.{Empty, Killed, Live}
 use Rattle.jb_model.proofs.PackLaws.{live_from-first, packed_base-within}
 use Rattle.jb_record.specs.Index.{index_record_bytes}
-use Rattle.jb_pack.specs.Bytes.{AreEntriesReadAgain, AreHeadersReadAgain, IsEntryReadAgain, IsHeaderReadAgain, entry_for, headers_bytes, index_bytes, index_file, message_bytes}
+use Rattle.jb_change.specs.Records.{IsEntryReadAgain, IsHeaderReadAgain, entry_for, message_bytes}
+use Rattle.jb_pack.specs.Bytes.{AreEntriesReadAgain, AreHeadersReadAgain, headers_bytes, index_bytes, index_file}
 use Rattle.jb_pack.specs.Laid.{Lays, laid}
 use Rattle.jb_pack.specs.Packed.{headers_size, kept_slots, moved, new_base, packed, packed_from, slot_header_size, slot_text_size, texts_size}
 use Rattle.jb_pack.specs.Places.{IsBehind}
 use Rattle.jb_pack.specs.declared.place.Place.{Place}
 use Rattle.jb_pack.proofs.FitLemmas.{headers_fit_kept}
-use Rattle.jb_pack.proofs.HeldLemmas.{length-message}
+use Rattle.jb_change.proofs.RecordLemmas.{length-message}
 
 -- nothing is laid
 pub lays_none : (file : FileId) (change : Change) → Lays file 0 [] change change
@@ -133,7 +134,7 @@ module _ (loaded : Loaded) (links : List Links) (start : Change) where
       → left place (slot ∷ rest) ≡ Empty ∷ left (record place { number = place.number + 1 }) rest
       → linkables_from place.number (slot ∷ rest) ≡ linkables_from (place.number + 1) rest
       → slot_header_size slot ≡ 0 → slot_text_size slot ≡ 0
-      → index' ≡ index ++ index_record_bytes (entry_for Empty) → IsEntryReadAgain Empty
+      → index' ≡ index ++ index_record_bytes (entry_for Empty) → IsEntryReadAgain (entry_for Empty)
       → IsPut redo index place count (slot ∷ rest) → IsPut redo index' (record place { number = place.number + 1 }) (count + 1) rest
   put_empty redo index index' place count slot rest is same no_header no_text index_is back put =
       let headers_is = sum_by-cons slot_header_size slot rest in
@@ -161,7 +162,7 @@ module _ (loaded : Loaded) (links : List Links) (start : Change) where
   -- a slot without a live message is put
   pub put_no_message : (redo : Change) (index index' : List ℕ) (place : Place) (count : ℕ) (slot : LoadedSlot) (rest : List LoadedSlot)
       → ((message : LoadedMessage) → slot ≡ Live message → ⊥)
-      → index' ≡ index ++ index_record_bytes (entry_for Empty) → IsEntryReadAgain Empty
+      → index' ≡ index ++ index_record_bytes (entry_for Empty) → IsEntryReadAgain (entry_for Empty)
       → IsPut redo index place count (slot ∷ rest) → IsPut redo index' (record place { number = place.number + 1 }) (count + 1) rest
   put_no_message redo index index' place count Empty rest other index_is back put =
       put_empty redo index index' place count Empty rest refl refl refl refl index_is back put
@@ -208,7 +209,7 @@ module _ (loaded : Loaded) (links : List Links) (start : Change) where
 
   -- a live message is put
   pub put_live : (redo redo' : Change) (index index' : List ℕ) (place next : Place) (count : ℕ) (message : LoadedMessage) (rest : List LoadedSlot)
-      → index' ≡ index ++ index_record_bytes (entry_for (Live (put_as place message))) → IsEntryReadAgain (Live (put_as place message))
+      → index' ≡ index ++ index_record_bytes (entry_for (Live (put_as place message))) → IsEntryReadAgain (entry_for (Live (put_as place message)))
       → Lays Jhr 1 (message_bytes place.number (put_as place message)) redo redo' → IsHeaderReadAgain place.number (put_as place message)
       → IsBehind message place next → KeepsRoom redo redo'
       → IsPut redo index place count (Live message ∷ rest) → IsPut redo' index' next (count + 1) rest

@@ -1,7 +1,7 @@
 -- The change that packs an area, and what is answered with it.
 use Rattle.std.specs.Prelude.{◌≡◌, ◌≢◌, ℕ, ◌+◌, ◌*◌, ◌≤◌, List, [], ◌∷◌, length, Option, Some, None}
 use Rattle.std.specs.Option.{ForSome}
-use Rattle.jb_change.specs.Makes.{done, record_size}
+use Rattle.jb_change.specs.Makes.{Brings, record_size}
 use Rattle.jb_disk.specs.Change.{Change, SameLists}
 use Rattle.jb_disk.specs.Files.{Files}
 use Rattle.jb_disk.specs.declared.file.FileId.{FileId}
@@ -13,8 +13,6 @@ use Rattle.jb_model.specs.Pack.{pack_done, pack_refusal}
 use Rattle.jb_model.specs.State.{AreaState}
 use Rattle.jb_model.specs.declared.loaded.Loaded.{Loaded}
 use Rattle.jb_model.specs.declared.reply.Reply.TheVariants as reply
-use Rattle.jb_redo.specs.Replay.{IsGrowthCovered}
-use Rattle.jb_redo.specs.Rules.{IsLegal, sizes_of}
 use Rattle.jb_pack.specs.Bytes.{IsReadAgain, headers_file, index_file}
 use Rattle.jb_pack.specs.Laid.{IsLaidOut, laid}
 use Rattle.jb_pack.specs.Packed.{kept_slots, packed, packed_texts}
@@ -38,22 +36,19 @@ pub record PutsArea (loaded : Loaded) (old new : Change) : Type 0 where
   pub long : length (headers_file (packed loaded)) ≡ (packed loaded).headers_len
   pub back : IsReadAgain (packed loaded)
 
--- over any files that hold the area, the change makes a record that writes each byte past an old end, and makes files that
--- hold the area after a pack, with these texts, headers and index records in the order of the numbers without a gap, and in
--- each live message's header its number
-pub record MakesPacked (change : Change) (loaded : Loaded) (texts : List ℕ) : Type 0 where
-  pub legal : (files : Files) → Loads files loaded → IsLegal (sizes_of files) change.lengths change.pieces
-  pub grown : (files : Files) → Loads files loaded → IsGrowthCovered change.lengths change.pieces files
-  pub loads : (files : Files) → Loads files loaded → Loads (done change files) (packed loaded)
-  pub headers : (files : Files) → Loads files loaded → done change files Jhr ≡ headers_file (packed loaded)
-  pub index : (files : Files) → Loads files loaded → done change files Jdx ≡ index_file (packed loaded)
-  pub texts_are : (files : Files) → Loads files loaded → done change files Jdt ≡ texts
-  pub together : (files : Files) → Loads files loaded → StandTogether (done change files) (packed loaded).base 1024 0 (packed loaded).slots
+-- the files hold the area after a pack, with these texts, headers and index records in the order of the numbers without a
+-- gap, and in each live message's header its number
+pub record StandPacked (loaded : Loaded) (texts : List ℕ) (files : Files) : Type 0 where
+  pub loads : Loads files (packed loaded)
+  pub headers : files Jhr ≡ headers_file (packed loaded)
+  pub index : files Jdx ≡ index_file (packed loaded)
+  pub texts_are : files Jdt ≡ texts
+  pub together : StandTogether files (packed loaded).base 1024 0 (packed loaded).slots
 
 -- the change packs the area, and may be committed; its texts are the packed ones, where the disk tells which there were
 pub record IsPackOf (contents : Option Files) (loaded : Loaded) (change : Change) : Type 0 where
   pub texts : List ℕ
-  pub makes : MakesPacked change loaded texts
+  pub brings : Brings change (λ files. Loads files loaded) (λ _. StandPacked loaded texts)
   pub writable : IsWritable change
   pub told : ForSome contents (λ files. texts ≡ packed_texts (files Jdt) loaded)
 

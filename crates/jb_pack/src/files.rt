@@ -2,13 +2,13 @@
 ghost use Rattle.std.specs.Prelude.{◌≡◌, ◌≤◌, OnOk, length};
 ghost use Rattle.jb_base.specs.declared.limits.TheConstants.{MOST_SLOTS, TEXTS_CEILING};
 ghost use Rattle.jb_change.specs.Changing.{KeepsRoom};
+ghost use Rattle.jb_change.specs.Records.{IsFixedReadAgain};
 ghost use Rattle.jb_disk.specs.declared.file.FileId.TheVariants.{Jhr as headers_file_id, Jdx as index_file_id};
 ghost use Rattle.jb_image.specs.Stands.{fixed_of};
 ghost use Rattle.jb_link.specs.Plan.{plan_of};
 ghost use Rattle.jb_link.specs.Slots.{linkables_from};
 ghost use Rattle.jb_model.specs.Sound.{IsSound};
 ghost use Rattle.jb_record.specs.Fixed.{fixed_header_bytes};
-ghost use Rattle.jb_pack.specs.Bytes.{IsFixedReadAgain};
 ghost use Rattle.jb_pack.specs.Laid.{Lays, laid};
 ghost use Rattle.jb_pack.specs.Packed.{kept_slots, live_slots, new_base, packed, texts_size};
 ghost use Rattle.jb_pack.specs.Plan.{PutsArea};
@@ -16,6 +16,7 @@ ghost use Rattle.jb_pack.specs.Plan.{PutsArea};
 use crate::laying::put;
 use crate::slots::put_slots;
 use jb_base::{Bytes, OutOfMemory};
+use jb_change::fixed_of;
 use jb_disk::{FileId, Redo};
 use jb_model::{Links, Loaded, LoadedSlot};
 use jb_record::{FixedHeader, encode_fixed};
@@ -27,13 +28,12 @@ fn fixed_after(loaded: &Loaded, base: u32, live: u32) -> FixedHeader
     requires live { live ≡ live_slots (kept_slots loaded.now) }
     ensures { result ≡ fixed_of (packed loaded.now) }
 {
+    let fixed = fixed_of(loaded);
     FixedHeader {
-        created: loaded.created,
-        counter: loaded.counter.wrapping_add(1),
+        counter: fixed.counter.wrapping_add(1),
         active: live,
-        password: loaded.password,
         base,
-        reserved: loaded.reserved,
+        ..fixed
     }
 }
 

@@ -4,44 +4,14 @@ ghost use Rattle.jb_base.specs.declared.limits.TheConstants.{HEADERS_CEILING, MO
 ghost use Rattle.jb_link.specs.Plan.{links_of, plan_of};
 ghost use Rattle.jb_link.specs.Slots.{linkables_from};
 ghost use Rattle.jb_model.specs.Links.{Linkable};
-ghost use Rattle.jb_model.specs.Loaded.{header_size};
 ghost use Rattle.jb_model.specs.Sound.{IsSound};
 ghost use Rattle.jb_pack.specs.Moving.{HasLinks};
-ghost use Rattle.jb_pack.specs.Packed.{headers_size, kept_slots, linked_head, live_slots, new_base, packed, packed_from, texts_size};
-ghost use Rattle.jb_pack.specs.Places.{IsBehind};
+ghost use Rattle.jb_pack.specs.Packed.{headers_size, kept_slots, live_slots, new_base, packed, packed_from, texts_size};
 
-use crate::place::Place;
-use jb_model::{Head, Links, Loaded, LoadedMessage, LoadedSlot, LoadedSlots};
+use crate::headers::linked;
+use crate::place::{Place, behind};
+use jb_model::{Links, Loaded, LoadedSlot, LoadedSlots};
 use jb_record::FIXED_HEADER_BYTES;
-use jb_step::headed_length;
-
-/// The header's fields with these links.
-fn linked(head: Head, links: &Links) -> Head
-    ensures { result ≡ linked_head links.now head }
-{
-    Head {
-        reply_to: links.reply_to,
-        reply_first: links.first,
-        reply_next: links.next,
-        ..head
-    }
-}
-
-/// The place right behind a live message that is put at this one.
-fn behind(message: &LoadedMessage, place: Place) -> Place
-    requires headers { place.header_at + header_size message.now ≤ HEADERS_CEILING }
-    requires texts { place.text_at + message.now.text_len ≤ TEXTS_CEILING }
-    requires number { place.number + 1 < 2 ^ 32 }
-    requires live { place.live + 1 < 2 ^ 32 }
-    ensures { IsBehind message.now place result }
-{
-    Place {
-        number: place.number + 1,
-        header_at: place.header_at + headed_length(&message.subfields) as u32,
-        text_at: place.text_at + message.text_len,
-        live: place.live + 1,
-    }
-}
 
 /// Moves the live messages of slots of which the first has the number `base` behind one another, with their links, and
 /// empties the other slots. Answers the place behind the last.

@@ -5,7 +5,7 @@ ghost use Rattle.jb_base.specs.declared.limits.TheConstants.{HEADERS_CEILING, MO
 ghost use Rattle.jb_pack.specs.Packed.{headers_size, is_killed_slot, is_live_slot, killed_slots, live_slots, slot_header_size, slot_text_size, texts_size};
 
 use jb_model::LoadedSlot;
-use jb_step::headed_length;
+use jb_subfield::headed_length;
 
 /// How many messages are live and how many were killed, and the bytes that the headers of the live ones, with their
 /// subfields, take in .JHR and their texts in .JDT.

@@ -2,11 +2,12 @@
 ghost use Rattle.std.specs.Prelude.{◌≡◌, ◌++◌, ◌≤◌, [], OnOk, length};
 ghost use Rattle.jb_base.specs.declared.limits.TheConstants.{MOST_SLOTS, TEXTS_CEILING};
 ghost use Rattle.jb_change.specs.Changing.{KeepsRoom};
+ghost use Rattle.jb_change.specs.Records.{IsEntryReadAgain};
 ghost use Rattle.jb_disk.specs.declared.file.FileId.TheVariants.{Jhr};
 ghost use Rattle.jb_link.specs.Plan.{plan_of};
 ghost use Rattle.jb_link.specs.Slots.{linkables_from};
 ghost use Rattle.jb_model.specs.Sound.{IsSound};
-ghost use Rattle.jb_record.specs.Index.{index_record_bytes, index_record_of};
+ghost use Rattle.jb_record.specs.Index.{index_record_bytes};
 ghost use Rattle.jb_pack.specs.Bytes.{AreEntriesReadAgain, AreHeadersReadAgain, headers_bytes, index_file};
 ghost use Rattle.jb_pack.specs.Laid.{Lays, laid};
 ghost use Rattle.jb_pack.specs.Packed.{kept_slots, new_base, packed, texts_size};
@@ -14,17 +15,18 @@ ghost use Rattle.jb_pack.specs.Packed.{kept_slots, new_base, packed, texts_size}
 use crate::headers::put_message;
 use crate::place::Place;
 use jb_base::{Bytes, OutOfMemory};
+use jb_change::entry_bytes;
 use jb_disk::Redo;
 use jb_model::{Links, Loaded, LoadedSlot};
-use jb_record::{EMPTY_SLOT, FIXED_HEADER_BYTES, IndexRecord, encode_index};
+use jb_record::{EMPTY_SLOT, FIXED_HEADER_BYTES};
 use std::alloc::Global;
 
 /// Puts an index record behind the others.
 fn push_entry(index: &mut Bytes, user_crc: u32, offset: u32) -> Result<(), OutOfMemory>
     ensures ok { OnOk result (index.new ≡ index.old ++ index_record_bytes (record { user_crc = user_crc; offset = offset })) }
-    ensures back { index_record_of (index_record_bytes (record { user_crc = user_crc; offset = offset })) ≡ record { user_crc = user_crc; offset = offset } }
+    ensures back { IsEntryReadAgain (record { user_crc = user_crc; offset = offset }) }
 {
-    index.append(&encode_index(&IndexRecord { user_crc, offset }))
+    index.append(&entry_bytes(user_crc, offset))
 }
 
 /// Puts the headers of the kept slots behind the fixed header, and their index records into `index`: killed messages are

@@ -5,7 +5,6 @@ ghost use Rattle.jb_model.specs.State.{IsWellFormed};
 ghost use Rattle.jb_model.specs.Tight.{tight_state};
 ghost use Rattle.jb_plain.specs.Fit.{area_fits, message_fits, slot_fits};
 
-use crate::slots::subfields_length;
 use jb_base::{DELETED, MOST_MARKS, MOST_SUBFIELD_BYTES, MOST_TEXT_BYTES};
 use jb_model::{Area, Message, Slot};
 
@@ -13,7 +12,7 @@ use jb_model::{Area, Message, Slot};
 fn fits_message(message: &Message) -> bool
     ensures { result ≡ message_fits message.now }
 {
-    subfields_length(&message.subfields) <= u64::from(MOST_SUBFIELD_BYTES)
+    message.subfields.as_bytes().len() <= MOST_SUBFIELD_BYTES as usize
         && message.text.len() <= MOST_TEXT_BYTES as usize
         && message.head.attribute & DELETED == 0
 }

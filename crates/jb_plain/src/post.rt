@@ -14,7 +14,6 @@ use crate::held::PlainState;
 use crate::links::{last_reply, parent_with};
 use crate::message::{message_at, visible_at};
 use crate::rule::denied;
-use crate::slots::headed_length;
 use jb_access::Action;
 use jb_base::{
     AreaRules, Bytes, HEADERS_CEILING, Kind, LAST_POSTED_NUMBER, LOCAL, MOST_COPIED_MSGID_BYTES,
@@ -23,6 +22,7 @@ use jb_base::{
     TYPELOCAL, User,
 };
 use jb_model::{Field, Head, Message, Reply, Slot};
+use jb_subfield::headed_length;
 use std::alloc::Global;
 
 /// What a user wrote.

@@ -1,13 +1,12 @@
 //! The slots of the plain program: their changes, and the bytes that they take.
 ghost use Rattle.std.specs.Prelude.{◌≡◌, ◌+◌, ◌<◌, ◌≤◌, length, map, min, ◌^◌, ◌-◌, count_by, drop, slice_index_or, slice_set, vec_len};
-ghost use Rattle.jb_base.specs.Subfields.{subfield_bytes};
 ghost use Rattle.jb_model.specs.Live.{killed_count, live_count};
 ghost use Rattle.jb_model.specs.Tight.{header_bytes, headers_together, owned_slot, text_bytes, texts_together};
 ghost use Rattle.jb_model.specs.declared.area.Slot.{Slot};
 ghost use Rattle.jb_plain.specs.Walk.{front_of, slot_with_head, with_some_head, without_killed};
 
-use jb_base::Subfields;
 use jb_model::{Head, Slot};
+use jb_subfield::headed_length;
 
 /// Puts a slot in the place of another.
 pub(crate) fn set_slot(slots: &mut Vec<Slot>, place: usize, slot: Slot)
@@ -105,26 +104,6 @@ pub(crate) fn killed_messages(slots: &[Slot]) -> usize
         .iter()
         .filter(|slot| matches!(slot, Slot::Killed))
         .count()
-}
-
-/// The bytes of these subfields, told as 2^64 - 1 where they are more.
-pub(crate) fn subfields_length(subfields: &Subfields) -> u64
-    ensures { result ≡ min (length (subfield_bytes subfields.now)) (2 ^ 64 - 1) }
-{
-    let mut len: u64 = 0;
-    for field in subfields.as_slice() {
-        len = len
-            .saturating_add(8)
-            .saturating_add(field.bytes.len() as u64);
-    }
-    len
-}
-
-/// The bytes of .JHR that a message with these subfields takes, told as 2^64 - 1 where they are more.
-pub(crate) fn headed_length(subfields: &Subfields) -> u64
-    ensures { result ≡ min (76 + length (subfield_bytes subfields.now)) (2 ^ 64 - 1) }
-{
-    subfields_length(subfields).saturating_add(76)
 }
 
 /// The bytes of .JHR that a slot's live message takes, told as 2^64 - 1 where they are more.

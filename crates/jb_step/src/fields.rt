@@ -1,5 +1,5 @@
 //! The subfields of a new message, and its ids.
-ghost use Rattle.std.specs.Prelude.{◌≡◌, ◌+◌, ◌-◌, ◌^◌, ◌<◌, ◌≤◌, ◌++◌, ◌∷◌, [], IfOk, OnOk, length, min, option_map};
+ghost use Rattle.std.specs.Prelude.{◌≡◌, ◌+◌, ◌-◌, ◌^◌, ◌<◌, ◌≤◌, ◌++◌, ◌∷◌, [], IfOk, OnOk, length, option_map};
 ghost use Rattle.std.specs.Borrow.{Bor};
 ghost use Rattle.std.specs.Char.{digit_char};
 ghost use Rattle.jb_base.specs.Subfields.{subfield_bytes};
@@ -102,25 +102,4 @@ pub(crate) fn subfields_of(
     }
     put_field(alloc, &mut subfields, SUBJECT, draft.subject)?;
     Ok(subfields)
-}
-
-/// The bytes of these subfields, told as 2^64 - 1 where they are more.
-fn subfields_length(subfields: &Subfields) -> u64
-    ensures { result ≡ min (length (subfield_bytes subfields.now)) (2 ^ 64 - 1) }
-{
-    let mut len: u64 = 0;
-    for field in subfields.as_slice() {
-        len = len
-            .saturating_add(8)
-            .saturating_add(field.bytes.len() as u64);
-    }
-    len
-}
-
-/// The bytes of .JHR that a message with these subfields takes, its header and the subfields behind it, told as 2^64 - 1
-/// where they are more.
-pub fn headed_length(subfields: &Subfields) -> u64
-    ensures { result ≡ min (76 + length (subfield_bytes subfields.now)) (2 ^ 64 - 1) }
-{
-    subfields_length(subfields).saturating_add(76)
 }

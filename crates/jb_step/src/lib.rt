@@ -19,7 +19,6 @@ mod reads;
 mod relinks;
 
 pub use drafts::Draft;
-pub use fields::headed_length;
 pub use kills::{Killing, kill};
 pub use letters::letter;
 pub use marks::set_mark;

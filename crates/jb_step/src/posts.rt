@@ -13,7 +13,7 @@ ghost use Rattle.jb_step.specs.Room.{file_refusal, new_refusal, number_refusal, 
 
 use crate::denial::denied;
 use crate::drafts::unfit;
-use crate::fields::{headed_length, msgid_of, replyid_of, subfields_of};
+use crate::fields::{msgid_of, replyid_of, subfields_of};
 use crate::found::{next_number, seen_at};
 use crate::neighbours::neighbour_of;
 use crate::{Draft, Neighbour};
@@ -25,6 +25,7 @@ use jb_base::{
 use jb_crc::jam_crc;
 use jb_model::{Head, Loaded, LoadedMessage, Reply};
 use jb_replies::Replies;
+use jb_subfield::headed_length;
 use std::alloc::Global;
 
 /// What a post writes: this message under this number behind the others, its header and its text at the ends of their

@@ -1,3 +1,2 @@
-pub mod Heads
-pub mod Lists
 pub mod Spelling
+mod Walked

@@ -1,40 +1,22 @@
 -- Bytes begin with one subfield at most, and have one list at most.
-use Rattle.std.proofs.Common.{◌≡◌, ℕ, List, [], ◌∷◌, ◌++◌, All, Ok, Err, length, take, drop, refl, ap, sym, ◌∙◌, inl, inr, append_assoc, arith, length-drop}
-use Rattle.std.proofs.lemmas.List.{append-nil, take_at, drop_at, take-append-drop}
+use Rattle.std.proofs.Common.{◌≡◌, ℕ, List, [], ◌∷◌, ◌++◌, All, Ok, Err, length, drop, refl, ap, sym, ◌∙◌, inl, inr, append_assoc, arith, length-drop}
+use Rattle.std.proofs.lemmas.List.{append-nil, take-append-drop}
 use Rattle.std.proofs.lemmas.List.Elements.{All-head, All-tail}
-use Rattle.jb_base.specs.Number.{number_at}
+use Rattle.jb_base.proofs.Spelled.{at_front, behind_is, fields_in-list}
+use Rattle.jb_base.specs.Spelled.{behind_front, field_at_front}
 use Rattle.jb_base.specs.Subfields.{IsSubfield, IsSubfieldList, IsCutAt, one_subfield, subfield_bytes}
 use Rattle.jb_base.specs.declared.subfield.Subfield.{Subfield}
 use Rattle.jb_subfield.specs.Answer.{IsReading, IsUnlessMemory}
 use Rattle.jb_subfield.specs.Laws.{IsPrefixFree, HasOneListAtMost}
-use Rattle.jb_subfield.specs.Whole.{HasNoWhole}
+use Rattle.jb_base.specs.Whole.{HasNoWhole}
 use Rattle.jb_subfield.specs.declared.error.SubfieldError.TheVariants.{Cut, OutOfMemory}
-
--- a subfield of these parts
-made : ℕ → ℕ → List ℕ → Subfield
-made id hi bytes = record { id = id; hi = hi; bytes = bytes }
-
--- subfields of equal parts are equal
-same_subfield : (one other : Subfield) → one.id ≡ other.id → one.hi ≡ other.hi → one.bytes ≡ other.bytes → one ≡ other
-unfolding made
-same_subfield one other id hi bytes =
-    ap (λ n. made n one.hi one.bytes) id ∙ ap (λ n. made other.id n one.bytes) hi ∙ ap (λ (l : List ℕ). made other.id other.hi l) bytes
 
 -- no spelling of one subfield is a proper prefix of another's
 pub prefix_free : IsPrefixFree
-prefix_free one other rest more fits fits' same =
-    let ids = ap (number_at 2 0) same in
-    let his = ap (number_at 2 2) same in
-    let sizes = ap (number_at 4 4) same in
-    let id : one.id ≡ other.id = omega (arith, ids, fits.id, fits'.id) in
-    let hi : one.hi ≡ other.hi = omega (arith, his, fits.hi, fits'.hi) in
-    let size : length other.bytes ≡ length one.bytes = omega (arith, sizes, fits.size, fits'.size) in
-    let behind : one.bytes ++ rest ≡ other.bytes ++ more = ap (drop 8) same in
-    let bytes : one.bytes ≡ other.bytes =
-    sym (take_at one.bytes rest (length one.bytes) refl) ∙ ap (take (length one.bytes)) behind ∙ take_at other.bytes more (length one.bytes) size in (
-      same_subfield one other id hi bytes,
-      sym (drop_at one.bytes rest (length one.bytes) refl) ∙ ap (drop (length one.bytes)) behind ∙ drop_at other.bytes more (length one.bytes) size,
-    )
+prefix_free one other rest more fits fits' same = (
+  sym (at_front one rest fits) ∙ ap field_at_front same ∙ at_front other more fits',
+  sym (behind_is one rest fits) ∙ ap behind_front same ∙ behind_is other more fits',
+)
 
 -- no bytes begin with no subfield
 nothing_whole : HasNoWhole []
@@ -64,8 +46,7 @@ cut_list bytes at cut = ap (λ (l : List ℕ). l ++ drop at bytes) cut.before.sp
 
 -- bytes have at most one list
 pub one_list : HasOneListAtMost
-one_list bytes one other list list' =
-    (same_list one other [] [] list.each list'.each nothing_whole nothing_whole (whole_list one bytes list ∙ sym (whole_list other bytes list'))).0
+one_list bytes one other list list' = sym (fields_in-list one bytes list) ∙ fields_in-list other bytes list'
 
 -- bytes that are cut have no list
 cut_has_no_list : (bytes : List ℕ) (at : ℕ) (fields : List Subfield) → IsCutAt bytes at → IsSubfieldList fields bytes → ⊥

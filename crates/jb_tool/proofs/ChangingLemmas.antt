@@ -1,7 +1,7 @@
 -- An area at rest and a command of a tool: what the files open to meanwhile.
 use Rattle.std.proofs.Common.{◌≡◌, inl, inr, ℕ, ◌≤◌, List, [], ◌∷◌, length, ap, refl, sym, subst, arith, Some}
 use Rattle.jb_area.specs.Area.{IsBegun, IsResting}
-use Rattle.jb_area.specs.Holds.{IsAtRest, Opens, OpensToEither as OpensToComing}
+use Rattle.jb_area.specs.Holds.{IsAtRest, Opens, OpensToEither}
 use Rattle.jb_area.specs.declared.area.OpenArea.{OpenArea}
 use Rattle.jb_base.specs.declared.limits.TheConstants.{MOST_SLOTS}
 use Rattle.jb_decide.specs.Coming.{Coming}
@@ -16,7 +16,7 @@ use Rattle.jb_model.specs.State.{AreaState, state_of}
 use Rattle.jb_model.specs.declared.command.Command.{Command}
 use Rattle.jb_model.specs.declared.loaded.Loaded.{Loaded}
 use Rattle.jb_model.specs.declared.reply.Reply.{Reply}
-use Rattle.jb_tool.specs.Tending.{OpensAs, OpensToEither, answer_to}
+use Rattle.jb_tool.specs.Tending.{OpensFor, OpensForEither, answer_to}
 
 -- files that hold a loaded area stand for its state
 pub holds_stands : (loaded : Loaded) (texts : List ℕ) (files : Files) → length loaded.slots ≤ MOST_SLOTS → Holds loaded texts files → StandsFor MOST_SLOTS files (state_of texts loaded)
@@ -24,11 +24,11 @@ holds_stands loaded texts files few holds =
     record { loaded = loaded; loads = holds.loads; few_slots = few; same = ap (λ (t : List ℕ). state_of t loaded) (sym holds.texts_are) }
 
 -- files that open to a loaded area open to its state
-pub opens_area : (loaded : Loaded) (texts : List ℕ) (files : Files) → length loaded.slots ≤ MOST_SLOTS → Opens loaded texts files → OpensAs (state_of texts loaded) files
+pub opens_area : (loaded : Loaded) (texts : List ℕ) (files : Files) → length loaded.slots ≤ MOST_SLOTS → Opens loaded texts files → OpensFor (state_of texts loaded) files
 opens_area loaded texts files few opens = record { after = opens.after; replays = opens.replays; stands = holds_stands loaded texts opens.after few opens.holds }
 
 -- so do files at rest
-pub rest_opens : (loaded : Loaded) (texts : List ℕ) (files : Files) → length loaded.slots ≤ MOST_SLOTS → IsAtRest loaded texts files → OpensAs (state_of texts loaded) files
+pub rest_opens : (loaded : Loaded) (texts : List ℕ) (files : Files) → length loaded.slots ≤ MOST_SLOTS → IsAtRest loaded texts files → OpensFor (state_of texts loaded) files
 rest_opens loaded texts files few rests =
     record { after = files; replays = inl (λ is_open. rests.shut is_open.gate, refl); stands = holds_stands loaded texts files few rests.holds }
 
@@ -61,18 +61,18 @@ module _ {D : Type 0} (shown : D → Device) (command : Command) where
 
   -- a crash now leaves what opens to the area
   left_resting : (area : OpenArea D) (texts : List ℕ) (files : Files) → (shown area.disk).contents ≡ Some files → IsResting shown area texts
-      → LeavesNow (OpensToEither command (state_of texts area.held.loaded)) (shown area.disk).moments
+      → LeavesNow (OpensForEither command (state_of texts area.held.loaded)) (shown area.disk).moments
   left_resting area texts files there rests =
       let opens = rest_opens area.held.loaded texts files (few_resting area texts rests) (rests.kept.settled.rests files there) in
-      leaves_weaken (λ left. left ≡ files) (OpensToEither command (state_of texts area.held.loaded)) (shown area.disk).moments
-      (λ left is. inl (subst (OpensAs (state_of texts area.held.loaded)) (sym is) opens)) (rests.kept.settled.synced files there)
+      leaves_weaken (λ left. left ≡ files) (OpensForEither command (state_of texts area.held.loaded)) (shown area.disk).moments
+      (λ left is. inl (subst (OpensFor (state_of texts area.held.loaded)) (sym is) opens)) (rests.kept.settled.synced files there)
 
   -- nor is anything else left where only reads follow
   pub left_reading : (area : OpenArea D) (texts : List ℕ) (files : Files) (after : Device) → (shown area.disk).contents ≡ Some files → IsResting shown area texts → OnlyReads (shown area.disk) after
-      → LeavesOnly (shown area.disk) after (OpensToEither command (state_of texts area.held.loaded))
+      → LeavesOnly (shown area.disk) after (OpensForEither command (state_of texts area.held.loaded))
   left_reading area texts files after there rests kept = record {
     first = left_resting area texts files there rests;
-    run = runs-refl (OpensToEither command (state_of texts area.held.loaded)) (shown area.disk).moments after.moments kept.moments;
+    run = runs-refl (OpensForEither command (state_of texts area.held.loaded)) (shown area.disk).moments after.moments kept.moments;
   }
 
   -- the area to come of a call that is begun has no more slots than any may have
@@ -87,11 +87,11 @@ module _ {D : Type 0} (shown : D → Device) (command : Command) where
   -- files between the area and the one to come
   pub either_way : (area : OpenArea D) (texts : List ℕ) (reply : Reply) (coming : Coming) → IsBegun shown area texts reply coming
       → (answer_to command (state_of texts area.held.loaded)).state ≡ state_of coming.texts coming.to
-      → (files : Files) → OpensToComing area.held.loaded texts coming files → OpensToEither command (state_of texts area.held.loaded) files
+      → (files : Files) → OpensToEither area.held.loaded texts coming files → OpensForEither command (state_of texts area.held.loaded) files
   either_way area texts reply coming begun becomes files opens =
       let limit = begun.kept.ruled.few_slots in
       let few = begun.kept.ruled.sound.few_slots in
       elim opens [
         | inl from ↦ inl (opens_area area.held.loaded texts files (omega (arith, limit, few)) from)
-        | inr to ↦ inr (subst (λ (s : AreaState). OpensAs s files) (sym becomes) (opens_area coming.to coming.texts files (few_coming area texts reply coming begun) to))
+        | inr to ↦ inr (subst (λ (s : AreaState). OpensFor s files) (sym becomes) (opens_area coming.to coming.texts files (few_coming area texts reply coming begun) to))
       ]

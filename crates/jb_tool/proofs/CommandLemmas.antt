@@ -4,7 +4,7 @@ use Rattle.std.specs.Prelude.{IsSome, Ok, Err}
 use Rattle.std.specs.Option.{ForSome}
 use Rattle.jb_area.specs.Area.{IsBegun, IsResting, RestsAt}
 use Rattle.jb_area.specs.Calls.{BeginsCall, HasRest}
-use Rattle.jb_area.specs.Holds.{OpensToEither as OpensToComing}
+use Rattle.jb_area.specs.Holds.{OpensToEither}
 use Rattle.jb_area.specs.declared.area.OpenArea.{OpenArea}
 use Rattle.jb_base.specs.Fault.{Rose}
 use Rattle.jb_base.specs.declared.area.AreaRules.{AreaRules}
@@ -25,8 +25,8 @@ use Rattle.jb_model.specs.declared.loaded.Loaded.{Loaded}
 use Rattle.jb_model.specs.declared.reply.Reply.{Reply}
 use Rattle.jb_tool.proofs.ChangingLemmas.{either_way, few_resting, holds_stands, leaves_only_after, leaves_only_weaken, left_reading}
 use Rattle.jb_tool.proofs.Recovering.{rose_later}
-use Rattle.jb_tool.specs.Changing.{ChangesArea, HasNoLine, IsStoppedBy, of_area}
-use Rattle.jb_tool.specs.Tending.{OpensToEither, answer_to, tool_answer, tool_rules, tool_user}
+use Rattle.jb_tool.specs.Changing.{DoesCommand, HasNoLine, IsStoppedBy, of_area}
+use Rattle.jb_tool.specs.Tending.{OpensForEither, answer_to, tool_answer, tool_rules, tool_user}
 use Rattle.jb_tool.specs.declared.error.ToolError.{ToolError}
 
 module _ {D : Type 0} (shown : D → Device) (command : Command) (old : OpenArea D) where
@@ -37,7 +37,7 @@ module _ {D : Type 0} (shown : D → Device) (command : Command) (old : OpenArea
   stopped_by failed.OutOfMemory new quiet kept = inr (inl (refl, kept, quiet))
 
   -- it was not begun
-  pub not_begun : (new : OpenArea D) (error : AreaError) → BeginsCall shown old new tool_user 0 command (Err error) → ChangesArea shown command old new (Err (of_area error))
+  pub not_begun : (new : OpenArea D) (error : AreaError) → BeginsCall shown old new tool_user 0 command (Err error) → DoesCommand shown command old new (Err (of_area error))
   not_begun new error begins = record {
     answered = tt;
     now = tt;
@@ -60,18 +60,18 @@ module _ {D : Type 0} (shown : D → Device) (command : Command) (old : OpenArea
 
     -- what a crash leaves until it has ended
     pub ending : ((texts : List ℕ) (decided : Reply) (coming : Coming) → IsBegun shown mid texts decided coming
-        → ForSome (shown mid.disk).contents (λ _. LeavesOnly (shown mid.disk) (shown new.disk) (OpensToComing mid.held.loaded texts coming)))
+        → ForSome (shown mid.disk).contents (λ _. LeavesOnly (shown mid.disk) (shown new.disk) (OpensToEither mid.held.loaded texts coming)))
         → (files : Files) → (shown old.disk).contents ≡ Some files → (texts : List ℕ) → IsResting shown old texts
-        → LeavesOnly (shown old.disk) (shown new.disk) (OpensToEither command (state_of texts old.held.loaded))
+        → LeavesOnly (shown old.disk) (shown new.disk) (OpensForEither command (state_of texts old.held.loaded))
     ending crash files there texts rests =
         let begun = begins.begun texts rests in
         let to : (answer_to command (state_of texts mid.held.loaded)).state ≡ state_of begun.coming.texts begun.coming.to =
         ap (λ (l : Loaded). (answer_to command (state_of texts l)).state) begins.loaded ∙ ap (λ (a : Answered). a.state) (becomes texts files there rests) in
         let either = either_way shown command mid texts begun.reply begun.coming begun.begun to in
-        let P : Files → Type 0 = OpensToEither command (state_of texts mid.held.loaded) in
-        let leaves = leaves_only_weaken (OpensToComing mid.held.loaded texts begun.coming) P (shown mid.disk) (shown new.disk) either
+        let P : Files → Type 0 = OpensForEither command (state_of texts mid.held.loaded) in
+        let leaves = leaves_only_weaken (OpensToEither mid.held.loaded texts begun.coming) P (shown mid.disk) (shown new.disk) either
         (crash texts begun.reply begun.coming begun.begun files (begins.reads.contents ∙ there)) in
-        subst (λ (l : Loaded). LeavesOnly (shown old.disk) (shown new.disk) (OpensToEither command (state_of texts l))) begins.loaded
+        subst (λ (l : Loaded). LeavesOnly (shown old.disk) (shown new.disk) (OpensForEither command (state_of texts l))) begins.loaded
         (leaves_only_after P (shown old.disk) (shown mid.disk) (shown new.disk) begins.reads leaves)
 
     -- it was done, and its line printed
@@ -79,9 +79,9 @@ module _ {D : Type 0} (shown : D → Device) (command : Command) (old : OpenArea
         → ((texts : List ℕ) (decided : Reply) (coming : Coming) → IsBegun shown mid texts decided coming → said ≡ decided)
         → ((texts : List ℕ) (decided : Reply) (coming : Coming) → IsBegun shown mid texts decided coming → (answered ≡ decided) × RestsAt shown new coming.texts coming.to)
         → ((texts : List ℕ) (decided : Reply) (coming : Coming) → IsBegun shown mid texts decided coming
-        → ForSome (shown mid.disk).contents (λ _. LeavesOnly (shown mid.disk) (shown new.disk) (OpensToComing mid.held.loaded texts coming)))
+        → ForSome (shown mid.disk).contents (λ _. LeavesOnly (shown mid.disk) (shown new.disk) (OpensToEither mid.held.loaded texts coming)))
         → (shown mid.disk).faults ≤ (shown new.disk).faults
-        → ChangesArea shown command old new (Ok text)
+        → DoesCommand shown command old new (Ok text)
     command_done text said answered rest line decided done crash later = record {
       answered = λ files there texts rests.
           let begun = begins.begun texts rests in
@@ -103,9 +103,9 @@ module _ {D : Type 0} (shown : D → Device) (command : Command) (old : OpenArea
     -- it was stopped by a fault
     pub command_stopped : Rose (shown mid.disk).faults (shown new.disk).faults
         → ((texts : List ℕ) (decided : Reply) (coming : Coming) → IsBegun shown mid texts decided coming
-        → ForSome (shown mid.disk).contents (λ _. LeavesOnly (shown mid.disk) (shown new.disk) (OpensToComing mid.held.loaded texts coming)))
+        → ForSome (shown mid.disk).contents (λ _. LeavesOnly (shown mid.disk) (shown new.disk) (OpensToEither mid.held.loaded texts coming)))
         → (shown mid.disk).faults ≤ (shown new.disk).faults
-        → ChangesArea shown command old new (Err (of_area failed.StoreFault))
+        → DoesCommand shown command old new (Err (of_area failed.StoreFault))
     command_stopped rose crash later = record {
       answered = tt;
       now = tt;
@@ -118,7 +118,7 @@ module _ {D : Type 0} (shown : D → Device) (command : Command) (old : OpenArea
     -- it was dropped, for want of memory or since the texts are too long
     pub command_dropped : (said : Reply) (error : ToolError) → HasNoLine said error
         → ((texts : List ℕ) (decided : Reply) (coming : Coming) → IsBegun shown mid texts decided coming → said ≡ decided)
-        → shown new.disk ≡ shown mid.disk → ChangesArea shown command old new (Err error)
+        → shown new.disk ≡ shown mid.disk → DoesCommand shown command old new (Err error)
     command_dropped said error none decided same =
         let kept : OnlyReads (shown old.disk) (shown new.disk) = subst (OnlyReads (shown old.disk)) (sym same) begins.reads in
         record {

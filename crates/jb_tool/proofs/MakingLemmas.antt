@@ -4,6 +4,7 @@ use Rattle.std.specs.Prelude.{IsSome, Bool, true, false, ◌&&◌, ◌==◌, ◌
 use Rattle.std.specs.Option.{ForSome, option_map}
 use Rattle.std.proofs.lemmas.Bool.{cases_eq, cases_lt}
 use Rattle.std.proofs.lemmas.Bool.Decides.{nat_tests}
+use Rattle.jb_change.specs.NewBase.{AreEmpty, MakesBase}
 use Rattle.jb_disk.proofs.RunLemmas.{runs-refl, runs-then, runs-weaken}
 use Rattle.jb_disk.specs.Change.{Change}
 use Rattle.jb_disk.specs.Device.{Device, Turns}
@@ -20,11 +21,10 @@ use Rattle.jb_journal.specs.declared.error.JournalError.{JournalError}
 use Rattle.jb_journal.specs.declared.error.JournalError.TheVariants.{BadRecord, StoreFault}
 use Rattle.jb_redo.proofs.ApplyLemmas.{turns_from, turns_on}
 use Rattle.jb_tool.proofs.ChangingLemmas.{leaves_weaken}
-use Rattle.jb_tool.proofs.NewBaseLemmas.{base_made, base_ready, empty_beside, new_beside}
-use Rattle.jb_tool.specs.Making.{AreNoneOrNew, AreShutAndEmpty, BringsBase, HasNewBase, IsFoundEmpty, IsMade, KeepsOrMakes, RefusesMaking, ReplayInto}
+use Rattle.jb_tool.proofs.NewBaseLemmas.{base_ready, empty_beside, new_beside}
+use Rattle.jb_tool.specs.Making.{AreNoneOrNew, AreShutAndEmpty, HasNewBase, IsFoundEmpty, IsMade, KeepsOrMakes, RefusesMaking, ReplayInto}
 use Rattle.jb_tool.specs.Recovered.{IsRecoveredTo, KeepsReplay, of_journal}
 use Rattle.jb_tool.proofs.Recovering.{is_told}
-use Rattle.jb_tool.specs.NewBase.{AreEmpty}
 
 -- a file without a length is empty
 no_length : (l : List ℕ) → length l ≡ 0 → l ≡ []
@@ -110,24 +110,24 @@ prepared_shut start files shut prepared one = elim (cases_lt 16 (length (start J
 ]
 
 -- prepared files are ready for the change
-pub ready_prepared : (moment : ℕ) (change : Change) (before after : Option Files) → BringsBase moment change → ForSome before AreShutAndEmpty → Turns IsPrepared before after → ForSome after (IsReady change)
-ready_prepared moment change before after brings none prepared = λ files is.
+pub ready_prepared : (moment : ℕ) (change : Change) (before after : Option Files) → MakesBase moment change → ForSome before AreShutAndEmpty → Turns IsPrepared before after → ForSome after (IsReady change)
+ready_prepared moment change before after makes none prepared = λ files is.
     let from = turns_from IsPrepared before after files prepared is in
     let was = none from.0 from.1 in
-    base_ready moment change brings files (empty_beside from.0 files was.empty from.2.same) (prepared_long from.0 files from.2) (prepared_shut from.0 files was.shut from.2)
+    base_ready moment change makes files (empty_beside from.0 files was.empty from.2.same) (prepared_long from.0 files from.2) (prepared_shut from.0 files was.shut from.2)
 
 -- files before the change or after it
-before_or_after : (moment : ℕ) (change : Change) (start files : Files) → BringsBase moment change → AreEmpty start → IsBeforeOrAfter change start files → AreNoneOrNew moment files
-before_or_after moment change start files brings empty either = elim either [
+before_or_after : (moment : ℕ) (change : Change) (start files : Files) → MakesBase moment change → AreEmpty start → IsBeforeOrAfter change start files → AreNoneOrNew moment files
+before_or_after moment change start files makes empty either = elim either [
   | inl old ↦ inl (record { after = old.after; replays = old.replays; has = empty_beside start old.after empty old.same })
   | inr new ↦ inr (record {
     after = new.after;
     replays = new.replays;
-    has = new_beside moment (changed change start) new.after brings.back (base_made moment change brings start empty) new.same;
+    has = new_beside moment (changed change start) new.after (makes.brings.made start empty) new.same;
   })
 ]
 
-module _ (moment : ℕ) (change : Change) (brings : BringsBase moment change) (before mid after : Device) (none : ForSome before.contents AreShutAndEmpty) where
+module _ (moment : ℕ) (change : Change) (makes : MakesBase moment change) (before mid after : Device) (none : ForSome before.contents AreShutAndEmpty) where
   -- what a crash leaves while the journal is prepared
   pub left_preparing : IsAllSynced before → ForSome before.contents (λ start. IsAllSynced before → LeavesOnly before mid (IsPreparing start))
       → ForSome before.contents (λ _. LeavesOnly before mid (AreNoneOrNew moment))
@@ -146,7 +146,7 @@ module _ (moment : ℕ) (change : Change) (brings : BringsBase moment change) (b
       let on = turns_on IsPrepared before.contents mid.contents start prepared there in
       let empty = empty_beside start on.0 (none start there).empty on.2.same in
       let leaves = crash on.0 on.1 in
-      let weaker : (files : Files) → IsBeforeOrAfter change on.0 files → AreNoneOrNew moment files = λ files is. before_or_after moment change on.0 files brings empty is in
+      let weaker : (files : Files) → IsBeforeOrAfter change on.0 files → AreNoneOrNew moment files = λ files is. before_or_after moment change on.0 files makes empty is in
       record {
         first = (first start there).first;
         run = runs-then (AreNoneOrNew moment) before.moments mid.moments after.moments (first start there).run
@@ -165,7 +165,7 @@ module _ (moment : ℕ) (change : Change) (brings : BringsBase moment change) (b
       record {
         files = files;
         told = told;
-        new = new_beside moment (changed change on.0) files brings.back (base_made moment change brings on.0 empty) at.same;
+        new = new_beside moment (changed change on.0) files (makes.brings.made on.0 empty) at.same;
         shut = λ is_open. at.shut is_open.gate;
         synced = synced files told;
       }

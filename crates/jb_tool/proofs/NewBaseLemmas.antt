@@ -1,204 +1,37 @@
--- The change that makes a base, and the files with it.
-use Rattle.std.proofs.Common.{◌≡◌, ◌≢◌, inl, ℕ, ◌<◌, ◌≤◌, List, [], ◌∷◌, length, take, refl, ap, sym, ◌∙◌, subst, arith}
-use Rattle.std.specs.Prelude.{replicate, slice_index}
-use Rattle.std.proofs.lemmas.List.{take_all}
-use Rattle.std.proofs.lemmas.List.Elements.{All-nil, All-cons}
-use Rattle.std.proofs.lemmas.List.Kept.{AllPairs-cons}
-use Rattle.jb_append.proofs.EndLemmas.{one_behind}
-use Rattle.jb_append.proofs.PostLemmas.{no_pairs}
-use Rattle.jb_append.proofs.SizeLemmas.{length-pieces, length-record}
+-- The change that makes a base, and the files beside it.
+use Rattle.std.proofs.Common.{◌≡◌, ◌≢◌, ℕ, ◌<◌, ◌≤◌, [], length, ap, ◌∙◌, arith}
+use Rattle.std.specs.Prelude.{slice_index}
+use Rattle.jb_area.proofs.HoldLemmas.{loads_agree}
+use Rattle.jb_change.specs.NewBase.{AreEmpty, AreNew, MakesBase, new_loaded}
 use Rattle.jb_disk.specs.Change.{Change}
 use Rattle.jb_disk.specs.Files.{Files, number_of}
-use Rattle.jb_disk.specs.Memory.{of_length}
-use Rattle.jb_disk.specs.Steps.{patched}
 use Rattle.jb_disk.specs.declared.file.FileId.{FileId}
-use Rattle.jb_disk.specs.declared.file.FileId.TheVariants.{Jhr, Jdt, Jdx, Jlr, Jnl, Ndt}
-use Rattle.jb_disk.specs.declared.piece.Length.{Length}
-use Rattle.jb_disk.specs.declared.piece.Piece.{Piece}
-use Rattle.jb_disk.specs.declared.piece.Piece.TheVariants.{Bytes}
-use Rattle.jb_image.specs.Places.{bytes_at}
-use Rattle.jb_journal.specs.Commit.{AgreeButJournal, IsReady, IsWritable, changed}
-use Rattle.jb_model.specs.declared.loaded.Loaded.{Loaded}
-use Rattle.jb_record.specs.Fields.{signature}
-use Rattle.jb_record.specs.Fixed.{IsFixedHeader, fixed_header_bytes, fixed_header_of}
-use Rattle.jb_redo.specs.Record.{record_bytes}
-use Rattle.jb_redo.specs.Replay.{IsGrowthCovered, applied}
-use Rattle.jb_redo.specs.Rules.{AreLegalLengths, IsBefore, IsLegal, IsLegalLength, IsLegalPiece, new_sizes, sizes_of}
-use Rattle.jb_tool.specs.Making.{BringsBase, base_lengths}
-use Rattle.jb_tool.specs.NewBase.{AreEmpty, AreNew, new_header}
+use Rattle.jb_disk.specs.declared.file.FileId.TheVariants.{Jhr, Jdt, Jdx, Jlr, Jnl}
+use Rattle.jb_journal.specs.Commit.{AgreeButJournal, IsReady, IsWritable}
 
--- the header's bytes
-abbrev header : ℕ → List ℕ
-header moment = fixed_header_bytes (new_header moment)
-
--- its piece
-abbrev base_pieces : ℕ → List Piece
-base_pieces moment = Bytes Jhr 0 (header moment) ∷ []
-
--- the header has its bytes
-length-header : (moment : ℕ) → length (header moment) ≡ 1024
-unfolding fixed_header_bytes
-length-header moment = refl
-
--- and its signature
-signed_header : (moment : ℕ) → take 4 (header moment) ≡ signature
-unfolding fixed_header_bytes
-signed_header moment = refl
-
--- the lengths are legal
-legal_lengths : AreLegalLengths base_lengths
-legal_lengths =
-    let headers : Length = record { file = Jhr; len = 1024 } in
-    let texts : Length = record { file = Jdt; len = 0 } in
-    let index : Length = record { file = Jdx; len = 0 } in
-    let marks : Length = record { file = Jlr; len = 0 } in
-    record {
-      few = omega arith;
-      each = All-cons IsLegalLength headers (texts ∷ index ∷ marks ∷ []) (record { of_base = omega arith; ceiling = omega arith })
-          (All-cons IsLegalLength texts (index ∷ marks ∷ []) (record { of_base = omega arith; ceiling = omega arith })
-          (All-cons IsLegalLength index (marks ∷ []) (record { of_base = omega arith; ceiling = omega arith })
-          (All-cons IsLegalLength marks [] (record { of_base = omega arith; ceiling = omega arith }) (All-nil IsLegalLength))));
-      rising = AllPairs-cons IsBefore headers (texts ∷ index ∷ marks ∷ [])
-          (All-cons (IsBefore headers) texts (index ∷ marks ∷ []) (omega arith)
-          (All-cons (IsBefore headers) index (marks ∷ []) (omega arith) (All-cons (IsBefore headers) marks [] (omega arith) (All-nil (IsBefore headers)))))
-          (AllPairs-cons IsBefore texts (index ∷ marks ∷ [])
-          (All-cons (IsBefore texts) index (marks ∷ []) (omega arith) (All-cons (IsBefore texts) marks [] (omega arith) (All-nil (IsBefore texts))))
-          (AllPairs-cons IsBefore index (marks ∷ []) (All-cons (IsBefore index) marks [] (omega arith) (All-nil (IsBefore index)))
-          (AllPairs-cons IsBefore marks [] (All-nil (IsBefore marks)) no_pairs)));
-    }
-
--- a file of no length
-no_bytes : of_length 0 [] ≡ []
-unfolding of_length
-no_bytes = refl
-
--- the area as it is loaded
-abbrev loaded : ℕ → Loaded
-loaded moment = record {
-  created = moment;
-  counter = 0;
-  active = 0;
-  password = 4294967295;
-  base = 1;
-  reserved = replicate 1000 0;
-  slots = [];
-  marks = [];
-  headers_len = 1024;
-  texts_len = 0;
-}
-
--- files with the header alone stand for the empty area
-pub new_stands : (moment : ℕ) (files : Files) → fixed_header_of (header moment) ≡ new_header moment → files Jhr ≡ header moment
-    → ((file : FileId) → number_of file < 4 → file ≢ Jhr → files file ≡ []) → AreNew moment files
-new_stands moment files back headers others =
-    let there : bytes_at 0 1024 (files Jhr) ≡ header moment =
-    ap (bytes_at 0 1024) headers ∙ take_all 1024 (header moment) (omega (arith, length-header moment)) in
-    record {
-      headers = headers;
-      others = others;
-      stands = record {
-        loaded = loaded moment;
-        loads = record {
-          header = subst IsFixedHeader (sym there) (record { size = length-header moment; signed = signed_header moment });
-          fixed = sym (ap fixed_header_of there ∙ back);
-          base = omega arith;
-          numbers = omega arith;
-          index = ap length (others Jdx (omega arith) (λ is. cc));
-          slots = λ k d low. absurd (omega (arith, low));
-          apart = λ i j d order low. absurd (omega (arith, low));
-          lastread = ap length (others Jlr (omega arith) (λ is. cc));
-          marks = λ k d low. absurd (omega (arith, low));
-          few_marks = omega arith;
-          headers_len = sym (ap length headers ∙ length-header moment);
-          texts_len = sym (ap length (others Jdt (omega arith) (λ is. cc)));
-        };
-        few_slots = omega arith;
-        same = refl;
-      };
-    }
+-- a file of a base is not the journal
+no_journal : (file : FileId) → number_of file < 4 → file ≢ Jnl
+no_journal file low is = let four : number_of file ≡ 4 = ap number_of is in omega (arith, low, four)
 
 -- files that are the same but for the journal are new too
-pub new_beside : (moment : ℕ) (base files : Files) → fixed_header_of (header moment) ≡ new_header moment → AreNew moment base → AgreeButJournal files base → AreNew moment files
-new_beside moment base files back new same =
-    new_stands moment files back (same Jhr (λ is. cc) ∙ new.headers) (λ file low ne. same file (no_journal file low) ∙ new.others file low ne)
-  where
-    no_journal : (file : FileId) → number_of file < 4 → file ≢ Jnl
-    no_journal file low is = let four : number_of file ≡ 4 = ap number_of is in omega (arith, low, four)
+pub new_beside : (moment : ℕ) (base files : Files) → AreNew moment base → AgreeButJournal files base → AreNew moment files
+new_beside moment base files new same =
+    let there : (file : FileId) → number_of file < 4 → files file ≡ base file = λ file low. same file (no_journal file low) in
+    record {
+      headers = there Jhr (omega arith) ∙ new.headers;
+      others = λ file low ne. there file low ∙ new.others file low ne;
+      loads = loads_agree files base (there Jhr (omega arith)) (there Jdt (omega arith)) (there Jdx (omega arith)) (there Jlr (omega arith)) (new_loaded moment) new.loads;
+    }
 
 -- and so are empty ones
 pub empty_beside : (base files : Files) → AreEmpty base → AgreeButJournal files base → AreEmpty files
-empty_beside base files empty same file low = same file (λ is. let four : number_of file ≡ 4 = ap number_of is in omega (arith, low, four)) ∙ empty file low
+empty_beside base files empty same file low = same file (no_journal file low) ∙ empty file low
 
-module _ (moment : ℕ) (change : Change) (brings : BringsBase moment change) where
+module _ (moment : ℕ) (change : Change) (makes : MakesBase moment change) where
   -- it fits the journal
   pub base_writable : IsWritable change
-  base_writable =
-      let size : length (record_bytes change.lengths change.pieces) ≡ length (record_bytes base_lengths (base_pieces moment)) =
-      λ i. length (record_bytes (brings.lengths i) (brings.pieces i)) in
-      record {
-        lengths_are = subst AreLegalLengths (sym brings.lengths) legal_lengths;
-        short = omega (arith, size, length-record base_lengths (base_pieces moment), length-pieces Jhr 0 (header moment) [], length-header moment);
-      }
+  base_writable = record { lengths_are = makes.lengths; short = omega (arith, makes.size) }
 
-  module _ (files : Files) (empty : AreEmpty files) where
-    -- .JHR is empty
-    no_headers : files Jhr ≡ []
-    no_headers = empty Jhr (omega arith)
-
-    -- its piece is legal
-    legal_base : IsLegal (sizes_of files) base_lengths (base_pieces moment)
-    legal_base =
-        let Legal : Piece → Type 0 = IsLegalPiece (sizes_of files) (new_sizes base_lengths (sizes_of files)) in
-        record {
-          lengths_are = legal_lengths;
-          pieces_are = record {
-            many = omega arith;
-            each = All-cons Legal (Bytes Jhr 0 (header moment)) []
-                (record { of_base = omega arith; place = omega arith; size = omega (arith, length-header moment); within = omega (arith, length-header moment) }) (All-nil Legal);
-          };
-        }
-
-    -- each byte past an old end is written
-    covers_base : IsGrowthCovered base_lengths (base_pieces moment) files
-    covers_base Jhr i past low = inl (omega arith, omega (arith, low, length-header moment))
-    covers_base Jdt i past low = absurd (omega (arith, past, low))
-    covers_base Jdx i past low = absurd (omega (arith, past, low))
-    covers_base Jlr i past low = absurd (omega (arith, past, low))
-    covers_base Jnl i past low = absurd (omega (arith, past, low))
-    covers_base Ndt i past low = absurd (omega (arith, past, low))
-
-    -- the files are ready for it, behind a closed gate
-    pub base_ready : 16 ≤ length (files Jnl) → (slice_index (files Jnl) 0 ≢ 1) → IsReady change files
-    base_ready long shut = record {
-      legal = subst (λ (l : List Length). IsLegal (sizes_of files) l change.pieces) (sym brings.lengths)
-          (subst (λ (p : List Piece). IsLegal (sizes_of files) base_lengths p) (sym brings.pieces) legal_base);
-      grown = subst (λ (l : List Length). IsGrowthCovered l change.pieces files) (sym brings.lengths)
-          (subst (λ (p : List Piece). IsGrowthCovered base_lengths p files) (sym brings.pieces) covers_base);
-      long = long;
-      shut = shut;
-    }
-
-    -- the files with it
-    abbrev after : Files
-    after = applied base_lengths (base_pieces moment) files
-
-    -- .JHR is the header
-    headers_after : after Jhr ≡ header moment
-    headers_after =
-        ap (λ (l : List ℕ). patched (record { at = 0; bytes = header moment } ∷ []) (of_length 1024 l)) no_headers
-        ∙ one_behind [] (header moment) 0 1024 refl (omega (arith, length-header moment))
-
-    -- the others are empty still
-    others_after : (file : FileId) → number_of file < 4 → file ≢ Jhr → after file ≡ []
-    others_after Jhr low ne = absurd (ne refl)
-    others_after Jdt low ne = ap (of_length 0) (empty Jdt low) ∙ no_bytes
-    others_after Jdx low ne = ap (of_length 0) (empty Jdx low) ∙ no_bytes
-    others_after Jlr low ne = ap (of_length 0) (empty Jlr low) ∙ no_bytes
-    others_after Jnl low ne = absurd (omega (arith, low))
-    others_after Ndt low ne = absurd (omega (arith, low))
-
-    -- they are those of the base
-    pub base_made : AreNew moment (changed change files)
-    base_made =
-        let made : changed change files ≡ after = λ i. applied (brings.lengths i) (brings.pieces i) files in
-        subst (AreNew moment) (sym made) (new_stands moment after brings.back headers_after others_after)
+  -- empty files are ready for it, behind a closed gate
+  pub base_ready : (files : Files) → AreEmpty files → 16 ≤ length (files Jnl) → (slice_index (files Jnl) 0 ≢ 1) → IsReady change files
+  base_ready files empty long shut = record { legal = makes.brings.legal files empty; grown = makes.brings.grown files empty; long = long; shut = shut }

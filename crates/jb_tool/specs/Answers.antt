@@ -7,7 +7,7 @@ use Rattle.jb_disk.specs.Files.{Files}
 use Rattle.jb_image.specs.Stands.{StandsFor}
 use Rattle.jb_model.specs.State.{AreaState}
 use Rattle.jb_model.specs.declared.command.Command.TheVariants as command
-use Rattle.jb_tool.specs.Making.{KeepsOrMakes, Makes}
+use Rattle.jb_tool.specs.Making.{AnswersMake, KeepsOrMakes}
 use Rattle.jb_tool.specs.Outcome.{tool_outcome}
 use Rattle.jb_tool.specs.Recovered.{IsRecoveredTo, KeepsReplay, RefusesReading}
 use Rattle.jb_tool.specs.Tending.{Answer, KeepsOrTends, Tends}
@@ -29,14 +29,14 @@ LooksAt shown before after (Err error) = RefusesReading before after error
 abbrev pub AnswersTool : Tool → ℕ → Device → Device → Answer → Type 0
 AnswersTool tool.List moment before after answer = LooksAt tool.List before after answer
 AnswersTool tool.Check moment before after answer = LooksAt tool.Check before after answer
-AnswersTool tool.Make moment before after answer = Makes moment before after answer
+AnswersTool tool.Make moment before after answer = AnswersMake moment before after answer
 AnswersTool tool.Relink moment before after answer = Tends command.Relink before after answer
 AnswersTool tool.Pack moment before after answer = Tends command.Pack before after answer
 
 -- what a crash at any moment of it leaves
-abbrev pub KeepsOpening : Tool → ℕ → Device → Device → Type 0
-KeepsOpening tool.List moment before after = KeepsReplay before after
-KeepsOpening tool.Check moment before after = KeepsReplay before after
-KeepsOpening tool.Make moment before after = KeepsOrMakes moment before after
-KeepsOpening tool.Relink moment before after = KeepsOrTends command.Relink before after
-KeepsOpening tool.Pack moment before after = KeepsOrTends command.Pack before after
+abbrev pub KeepsUnderTool : Tool → ℕ → Device → Device → Type 0
+KeepsUnderTool tool.List moment before after = KeepsReplay before after
+KeepsUnderTool tool.Check moment before after = KeepsReplay before after
+KeepsUnderTool tool.Make moment before after = KeepsOrMakes moment before after
+KeepsUnderTool tool.Relink moment before after = KeepsOrTends command.Relink before after
+KeepsUnderTool tool.Pack moment before after = KeepsOrTends command.Pack before after

@@ -18,7 +18,7 @@ use Rattle.jb_model.specs.declared.reply.Reply.{Reply}
 use Rattle.jb_model.specs.declared.reply.Reply.TheVariants as reply
 use Rattle.jb_area_open.specs.declared.error.OpeningError.{OpeningError}
 use Rattle.jb_area_open.specs.declared.error.OpeningError.TheVariants as opening
-use Rattle.jb_tool.specs.Tending.{Answer, OpensToEither, answer_to, tool_answer}
+use Rattle.jb_tool.specs.Tending.{Answer, OpensForEither, answer_to, tool_answer}
 use Rattle.jb_tool.specs.declared.error.ToolError.{ToolError}
 use Rattle.jb_tool.specs.declared.error.ToolError.TheVariants.{BadJournal, Open, TextFull}
 
@@ -51,10 +51,10 @@ module _ {D : Type 0} (shown : D → Device) where
       × WhereTold old (λ area. tool_answer (answer_to command area).reply ≡ Err (TextFull length))))
 
   -- the command was done, and this is its line; or it was not
-  pub record ChangesArea (command : Command) (old new : OpenArea D) (result : Answer) : Type 0 where
+  pub record DoesCommand (command : Command) (old new : OpenArea D) (result : Answer) : Type 0 where
     pub answered : IfOk result (λ text. WhereTold old (λ area. tool_answer (answer_to command area).reply ≡ Ok text))
     pub now : OnOk result (WhereTold old (λ area. ForSome (shown new.disk).contents (λ files. StandsFor MOST_SLOTS files (answer_to command area).state)))
     pub synced : OnOk result (IsAllSynced (shown new.disk))
     pub failed : IfErr result (IsStoppedBy command old new)
-    pub crash : WhereTold old (λ area. LeavesOnly (shown old.disk) (shown new.disk) (OpensToEither command area))
+    pub crash : WhereTold old (λ area. LeavesOnly (shown old.disk) (shown new.disk) (OpensForEither command area))
     pub later : (shown old.disk).faults ≤ (shown new.disk).faults

@@ -3,7 +3,6 @@ pub mod Changing
 pub mod Check
 pub mod Listing
 pub mod Making
-pub mod NewBase
 pub mod Outcome
 pub mod Recovered
 pub mod Tending

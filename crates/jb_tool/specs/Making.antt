@@ -1,30 +1,33 @@
 -- What `make` answers, and what it makes of the files of a base.
-use Rattle.std.specs.Prelude.{◌≡◌, ◌⊎◌, ℕ, List, [], ◌∷◌, Bool, true, false, None, Some, Ok, Err}
+use Rattle.std.specs.Prelude.{◌≡◌, ◌≢◌, ◌⊎◌, ◌<◌, ℕ, List, [], Bool, true, false, None, Some, Ok, Err}
 use Rattle.std.specs.Option.{ForSome}
 use Rattle.jb_base.specs.Fault.{Rose}
+use Rattle.jb_change.specs.NewBase.{AreEmpty, AreNew, new_area}
 use Rattle.jb_disk.specs.Change.{Change, HasRoom}
 use Rattle.jb_disk.specs.Device.{Device}
-use Rattle.jb_disk.specs.Files.{Files}
+use Rattle.jb_disk.specs.Files.{Files, number_of}
 use Rattle.jb_disk.specs.Gate.{IsGateOpen}
+use Rattle.jb_disk.specs.declared.file.FileId.{FileId}
 use Rattle.jb_disk.specs.Runs.{LeavesNow, LeavesOnly}
-use Rattle.jb_disk.specs.declared.file.FileId.TheVariants.{Jhr, Jdt, Jdx, Jlr}
-use Rattle.jb_disk.specs.declared.piece.Length.{Length}
-use Rattle.jb_disk.specs.declared.piece.Piece.TheVariants.{Bytes}
 use Rattle.jb_image.specs.declared.error.OpenError.{OpenError}
 use Rattle.jb_image.specs.declared.error.OpenError.TheVariants.{OutOfMemory as no_memory, StoreFault}
 use Rattle.jb_journal.specs.declared.error.JournalError.TheVariants.{BadRecord}
 use Rattle.jb_journal.specs.Recover.{IsGrowthSafe, IsRefusedOver, ReplaysAsAtStart}
-use Rattle.jb_record.specs.Fixed.{fixed_header_bytes, fixed_header_of}
 use Rattle.jb_record.specs.declared.fixed.TheConstants.{FIXED_HEADER_BYTES}
 use Rattle.jb_redo.specs.Reading.{HasRecord}
 use Rattle.jb_redo.specs.Replay.{Replays}
-use Rattle.jb_tool.specs.NewBase.{AreEmpty, AreNew, HoldSomething, empty_area, new_header}
 use Rattle.jb_tool.specs.Outcome.{tool_outcome}
 use Rattle.jb_tool.specs.Recovered.{IsRecoveredTo}
 use Rattle.jb_tool.specs.Tending.{Answer}
 use Rattle.jb_tool.specs.declared.error.ToolError.{ToolError}
 use Rattle.jb_tool.specs.declared.error.ToolError.TheVariants.{BadJournal, Open, AlreadyThere, TextFull}
 use Rattle.jb_tool.specs.declared.tool.Tool.TheVariants as tool
+
+-- one of the four files of a base is not empty
+pub record HoldSomething (files : Files) : Type 0 where
+  pub file : FileId
+  pub of_base : number_of file < 4
+  pub some : files file ≢ []
 
 -- what the files replay to has this property
 pub record ReplayInto (property : Files → Type 0) (files : Files) : Type 0 where
@@ -42,7 +45,7 @@ pub record HasNewBase (moment : ℕ) (after : Device) : Type 0 where
 
 -- the base was made: behind an open gate stood a record; where that writes each byte past an old end, the files replayed to empty ones
 pub record IsMade (moment : ℕ) (text : List ℕ) (was : Files) (after : Device) : Type 0 where
-  pub outcome : tool_outcome tool.Make moment None text (empty_area moment)
+  pub outcome : tool_outcome tool.Make moment None text (new_area moment)
   pub record_found : IsGateOpen was → HasRecord was
   pub replayed : IsGrowthSafe was → ReplayInto AreEmpty was
   pub now : HasNewBase moment after
@@ -59,9 +62,9 @@ RefusesMaking before after (Open error) = IsNotMade before after error
 RefusesMaking before after (TextFull length) = ⊥
 
 -- the answer of `make`
-abbrev pub Makes : ℕ → Device → Device → Answer → Type 0
-Makes moment before after (Ok text) = ForSome before.contents (λ was. IsMade moment text was after)
-Makes moment before after (Err error) = RefusesMaking before after error
+abbrev pub AnswersMake : ℕ → Device → Device → Answer → Type 0
+AnswersMake moment before after (Ok text) = ForSome before.contents (λ was. IsMade moment text was after)
+AnswersMake moment before after (Err error) = RefusesMaking before after error
 
 -- files that replay to empty ones, or to those of the new base
 abbrev pub AreNoneOrNew : ℕ → Files → Type 0
@@ -77,16 +80,6 @@ pub record IsRoom (change : Change) : Type 0 where
   pub no_lengths : change.lengths ≡ []
   pub no_pieces : change.pieces ≡ []
   pub room : HasRoom 4 1 FIXED_HEADER_BYTES change
-
--- a length for each file of a new base, so that each is there then
-abbrev pub base_lengths : List Length
-base_lengths = record { file = Jhr; len = FIXED_HEADER_BYTES } ∷ record { file = Jdt; len = 0 } ∷ record { file = Jdx; len = 0 } ∷ record { file = Jlr; len = 0 } ∷ []
-
--- the change that makes a base of empty files
-pub record BringsBase (moment : ℕ) (change : Change) : Type 0 where
-  pub lengths : change.lengths ≡ base_lengths
-  pub pieces : change.pieces ≡ Bytes Jhr 0 (fixed_header_bytes (new_header moment)) ∷ []
-  pub back : fixed_header_of (fixed_header_bytes (new_header moment)) ≡ new_header moment
 
 -- whether the four files are empty
 abbrev pub IsFoundEmpty : Bool → Files → Type 0

@@ -1,10 +1,10 @@
 -- What each tool prints, and the area that it leaves.
 use Rattle.std.specs.Prelude.{◌≡◌, ℕ, List, [], Ok, Option, Some, None}
+use Rattle.jb_change.specs.NewBase.{new_area}
 use Rattle.jb_model.specs.State.{AreaState}
 use Rattle.jb_model.specs.declared.command.Command.TheVariants as command
 use Rattle.jb_tool.specs.Check.{IsCheck}
 use Rattle.jb_tool.specs.Listing.{listing_of}
-use Rattle.jb_tool.specs.NewBase.{empty_area}
 use Rattle.jb_tool.specs.Tending.{tended}
 use Rattle.jb_tool.specs.declared.tool.Tool.{Tool}
 use Rattle.jb_tool.specs.declared.tool.Tool.TheVariants as tool
@@ -16,5 +16,5 @@ tool_outcome tool.Check moment (Some area) text after = IsCheck area text × (af
 tool_outcome tool.Make moment (Some area) text after = ⊥
 tool_outcome tool.Relink moment (Some area) text after = tended command.Relink area (Ok text) after
 tool_outcome tool.Pack moment (Some area) text after = tended command.Pack area (Ok text) after
-tool_outcome tool.Make moment None text after = (text ≡ []) × (after ≡ empty_area moment)
+tool_outcome tool.Make moment None text after = (text ≡ []) × (after ≡ new_area moment)
 tool_outcome _ moment None text after = ⊥

@@ -54,20 +54,20 @@ tended command area (Ok text) after = (tool_answer (answer_to command area).repl
 tended command area (Err error) after = (tool_answer (answer_to command area).reply ≡ Err error) × (after ≡ area)
 
 -- what the files replay to stands for this area
-pub record OpensAs (area : AreaState) (files : Files) : Type 0 where
+pub record OpensFor (area : AreaState) (files : Files) : Type 0 where
   pub after : Files
   pub replays : Replays files after
   pub stands : StandsFor MOST_SLOTS after area
 
 -- files that open to this area, or to the one that the command makes of it
-abbrev pub OpensToEither : Command → AreaState → Files → Type 0
-OpensToEither command area files = OpensAs area files ⊎ OpensAs (answer_to command area).state files
+abbrev pub OpensForEither : Command → AreaState → Files → Type 0
+OpensForEither command area files = OpensFor area files ⊎ OpensFor (answer_to command area).state files
 
 -- the disk as the opening left it: recovered, with files that stand for this area; from then on a crash at any moment leaves files that open to it, or to the one that the command makes of it
 pub record IsOpenedTo (command : Command) (area : AreaState) (was : Files) (opening after : Device) : Type 0 where
   pub recovered : IsRecovered was opening
   pub stands : ForSome opening.contents (λ files. StandsFor MOST_SLOTS files area)
-  pub since : LeavesOnly opening after (OpensToEither command area)
+  pub since : LeavesOnly opening after (OpensForEither command area)
 
 -- the command was answered: of the area for which the files stood once they were opened, to which the base opened at the start where the record behind an open gate writes each byte past an old end; and the files, synced, stand for the area that it leaves
 pub record IsTended (command : Command) (answer : Answer) (was : Files) (after : Device) : Type 0 where
@@ -77,7 +77,7 @@ pub record IsTended (command : Command) (answer : Answer) (was : Files) (after :
   pub record_found : IsGateOpen was → HasRecord was
   pub opening : Device
   pub opened_to : IsOpenedTo command old was opening after
-  pub opened : IsGrowthSafe was → OpensAs old was
+  pub opened : IsGrowthSafe was → OpensFor old was
   pub now : ForSome after.contents (λ files. StandsFor MOST_SLOTS files new)
   pub synced : IsAllSynced after
 
@@ -98,8 +98,8 @@ Tends command before after (Err AlreadyThere) = ⊥
 -- the base opened to an area, and these files open to it or to the one that the command makes of it
 pub record IsOldOrNew (command : Command) (was files : Files) : Type 0 where
   pub old : AreaState
-  pub before : OpensAs old was
-  pub now : OpensAs old files ⊎ OpensAs (answer_to command old).state files
+  pub before : OpensFor old was
+  pub now : OpensFor old files ⊎ OpensFor (answer_to command old).state files
 
 -- a crash at any moment leaves files that open to just what some open to that it might have left at the start, or to one of these two areas
 abbrev pub KeepsOrTends : Command → Device → Device → Type 0

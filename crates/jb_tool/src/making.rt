@@ -4,33 +4,16 @@ ghost use Rattle.std.specs.Option.{ForSome};
 ghost use Rattle.jb_base.specs.Fault.{Rose};
 ghost use Rattle.jb_disk.specs.Device.{FailsBy, OnlyReads};
 ghost use Rattle.jb_disk.specs.Runs.{IsAllSynced, LeavesOnly};
-ghost use Rattle.jb_tool.specs.Making.{AreNoneOrNew, AreShutAndEmpty, BringsBase, HasNewBase, IsFoundEmpty, IsRoom, KeepsOrMakes, Makes, RefusesMaking};
-ghost use Rattle.jb_tool.specs.NewBase.{new_header};
+ghost use Rattle.jb_tool.specs.Making.{AnswersMake, AreNoneOrNew, AreShutAndEmpty, HasNewBase, IsFoundEmpty, IsRoom, KeepsOrMakes, RefusesMaking};
 ghost use Rattle.jb_tool.specs.Recovered.{IsRecoveredTo, KeepsReplay};
 
 use crate::ToolError;
 use jb_base::{Bytes, OutOfMemory};
-use jb_disk::{Disk, DiskFailed, FileId, Length, Redo};
+use jb_change::put_base;
+use jb_disk::{Disk, DiskFailed, FileId, Redo};
 use jb_journal::{Stopped, commit, prepare, recover};
-use jb_record::{FIXED_HEADER_BYTES, FixedHeader, RESERVED_BYTES, encode_fixed};
+use jb_record::FIXED_HEADER_BYTES;
 use std::alloc::Global;
-
-/// PasswordCRC of a base without a password.
-pub const NO_PASSWORD: u32 = 0xFFFF_FFFF;
-
-/// The fixed header of a base that is made at this moment.
-fn new_header(moment: u32) -> FixedHeader
-    ensures { result ≡ new_header moment }
-{
-    FixedHeader {
-        created: moment,
-        counter: 0,
-        active: 0,
-        password: NO_PASSWORD,
-        base: 1,
-        reserved: [0; RESERVED_BYTES],
-    }
-}
 
 /// Room for the change that makes a base.
 fn room(alloc: Global) -> Result<Redo, OutOfMemory>
@@ -39,31 +22,6 @@ fn room(alloc: Global) -> Result<Redo, OutOfMemory>
     let mut redo = Redo::new(alloc);
     redo.reserve(4, 1, FIXED_HEADER_BYTES as u64)?;
     Ok(redo)
-}
-
-/// Puts that change into the room. Each of the four files is given its length, so that other programs find it.
-fn put_base(redo: &mut Redo, moment: u32)
-    requires { IsRoom redo.old }
-    ensures { BringsBase moment redo.new }
-{
-    let header = encode_fixed(&new_header(moment));
-    redo.put_len(Length {
-        file: FileId::Jhr,
-        len: FIXED_HEADER_BYTES as u32,
-    });
-    redo.put_len(Length {
-        file: FileId::Jdt,
-        len: 0,
-    });
-    redo.put_len(Length {
-        file: FileId::Jdx,
-        len: 0,
-    });
-    redo.put_len(Length {
-        file: FileId::Jlr,
-        len: 0,
-    });
-    redo.put_bytes(FileId::Jhr, 0, &header);
 }
 
 /// Whether four lengths are 0.
@@ -128,7 +86,7 @@ fn write_base<D: Disk>(disk: &mut D, redo: &mut Redo, moment: u32) -> Result<(),
 
 /// Makes an empty base of the files that the disk has.
 fn make_base<D: Disk>(alloc: Global, disk: &mut D, moment: u32) -> Result<Bytes, ToolError>
-    ensures answer { Makes moment (D.device disk.old) (D.device disk.new) result }
+    ensures answer { AnswersMake moment (D.device disk.old) (D.device disk.new) result }
     ensures crash { KeepsOrMakes moment (D.device disk.old) (D.device disk.new) }
     ensures later { (D.device disk.old).faults ≤ (D.device disk.new).faults }
 {
@@ -145,7 +103,7 @@ fn make_base<D: Disk>(alloc: Global, disk: &mut D, moment: u32) -> Result<Bytes,
 /// Where it is stopped, by a crash or by a fault, the files open to the empty area, or are empty still, so that they are
 /// refused as a base with a short header, and it may be called again.
 pub fn make<D: Disk>(alloc: Global, disk: D, moment: u32) -> (D, Result<Bytes, ToolError>)
-    ensures answer { Makes moment (D.device disk) (D.device result.0) result.1 }
+    ensures answer { AnswersMake moment (D.device disk) (D.device result.0) result.1 }
     ensures crash { KeepsOrMakes moment (D.device disk) (D.device result.0) }
     ensures later { (D.device disk).faults ≤ (D.device result.0).faults }
 {

@@ -3,7 +3,7 @@ ghost use Rattle.std.specs.Prelude.{◌≡◌, ◌≤◌, IfErr, IfOk, Ok};
 ghost use Rattle.jb_area.specs.Area.{rules_of};
 ghost use Rattle.jb_area.specs.Calls.{HasRest};
 ghost use Rattle.jb_model.specs.declared.command.Command.TheVariants.{Pack as packing, Relink as relinking};
-ghost use Rattle.jb_tool.specs.Changing.{ChangesArea, HasNoLine, of_area};
+ghost use Rattle.jb_tool.specs.Changing.{DoesCommand, HasNoLine, of_area};
 ghost use Rattle.jb_tool.specs.Tending.{KeepsOrTends, Tends, tool_answer, tool_rules, tool_user};
 
 use crate::ToolError;
@@ -78,7 +78,7 @@ fn tend_area<D: Disk>(
     requires rests { HasRest D.device area.old }
     requires rules { rules_of area.old ≡ tool_rules }
     requires user { user.now ≡ tool_user }
-    ensures { ChangesArea D.device command.now area.old area.new result }
+    ensures { DoesCommand D.device command.now area.old area.new result }
 {
     match area.begin(alloc, user, 0, command) {
         Ok(()) => {}

@@ -1,6 +1,6 @@
 //! The tools by their names.
 ghost use Rattle.std.specs.Prelude.{◌≤◌};
-ghost use Rattle.jb_tool.specs.Answers.{AnswersTool, KeepsOpening};
+ghost use Rattle.jb_tool.specs.Answers.{AnswersTool, KeepsUnderTool};
 
 use crate::{ToolError, check, list, make, pack, relink};
 use jb_base::Bytes;
@@ -30,7 +30,7 @@ pub fn run<D: Disk>(
     moment: u32,
 ) -> (D, Result<Bytes, ToolError>)
     ensures answer { AnswersTool tool moment (D.device disk) (D.device result.0) result.1 }
-    ensures crash { KeepsOpening tool moment (D.device disk) (D.device result.0) }
+    ensures crash { KeepsUnderTool tool moment (D.device disk) (D.device result.0) }
     ensures later { (D.device disk).faults ≤ (D.device result.0).faults }
 {
     match tool {

@@ -4,8 +4,8 @@ ghost use Rattle.jb_base.specs.declared.limits.TheConstants.{MOST_SLOTS};
 ghost use Rattle.jb_base.specs.Subfields.{subfield_bytes};
 
 use crate::mark::mark_at;
-use jb_append::{put_new_mark, put_post};
 use jb_base::{MOST_MARKS, MOST_SLOTS};
+use jb_change::{put_new_mark, put_post};
 use jb_disk::{MemDisk, Redo};
 use jb_image::decode;
 use jb_model::{Head, Loaded, LoadedMessage};

@@ -5,7 +5,7 @@ use jb_disk::MemDisk;
 use jb_image::decode;
 use jb_model::{Loaded, LoadedMessage, LoadedSlot};
 use std::alloc::Global;
-use trial_rows::{Row, RowError, shown};
+use trial_rows::{Row, RowError, listed, shown};
 
 /// The answer to a row that shows the area.
 pub(crate) fn answer(alloc: Global, disk: &mut MemDisk, row: &Row) -> Result<String, RowError> {
@@ -79,7 +79,7 @@ fn shown_message(alloc: Global, message: &LoadedMessage) -> Result<String, RowEr
         message.head.times_read, message.head.msgid_crc
     )?;
     write!(text, " attribute {}", message.head.attribute)?;
-    for field in message.subfields.as_slice() {
+    for field in listed(alloc, &message.subfields)?.as_slice() {
         write!(text, " {}:", field.id)?;
         text.push_str(shown(alloc, field.bytes.as_slice())?.as_str())?;
     }

@@ -1,11 +1,11 @@
 //! Subfields, as a list and as bytes.
-ghost use Rattle.std.specs.Prelude.{◌+◌, ◌<◌, ◌^◌, All, IsTrue, length};
+ghost use Rattle.std.specs.Prelude.{◌+◌, ◌<◌, ◌^◌};
 
 use crate::words::own as word;
 use jb_base::{MSGID, RECEIVER_NAME, REPLYID, SENDER_NAME, SUBJECT, Subfield, Subfields};
-use jb_subfield::{SubfieldError, decode, encode};
+use jb_subfield::{SubfieldError, decode};
 use std::alloc::Global;
-use trial_rows::{Row, RowError, hexed, shown};
+use trial_rows::{Row, RowError, hexed, listed, shown};
 
 /// `id WORD`: the LoID of the subfields of this kind.
 pub fn id(alloc: Global, row: &Row) -> Result<String, RowError> {
@@ -24,16 +24,16 @@ pub fn id(alloc: Global, row: &Row) -> Result<String, RowError> {
 /// asked for.
 pub fn first(alloc: Global, row: &Row) -> Result<String, RowError> {
     let id = row.u16(1)?;
-    let fields = listed(alloc, row)?;
+    let fields = fields_at(alloc, row)?;
     let data = match fields.first(id) {
         Some(data) => shown(alloc, data)?,
         None => word(alloc, "absent")?,
     };
-    Ok(format!(in alloc; "{} {data}", fields.as_slice().len())?)
+    Ok(format!(in alloc; "{} {data}", listed(alloc, &fields)?.len())?)
 }
 
 /// The subfields from the third word on.
-fn listed(alloc: Global, row: &Row) -> Result<Subfields, RowError> {
+fn fields_at(alloc: Global, row: &Row) -> Result<Subfields, RowError> {
     let mut fields = Subfields::new(alloc);
     for group in 0..row.len().saturating_sub(2) / 3 {
         fields.push(field(alloc, row, group * 3 + 2)?)?;
@@ -59,37 +59,23 @@ pub fn subfields(alloc: Global, row: &Row) -> Result<String, RowError> {
         return Err(RowError::Bytes(1));
     }
     match decode(alloc, bytes.as_slice()) {
-        Ok(fields) => both_ways(alloc, fields.as_slice()),
+        Ok(fields) => both_ways(alloc, &fields),
         Err(SubfieldError::Cut { at }) => Ok(format!(in alloc; "cut {at}")?),
         Err(SubfieldError::OutOfMemory) => Err(RowError::OutOfMemory),
     }
 }
 
-fn both_ways(alloc: Global, list: &[Subfield]) -> Result<String, RowError> {
+fn both_ways(alloc: Global, fields: &Subfields) -> Result<String, RowError> {
+    let list = listed(alloc, fields)?;
     let mut text = format!(in alloc; "{} ", list.len())?;
-    for field in list {
+    for field in list.as_slice() {
         text.push_str(one(alloc, field)?.as_str())?;
     }
-    text.push_str(written(alloc, list)?.as_str())?;
+    text.push_str(hexed(alloc, fields.as_bytes())?.as_str())?;
     Ok(text)
 }
 
 fn one(alloc: Global, field: &Subfield) -> Result<String, RowError> {
     let data = shown(alloc, field.bytes.as_slice())?;
     Ok(format!(in alloc; "{} {} {data} ", field.id, field.hi)?)
-}
-
-fn written(alloc: Global, list: &[Subfield]) -> Result<String, RowError> {
-    if !are_short(list) {
-        return Err(RowError::Bytes(1));
-    }
-    let bytes = encode(alloc, list)?;
-    hexed(alloc, bytes.as_slice())
-}
-
-/// Whether each has data that its length can tell.
-fn are_short(list: &[Subfield]) -> bool
-    ensures { IsTrue result → All (λ field. length field.bytes < 2 ^ 32) list.now }
-{
-    list.iter().all(|field| field.bytes.len() < 4_294_967_296)
 }

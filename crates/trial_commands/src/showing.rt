@@ -4,7 +4,7 @@ use jb_base::{Bytes, Subfields};
 use jb_model::{Head, Letter, Reply};
 use std::alloc::Global;
 use std::fmt::Write;
-use trial_rows::{RowError, shown};
+use trial_rows::{RowError, listed, shown};
 
 /// Puts a line behind the others.
 pub(crate) fn put_line(text: &mut String, line: &str) -> Result<(), RowError> {
@@ -24,7 +24,7 @@ pub(crate) fn put_bytes(alloc: Global, text: &mut String, bytes: &[u8]) -> Resul
 
 /// Puts LoID, HiID and data of each subfield behind the other words.
 fn put_fields(alloc: Global, text: &mut String, subfields: &Subfields) -> Result<(), RowError> {
-    for field in subfields.as_slice() {
+    for field in listed(alloc, subfields)?.as_slice() {
         write!(text, " {} {}", field.id, field.hi)?;
         put_bytes(alloc, text, field.bytes.as_slice())?;
     }

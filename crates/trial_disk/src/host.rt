@@ -1,17 +1,29 @@
-//! A host in memory: its disks and its console.
+//! A host in memory: its disks, its console and its clocks.
 
 use crate::memory::disk;
 use crate::spelling::{numbers, text};
 use jb_base::Bytes;
 use jb_disk::{FileId, MemDisk};
-use jb_host::{Host, HostError, MemHost, MemLink, send};
+use jb_host::{Clock, Host, HostError, MemHost, MemLink, send};
 use std::alloc::Global;
 use trial_rows::{Row, RowError, shown};
 
 /// A host without a disk that fails the calls for a disk with these numbers.
 pub(crate) fn host(alloc: Global, failing: Vec<u64>) -> MemHost {
+    with_reading(alloc, 0, failing)
+}
+
+fn with_reading(alloc: Global, reading: u32, failing: Vec<u64>) -> MemHost {
     let link = MemLink::new(alloc, Bytes::new(alloc), Vec::new(alloc));
-    MemHost::new(alloc, link, failing)
+    MemHost::new(alloc, link, reading, failing)
+}
+
+/// What a clock of a host with this reading gives, and then another.
+pub(crate) fn clock(alloc: Global, row: &Row) -> Result<String, RowError> {
+    let mut host = with_reading(alloc, row.u32(1)?, Vec::new(alloc));
+    let first = host.clock().now();
+    let second = host.clock().now();
+    Ok(format!(in alloc; "{first} {second}")?)
 }
 
 /// What the row about the host comes to. What it hands out is put beside it.
@@ -97,7 +109,7 @@ pub(crate) fn console(alloc: Global, row: &Row) -> Result<String, RowError> {
     let input = row.bytes(alloc, 1)?;
     let output = row.bytes(alloc, 2)?;
     let link = MemLink::new(alloc, input, Vec::new(alloc));
-    let mut host = MemHost::new(alloc, link, Vec::new(alloc));
+    let mut host = MemHost::new(alloc, link, 0, Vec::new(alloc));
     let mut console = host.console();
     let out = at_console(alloc, &host)?;
     let is_sent = send(&mut console, output.as_slice()).is_ok();

@@ -8,11 +8,12 @@ mod host;
 mod link;
 mod memory;
 mod real;
+mod silent;
 mod spelling;
 mod steady;
 
 use jb_base::Bytes;
-use jb_disk::{MemDisk, Redo, SteadyDisk};
+use jb_disk::{MemDisk, Redo, SilentDisk, SteadyDisk};
 use jb_files::FolderDisk;
 use jb_host::{MemHost, MemLink};
 use std::alloc::Global;
@@ -25,6 +26,7 @@ struct Trial {
     rt: HostRuntime,
     memory: Vec<MemDisk>,
     steady: Vec<SteadyDisk>,
+    silent: Vec<SilentDisk<MemDisk>>,
     folder: Vec<FolderDisk<HostRuntime>>,
     change: Redo,
     link: MemLink,
@@ -39,6 +41,7 @@ impl Trial {
             rt,
             memory: Vec::new(alloc),
             steady: Vec::new(alloc),
+            silent: Vec::new(alloc),
             folder: Vec::new(alloc),
             change: Redo::new(alloc),
             link: MemLink::new(alloc, Bytes::new(alloc), Vec::new(alloc)),
@@ -54,11 +57,13 @@ impl Answers for Trial {
         match row.word(0)? {
             "memory" => memory::answer(alloc, &mut self.memory, row),
             "steady" => steady::answer(alloc, &mut self.steady, row),
+            "silent" => silent::answer(alloc, &mut self.silent, row),
             "folder" => folder::answer(self.rt, alloc, &mut self.folder, row),
             "real" => real::answer(self.rt, alloc, row),
             "change" => change::answer(alloc, &mut self.change, row),
             "link" => link::answer(alloc, &mut self.link, &mut self.into, row),
             "console" => host::console(alloc, row),
+            "clock" => host::clock(alloc, row),
             "host" => host::answer(alloc, &mut self.host, &mut self.out, row),
             _ => Err(RowError::Unknown(0)),
         }

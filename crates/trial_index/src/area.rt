@@ -7,7 +7,7 @@ use jb_base::{AreaRules, Bytes, DELETED, Kind, OutOfMemory, Subfields, User};
 use jb_crc::jam_crc;
 use jb_index::{Index, parents_of, unread_in};
 use jb_model::{Head, Loaded, LoadedMarks, LoadedMessage, LoadedSlot, LoadedSlots, Mark};
-use jb_step::headed_length;
+use jb_subfield::headed_length;
 use std::alloc::Global;
 use std::marker::Model;
 use trial_rows::{Row, RowError};

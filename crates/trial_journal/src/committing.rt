@@ -3,19 +3,18 @@ ghost use Rattle.jb_journal.specs.Commit.{IsWritable};
 
 use crate::base::Base;
 use crate::change::change;
-use crate::quiet::Quiet;
 use crate::showing::{files, stop, text};
-use jb_disk::{FileId, MemDisk, Redo};
+use jb_disk::{FileId, MemDisk, Redo, SilentDisk};
 use jb_journal::{Stopped, commit, prepare, settle};
 use std::alloc::Global;
 use trial_rows::{Row, RowError, hexed};
 
 // Gives the journal its head, and commits the change.
-fn committed(quiet: &mut Quiet, redo: &Redo) -> Result<(), Stopped>
+fn committed(silent: &mut SilentDisk<MemDisk>, redo: &Redo) -> Result<(), Stopped>
     requires { IsWritable redo.now }
 {
-    prepare(quiet)?;
-    commit(quiet, redo)
+    prepare(silent)?;
+    commit(silent, redo)
 }
 
 /// The journal once it is prepared, and after a commit the calls that it made, the files and the journal.
@@ -25,19 +24,19 @@ pub(crate) fn commit_done(
     done: &mut Vec<MemDisk>,
 ) -> Result<String, RowError> {
     let disk = base.disk(alloc, base.journal(), Vec::new(alloc))?;
-    let mut quiet = Quiet { disk, faults: 0 };
-    let head = prepared(alloc, &mut quiet)?;
-    let before = quiet.disk.calls();
+    let mut silent = SilentDisk::new(disk);
+    let head = prepared(alloc, &mut silent)?;
+    let before = silent.disk.calls();
     let redo = change(alloc)?;
-    let is_done = commit(&mut quiet, &redo).is_ok();
-    let all = after(alloc, &quiet.disk, before)?;
-    done.push(quiet.disk)?;
+    let is_done = commit(&mut silent, &redo).is_ok();
+    let all = after(alloc, &silent.disk, before)?;
+    done.push(silent.disk)?;
     Ok(format!(in alloc; "{head} {is_done} {all}")?)
 }
 
-fn prepared(alloc: Global, quiet: &mut Quiet) -> Result<String, RowError> {
-    match prepare(quiet) {
-        Ok(()) => hexed(alloc, quiet.disk.file(FileId::Jnl)),
+fn prepared(alloc: Global, silent: &mut SilentDisk<MemDisk>) -> Result<String, RowError> {
+    match prepare(silent) {
+        Ok(()) => hexed(alloc, silent.disk.file(FileId::Jnl)),
         Err(_) => text(alloc, "failed"),
     }
 }
@@ -54,43 +53,43 @@ fn after(alloc: Global, disk: &MemDisk, before: u64) -> Result<String, RowError>
 pub(crate) fn settled(alloc: Global, base: &Base, row: &Row) -> Result<String, RowError> {
     let failing = vec![in alloc; row.number(1)?, row.number(2)?]?;
     let disk = base.disk(alloc, base.journal(), failing)?;
-    let mut quiet = Quiet { disk, faults: 0 };
+    let mut silent = SilentDisk::new(disk);
     let redo = change(alloc)?;
-    match committed(&mut quiet, &redo) {
+    match committed(&mut silent, &redo) {
         Ok(()) => text(alloc, "done"),
-        Err(stopped) => settle_twice(alloc, &mut quiet, &redo, stopped),
+        Err(stopped) => settle_twice(alloc, &mut silent, &redo, stopped),
     }
 }
 
 fn settle_twice(
     alloc: Global,
-    quiet: &mut Quiet,
+    silent: &mut SilentDisk<MemDisk>,
     redo: &Redo,
     stopped: Stopped,
 ) -> Result<String, RowError>
     requires { IsWritable redo.now }
 {
-    match settle(quiet, redo, stopped) {
+    match settle(silent, redo, stopped) {
         Ok(_) => text(alloc, "settled-at-once"),
-        Err(again) => settle_again(alloc, quiet, redo, stopped, again),
+        Err(again) => settle_again(alloc, silent, redo, stopped, again),
     }
 }
 
 fn settle_again(
     alloc: Global,
-    quiet: &mut Quiet,
+    silent: &mut SilentDisk<MemDisk>,
     redo: &Redo,
     first: Stopped,
     second: Stopped,
 ) -> Result<String, RowError>
     requires { IsWritable redo.now }
 {
-    let answer = match settle(quiet, redo, second) {
+    let answer = match settle(silent, redo, second) {
         Ok(true) => "stands",
         Ok(false) => "does-not-stand",
         Err(_) => "stopped-again",
     };
     let (first, second) = (stop(first), stop(second));
-    let files = files(alloc, &quiet.disk)?;
+    let files = files(alloc, &silent.disk)?;
     Ok(format!(in alloc; "{first} {second} {answer} {files}")?)
 }

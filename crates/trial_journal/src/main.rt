@@ -6,7 +6,6 @@ mod base;
 mod change;
 mod committing;
 mod crashing;
-mod quiet;
 mod showing;
 mod testing;
 

@@ -8,11 +8,13 @@
 #![tactic(auto)]
 
 mod error;
+mod listing;
 mod row;
 mod running;
 mod showing;
 
 pub use error::RowError;
+pub use listing::listed;
 pub use row::Row;
 pub use running::{Answers, run};
 pub use showing::{hexed, shown};

@@ -2,7 +2,6 @@
 //! the standard input is one trial or prepares some; README.md says how a row is written.
 #![tactic(auto)]
 
-mod abandoned;
 mod base;
 mod files;
 mod going;

@@ -2,12 +2,11 @@
 ghost use Rattle.std.specs.Prelude.{IfOk};
 ghost use Rattle.jb_journal.specs.Commit.{IsWritable};
 
-use crate::abandoned::Abandoned;
 use crate::base::Base;
 use crate::files::{ALL, BaseFiles, NAMES, file_named};
 use crate::using::{outcome, tool_named};
 use jb_base::{Bytes, OutOfMemory};
-use jb_disk::{FileId, Length, Redo};
+use jb_disk::{FileId, Length, Redo, SilentDisk};
 use jb_files::FolderDisk;
 use jb_journal::{commit, prepare, recover};
 use std::alloc::Global;
@@ -100,9 +99,13 @@ fn tool(rt: HostRuntime, alloc: Global, row: &Row) -> Result<String, RowError> {
 }
 
 /// A disk over the real files for so many calls.
-fn disk(rt: HostRuntime, alloc: Global, calls: u64) -> Result<Abandoned, OutOfMemory> {
+fn disk(
+    rt: HostRuntime,
+    alloc: Global,
+    calls: u64,
+) -> Result<SilentDisk<FolderDisk<HostRuntime>>, OutOfMemory> {
     let disk = FolderDisk::new(rt, alloc, FOLDER, NAME)?;
-    Ok(Abandoned::new(disk, calls))
+    Ok(SilentDisk::stopping(disk, calls))
 }
 
 /// New lengths of three files, and pieces in all four.

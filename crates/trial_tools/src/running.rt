@@ -10,12 +10,17 @@ use jb_host::{MemHost, MemLink};
 use std::alloc::Global;
 use trial_rows::{Row, RowError, shown};
 
-/// A host with the base `general` in the folder `a`, whose console fails the calls with these numbers.
-fn host(alloc: Global, general: MemDisk, failing: Vec<u64>) -> Result<MemHost, RowError>
+/// A host with the base `general` in the folder `a`, at this moment, whose console fails the calls with these numbers.
+fn host(
+    alloc: Global,
+    general: MemDisk,
+    moment: u32,
+    failing: Vec<u64>,
+) -> Result<MemHost, RowError>
     ensures { IfOk result (λ host. IsSome (memory_desk host).console) }
 {
     let console = MemLink::new(alloc, Bytes::new(alloc), failing);
-    let mut host = MemHost::new(alloc, console, Vec::new(alloc));
+    let mut host = MemHost::new(alloc, console, moment, Vec::new(alloc));
     host.add_disk("a", "general", general)?;
     Ok(host)
 }
@@ -54,7 +59,7 @@ pub fn run(alloc: Global, row: &Row, base: &mut Base) -> Result<String, RowError
     let moment = row.u32(1)?;
     let words = words(alloc, row, 4)?;
     let disk = base.disk(alloc, row, 2)?;
-    let mut host = host(alloc, disk, failing(alloc, row, 3)?)?;
-    let status = board(alloc, words.as_slice(), moment, &mut host);
+    let mut host = host(alloc, disk, moment, failing(alloc, row, 3)?)?;
+    let status = board(alloc, words.as_slice(), &mut host);
     ended(alloc, status, &host, base)
 }

@@ -1,9 +1,10 @@
-//! A disk in memory that tells nothing, as one over real files.
-ghost use Rattle.std.specs.Prelude.{◌≤◌};
+//! A disk in memory that tells nothing, as one over real files, and has room for large files.
+ghost use Rattle.std.specs.Prelude.{◌≡◌, ◌≤◌, OnErr, OnOk};
+ghost use Rattle.jb_base.specs.Fault.{Rose};
 
 use crate::amiss::Amiss;
 use jb_base::Bytes;
-use jb_disk::{Disk, DiskFailed, FileId, MemDisk};
+use jb_disk::{Disk, DiskFailed, FileId, MemDisk, SilentDisk};
 use std::alloc::Global;
 use std::marker::Model;
 
@@ -60,12 +61,16 @@ fn dead_bytes(holes: Holes, file: FileId) -> Dead {
 
 // Reads what lies before the dead bytes and behind them, and zeros for them.
 fn read_around(
-    disk: &mut MemDisk,
+    disk: &mut SilentDisk<MemDisk>,
     dead: Dead,
     file: FileId,
     at: u64,
     into: &mut [u8],
-) -> Result<(), DiskFailed> {
+) -> Result<(), DiskFailed>
+    ensures ok { OnOk result (disk.new.faults ≡ disk.old.faults) }
+    ensures err { OnErr result (Rose disk.old.faults disk.new.faults) }
+    ensures later { disk.old.faults ≤ disk.new.faults }
+{
     if dead.len == 0 {
         return disk.read_at(file, at, into);
     }
@@ -87,9 +92,8 @@ fn read_around(
 /// Files in memory that tell nothing. Contracts see only how often the disk has failed.
 #[derive(Drop)]
 pub(crate) struct Quiet {
-    disk: MemDisk,
+    disk: SilentDisk<MemDisk>,
     holes: Holes,
-    faults: u64,
 }
 
 impl Model for Quiet {
@@ -97,7 +101,7 @@ impl Model for Quiet {
 
     ghost Value = { ℕ };
 
-    ghost view = { λ quiet. quiet.faults };
+    ghost view = { λ quiet. quiet.disk.faults };
 }
 
 impl Quiet {
@@ -109,31 +113,30 @@ impl Quiet {
         failing: &[u64],
     ) -> Result<Quiet, Amiss> {
         Ok(Quiet {
-            disk: MemDisk::new(alloc, files, failing.to_vec(alloc)?)?,
+            disk: SilentDisk::new(MemDisk::new(alloc, files, failing.to_vec(alloc)?)?),
             holes,
-            faults: 0,
         })
     }
 
     /// What the file holds, without dead bytes.
     pub(crate) fn file(&self, file: FileId) -> &[u8] {
-        self.disk.file(file)
+        self.disk.disk.file(file)
     }
 
     /// How many calls the disk has had.
     pub(crate) fn calls(&self) -> u64 {
-        self.disk.calls()
+        self.disk.disk.calls()
     }
 
     /// What a crash after so many calls may leave, by the pick from 0 to 3.
     pub(crate) fn crashed(&self, calls: u64, pick: u8) -> Result<Quiet, Amiss> {
-        if calls > self.disk.calls() || pick > 3 {
+        let disk = &self.disk.disk;
+        if calls > disk.calls() || pick > 3 {
             return Err(Amiss::NotAsked);
         }
         Ok(Quiet {
-            disk: self.disk.crashed(calls, pick)?,
+            disk: SilentDisk::new(disk.crashed(calls, pick)?),
             holes: self.holes,
-            faults: 0,
         })
     }
 }
@@ -144,56 +147,25 @@ impl Disk for Quiet {
     ghost device = { silent_device };
 
     fn len(&mut self, file: FileId) -> Result<u64, DiskFailed> {
-        match self.disk.len(file) {
-            Ok(len) => Ok(len.saturating_add(hole_before(self.holes, file, len))),
-            Err(failed) => {
-                self.faults = self.faults.saturating_add(1);
-                Err(failed)
-            }
-        }
+        let len = self.disk.len(file)?;
+        Ok(len.saturating_add(hole_before(self.holes, file, len)))
     }
 
     fn read_at(&mut self, file: FileId, at: u64, into: &mut [u8]) -> Result<(), DiskFailed> {
-        match read_around(&mut self.disk, dead_bytes(self.holes, file), file, at, into) {
-            Ok(()) => Ok(()),
-            Err(failed) => {
-                self.faults = self.faults.saturating_add(1);
-                Err(failed)
-            }
-        }
+        read_around(&mut self.disk, dead_bytes(self.holes, file), file, at, into)
     }
 
     fn write_at(&mut self, file: FileId, at: u64, bytes: &[u8]) -> Result<(), DiskFailed> {
-        match self
-            .disk
+        self.disk
             .write_at(file, without(self.holes, file, at), bytes)
-        {
-            Ok(()) => Ok(()),
-            Err(failed) => {
-                self.faults = self.faults.saturating_add(1);
-                Err(failed)
-            }
-        }
     }
 
     fn set_len(&mut self, file: FileId, len: u64) -> Result<(), DiskFailed> {
-        match self.disk.set_len(file, without(self.holes, file, len)) {
-            Ok(()) => Ok(()),
-            Err(failed) => {
-                self.faults = self.faults.saturating_add(1);
-                Err(failed)
-            }
-        }
+        self.disk.set_len(file, without(self.holes, file, len))
     }
 
     fn sync(&mut self, file: FileId) -> Result<(), DiskFailed> {
-        match self.disk.sync(file) {
-            Ok(()) => Ok(()),
-            Err(failed) => {
-                self.faults = self.faults.saturating_add(1);
-                Err(failed)
-            }
-        }
+        self.disk.sync(file)
     }
 
     ghost told = { tells_nothing };

@@ -165,7 +165,7 @@ fn message_words(
     text: &[u8],
 ) -> Result<String, AllocError> {
     let text = words(text);
-    format!(in alloc; "{head:?} {:?} {text};", subfields.as_slice())
+    format!(in alloc; "{head:?} {:?} {text};", subfields.as_bytes())
 }
 
 // A slot of the plain area in words.

@@ -228,14 +228,14 @@ fn stops(alloc: Global, ground: &Ground, row: Row<'_>) -> Result<(), Amiss> {
 }
 
 const ROWS: &str = "\
-Test post 1|0|36|Posted { number: 5 }
-Hello read 1|1|22|1 Test>Hello abc [2:5020/1042 01000001] [] 0/2/0 00800009 \"Good\\r\"
+Test post 1|0|18|Posted { number: 5 }
+Hello read 1|1|12|1 Test>Hello abc [2:5020/1042 01000001] [] 0/2/0 00800009 \"Good\\r\"
 Test peek 4|1|0|4 Test>Hello abc [2:5020/1042 01000004] [2:5020/1042 01000002] 2/0/0 00800001 \"Good\\r\"
-Test kill 1|0|16|Killed { number: 1 }
-Hello mark 2|0|15|Marked { last: 2, high: 2 }
-Test mark 3|0|13|Marked { last: 3, high: 3 }
-Sysop relink|0|19|Relinked { changed: 2 }
-Sysop pack|2|39|Packed { base: 1, live: 3, dropped: 1 }
+Test kill 1|0|10|Killed { number: 1 }
+Hello mark 2|0|10|Marked { last: 2, high: 2 }
+Test mark 3|0|9|Marked { last: 3, high: 3 }
+Sysop relink|0|11|Relinked { changed: 2 }
+Sysop pack|2|16|Packed { base: 1, live: 3, dropped: 1 }
 Test pack|0|0|Denied { rule: A5 }
 Test read 2|0|0|NoMessage { number: 2 }";
 

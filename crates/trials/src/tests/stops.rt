@@ -200,21 +200,21 @@ fn stops_as(alloc: Global, row: &str) -> Result<(), Amiss> {
 // A post, the first reply to a message and a second one; a reading by the receiver and a look; a kill; a new mark and another
 // one.
 const SMALL: &str = "\
-Test post 0;Hello mark 1;Test mark 1|Hello mark 0|13
-|Test post 0|33
-Test post 0|Test post 1|36
-Test post 0;Hello post 1|Test post 1|36
-Test post 0;Test post 0|Hello read 1|23
+Test post 0;Hello mark 1;Test mark 1|Hello mark 0|9
+|Test post 0|17
+Test post 0|Test post 1|18
+Test post 0;Hello post 1|Test post 1|18
+Test post 0;Test post 0|Hello read 1|13
 Test post 0|Test peek 1|1
-Test post 0;Hello post 1|Test kill 1|16
-Test post 0;Test post 0|Test mark 2|15
-Test post 0;Hello mark 1;Test mark 1|Hello mark 0|13";
+Test post 0;Hello post 1|Test kill 1|10
+Test post 0;Test post 0|Test mark 2|10
+Test post 0;Hello mark 1;Test mark 1|Hello mark 0|9";
 
 // Two links change. Three of six messages are killed, a reply to one of them and its own among those that stay; all are killed.
 const WHOLE: &str = "\
-Test post 0;Test post 1;Test post 1;Test post 2;Test kill 2|Sysop relink|19
-Test post 0;Test post 1;Hello private;Test post 2;Test post 0;Test post 4;Test mark 3;Test kill 1;Test kill 2;Test kill 5|Sysop pack|41
-Test post 0;Test post 1;Hello mark 1;Test kill 1;Test kill 2|Sysop pack|28";
+Test post 0;Test post 1;Test post 1;Test post 2;Test kill 2|Sysop relink|11
+Test post 0;Test post 1;Hello private;Test post 2;Test post 0;Test post 4;Test mark 3;Test kill 1;Test kill 2;Test kill 5|Sysop pack|18
+Test post 0;Test post 1;Hello mark 1;Test kill 1;Test kill 2|Sysop pack|15";
 
 #[test]
 fn a_small_command_that_is_stopped_is_done_whole_or_not_at_all(

@@ -47,5 +47,5 @@ returns-in-Some-Live-clause-numbered c = λ new text made numbered files loads.
     ap (λ (s : List LoadedSlot). slice_get s one.place) (sym c.as_slice.ensures) ∙ slice_get-get_or slots one.place slot low
     ∙ ap (λ (s : LoadedSlot). Some s) (sym got ∙ c.in-Some-Live.field-0-is) in
     numbers_linked c.args.redo.now c.put_links.new.redo c.in-Some-Live.message.header_at one.head.reply_to one.head.reply_first one.head.reply_next c.put_links.ensures.header c.put_links.ensures.only files (with_message_behind new from) one.place
-    (made.loads files loads) (ap (option_and_then header_place) (here_behind one.place c.in-Some-Live.message new from found))
+    (made.made files loads).loads (ap (option_and_then header_place) (here_behind one.place c.in-Some-Live.message new from found))
     (length from.slots) new.header_at (last_place from.slots (Live new)) ∙ numbered files loads

@@ -24,6 +24,6 @@ returns-clause-numbered c = λ files loads.
     let linked : Loaded = linked_by c.args.posting.now.neighbour from in
     let updates : Updates c.put_link.new.redo from (with_message_behind message linked) text =
     c.put_link.ensures.makes message text (updates_behind c.put_post.new.redo from message text c.in_ok-put_post.ensures.appends c.in_ok-put_post.ensures.makes) in
-    numbers_counted c.put_link.new.redo c.put_counts.new.redo c.put_counts.ensures.only files (with_message_behind message linked) (updates.makes.loads files loads)
+    numbers_counted c.put_link.new.redo c.put_counts.new.redo c.put_counts.ensures.only files (with_message_behind message linked) (updates.makes.made files loads).loads
     (length linked.slots) message.header_at (last_place linked.slots (Live message))
     ∙ c.put_link.ensures.numbered message text c.in_ok-put_post.ensures.makes c.in_ok-put_post.ensures.numbered files loads

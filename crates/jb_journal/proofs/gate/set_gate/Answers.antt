@@ -3,6 +3,7 @@ use Rattle.jb_disk.specs.declared.file.FileId.TheVariants.{Jnl}
 use Rattle.jb_disk.specs.Files.{written}
 use Rattle.jb_disk.proofs.RunLemmas.{keeps-then, keeps-write, keeps-sync}
 use Rattle.jb_journal.specs.Stages.{IsAtGate}
+use Rattle.jb_journal.proofs.ComingLemmas.{come_then, come_wrote, come_synced}
 use Rattle.jb_journal.proofs.Touching.{gate_torn}
 use Rattle.jb_journal.proofs.OpeningLemmas.{where_told, widens_torn, widens_for_err, widens_synced}
 use Rattle.jb_journal.proofs.Told.{durable_at, on_ok}
@@ -27,3 +28,7 @@ returns-in_err-write_at-clause-wide g c = where_told _ _ (λ now earlier is. wid
 pub returns-clause-wide : goal.returns-clause-wide
 returns-clause-wide g c = where_told _ _ (λ now earlier is. widens_synced Jnl 0 1 (g.D.Disk.device c.args.disk.now) (g.D.Disk.device c.write_at.new.self) (g.D.Disk.device c.sync.new.self) c.sync.result now earlier is
     (g.met.D.Disk.told c.write_at.new.self) c.in_ok-write_at.ensures.crash c.sync.ensures.changed)
+
+pub returns-clause-come : goal.returns-clause-come
+returns-clause-come g c = on_ok c.sync.result _ _ (come_then [] [] [] (Jnl ∷ []) _ _ _ (come_wrote Jnl 0 1 _ _ c.in_ok-write_at.ensures.crash))
+    (come_synced Jnl (g.D.Disk.device c.write_at.new.self) (g.D.Disk.device c.sync.new.self) c.sync.result (g.met.D.Disk.told c.write_at.new.self) (g.met.D.Disk.told c.sync.new.self) c.sync.ensures.changed)

@@ -7,7 +7,7 @@ use Rattle.jb_redo.proofs.WayLemmas.{way_start, replays_to_applied}
 use Rattle.jb_journal.specs.Commit.{ReplaysTo, changed}
 use Rattle.jb_journal.specs.Recover.{ReplaysAs}
 use Rattle.jb_journal.specs.Stages.{closed}
-use Rattle.jb_journal.proofs.FinishLemmas.{closing_run}
+use Rattle.jb_journal.proofs.WriteAndClose.{closing_run}
 use Rattle.jb_journal.proofs.RecoverLemmas.{change_of, opened, way_as, change_as, done_open, shows_way, shows_now, one_told, told_there, told_now, silent_or_told, none_told, redone_told, redone_shut, redone_synced}
 use Rattle.jb_journal.proofs.recovery.redo_record.Goals as goal
 

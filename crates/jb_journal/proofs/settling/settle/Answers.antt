@@ -29,8 +29,8 @@ returns-in_default-clause-crash g c = λ start ready shows.
     let shows1 = keeps.shows shows in
     record { first = doubt_first redo start ready stopped d0 shows; run = doubt_run redo start ready stopped d0 d1 keeps shows }
 
-pub finish-requires-clause-going : goal.finish-requires-clause-going
-finish-requires-clause-going g c =
+pub write_and_close-requires-clause-going : goal.write_and_close-requires-clause-going
+write_and_close-requires-clause-going g c =
     let redo = c.args.redo.now in
     let stopped = c.args.stopped in
     let d1 = g.D.Disk.device c.sync_gate.new.disk in
@@ -38,8 +38,8 @@ finish-requires-clause-going g c =
     (λ files there. let has = c.requires.in_doubt files (sym c.in-Ok.ensures.kept ∙ there) in record { start = has.start; ready = has.ready; shows = (c.sync_gate.ensures.keeps stopped redo has.start).shows has.shows })
     (λ files there. (c.in-Ok.ensures.found files (sym c.in-Ok.ensures.kept ∙ there)).0 c.if-is_open.true)
 
-pub returns-in_default-finish-clause-still : goal.returns-in_default-finish-clause-still
-returns-in_default-finish-clause-still g c = λ start ready shows.
+pub returns-in_default-write_and_close-clause-still : goal.returns-in_default-write_and_close-clause-still
+returns-in_default-write_and_close-clause-still g c = λ start ready shows.
     let redo = c.args.redo.now in
     let stopped = c.args.stopped in
     let d0 = g.D.Disk.device c.args.disk.now in
@@ -51,10 +51,10 @@ returns-in_default-finish-clause-still g c = λ start ready shows.
     let open1 : ForSome d1.contents IsGateOpen = λ files there. (c.in-Ok.ensures.found files (sym c.in-Ok.ensures.kept ∙ there)).0 c.if-is_open.true in
     let going = shows_going redo start ready d1 tells1 stopped shows1 durable1 open1 in
     let is = opened_is redo start ready in
-    shows_late_again redo start ready (g.D.Disk.device c.finish.new.disk) (c.finish.ensures.late (opened redo start) is going)
+    shows_late_again redo start ready (g.D.Disk.device c.write_and_close.new.disk) (c.write_and_close.ensures.late (opened redo start) is going)
 
-pub returns-in_default-finish-clause-crash : goal.returns-in_default-finish-clause-crash
-returns-in_default-finish-clause-crash g c = λ start ready shows.
+pub returns-in_default-write_and_close-clause-crash : goal.returns-in_default-write_and_close-clause-crash
+returns-in_default-write_and_close-clause-crash g c = λ start ready shows.
     let redo = c.args.redo.now in
     let stopped = c.args.stopped in
     let d0 = g.D.Disk.device c.args.disk.now in
@@ -68,7 +68,7 @@ returns-in_default-finish-clause-crash g c = λ start ready shows.
     let is = opened_is redo start ready in
     record {
       first = doubt_first redo start ready stopped d0 shows;
-      run = finish_run redo start ready stopped d0 d1 (g.D.Disk.device c.finish.new.disk) (doubt_run redo start ready stopped d0 d1 keeps shows) (c.finish.ensures.run (opened redo start) is going);
+      run = finish_run redo start ready stopped d0 d1 (g.D.Disk.device c.write_and_close.new.disk) (doubt_run redo start ready stopped d0 d1 keeps shows) (c.write_and_close.ensures.run (opened redo start) is going);
     }
 
 pub returns-then-is_open-clause-crash : goal.returns-then-is_open-clause-crash
@@ -86,7 +86,7 @@ returns-then-is_open-clause-crash g c = λ start ready shows.
     let is = opened_is redo start ready in
     record {
       first = doubt_first redo start ready stopped d0 shows;
-      run = finish_run redo start ready stopped d0 d1 (g.D.Disk.device c.finish.new.disk) (doubt_run redo start ready stopped d0 d1 keeps shows) (c.finish.ensures.run (opened redo start) is going);
+      run = finish_run redo start ready stopped d0 d1 (g.D.Disk.device c.write_and_close.new.disk) (doubt_run redo start ready stopped d0 d1 keeps shows) (c.write_and_close.ensures.run (opened redo start) is going);
     }
 
 pub returns-then-is_open-clause-answer : goal.returns-then-is_open-clause-answer
@@ -102,7 +102,7 @@ returns-then-is_open-clause-answer g c = λ start ready shows.
     let open1 : ForSome d1.contents IsGateOpen = λ files there. (c.in-Ok.ensures.found files (sym c.in-Ok.ensures.kept ∙ there)).0 c.if-is_open.true in
     let going = shows_going redo start ready d1 tells1 stopped shows1 durable1 open1 in
     let is = opened_is redo start ready in
-    shows_finished redo start ready d1.contents (g.D.Disk.device c.finish.new.disk) (g.met.D.Disk.told c.finish.new.disk) (c.in-Ok-finish.ensures.done (opened redo start) is going) (c.in-Ok-finish.ensures.synced (opened redo start) is going)
+    shows_finished redo start ready d1.contents (g.D.Disk.device c.write_and_close.new.disk) (g.met.D.Disk.told c.write_and_close.new.disk) (c.in-Ok-write_and_close.ensures.done (opened redo start) is going) (c.in-Ok-write_and_close.ensures.synced (opened redo start) is going)
 
 pub returns-then-is_open-clause-durable : goal.returns-then-is_open-clause-durable
 returns-then-is_open-clause-durable g c = λ start ready shows.
@@ -117,7 +117,7 @@ returns-then-is_open-clause-durable g c = λ start ready shows.
     let open1 : ForSome d1.contents IsGateOpen = λ files there. (c.in-Ok.ensures.found files (sym c.in-Ok.ensures.kept ∙ there)).0 c.if-is_open.true in
     let going = shows_going redo start ready d1 tells1 stopped shows1 durable1 open1 in
     let is = opened_is redo start ready in
-    c.in-Ok-finish.ensures.synced (opened redo start) is going
+    c.in-Ok-write_and_close.ensures.synced (opened redo start) is going
 
 pub returns-in_default-make_head-clause-still : goal.returns-in_default-make_head-clause-still
 returns-in_default-make_head-clause-still g c = λ start ready shows.

@@ -2,8 +2,8 @@ use Rattle.std.proofs.Common.{◌∙◌, sym}
 use Rattle.jb_load.proofs.BaseLemmas.{base_made}
 use Rattle.jb_load.proofs.making.make.Goals as goal
 
-pub write_header-requires : goal.write_header-requires
-write_header-requires g c = λ files there. c.requires.empty files (sym c.in_ok-sync_all.ensures.kept ∙ there)
+pub write_header-requires-clause-empty : goal.write_header-requires-clause-empty
+write_header-requires-clause-empty g c = λ files there. c.requires.empty files (sym c.in_ok-sync_all.ensures.kept ∙ there)
 
 pub returns-in-Ok-clause-made : goal.returns-in-Ok-clause-made
 returns-in-Ok-clause-made g c =

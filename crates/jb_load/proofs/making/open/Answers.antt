@@ -9,13 +9,13 @@ use Rattle.jb_load.proofs.making.open.Goals as goal
 
 pub from_loaded-requires-clause-rests : goal.from_loaded-requires-clause-rests
 from_loaded-requires-clause-rests g c = λ files there.
-    subst (λ (l : Loaded). IsAtRest l (files Jdt) files) (sym c.in-Ok.ensures) (empty_rests files (c.requires.made files there))
+    subst (λ (l : Loaded). IsAtRest l (files Jdt) files) (sym c.requires.loaded) (empty_rests files (c.requires.made files there))
 
 pub returns-in-Ok-from_loaded-clause-empty : goal.returns-in-Ok-from_loaded-clause-empty
 returns-in-Ok-from_loaded-clause-empty g c =
     let contents = (g.D.Disk.device c.args.disk).contents in
     record {
       texts = [];
-      rests = c.in-Ok-from_loaded.ensures.rests [] (subst (λ (l : Loaded). AreTexts l [] contents) (sym c.in-Ok.ensures) (empty_texts contents c.requires.made));
-      is = ap (λ (l : Loaded). state_of [] l) (c.in-Ok-from_loaded.ensures.loaded ∙ c.in-Ok.ensures);
+      rests = c.in-Ok-from_loaded.ensures.rests [] (subst (λ (l : Loaded). AreTexts l [] contents) (sym c.requires.loaded) (empty_texts contents c.requires.made));
+      is = ap (λ (l : Loaded). state_of [] l) (c.in-Ok-from_loaded.ensures.loaded ∙ c.requires.loaded);
     }

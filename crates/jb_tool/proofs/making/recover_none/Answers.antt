@@ -3,8 +3,7 @@ use Rattle.std.specs.Prelude.{Bool, Err, IfErr}
 use Rattle.std.proofs.lemmas.Result.{err_from_is_err_and}
 use Rattle.jb_tool.proofs.MakingLemmas.{refused_recovery}
 use Rattle.jb_tool.proofs.Recovering.{crash_then, recovered}
-use Rattle.jb_tool.specs.Making.{AreShutAndEmpty, IsFoundEmpty, RefusesMaking}
-use Rattle.jb_tool.specs.NewBase.{HoldSomething}
+use Rattle.jb_tool.specs.Making.{AreShutAndEmpty, HoldSomething, IsFoundEmpty, RefusesMaking}
 use Rattle.jb_tool.specs.declared.error.ToolError.{ToolError}
 use Rattle.jb_tool.proofs.making.recover_none.Goals as goal
 

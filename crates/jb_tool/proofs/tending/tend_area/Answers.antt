@@ -3,7 +3,7 @@ use Rattle.std.specs.Prelude.{Ok, Err}
 use Rattle.jb_area.specs.Calls.{BeginsCall}
 use Rattle.jb_base.specs.declared.user.User.{User}
 use Rattle.jb_tool.proofs.CommandLemmas.{command_done, command_dropped, command_stopped, not_begun}
-use Rattle.jb_tool.specs.Changing.{ChangesArea}
+use Rattle.jb_tool.specs.Changing.{DoesCommand}
 use Rattle.jb_tool.specs.declared.error.ToolError.{ToolError}
 use Rattle.jb_tool.proofs.tending.tend_area.Goals as goal
 
@@ -11,7 +11,7 @@ pub returns-in-Err : goal.returns-in-Err
 returns-in-Err g c =
     let shown = g.D.Disk.device in
     let begins = subst (λ (u : User). BeginsCall shown c.args.area.now c.begin.new.self u 0 c.args.command.now (Err c.in-Err.error)) c.requires.user c.in-Err.ensures.begins in
-    subst (λ (e : ToolError). ChangesArea shown c.args.command.now c.args.area.now c.begin.new.self (Err e)) (sym c.of_area.ensures)
+    subst (λ (e : ToolError). DoesCommand shown c.args.command.now c.args.area.now c.begin.new.self (Err e)) (sym c.of_area.ensures)
     (not_begun shown c.args.command.now c.args.area.now c.begin.new.self c.in-Err.error begins)
 
 pub returns-in-Ok-finish : goal.returns-in-Ok-finish

@@ -11,7 +11,7 @@ use Rattle.jb_disk.proofs.memory.MemDisk.left.Goals as goal
 
 pub returns : goal.returns
 returns c =
-    let disk : Recording = record { first = c.self.inside.first; calls = c.self.inside.calls.items; faults = c.self.inside.faults } in
+    let disk : Recording = record { first = c.self.inside.first; calls = c.self.inside.calls.items; faults = c.self.inside.faults; failing = c.self.inside.failing.items } in
     let which : listed disk.first c.args.file ≡ c.as_slice-first.result.now = search (rules, common_steps) in
     let followed : HasFollowed c.args.file c.as_slice-first.result.now (take c.args.after disk.calls) c.in_ok-trace.trace =
     subst (λ (l : List Call). HasFollowed c.args.file c.as_slice-first.result.now (take c.args.after l) c.in_ok-trace.trace) c.deref.ensures.value c.in_ok-trace.ensures in

@@ -20,4 +20,4 @@ invariant_of-self-else-is_err c =
 pub returns-clause-changed : goal.returns-clause-changed
 returns-clause-changed c =
     let so : not c.fails-fails.result ≡ true = search rules in
-    resizes _ c.args.self.now c.self.inside.first c.self.inside.calls.items c.note.new.calls.items c.self.inside.faults c.note.new.faults c.args.file c.args.len _ c.self.view_is so c.in_ok-note.ensures.ok
+    resizes _ c.args.self.now c.self.inside.first c.self.inside.failing.items c.self.inside.calls.items c.note.new.calls.items c.self.inside.faults c.note.new.faults c.args.file c.args.len _ c.self.view_is so c.in_ok-note.ensures.ok

@@ -7,7 +7,7 @@ use Rattle.jb_disk.proofs.memory.MemDiskDisk.write_at.Goals as goal
 pub returns-clause-changed : goal.returns-clause-changed
 returns-clause-changed c =
     let size : length c.in-Ok.copy.items ≡ length c.args.bytes.now = search rules in
-    tears _ c.args.self.now c.self.inside.first c.self.inside.calls.items c.note.new.calls.items c.self.inside.faults c.note.new.faults c.args.file c.args.at c.in-Ok.copy (length c.args.bytes.now) _ c.self.view_is size c.in_ok-note.ensures.ok
+    tears _ c.args.self.now c.self.inside.first c.self.inside.failing.items c.self.inside.calls.items c.note.new.calls.items c.self.inside.faults c.note.new.faults c.args.file c.args.at c.in-Ok.copy (length c.args.bytes.now) _ c.self.view_is size c.in_ok-note.ensures.ok
 
 pub invariant_of-self-2 : goal.invariant_of-self-2
 invariant_of-self-2 c =

@@ -19,4 +19,5 @@ returns-clause-ok c =
       calls = Some (map (λ (call : DiskCall). asked_disk call.dir call.name) old.calls.items);
       disks = Some d;
       console = option_map memory_wire old.console;
+      reading = Some old.reading;
     }) disks

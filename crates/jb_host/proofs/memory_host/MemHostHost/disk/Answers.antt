@@ -16,6 +16,7 @@ returns-then-contains-clause-err c =
     (ap (λ (v : Vec Shelf Global). Some (shelved v.items)) (c.fault.ensures.shelves ∙ c.note.ensures.shelves))
     (ap (λ (v : Vec DiskCall Global). Some (map (λ (call : DiskCall). asked_disk call.dir call.name) v.items)) c.fault.ensures.calls ∙ c.in_ok-note.ensures.ok)
     (ap (option_map memory_wire) (c.fault.ensures.console ∙ c.note.ensures.console))
+    (ap (λ (n : ℕ). Some n) (c.fault.ensures.reading ∙ c.note.ensures.reading))
     (omega (arith, c.note.ensures.faults, c.fault.ensures.later))
     (subst (λ (n : ℕ). Rose n c.fault.new.self.faults) c.note.ensures.faults c.fault.ensures.rose)
 
@@ -26,5 +27,6 @@ returns-in-None-clause-err c =
     (ap (λ (v : Vec Shelf Global). Some (shelved v.items)) c.fault-in-None.ensures.shelves ∙ ap (λ (l : List Shelf). Some (shelved l)) none ∙ ap (λ (v : Vec Shelf Global). Some (shelved v.items)) c.note.ensures.shelves)
     (ap (λ (v : Vec DiskCall Global). Some (map (λ (call : DiskCall). asked_disk call.dir call.name) v.items)) c.fault-in-None.ensures.calls ∙ c.in_ok-note.ensures.ok)
     (ap (option_map memory_wire) (c.fault-in-None.ensures.console ∙ c.note.ensures.console))
+    (ap (λ (n : ℕ). Some n) (c.fault-in-None.ensures.reading ∙ c.note.ensures.reading))
     (omega (arith, c.note.ensures.faults, c.fault-in-None.ensures.later))
     (subst (λ (n : ℕ). Rose n c.fault-in-None.new.self.faults) c.note.ensures.faults c.fault-in-None.ensures.rose)

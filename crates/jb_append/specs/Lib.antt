@@ -1,4 +1,0 @@
-pub mod Behind
-pub mod Laws
-pub mod NewMark
-pub mod Post

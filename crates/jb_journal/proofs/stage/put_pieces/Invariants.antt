@@ -1,9 +1,0 @@
-use Rattle.std.proofs.Common.{drop}
-use Rattle.std.specs.List.{flat_map}
-use Rattle.jb_redo.specs.Record.{piece_bytes}
-use Rattle.jb_journal.proofs.PutsLemmas.{Writing}
-use Rattle.jb_journal.proofs.stage.put_pieces.Given as goal
-
-abbrev pub invariant-loop-k : goal.invariant-loop-k
-invariant-loop-k g l =
-    Writing (g.D.Disk.device l.initial.disk) (g.D.Disk.device l.disk) l.at l.place (flat_map piece_bytes l.redo.pieces) (flat_map piece_bytes (drop l.k l.redo.pieces))
