@@ -1,0 +1,20 @@
+use Rattle.std.proofs.Common.{◌≡◌, ◌+◌, ◌-◌, ◌≤◌, List, None, drop, length}
+use Rattle.jb_host.specs.Wire.{Wire}
+use Rattle.jb_shared.specs.Passes.{PassView}
+use Rattle.jb_talk.specs.Talking.{Hands}
+use Rattle.jb_session.specs.Exchanges.{AreOf}
+use Rattle.jb_session.specs.Served.{Stands}
+use Rattle.jb_session.proofs.session.take.Given as goal
+
+abbrev pub invariant-loop-at : goal.invariant-loop-at
+invariant-loop-at g l =
+    (l.at ≤ length l.piece)
+    × AreOf l.areas l.passes
+    × (g.C.Clock.reading l.clock ≡ g.C.Clock.reading l.fn.clock)
+    × Hands l.board l.talk None
+    × (l.talk.taken ≡ l.fn.talk.taken + l.at)
+    × ((old now : Wire) (from : List PassView) → Stands (g.C.Clock.reading l.fn.clock) l.board old from now l.piece l.fn.talk None l.fn.passes
+    → Stands (g.C.Clock.reading l.fn.clock) l.board old from now (drop l.at l.piece) l.talk None l.passes)
+
+abbrev pub decreases-loop-at : goal.decreases-loop-at
+decreases-loop-at g l = length l.piece - l.at

@@ -1,0 +1,84 @@
+-- One session over a link.
+use Rattle.std.specs.Prelude.{◌≡◌, ◌⊎◌, ℕ, ◌+◌, ◌≤◌, List, [], ◌++◌, length, Option, None}
+use Rattle.std.specs.Option.{ForSome, option_to_list}
+use Rattle.jb_base.specs.Fault.{Rose}
+use Rattle.jb_base.specs.declared.limits.TheConstants.{MOST_SESSION_BYTES}
+use Rattle.jb_conf.specs.declared.board.Board.{Board}
+use Rattle.jb_host.specs.Wire.{Wire, Sends, Takes}
+use Rattle.jb_menu.specs.declared.given.Given.{Given}
+use Rattle.jb_shared.specs.Passes.{PassView}
+use Rattle.jb_talk.specs.Conversations.{Talks}
+use Rattle.jb_talk.specs.Laws.{IsFront}
+use Rattle.jb_talk.specs.Talking.{HasTalked, Talking}
+use Rattle.jb_talk.specs.declared.request.Request.{Request}
+use Rattle.jb_talk.specs.declared.standing.TalkEnd.{TalkEnd}
+use Rattle.jb_talk.specs.declared.standing.TalkEnd.TheVariants as talk
+use Rattle.jb_session.specs.Exchanges.{Exchange, Passed, PassedLast, answers_of, asks_of}
+use Rattle.jb_session.specs.declared.end.SessionEnd.{SessionEnd}
+use Rattle.jb_session.specs.declared.end.SessionEnd.TheVariants.{Quit, Hangup, LoginRefused, LinkFault, Spent, OutOfMemory}
+
+-- no count of the link fell
+pub record Later (old new : Wire) : Type 0 where
+  pub faults : old.faults ≤ new.faults
+  pub ends : old.ends ≤ new.ends
+  pub unsent : old.unsent ≤ new.unsent
+
+-- all that the conversation says was sent and asked
+pub record SaysAll (board : Board) (taken : List ℕ) (answers : List Given) (out : List ℕ) (asked : List Request) : Type 0 where
+  pub end : TalkEnd
+  pub talks : Talks board taken answers out asked end
+
+-- a beginning of it was
+pub record SaysSome (board : Board) (taken : List ℕ) (answers : List Given) (out : List ℕ) (asked : List Request) : Type 0 where
+  pub all : List ℕ
+  pub every : List Request
+  pub says : SaysAll board taken answers all every
+  pub sent : IsFront out all
+  pub made : IsFront asked every
+
+-- how a session ended, and why: what it took, was answered, sent and asked, and the link before and after
+abbrev pub EndsAs : Board → SessionEnd → Wire → Wire → List ℕ → List Given → List ℕ → List Request → Type 0
+EndsAs board Quit old new taken answers out asked = Talks board taken answers out asked talk.Quit
+EndsAs board LoginRefused old new taken answers out asked = Talks board taken answers out asked talk.LoginRefused
+EndsAs board Spent old new taken answers out asked = Talks board taken answers out asked talk.Spent
+EndsAs board Hangup old new taken answers out asked =
+    Talks board taken answers out asked talk.Hangup × Rose old.ends new.ends × ForSome new.to_come (λ bytes. bytes ≡ [])
+EndsAs board LinkFault old new taken answers out asked =
+    SaysSome board taken answers out asked × Rose old.faults new.faults × (Rose old.unsent new.unsent ⊎ SaysAll board taken answers out asked)
+EndsAs board OutOfMemory old new taken answers out asked = SaysSome board taken answers out asked
+
+-- a request stays without an answer only where memory was wanting
+abbrev pub MayLack : SessionEnd → Option Request → Type 0
+MayLack OutOfMemory last = Unit
+MayLack _ last = last ≡ None
+
+module _ (reading : Option ℕ) (board : Board) where
+  -- a session from its greeting to its end, with a clock that shows this reading: the bytes taken, the requests and their
+  -- answers on the passes, and the bytes sent
+  pub record Served (old : Wire) (from : List PassView) (end : SessionEnd) (new : Wire) (to : List PassView) : Type 0 where
+    pub taken : List ℕ
+    pub within : length taken ≤ MOST_SESSION_BYTES
+    pub takes : Takes old.to_come taken new.to_come
+    pub exchanges : List Exchange
+    pub mid : List PassView
+    pub passed : Passed reading board from exchanges mid
+    pub last : Option Request
+    pub lacks : PassedLast reading board mid last to
+    pub only : MayLack end last
+    pub out : List ℕ
+    pub sends : Sends old.sent out new.sent
+    pub later : Later old new
+    pub ends : EndsAs board end old new taken (answers_of exchanges) out (asks_of exchanges ++ option_to_list last)
+
+  -- a session in its middle: of the bytes taken, the talk has heard all but the rest, and what it has handed out was sent and
+  -- asked, but for the next request
+  pub record Stands (old : Wire) (from : List PassView) (now : Wire) (rest : List ℕ) (talking : Talking) (next : Option Request) (to : List PassView) : Type 0 where
+    pub heard : List ℕ
+    pub within : length heard + length rest ≤ MOST_SESSION_BYTES
+    pub takes : Takes old.to_come (heard ++ rest) now.to_come
+    pub exchanges : List Exchange
+    pub passed : Passed reading board from exchanges to
+    pub out : List ℕ
+    pub sends : Sends old.sent out now.sent
+    pub later : Later old now
+    pub talked : HasTalked board talking heard (answers_of exchanges) out (asks_of exchanges ++ option_to_list next)

@@ -1,0 +1,135 @@
+//! One request, done on the area that it asks.
+ghost use Rattle.std.specs.Prelude.{◌≡◌, ◌<◌, ◌≤◌, ℕ, Option, false, length, IfOk, OnErr};
+ghost use Rattle.jb_base.specs.declared.limits.TheConstants.{MOST_NAME_BYTES};
+ghost use Rattle.jb_conf.specs.InRange.{IsInRange};
+ghost use Rattle.jb_shared.specs.Areas.{IsOf};
+ghost use Rattle.jb_talk.specs.Asking.{is_line};
+ghost use Rattle.jb_talk.specs.declared.request.Act.{Act};
+ghost use Rattle.jb_session.specs.Exchanges.{AreOf, Exchanged, Gives, Lacks, Wants};
+
+use jb_base::{OutOfMemory, User};
+use jb_conf::Board;
+use jb_disk::Disk;
+use jb_host::Clock;
+use jb_menu::Given;
+use jb_model::{Barred, Command, LookError, Question, SharedFault};
+use jb_shared::{Pass, SharedArea, SharedError};
+use jb_talk::{Act, Request};
+use std::alloc::Global;
+use std::sync::Wait;
+
+/// Asks a command, at the moment that the clock shows.
+fn call<R: Wait, D: Disk, C: Clock>(
+    rt: &R,
+    alloc: Global,
+    area: &SharedArea<D>,
+    pass: &mut Pass,
+    clock: &mut C,
+    user: &User,
+    command: &Command,
+) -> Result<Given, OutOfMemory>
+    requires ours { IsOf area.now pass.old }
+    requires name { length user.now.name ≤ MOST_NAME_BYTES }
+    ensures ours { IsOf area.now pass.new }
+    ensures clock { C.reading clock.new ≡ C.reading clock.old }
+    ensures ok { IfOk result (λ given. Gives (C.reading clock.old) user.now (Act.Ask command.now) pass.old.known pass.new.known given) }
+    ensures err { OnErr result (Wants (C.reading clock.old) user.now (Act.Ask command.now) pass.old.known pass.new.known) }
+{
+    let moment = clock.now();
+    match area.call(rt, alloc, pass, user, moment, command) {
+        Ok(reply) => Ok(Given::Reply(reply)),
+        Err(SharedError::StoreFault) => Ok(Given::Fault(SharedFault::StoreFault)),
+        Err(SharedError::RunSpent) => Ok(Given::Fault(SharedFault::RunSpent)),
+        Err(SharedError::OutOfMemory) => Err(OutOfMemory),
+    }
+}
+
+/// Asks a question.
+fn look<R: Wait, D: Disk>(
+    rt: &R,
+    alloc: Global,
+    area: &SharedArea<D>,
+    pass: &mut Pass,
+    user: &User,
+    question: &Question,
+) -> Result<Given, OutOfMemory>
+    requires ours { IsOf area.now pass.old }
+    ensures ours { IsOf area.now pass.new }
+    ensures ok { (reading : Option ℕ) → IfOk result (λ given. Gives reading user.now (Act.Look question.now) pass.old.known pass.new.known given) }
+    ensures err { (reading : Option ℕ) → OnErr result (Wants reading user.now (Act.Look question.now) pass.old.known pass.new.known) }
+{
+    match area.look(rt, alloc, pass, user, question) {
+        Ok(answer) => Ok(Given::Answer(answer)),
+        Err(LookError::Barred) => Ok(Given::Fault(SharedFault::Barred)),
+        Err(LookError::OutOfMemory) => Err(OutOfMemory),
+    }
+}
+
+/// Counts what is unread.
+fn count<R: Wait, D: Disk>(rt: &R, area: &SharedArea<D>, pass: &mut Pass, user: &User) -> Given
+    requires ours { IsOf area.now pass.old }
+    ensures ours { IsOf area.now pass.new }
+    ensures ok { (reading : Option ℕ) → Gives reading user.now Act.Count pass.old.known pass.new.known result }
+{
+    match area.unread_count(rt, pass, user) {
+        Ok(unread) => Given::Count(unread),
+        Err(Barred) => Given::Fault(SharedFault::Barred),
+    }
+}
+
+/// Does on an area what the user asks.
+fn act<R: Wait, D: Disk, C: Clock>(
+    rt: &R,
+    alloc: Global,
+    area: &SharedArea<D>,
+    pass: &mut Pass,
+    clock: &mut C,
+    user: &User,
+    act: &Act,
+) -> Result<Given, OutOfMemory>
+    requires ours { IsOf area.now pass.old }
+    requires name { length user.now.name ≤ MOST_NAME_BYTES }
+    ensures ours { IsOf area.now pass.new }
+    ensures clock { C.reading clock.new ≡ C.reading clock.old }
+    ensures ok { IfOk result (λ given. Gives (C.reading clock.old) user.now act.now pass.old.known pass.new.known given) }
+    ensures err { OnErr result (Wants (C.reading clock.old) user.now act.now pass.old.known pass.new.known) }
+{
+    match act {
+        Act::Ask(command) => call(rt, alloc, area, pass, clock, user, command),
+        Act::Look(question) => look(rt, alloc, area, pass, user, question),
+        Act::Count => Ok(count(rt, area, pass, user)),
+    }
+}
+
+/// Does a request on the area that it asks, on its pass. A fault of the area is an answer too; without memory there is none.
+pub(crate) fn exchange<R: Wait, D: Disk, C: Clock>(
+    rt: &R,
+    alloc: Global,
+    board: &Board,
+    areas: &[SharedArea<D>],
+    passes: &mut [Pass],
+    clock: &mut C,
+    request: &Request,
+) -> Result<Given, OutOfMemory>
+    requires board { IsInRange board.now }
+    requires user { request.now.user < length board.now.users }
+    requires area { request.now.area < length areas.now }
+    requires ours { AreOf areas.now passes.old }
+    ensures ours { AreOf areas.now passes.new }
+    ensures clock { C.reading clock.new ≡ C.reading clock.old }
+    ensures answer { IfOk result (λ given. is_line given ≡ false) }
+    ensures ok { IfOk result (λ given. Exchanged (C.reading clock.old) board.now (record { request = request.now; given = given }) passes.old passes.new) }
+    ensures err { OnErr result (Lacks (C.reading clock.old) board.now request.now passes.old passes.new) }
+{
+    let user = &board.users.as_slice()[request.user as usize].user;
+    let k = request.area as usize;
+    act(
+        rt,
+        alloc,
+        &areas[k],
+        &mut passes[k],
+        clock,
+        user,
+        &request.act,
+    )
+}

@@ -1,0 +1,215 @@
+//! The loop of a session: what is owed is sent, a piece is read and heard, and what it asks of the areas is answered.
+ghost use Rattle.std.specs.Prelude.{◌≡◌, ◌+◌, ◌<◌, ◌≤◌, ℕ, List, [], None, Option, Some, false, true, IfErr, IfOk, OnErr, OnOk, length};
+ghost use Rattle.std.specs.Option.{is_some};
+ghost use Rattle.jb_base.specs.declared.limits.TheConstants.{MOST_SESSION_BYTES};
+ghost use Rattle.jb_conf.specs.InRange.{IsInRange};
+ghost use Rattle.jb_host.specs.Wire.{Wire};
+ghost use Rattle.jb_shared.specs.Passes.{PassView};
+ghost use Rattle.jb_talk.specs.Asking.{most_asked};
+ghost use Rattle.jb_talk.specs.Talking.{Hands, most_wanted};
+ghost use Rattle.jb_talk.specs.declared.request.Request.{Request};
+ghost use Rattle.jb_session.specs.Exchanges.{AreOf};
+ghost use Rattle.jb_session.specs.Served.{Served, Stands};
+
+use crate::end::{SessionEnd, ended};
+use crate::exchange::exchange;
+use crate::sending::{read_piece, send_owed};
+use jb_base::OutOfMemory;
+use jb_conf::Board;
+use jb_disk::Disk;
+use jb_host::{Clock, Link};
+use jb_shared::{Pass, SharedArea};
+use jb_talk::{MOST_PIECE_BYTES, Request, Talk, conversations_are_one};
+use std::alloc::Global;
+use std::sync::Wait;
+
+/// Does a request, and tells the talk the answer. Gives the request that follows.
+fn respond<R: Wait, D: Disk, C: Clock>(
+    rt: &R,
+    alloc: Global,
+    board: &Board,
+    areas: &[SharedArea<D>],
+    passes: &mut [Pass],
+    clock: &mut C,
+    talk: &mut Talk,
+    request: &Request,
+) -> Result<Option<Request>, OutOfMemory>
+    requires board { IsInRange board.now }
+    requires areas { length areas.now ≡ length board.now.areas }
+    requires ours { AreOf areas.now passes.old }
+    requires hands { Hands board.now talk.old (Some request.now) }
+    ensures ours { AreOf areas.now passes.new }
+    ensures clock { C.reading clock.new ≡ C.reading clock.old }
+    ensures hands { IfOk result (λ next. Hands board.now talk.new next) }
+    ensures counted { OnOk result (talk.new.taken ≡ talk.old.taken) }
+    ensures fewer { IfOk result (λ next. is_some next ≡ true
+        → most_asked board.now talk.new.place.menu < most_asked board.now talk.old.place.menu) }
+
+    // What was said and asked, and how the session ends where memory is wanting.
+    ensures ok { IfOk result (λ next. (old now : Wire) (from : List PassView) (rest : List ℕ)
+        → Stands (C.reading clock.old) board.now old from now rest talk.old (Some request.now) passes.old
+        → Stands (C.reading clock.old) board.now old from now rest talk.new next passes.new) }
+    ensures err { OnErr result ((old now : Wire) (from : List PassView) (rest : List ℕ)
+        → Stands (C.reading clock.old) board.now old from now rest talk.old (Some request.now) passes.old
+        → Served (C.reading clock.old) board.now old from SessionEnd.OutOfMemory now passes.new) }
+{
+    conversations_are_one();
+    let given = exchange(rt, alloc, board, areas, passes, clock, request)?;
+    talk.answer(alloc, board, &given)
+}
+
+/// Does a request, where there is one, and all that follow.
+fn respond_all<R: Wait, D: Disk, C: Clock>(
+    rt: &R,
+    alloc: Global,
+    board: &Board,
+    areas: &[SharedArea<D>],
+    passes: &mut [Pass],
+    clock: &mut C,
+    talk: &mut Talk,
+    first: Option<Request>,
+) -> Result<(), OutOfMemory>
+    requires board { IsInRange board.now }
+    requires areas { length areas.now ≡ length board.now.areas }
+    requires ours { AreOf areas.now passes.old }
+    requires hands { Hands board.now talk.old first }
+    ensures ours { AreOf areas.now passes.new }
+    ensures clock { C.reading clock.new ≡ C.reading clock.old }
+    ensures hands { OnOk result (Hands board.now talk.new None) }
+    ensures counted { OnOk result (talk.new.taken ≡ talk.old.taken) }
+
+    // What was said and asked, and how the session ends where memory is wanting.
+    ensures ok { OnOk result ((old now : Wire) (from : List PassView) (rest : List ℕ)
+        → Stands (C.reading clock.old) board.now old from now rest talk.old first passes.old
+        → Stands (C.reading clock.old) board.now old from now rest talk.new None passes.new) }
+    ensures err { OnErr result ((old now : Wire) (from : List PassView) (rest : List ℕ)
+        → Stands (C.reading clock.old) board.now old from now rest talk.old first passes.old
+        → Served (C.reading clock.old) board.now old from SessionEnd.OutOfMemory now passes.new) }
+{
+    let mut next = first;
+    while let Some(request) = next {
+        next = respond(rt, alloc, board, areas, passes, clock, talk, &request)?;
+    }
+    Ok(())
+}
+
+/// Hears a piece, and does all that it asks of the areas.
+fn take<R: Wait, D: Disk, C: Clock>(
+    rt: &R,
+    alloc: Global,
+    board: &Board,
+    areas: &[SharedArea<D>],
+    passes: &mut [Pass],
+    clock: &mut C,
+    talk: &mut Talk,
+    piece: &[u8],
+) -> Result<(), OutOfMemory>
+    requires board { IsInRange board.now }
+    requires areas { length areas.now ≡ length board.now.areas }
+    requires ours { AreOf areas.now passes.old }
+    requires hands { Hands board.now talk.old None }
+    requires room { talk.old.taken + length piece.now ≤ MOST_SESSION_BYTES }
+    ensures ours { AreOf areas.now passes.new }
+    ensures clock { C.reading clock.new ≡ C.reading clock.old }
+    ensures hands { OnOk result (Hands board.now talk.new None) }
+    ensures counted { OnOk result (talk.new.taken ≡ talk.old.taken + length piece.now) }
+
+    // What was said and asked, and how the session ends where memory is wanting.
+    ensures ok { OnOk result ((old now : Wire) (from : List PassView)
+        → Stands (C.reading clock.old) board.now old from now piece.now talk.old None passes.old
+        → Stands (C.reading clock.old) board.now old from now [] talk.new None passes.new) }
+    ensures err { OnErr result ((old now : Wire) (from : List PassView)
+        → Stands (C.reading clock.old) board.now old from now piece.now talk.old None passes.old
+        → Served (C.reading clock.old) board.now old from SessionEnd.OutOfMemory now passes.new) }
+{
+    conversations_are_one();
+    let mut at = 0;
+    while at < piece.len() {
+        let heard = talk.hear(alloc, board, &piece[at..])?;
+        at += heard.taken;
+        respond_all(rt, alloc, board, areas, passes, clock, talk, heard.request)?;
+    }
+    Ok(())
+}
+
+/// Reads a piece, does what it leads to, and sends what is owed then; or ends the session.
+fn turn<R: Wait, D: Disk, L: Link, C: Clock>(
+    rt: &R,
+    alloc: Global,
+    board: &Board,
+    areas: &[SharedArea<D>],
+    passes: &mut [Pass],
+    link: &mut L,
+    clock: &mut C,
+    talk: &mut Talk,
+) -> Result<(), SessionEnd>
+    requires board { IsInRange board.now }
+    requires areas { length areas.now ≡ length board.now.areas }
+    requires ours { AreOf areas.now passes.old }
+    requires hands { Hands board.now talk.old None }
+    requires wants { 0 < most_wanted talk.old }
+    ensures ours { AreOf areas.now passes.new }
+    ensures clock { C.reading clock.new ≡ C.reading clock.old }
+    ensures hands { OnOk result (Hands board.now talk.new None) }
+    ensures taken { OnOk result ((talk.old.taken < talk.new.taken) × (talk.new.taken ≤ MOST_SESSION_BYTES)) }
+    ensures owed { OnOk result (talk.new.owed ≡ []) }
+
+    // What was said and asked, and how the session ends.
+    ensures ok { OnOk result ((old : Wire) (from : List PassView)
+        → Stands (C.reading clock.old) board.now old from (L.wire link.old) [] talk.old None passes.old
+        → Stands (C.reading clock.old) board.now old from (L.wire link.new) [] talk.new None passes.new) }
+    ensures err { IfErr result (λ end. (old : Wire) (from : List PassView)
+        → Stands (C.reading clock.old) board.now old from (L.wire link.old) [] talk.old None passes.old
+        → Served (C.reading clock.old) board.now old from end (L.wire link.new) passes.new) }
+{
+    conversations_are_one();
+    let mut buffer = [0u8; MOST_PIECE_BYTES];
+    let Ok(n) = read_piece(link, &mut buffer, talk.wants()) else {
+        return Err(SessionEnd::LinkFault);
+    };
+    if n == 0 {
+        return Err(SessionEnd::Hangup);
+    }
+    let Ok(()) = take(rt, alloc, board, areas, passes, clock, talk, &buffer[..n]) else {
+        return Err(SessionEnd::OutOfMemory);
+    };
+    let Ok(()) = send_owed(link, talk) else {
+        return Err(SessionEnd::LinkFault);
+    };
+    Ok(())
+}
+
+/// Serves one caller, from the greeting to the end, on the passes of a node: one for each area of the board, in order.
+///
+/// All that is owed is sent before more is read, and no more is read than one session takes. A fault of an area is said, and
+/// the session goes on; after a fault of the link or without memory nothing more is sent.
+pub fn serve_session<R: Wait, D: Disk, L: Link, C: Clock>(
+    rt: &R,
+    alloc: Global,
+    board: &Board,
+    areas: &[SharedArea<D>],
+    passes: &mut [Pass],
+    link: &mut L,
+    clock: &mut C,
+) -> SessionEnd
+    requires board { IsInRange board.now }
+    requires areas { length areas.now ≡ length board.now.areas }
+    requires ours { AreOf areas.now passes.old }
+    ensures ours { AreOf areas.now passes.new }
+    ensures clock { C.reading clock.new ≡ C.reading clock.old }
+    ensures served { Served (C.reading clock.old) board.now (L.wire link.old) passes.old result (L.wire link.new) passes.new }
+{
+    conversations_are_one();
+    let Ok(mut talk) = Talk::start(alloc, board) else {
+        return SessionEnd::OutOfMemory;
+    };
+    let Ok(()) = send_owed(link, &mut talk) else {
+        return SessionEnd::LinkFault;
+    };
+    while talk.wants() > 0 {
+        if let Err(end) = turn(rt, alloc, board, areas, passes, link, clock, &mut talk) {
+            return end;
+        }
+    }
+    ended(talk.end())
+}
