@@ -67,6 +67,7 @@ module _ {D : Type 0} (shown : D → Device) where
       faults = omega arith;
       told = same_told (device_of shown area).contents;
       at = (rest.texts, rest.rests, refl);
+      kind = refl;
       leads = λ t. ap (λ (texts : List ℕ). Settled (state_of texts (loaded_of area))) (told_texts (device_of shown area).contents (loaded_of area) rest.texts t rest.rests.kept.settled.rests);
     },
   )

@@ -1,6 +1,6 @@
 -- What each answer of an area makes of the history for which it stands.
 use Rattle.std.proofs.Common.{◌≡◌, ℕ, ◌+◌, ◌≤◌, Bool, true, false, cond, List, [], ◌∷◌, ◌++◌, length, Ok, Err, Option, Some, None, inl, refl, sym, ◌∙◌, ap, subst, arith}
-use Rattle.std.specs.Prelude.{is_some, IfSome}
+use Rattle.std.specs.Prelude.{is_some, not, IfSome}
 use Rattle.jb_area.specs.Area.{device_of, loaded_of, rules_of, HasDoubt, IsDoubtful, IsResting, SettlesAt}
 use Rattle.jb_area.specs.Calls.{HasRest, IsChangeOf, MeetsCall}
 use Rattle.jb_area.specs.declared.area.OpenArea.{OpenArea}
@@ -12,7 +12,7 @@ use Rattle.jb_decide.specs.declared.error.AreaError.TheVariants as area
 use Rattle.jb_disk.specs.Device.{Device, TellsAlike}
 use Rattle.jb_model.specs.Answered.{Answered}
 use Rattle.jb_model.specs.History.{IsNextCall, calls_of, faults_of, last_faults}
-use Rattle.jb_model.specs.Standing.{Standing, Settled, InDoubt, Allows, StandsWithin, after_entry, change_of, is_refusal}
+use Rattle.jb_model.specs.Standing.{Standing, Settled, InDoubt, Allows, StandsWithin, after_entry, change_of, is_refusal, is_settled}
 use Rattle.jb_model.specs.State.{AreaState, state_of}
 use Rattle.jb_model.specs.Step.{step}
 use Rattle.jb_model.specs.declared.command.Command.{Command}
@@ -25,7 +25,7 @@ use Rattle.jb_model.proofs.HistoryLaws.{standing_after_push}
 use Rattle.jb_shared.specs.Histories.{Tells, first_of}
 use Rattle.jb_shared.specs.Standing.{IsAt, StandsAt, StandsFor, StandsInDoubt, StandsSettled, doubt_between, state_to}
 use Rattle.jb_shared.specs.declared.opening.Opening.{Opening}
-use Rattle.jb_shared.proofs.HistoryLemmas.{history_push, last_new, last_same, rose_from}
+use Rattle.jb_shared.proofs.HistoryLemmas.{history_push, last_new, last_same, rose_from, stopped_push}
 
 -- the reply of an area is that of the state for which it stands
 stepped : (opening : Opening) (state its : AreaState) (user : User) (moment : ℕ) (command : Command) (reply : Reply) (after : AreaState) (rules : AreaRules) → rules ≡ opening.rules → its ≡ state
@@ -43,13 +43,15 @@ module _ {D : Type 0} (shown : D → Device) where
   stands_push : (old new : OpenArea D) (opening : Opening) (history : List Entry) (entry : Entry) (standing standing' : Standing) → StandsAt shown old opening history standing
       → rules_of new ≡ rules_of old → TellsAlike (device_of shown old) (device_of shown new) → IsNextCall history entry → last_faults opening.faults (history ++ entry ∷ []) ≤ (device_of shown new).faults
       → IfSome (faults_of entry) (λ told. Rose (last_faults opening.faults history) told) → (Tells opening → Allows opening.rules standing entry)
+      → is_settled standing' ≡ not (is_some (faults_of entry))
       → IsAt shown new standing' → (Tells opening → standing' ≡ after_entry opening.rules standing entry) → StandsAt shown new opening (history ++ entry ∷ []) standing'
-  stands_push old new opening history entry standing standing' stands rules alike next last risen allow at leads = record {
+  stands_push old new opening history entry standing standing' stands rules alike next last risen allow kind at leads = record {
     rules = rules ∙ stands.rules;
     history = history_push opening history entry stands.history next risen (λ t. subst (λ (s : Standing). Allows opening.rules s entry) (stands.leads t) (allow t));
     faults = last;
     told = alike ∙ stands.told;
     at = at;
+    kind = kind ∙ ap not (sym (stopped_push false history entry));
     leads = λ t. leads t ∙ ap (λ (s : Standing). after_entry opening.rules s entry) (stands.leads t) ∙ sym (standing_after_push opening.rules (first_of opening) history entry);
   }
 
@@ -66,7 +68,7 @@ module _ {D : Type 0} (shown : D → Device) where
       let same : last_faults opening.faults (history ++ entry ∷ []) ≡ last_faults opening.faults history = last_same opening.faults history entry refl in (
         Settled (state_to done.coming),
         stands_push old new opening history entry (Settled state) (Settled (state_to done.coming)) stands meets.rules meets.alike next (omega (arith, same, stands.faults, meets.later)) tt
-            (λ t. ap (λ (a : Answered). a.reply) (is t)) (done.coming.texts, done.rests.rests, ap (state_of done.coming.texts) done.rests.is) (λ t. ap (λ (a : Answered). Settled a.state) (sym (is t))),
+            (λ t. ap (λ (a : Answered). a.reply) (is t)) refl (done.coming.texts, done.rests.rests, ap (state_of done.coming.texts) done.rests.is) (λ t. ap (λ (a : Answered). Settled a.state) (sym (is t))),
       )
 
   -- the doubt of a call that was stopped
@@ -92,11 +94,11 @@ module _ {D : Type 0} (shown : D → Device) where
       let stopped = meets.failed at.0 at.1 in
       let doubt = doubt_at old new opening state at.0 user moment command stopped.coming stands.rules at.2 (λ t. stands.told ∙ t) stopped.change stopped.doubt stopped.loaded in
       let entry : Entry = Called node call user moment command (LeftInDoubt (device_of shown new).faults) in
-      let last : last_faults opening.faults (history ++ entry ∷ []) ≡ (device_of shown new).faults = last_new opening.faults history entry (device_of shown new).faults refl in (
+      let last : last_faults opening.faults (history ++ entry ∷ []) ≡ (device_of shown new).faults = last_new opening.faults history entry (device_of shown new).faults refl in
+      let rose = rose_from (last_faults opening.faults history) (device_of shown old).faults (device_of shown new).faults stands.faults meets.cause in (
         InDoubt state doubt.0,
-        stands_push old new opening history entry (Settled state) (InDoubt state doubt.0) stands meets.rules meets.alike next (omega (arith, last))
-            (rose_from (last_faults opening.faults history) (device_of shown old).faults (device_of shown new).faults stands.faults meets.cause)
-            (λ t. tt) doubt.1 (λ t. ap (InDoubt state) (doubt.2 t)),
+        stands_push old new opening history entry (Settled state) (InDoubt state doubt.0) stands meets.rules meets.alike next (omega (arith, last)) rose (λ t. tt)
+            refl doubt.1 (λ t. ap (InDoubt state) (doubt.2 t)),
       )
 
   -- a call that wanted memory
@@ -112,6 +114,7 @@ module _ {D : Type 0} (shown : D → Device) where
           faults = omega (arith, stands.faults, meets.later);
           told = meets.alike ∙ stands.told;
           at = (at.0, failed.0.rests, ap (state_of at.0) failed.0.is ∙ at.2);
+          kind = stands.kind;
           leads = stands.leads;
         },
       )
@@ -140,7 +143,7 @@ module _ {D : Type 0} (shown : D → Device) where
       let at = was.at in
       let end = ends_at old new opening before after stands at.0 at.1 at.3 (settled at.0 at.1 at.2) in
       let same : last_faults opening.faults (history ++ Reopened stands ∷ []) ≡ last_faults opening.faults history = last_same opening.faults history (Reopened stands) refl in
-      (end.0, stands_push old new opening history (Reopened stands) (InDoubt before after) (Settled end.0) was rules alike tt (omega (arith, same, was.faults, later)) tt (λ t. end.3) end.1 (λ t. end.2))
+      (end.0, stands_push old new opening history (Reopened stands) (InDoubt before after) (Settled end.0) was rules alike tt (omega (arith, same, was.faults, later)) tt (λ t. end.3) refl end.1 (λ t. end.2))
 
   -- a doubt that could not be ended
   pub stands_not_begun : (old new : OpenArea D) (opening : Opening) (history : List Entry) (node call : ℕ) (user : User) (moment : ℕ) (command : Command) → StandsInDoubt shown old opening history
@@ -150,10 +153,11 @@ module _ {D : Type 0} (shown : D → Device) where
   stands_not_begun old new opening history node call user moment command (before, after, was) still loaded rules alike rose next =
       let at = was.at in
       let entry : Entry = Called node call user moment command (NotBegun (device_of shown new).faults) in
-      let last : last_faults opening.faults (history ++ entry ∷ []) ≡ (device_of shown new).faults = last_new opening.faults history entry (device_of shown new).faults refl in (
+      let last : last_faults opening.faults (history ++ entry ∷ []) ≡ (device_of shown new).faults = last_new opening.faults history entry (device_of shown new).faults refl in
+      let risen = rose_from (last_faults opening.faults history) (device_of shown old).faults (device_of shown new).faults was.faults rose in (
         InDoubt before after,
-        stands_push old new opening history entry (InDoubt before after) (InDoubt before after) was rules alike next (omega (arith, last))
-            (rose_from (last_faults opening.faults history) (device_of shown old).faults (device_of shown new).faults was.faults rose) (λ t. tt)
+        stands_push old new opening history entry (InDoubt before after) (InDoubt before after) was rules alike next (omega (arith, last)) risen (λ t. tt)
+            refl
             (at.0, at.1, still at.0 at.1 at.2, subst (λ (l : Loaded). StandsWithin (doubt_between at.0 l at.1) (InDoubt before after)) (sym loaded) at.3) (λ t. refl),
       )
 

@@ -1,5 +1,5 @@
 -- The history of a shared area: from what it goes on, when it is legal, and where it leads.
-use Rattle.std.specs.Prelude.{List, [], IsSome, filter_map, unwrap_or}
+use Rattle.std.specs.Prelude.{Bool, false, List, [], ◌∷◌, IsSome, filter_map, is_some, unwrap_or}
 use Rattle.jb_model.specs.History.{AllowsEach, AreNumbered, Rises, faults_of, settled_prefix, standing_after}
 use Rattle.jb_model.specs.Standing.{Standing, Settled, InDoubt}
 use Rattle.jb_model.specs.State.{AreaState, state_of}
@@ -21,6 +21,15 @@ leads_to opening history = standing_after opening.rules (first_of opening) histo
 -- its longest prefix after which the area is settled
 abbrev pub settled_of : Opening → List Entry → List Entry
 settled_of opening history = settled_prefix opening.rules (first_of opening) history
+
+-- behind these entries the last one is a call that the device stopped; behind none, as it is said before them
+abbrev pub stopped_behind : Bool → List Entry → Bool
+stopped_behind before [] = before
+stopped_behind before (entry ∷ history) = stopped_behind (is_some (faults_of entry)) history
+
+-- the last entry is a call that the device stopped
+abbrev pub stopped_last : List Entry → Bool
+stopped_last history = stopped_behind false history
 
 -- the state at which an area is settled, or was before the change that is in doubt
 abbrev pub state_at : Standing → AreaState

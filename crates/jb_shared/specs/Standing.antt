@@ -1,17 +1,17 @@
 -- When an open area stands for a history.
-use Rattle.std.specs.Prelude.{◌≡◌, ℕ, ◌≤◌, List, Option, Some, None, is_some, option_map}
+use Rattle.std.specs.Prelude.{◌≡◌, ℕ, ◌≤◌, not, List, Option, Some, None, is_some, option_map}
 use Rattle.jb_area.specs.Area.{device_of, loaded_of, rules_of, IsDoubtful, IsResting}
 use Rattle.jb_area.specs.declared.area.OpenArea.{OpenArea}
 use Rattle.jb_decide.specs.Coming.{Coming}
 use Rattle.jb_disk.specs.Device.{Device}
 use Rattle.jb_disk.specs.declared.file.FileId.TheVariants.{Jdt}
 use Rattle.jb_model.specs.History.{last_faults}
-use Rattle.jb_model.specs.Standing.{Standing, Settled, InDoubt, StandsWithin}
+use Rattle.jb_model.specs.Standing.{Standing, Settled, InDoubt, StandsWithin, is_settled}
 use Rattle.jb_model.specs.State.{AreaState, state_of}
 use Rattle.jb_model.specs.declared.entry.Entry.{Entry}
 use Rattle.jb_model.specs.declared.entry.Entry.TheVariants.{Called, Reopened}
 use Rattle.jb_model.specs.declared.loaded.Loaded.{Loaded}
-use Rattle.jb_shared.specs.Histories.{IsHistory, Tells, leads_to}
+use Rattle.jb_shared.specs.Histories.{IsHistory, Tells, leads_to, stopped_last}
 use Rattle.jb_shared.specs.declared.opening.Opening.{Opening}
 
 -- the node whose call an entry is; a reopening is nobody's
@@ -49,13 +49,15 @@ module _ {D : Type 0} (shown : D → Device) where
   IsSomewhere area = (standing : Standing) × IsAt area standing
 
   -- the area stands so after the history: by the same rules, with a disk that tells as it did and has failed as often as the
-  -- history says; and where the disk tells its files, just there where the history leads
+  -- history says; in doubt just where the device stopped the last call; and where the disk tells its files, just there where the
+  -- history leads
   pub record StandsAt (area : OpenArea D) (opening : Opening) (entries : List Entry) (standing : Standing) : Type 0 where
     pub rules : rules_of area ≡ opening.rules
     pub history : IsHistory opening entries
     pub faults : last_faults opening.faults entries ≤ (device_of shown area).faults
     pub told : is_some (device_of shown area).contents ≡ is_some opening.texts
     pub at : IsAt area standing
+    pub kind : is_settled standing ≡ not (stopped_last entries)
     pub leads : Tells opening → standing ≡ leads_to opening entries
 
   -- the area stands for the history, at rest or in doubt
