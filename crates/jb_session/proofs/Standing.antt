@@ -1,5 +1,5 @@
 -- A session in its middle, and how it goes on or ends.
-use Rattle.std.proofs.Common.{◌≡◌, ℕ, ◌+◌, ◌-◌, ◌≤◌, length, take, drop, List, [], ◌∷◌, ◌++◌, Option, Some, None, inl, inr, refl, sym, ◌∙◌, ap, subst, append_assoc, append-nil, length-append, arith}
+use Rattle.std.proofs.Common.{◌≡◌, ◌≢◌, ℕ, ◌+◌, ◌-◌, ◌≤◌, length, take, drop, List, [], ◌∷◌, ◌++◌, Option, Some, None, inl, inr, refl, sym, ◌∙◌, ap, subst, append_assoc, append-nil, length-append, arith}
 use Rattle.std.specs.Option.{option_to_list, ForSome}
 use Rattle.std.specs.Prelude.{Result, Ok, Err, IfOk, OnErr}
 use Rattle.std.proofs.lemmas.List.{map-append, same_lists, places}
@@ -99,6 +99,7 @@ module _ (reading : Option ℕ) (board : Board) where
     out = s.out;
     sends = s.sends;
     later = s.later;
+    quiet = λ other. s.quiet;
     ends =
         let P : List Given → Type 0 = λ w. SaysSome board (s.heard ++ rest) w s.out (asks_of s.exchanges ++ option_to_list last) in
         subst P (append-nil (answers_of s.exchanges))
@@ -127,6 +128,7 @@ module _ (reading : Option ℕ) (board : Board) where
     out = s.out;
     sends = s.sends;
     later = s.later;
+    quiet = λ other. s.quiet;
     ends =
         let P : List Given → Type 0 = λ w. SaysSome board (s.heard ++ rest) w s.out (asks_of (s.exchanges ++ x ∷ []) ++ []) in
         let Q : List Request → Type 0 = λ w. SaysSome board (s.heard ++ rest) (answers_of s.exchanges ++ x.given ∷ []) s.out w in
@@ -149,6 +151,7 @@ module _ (reading : Option ℕ) (board : Board) where
     out = s.out;
     sends = s.sends;
     later = s.later;
+    quiet = s.quiet;
     talked =
         let P : List Given → Type 0 = λ w. HasTalked board after s.heard w s.out (asks_of (s.exchanges ++ x ∷ []) ++ option_to_list next) in
         let Q : List Request → Type 0 = λ w. HasTalked board after s.heard (answers_of s.exchanges ++ x.given ∷ []) s.out (w ++ option_to_list next) in
@@ -171,6 +174,7 @@ module _ (reading : Option ℕ) (board : Board) where
     out = s.out;
     sends = s.sends;
     later = s.later;
+    quiet = s.quiet;
     talked =
         let Q : List Request → Type 0 = λ w. HasTalked board after (s.heard ++ part) (answers_of s.exchanges) s.out (w ++ option_to_list next) in
         subst Q (append-nil (asks_of s.exchanges)) talked;
@@ -191,9 +195,9 @@ module _ (reading : Option ℕ) (board : Board) where
 
   -- a piece was read
   pub read_on : (old now now' : Wire) (from to : List PassView) (piece : List ℕ) (talking : Talking)
-      → Stands reading board old from now [] talking None to → Takes now.to_come piece now'.to_come → now'.sent ≡ now.sent → Later now now'
+      → Stands reading board old from now [] talking None to → Takes now.to_come piece now'.to_come → now'.sent ≡ now.sent → now'.unsent ≡ now.unsent → Later now now'
       → talking.taken + length piece ≤ MOST_SESSION_BYTES → Stands reading board old from now' piece talking None to
-  read_on old now now' from to piece talking s takes sent later room = record {
+  read_on old now now' from to piece talking s takes sent quiet later room = record {
     heard = s.heard;
     within = omega (arith, room, s.talked.counted);
     takes =
@@ -204,14 +208,15 @@ module _ (reading : Option ℕ) (board : Board) where
     out = s.out;
     sends = sends_same _ _ _ _ s.sends sent;
     later = later_then old now now' s.later later;
+    quiet = quiet ∙ s.quiet;
     talked = s.talked;
   }
 
   -- all that was owed was sent
   pub sent_on : (old now now' : Wire) (from to : List PassView) (talking after : Talking)
-      → (s : Stands reading board old from now [] talking None to) → Sends now.sent talking.owed now'.sent → now'.to_come ≡ now.to_come → Later now now'
+      → (s : Stands reading board old from now [] talking None to) → Sends now.sent talking.owed now'.sent → now'.to_come ≡ now.to_come → now'.unsent ≡ now.unsent → Later now now'
       → HasTalked board after s.heard (answers_of s.exchanges) (s.out ++ talking.owed) (asks_of s.exchanges ++ []) → Stands reading board old from now' [] after None to
-  sent_on old now now' from to talking after s sends to_come later talked = record {
+  sent_on old now now' from to talking after s sends to_come quiet later talked = record {
     heard = s.heard;
     within = s.within;
     takes = takes_same _ _ _ _ s.takes to_come;
@@ -220,14 +225,15 @@ module _ (reading : Option ℕ) (board : Board) where
     out = s.out ++ talking.owed;
     sends = sends_more _ _ _ _ _ s.sends sends;
     later = later_then old now now' s.later later;
+    quiet = quiet ∙ s.quiet;
     talked = talked;
   }
 
   -- a session that stands with nothing left to hear ends so
   ends_so : (old now now' : Wire) (from to : List PassView) (talking : Talking) (end : SessionEnd) (part : List ℕ)
       → (s : Stands reading board old from now [] talking None to) → MayLack end None → Sends now.sent part now'.sent → now'.to_come ≡ now.to_come → Later now now'
-      → EndsAs board end old now' s.heard (answers_of s.exchanges) (s.out ++ part) (asks_of s.exchanges ++ []) → Served reading board old from end now' to
-  ends_so old now now' from to talking end part s only sends to_come later ends = record {
+      → (end ≢ LinkFault → now'.unsent ≡ now.unsent) → EndsAs board end old now' s.heard (answers_of s.exchanges) (s.out ++ part) (asks_of s.exchanges ++ []) → Served reading board old from end now' to
+  ends_so old now now' from to talking end part s only sends to_come later quiet ends = record {
     taken = s.heard;
     within = omega (arith, s.within);
     takes =
@@ -242,6 +248,7 @@ module _ (reading : Option ℕ) (board : Board) where
     out = s.out ++ part;
     sends = sends_more _ _ _ _ _ s.sends sends;
     later = later_then old now now' s.later later;
+    quiet = λ other. quiet other ∙ s.quiet;
     ends = ends;
   }
 
@@ -258,7 +265,7 @@ module _ (reading : Option ℕ) (board : Board) where
       → Rose now.faults now'.faults → Rose now.unsent now'.unsent → Served reading board old from LinkFault now' to
   ends_unsent stands old now now' from to talking part s begins sends to_come later faults unsent =
       let talks = said stands old now from to talking s talking.owed refl in
-      ends_so old now now' from to talking LinkFault part s refl sends to_come later (
+      ends_so old now now' from to talking LinkFault part s refl sends to_come later (λ other. absurd (other refl)) (
         record {
           all = s.out ++ talking.owed;
           every = asks_of s.exchanges ++ [];
@@ -276,7 +283,7 @@ module _ (reading : Option ℕ) (board : Board) where
       → Rose now.faults now'.faults → Served reading board old from LinkFault now' to
   ends_unread stands old now now' from to talking s none sent to_come later faults =
       let all : SaysAll board s.heard (answers_of s.exchanges) (s.out ++ []) (asks_of s.exchanges ++ []) = record { end = end_of talking.place.standing talking.taken; talks = said stands old now from to talking s [] none } in
-      ends_so old now now' from to talking LinkFault [] s refl (sends_same _ _ _ _ (sends_none now.sent) sent) to_come later (
+      ends_so old now now' from to talking LinkFault [] s refl (sends_same _ _ _ _ (sends_none now.sent) sent) to_come later (λ other. absurd (other refl)) (
         some_of_all board s.heard (s.out ++ []) (answers_of s.exchanges) (asks_of s.exchanges ++ []) all,
         rose_later old.faults now.faults now'.faults now'.faults s.later.faults faults (omega arith),
         inr all,
@@ -285,12 +292,12 @@ module _ (reading : Option ℕ) (board : Board) where
   -- the input is at its end, with nothing owed
   pub ends_hangup : EachStands → (old now now' : Wire) (from to : List PassView) (talking : Talking)
       → Stands reading board old from now [] talking None to → talking.owed ≡ [] → end_of talking.place.standing talking.taken ≡ talk.Hangup
-      → now'.sent ≡ now.sent → now'.to_come ≡ now.to_come → Later now now' → Rose now.ends now'.ends → ForSome now.to_come (λ bytes. bytes ≡ [])
+      → now'.sent ≡ now.sent → now'.to_come ≡ now.to_come → now'.unsent ≡ now.unsent → Later now now' → Rose now.ends now'.ends → ForSome now.to_come (λ bytes. bytes ≡ [])
       → Served reading board old from Hangup now' to
-  ends_hangup stands old now now' from to talking s none hangup sent to_come later ends gone =
+  ends_hangup stands old now now' from to talking s none hangup sent to_come quiet later ends gone =
       let P : TalkEnd → Type 0 = λ w. Talks board s.heard (answers_of s.exchanges) (s.out ++ []) (asks_of s.exchanges ++ []) w in
       let Q : Option (List ℕ) → Type 0 = λ w. ForSome w (λ bytes. bytes ≡ []) in
-      ends_so old now now' from to talking Hangup [] s refl (sends_same _ _ _ _ (sends_none now.sent) sent) to_come later (
+      ends_so old now now' from to talking Hangup [] s refl (sends_same _ _ _ _ (sends_none now.sent) sent) to_come later (λ other. quiet) (
         subst P hangup (said stands old now from to talking s [] none),
         rose_later old.ends now.ends now'.ends now'.ends s.later.ends ends (omega arith),
         subst Q (sym to_come) gone,
@@ -318,7 +325,7 @@ module _ (reading : Option ℕ) (board : Board) where
       → Stands reading board old from now [] talking None to → talking.owed ≡ [] → (end_of talking.place.standing talking.taken ≡ talk.Hangup → ⊥)
       → Served reading board old from (end_as (end_of talking.place.standing talking.taken)) now to
   ends_over stands old now from to talking s none other =
-      ends_so old now now from to talking (end_as (end_of talking.place.standing talking.taken)) [] s (lacks_none _) (sends_none now.sent) refl (later_refl now)
+      ends_so old now now from to talking (end_as (end_of talking.place.standing talking.taken)) [] s (lacks_none _) (sends_none now.sent) refl (later_refl now) (λ other. refl)
       (by_talk old now s.heard (s.out ++ []) (answers_of s.exchanges) (asks_of s.exchanges ++ []) (end_of talking.place.standing talking.taken) other (said stands old now from to talking s [] none))
 
   -- at the start
@@ -332,6 +339,7 @@ module _ (reading : Option ℕ) (board : Board) where
     out = [];
     sends = sends_none w.sent;
     later = later_refl w;
+    quiet = refl;
     talked = talked;
   }
 
@@ -352,6 +360,7 @@ module _ (reading : Option ℕ) (board : Board) where
         out = [];
         sends = sends_none w.sent;
         later = later_refl w;
+        quiet = λ other. refl;
         ends = record {
           all = whole.out;
           every = whole.asked;

@@ -1,5 +1,5 @@
 -- One session over a link.
-use Rattle.std.specs.Prelude.{◌≡◌, ◌⊎◌, ℕ, ◌+◌, ◌≤◌, List, [], ◌++◌, length, Option, None}
+use Rattle.std.specs.Prelude.{◌≡◌, ◌≢◌, ◌⊎◌, ℕ, ◌+◌, ◌≤◌, List, [], ◌++◌, length, Option, None}
 use Rattle.std.specs.Option.{ForSome, option_to_list}
 use Rattle.jb_base.specs.Fault.{Rose}
 use Rattle.jb_base.specs.declared.limits.TheConstants.{MOST_SESSION_BYTES}
@@ -54,7 +54,7 @@ MayLack _ last = last ≡ None
 
 module _ (reading : Option ℕ) (board : Board) where
   -- a session from its greeting to its end, with a clock that shows this reading: the bytes taken, the requests and their
-  -- answers on the passes, and the bytes sent
+  -- answers on the passes, and the bytes sent; no write failed but where the link is said to have
   pub record Served (old : Wire) (from : List PassView) (end : SessionEnd) (new : Wire) (to : List PassView) : Type 0 where
     pub taken : List ℕ
     pub within : length taken ≤ MOST_SESSION_BYTES
@@ -68,6 +68,7 @@ module _ (reading : Option ℕ) (board : Board) where
     pub out : List ℕ
     pub sends : Sends old.sent out new.sent
     pub later : Later old new
+    pub quiet : end ≢ LinkFault → new.unsent ≡ old.unsent
     pub ends : EndsAs board end old new taken (answers_of exchanges) out (asks_of exchanges ++ option_to_list last)
 
   -- a session in its middle: of the bytes taken, the talk has heard all but the rest, and what it has handed out was sent and
@@ -81,4 +82,5 @@ module _ (reading : Option ℕ) (board : Board) where
     pub out : List ℕ
     pub sends : Sends old.sent out now.sent
     pub later : Later old now
+    pub quiet : now.unsent ≡ old.unsent
     pub talked : HasTalked board talking heard (answers_of exchanges) out (asks_of exchanges ++ option_to_list next)

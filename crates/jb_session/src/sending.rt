@@ -24,6 +24,7 @@ pub(crate) fn send_owed<L: Link>(link: &mut L, talk: &mut Talk) -> Result<(), Li
     ensures to_come { (L.wire link.new).to_come ≡ (L.wire link.old).to_come }
     ensures ends { (L.wire link.new).ends ≡ (L.wire link.old).ends }
     ensures unsent { HasCause (L.wire link.old).unsent (L.wire link.new).unsent result }
+    ensures quiet { OnOk result ((L.wire link.new).unsent ≡ (L.wire link.old).unsent) }
     ensures cause { HasCause (L.wire link.old).faults (L.wire link.new).faults result }
 {
     send(link, talk.owed())?;

@@ -31,7 +31,7 @@ loop-alloc-init g c =
       ap (λ (w : Talking). w.owed) f.ok,
       omega (arith, ap (λ (w : Talking). w.taken) f.ok, t.counted),
       sent_on (g.C.Clock.reading c.args.clock.now) c.args.board.now (g.L.Link.wire c.args.link.now) (g.L.Link.wire c.args.link.now) (g.L.Link.wire c.send_owed.new.link) c.args.passes.now c.args.passes.now c.in-Ok.talk c.send_owed.new.talk
-          s f.sent f.to_come (wrote _ _ f.ends f.unsent.later f.cause.later)
+          s f.sent f.to_come f.quiet (wrote _ _ f.ends f.unsent.later f.cause.later)
           (f.fits c.args.board.now s.heard s.out (answers_of s.exchanges) (asks_of s.exchanges ++ []) s.talked),
     )
 
