@@ -1,2 +1,3 @@
+pub mod Paging
 pub mod Shelving
 pub mod Wires

@@ -1,17 +1,14 @@
 -- One shelf is changed: what the shelves hold then.
-use Rattle.std.proofs.Common.{◌≡◌, ℕ, zero, suc, ◌<◌, ◌≤◌, Bool, true, false, ◌&&◌, List, [], ◌∷◌, length, set, ap, sym, ◌∙◌, refl, subst, arith}
+use Rattle.std.proofs.Common.{◌≡◌, ℕ, zero, suc, ◌<◌, Bool, true, false, ◌&&◌, List, [], ◌∷◌, length, set, ap, sym, ◌∙◌, refl, arith}
 use Rattle.std.specs.Prelude.{◌≢◌, bytes_eq, slice_index_or, if◌then◌else◌, Option, Some, None, IfSome, IfNone}
 use Rattle.std.proofs.Common.{Bor, ◌++◌}
 use Rattle.std.specs.Option.{option_copied}
 use Rattle.jb_disk.specs.Device.{Device}
 use Rattle.std.proofs.lemmas.Bool.{and_parts, false≢true}
 use Rattle.std.proofs.lemmas.Slice.Eq.{bytes_eq-Decides}
-use Rattle.jb_base.specs.Fault.{Rose}
 use Rattle.jb_disk.specs.Memory.{Recording, device_of}
-use Rattle.jb_host.specs.declared.host.HostError.{HostError}
-use Rattle.jb_host.specs.declared.host.HostError.TheVariants.{Failed}
 use Rattle.jb_host.specs.declared.memory_host.Shelf.{Shelf}
-use Rattle.jb_host.specs.Desk.{Desk, KeepsDisks, Place, has_disk, and_call, asked_disk, no_disk, handed_out, or_behind, with_behind, with_place}
+use Rattle.jb_host.specs.Desk.{Place, has_disk, no_disk, handed_out, or_behind, with_behind, with_place}
 use Rattle.jb_host.specs.Shelves.{is_for, shelved, stands_on}
 
 -- the shelf of a folder and a name has these
@@ -92,14 +89,6 @@ pub shelved-none : (dir name : List ℕ) (shelves : List Shelf) (d : Shelf) → 
 shelved-none dir name [] d none = refl
 shelved-none dir name (shelf ∷ rest) d none =
     ap (λ (b : Bool). if b then stands_on shelf.disk else shelved rest dir name) (none 0 (omega arith)) ∙ shelved-none dir name rest d (λ k low. none (suc k) (omega arith))
-
--- a host that failed keeps its disks
-pub failed_keeps : (dir name : List ℕ) (error : HostError) (old new : Desk) → error ≡ Failed → new.disks ≡ old.disks
-    → new.calls ≡ and_call (asked_disk dir name) old.calls → new.console ≡ old.console → new.reading ≡ old.reading → old.faults ≤ new.faults → Rose old.faults new.faults
-    → KeepsDisks dir name error old new
-failed_keeps dir name error old new is disks calls console reading later rose =
-    let P : HostError → Type 0 = λ e. KeepsDisks dir name e old new in
-    subst P (sym is) (record { disks = disks; calls = calls; console = console; reading = reading; later = later; cause = rose })
 
 -- what was taken off a shelf is what stood there
 pub stood_there : (stood taken : Option Recording) (place : Place) → taken ≡ stood → place ≡ stands_on stood → IfSome taken (λ disk. place ≡ has_disk (device_of disk))

@@ -1,5 +1,5 @@
 -- What is known of a host before and after a call.
-use Rattle.std.specs.Prelude.{◌≡◌, ℕ, ◌≤◌, bytes_eq, ◌&&◌, List, [], ◌∷◌, ◌++◌, Option, if◌then◌else◌}
+use Rattle.std.specs.Prelude.{◌≡◌, ℕ, ◌≤◌, bytes_eq, ◌&&◌, List, [], ◌∷◌, ◌++◌, Option, Some, None, if◌then◌else◌}
 use Rattle.std.specs.Option.{ForSome, option_map}
 use Rattle.jb_base.specs.Fault.{Rose}
 use Rattle.jb_disk.specs.Device.{Device}
@@ -7,9 +7,10 @@ use Rattle.jb_host.specs.declared.host.HostError.{HostError}
 use Rattle.jb_host.specs.declared.host.HostError.TheVariants.{Failed, OutOfMemory}
 use Rattle.jb_host.specs.Wire.{Wire}
 
--- a call that a host tells: it was asked for the disk of a base, by folder and name
+-- a call that a host tells: it was asked for the disk of a base, by folder and name, or for the settings file at a path
 pub data HostCall : Type 0 where
   asked_disk : List ℕ → List ℕ → HostCall
+  asked_settings : List ℕ → HostCall
 
 -- what a host has at a folder and a name: no disk, one that it handed out, or this one
 pub data Place : Type 0 where
@@ -37,14 +38,29 @@ abbrev pub with_behind : List ℕ → List ℕ → Place → Disks → Disks
 with_behind dir name place disks other_dir other_name =
     or_behind (disks other_dir other_name) (if bytes_eq other_dir dir && bytes_eq other_name name then place else no_disk)
 
+-- the settings files of a host, by path
+abbrev pub Pages : Type 0
+Pages = List ℕ → Option (List ℕ)
+
+-- what is found first: this file, or where there is none, that one
+abbrev pub or_page : Option (List ℕ) → Option (List ℕ) → Option (List ℕ)
+or_page None behind = behind
+or_page (Some bytes) behind = Some bytes
+
+-- the same files and one more behind them, found at its path where none was
+abbrev pub with_page_behind : List ℕ → List ℕ → Pages → Pages
+with_page_behind path bytes pages other = or_page (pages other) (if bytes_eq other path then Some bytes else None)
+
 -- a host, as its user sees it
 pub record Desk : Type 0 where
   -- how often it has failed
   pub faults : ℕ
-  -- the calls for disks that it answered other than for want of memory, in order, where it tells them
+  -- the calls for disks and settings that it answered other than for want of memory, in order, where it tells them
   pub calls : Option (List HostCall)
   -- its disks, where it tells them
   pub disks : Option Disks
+  -- its settings files, where it tells them
+  pub settings : Option Pages
   -- the console, while it is not out
   pub console : Option Wire
   -- the one reading that its clocks always give, where it tells it
@@ -59,6 +75,17 @@ pub record GivesDisk (dir name : List ℕ) (device : Device) (old new : Desk) : 
   pub was : ForSome old.disks (λ disks. disks dir name ≡ has_disk device)
   pub out : new.disks ≡ option_map (with_place dir name handed_out) old.disks
   pub calls : new.calls ≡ and_call (asked_disk dir name) old.calls
+  pub settings : new.settings ≡ old.settings
+  pub console : new.console ≡ old.console
+  pub reading : new.reading ≡ old.reading
+  pub faults : new.faults ≡ old.faults
+
+-- the settings file was given, which stays where it is; no fault was counted
+pub record GivesSettings (path bytes : List ℕ) (old new : Desk) : Type 0 where
+  pub was : ForSome old.settings (λ pages. pages path ≡ Some bytes)
+  pub disks : new.disks ≡ old.disks
+  pub calls : new.calls ≡ and_call (asked_settings path) old.calls
+  pub settings : new.settings ≡ old.settings
   pub console : new.console ≡ old.console
   pub reading : new.reading ≡ old.reading
   pub faults : new.faults ≡ old.faults
@@ -73,10 +100,11 @@ abbrev pub HasHostCause : HostError → Desk → Desk → Type 0
 HasHostCause Failed old new = Rose old.faults new.faults
 HasHostCause OutOfMemory old new = new.faults ≡ old.faults
 
--- no disk was handed out, and why
-pub record KeepsDisks (dir name : List ℕ) (error : HostError) (old new : Desk) : Type 0 where
+-- nothing was handed out at this call, and why
+pub record RefusesCall (call : HostCall) (error : HostError) (old new : Desk) : Type 0 where
   pub disks : new.disks ≡ old.disks
-  pub calls : new.calls ≡ calls_after error (asked_disk dir name) old.calls
+  pub calls : new.calls ≡ calls_after error call old.calls
+  pub settings : new.settings ≡ old.settings
   pub console : new.console ≡ old.console
   pub reading : new.reading ≡ old.reading
   pub later : old.faults ≤ new.faults
@@ -86,6 +114,7 @@ pub record KeepsDisks (dir name : List ℕ) (error : HostError) (old new : Desk)
 pub record TakesBack (dir name : List ℕ) (device : Device) (old new : Desk) : Type 0 where
   pub back : ForSome old.disks (λ disks. disks dir name ≡ handed_out → new.disks ≡ option_map (with_place dir name (has_disk device)) old.disks)
   pub calls : new.calls ≡ old.calls
+  pub settings : new.settings ≡ old.settings
   pub console : new.console ≡ old.console
   pub reading : new.reading ≡ old.reading
   pub faults : new.faults ≡ old.faults

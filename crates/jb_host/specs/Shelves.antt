@@ -1,11 +1,13 @@
--- The disks and calls of a host in memory.
+-- The disks, settings and calls of a host in memory.
 use Rattle.std.specs.Prelude.{◌≡◌, ℕ, ◌+◌, ◌-◌, ◌^◌, ◌<◌, min, Contains, bytes_eq, ◌&&◌, Bool, true, false, List, [], ◌∷◌, length, map, slice_index_or, Option, Some, None, if◌then◌else◌}
 use Rattle.std.specs.Option.{option_map}
 use Rattle.jb_disk.specs.Memory.{Recording, device_of}
-use Rattle.jb_host.specs.declared.memory_host.DiskCall.{DiskCall}
+use Rattle.jb_host.specs.declared.memory_host.Call.{Call}
+use Rattle.jb_host.specs.declared.memory_host.Call.TheVariants as call
 use Rattle.jb_host.specs.declared.memory_host.MemHost.{MemHost}
 use Rattle.jb_host.specs.declared.memory_host.Shelf.{Shelf}
-use Rattle.jb_host.specs.Desk.{Desk, Disks, Place, asked_disk, handed_out, has_disk, no_disk}
+use Rattle.jb_host.specs.declared.page.Page.{Page}
+use Rattle.jb_host.specs.Desk.{Desk, Disks, HostCall, Pages, Place, asked_disk, asked_settings, handed_out, has_disk, no_disk}
 use Rattle.jb_host.specs.Memory.{memory_wire}
 use Rattle.jb_host.specs.Wire.{Wire}
 
@@ -34,7 +36,21 @@ IsAt shelves dir name (Some k) =
 abbrev pub standing : MemHost → Disks
 standing host = shelved host.shelves.items
 
--- the host was told to fail the call for a disk that comes next
+-- what the pages hold, by path: the first page with it tells
+abbrev pub written : List Page → Pages
+written [] path = None
+written (page ∷ pages) path = if bytes_eq path page.path then Some page.bytes else written pages path
+
+-- the settings files of a host in memory
+abbrev pub written_in : MemHost → Pages
+written_in host = written host.pages.items
+
+-- what a call asked for
+abbrev pub asked_by : Call → HostCall
+asked_by (call.Disk dir name) = asked_disk dir name
+asked_by (call.Settings path) = asked_settings path
+
+-- the host was told to fail the call for a disk or for settings that comes next
 abbrev pub FailsNext : MemHost → Type 0
 FailsNext host = Contains host.failing.items (min (host.asked + 1) (2 ^ 64 - 1))
 
@@ -42,12 +58,13 @@ FailsNext host = Contains host.failing.items (min (host.asked + 1) (2 ^ 64 - 1))
 abbrev pub memory_desk : MemHost → Desk
 memory_desk host = record {
   faults = host.faults;
-  calls = Some (map (λ (call : DiskCall). asked_disk call.dir call.name) host.calls.items);
+  calls = Some (map asked_by host.calls.items);
   disks = Some (standing host);
+  settings = Some (written_in host);
   console = option_map memory_wire host.console;
   reading = Some host.reading;
 }
 
--- a host with this console, no disk and no call, whose clocks give this reading
+-- a host with this console, no disk, no settings and no call, whose clocks give this reading
 abbrev pub empty_desk : Wire → ℕ → Desk
-empty_desk console reading = record { faults = 0; calls = Some []; disks = Some (shelved []); console = Some console; reading = Some reading }
+empty_desk console reading = record { faults = 0; calls = Some []; disks = Some (shelved []); settings = Some (written []); console = Some console; reading = Some reading }

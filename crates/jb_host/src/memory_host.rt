@@ -1,15 +1,16 @@
 //! A host in memory.
-ghost use Rattle.std.specs.Prelude.{◌≡◌, ◌≢◌, ◌<◌, ◌≤◌, ℕ, Some, None, true, false, IfOk, IfErr, IfSome, IfNone, OnOk, OnErr, bytes_eq, ◌&&◌, ◌++◌, ◌∷◌, length, slice_index_or};
+ghost use Rattle.std.specs.Prelude.{IsTrue, ◌≡◌, ◌≢◌, ◌<◌, ◌≤◌, ℕ, Some, None, true, false, IfOk, IfErr, IfSome, IfNone, OnOk, OnErr, bytes_eq, ◌&&◌, ◌++◌, ◌∷◌, length, slice_index_or};
 ghost use Rattle.std.specs.Option.{ForSome, option_map};
 ghost use Rattle.jb_base.specs.Fault.{Rose};
 ghost use Rattle.jb_disk.specs.Device.{Device};
 ghost use Rattle.jb_disk.specs.Memory.{device_of};
-ghost use Rattle.jb_host.specs.Desk.{handed_out, has_disk, with_behind, with_place};
-ghost use Rattle.jb_host.specs.Shelves.{IsAt, shelved};
+ghost use Rattle.jb_host.specs.Desk.{asked_disk, asked_settings, handed_out, has_disk, with_behind, with_page_behind, with_place};
+ghost use Rattle.jb_host.specs.Shelves.{IsAt, asked_by, shelved, written};
 
 use crate::clock::MemClock;
 use crate::host::{Host, HostError};
 use crate::memory::MemLink;
+use crate::page::{Page, bytes_at};
 use jb_base::{Bytes, OutOfMemory};
 use jb_disk::MemDisk;
 use std::alloc::Global;
@@ -24,23 +25,56 @@ pub struct Shelf {
 
 /// A call that was answered other than for want of memory.
 #[derive(Debug, Drop)]
-pub struct DiskCall {
-    dir: Bytes,
-    name: Bytes,
+pub enum Call {
+    /// For the disk of a base.
+    Disk { dir: Bytes, name: Bytes },
+    /// For a settings file.
+    Settings { path: Bytes },
 }
 
-/// A host with a console, disks and clocks in memory. It fails the calls for a disk whose numbers, from 1, it was given, and those
-/// for a base that it does not have; it tells all that a host may tell.
+/// A host with a console, disks, settings and clocks in memory. It fails the calls for a disk or for settings whose numbers, from
+/// 1, it was given, and those for a base or a file that it does not have; it tells all that a host may tell.
 #[derive(Debug, Drop)]
 pub struct MemHost {
     alloc: Global,
     console: Option<MemLink>,
     reading: u32,
     shelves: Vec<Shelf>,
-    calls: Vec<DiskCall>,
+    pages: Vec<Page>,
+    calls: Vec<Call>,
     failing: Vec<u64>,
     asked: u64,
     faults: u64,
+}
+
+/// The call for the disk of this base.
+fn disk_call(alloc: Global, dir: &str, name: &str) -> Result<Call, HostError>
+    ensures ok { IfOk result (λ call. asked_by call ≡ asked_disk dir.now name.now) }
+    ensures err { IfErr result (λ error. error ≡ HostError.OutOfMemory) }
+{
+    let dir = Bytes::copy(alloc, dir.as_bytes())?;
+    let name = Bytes::copy(alloc, name.as_bytes())?;
+    Ok(Call::Disk { dir, name })
+}
+
+/// The call for the settings file at this path.
+fn settings_call(alloc: Global, path: &str) -> Result<Call, HostError>
+    ensures ok { IfOk result (λ call. asked_by call ≡ asked_settings path.now) }
+    ensures err { IfErr result (λ error. error ≡ HostError.OutOfMemory) }
+{
+    let path = Bytes::copy(alloc, path.as_bytes())?;
+    Ok(Call::Settings { path })
+}
+
+/// A copy of the first page with this path.
+fn copy_at(alloc: Global, pages: &[Page], path: &[u8]) -> Result<Option<Bytes>, HostError>
+    ensures ok { IfOk result (λ found. written pages.now path.now ≡ found) }
+    ensures err { IfErr result (λ error. error ≡ HostError.OutOfMemory) }
+{
+    match bytes_at(pages, path) {
+        Some(bytes) => Ok(Some(Bytes::copy(alloc, bytes)?)),
+        None => Ok(None),
+    }
 }
 
 /// The place of the first shelf with this folder and name.
@@ -91,12 +125,12 @@ fn put_on(shelves: &mut Vec<Shelf>, dir: &[u8], name: &[u8], disk: MemDisk)
 }
 
 impl MemHost {
-    ghost use Rattle.jb_host.specs.Shelves.{memory_desk, empty_desk, standing};
+    ghost use Rattle.jb_host.specs.Shelves.{FailsNext, empty_desk, memory_desk, standing, written_in};
     ghost use Rattle.jb_host.specs.Memory.{memory_wire};
-    ghost use Rattle.jb_host.specs.Desk.{and_call, asked_disk};
+    ghost use Rattle.jb_host.specs.Desk.{and_call};
 
-    /// A host with this console and no disk, whose clocks give this reading, and which fails the calls for a disk with these
-    /// numbers.
+    /// A host with this console, no disk and no settings, whose clocks give this reading, and which fails the calls for a disk or
+    /// for settings with these numbers.
     pub fn new(alloc: Global, console: MemLink, reading: u32, failing: Vec<u64>) -> MemHost
         ensures fresh { memory_desk result ≡ empty_desk (memory_wire console) reading }
         ensures told { result.failing ≡ failing }
@@ -107,6 +141,7 @@ impl MemHost {
             console: Some(console),
             reading,
             shelves: Vec::new(alloc),
+            pages: Vec::new(alloc),
             calls: Vec::new(alloc),
             failing,
             asked: 0,
@@ -131,6 +166,19 @@ impl MemHost {
         Ok(())
     }
 
+    /// Adds a settings file, behind those that are there.
+    pub fn add_settings(&mut self, path: &str, bytes: Bytes) -> Result<(), OutOfMemory>
+        ensures ok { OnOk result (memory_desk self.new ≡ record (memory_desk self.old) {
+          settings = Some (with_page_behind path.now bytes (written_in self.old));
+        }) }
+        ensures err { OnErr result (memory_desk self.new ≡ memory_desk self.old) }
+        ensures kept { self.new.console ≡ self.old.console }
+    {
+        let path = Bytes::copy(self.alloc, path.as_bytes())?;
+        self.pages.push(Page { path, bytes })?;
+        Ok(())
+    }
+
     /// The console, while it is not out.
     pub fn console_link(&self) -> Option<&MemLink>
         ensures found { IfSome result (λ link. (memory_desk self.now).console ≡ Some (memory_wire link.now)) }
@@ -148,27 +196,37 @@ impl MemHost {
         self.shelves[k].disk.as_ref()
     }
 
-    /// Notes a call for a disk, or for want of memory leaves all as it was.
-    fn note(&mut self, dir: &str, name: &str) -> Result<(), HostError>
-        ensures ok { OnOk result ((memory_desk self.new).calls ≡ and_call (asked_disk dir.now name.now) (memory_desk self.old).calls) }
+    /// Notes a call, or for want of memory leaves all as it was.
+    fn note(&mut self, call: Call) -> Result<(), HostError>
+        ensures ok { OnOk result ((memory_desk self.new).calls ≡ and_call (asked_by call) (memory_desk self.old).calls) }
         ensures err { IfErr result (λ error. (error ≡ HostError.OutOfMemory) × (self.new.calls.items ≡ self.old.calls.items)) }
         ensures console { self.new.console ≡ self.old.console }
         ensures shelves { self.new.shelves ≡ self.old.shelves }
+        ensures pages { self.new.pages ≡ self.old.pages }
         ensures faults { self.new.faults ≡ self.old.faults }
         ensures asked { self.new.asked ≡ self.old.asked }
         ensures failing { self.new.failing ≡ self.old.failing }
         ensures reading { self.new.reading ≡ self.old.reading }
     {
-        let Ok(dir) = Bytes::copy(self.alloc, dir.as_bytes()) else {
-            return Err(HostError::OutOfMemory);
-        };
-        let Ok(name) = Bytes::copy(self.alloc, name.as_bytes()) else {
-            return Err(HostError::OutOfMemory);
-        };
-        match self.calls.push(DiskCall { dir, name }) {
+        match self.calls.push(call) {
             Ok(()) => Ok(()),
             Err(_) => Err(HostError::OutOfMemory),
         }
+    }
+
+    /// Counts a call that is noted, and says whether it is one that fails.
+    fn fails(&mut self) -> bool
+        ensures listed { FailsNext self.old → IsTrue result }
+        ensures console { self.new.console ≡ self.old.console }
+        ensures shelves { self.new.shelves ≡ self.old.shelves }
+        ensures pages { self.new.pages ≡ self.old.pages }
+        ensures calls { self.new.calls ≡ self.old.calls }
+        ensures faults { self.new.faults ≡ self.old.faults }
+        ensures reading { self.new.reading ≡ self.old.reading }
+    {
+        self.asked = self.asked.saturating_add(1);
+        let number = self.asked;
+        self.failing.as_slice().contains(&number)
     }
 
     fn fault(&mut self) -> HostError
@@ -176,6 +234,7 @@ impl MemHost {
         ensures later { self.old.faults ≤ self.new.faults }
         ensures console { self.new.console ≡ self.old.console }
         ensures shelves { self.new.shelves ≡ self.old.shelves }
+        ensures pages { self.new.pages ≡ self.old.pages }
         ensures calls { self.new.calls ≡ self.old.calls }
         ensures reading { self.new.reading ≡ self.old.reading }
         ensures failed { result ≡ HostError.Failed }
@@ -199,10 +258,9 @@ impl Host for MemHost {
     ghost fails_next = { FailsNext };
 
     fn disk(&mut self, dir: &str, name: &str) -> Result<MemDisk, HostError> {
-        self.note(dir, name)?;
-        self.asked = self.asked.saturating_add(1);
-        let number = self.asked;
-        if self.failing.as_slice().contains(&number) {
+        let call = disk_call(self.alloc, dir, name)?;
+        self.note(call)?;
+        if self.fails() {
             return Err(self.fault());
         }
         match take_from(&mut self.shelves, dir.as_bytes(), name.as_bytes()) {
@@ -213,6 +271,19 @@ impl Host for MemHost {
 
     fn put_back(&mut self, dir: &str, name: &str, disk: MemDisk) {
         put_on(&mut self.shelves, dir.as_bytes(), name.as_bytes(), disk);
+    }
+
+    fn settings(&mut self, path: &str) -> Result<Bytes, HostError> {
+        let call = settings_call(self.alloc, path)?;
+        let found = copy_at(self.alloc, self.pages.as_slice(), path.as_bytes())?;
+        self.note(call)?;
+        if self.fails() {
+            return Err(self.fault());
+        }
+        match found {
+            Some(bytes) => Ok(bytes),
+            None => Err(self.fault()),
+        }
     }
 
     fn console(&mut self) -> MemLink {

@@ -1,5 +1,5 @@
-//! The real surroundings: standard input and output, bases in folders, and the clock of the system. Nothing is assumed of them:
-//! they tell no bytes and no reading.
+//! The real surroundings: standard input and output, bases in folders, settings in files, and the clock of the system. Nothing is
+//! assumed of them: they tell no bytes and no reading.
 ghost use Rattle.std.specs.Prelude.{◌≡◌, IsSome, Some};
 ghost use Rattle.std.specs.Option.{option_map};
 ghost use Rattle.jb_host.specs.Real.{silent_wire, silent_desk};
@@ -7,6 +7,7 @@ ghost use Rattle.jb_host.specs.Real.{silent_wire, silent_desk};
 use crate::clock::SystemClock;
 use crate::host::{Host, HostError};
 use crate::link::{Link, LinkFailed};
+use jb_base::Bytes;
 use jb_files::FolderDisk;
 use std::alloc::Global;
 use std::fs::File;
@@ -67,7 +68,45 @@ impl<R: Input + Print> Link for ConsoleLink<R> {
     }
 }
 
-/// The host of a process: bases in folders of its file system, and its standard input and output.
+/// Bytes of a settings file; a longer one is refused as a fault of the host.
+pub const MOST_SETTINGS_BYTES: usize = 1_048_576;
+/// Bytes that are read of it at once.
+const PIECE_BYTES: usize = 65_536;
+
+/// Puts what comes next of a file behind what was read of it, and says how much that was; 0 only at its end.
+fn read_more(file: &mut File, bytes: &mut Bytes) -> Result<usize, HostError> {
+    let mut piece = [0u8; PIECE_BYTES];
+    let n = match file.read(&mut piece) {
+        Ok(n) => n,
+        Err(_) => return Err(HostError::Failed),
+    };
+    bytes.append(&piece[..n])?;
+    Ok(n)
+}
+
+/// The bytes of a file, where it is not longer than a settings file may be.
+fn read_whole<R: Files<File = File>>(
+    rt: &R,
+    alloc: Global,
+    path: &str,
+) -> Result<Bytes, HostError> {
+    let mut bytes = Bytes::new(alloc);
+    let Ok(mut file) = File::open(rt, path) else {
+        return Err(HostError::Failed);
+    };
+    for _ in 0..=MOST_SETTINGS_BYTES {
+        let n = read_more(&mut file, &mut bytes)?;
+        if bytes.len() > MOST_SETTINGS_BYTES {
+            return Err(HostError::Failed);
+        }
+        if n == 0 {
+            return Ok(bytes);
+        }
+    }
+    Err(HostError::Failed)
+}
+
+/// The host of a process: bases in folders and settings in files of its file system, and its standard input and output.
 #[derive(Drop)]
 pub struct RealHost<R: Files<File = File> + Input + Print + time::Clock + Copy + Drop> {
     rt: R,
@@ -108,6 +147,14 @@ impl<R: Files<File = File> + Input + Print + time::Clock + Copy + Drop> Host for
     }
 
     fn put_back(&mut self, _dir: &str, _name: &str, _disk: FolderDisk<R>) {}
+
+    fn settings(&mut self, path: &str) -> Result<Bytes, HostError> {
+        let read = read_whole(&self.rt, self.alloc, path);
+        if matches!(&read, Err(HostError::Failed)) {
+            self.faults = self.faults.saturating_add(1);
+        }
+        read
+    }
 
     fn console(&mut self) -> ConsoleLink<R> {
         self.console.take().unwrap()

@@ -8,7 +8,7 @@ use jb_host::{Clock, Host, HostError, MemHost, MemLink, send};
 use std::alloc::Global;
 use trial_rows::{Row, RowError, shown};
 
-/// A host without a disk that fails the calls for a disk with these numbers.
+/// A host without a disk that fails the calls for a disk or for settings with these numbers.
 pub(crate) fn host(alloc: Global, failing: Vec<u64>) -> MemHost {
     with_reading(alloc, 0, failing)
 }
@@ -39,6 +39,8 @@ pub(crate) fn answer(
         "disk" => handed_out(alloc, host, out, row),
         "back" => put_back(alloc, host, out, row),
         "at" => stands(alloc, host, row),
+        "write" => write(alloc, host, row),
+        "settings" => settings(alloc, host, row),
         _ => Err(RowError::Unknown(1)),
     }
 }
@@ -100,6 +102,20 @@ fn stands(alloc: Global, host: &MemHost, row: &Row) -> Result<String, RowError> 
     match host.disk_at(named(row, 2)?, named(row, 3)?) {
         Some(disk) => shown(alloc, disk.file(FileId::Jhr)),
         None => text(alloc, "none"),
+    }
+}
+
+fn write(alloc: Global, host: &mut MemHost, row: &Row) -> Result<String, RowError> {
+    let bytes = row.bytes(alloc, 3)?;
+    host.add_settings(named(row, 2)?, bytes)?;
+    text(alloc, "ok")
+}
+
+fn settings(alloc: Global, host: &mut MemHost, row: &Row) -> Result<String, RowError> {
+    match host.settings(named(row, 2)?) {
+        Ok(bytes) => shown(alloc, bytes.as_slice()),
+        Err(HostError::Failed) => text(alloc, "failed"),
+        Err(HostError::OutOfMemory) => Err(RowError::OutOfMemory),
     }
 }
 
