@@ -1,0 +1,4 @@
+pub mod Desks
+pub mod Lives
+pub mod Errors
+pub mod All

@@ -1,0 +1,109 @@
+-- One area of a board, from its disk as the host had it to its disk as the host has it back.
+use Rattle.std.specs.Prelude.{◌≡◌, ◌≢◌, ℕ, ◌≤◌, Bool, true, false, not, List, [], length, Option, Some, is_some}
+use Rattle.std.specs.Option.{ForSome}
+use Rattle.jb_area.specs.Area.{DoubtOpens, device_of, rules_of}
+use Rattle.jb_area.specs.Calls.{HasRest}
+use Rattle.jb_area.specs.Holds.{IsAtRest, Opens}
+use Rattle.jb_area.specs.declared.area.OpenArea.{OpenArea}
+use Rattle.jb_area_open.specs.Opening.{IsOpenAt, KeepsOpening, OpensFirmly}
+use Rattle.jb_base.specs.Fault.{Rose}
+use Rattle.jb_base.specs.declared.area.AreaRules.{AreaRules}
+use Rattle.jb_conf.specs.declared.board.BoardArea.{BoardArea}
+use Rattle.jb_decide.specs.Coming.{Coming}
+use Rattle.jb_disk.specs.Device.{Device, TellsAlike}
+use Rattle.jb_disk.specs.Runs.{IsAllSynced}
+use Rattle.jb_host.specs.Desk.{Desk, GivesDisk}
+use Rattle.jb_journal.specs.Recover.{IsGrowthSafe}
+use Rattle.jb_model.specs.History.{calls_of, last_faults}
+use Rattle.jb_model.specs.Standing.{Standing, Settled, InDoubt, StandsWithin, is_settled}
+use Rattle.jb_model.specs.State.{state_of}
+use Rattle.jb_model.specs.declared.entry.Entry.{Entry}
+use Rattle.jb_model.specs.declared.loaded.Loaded.{Loaded}
+use Rattle.jb_turn.specs.Rows.{Begins, Has, row}
+use Rattle.jb_turn.specs.Whole.{HasNode}
+use Rattle.jb_shared.specs.Areas.{IsShared}
+use Rattle.jb_shared.specs.Closing.{IsPartOf, known_by}
+use Rattle.jb_shared.specs.Histories.{IsHistory, Tells, leads_to, settled_of, stopped_last}
+use Rattle.jb_shared.specs.Passes.{Known, PassView, shown_of}
+use Rattle.jb_shared.specs.Standing.{doubt_between}
+use Rattle.jb_shared.specs.declared.opening.Opening.{Opening}
+use Rattle.jb_shared.specs.declared.shared.SharedArea.{SharedArea}
+
+-- what an area goes on from is just what its files open to, by the rules of the board, with no more slots than they allow; the opening
+-- raised no count of faults
+pub record OpensAs (by : AreaRules) (before : Device) (opening : Opening) : Type 0 where
+  pub rules : opening.rules ≡ by
+  pub few : length opening.loaded.slots ≤ by.slots
+  pub faults : opening.faults ≡ before.faults
+  pub told : is_some opening.texts ≡ is_some before.contents
+  pub opens : ForSome before.contents (λ was. IsGrowthSafe was → ForSome opening.texts (λ texts. Opens opening.loaded texts was))
+
+-- of a disk that shows itself so
+module _ {D : Type 0} (shown : D → Device) where
+  -- the area is open over this disk, at rest and by these rules
+  pub record OpensOver (by : AreaRules) (before : Device) (opened : OpenArea D) : Type 0 where
+    pub rules : rules_of opened ≡ by
+    pub rest : HasRest shown opened
+    pub opens : ForSome before.contents (λ was. IsGrowthSafe was → IsOpenAt shown was opened)
+    pub faults : (device_of shown opened).faults ≡ before.faults
+    pub crash : KeepsOpening before (device_of shown opened)
+    pub firm : OpensFirmly before (device_of shown opened)
+    pub alike : TellsAlike before (device_of shown opened)
+
+  -- the host handed the disk of the area out, and it is open and shared among so many nodes
+  pub record SharesArea (area : BoardArea) (nodes : ℕ) (old new : Desk) (shared : SharedArea D) (passes : List PassView) : Type 0 where
+    pub before : Device
+    pub gives : GivesDisk area.dir area.base before old new
+    pub opened : OpenArea D
+    pub opens : OpensOver area.rules before opened
+    pub shares : IsShared shown opened nodes shared passes
+
+-- the disk holds the area so: settled, with nothing on its way, or between two states, to one of which its files open
+abbrev pub HoldsAt : Standing → Device → Type 0
+HoldsAt (Settled state) device = IsAllSynced device
+    × ForSome device.contents (λ files. (loaded : Loaded) × (texts : List ℕ) × IsAtRest loaded texts files × (state_of texts loaded ≡ state))
+HoldsAt (InDoubt before after) device = ForSome device.contents (λ files. (loaded : Loaded) × (texts : List ℕ) × (coming : Option Coming)
+    × DoubtOpens loaded texts coming files × StandsWithin (doubt_between texts loaded coming) (InDoubt before after))
+
+-- the disk is left as the history says: it has failed at least as often as the history tells, and the area is in doubt just where the
+-- device stopped the last call, which then has raised its count of faults
+pub record Leaves (opening : Opening) (entries : List Entry) (is_doubtful : Bool) (after : Device) : Type 0 where
+  pub history : IsHistory opening entries
+  pub faults : last_faults opening.faults entries ≤ after.faults
+  pub told : is_some after.contents ≡ is_some opening.texts
+  pub standing : Standing
+  pub leads : Tells opening → standing ≡ leads_to opening entries
+  pub doubt : is_doubtful ≡ not (is_settled standing)
+  pub stopped : is_doubtful ≡ stopped_last entries
+  pub cause : is_doubtful ≡ true → Rose opening.faults after.faults
+  pub holds : HoldsAt standing after
+
+-- an area was opened and closed again with no call: its disk is left settled at just what its files opened to
+pub record KeepsArea (by : AreaRules) (before after : Device) : Type 0 where
+  pub opening : Opening
+  pub opens : OpensAs by before opening
+  pub leaves : Leaves opening [] false after
+
+-- an area is closed with these passes: there is one history, the longest front, of which each knows a part and in which no other node
+-- has a call, and the disk is left as it says
+pub record Ends (passes : List PassView) (is_doubtful : Bool) (after : Device) : Type 0 where
+  pub opening : Opening
+  pub history : List Entry
+  pub leaves : Leaves opening history is_doubtful after
+  pub each : (known : Known) → Has (known_by passes) known → IsPartOf opening history known
+  pub others : (node : ℕ) → (HasNode (known_by passes) node → ⊥) → calls_of node history ≡ []
+  pub longest : (known : Known) × Has (known_by passes) known × (known.front ≡ history)
+
+-- what one node knows at the end, where it is the only one: its front is the whole history, in which all calls are its own, and its
+-- looks have shown a beginning of all that is settled
+pub record EndsAlone (known : Known) (is_doubtful : Bool) (after : Device) : Type 0 where
+  pub opening : Opening
+  pub from : known.opening ≡ Some opening
+  pub leaves : Leaves opening known.front is_doubtful after
+  pub mine : calls_of known.node known.front ≡ known.mine
+  pub others : (node : ℕ) → node ≢ known.node → calls_of node known.front ≡ []
+  pub shown : Begins (shown_of known) (settled_of opening known.front)
+
+-- what a node knows of an area that is just shared: it is the first, and has seen nothing
+abbrev pub first_known : Opening → Known
+first_known opening = row 1 (Some opening) [] [] []

@@ -1,0 +1,91 @@
+//! One area: its disk is taken from the host, opened and shared, and put back.
+ghost use Rattle.std.specs.Prelude.{◌≡◌, ◌<◌, ◌≤◌, All, Bool, IfErr, IfOk, length};
+ghost use Rattle.std.specs.Option.{ForSome};
+ghost use Rattle.jb_base.specs.declared.limits.TheConstants.{MOST_ADDRESS_BYTES, MOST_SLOTS};
+ghost use Rattle.jb_disk.specs.Device.{Device};
+ghost use Rattle.jb_host.specs.Desk.{GivesDisk, TakesBack, handed_out};
+ghost use Rattle.jb_shared.specs.Areas.{IsOf, passes_of};
+ghost use Rattle.jb_shared.specs.Closing.{known_by};
+ghost use Rattle.jb_turn.specs.Whole.{HasAll};
+ghost use Rattle.jb_areas.specs.Errors.{RefusesArea};
+ghost use Rattle.jb_areas.specs.Lives.{Ends, OpensOver, SharesArea};
+
+use crate::AreasError;
+use crate::error::refused;
+use jb_area::OpenArea;
+use jb_area_open::open_area;
+use jb_base::AreaRules;
+use jb_conf::BoardArea;
+use jb_host::Host;
+use jb_shared::{Pass, SharedArea};
+use std::alloc::Global;
+
+/// Opens an area by these rules over the disk that the host has for it; where that is refused the disk is back.
+fn open_disk<H: Host>(
+    alloc: Global,
+    host: &mut H,
+    area: &BoardArea,
+    place: u32,
+    rules: AreaRules,
+) -> Result<OpenArea<H::Disk>, AreasError>
+    requires rules { rules ≡ area.now.rules }
+    requires few_slots { area.now.rules.slots ≤ MOST_SLOTS }
+    requires address { length area.now.rules.address ≤ MOST_ADDRESS_BYTES }
+    ensures ok { IfOk result (λ opened. (before : Device) × GivesDisk area.now.dir area.now.base before (H.desk host.old) (H.desk host.new)
+        × OpensOver H.Disk.device area.now.rules before opened) }
+    ensures err { IfErr result (RefusesArea place area.now (H.desk host.old) (H.desk host.new)) }
+{
+    let disk = host.disk(area.dir.as_str(), area.base.as_str())?;
+    match open_area(alloc, disk, rules) {
+        Ok(opened) => Ok(opened),
+        Err((disk, error)) => {
+            host.put_back(area.dir.as_str(), area.base.as_str(), disk);
+            Err(refused(place, error))
+        }
+    }
+}
+
+/// Opens the area at this place of the board, counted from 1, and shares it among so many nodes; where that is refused its disk
+/// is back.
+pub(crate) fn share<H: Host>(
+    alloc: Global,
+    host: &mut H,
+    area: &BoardArea,
+    place: u32,
+    nodes: u32,
+) -> Result<(SharedArea<H::Disk>, Vec<Pass>), AreasError>
+    requires few_slots { area.now.rules.slots ≤ MOST_SLOTS }
+    requires address { length area.now.rules.address ≤ MOST_ADDRESS_BYTES }
+    requires nodes { (0 < nodes) × (nodes ≤ 33) }
+    ensures ok { IfOk result (λ r. SharesArea H.Disk.device area.now nodes (H.desk host.old) (H.desk host.new) r.0 r.1.items) }
+    ensures err { IfErr result (RefusesArea place area.now (H.desk host.old) (H.desk host.new)) }
+{
+    let rules = area.rules.copy(alloc)?;
+    let opened = open_disk(alloc, host, area, place, rules)?;
+    match SharedArea::new(alloc, opened, nodes) {
+        Ok(shared) => Ok(shared),
+        Err(opened) => {
+            host.put_back(area.dir.as_str(), area.base.as_str(), opened.close());
+            Err(AreasError::OutOfMemory)
+        }
+    }
+}
+
+/// Closes an area with all its passes and puts its disk back. Says whether the area is in doubt.
+pub(crate) fn end<H: Host>(
+    host: &mut H,
+    area: &BoardArea,
+    shared: SharedArea<H::Disk>,
+    passes: Vec<Pass>,
+) -> bool
+    requires ours { All (IsOf shared) passes.items }
+    requires all { HasAll (known_by passes.items) (passes_of shared) }
+    ensures { (after : Device) × TakesBack area.now.dir area.now.base after (H.desk host.old) (H.desk host.new) × Ends passes.items result after }
+{
+    let Ok(opened) = shared.close(passes) else {
+        unreachable!()
+    };
+    let is_doubtful = opened.in_doubt();
+    host.put_back(area.dir.as_str(), area.base.as_str(), opened.close());
+    is_doubtful
+}
