@@ -1,0 +1,97 @@
+//! What is asked of an area, and by whom.
+ghost use Rattle.std.specs.Prelude.{◌≤◌, length};
+ghost use Rattle.jb_base.specs.declared.limits.TheConstants.{MOST_NAME_BYTES};
+
+use jb_base::{Bytes, MOST_NAME_BYTES, Name, OutOfMemory, User};
+use jb_model::Command;
+use std::alloc::Global;
+use trial_rows::RowError;
+
+/// The moment of every call, in seconds since 1970.
+pub(crate) const MOMENT: u32 = 1_000_000_000;
+
+/// What is done about the message of a number.
+#[derive(Clone, Copy)]
+pub(crate) enum Act {
+    /// A post to Hello, in reply to the number or to 0.
+    Post,
+    /// A private post to Sysop, in reply to the number or to 0.
+    Private,
+    Read,
+    Peek,
+    Kill,
+    Mark,
+    /// Of all messages, with any number.
+    Pack,
+    /// Of all messages, with any number.
+    Relink,
+}
+
+/// The act that this word of a row names.
+pub(crate) fn act_of(word: &str) -> Result<Act, RowError> {
+    match word {
+        "post" => Ok(Act::Post),
+        "private" => Ok(Act::Private),
+        "read" => Ok(Act::Read),
+        "peek" => Ok(Act::Peek),
+        "kill" => Ok(Act::Kill),
+        "mark" => Ok(Act::Mark),
+        "pack" => Ok(Act::Pack),
+        "relink" => Ok(Act::Relink),
+        _ => Err(RowError::Unknown(4)),
+    }
+}
+
+/// A user whose name is as short as a call asks.
+#[derive(Drop)]
+pub(crate) struct Caller {
+    pub user: User,
+    ghost named: { length user.name ≤ MOST_NAME_BYTES },
+}
+
+/// The user of this name and level, with the number 7.
+pub(crate) fn caller_named(alloc: Global, name: &[u8], level: u8) -> Result<Caller, RowError> {
+    if name.len() > MOST_NAME_BYTES {
+        return Err(RowError::Bytes(2));
+    }
+    let name = Name::copy(alloc, name)?;
+    Ok(Caller {
+        user: User { name, id: 7, level },
+    })
+}
+
+// A post about `abc`, whose text is the name of who posts.
+fn post(
+    alloc: Global,
+    from: &User,
+    to: &[u8],
+    reply_to: u32,
+    private: bool,
+) -> Result<Command, OutOfMemory> {
+    Ok(Command::Post {
+        to: Name::copy(alloc, to)?,
+        subject: Bytes::copy(alloc, b"abc")?,
+        text: Bytes::copy(alloc, from.name.as_slice())?,
+        reply_to,
+        private,
+    })
+}
+
+/// The command of the act about this number.
+pub(crate) fn command_of(
+    alloc: Global,
+    user: &User,
+    act: Act,
+    number: u32,
+) -> Result<Command, OutOfMemory> {
+    match act {
+        Act::Post => post(alloc, user, b"Hello", number, false),
+        Act::Private => post(alloc, user, b"Sysop", number, true),
+        Act::Read => Ok(Command::Read { number }),
+        Act::Peek => Ok(Command::Peek { number }),
+        Act::Kill => Ok(Command::Kill { number }),
+        Act::Mark => Ok(Command::SetMark { number }),
+        Act::Pack => Ok(Command::Pack),
+        Act::Relink => Ok(Command::Relink),
+    }
+}

@@ -1,0 +1,62 @@
+//! Tries the shared area by rows of words: nodes call, look, count and close in one thread, in the order that the rows name;
+//! and thirty-three nodes do so in threads of their own, and what they were answered is replayed on the plain, slow program.
+#![tactic(auto)]
+
+mod agenda;
+mod asking;
+mod base;
+mod nodes;
+mod noted;
+mod replay;
+mod rows;
+mod same;
+mod shared;
+mod showing;
+
+use crate::base::BaseDisk;
+use crate::rows::{Trial, answer};
+use jb_disk::MemDisk;
+use std::alloc::Global;
+use std::io;
+use std::sync::Wait;
+use std::thread::Threads;
+use trial_rows::{Row, RowError};
+
+// The line that is written for this one.
+fn answered<D: BaseDisk, R: Threads + Wait + Sync>(
+    rt: &R,
+    alloc: Global,
+    trial: &mut Trial<D>,
+    line: &str,
+) -> Result<String, RowError> {
+    let row = Row::of(alloc, line)?;
+    answer(rt, alloc, trial, &row)
+}
+
+// The rows of trial_rows, in a loop of its own: what answers them here starts threads and waits for them.
+fn run<D: BaseDisk, R: Threads + Wait + Sync + Input + Print>(
+    rt: &R,
+    alloc: Global,
+    trial: &mut Trial<D>,
+) -> io::Result<()> {
+    for line in rt.lines(alloc) {
+        let line = line?;
+        let line = line.as_str();
+        if line.is_empty() || line.starts_with('#') {
+            println!(rt; "{line}")?;
+            continue;
+        }
+        match answered(rt, alloc, trial, line) {
+            Ok(text) => println!(rt; "{text}")?,
+            Err(error) => println!(rt; "no answer to '{line}': {error}")?,
+        }
+    }
+    Ok(())
+}
+
+fn main(rt: HostRuntime) -> io::Result<()> {
+    match Trial::<MemDisk>::new(rt.alloc()) {
+        Ok(mut trial) => run(&rt, rt.alloc(), &mut trial),
+        Err(_) => println!(rt; "out of memory"),
+    }
+}

@@ -1,0 +1,129 @@
+//! What was noted is asked of the plain program again.
+
+use crate::asking::{Act, MOMENT, command_of};
+use crate::base::{BaseDisk, open, rules};
+use crate::noted::{Deed, Noted, Told, caller_at};
+use crate::same::same_area;
+use jb_base::AreaRules;
+use jb_disk::FileId;
+use jb_model::{Area, Asked, Figures, Marks, Slots};
+use jb_plain::{may_run, run_slow};
+use std::alloc::Global;
+use std::mem;
+use trial_rows::RowError;
+
+/// How many calls that the device stopped are replayed at most: each may stand or not.
+const MOST_STOPPED: usize = 8;
+
+/// How many calls the device stopped.
+pub(crate) fn stopped_among(noted: &[Noted]) -> usize {
+    noted
+        .iter()
+        .filter(|one| matches!(one.told, Told::Stopped))
+        .count()
+}
+
+/// The plain program's area, which of the stopped calls to come stand there (by the bits, the first call by the lowest), and
+/// whether the last call was stopped.
+#[derive(Drop)]
+struct Again {
+    rules: AreaRules,
+    area: Area,
+    standing: u32,
+    doubt: bool,
+}
+
+// An area from number 1 on without a slot.
+fn empty(alloc: Global) -> Area {
+    Area {
+        base: 1,
+        slots: Slots::new(alloc),
+        marks: Marks::new(alloc),
+    }
+}
+
+impl Again {
+    // Asks this of the plain program, and gives its reply in words.
+    fn ask(&mut self, alloc: Global, node: u32, act: Act, number: u32) -> Result<String, RowError> {
+        let user = caller_at(alloc, node)?.user;
+        let command = command_of(alloc, &user, act, number)?;
+        let area = mem::replace(&mut self.area, empty(alloc));
+        if !may_run(&area, self.rules.slots) {
+            return Err(RowError::Unknown(0));
+        }
+        let asked = [Asked {
+            user,
+            moment: MOMENT,
+            command,
+        }];
+        let (area, replies) = run_slow(alloc, &self.rules, area, &asked)?;
+        self.area = area;
+        Ok(format!(in alloc; "{:?}", replies.as_slice())?)
+    }
+
+    // Whether the figures can be those of this area; in doubt what they tell is left open.
+    fn shows(&self, figures: &Figures) -> bool {
+        let next = (self.area.base as usize).saturating_add(self.area.slots.as_slice().len());
+        self.doubt || (figures.base == self.area.base && figures.next as usize == next)
+    }
+
+    // Whether what came of the deed is what comes of it here.
+    fn agrees(&mut self, alloc: Global, one: &Noted) -> Result<bool, RowError> {
+        match (&one.told, one.deed) {
+            (Told::Saw { figures, unread }, _) => {
+                Ok(self.shows(figures) && figures.unread == *unread)
+            }
+            (Told::Replied(reply), Deed::Asked { act, number }) => {
+                self.doubt = false;
+                let answer = self.ask(alloc, one.node, act, number)?;
+                Ok(answer.as_str() == format!(in alloc; "[{reply:?}]")?.as_str())
+            }
+            (Told::Stopped, Deed::Asked { act, number }) => {
+                self.doubt = true;
+                let stands = self.standing & 1 == 1;
+                self.standing >>= 1;
+                if stands {
+                    let _answer = self.ask(alloc, one.node, act, number)?;
+                }
+                Ok(true)
+            }
+            _ => Ok(false),
+        }
+    }
+}
+
+// The area behind all that was noted, where it all agrees and these calls stand.
+fn replayed(alloc: Global, noted: &[Noted], standing: u32) -> Result<Option<Area>, RowError> {
+    let mut again = Again {
+        rules: rules(alloc)?,
+        area: empty(alloc),
+        standing,
+        doubt: false,
+    };
+    for one in noted {
+        if !again.agrees(alloc, one)? {
+            return Ok(None);
+        }
+    }
+    Ok(Some(again.area))
+}
+
+/// Whether the plain program, asked the same one after another, answers the same and comes to the area of the base. A call that
+/// the device stopped may stand or not.
+pub(crate) fn replays<D: BaseDisk>(
+    alloc: Global,
+    noted: &[Noted],
+    base: &D,
+) -> Result<bool, RowError> {
+    let base = open(alloc, base, &[])?.close();
+    let found = open(alloc, &base, &[])?;
+    let stopped = stopped_among(noted).min(MOST_STOPPED);
+    for standing in 0..1_u32 << stopped {
+        if let Some(area) = replayed(alloc, noted, standing)?
+            && same_area(&area, found.loaded(), base.bytes(FileId::Jdt))
+        {
+            return Ok(true);
+        }
+    }
+    Ok(false)
+}

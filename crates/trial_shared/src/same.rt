@@ -1,0 +1,34 @@
+//! Whether the plain program's area is the one that was loaded.
+
+use jb_model::{Area, Loaded, LoadedMessage, LoadedSlot, Message, Slot};
+
+// Whether it is this message, with its text among these.
+fn same_message(message: &Message, loaded: &LoadedMessage, texts: &[u8]) -> bool {
+    let from = loaded.text_at as usize;
+    let to = from.saturating_add(loaded.text_len as usize);
+    message.head == loaded.head
+        && message.subfields.as_bytes() == loaded.subfields.as_bytes()
+        && texts.get(from..to) == Some(message.text.as_slice())
+}
+
+// Whether the same stands in the slot.
+fn same_slot(slot: &Slot, loaded: &LoadedSlot, texts: &[u8]) -> bool {
+    match (slot, loaded) {
+        (Slot::Empty, LoadedSlot::Empty) | (Slot::Killed, LoadedSlot::Killed { .. }) => true,
+        (Slot::Live(message), LoadedSlot::Live(loaded)) => same_message(message, loaded, texts),
+        _ => false,
+    }
+}
+
+/// Whether it is this area, with its texts among these: base number, marks, and what stands in each slot.
+pub(crate) fn same_area(area: &Area, loaded: &Loaded, texts: &[u8]) -> bool {
+    let (slots, found) = (area.slots.as_slice(), loaded.slots.as_slice());
+    for (slot, found) in slots.iter().zip(found) {
+        if !same_slot(slot, found, texts) {
+            return false;
+        }
+    }
+    area.base == loaded.base
+        && slots.len() == found.len()
+        && area.marks.as_slice() == loaded.marks.as_slice()
+}

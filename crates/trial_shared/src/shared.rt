@@ -1,0 +1,147 @@
+//! A shared area with its passes.
+ghost use Rattle.std.specs.Prelude.{◌<◌, ◌≤◌, IfOk};
+ghost use Rattle.jb_area.specs.Calls.{HasRest};
+ghost use Rattle.jb_shared.specs.Areas.{IsOf};
+
+use crate::asking::{Caller, MOMENT};
+use crate::nodes::follow_all;
+use crate::noted::{Noted, Plan};
+use crate::showing::{answer_words, reply_words};
+use jb_area::OpenArea;
+use jb_disk::Disk;
+use jb_model::{Command, Question};
+use jb_shared::{CloseError, Pass, SharedArea};
+use std::alloc::Global;
+use std::marker::Model;
+use std::sync::{Mutex, Wait};
+use std::thread::Threads;
+use trial_rows::RowError;
+
+/// What is asked of a shared area.
+#[derive(Drop)]
+pub(crate) enum Ask {
+    Call(Command),
+    Look(Question),
+    Count,
+}
+
+/// A shared area and the passes of its nodes, in their order. Contracts see nothing of it.
+#[derive(Drop)]
+pub(crate) struct Shared<D: Disk> {
+    area: SharedArea<D>,
+    passes: Vec<Pass>,
+}
+
+impl<D: Disk> Model for Shared<D> {
+    ghost use Rattle.std.specs.Prelude.{All};
+    ghost use Rattle.jb_shared.specs.Areas.{IsOf};
+
+    ghost Value = { Unit {0} };
+
+    ghost view = { λ s. tt };
+
+    ghost invariant = { λ s. All (IsOf s.area) s.passes.items };
+}
+
+// What is answered, or why there is no answer, in words.
+fn told<D: Disk, R: Wait>(
+    rt: &R,
+    alloc: Global,
+    area: &SharedArea<D>,
+    pass: &mut Pass,
+    caller: &Caller,
+    ask: &Ask,
+) -> Result<String, RowError>
+    requires { IsOf area.now pass.old }
+    ensures { IsOf area.now pass.new }
+{
+    match ask {
+        Ask::Call(command) => {
+            match area.call(rt, alloc, pass, &caller.user, MOMENT, command) {
+                Ok(reply) => reply_words(alloc, &reply),
+                Err(error) => Ok(format!(in alloc; "{error:?}")?),
+            }
+        }
+        Ask::Look(question) => {
+            match area.look(rt, alloc, pass, &caller.user, question) {
+                Ok(answer) => answer_words(alloc, &answer),
+                Err(error) => Ok(format!(in alloc; "{error:?}")?),
+            }
+        }
+        Ask::Count => {
+            match area.unread_count(rt, pass, &caller.user) {
+                Ok(count) => Ok(format!(in alloc; "{count} unread")?),
+                Err(error) => Ok(format!(in alloc; "{error:?}")?),
+            }
+        }
+    }
+}
+
+// The place of this node among so many passes.
+fn place_of(node: u32, count: usize) -> Result<usize, RowError>
+    ensures { IfOk result (λ place. place < count) }
+{
+    match (node as usize).checked_sub(1) {
+        Some(place) if place < count => Ok(place),
+        _ => Err(RowError::Unknown(1)),
+    }
+}
+
+impl<D: Disk + Drop> Shared<D> {
+    /// Shares an area at rest among so many nodes.
+    pub(crate) fn new(
+        alloc: Global,
+        area: OpenArea<D>,
+        nodes: u32,
+    ) -> Result<Shared<D>, OpenArea<D>>
+        requires rest { HasRest D.device area }
+        requires nodes { (0 < nodes) × (nodes ≤ 33) }
+    {
+        let (area, passes) = SharedArea::new(alloc, area, nodes)?;
+        Ok(Shared { area, passes })
+    }
+
+    /// What this node is answered, in words.
+    pub(crate) fn ask<R: Wait>(
+        &mut self,
+        rt: &R,
+        alloc: Global,
+        node: u32,
+        caller: &Caller,
+        ask: &Ask,
+    ) -> Result<String, RowError> {
+        let place = place_of(node, self.passes.len())?;
+        told(rt, alloc, &self.area, &mut self.passes[place], caller, ask)
+    }
+
+    /// Each node follows the plan in a thread of its own.
+    pub(crate) fn follow<R: Threads + Wait + Sync>(
+        &mut self,
+        rt: &R,
+        alloc: Global,
+        log: &Mutex<Vec<Noted>>,
+        plan: Plan,
+    )
+    where
+        D: Send + Sync,
+    {
+        follow_all(rt, alloc, &self.area, self.passes.as_mut_slice(), log, plan);
+    }
+
+    /// Closes the area with the passes of the nodes below this one. Where that is refused, all passes are kept.
+    pub(crate) fn close(
+        self,
+        below: u32,
+    ) -> Result<Result<OpenArea<D>, (Shared<D>, CloseError)>, RowError> {
+        let Shared { area, mut passes } = self;
+        let place = (below as usize).saturating_sub(1).min(passes.len());
+        let mut kept = passes.split_off(place)?;
+        match area.close(passes) {
+            Ok(area) => Ok(Ok(area)),
+            Err((area, mut passes, error)) => {
+                passes.append(&mut kept)?;
+                Ok(Err((Shared { area, passes }, error)))
+            }
+        }
+    }
+}
