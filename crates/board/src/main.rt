@@ -5,8 +5,6 @@
 //! program ends.
 #![tactic(auto)]
 
-ghost use Rattle.std.specs.Prelude.{IsSome};
-
 use jb_board::{Fault, board};
 use jb_host::RealHost;
 use std::process::ExitCode;
@@ -25,18 +23,17 @@ fn main(rt: HostRuntime) -> ExitCode {
     let alloc = rt.alloc();
     let mut host = RealHost::new(rt, rt, alloc);
     match words(&rt) {
-        Ok(words) => ExitCode::from(board(alloc, words.as_slice(), &mut host)),
-        Err(error) => without_words(&rt, &error, &mut host),
+        Ok(words) => ExitCode::from(board(&rt, alloc, words.as_slice(), &mut host)),
+        // Words that are no UTF-8 are no command line.
+        Err(error) if error.kind() == io::ErrorKind::InvalidData => {
+            ExitCode::from(board(&rt, alloc, &[], &mut host))
+        }
+        Err(_) => without_memory(&rt),
     }
 }
 
-/// The end of a run whose words cannot be read: words that are no UTF-8 are no command line, and else there was no memory.
-fn without_words(rt: &HostRuntime, error: &io::Error, host: &mut RealHost<HostRuntime>) -> ExitCode
-    requires { IsSome host.old.console }
-{
-    if error.kind() == io::ErrorKind::InvalidData {
-        return ExitCode::from(board(rt.alloc(), &[], host));
-    }
+/// The end of a run that has no memory for its words.
+fn without_memory(rt: &HostRuntime) -> ExitCode {
     let fault = Fault::OutOfMemory;
     let line = fault.line();
     let _ = rt.print(line.as_str());

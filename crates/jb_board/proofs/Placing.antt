@@ -1,6 +1,6 @@
 -- A disk that was handed out, used and put back.
 use Rattle.std.proofs.Common.{◌≡◌, ℕ, ◌≤◌, Bool, true, false, ◌&&◌, List, ap, ◌∙◌, refl}
-use Rattle.std.specs.Prelude.{bytes_eq, if◌then◌else◌, Option, Some, None, Result, Ok, Err}
+use Rattle.std.specs.Prelude.{bytes_eq, if◌then◌else◌, Some, Result, Ok, Err}
 use Rattle.std.specs.Option.{ForSome, option_map}
 use Rattle.std.proofs.lemmas.Slice.Eq.{bytes_eq-Decides}
 use Rattle.jb_disk.specs.Device.{Device}
@@ -8,9 +8,7 @@ use Rattle.jb_host.specs.Desk.{Desk, Disks, GivesDisk, Place, TakesBack, handed_
 use Rattle.jb_tool.specs.Answers.{AnswersTool, KeepsUnderTool}
 use Rattle.jb_tool.specs.declared.error.ToolError.{ToolError}
 use Rattle.jb_tool.specs.declared.tool.Tool.{Tool}
-use Rattle.jb_board.specs.Run.{Answer, AnswersAs, AnswersWords, UsesDisk, answer_of}
-use Rattle.jb_board.specs.Words.{Words, run_load, show_help, use_tool}
-use Rattle.jb_host.specs.Wire.{Wire}
+use Rattle.jb_board.specs.Run.{Answer, AnswersAs, UsesDisk, answer_of}
 use Rattle.jb_board.specs.declared.fault.Fault.TheVariants.{Words as NoWords, HostFault, OutOfMemory}
 
 -- the place that was changed
@@ -66,11 +64,3 @@ no_want (Err error) is = cc
 pub no_words : (answer : Result (List ℕ) ToolError) → answer_of answer ≡ Err NoWords → ⊥
 no_words (Ok text) is = cc
 no_words (Err error) is = cc
-
--- what is answered does not hang on the console that the host has back
-pub other_console : (words : Option Words) (moment : ℕ) (old mid : Desk) (console : Option Wire) (answer : Answer) → AnswersWords words moment old mid answer
-    → AnswersWords words moment old (record mid { console = console }) answer
-other_console None moment old mid console answer is = (is.0, record { calls = is.1.calls; disks = is.1.disks; faults = is.1.faults })
-other_console (Some (use_tool tool dir name)) moment old mid console answer is = record { calls = is.calls; disk = is.disk; cause = is.cause; memory = is.memory; known = is.known; later = is.later }
-other_console (Some (run_load seed count)) moment old mid console answer is = (is.0, record { calls = is.1.calls; disks = is.1.disks; faults = is.1.faults })
-other_console (Some show_help) moment old mid console answer is = (is.0, record { calls = is.1.calls; disks = is.1.disks; faults = is.1.faults })

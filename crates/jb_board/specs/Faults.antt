@@ -1,11 +1,18 @@
 -- The exit statuses and the lines of refused runs.
 use Rattle.std.specs.Prelude.{ℕ, List, [], ◌∷◌, ◌++◌, codes, decimal}
+use Rattle.jb_area_open.specs.declared.error.OpeningError.{OpeningError}
+use Rattle.jb_area_open.specs.declared.error.OpeningError.TheVariants.{BadJournal as JournalRefused, Base}
+use Rattle.jb_conf.specs.Names.{field_name}
+use Rattle.jb_conf.specs.declared.error.ConfError.{ConfError}
+use Rattle.jb_conf.specs.declared.error.ConfError.TheVariants as conf
+use Rattle.jb_local.specs.declared.ending.LocalError.{LocalError}
+use Rattle.jb_local.specs.declared.ending.LocalError.TheVariants as no_session
 use Rattle.jb_image.specs.declared.error.OpenError.{OpenError}
 use Rattle.jb_image.specs.declared.error.OpenError.TheVariants as refused
 use Rattle.jb_tool.specs.declared.error.ToolError.{ToolError}
 use Rattle.jb_tool.specs.declared.error.ToolError.TheVariants.{BadJournal, Open, AlreadyThere, TextFull}
 use Rattle.jb_board.specs.declared.fault.Fault.{Fault}
-use Rattle.jb_board.specs.declared.fault.Fault.TheVariants.{Words, Tool, HostFault, OutOfMemory}
+use Rattle.jb_board.specs.declared.fault.Fault.TheVariants.{Words, Settings, Area, Tool, HostFault, OutOfMemory}
 
 -- the exit status of a base that is not opened: 4 a store fault, 6 want of memory, 3 all that its files are refused for
 abbrev pub base_status : OpenError → ℕ
@@ -20,9 +27,28 @@ tool_status (Open error) = base_status error
 tool_status AlreadyThere = 3
 tool_status (TextFull length) = 3
 
--- the exit status: 1 words, 3 the journal or the base is refused, 4 a store fault, 5 a host fault, 6 want of memory
+-- the exit status of an area of a board that is not opened
+abbrev pub area_status : OpeningError → ℕ
+area_status (JournalRefused at) = 3
+area_status (Base error) = base_status error
+
+-- the exit status of settings that are refused
+abbrev pub settings_status : ConfError → ℕ
+settings_status conf.OutOfMemory = 6
+settings_status _ = 2
+
+-- why there is no session, as the fault of a run
+abbrev pub fault_of : LocalError → Fault
+fault_of (no_session.Settings error) = Settings error
+fault_of (no_session.Area place error) = Area place error
+fault_of no_session.HostFault = HostFault
+fault_of no_session.OutOfMemory = OutOfMemory
+
+-- the exit status: 1 words, 2 settings, 3 the journal or the base is refused, 4 a store fault, 5 a host fault, 6 want of memory
 abbrev pub status_of : Fault → ℕ
 status_of Words = 1
+status_of (Settings error) = settings_status error
+status_of (Area place error) = area_status error
 status_of (Tool error) = tool_status error
 status_of HostFault = 5
 status_of OutOfMemory = 6
@@ -56,9 +82,30 @@ tool_fault_line (Open error) = base_line error
 tool_fault_line AlreadyThere = codes "fault 3.17 AlreadyThere"
 tool_fault_line (TextFull length) = codes "fault 3.18 TextFull" ++ value_text length
 
+-- the line of an area that is not opened, without its end and without the area
+abbrev pub opening_line : OpeningError → List ℕ
+opening_line (JournalRefused at) = codes "fault 3.14 BadJournal" ++ value_text at
+opening_line (Base error) = base_line error
+
+-- the same with the area behind it, by its place
+abbrev pub area_line : ℕ → OpeningError → List ℕ
+area_line place error = opening_line error ++ codes " area." ++ decimal place
+
+-- the line of settings that are refused, without its end: the number and the name of the refusal, then its field or its user
+abbrev pub settings_line : ConfError → List ℕ
+settings_line conf.NotToml = codes "fault 2.1 NotToml"
+settings_line (conf.Missing field) = codes "fault 2.2 Missing" ++ 32 ∷ field_name field
+settings_line (conf.WrongKind field) = codes "fault 2.3 WrongKind" ++ 32 ∷ field_name field
+settings_line (conf.OutOfRange field) = codes "fault 2.4 OutOfRange" ++ 32 ∷ field_name field
+settings_line (conf.Repeated field) = codes "fault 2.5 Repeated" ++ 32 ∷ field_name field
+settings_line (conf.BadDigest user) = codes "fault 2.6 BadDigest" ++ value_text user
+settings_line conf.OutOfMemory = codes "fault 6 OutOfMemory"
+
 -- the line on the console
 abbrev pub line_of : Fault → List ℕ
 line_of Words = codes "fault 1 Words" ++ 10 ∷ []
+line_of (Settings error) = settings_line error ++ 10 ∷ []
+line_of (Area place error) = area_line place error ++ 10 ∷ []
 line_of (Tool error) = tool_fault_line error ++ 10 ∷ []
 line_of HostFault = codes "fault 5 HostFault" ++ 10 ∷ []
 line_of OutOfMemory = codes "fault 6 OutOfMemory" ++ 10 ∷ []

@@ -7,30 +7,34 @@ use Rattle.jb_host.specs.Desk.{Desk, Disks, has_disk, with_place, asked_disk, an
 use Rattle.jb_host.specs.Wire.{Wire, Begins, Sends}
 use Rattle.jb_load.specs.Summary.{summary_of}
 use Rattle.jb_load.specs.Workload.{load_run}
+use Rattle.jb_local.specs.Ending.{status_of as status_behind}
+use Rattle.jb_local.specs.Local.{RunsLocal}
+use Rattle.jb_local.specs.declared.ending.LocalEnd.{LocalEnd}
+use Rattle.jb_local.specs.declared.ending.LocalError.{LocalError}
 use Rattle.jb_tool.specs.Answers.{AnswersTool, KeepsUnderTool}
 use Rattle.jb_tool.specs.declared.error.ToolError.{ToolError}
 use Rattle.jb_tool.specs.declared.tool.Tool.{Tool as ToolName}
 use Rattle.jb_board.specs.declared.fault.Fault.{Fault}
 use Rattle.jb_board.specs.declared.fault.Fault.TheVariants.{Words as NoWords, Tool, HostFault, OutOfMemory}
-use Rattle.jb_board.specs.Faults.{line_of, status_of}
-use Rattle.jb_board.specs.Words.{Words, use_tool, run_load, show_help, command_line_of, help_text}
+use Rattle.jb_board.specs.declared.top.Outcome.{Outcome}
+use Rattle.jb_board.specs.declared.top.Outcome.TheVariants.{Text, Session}
+use Rattle.jb_board.specs.Faults.{fault_of, line_of, status_of}
+use Rattle.jb_board.specs.Words.{Words, use_tool, run_load, serve_one, show_help, command_line_of, help_text}
 
--- what a run answers: the text to print, or why it is refused
+-- what a run answers: the text to print, a session that has ended, or why it is refused
 abbrev pub Answer : Type 0
-Answer = Result (List ℕ) Fault
+Answer = Result Outcome Fault
 
 -- what a tool answered, as what the run answers
 abbrev pub answer_of : Result (List ℕ) ToolError → Answer
-answer_of (Ok text) = Ok text
+answer_of (Ok text) = Ok (Text text)
 answer_of (Err error) = Err (Tool error)
 
 -- the tool answers so over the disk of the base
 abbrev pub AnswersAs : ToolName → ℕ → Device → Device → Answer → Type 0
-AnswersAs tool moment before after (Ok text) = AnswersTool tool moment before after (Ok text)
+AnswersAs tool moment before after (Ok (Text text)) = AnswersTool tool moment before after (Ok text)
 AnswersAs tool moment before after (Err (Tool error)) = AnswersTool tool moment before after (Err error)
-AnswersAs tool moment before after (Err NoWords) = ⊥
-AnswersAs tool moment before after (Err HostFault) = ⊥
-AnswersAs tool moment before after (Err OutOfMemory) = ⊥
+AnswersAs tool moment before after _ = ⊥
 
 -- the disk was handed out, the tool used on it, and the disk put back
 pub record UsesDisk (tool : ToolName) (moment : ℕ) (dir name : List ℕ) (disks : Disks) (after : Option Disks) (answer : Answer) : Type 0 where
@@ -51,27 +55,36 @@ GetsNoDisk old new answer =
 pub record UsesTool (tool : ToolName) (moment : ℕ) (dir name : List ℕ) (old new : Desk) (answer : Answer) : Type 0 where
   pub calls : (new.calls ≡ and_call (asked_disk dir name) old.calls) ⊎ ((answer ≡ Err OutOfMemory) × (new.calls ≡ old.calls))
   pub disk : GetsNoDisk old new answer ⊎ ForSome old.disks (λ disks. UsesDisk tool moment dir name disks new.disks answer)
+  pub settings : new.settings ≡ old.settings
+  pub console : new.console ≡ old.console
+  pub reading : new.reading ≡ old.reading
   pub cause : answer ≡ Err HostFault → Rose old.faults new.faults
   pub memory : answer ≡ Err OutOfMemory → new.faults ≡ old.faults
   pub known : answer ≡ Err NoWords → ⊥
   pub later : old.faults ≤ new.faults
 
--- the host is asked for nothing
-pub record AsksNothing (old new : Desk) : Type 0 where
-  pub calls : new.calls ≡ old.calls
-  pub disks : new.disks ≡ old.disks
-  pub faults : new.faults ≡ old.faults
-
 -- this text is answered, or that there was no memory
 abbrev pub Says : List ℕ → Answer → Type 0
-Says text answer = (answer ≡ Ok text) ⊎ (answer ≡ Err OutOfMemory)
+Says text answer = (answer ≡ Ok (Text text)) ⊎ (answer ≡ Err OutOfMemory)
 
--- the run of these words, if they are a command line
+-- what a session came to, as what the run answers
+abbrev pub answer_behind : Result LocalEnd LocalError → Answer
+answer_behind (Ok end) = Ok (Session end)
+answer_behind (Err error) = Err (fault_of error)
+
+-- a session is served, or why none is
+pub record Serves (path : List ℕ) (old new : Desk) (answer : Answer) : Type 0 where
+  pub came : Result LocalEnd LocalError
+  pub runs : RunsLocal path old new came
+  pub is : answer ≡ answer_behind came
+
+-- the run of these words, if they are a command line; where no tool is used and nobody is served, the host is asked for nothing
 abbrev pub AnswersWords : Option Words → ℕ → Desk → Desk → Answer → Type 0
-AnswersWords None moment old new answer = (answer ≡ Err NoWords) × AsksNothing old new
+AnswersWords None moment old new answer = (answer ≡ Err NoWords) × (new ≡ old)
 AnswersWords (Some (use_tool tool dir name)) moment old new answer = UsesTool tool moment dir name old new answer
-AnswersWords (Some (run_load seed count)) moment old new answer = Says (summary_of (load_run seed count)) answer × AsksNothing old new
-AnswersWords (Some show_help) moment old new answer = Says help_text answer × AsksNothing old new
+AnswersWords (Some (run_load seed count)) moment old new answer = Says (summary_of (load_run seed count)) answer × (new ≡ old)
+AnswersWords (Some (serve_one path)) moment old new answer = Serves path old new answer
+AnswersWords (Some show_help) moment old new answer = Says help_text answer × (new ≡ old)
 
 -- a write of the console failed, and only a beginning of these bytes was sent
 pub record Stops (old new : Wire) (bytes : List ℕ) : Type 0 where
@@ -90,9 +103,10 @@ pub record KeepsInput (old new : Wire) : Type 0 where
 abbrev pub IsSent : Wire → Wire → List ℕ → Type 0
 IsSent old new bytes = Sends old.sent bytes new.sent ⊎ Stops old new bytes
 
--- the answer is printed, and this is the status
+-- the answer is printed, and this is the status; behind a session nothing is
 abbrev pub IsPrinted : Answer → ℕ → Wire → Wire → Type 0
-IsPrinted (Ok text) status old new = KeepsInput old new × (((status ≡ 0) × Sends old.sent text new.sent) ⊎ ((status ≡ 5) × Stops old new text))
+IsPrinted (Ok (Text text)) status old new = KeepsInput old new × (((status ≡ 0) × Sends old.sent text new.sent) ⊎ ((status ≡ 5) × Stops old new text))
+IsPrinted (Ok (Session end)) status old new = (status ≡ status_behind end) × (new ≡ old)
 IsPrinted (Err fault) status old new = KeepsInput old new × (status ≡ status_of fault) × IsSent old new (line_of fault)
 
 -- a whole run, at one moment: what the host's clocks give, where it tells that
@@ -100,11 +114,13 @@ pub record HasRun (words : List (List ℕ)) (old new : Desk) (status : ℕ) : Ty
   -- in seconds since 1970
   pub moment : ℕ
   pub shown : ForSome old.reading (λ reading. moment ≡ reading)
-  pub reading : new.reading ≡ old.reading
+  -- what the words are answered, and the host then
   pub answer : Answer
-  pub answers : AnswersWords (command_line_of words) moment old new answer
+  pub mid : Desk
+  pub answers : AnswersWords (command_line_of words) moment old mid answer
+  -- the answer is printed on the console, and nothing else of the host changes any more
   pub console : Wire
-  pub console_is : old.console ≡ Some console
+  pub console_is : mid.console ≡ Some console
   pub console_after : Wire
-  pub console_back : new.console ≡ Some console_after
   pub printed : IsPrinted answer status console console_after
+  pub left : new ≡ record mid { console = Some console_after }

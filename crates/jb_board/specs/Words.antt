@@ -7,24 +7,28 @@ use Rattle.jb_tool.specs.declared.tool.Tool.{Tool}
 use Rattle.jb_tool.specs.declared.tool.Tool.TheVariants.{List as Listing, Check, Make, Pack, Relink}
 use Rattle.jb_board.specs.declared.command.TheConstants.{MOST_SEED, MOST_STEPS}
 use Rattle.jb_board.specs.declared.command.CommandLine.{CommandLine}
-use Rattle.jb_board.specs.declared.command.CommandLine.TheVariants.{Use, Load, Help}
+use Rattle.jb_board.specs.declared.command.CommandLine.TheVariants.{Use, Load, Local, Help}
 
--- a command line: a tool with the folder and the name of a base, the workload with a seed and a count of steps, or a call for help
+-- a command line: a tool with the folder and the name of a base, the workload with a seed and a count of steps, a session with the path of
+-- the settings, or a call for help
 pub data Words : Type 0 where
   use_tool : Tool → List ℕ → List ℕ → Words
   run_load : ℕ → ℕ → Words
+  serve_one : List ℕ → Words
   show_help : Words
 
 -- a workload has at most the steps that it may have
 abbrev pub HasFewSteps : Words → Type 0
 HasFewSteps (use_tool tool dir name) = Unit {0}
 HasFewSteps (run_load seed count) = count ≤ MOST_STEPS
+HasFewSteps (serve_one path) = Unit {0}
 HasFewSteps show_help = Unit {0}
 
 -- the command line that the program made of its words
 abbrev pub words_of : CommandLine → Words
 words_of (Use tool dir name) = use_tool tool dir.now name.now
 words_of (Load seed count) = run_load seed count
+words_of (Local path) = serve_one path.now
 words_of Help = show_help
 
 -- the tool that a word names
@@ -55,9 +59,14 @@ abbrev pub load_line : Option ℕ → Option ℕ → Option Words
 load_line (Some seed) (Some count) = Some (run_load seed count)
 load_line _ _ = None
 
--- three words of which the first is `load` or names a tool, or `help` alone
+-- a path that is not empty
+abbrev pub local_line : List ℕ → Option Words
+local_line path = if length path == 0 then None else Some (serve_one path)
+
+-- three words of which the first is `load` or names a tool, two of which the first is `local`, or `help` alone
 abbrev pub command_line_of : List (List ℕ) → Option Words
 command_line_of (verb ∷ []) = if bytes_eq verb (codes "help") then Some show_help else None
+command_line_of (verb ∷ path ∷ []) = if bytes_eq verb (codes "local") then local_line path else None
 command_line_of (verb ∷ first ∷ second ∷ []) =
     if bytes_eq verb (codes "load") then load_line (number_up_to MOST_SEED first) (number_up_to MOST_STEPS second) else tool_line (tool_named verb) first second
 command_line_of _ = None
@@ -66,4 +75,4 @@ command_line_of _ = None
 abbrev pub help_text : List ℕ
 help_text =
     codes "board list DIR NAME" ++ 10 ∷ codes "board check DIR NAME" ++ 10 ∷ codes "board make DIR NAME" ++ 10 ∷ codes "board pack DIR NAME" ++ 10
-    ∷ codes "board relink DIR NAME" ++ 10 ∷ codes "board load SEED COUNT" ++ 10 ∷ codes "board help" ++ 10 ∷ []
+    ∷ codes "board relink DIR NAME" ++ 10 ∷ codes "board load SEED COUNT" ++ 10 ∷ codes "board local CONF" ++ 10 ∷ codes "board help" ++ 10 ∷ []

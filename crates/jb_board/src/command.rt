@@ -1,7 +1,7 @@
 //! The words of the command line.
 ghost use Rattle.std.specs.Prelude.{◌≡◌, IfNone, IfSome, None, Some, map};
 ghost use Rattle.std.specs.String.{string_bytes};
-ghost use Rattle.jb_board.specs.Words.{HasFewSteps, command_line_of, load_line, number_up_to, tool_line, tool_named, words_of};
+ghost use Rattle.jb_board.specs.Words.{HasFewSteps, command_line_of, load_line, local_line, number_up_to, tool_line, tool_named, words_of};
 
 use crate::number::number_up_to;
 use jb_tool::Tool;
@@ -24,6 +24,10 @@ pub enum CommandLine<'a> {
     Load {
         seed: u32,
         count: u32,
+    },
+    /// `local CONF`: a session at the console, and the path of the settings, which is not empty.
+    Local {
+        path: &'a str,
     },
     /// `help`.
     Help,
@@ -75,6 +79,18 @@ fn load_line<'a>(seed: &str, count: &str) -> Option<CommandLine<'a>>
     Some(CommandLine::Load { seed, count })
 }
 
+/// The command line of a session.
+fn local_line<'a>(path: &'a str) -> Option<CommandLine<'a>>
+    ensures found { IfSome result (λ line. local_line path.now ≡ Some (words_of line)) }
+    ensures none { IfNone result (local_line path.now ≡ None) }
+    ensures few { IfSome result (λ line. HasFewSteps (words_of line)) }
+{
+    if path.is_empty() {
+        return None;
+    }
+    Some(CommandLine::Local { path })
+}
+
 /// The command line that these words are, if they are one.
 pub fn command<'a>(words: &'a [String]) -> Option<CommandLine<'a>>
     ensures found { IfSome result (λ line. command_line_of (map string_bytes words.now) ≡ Some (words_of line)) }
@@ -84,6 +100,7 @@ pub fn command<'a>(words: &'a [String]) -> Option<CommandLine<'a>>
     match words {
         [verb, seed, count] if verb.as_str() == "load" => load_line(seed.as_str(), count.as_str()),
         [verb, dir, name] => tool_line(verb.as_str(), dir.as_str(), name.as_str()),
+        [verb, path] if verb.as_str() == "local" => local_line(path.as_str()),
         [verb] if verb.as_str() == "help" => Some(CommandLine::Help),
         _ => None,
     }

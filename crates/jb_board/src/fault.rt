@@ -1,20 +1,28 @@
 //! How a run that is refused ends: its status and its line on the console.
 ghost use Rattle.std.specs.Prelude.{◌≡◌, ◌≤◌, ◌+◌, ◌++◌, [], ◌∷◌, length};
-ghost use Rattle.jb_board.specs.Faults.{base_line, base_status, line_of, status_of, tool_fault_line, tool_status, value_text};
+ghost use Rattle.jb_conf.specs.Names.{field_name};
+ghost use Rattle.jb_board.specs.Faults.{area_line, area_status, base_line, base_status, fault_of, line_of, opening_line, settings_line, settings_status, status_of, tool_fault_line, tool_status, value_text};
 
 use arrayvec::ArrayString;
 use itoa::Buffer;
+use jb_area_open::OpeningError;
+use jb_conf::{ConfError, Field};
 use jb_image::OpenError;
+use jb_local::LocalError;
 use jb_tool::ToolError;
 
-/// A line of at most 80 bytes; it takes no memory.
-pub type Line = ArrayString<80>;
+/// A line of at most 96 bytes; it takes no memory.
+pub type Line = ArrayString<96>;
 
 /// Why a run is refused.
 #[derive(Clone, Copy, Debug, PartialEq, Eq)]
 pub enum Fault {
     /// The words are no command line.
     Words,
+    /// The settings are refused.
+    Settings(ConfError),
+    /// The area at this place of the settings, counted from 1, is refused: by what its files hold, or by a fault of its disk.
+    Area { place: u32, error: OpeningError },
     /// The tool is refused: by what the files of its base hold, or by a fault of the disk, or for want of memory.
     Tool(ToolError),
     /// The host or the console failed.
@@ -120,6 +128,89 @@ fn tool_line(error: ToolError) -> Line
     }
 }
 
+/// The exit status where an area of the board is not opened.
+fn area_status(error: OpeningError) -> u8
+    ensures { result ≡ area_status error }
+{
+    match error {
+        OpeningError::BadJournal { .. } => 3,
+        OpeningError::Base(error) => base_status(error),
+    }
+}
+
+/// The line where an area of the board is not opened, without its end and without the area.
+fn opening_line(error: OpeningError) -> Line
+    ensures line { result.bytes ≡ opening_line error }
+    ensures short { length result.bytes ≤ 70 }
+{
+    match error {
+        OpeningError::BadJournal { at } => and_place(named("fault 3.14 BadJournal"), at),
+        OpeningError::Base(error) => base_line(error),
+    }
+}
+
+/// The same with the area behind it.
+fn area_line(place: u32, error: OpeningError) -> Line
+    ensures line { result.bytes ≡ area_line place error }
+    ensures short { length result.bytes ≤ 86 }
+{
+    let mut digits = Buffer::new();
+    let mut line = opening_line(error);
+    line.push_str(" area.");
+    line.push_str(digits.format(place));
+    line
+}
+
+/// The exit status where settings are refused.
+fn settings_status(error: ConfError) -> u8
+    ensures { result ≡ settings_status error }
+{
+    match error {
+        ConfError::OutOfMemory => 6,
+        _ => 2,
+    }
+}
+
+/// The line with the name of a field behind it.
+fn and_field(mut line: Line, field: Field) -> Line
+    requires { length line.bytes ≤ 40 }
+    ensures field { result.bytes ≡ line.bytes ++ 32 ∷ field_name field }
+    ensures short { length result.bytes ≤ length line.bytes + 33 }
+{
+    line.push_str(" ");
+    line.push_str(field.name().as_str());
+    line
+}
+
+/// The line where settings are refused, without its end.
+fn settings_line(error: ConfError) -> Line
+    ensures line { result.bytes ≡ settings_line error }
+    ensures short { length result.bytes ≤ 78 }
+{
+    match error {
+        ConfError::NotToml => named("fault 2.1 NotToml"),
+        ConfError::Missing { field } => and_field(named("fault 2.2 Missing"), field),
+        ConfError::WrongKind { field } => and_field(named("fault 2.3 WrongKind"), field),
+        ConfError::OutOfRange { field } => and_field(named("fault 2.4 OutOfRange"), field),
+        ConfError::Repeated { field } => and_field(named("fault 2.5 Repeated"), field),
+        ConfError::BadDigest { user } => and_value(named("fault 2.6 BadDigest"), user),
+        ConfError::OutOfMemory => named("fault 6 OutOfMemory"),
+    }
+}
+
+impl From<LocalError> for Fault {
+    ghost from_gives = { λ error fault. fault ≡ fault_of error };
+
+    fn from(error: LocalError) -> Fault {
+        match error {
+            LocalError::Settings(error) => Fault::Settings(error),
+            LocalError::Area { place, error } => Fault::Area { place, error },
+            LocalError::HostFault => Fault::HostFault,
+            LocalError::OutOfMemory => Fault::OutOfMemory,
+        }
+    }
+}
+
 impl Fault {
     /// The exit status of the program.
     pub fn status(self) -> u8
@@ -127,6 +218,8 @@ impl Fault {
     {
         match self {
             Fault::Words => 1,
+            Fault::Settings(error) => settings_status(error),
+            Fault::Area { error, .. } => area_status(error),
             Fault::Tool(error) => tool_status(error),
             Fault::HostFault => 5,
             Fault::OutOfMemory => 6,
@@ -139,6 +232,8 @@ impl Fault {
     {
         let mut line = match self {
             Fault::Words => named("fault 1 Words"),
+            Fault::Settings(error) => settings_line(error),
+            Fault::Area { place, error } => area_line(place, error),
             Fault::Tool(error) => tool_line(error),
             Fault::HostFault => named("fault 5 HostFault"),
             Fault::OutOfMemory => named("fault 6 OutOfMemory"),

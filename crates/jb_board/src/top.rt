@@ -1,7 +1,8 @@
 //! The program over any host.
 ghost use Rattle.std.specs.Prelude.{◌≡◌, ◌≤◌, Err, IfOk, IsSome, Ok, OnErr, Some, map};
 ghost use Rattle.std.specs.String.{string_bytes};
-ghost use Rattle.jb_board.specs.Run.{AnswersWords, HasRun, IsPrinted, UsesTool, answer_of};
+ghost use Rattle.jb_board.specs.Run.{AnswersWords, HasRun, IsPrinted, Serves, UsesTool, answer_of};
+ghost use Rattle.jb_board.specs.declared.top.Outcome.TheVariants.{Text as is_text};
 ghost use Rattle.jb_board.specs.Words.{command_line_of};
 ghost use Rattle.jb_board.specs.declared.fault.Fault.TheVariants.{OutOfMemory as no_memory};
 
@@ -10,30 +11,41 @@ use crate::fault::Fault;
 use jb_base::{Bytes, OutOfMemory};
 use jb_host::{Clock, Host, HostError, Link, send};
 use jb_load::load_in_memory;
+use jb_local::{LocalEnd, local};
 use jb_tool::{Tool, ToolError};
 use std::alloc::Global;
+use std::sync::Wait;
 
 /// The forms of words, each with the program's name before it.
 const HELP: &[u8] =
-    b"board list DIR NAME\nboard check DIR NAME\nboard make DIR NAME\nboard pack DIR NAME\nboard relink DIR NAME\nboard load SEED COUNT\nboard help\n";
+    b"board list DIR NAME\nboard check DIR NAME\nboard make DIR NAME\nboard pack DIR NAME\nboard relink DIR NAME\nboard load SEED COUNT\nboard local CONF\nboard help\n";
+
+/// What a run that is not refused comes to.
+#[derive(Debug, Drop)]
+pub(crate) enum Outcome {
+    /// A text to print.
+    Text(Bytes),
+    /// A session that has ended. Nothing is printed behind it.
+    Session(LocalEnd),
+}
 
 /// What a tool answered, as what the run answers.
-fn answered(answer: Result<Bytes, ToolError>) -> Result<Bytes, Fault>
+fn answered(answer: Result<Bytes, ToolError>) -> Result<Outcome, Fault>
     ensures { result ≡ answer_of answer }
 {
     match answer {
-        Ok(text) => Ok(text),
+        Ok(text) => Ok(Outcome::Text(text)),
         Err(error) => Err(Fault::Tool(error)),
     }
 }
 
 /// What a text without any other refusal is answered as.
-fn told(text: Result<Bytes, OutOfMemory>) -> Result<Bytes, Fault>
-    ensures told { IfOk text (λ said. result ≡ Ok said) }
+fn told(text: Result<Bytes, OutOfMemory>) -> Result<Outcome, Fault>
+    ensures told { IfOk text (λ said. result ≡ Ok (is_text said)) }
     ensures none { OnErr text (result ≡ Err no_memory) }
 {
     match text {
-        Ok(text) => Ok(text),
+        Ok(text) => Ok(Outcome::Text(text)),
         Err(_) => Err(Fault::OutOfMemory),
     }
 }
@@ -46,10 +58,8 @@ fn use_tool<H: Host>(
     dir: &str,
     name: &str,
     host: &mut H,
-) -> Result<Bytes, Fault>
-    ensures found { UsesTool tool moment dir.now name.now (H.desk host.old) (H.desk host.new) result }
-    ensures console { (H.desk host.new).console ≡ (H.desk host.old).console }
-    ensures reading { (H.desk host.new).reading ≡ (H.desk host.old).reading }
+) -> Result<Outcome, Fault>
+    ensures { UsesTool tool moment dir.now name.now (H.desk host.old) (H.desk host.new) result }
 {
     let disk = match host.disk(dir, name) {
         Ok(disk) => disk,
@@ -61,33 +71,49 @@ fn use_tool<H: Host>(
     answered(answer)
 }
 
+/// How a session at the console of the host ends.
+fn serve<R: Wait, H: Host>(
+    rt: &R,
+    alloc: Global,
+    path: &str,
+    host: &mut H,
+) -> Result<Outcome, Fault>
+    requires { IsSome (H.desk host.old).console }
+    ensures { Serves path.now (H.desk host.old) (H.desk host.new) result }
+{
+    Ok(Outcome::Session(local(rt, alloc, host, path)?))
+}
+
 /// What these words are answered.
-fn answer<H: Host>(
+fn answer<R: Wait, H: Host>(
+    rt: &R,
     alloc: Global,
     words: &[String],
     moment: u32,
     host: &mut H,
-) -> Result<Bytes, Fault>
+) -> Result<Outcome, Fault>
+    requires { IsSome (H.desk host.old).console }
     ensures found { AnswersWords (command_line_of (map string_bytes words.now)) moment (H.desk host.old) (H.desk host.new) result }
-    ensures console { (H.desk host.new).console ≡ (H.desk host.old).console }
-    ensures reading { (H.desk host.new).reading ≡ (H.desk host.old).reading }
+    ensures console { IsSome (H.desk host.new).console }
 {
     match command(words) {
         Some(CommandLine::Use { tool, dir, name }) => use_tool(
             alloc, tool, moment, dir, name, host,
         ),
         Some(CommandLine::Load { seed, count }) => told(load_in_memory(alloc, seed, count)),
+        Some(CommandLine::Local { path }) => serve(rt, alloc, path, host),
         Some(CommandLine::Help) => told(Bytes::copy(alloc, HELP)),
         None => Err(Fault::Words),
     }
 }
 
 /// Prints an answer, and says how the program ends.
-fn print<L: Link>(console: &mut L, answer: &Result<Bytes, Fault>) -> u8
+fn print<L: Link>(console: &mut L, answer: &Result<Outcome, Fault>) -> u8
     ensures { IsPrinted answer.now result (L.wire console.old) (L.wire console.new) }
 {
     match answer {
-        Ok(text) => match send(console, text.as_slice()) {
+        Ok(Outcome::Session(end)) => end.status(),
+        Ok(Outcome::Text(text)) => match send(console, text.as_slice()) {
             Ok(()) => 0,
             Err(_) => Fault::HostFault.status(),
         },
@@ -99,20 +125,22 @@ fn print<L: Link>(console: &mut L, answer: &Result<Bytes, Fault>) -> u8
     }
 }
 
-/// The whole program: answers the words at the moment that the host's clock shows, prints on the host's console, and gives the
-/// exit status.
+/// The whole program: answers the words at the moment that the host's clock shows, prints on the host's console or serves a caller
+/// there, and gives the exit status.
 ///
-/// 0: done and printed whole. 1: the words are no command line. 3: the base is refused. 4: its disk failed. 5: the host or
-/// the console failed. 6: want of memory. Under a status other than 0 the console has one line that begins with `fault`, or,
-/// where the console itself failed, a beginning of what was to be printed. Nothing is read from the console. The host is asked
-/// for the disk of the base alone, at most once, and has it back when the call returns.
-pub fn board<H: Host>(alloc: Global, words: &[String], host: &mut H) -> u8
+/// 0: done and printed whole, or a session that its caller ended. 1: the words are no command line. 2: the settings are refused.
+/// 3: the base is refused. 4: its disk failed, or an area is in doubt behind a session. 5: the host or the console failed. 6: want of
+/// memory. 7: a session that was ended by three refused log-ins, or took all that it may take. Under a status other than 0 the
+/// console has one line that begins with `fault`, or, where the console itself failed, a beginning of what was to be printed; but
+/// nothing is printed behind a session. Nothing is read from the console but by a session. The host is asked for the disk of the base
+/// alone, at most once, or for the settings and then for the disk of each area, in order, and has all back when the call returns.
+pub fn board<R: Wait, H: Host>(rt: &R, alloc: Global, words: &[String], host: &mut H) -> u8
     requires { IsSome (H.desk host.old).console }
     ensures { HasRun (map string_bytes words.now) (H.desk host.old) (H.desk host.new) result }
 {
     let mut clock = host.clock();
     let moment = clock.now();
-    let answer = answer(alloc, words, moment, host);
+    let answer = answer(rt, alloc, words, moment, host);
     let mut console = host.console();
     let status = print(&mut console, &answer);
     host.put_console(console);

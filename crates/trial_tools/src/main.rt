@@ -14,43 +14,54 @@ mod using;
 use base::Base;
 use std::alloc::Global;
 use std::io;
-use trial_rows::{Answers, Row, RowError};
+use std::sync::Wait;
+use trial_rows::{Row, RowError};
 
-/// What the rows work on.
-#[derive(Drop)]
-struct Tools {
-    rt: HostRuntime,
-    base: Base,
-}
-
-impl Answers for Tools {
-    fn answer(&mut self, alloc: Global, row: &Row) -> Result<String, RowError> {
-        match row.word(0)? {
-            "part" => base::part(alloc, row, &mut self.base),
-            "files" => base::files(alloc, row, &mut self.base),
-            "patch" => base::patch(alloc, row, &mut self.base),
-            "holds" => base::holds(alloc, row, &self.base),
-            "bytes" => base::bytes(alloc, row, &self.base),
-            "lengths" => base::lengths(alloc, row, &self.base),
-            "keep" => base::keep(alloc, &mut self.base),
-            "kept" => base::kept(alloc, &self.base),
-            "calls" => base::calls(alloc, &self.base),
-            "tool" => using::tool(alloc, row, &mut self.base),
-            "goes-on" => going::goes_on(alloc, row, &self.base),
-            "stopped-make" => going::stopped_make(alloc, row, &self.base),
-            "board" => running::run(alloc, row, &mut self.base),
-            "load" => loading::load(alloc, row),
-            "load-on-disk" => loading::load_on_disk(alloc, row, &mut self.base),
-            "real" => real::answer(self.rt, alloc, row, &mut self.base),
-            _ => Err(RowError::Unknown(0)),
-        }
+/// What the row comes to. It may wait, since a session waits for the turn of an area.
+fn answer<R: Wait>(
+    rt: &R,
+    files: HostRuntime,
+    alloc: Global,
+    line: &str,
+    base: &mut Base,
+) -> Result<String, RowError> {
+    let row = Row::of(alloc, line)?;
+    match row.word(0)? {
+        "part" => base::part(alloc, &row, base),
+        "files" => base::files(alloc, &row, base),
+        "patch" => base::patch(alloc, &row, base),
+        "holds" => base::holds(alloc, &row, base),
+        "bytes" => base::bytes(alloc, &row, base),
+        "lengths" => base::lengths(alloc, &row, base),
+        "keep" => base::keep(alloc, base),
+        "kept" => base::kept(alloc, base),
+        "calls" => base::calls(alloc, base),
+        "tool" => using::tool(alloc, &row, base),
+        "goes-on" => going::goes_on(alloc, &row, base),
+        "stopped-make" => going::stopped_make(alloc, &row, base),
+        "board" => running::run(rt, alloc, &row, base),
+        "session" => running::session(rt, alloc, &row, base),
+        "load" => loading::load(alloc, &row),
+        "load-on-disk" => loading::load_on_disk(alloc, &row, base),
+        "real" => real::answer(files, alloc, &row, base),
+        _ => Err(RowError::Unknown(0)),
     }
 }
 
+// The rows of trial_rows, in a loop of its own: what answers them here may wait.
 fn main(rt: HostRuntime) -> io::Result<()> {
-    let mut tools = Tools {
-        rt,
-        base: Base::new(rt.alloc()),
-    };
-    trial_rows::run(&rt, &mut tools)
+    let mut base = Base::new(rt.alloc());
+    for line in rt.lines(rt.alloc()) {
+        let line = line?;
+        let line = line.as_str();
+        if line.is_empty() || line.starts_with('#') {
+            println!(rt; "{line}")?;
+            continue;
+        }
+        match answer(&rt, rt, rt.alloc(), line, &mut base) {
+            Ok(text) => println!(rt; "{text}")?,
+            Err(error) => println!(rt; "no answer to '{line}': {error}")?,
+        }
+    }
+    Ok(())
 }

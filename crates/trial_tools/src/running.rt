@@ -8,18 +8,21 @@ use jb_board::board;
 use jb_disk::MemDisk;
 use jb_host::{MemHost, MemLink};
 use std::alloc::Global;
+use std::sync::Wait;
 use trial_rows::{Row, RowError, shown};
 
-/// A host with the base `general` in the folder `a`, at this moment, whose console fails the calls with these numbers.
+/// A host with the base `general` in the folder `a`, at this moment, on whose console this comes and which fails the calls with these
+/// numbers there.
 fn host(
     alloc: Global,
     general: MemDisk,
     moment: u32,
+    input: Bytes,
     failing: Vec<u64>,
 ) -> Result<MemHost, RowError>
     ensures { IfOk result (λ host. IsSome (memory_desk host).console) }
 {
-    let console = MemLink::new(alloc, Bytes::new(alloc), failing);
+    let console = MemLink::new(alloc, input, failing);
     let mut host = MemHost::new(alloc, console, moment, Vec::new(alloc));
     host.add_disk("a", "general", general)?;
     Ok(host)
@@ -55,11 +58,39 @@ fn ended(alloc: Global, status: u8, host: &MemHost, base: &mut Base) -> Result<S
 }
 
 /// `board MOMENT DISK CONSOLE WORD..`: a run of the words over the base, in which these calls of its disk and of the console fail.
-pub fn run(alloc: Global, row: &Row, base: &mut Base) -> Result<String, RowError> {
+pub fn run<R: Wait>(rt: &R, alloc: Global, row: &Row, base: &mut Base) -> Result<String, RowError> {
     let moment = row.u32(1)?;
     let words = words(alloc, row, 4)?;
     let disk = base.disk(alloc, row, 2)?;
-    let mut host = host(alloc, disk, moment, failing(alloc, row, 3)?)?;
-    let status = board(alloc, words.as_slice(), &mut host);
+    let mut host = host(
+        alloc,
+        disk,
+        moment,
+        Bytes::new(alloc),
+        failing(alloc, row, 3)?,
+    )?;
+    let status = board(rt, alloc, words.as_slice(), &mut host);
+    ended(alloc, status, &host, base)
+}
+
+/// `session MOMENT DISK CONSOLE SETTINGS INPUT`: one session over the base by these settings, with this on the console, in which these
+/// calls of its disk and of the console fail.
+pub fn session<R: Wait>(
+    rt: &R,
+    alloc: Global,
+    row: &Row,
+    base: &mut Base,
+) -> Result<String, RowError> {
+    let moment = row.u32(1)?;
+    let disk = base.disk(alloc, row, 2)?;
+    let settings = base.joined(alloc, row, 4)?;
+    let input = base.joined(alloc, row, 5)?;
+    let mut host = host(alloc, disk, moment, input, failing(alloc, row, 3)?)?;
+    host.add_settings("board.toml", settings)?;
+    let words = vec![in alloc;
+        String::from_str(alloc, "local")?,
+        String::from_str(alloc, "board.toml")?,
+    ]?;
+    let status = board(rt, alloc, words.as_slice(), &mut host);
     ended(alloc, status, &host, base)
 }

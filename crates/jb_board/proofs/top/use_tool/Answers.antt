@@ -3,8 +3,8 @@ use Rattle.jb_board.proofs.Placing.{answers_as, no_host_fault, no_want, no_words
 use Rattle.jb_board.specs.Run.{Answer, UsesTool}
 use Rattle.jb_board.proofs.top.use_tool.Goals as goal
 
-pub returns-clause-found : goal.returns-clause-found
-returns-clause-found g c =
+pub returns : goal.returns
+returns g c =
     let given = c.in-Ok.ensures.ok in
     let before = g.H.Disk.Disk.device c.in-Ok.disk in
     let after = g.H.Disk.Disk.device c.run-disk.result.0 in
@@ -13,6 +13,9 @@ returns-clause-found g c =
       calls = inl (c.put_back.ensures.calls ∙ given.calls);
       disk = inr (used_disk c.args.tool c.args.moment _ _ before after _ _ _ _ given c.put_back.ensures
           (answers_as c.args.tool c.args.moment before after said c.run-disk.ensures.answer) c.run-disk.ensures.crash c.run-disk.ensures.later);
+      settings = c.put_back.ensures.settings ∙ given.settings;
+      console = c.put_back.ensures.console ∙ given.console;
+      reading = c.put_back.ensures.reading ∙ given.reading;
       cause = λ is. absurd (no_host_fault said is);
       memory = λ is. absurd (no_want said is);
       known = λ is. no_words said is;

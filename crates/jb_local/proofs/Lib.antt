@@ -1,0 +1,4 @@
+mod Places
+mod Passing
+mod Refusing
+mod Serving
