@@ -1,3 +1,5 @@
+pub mod Callers
+pub mod Entering
 pub mod Paging
 pub mod Shelving
 pub mod Wires

@@ -7,7 +7,7 @@ use Rattle.jb_disk.specs.Device.{Device}
 use Rattle.std.proofs.lemmas.Bool.{and_parts, false≢true}
 use Rattle.std.proofs.lemmas.Slice.Eq.{bytes_eq-Decides}
 use Rattle.jb_disk.specs.Memory.{Recording, device_of}
-use Rattle.jb_host.specs.declared.memory_host.Shelf.{Shelf}
+use Rattle.jb_host.specs.declared.shelf.Shelf.{Shelf}
 use Rattle.jb_host.specs.Desk.{Place, has_disk, no_disk, handed_out, or_behind, with_behind, with_place}
 use Rattle.jb_host.specs.Shelves.{is_for, shelved, stands_on}
 
@@ -25,13 +25,13 @@ same_key dir name shelf other_dir other_name is =
     ap (λ (d : List ℕ). bytes_eq other_dir d && bytes_eq other_name shelf.name) (sym key.0) ∙ ap (λ (n : List ℕ). bytes_eq other_dir dir && bytes_eq other_name n) (sym key.1)
 
 -- a choice made twice by the same test
-twice : {A : Type 0} (b c : Bool) (x y z : A) → c ≡ b → (if b then x else z) ≡ (if b then x else (if c then y else z))
+pub twice : {A : Type 0} (b c : Bool) (x y z : A) → c ≡ b → (if b then x else z) ≡ (if b then x else (if c then y else z))
 twice true c x y z same = refl
 twice false true x y z same = absurd (cc)
 twice false false x y z same = refl
 
 -- a choice before another that it leaves alone
-swapped : {A : Type 0} (b c : Bool) (x y z : A) → (b ≡ true → c ≡ false) → (if c then y else (if b then x else z)) ≡ (if b then x else (if c then y else z))
+pub swapped : {A : Type 0} (b c : Bool) (x y z : A) → (b ≡ true → c ≡ false) → (if c then y else (if b then x else z)) ≡ (if b then x else (if c then y else z))
 swapped true true x y z not = absurd (false≢true (sym (not refl)))
 swapped true false x y z not = refl
 swapped false true x y z not = refl

@@ -1,5 +1,9 @@
 pub mod Desk
+pub mod Entrances
+pub mod Failing
+pub mod Gate
 pub mod Memory
 pub mod Real
+pub mod Rings
 pub mod Shelves
 pub mod Wire

@@ -1,13 +1,15 @@
--- The disks, settings and calls of a host in memory.
-use Rattle.std.specs.Prelude.{◌≡◌, ℕ, ◌+◌, ◌-◌, ◌^◌, ◌<◌, min, Contains, bytes_eq, ◌&&◌, Bool, true, false, List, [], ◌∷◌, length, map, slice_index_or, Option, Some, None, if◌then◌else◌}
+-- The disks, settings and calls of a host in memory, and all that it tells.
+use Rattle.std.specs.Prelude.{◌≡◌, ℕ, ◌<◌, bytes_eq, ◌&&◌, Bool, true, false, List, [], ◌∷◌, length, map, slice_index_or, Option, Some, None, if◌then◌else◌}
 use Rattle.std.specs.Option.{option_map}
 use Rattle.jb_disk.specs.Memory.{Recording, device_of}
-use Rattle.jb_host.specs.declared.memory_host.Call.{Call}
-use Rattle.jb_host.specs.declared.memory_host.Call.TheVariants as call
+use Rattle.jb_host.specs.declared.asking.Asking.{Asking}
+use Rattle.jb_host.specs.declared.asking.Call.{Call}
+use Rattle.jb_host.specs.declared.asking.Call.TheVariants as call
 use Rattle.jb_host.specs.declared.memory_host.MemHost.{MemHost}
-use Rattle.jb_host.specs.declared.memory_host.Shelf.{Shelf}
 use Rattle.jb_host.specs.declared.page.Page.{Page}
-use Rattle.jb_host.specs.Desk.{Desk, Disks, HostCall, Pages, Place, asked_disk, asked_settings, handed_out, has_disk, no_disk}
+use Rattle.jb_host.specs.declared.shelf.Shelf.{Shelf}
+use Rattle.jb_host.specs.Desk.{Desk, Disks, HostCall, Pages, Place, asked_bell, asked_disk, asked_door, asked_settings, handed_out, has_disk, no_bell, no_disk}
+use Rattle.jb_host.specs.Entrances.{bell_in, by_node, doors_in, waiting_in}
 use Rattle.jb_host.specs.Memory.{memory_wire}
 use Rattle.jb_host.specs.Wire.{Wire}
 
@@ -32,39 +34,54 @@ IsAt shelves dir name (Some k) =
     (k < length shelves) × ((d : Shelf) → is_for dir name (slice_index_or shelves k d) ≡ true)
     × ((j : ℕ) (d : Shelf) → j < k → is_for dir name (slice_index_or shelves j d) ≡ false)
 
--- the disks of a host in memory
-abbrev pub standing : MemHost → Disks
-standing host = shelved host.shelves.items
-
 -- what the pages hold, by path: the first page with it tells
 abbrev pub written : List Page → Pages
 written [] path = None
 written (page ∷ pages) path = if bytes_eq path page.path then Some page.bytes else written pages path
 
--- the settings files of a host in memory
-abbrev pub written_in : MemHost → Pages
-written_in host = written host.pages.items
-
 -- what a call asked for
 abbrev pub asked_by : Call → HostCall
 asked_by (call.Disk dir name) = asked_disk dir name
 asked_by (call.Settings path) = asked_settings path
+asked_by (call.Door node port calls) = asked_door node port calls
+asked_by (call.Bell areas minutes calls) = asked_bell areas minutes calls
 
--- the host was told to fail the call for a disk or for settings that comes next
-abbrev pub FailsNext : MemHost → Type 0
-FailsNext host = Contains host.failing.items (min (host.asked + 1) (2 ^ 64 - 1))
+-- what a host was asked for
+abbrev pub asked_of : Asking → List HostCall
+asked_of asking = map asked_by asking.calls.items
+
+-- the disks of a host in memory
+abbrev pub standing : MemHost → Disks
+standing host = shelved host.shelves.items
+
+-- its settings files
+abbrev pub written_in : MemHost → Pages
+written_in host = written host.pages.items
 
 -- a host in memory, which tells all
 abbrev pub memory_desk : MemHost → Desk
 memory_desk host = record {
-  faults = host.faults;
-  calls = Some (map asked_by host.calls.items);
+  faults = host.asking.faults;
+  calls = Some (asked_of host.asking);
   disks = Some (standing host);
   settings = Some (written_in host);
   console = option_map memory_wire host.console;
   reading = Some host.reading;
+  waiting = Some (waiting_in host.entrances);
+  doors = Some (doors_in host.entrances);
+  bell = Some (bell_in host.belfry);
 }
 
--- a host with this console, no disk, no settings and no call, whose clocks give this reading
+-- a host with this console, no disk, no settings, no door, no bell and no call, whose clocks give this reading
 abbrev pub empty_desk : Wire → ℕ → Desk
-empty_desk console reading = record { faults = 0; calls = Some []; disks = Some (shelved []); settings = Some (written []); console = Some console; reading = Some reading }
+empty_desk console reading = record {
+  faults = 0;
+  calls = Some [];
+  disks = Some (shelved []);
+  settings = Some (written []);
+  console = Some console;
+  reading = Some reading;
+  waiting = Some [];
+  doors = Some (by_node []);
+  bell = Some no_bell;
+}

@@ -2,13 +2,14 @@
 ghost use Rattle.std.specs.Prelude.{◌≡◌, Some, None, IsErr, IsSome, IfOk, IfErr};
 ghost use Rattle.jb_disk.specs.Device.{Device};
 ghost use Rattle.jb_host.specs.declared.host.HostError.TheVariants.{OutOfMemory as no_memory};
-ghost use Rattle.jb_host.specs.Desk.{Desk, GivesDisk, GivesSettings, RefusesCall, TakesBack, asked_disk, asked_settings};
+ghost use Rattle.jb_host.specs.Desk.{Desk, GivesBell, GivesDisk, GivesDoor, GivesSettings, RefusesCall, TakesBack, TakesBell, TakesDoor};
+ghost use Rattle.jb_host.specs.Desk.{asked_bell, asked_disk, asked_door, asked_settings};
 
-use crate::{Clock, Link};
+use crate::{Bell, Clock, Door, Link};
 use jb_base::{Bytes, OutOfMemory};
 use jb_disk::Disk;
 
-/// Why a host did not do it. Its disks, its settings and its console are as before.
+/// Why a host did not do it. Its disks, its settings, its doors, its bell and its console are as before.
 #[derive(Clone, Copy, Debug, PartialEq, Eq)]
 pub enum HostError {
     /// The host has no such thing, or its surroundings refused; its count of faults rose.
@@ -25,19 +26,24 @@ impl From<OutOfMemory> for HostError {
     }
 }
 
-/// The surroundings of a program: disks by folder and name, settings by path, one console, and clocks.
+/// The surroundings of a program: disks by folder and name, settings by path, one console, doors, a bell, and clocks.
 pub trait Host {
     type Disk: Disk + Drop;
 
     type Link: Link;
 
+    type Door: Door + Drop;
+
+    type Bell: Bell + Drop;
+
     type Clock: Clock + Drop;
 
-    /// Its count of faults, its console while that is not out, and where it tells them its calls, its disks, its settings and the
-    /// reading that its clocks give.
+    /// Its count of faults, its console while that is not out, and where it tells them its calls, its disks, its settings, its doors,
+    /// its bell and the reading that its clocks give.
     ghost desk: { Self → Desk };
 
-    /// The call for a disk or for settings that comes next is one that it was told to fail, as a host in memory is for a test.
+    /// The call for a disk, settings, a door or the bell that comes next is one that it was told to fail, as a host in memory is for a
+    /// test.
     ghost fails_next: { Self → Type 0 } = { λ _. ⊥ };
 
     /// The disk of the base with this name in this folder.
@@ -65,6 +71,32 @@ pub trait Host {
     /// Takes the console back.
     fn put_console(&mut self, link: Self::Link)
         ensures { desk self.new ≡ record (desk self.old) { console = Some (Self.Link.wire link) } };
+
+    /// A door for a node, at a port, which is shut after so many calls, or never. It is open from then on, also to callers that come
+    /// before it is asked for them.
+    fn door(&mut self, node: u32, port: u16, calls: Option<u32>) -> Result<Self::Door, HostError>
+        ensures ok { IfOk result (λ door. GivesDoor node port calls (Self.Door.gate door) (desk self.old) (desk self.new)) }
+        ensures err { IfErr result (λ error. RefusesCall (asked_door node port calls) error (desk self.old) (desk self.new)) }
+        ensures listed { fails_next self.old → IsErr result };
+
+    /// Takes a door back that was handed out for this node.
+    fn put_door(&mut self, node: u32, door: Self::Door)
+        ensures { TakesDoor node (Self.Door.gate door) (desk self.old) (desk self.new) };
+
+    /// The bell over so many areas: one after another, each after so many minutes; or each once, at once, where calls are counted.
+    fn bell(
+        &mut self,
+        areas: u32,
+        minutes: u32,
+        calls: Option<u32>,
+    ) -> Result<Self::Bell, HostError>
+        ensures ok { IfOk result (λ bell. GivesBell areas minutes calls (Self.Bell.rings bell) (desk self.old) (desk self.new)) }
+        ensures err { IfErr result (λ error. RefusesCall (asked_bell areas minutes calls) error (desk self.old) (desk self.new)) }
+        ensures listed { fails_next self.old → IsErr result };
+
+    /// Takes the bell back.
+    fn put_bell(&mut self, bell: Self::Bell)
+        ensures { TakesBell (Self.Bell.rings bell) (desk self.old) (desk self.new) };
 
     /// A clock.
     fn clock(&mut self) -> Self::Clock

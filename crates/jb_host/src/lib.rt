@@ -1,24 +1,43 @@
-//! What a program is given by its surroundings: links that carry bytes, clocks, and a host that hands out a console, settings,
-//! disks and clocks.
+//! What a program is given by its surroundings: links that carry bytes, doors that give links, a bell that says when to pack, clocks,
+//! and a host that hands out a console, settings, disks, doors, a bell and clocks.
 //!
-//! The layers above are generic over [`Link`], [`Clock`] and [`Host`] and are proved once. [`MemLink`], [`MemClock`] and
-//! [`MemHost`] tell all that there is to tell. Clauses on bytes, readings, calls, settings and disks hold where they are told,
-//! clauses on faults always.
+//! The layers above are generic over [`Link`], [`Door`], [`Bell`], [`Clock`] and [`Host`] and are proved once. [`MemLink`],
+//! [`MemDoor`], [`MemBell`], [`MemClock`] and [`MemHost`] tell all that there is to tell. Clauses on bytes, links, areas, readings,
+//! calls, settings, disks, doors and the bell hold where they are told, clauses on faults always.
 #![tactic(auto)]
 
+mod asking;
+mod belfry;
+mod bell;
 mod clock;
+mod door;
+mod entrances;
+mod failing;
+mod handed_out;
 mod host;
 mod link;
 mod memory;
+mod memory_bell;
+mod memory_door;
 mod memory_host;
 mod page;
+mod port;
 mod real;
 mod sending;
+mod shelf;
+mod tcp;
+mod timed;
 
+pub use bell::{Bell, Ring};
 pub use clock::{Clock, MemClock, SystemClock};
+pub use door::{Accepted, Door, DoorFailed};
 pub use host::{Host, HostError};
 pub use link::{Link, LinkFailed};
 pub use memory::MemLink;
+pub use memory_bell::MemBell;
+pub use memory_door::MemDoor;
 pub use memory_host::MemHost;
 pub use real::{ConsoleLink, MOST_SETTINGS_BYTES, RealHost};
 pub use sending::send;
+pub use tcp::{MOST_SILENT_SECONDS, MOST_STUCK_SECONDS, TcpDoor, TcpLink};
+pub use timed::TimedBell;

@@ -1,6 +1,7 @@
 //! A link in memory.
-ghost use Rattle.std.specs.Prelude.{◌≡◌, IsTrue, ◌+◌, ◌-◌, ◌<◌, ◌≤◌, ◌++◌, ◌∷◌, [], List, ℕ, Option, None, Some, length, take, drop, slice_range};
+ghost use Rattle.std.specs.Prelude.{◌≡◌, ◌+◌, ◌-◌, ◌<◌, ◌≤◌, ◌++◌, ◌∷◌, [], List, ℕ, Option, None, Some, length, take, drop, slice_range};
 
+use crate::failing::Failing;
 use crate::link::{Link, LinkFailed};
 use jb_base::Bytes;
 use std::alloc::Global;
@@ -12,8 +13,7 @@ pub struct MemLink {
     input: Bytes,
     at: usize,
     output: Bytes,
-    failing: Vec<u64>,
-    calls: u64,
+    failing: Failing,
     faults: u64,
     ends: u64,
     unsent: u64,
@@ -33,20 +33,19 @@ fn fill(into: &mut [u8], from: &[u8]) -> usize
 }
 
 impl MemLink {
-    ghost use Rattle.jb_host.specs.Memory.{FailsNext, memory_wire, fresh_wire};
+    ghost use Rattle.jb_host.specs.Memory.{memory_wire, fresh_wire};
 
     /// A link on which these bytes come, and which fails the calls with these numbers.
     pub fn new(alloc: Global, input: Bytes, failing: Vec<u64>) -> MemLink
         ensures fresh { memory_wire result ≡ fresh_wire input }
-        ensures told { result.failing ≡ failing }
-        ensures none { result.calls ≡ 0 }
+        ensures told { result.failing.numbers ≡ failing }
+        ensures none { result.failing.calls ≡ 0 }
     {
         MemLink {
             input,
             at: 0,
             output: Bytes::new(alloc),
-            failing,
-            calls: 0,
+            failing: Failing::new(failing),
             faults: 0,
             ends: 0,
             unsent: 0,
@@ -59,32 +58,18 @@ impl MemLink {
     {
         self.output.as_slice()
     }
-
-    /// Whether this call is one that fails.
-    fn fails(&mut self) -> bool
-        ensures listed { FailsNext self.old → IsTrue result }
-        ensures input { self.new.input ≡ self.old.input }
-        ensures at { self.new.at ≡ self.old.at }
-        ensures output { self.new.output ≡ self.old.output }
-        ensures faults { self.new.faults ≡ self.old.faults }
-        ensures ends { self.new.ends ≡ self.old.ends }
-        ensures unsent { self.new.unsent ≡ self.old.unsent }
-    {
-        self.calls = self.calls.saturating_add(1);
-        let number = self.calls;
-        self.failing.as_slice().contains(&number)
-    }
 }
 
 impl Link for MemLink {
-    ghost use Rattle.jb_host.specs.Memory.{FailsNext, memory_wire};
+    ghost use Rattle.jb_host.specs.Failing.{FailsNext};
+    ghost use Rattle.jb_host.specs.Memory.{memory_wire};
 
     ghost wire = { memory_wire };
 
-    ghost fails_next = { FailsNext };
+    ghost fails_next = { λ link. FailsNext link.failing };
 
     fn read(&mut self, into: &mut [u8]) -> Result<usize, LinkFailed> {
-        if self.fails() {
+        if self.failing.fails() {
             self.faults = self.faults.saturating_add(1);
             return Err(LinkFailed);
         }
@@ -98,7 +83,7 @@ impl Link for MemLink {
     }
 
     fn write(&mut self, bytes: &[u8]) -> Result<usize, LinkFailed> {
-        if self.fails() || self.output.append(bytes).is_err() {
+        if self.failing.fails() || self.output.append(bytes).is_err() {
             self.faults = self.faults.saturating_add(1);
             self.unsent = self.unsent.saturating_add(1);
             return Err(LinkFailed);

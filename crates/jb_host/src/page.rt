@@ -1,8 +1,10 @@
 //! The settings files of a host in memory.
-ghost use Rattle.std.specs.Prelude.{◌≡◌, IfNone, IfSome, None, Some};
+ghost use Rattle.std.specs.Prelude.{◌≡◌, IfErr, IfNone, IfOk, IfSome, None, Some};
 ghost use Rattle.jb_host.specs.Shelves.{written};
 
+use crate::host::HostError;
 use jb_base::Bytes;
+use std::alloc::Global;
 
 /// A settings file.
 #[derive(Debug, Drop)]
@@ -12,7 +14,7 @@ pub struct Page {
 }
 
 /// The bytes of the first page with this path.
-pub(crate) fn bytes_at<'a>(pages: &'a [Page], path: &[u8]) -> Option<&'a [u8]>
+fn bytes_at<'a>(pages: &'a [Page], path: &[u8]) -> Option<&'a [u8]>
     ensures found { IfSome result (λ bytes. written pages.now path.now ≡ Some bytes.now) }
     ensures none { IfNone result (written pages.now path.now ≡ None) }
 {
@@ -23,4 +25,19 @@ pub(crate) fn bytes_at<'a>(pages: &'a [Page], path: &[u8]) -> Option<&'a [u8]>
         }
     }
     None
+}
+
+/// A copy of the first page with this path.
+pub(crate) fn copy_at(
+    alloc: Global,
+    pages: &[Page],
+    path: &[u8],
+) -> Result<Option<Bytes>, HostError>
+    ensures ok { IfOk result (λ found. written pages.now path.now ≡ found) }
+    ensures err { IfErr result (λ error. error ≡ HostError.OutOfMemory) }
+{
+    match bytes_at(pages, path) {
+        Some(bytes) => Ok(Some(Bytes::copy(alloc, bytes)?)),
+        None => Ok(None),
+    }
 }

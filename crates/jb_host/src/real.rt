@@ -1,5 +1,5 @@
-//! The real surroundings: standard input and output, bases in folders, settings in files, and the clock of the system. Nothing is
-//! assumed of them: they tell no bytes and no reading.
+//! The real surroundings: standard input and output, bases in folders, settings in files, ports of TCP, and the clock of the system.
+//! Nothing is assumed of them: they tell no bytes and no reading.
 ghost use Rattle.std.specs.Prelude.{◌≡◌, IsSome, Some};
 ghost use Rattle.std.specs.Option.{option_map};
 ghost use Rattle.jb_host.specs.Real.{silent_wire, silent_desk};
@@ -7,11 +7,15 @@ ghost use Rattle.jb_host.specs.Real.{silent_wire, silent_desk};
 use crate::clock::SystemClock;
 use crate::host::{Host, HostError};
 use crate::link::{Link, LinkFailed};
+use crate::port::{Port, listener_at};
+use crate::tcp::TcpDoor;
+use crate::timed::TimedBell;
 use jb_base::Bytes;
 use jb_files::FolderDisk;
 use std::alloc::Global;
 use std::fs::File;
 use std::io::Read;
+use std::net::{Net, TcpListener, TcpStream};
 use std::rt::Files;
 use std::time;
 
@@ -106,16 +110,33 @@ fn read_whole<R: Files<File = File>>(
     Err(HostError::Failed)
 }
 
-/// The host of a process: bases in folders and settings in files of its file system, and its standard input and output.
+/// The host of a process: bases in folders and settings in files of its file system, its standard input and output, and its ports.
 #[derive(Drop)]
-pub struct RealHost<R: Files<File = File> + Input + Print + time::Clock + Copy + Drop> {
+pub struct RealHost<
+    R: Files<File = File>
+        + Input
+        + Print
+        + time::Clock
+        + Net<Listener = TcpListener, Stream = TcpStream>
+        + Copy
+        + Drop,
+> {
     rt: R,
     alloc: Global,
     console: Option<ConsoleLink<R>>,
+    ports: Vec<Port>,
     faults: u64,
 }
 
-impl<R: Files<File = File> + Input + Print + time::Clock + Copy + Drop> RealHost<R> {
+impl<
+    R: Files<File = File>
+        + Input
+        + Print
+        + time::Clock
+        + Net<Listener = TcpListener, Stream = TcpStream>
+        + Copy
+        + Drop,
+> RealHost<R> {
     /// The surroundings that this runtime reaches.
     pub fn new(rt: R, console: R, alloc: Global) -> RealHost<R>
         ensures console { IsSome result.console }
@@ -125,15 +146,28 @@ impl<R: Files<File = File> + Input + Print + time::Clock + Copy + Drop> RealHost
             rt,
             alloc,
             console: Some(ConsoleLink::new(console)),
+            ports: Vec::new(alloc),
             faults: 0,
         }
     }
 }
 
-impl<R: Files<File = File> + Input + Print + time::Clock + Copy + Drop> Host for RealHost<R> {
+impl<
+    R: Files<File = File>
+        + Input
+        + Print
+        + time::Clock
+        + Net<Listener = TcpListener, Stream = TcpStream>
+        + Copy
+        + Drop,
+> Host for RealHost<R> {
     type Disk = FolderDisk<R>;
 
     type Link = ConsoleLink<R>;
+
+    type Door = TcpDoor;
+
+    type Bell = TimedBell<R>;
 
     type Clock = SystemClock<R>;
 
@@ -163,6 +197,31 @@ impl<R: Files<File = File> + Input + Print + time::Clock + Copy + Drop> Host for
     fn put_console(&mut self, link: ConsoleLink<R>) {
         self.console = Some(link);
     }
+
+    fn door(&mut self, _node: u32, port: u16, calls: Option<u32>) -> Result<TcpDoor, HostError> {
+        match listener_at(&self.rt, &mut self.ports, port) {
+            Ok(listener) => Ok(TcpDoor::new(listener, calls)),
+            Err(error) => {
+                if error == HostError::Failed {
+                    self.faults = self.faults.saturating_add(1);
+                }
+                Err(error)
+            }
+        }
+    }
+
+    fn put_door(&mut self, _node: u32, _door: TcpDoor) {}
+
+    fn bell(
+        &mut self,
+        areas: u32,
+        minutes: u32,
+        calls: Option<u32>,
+    ) -> Result<TimedBell<R>, HostError> {
+        Ok(TimedBell::new(self.rt, areas, minutes, calls))
+    }
+
+    fn put_bell(&mut self, _bell: TimedBell<R>) {}
 
     fn clock(&mut self) -> SystemClock<R> {
         SystemClock::new(self.rt)

@@ -1,8 +1,10 @@
-//! Tries the disks, links and hosts by rows: each row is a call, and the line that is written for it is what was answered.
+//! Tries the disks, links, doors, bells and hosts by rows: each row is a call, and the line that is written for it is what was answered.
 #![tactic(auto)]
 
 mod calling;
 mod change;
+mod door;
+mod entrance;
 mod folder;
 mod host;
 mod link;
@@ -11,7 +13,10 @@ mod real;
 mod silent;
 mod spelling;
 mod steady;
+mod tcp;
 
+use door::Porch;
+use entrance::HandedOut;
 use jb_base::Bytes;
 use jb_disk::{MemDisk, Redo, SilentDisk, SteadyDisk};
 use jb_files::FolderDisk;
@@ -33,6 +38,8 @@ struct Trial {
     into: [u8; 3],
     host: MemHost,
     out: Vec<MemDisk>,
+    porch: Porch,
+    handed: HandedOut,
 }
 
 impl Trial {
@@ -48,6 +55,8 @@ impl Trial {
             into: [0; 3],
             host: host::host(alloc, Vec::new(alloc)),
             out: Vec::new(alloc),
+            porch: Porch::new(alloc),
+            handed: HandedOut::new(alloc),
         }
     }
 }
@@ -65,6 +74,10 @@ impl Answers for Trial {
             "console" => host::console(alloc, row),
             "clock" => host::clock(alloc, row),
             "host" => host::answer(alloc, &mut self.host, &mut self.out, row),
+            "door" => door::answer(alloc, &mut self.porch, row),
+            "bell" => door::bell(self.rt, alloc, row),
+            "entrance" => entrance::answer(alloc, &mut self.host, &mut self.handed, row),
+            "tcp" => tcp::answer(self.rt, alloc, row),
             _ => Err(RowError::Unknown(0)),
         }
     }

@@ -1,9 +1,7 @@
-use Rattle.std.proofs.Common.{ap, ◌∙◌, map, Some}
-use Rattle.std.specs.Option.{option_map}
+use Rattle.std.proofs.Common.{ap, ◌∙◌, Some}
 use Rattle.jb_host.specs.declared.page.Page.{Page}
 use Rattle.jb_host.specs.Desk.{Pages}
-use Rattle.jb_host.specs.Memory.{memory_wire}
-use Rattle.jb_host.specs.Shelves.{asked_by, standing, written}
+use Rattle.jb_host.specs.Shelves.{memory_desk, written}
 use Rattle.jb_host.proofs.Paging.{written-push}
 use Rattle.jb_host.proofs.memory_host.MemHost.add_settings.Goals as goal
 
@@ -12,11 +10,4 @@ returns-clause-ok c =
     let old = c.args.self.now in
     let page : Page = record { path = c.in_ok-path.path; bytes = c.args.bytes } in
     let pages = ap written c.in_ok-push.ensures.items ∙ written-push c.args.path.now old.pages.items page (c.in_ok-path.ensures ∙ c.as_bytes.ensures.value) in
-    ap (λ (p : Pages). record {
-      faults = old.faults;
-      calls = Some (map asked_by old.calls.items);
-      disks = Some (standing old);
-      settings = Some p;
-      console = option_map memory_wire old.console;
-      reading = Some old.reading;
-    }) pages
+    ap (λ (p : Pages). record (memory_desk old) { settings = Some p }) pages

@@ -1,5 +1,5 @@
 use Rattle.std.proofs.Common.{◌≡◌, ap, sym, ◌∙◌, [], None}
-use Rattle.jb_host.specs.declared.memory_host.Shelf.{Shelf}
+use Rattle.jb_host.specs.declared.shelf.Shelf.{Shelf}
 use Rattle.jb_host.specs.Desk.{has_disk, no_disk}
 use Rattle.jb_host.specs.Shelves.{stands_on}
 use Rattle.jb_host.proofs.Shelving.{if_none, lent_none, lent_there, shelved-first, shelved-none}

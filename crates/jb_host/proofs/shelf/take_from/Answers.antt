@@ -1,10 +1,10 @@
 use Rattle.std.proofs.Common.{ap, sym, ◌∙◌}
 use Rattle.jb_disk.specs.Memory.{Recording}
-use Rattle.jb_host.specs.declared.memory_host.Shelf.{Shelf}
+use Rattle.jb_host.specs.declared.shelf.Shelf.{Shelf}
 use Rattle.jb_host.specs.Desk.{with_place}
 use Rattle.jb_host.specs.Shelves.{shelved, stands_on}
 use Rattle.jb_host.proofs.Shelving.{if_some, shelved-first, shelved-set, stood_there}
-use Rattle.jb_host.proofs.memory_host.take_from.Goals as goal
+use Rattle.jb_host.proofs.shelf.take_from.Goals as goal
 
 pub returns-clause-found : goal.returns-clause-found
 returns-clause-found c =

@@ -1,10 +1,10 @@
 use Rattle.std.proofs.Common.{◌≡◌, ◌<◌, ℕ, List, [], None, length, false, ap, ◌∙◌, subst, sym}
 use Rattle.std.specs.Prelude.{slice_index_or}
-use Rattle.jb_host.specs.declared.memory_host.Shelf.{Shelf}
+use Rattle.jb_host.specs.declared.shelf.Shelf.{Shelf}
 use Rattle.jb_host.specs.Desk.{handed_out, no_disk}
 use Rattle.jb_host.specs.Shelves.{is_for}
 use Rattle.jb_host.proofs.Shelving.{shelved-set, shelved-none}
-use Rattle.jb_host.proofs.memory_host.put_on.Goals as goal
+use Rattle.jb_host.proofs.shelf.put_on.Goals as goal
 
 pub returns-in-Some : goal.returns-in-Some
 returns-in-Some c = λ out.

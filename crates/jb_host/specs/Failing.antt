@@ -1,0 +1,7 @@
+-- The calls that an object in memory was told to fail.
+use Rattle.std.specs.Prelude.{◌+◌, ◌-◌, ◌^◌, min, Contains}
+use Rattle.jb_host.specs.declared.failing.Failing.{Failing}
+
+-- the call that comes next is one of them
+abbrev pub FailsNext : Failing → Type 0
+FailsNext failing = Contains failing.numbers.items (min (failing.calls + 1) (2 ^ 64 - 1))

@@ -1,0 +1,180 @@
+//! Links and doors over TCP. Nothing is assumed of them: they tell no bytes and no links.
+ghost use Rattle.std.specs.Prelude.{◌≡◌, ◌≤◌, ℕ, IfOk, length, false};
+ghost use Rattle.jb_host.specs.Real.{silent_gate, silent_wire};
+
+use crate::door::{Accepted, Door, DoorFailed};
+use crate::link::{Link, LinkFailed};
+use std::io;
+use std::io::{ErrorKind, Read, Write};
+use std::net::{Shutdown, TcpListener, TcpStream};
+use std::time::Duration;
+
+/// Seconds for which a caller may be silent; then a read fails.
+pub const MOST_SILENT_SECONDS: u64 = 1_800;
+/// Seconds for which a caller may take no byte; then a write fails.
+pub const MOST_STUCK_SECONDS: u64 = 60;
+/// Seconds for which the end of a caller is waited for, once it is hung up, and so often.
+const LAST_SECONDS: u64 = 1;
+
+const LAST_READS: u32 = 8;
+/// How often a call is made again where a signal came between, and a caller is waited for where one went at once.
+const TRIES: u32 = 16;
+
+/// The connection of a caller. What is sent goes out at once. A read that has waited for half an hour, or a write for a minute, fails.
+#[derive(Drop)]
+pub struct TcpLink {
+    stream: TcpStream,
+    faults: u64,
+    ends: u64,
+    unsent: u64,
+}
+
+impl TcpLink {
+    /// A link over this connection, unless the connection refuses what a link needs.
+    pub fn new(stream: TcpStream) -> io::Result<TcpLink>
+        ensures { IfOk result (λ link. silent_wire link.faults link.ends link.unsent ≡ silent_wire 0 0 0) }
+    {
+        stream.set_nodelay(true)?;
+        stream.set_read_timeout(Some(Duration::from_secs(MOST_SILENT_SECONDS)))?;
+        stream.set_write_timeout(Some(Duration::from_secs(MOST_STUCK_SECONDS)))?;
+        Ok(TcpLink {
+            stream,
+            faults: 0,
+            ends: 0,
+            unsent: 0,
+        })
+    }
+
+    /// Ends the connection. What the caller still sends is taken for a short while first, since the last bytes that were sent to it are
+    /// lost where some of its own are not taken.
+    fn close(self) {
+        let mut stream = self.stream;
+        let mut piece = [0u8; 512];
+        let _ = stream.shutdown(Shutdown::Write);
+        let _ = stream.set_read_timeout(Some(Duration::from_secs(LAST_SECONDS)));
+        for _ in 0..LAST_READS {
+            if !matches!(stream.read(&mut piece), Ok(1..)) {
+                return;
+            }
+        }
+    }
+}
+
+/// Reads, again where a signal came between.
+fn read_some(stream: &mut TcpStream, into: &mut [u8]) -> io::Result<usize>
+    ensures { IfOk result (λ n. n ≤ length into.old) }
+{
+    for _ in 0..TRIES {
+        match stream.read(into) {
+            Err(error) if error.kind() == ErrorKind::Interrupted => {}
+            done => return done,
+        }
+    }
+    Err(io::Error::from(ErrorKind::Interrupted))
+}
+
+/// Writes, again where a signal came between.
+fn write_some(stream: &mut TcpStream, bytes: &[u8]) -> io::Result<usize>
+    ensures { IfOk result (λ n. n ≤ length bytes.now) }
+{
+    for _ in 0..TRIES {
+        match stream.write(bytes) {
+            Err(error) if error.kind() == ErrorKind::Interrupted => {}
+            done => return done,
+        }
+    }
+    Err(io::Error::from(ErrorKind::Interrupted))
+}
+
+impl Link for TcpLink {
+    ghost wire = { λ link. silent_wire link.faults link.ends link.unsent };
+
+    fn read(&mut self, into: &mut [u8]) -> Result<usize, LinkFailed> {
+        let Ok(n) = read_some(&mut self.stream, into) else {
+            self.faults = self.faults.saturating_add(1);
+            return Err(LinkFailed);
+        };
+        let is_end = n == 0 && !into.is_empty();
+        if is_end {
+            self.ends = self.ends.saturating_add(1);
+        }
+        Ok(n)
+    }
+
+    fn write(&mut self, bytes: &[u8]) -> Result<usize, LinkFailed> {
+        if let Ok(n) = write_some(&mut self.stream, bytes) {
+            if n > 0 || bytes.is_empty() {
+                return Ok(n);
+            }
+        }
+        self.faults = self.faults.saturating_add(1);
+        self.unsent = self.unsent.saturating_add(1);
+        Err(LinkFailed)
+    }
+}
+
+/// Where callers come in over TCP. It is shut after its number of calls, where it was given one.
+#[derive(Drop)]
+pub struct TcpDoor {
+    listener: TcpListener,
+    left: Option<u32>,
+    faults: u64,
+    is_shut: bool,
+}
+
+impl TcpDoor {
+    /// A door at this port, for so many calls, or as many as come.
+    pub fn new(listener: TcpListener, calls: Option<u32>) -> TcpDoor
+        ensures { silent_gate result.faults result.is_shut result.left ≡ silent_gate 0 false calls }
+    {
+        TcpDoor {
+            listener,
+            left: calls,
+            faults: 0,
+            is_shut: false,
+        }
+    }
+}
+
+/// The next caller; one that has gone before it was let in is passed over.
+fn next_caller(listener: &TcpListener) -> io::Result<TcpLink> {
+    for _ in 0..TRIES {
+        if let Ok((stream, _)) = listener.accept() {
+            if let Ok(link) = TcpLink::new(stream) {
+                return Ok(link);
+            }
+        }
+    }
+    Err(io::Error::from(ErrorKind::ConnectionAborted))
+}
+
+impl Door for TcpDoor {
+    type Link = TcpLink;
+
+    ghost gate = { λ door. silent_gate door.faults door.is_shut door.left };
+
+    fn accept(&mut self) -> Result<Accepted<TcpLink>, DoorFailed> {
+        let left = match self.left {
+            Some(0) => {
+                self.is_shut = true;
+                return Ok(Accepted::Shut);
+            }
+            Some(left) => Some(left - 1),
+            None => None,
+        };
+        match next_caller(&self.listener) {
+            Ok(link) => {
+                self.left = left;
+                Ok(Accepted::Call(link))
+            }
+            Err(_) => {
+                self.faults = self.faults.saturating_add(1);
+                Err(DoorFailed)
+            }
+        }
+    }
+
+    fn hang_up(&mut self, link: TcpLink) {
+        link.close();
+    }
+}
