@@ -1,6 +1,7 @@
 pub mod LiveLemmas
 pub mod RangeLemmas
 pub mod ReplyLemmas
+pub mod IdLemmas
 pub mod ParentLemmas
 pub mod PlanLemmas
 pub mod ThreadLemmas

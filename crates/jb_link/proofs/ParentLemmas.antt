@@ -2,15 +2,14 @@
 use Rattle.std.proofs.Common.{◌≡◌, ℕ, ◌+◌, ◌<◌, ◌≤◌, Bool, true, false, ◌&&◌, ◌==◌, cond, List, [], ◌∷◌, ◌++◌, Option, Some, None, find, length, take, slice_get, get_or, length-take, refl, sym, ◌∙◌, ap, arith, ne_eqb}
 use Rattle.std.proofs.lemmas.Grind.{common_steps, take_at_read}
 use Rattle.std.proofs.lemmas.List.Folds.{find-append}
-use Rattle.std.specs.Borrow.{Bor}
-use Rattle.std.specs.BTreeMap.{BTreeMap}
+use Rattle.std.proofs.lemmas.Option.{get_or_from_slice_get, slice_get-get_or}
 use Rattle.std.specs.Option.{option_or}
 use Rattle.jb_model.specs.Links.{Linkable, is_id, number_or_0, parent_at, parent_for, parent_of, parent_or_0}
 use Rattle.jb_model.specs.Message.{msgid_of, replyid_of}
 use Rattle.jb_model.specs.declared.loaded.LoadedMessage.{LoadedMessage}
 use Rattle.jb_model.specs.declared.loaded.LoadedSlot.{LoadedSlot}
 use Rattle.jb_model.specs.declared.loaded.LoadedSlot.TheVariants.{Empty, Killed, Live}
-use Rattle.jb_link.specs.Ids.{HasLowest, KeepsLowest, number_of}
+use Rattle.jb_link.specs.Ids.{HasLowest, KeepsLowest}
 use Rattle.jb_link.specs.Parents.{AreParents}
 use Rattle.jb_link.specs.Slots.{linkables_from, loaded_linkable, msgid_in}
 use Rattle.jb_link.proofs.LiveLemmas.{find_below, find_numbered, linkable_in, linkables_from-append}
@@ -29,9 +28,9 @@ pub parent_of_message : (base k : ℕ) (slots : List LoadedSlot) (message : Load
 parent_of_message base k slots message at = ap (parent_or_0 (linkables_from base slots)) (find_numbered k base (base + k) slots refl ∙ ap (linkable_in (base + k)) at)
 
 -- with a REPLYID it is the lowest with that id below
-pub parent_by_lowest : (base k result : ℕ) (slots : List LoadedSlot) (message : LoadedMessage) (numbers : BTreeMap (Bor (List ℕ)) ℕ) (id : List ℕ)
+pub parent_by_lowest : (base k result : ℕ) (slots : List LoadedSlot) (message : LoadedMessage) (numbers : List ℕ → ℕ) (id : List ℕ)
     → slice_get slots k ≡ Some (Live message) → Some id ≡ replyid_of message.subfields
-    → HasLowest numbers (linkables_from base (take k slots)) → result ≡ number_of numbers id
+    → HasLowest numbers (linkables_from base (take k slots)) → result ≡ numbers id
     → result ≡ parent_at (linkables_from base slots) (base + k)
 parent_by_lowest base k result slots message numbers id at reply lowest is =
     is ∙ lowest id ∙ ap number_or_0 (sym (find_below (λ one. is_id id one.msgid) k base (base + k) slots refl))
@@ -58,15 +57,9 @@ one_more base k slots slot within read =
     ∙ ap (λ n. linkables_from base (take k slots) ++ linkables_from (base + n) (slot ∷ [])) front
 
 -- the lowest numbers with one more slot
-pub lowest_step : (base k : ℕ) (slots : List LoadedSlot) (slot : LoadedSlot) (old new : BTreeMap (Bor (List ℕ)) ℕ) → 1 ≤ base → k < length slots → slot ≡ get_or slots k slot
-    → HasLowest old (linkables_from base (take k slots)) → KeepsLowest old new (base + k) slot → HasLowest new (linkables_from base (take (k + 1) slots))
-lowest_step base k slots slot old new one within read before keeps = λ id.
-    let r : Linkable → Bool = λ x. is_id id x.msgid in
-    let lower : Option Linkable = find r (linkables_from base (take k slots)) in
-    keeps id
-    ∙ ap (λ n. cond (is_id id (msgid_in (Some slot)) && (n == 0)) (base + k) n) (before id)
-    ∙ step_case id slot (find r (linkables_from base (take k slots))) (λ x found. let from : base ≤ x.number = found_from r base (take k slots) x found in omega arith)
-    ∙ ap number_or_0 (sym (ap (find r) (one_more base k slots slot within read) ∙ find-append r (linkables_from base (take k slots)) (linkables_from (base + k) (slot ∷ []))))
+pub lowest_step : (base k : ℕ) (slots : List LoadedSlot) (old new : List ℕ → ℕ) → 1 ≤ base → k < length slots
+    → HasLowest old (linkables_from base (take k slots)) → KeepsLowest old new (base + k) (slice_get slots k) → HasLowest new (linkables_from base (take (k + 1) slots))
+lowest_step base k slots old new one within before keeps = λ id. with_slot id (get_or slots k Empty) (slice_get-get_or slots k Empty within)
   where
     live_case : (b : Bool) (message : LoadedMessage) → cond (b && true) (base + k) 0 ≡ number_or_0 (cond b (Some (loaded_linkable (base + k) message)) None)
     live_case true message = refl
@@ -86,6 +79,17 @@ lowest_step base k slots slot old new one within read before keeps = λ id.
     step_case id Empty None above = refl
     step_case id (Killed header_at) None above = refl
     step_case id (Live message) None above = live_case (is_id id (msgid_of message.subfields)) message
+
+    with_slot : (id : List ℕ) (slot : LoadedSlot) → slice_get slots k ≡ Some slot
+        → new id ≡ number_or_0 (find (λ one. is_id id one.msgid) (linkables_from base (take (k + 1) slots)))
+    with_slot id slot at =
+        let r : Linkable → Bool = λ x. is_id id x.msgid in
+        keeps id
+        ∙ ap (λ there. cond (is_id id (msgid_in there) && (old id == 0)) (base + k) (old id)) at
+        ∙ ap (λ n. cond (is_id id (msgid_in (Some slot)) && (n == 0)) (base + k) n) (before id)
+        ∙ step_case id slot (find r (linkables_from base (take k slots))) (λ x found. let from : base ≤ x.number = found_from r base (take k slots) x found in omega arith)
+        ∙ ap number_or_0
+        (sym (ap (find r) (one_more base k slots slot within (sym (get_or_from_slice_get slots k slot slot at))) ∙ find-append r (linkables_from base (take k slots)) (linkables_from (base + k) (slot ∷ []))))
 
 -- the parents with one more
 pub parents_step : (live : List Linkable) (base k parent : ℕ) (parents : List ℕ) → AreParents live base k parents → parent ≡ parent_at live (base + k)

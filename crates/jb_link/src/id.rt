@@ -1,7 +1,9 @@
 //! Ids, compared by their bytes.
 ghost use Rattle.std.specs.Prelude.{◌≡◌};
 ghost use Rattle.jb_model.specs.Links.{is_id};
-ghost use Rattle.jb_link.specs.Ids.{lent};
+ghost use Rattle.jb_link.specs.Ids.{hash_of, lent};
+
+use std::hash::{FoldHasher, Hasher};
 
 /// Whether there is an id and it has these bytes.
 pub(crate) fn is_id(found: Option<&[u8]>, bytes: &[u8]) -> bool
@@ -11,4 +13,13 @@ pub(crate) fn is_id(found: Option<&[u8]>, bytes: &[u8]) -> bool
         Some(id) => id == bytes,
         None => false,
     }
+}
+
+/// A number that ids with the same bytes share, and others hardly ever.
+pub(crate) fn hash_of(id: &[u8]) -> u64
+    ensures { result ≡ hash_of id.now }
+{
+    let mut hasher = FoldHasher::default();
+    hasher.write(id);
+    hasher.finish()
 }

@@ -6,11 +6,12 @@
 //! `jb_model`: each call gives what they say of the state that is loaded, whatever its texts are, since no text bears
 //! on a link.
 //!
-//! Ids are compared by their bytes and never by their CRCs, so a base in which all ids have one CRC costs no more. Of
-//! `s` slots, with `n` live messages, [`relink_plan`] and [`thread`] take a time of `s` plus `n log n` comparisons of
-//! ids, and memory for as many numbers as there are slots; [`changed`] takes a time of `n`. [`parent`] looks once at
-//! the slots below the number, [`splice`] once at those below the parent and once at those above; neither takes
-//! memory. [`is_live`] looks at one slot.
+//! Ids are compared by their bytes and never by the CRCs that headers tell, so a base in which all ids have one CRC costs
+//! no more. Of `s` slots, with `n` live messages, [`relink_plan`] and [`thread`] take a time of `s` where the hashes of the
+//! ids fall as if drawn at random, and of `s` plus `n log n` comparisons of ids whoever chose the ids. Their memory is 16
+//! bytes a slot for the ids, some 40 for each id whose seat another has, which is one in nine at most, and 4 bytes a slot
+//! for each list of numbers; [`changed`] takes a time of `n`. [`parent`] looks once at the slots below the number,
+//! [`splice`] once at those below the parent and once at those above; neither takes memory. [`is_live`] looks at one slot.
 #![tactic(auto)]
 
 mod changes;
@@ -18,6 +19,7 @@ mod id;
 mod ids;
 mod laws;
 mod lists;
+mod others;
 mod parents;
 mod relinking;
 mod scan;

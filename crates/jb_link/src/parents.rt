@@ -1,13 +1,13 @@
 //! The parents of all live messages.
-ghost use Rattle.std.specs.Prelude.{◌≡◌, ◌+◌, ◌<◌, ◌≤◌, ℕ, IfOk, OnOk, length, take};
+ghost use Rattle.std.specs.Prelude.{◌≡◌, ◌+◌, ◌<◌, ◌≤◌, IfOk, OnOk, length, slice_get, take};
 ghost use Rattle.jb_model.specs.Links.{parent_at};
-ghost use Rattle.jb_link.specs.Ids.{HasLowest, KeepsLowest};
+ghost use Rattle.jb_link.specs.Ids.{HasLowest, IsSettled, KeepsLowest, number_of};
 ghost use Rattle.jb_link.specs.Slots.{linkables_from};
 ghost use Rattle.jb_link.specs.Parents.{AreParents};
 
 use crate::ids::Ids;
-use crate::scan::number_if_live;
-use jb_base::{MSGID, OutOfMemory, REPLYID};
+use crate::scan::{msgid_in, number_if_live};
+use jb_base::{OutOfMemory, REPLYID};
 use jb_model::LoadedSlot;
 use std::alloc::Global;
 
@@ -21,40 +21,46 @@ pub(crate) fn parents_by_place(
     requires numbers { base + length slots.now ≤ 4_294_967_295 }
     ensures { IfOk result (λ parents. AreParents (linkables_from base slots.now) base (length slots.now) parents.items) }
 {
-    let mut ids = Ids::new(alloc);
+    let mut ids = Ids::new(alloc, slots.len())?;
     let mut parents = Vec::new(alloc);
     for place in 0..slots.len() {
         parents.push(parent_at(base, slots, place, &ids))?;
-        keep_id(&mut ids, base + place as u32, &slots[place])?;
+        keep_id(&mut ids, base, slots, place)?;
     }
     Ok(parents)
 }
 
 /// The parent of the message at this place, or 0, where these are the lowest numbers of the ids below it.
-fn parent_at(base: u32, slots: &[LoadedSlot], place: usize, ids: &Ids<'_>) -> u32
+fn parent_at<'a>(base: u32, slots: &'a [LoadedSlot], place: usize, ids: &Ids<'a>) -> u32
     requires place { place < length slots.now }
-    requires ids { HasLowest ids.now.numbers (linkables_from base (take place slots.now)) }
+    requires settled { IsSettled ids.now }
+    requires ids { HasLowest (number_of base slots.now ids.now) (linkables_from base (take place slots.now)) }
     ensures { result ≡ parent_at (linkables_from base slots.now) (base + place) }
 {
     let LoadedSlot::Live(message) = &slots[place] else {
         return 0;
     };
     match message.subfields.first(REPLYID) {
-        Some(id) => ids.number_of(id),
+        Some(id) => ids.number_of(base, slots, id),
         None => number_if_live(base, &slots[..place], message.head.reply_to),
     }
 }
 
-/// Keeps the number of the MSGID at a slot with this number, where it is the lowest with it.
-fn keep_id<'a>(ids: &mut Ids<'a>, number: u32, slot: &'a LoadedSlot) -> Result<(), OutOfMemory>
-    requires { 1 ≤ number }
-    ensures { OnOk result (KeepsLowest ids.old.numbers ids.new.numbers number slot.now) }
+/// Keeps the number of the MSGID at a place, where it is the lowest with it.
+fn keep_id<'a>(
+    ids: &mut Ids<'a>,
+    base: u32,
+    slots: &'a [LoadedSlot],
+    place: usize,
+) -> Result<(), OutOfMemory>
+    requires base { 1 ≤ base }
+    requires numbers { base + length slots.now ≤ 4_294_967_295 }
+    requires place { place < length slots.now }
+    requires settled { IsSettled ids.old }
+    ensures { OnOk result (IsSettled ids.new × KeepsLowest (number_of base slots.now ids.old) (number_of base slots.now ids.new) (base + place) (slice_get slots.now place)) }
 {
-    let LoadedSlot::Live(message) = slot else {
-        return Ok(());
-    };
-    match message.subfields.first(MSGID) {
-        Some(id) => ids.keep(id, number),
+    match msgid_in(&slots[place]) {
+        Some(id) => ids.keep(base, slots, id, base + place as u32),
         None => Ok(()),
     }
 }

@@ -5,8 +5,8 @@ ghost use Rattle.jb_model.specs.Links.{is_id, number_or_0, parent_for};
 ghost use Rattle.jb_model.specs.State.{state_of};
 ghost use Rattle.jb_model.specs.Live.{message_at};
 ghost use Rattle.jb_model.specs.Message.{msgid_of};
-ghost use Rattle.jb_link.specs.Ids.{lent};
-ghost use Rattle.jb_link.specs.Slots.{IsLive, is_live_and, linkables, linkables_from, message_in};
+ghost use Rattle.jb_link.specs.Ids.{lent, msgid_at};
+ghost use Rattle.jb_link.specs.Slots.{IsLive, is_live_and, linkables, linkables_from, message_in, msgid_in};
 
 use crate::id::is_id;
 use jb_base::MSGID;
@@ -54,6 +54,26 @@ fn has_id(slot: &LoadedSlot, id: &[u8]) -> bool
         LoadedSlot::Live(message) => is_id(message.subfields.first(MSGID), id),
         _ => false,
     }
+}
+
+/// The MSGID of the live message of a slot, where it has one.
+pub(crate) fn msgid_in(slot: &LoadedSlot) -> Option<&[u8]>
+    ensures { lent result ≡ msgid_in (Some slot.now) }
+{
+    match slot {
+        LoadedSlot::Live(message) => message.subfields.first(MSGID),
+        _ => None,
+    }
+}
+
+/// The MSGID of the live message with this number, where it has one; the first slot has the number `base`.
+pub(crate) fn msgid_at(base: u32, slots: &[LoadedSlot], number: u32) -> Option<&[u8]>
+    ensures { lent result ≡ msgid_at base slots.now number }
+{
+    if number < base {
+        return None;
+    }
+    msgid_in(slots.get((number - base) as usize)?)
 }
 
 /// This number where it is a live one, or 0; the first slot has the number `base`.

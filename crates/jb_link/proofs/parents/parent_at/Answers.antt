@@ -1,5 +1,6 @@
 use Rattle.std.proofs.Common.{Some, refl, ap, ◌∙◌}
 use Rattle.std.proofs.lemmas.Option.{slice_get_read}
+use Rattle.jb_link.specs.Ids.{number_of}
 use Rattle.jb_link.proofs.ParentLemmas.{parent_by_kept, parent_by_lowest, parent_of_no_message}
 use Rattle.jb_link.proofs.parents.parent_at.Goals as goal
 
@@ -10,7 +11,7 @@ returns-in_default c =
 
 pub returns-in-Some : goal.returns-in-Some
 returns-in-Some c =
-    parent_by_lowest c.args.base c.args.place c.number_of.result c.args.slots.now c.in-Live.message c.args.ids.now.numbers c.in-Some.id.now
+    parent_by_lowest c.args.base c.args.place c.number_of.result c.args.slots.now c.in-Live.message (number_of c.args.base c.args.slots.now c.args.ids.now) c.in-Some.id.now
     (slice_get_read c.args.slots.now _ c.args.place c.index-slots-place.result refl c.requires.place c.index-slots-place.is ∙ ap Some c.in-Live.is)
     c.in-Some.ensures c.requires.ids c.number_of.ensures
 
