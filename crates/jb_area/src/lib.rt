@@ -27,6 +27,3 @@ mod stage;
 
 pub use area::OpenArea;
 pub use jb_decide::AreaError;
-
-#[cfg(test)]
-mod tests;

@@ -16,6 +16,3 @@ mod opening;
 
 pub use error::OpeningError;
 pub use opening::open_area;
-
-#[cfg(test)]
-mod tests;

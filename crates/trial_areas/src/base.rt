@@ -1,0 +1,242 @@
+//! The base on which the trials work.
+
+use crate::area::Area;
+use crate::quiet::{Holes, NO_HOLES, Quiet};
+use jb_base::{Bytes, OutOfMemory};
+use jb_disk::{FileId, MemDisk};
+use std::alloc::Global;
+use std::array;
+use trial_rows::{Row, RowError, hexed};
+
+/// The files of a base, the most slots that its area may have, and dead bytes.
+#[derive(Drop)]
+pub(crate) struct Base {
+    files: MemDisk,
+    slots: u32,
+    holes: Holes,
+}
+
+// The file with this number, from 0.
+fn file_of(number: usize) -> FileId {
+    match number {
+        0 => FileId::Jhr,
+        1 => FileId::Jdt,
+        2 => FileId::Jdx,
+        3 => FileId::Jlr,
+        4 => FileId::Jnl,
+        _ => FileId::Ndt,
+    }
+}
+
+// The file that the word at a place names.
+fn file_in(row: &Row, place: usize) -> Result<FileId, RowError> {
+    match row.word(place)? {
+        "jhr" => Ok(FileId::Jhr),
+        "jdt" => Ok(FileId::Jdt),
+        "jdx" => Ok(FileId::Jdx),
+        "jlr" => Ok(FileId::Jlr),
+        "jnl" => Ok(FileId::Jnl),
+        "ndt" => Ok(FileId::Ndt),
+        _ => Err(RowError::Unknown(place)),
+    }
+}
+
+// What the files of a disk hold.
+fn copies(alloc: Global, disk: &MemDisk) -> Result<[Bytes; 6], OutOfMemory> {
+    array::try_from_fn(|number| Bytes::copy(alloc, disk.file(file_of(number))))
+}
+
+// .JHR of an empty base with this number: the fixed header up to its number, and 1,000 zeros behind that.
+fn headers_of(alloc: Global, number: u32) -> Result<Bytes, OutOfMemory> {
+    let mut headers = Bytes::copy(alloc, b"JAM\0")?;
+    headers.append(&1_000_000_000_u32.to_le_bytes())?;
+    headers.append(&[0; 8])?;
+    headers.append(&u32::MAX.to_le_bytes())?;
+    headers.append(&number.to_le_bytes())?;
+    headers.append(&[0; 1_000])?;
+    Ok(headers)
+}
+
+// The marks of so many users behind these, whose numbers go from 1,000,000 on.
+fn append_marks(marks: &mut Bytes, count: u32) -> Result<(), OutOfMemory> {
+    for user in 0..count {
+        marks.append(b"\0\0\0\x01")?;
+        marks.append(&user.saturating_add(1_000_000).to_le_bytes())?;
+        marks.append(&[0; 8])?;
+    }
+    Ok(())
+}
+
+// These bytes so many times behind the others.
+fn append_often(file: &mut Bytes, bytes: &[u8], count: u32) -> Result<(), OutOfMemory> {
+    for _ in 0..count {
+        file.append(bytes)?;
+    }
+    Ok(())
+}
+
+impl Base {
+    /// Six empty files.
+    pub(crate) fn new(alloc: Global) -> Result<Base, OutOfMemory> {
+        let files = array::from_fn(|_| Bytes::new(alloc));
+        Ok(Base {
+            files: MemDisk::new(alloc, files, Vec::new(alloc))?,
+            slots: 65_000,
+            holes: NO_HOLES,
+        })
+    }
+
+    /// An empty base with this number.
+    pub(crate) fn empty(alloc: Global, number: u32) -> Result<Base, OutOfMemory> {
+        let mut base = Base::new(alloc)?;
+        base.put(alloc, FileId::Jhr, headers_of(alloc, number)?)?;
+        base.put(alloc, FileId::Jnl, Bytes::copy(alloc, &[0; 16])?)?;
+        Ok(base)
+    }
+
+    // Gives a file other bytes.
+    fn put(&mut self, alloc: Global, file: FileId, bytes: Bytes) -> Result<(), OutOfMemory> {
+        let mut files = copies(alloc, &self.files)?;
+        if let Some(place) = files.get_mut(file.number() as usize) {
+            *place = bytes;
+        }
+        self.files = MemDisk::new(alloc, files, Vec::new(alloc))?;
+        Ok(())
+    }
+
+    /// `limits SLOTS HEADERS TEXTS`: the most slots, and dead bytes behind the fixed header and at the beginning of .JDT.
+    pub(crate) fn limit(&mut self, row: &Row) -> Result<(), RowError> {
+        self.slots = row.u32(1)?;
+        self.holes = Holes {
+            headers: row.number(2)?,
+            texts: row.number(3)?,
+        };
+        Ok(())
+    }
+
+    /// `append FILE COUNT BYTES`: so many times these bytes behind the others. Its length.
+    pub(crate) fn append(&mut self, alloc: Global, row: &Row) -> Result<String, RowError> {
+        let file = file_in(row, 1)?;
+        let bytes = row.bytes(alloc, 3)?;
+        let mut whole = Bytes::copy(alloc, self.files.file(file))?;
+        append_often(&mut whole, bytes.as_slice(), row.u32(2)?)?;
+        let length = whole.len();
+        self.put(alloc, file, whole)?;
+        Ok(format!(in alloc; "{length}")?)
+    }
+
+    /// The marks of so many users more.
+    pub(crate) fn add_marks(&mut self, alloc: Global, count: u32) -> Result<(), OutOfMemory> {
+        let mut whole = Bytes::copy(alloc, self.files.file(FileId::Jlr))?;
+        append_marks(&mut whole, count)?;
+        self.put(alloc, FileId::Jlr, whole)
+    }
+
+    /// `length FILE`.
+    pub(crate) fn length(&self, alloc: Global, row: &Row) -> Result<String, RowError> {
+        let length = self.files.file(file_in(row, 1)?).len();
+        Ok(format!(in alloc; "{length}")?)
+    }
+
+    /// `bytes FILE AT LEN`.
+    pub(crate) fn bytes(&self, alloc: Global, row: &Row) -> Result<String, RowError> {
+        let at = row.u32(2)? as usize;
+        let end = at.saturating_add(row.u32(3)? as usize);
+        match self.files.file(file_in(row, 1)?).get(at..end) {
+            Some(bytes) => hexed(alloc, bytes),
+            None => Ok(String::from_str(alloc, "not so long")?),
+        }
+    }
+
+    /// A disk with the files, that fails the calls with these numbers.
+    pub(crate) fn disk(&self, alloc: Global, failing: &[u64]) -> Result<Quiet, RowError> {
+        let files = copies(alloc, &self.files)?;
+        Quiet::new(alloc, files, self.holes, failing)
+    }
+
+    /// The area of the base, on a disk that fails the calls with these numbers.
+    pub(crate) fn open(&self, alloc: Global, failing: &[u64]) -> Result<Area, RowError> {
+        self.over(alloc, self.disk(alloc, failing)?)
+    }
+
+    /// The area over this disk.
+    pub(crate) fn over(&self, alloc: Global, disk: Quiet) -> Result<Area, RowError> {
+        Area::open(alloc, disk, self.slots)
+    }
+
+    /// The disk when the area was opened.
+    pub(crate) fn opened(&self, alloc: Global) -> Result<Quiet, RowError> {
+        Ok(self.open(alloc, &[])?.close())
+    }
+
+    /// How many calls of the disk an opening makes.
+    pub(crate) fn opening_calls(&self, alloc: Global) -> Result<u64, RowError> {
+        Ok(self.opened(alloc)?.calls())
+    }
+
+    /// Whether the disk holds the files of the base.
+    pub(crate) fn is_in(&self, disk: &Quiet) -> bool {
+        (0..6).all(|number| disk.file(file_of(number)) == self.files.file(file_of(number)))
+    }
+
+    /// Takes the files that the disk holds.
+    pub(crate) fn take(&mut self, alloc: Global, disk: &Quiet) -> Result<(), OutOfMemory> {
+        let files = copies(alloc, disk.memory())?;
+        self.files = MemDisk::new(alloc, files, Vec::new(alloc))?;
+        Ok(())
+    }
+}
+
+/// What stands on a disk whose area was closed with this in its memory: that, and the bytes of its texts.
+fn with_texts(alloc: Global, memory: String, disk: &Quiet) -> Result<String, RowError> {
+    let texts = hexed(alloc, disk.file(FileId::Jdt))?;
+    let mut memory = memory;
+    memory.push_str(texts.as_str())?;
+    Ok(memory)
+}
+
+/// What stands in an area, in words; and its disk.
+pub(crate) fn stand(alloc: Global, area: Area) -> Result<(Quiet, String), RowError> {
+    let memory = area.memory(alloc);
+    let disk = area.close();
+    let words = with_texts(alloc, memory?, &disk)?;
+    Ok((disk, words))
+}
+
+impl Base {
+    /// What stands in the area of the disk.
+    pub(crate) fn stand_on(&self, alloc: Global, disk: Quiet) -> Result<String, RowError> {
+        let (_disk, words) = stand(alloc, self.over(alloc, disk)?)?;
+        Ok(words)
+    }
+
+    /// Whether this stands in the area, and again when its files are opened anew.
+    pub(crate) fn stands(&self, alloc: Global, area: Area, wanted: &str) -> Result<bool, RowError> {
+        let (disk, came) = stand(alloc, area)?;
+        if came.as_str() != wanted {
+            return Ok(false);
+        }
+        Ok(self.stand_on(alloc, disk)?.as_str() == wanted)
+    }
+
+    /// What is loaded when the disk is opened.
+    pub(crate) fn memory_on(&self, alloc: Global, disk: Quiet) -> Result<String, RowError> {
+        let area = self.over(alloc, disk)?;
+        let memory = area.memory(alloc);
+        let _disk = area.close();
+        memory
+    }
+
+    /// Whether this was answered last in the area, and this stands in it then.
+    pub(crate) fn answers(
+        &self,
+        alloc: Global,
+        area: Area,
+        reply: &str,
+        after: &str,
+    ) -> Result<bool, RowError> {
+        let words = area.words(alloc);
+        let stands = self.stands(alloc, area, after);
+        Ok(words?.as_str() == reply && stands?)
+    }
+}

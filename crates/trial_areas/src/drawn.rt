@@ -1,0 +1,239 @@
+//! Commands that are drawn by lot, asked of one open area and of the plain, slow program beside it.
+
+use crate::area::{Area as Open, rules_of};
+use crate::asking::{asked_by, command_of, sized_post, user_of};
+use crate::base::{Base, stand};
+use crate::plain::{loaded_words, plain_words};
+use crate::quiet::Quiet;
+use crate::showing::{reply_words, words};
+use jb_base::Bytes;
+use jb_disk::FileId;
+use jb_model::{Area, Asked, Command, Marks, Reply, Slots};
+use jb_plain::{Replies, may_run, run_slow};
+use std::alloc::Global;
+use trial_rows::RowError;
+
+/// How many commands are asked between two openings.
+const ROUND: u32 = 50;
+
+/// A linear congruential generator.
+#[derive(Clone, Copy, Debug)]
+struct Lot {
+    state: u64,
+}
+
+impl Lot {
+    // A number below this one, which is at least 1.
+    fn draw(&mut self, below: u32) -> u32 {
+        self.state = self
+            .state
+            .wrapping_mul(6_364_136_223_846_793_005)
+            .wrapping_add(1_442_695_040_888_963_407);
+        ((self.state >> 33) % u64::from(below.max(1))) as u32
+    }
+
+    // A user, seldom one who may not post.
+    fn who(&mut self) -> &'static str {
+        match self.draw(16) {
+            0 => "Guest",
+            1 => "Reader",
+            2..=4 => "Hello",
+            5..=10 => "Sysop",
+            _ => "Test",
+        }
+    }
+
+    // The number of a message: mostly one of the first four or of the last twelve.
+    fn number(&mut self, base: u32, next: u32) -> u32 {
+        match self.draw(24) {
+            0 => 0,
+            1 => u32::MAX,
+            2 => next,
+            3 => self.draw(next),
+            4..=10 => base.saturating_add(self.draw(4)),
+            _ => next.saturating_sub(self.draw(12)),
+        }
+    }
+
+    // A post of any size, in reply to this number.
+    fn sized(&mut self, alloc: Global, number: u32) -> Result<Command, RowError> {
+        let to = self.draw(40);
+        let subject = self.draw(80);
+        let text = self.draw(20_000);
+        Ok(sized_post(alloc, to, subject, text, number)?)
+    }
+
+    // What is done, where the numbers go from this one to below that one.
+    fn command(&mut self, alloc: Global, base: u32, next: u32) -> Result<Command, RowError> {
+        let number = self.number(base, next);
+        match self.draw(40) {
+            0..=3 => command_of(alloc, "post", 0),
+            4..=11 => command_of(alloc, "post", number),
+            12 | 13 => command_of(alloc, "private", 0),
+            14 | 15 => self.sized(alloc, number),
+            16..=20 => command_of(alloc, "read", number),
+            21 | 22 => command_of(alloc, "peek", number),
+            23..=31 => command_of(alloc, "kill", number),
+            32..=34 => command_of(alloc, "mark", number),
+            35 | 36 => Ok(Command::Relink),
+            _ => Ok(Command::Pack),
+        }
+    }
+
+    // A round of commands, where the numbers go from this one to below that one, and a third of them may be posts.
+    fn round(&mut self, alloc: Global, base: u32, next: u32) -> Result<Vec<Asked>, RowError> {
+        let mut list = Vec::new(alloc);
+        for count in 0..ROUND {
+            let user = user_of(alloc, self.who())?;
+            let command = self.command(alloc, base, next.saturating_add(count / 3))?;
+            list.push(asked_by(user, command))?;
+        }
+        Ok(list)
+    }
+}
+
+// The plain area behind these commands, and its replies.
+fn run_plain(alloc: Global, area: Area, list: &[Asked]) -> Result<(Area, Replies), RowError> {
+    let rules = rules_of(alloc, 65_000)?;
+    if !may_run(&area, rules.slots) {
+        return Err(RowError::Unknown(0));
+    }
+    Ok(run_slow(alloc, &rules, area, list)?)
+}
+
+// Whether the area answered this last.
+fn is_reply(alloc: Global, area: &Open, reply: &Reply) -> Result<bool, RowError> {
+    let wanted = reply_words(alloc, reply)?;
+    Ok(area.words(alloc)?.as_str() == wanted.as_str())
+}
+
+// How many of these are answered so in the open area.
+fn ask_all(
+    alloc: Global,
+    area: Open,
+    list: &[Asked],
+    replies: &[Reply],
+) -> Result<(Open, u32), RowError> {
+    let mut area = area;
+    let mut count = 0_u32;
+    for (asked, reply) in list.iter().zip(replies) {
+        area = area.run(alloc, asked);
+        match is_reply(alloc, &area, reply) {
+            Ok(true) => count = count.saturating_add(1),
+            Ok(false) => {}
+            Err(error) => {
+                let _disk = area.close();
+                return Err(error);
+            }
+        }
+    }
+    Ok((area, count))
+}
+
+// The area in the words of the plain one, with its texts among these.
+fn words_in(alloc: Global, area: &Open, texts: &[u8]) -> Result<String, RowError> {
+    match area.loaded() {
+        Some(loaded) => loaded_words(alloc, loaded, texts),
+        None => words(alloc, "not open"),
+    }
+}
+
+// The area of the disk in the words of the plain one.
+fn words_on(alloc: Global, base: &Base, disk: Quiet) -> Result<String, RowError> {
+    let texts = Bytes::copy(alloc, disk.file(FileId::Jdt))?;
+    let area = base.over(alloc, disk)?;
+    let words = words_in(alloc, &area, texts.as_slice());
+    let _disk = area.close();
+    words
+}
+
+// Whether the disk opens to the plain area, and to what stood in the area.
+fn is_plain(
+    alloc: Global,
+    base: &Base,
+    disk: &Quiet,
+    plain: &Area,
+    stood: &str,
+) -> Result<bool, RowError> {
+    let again = base.stand_on(alloc, disk.copied()?)?;
+    if again.as_str() != stood {
+        return Ok(false);
+    }
+    let came = words_on(alloc, base, disk.copied()?)?;
+    Ok(plain_words(alloc, plain)?.as_str() == came.as_str())
+}
+
+// The number that the next message gets.
+fn next_of(plain: &Area) -> u32 {
+    let slots = plain.slots.as_slice().len();
+    plain
+        .base
+        .saturating_add(u32::try_from(slots).unwrap_or(u32::MAX))
+}
+
+// A round in the open area over the disk: the disk then, and how many replies are the same, or none where the area is not.
+fn ask_open(
+    alloc: Global,
+    base: &Base,
+    disk: Quiet,
+    list: &[Asked],
+    plain: &Area,
+    replies: &[Reply],
+) -> Result<(Quiet, u32), RowError> {
+    let area = base.over(alloc, disk)?;
+    let (area, count) = ask_all(alloc, area, list, replies)?;
+    let (disk, stood) = stand(alloc, area)?;
+    let is_so = is_plain(alloc, base, &disk, plain, stood.as_str())?;
+    Ok((disk, if is_so { count } else { 0 }))
+}
+
+/// What was drawn and asked so far: the plain area, the disk of the open one, and how many replies were the same.
+#[derive(Drop)]
+struct Race {
+    lot: Lot,
+    plain: Area,
+    disk: Quiet,
+    count: u32,
+}
+
+// A round more.
+fn next_round(alloc: Global, base: &Base, race: Race) -> Result<Race, RowError> {
+    let Race {
+        mut lot,
+        plain,
+        disk,
+        count,
+    } = race;
+    let list = lot.round(alloc, plain.base, next_of(&plain))?;
+    let (plain, replies) = run_plain(alloc, plain, list.as_slice())?;
+    let replies = replies.as_slice();
+    let (disk, same) = ask_open(alloc, base, disk, list.as_slice(), &plain, replies)?;
+    Ok(Race {
+        lot,
+        plain,
+        disk,
+        count: count.saturating_add(same),
+    })
+}
+
+/// `drawn SEED ROUNDS`: how many commands are answered as by the plain program, in rounds of fifty, each of them on a base that was closed
+/// and opened anew; those of a round whose area is not that of the program do not count.
+pub(crate) fn drawn(alloc: Global, seed: u32, rounds: u32) -> Result<String, RowError> {
+    let base = Base::empty(alloc, 1)?;
+    let mut race = Race {
+        lot: Lot {
+            state: u64::from(seed),
+        },
+        plain: Area {
+            base: 1,
+            slots: Slots::new(alloc),
+            marks: Marks::new(alloc),
+        },
+        disk: base.opened(alloc)?,
+        count: 0,
+    };
+    for _ in 0..rounds {
+        race = next_round(alloc, &base, race)?;
+    }
+    Ok(format!(in alloc; "{} the same", race.count)?)
+}

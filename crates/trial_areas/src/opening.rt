@@ -1,0 +1,82 @@
+//! Openings, with what each tells, and stopped at each of their device calls.
+
+use crate::area::Area;
+use crate::base::Base;
+use crate::quiet::Quiet;
+use crate::showing::figures;
+use jb_area_open::OpeningError;
+use jb_image::OpenError;
+use std::alloc::Global;
+use trial_rows::RowError;
+
+/// What the area has where it is open; else why it is not, and whether the disk came back with the files of the base.
+pub(crate) fn told(alloc: Global, base: &Base, area: &Area) -> Result<String, RowError> {
+    if let Some(loaded) = area.loaded() {
+        return figures(alloc, loaded);
+    }
+    let Some((error, disk)) = area.refusal() else {
+        return Err(RowError::Unknown(0));
+    };
+    let files = if base.is_in(disk) {
+        "as they were"
+    } else {
+        "other ones"
+    };
+    Ok(format!(in alloc; "{error:?}, files {files}")?)
+}
+
+// Whether the disk opens to what this opening comes to.
+fn opens_to(alloc: Global, base: &Base, disk: Quiet, wanted: &str) -> Result<bool, RowError> {
+    let memory = base.memory_on(alloc, disk)?;
+    Ok(memory.as_str() == wanted)
+}
+
+// Whether the opening was refused for a fault.
+fn is_fault(area: &Area) -> bool {
+    match area.refusal() {
+        Some((error, _disk)) => error == OpeningError::Base(OpenError::StoreFault),
+        None => false,
+    }
+}
+
+// Whether the opening is told this failing call as a fault, and the disk then opens to the same.
+fn faults(alloc: Global, base: &Base, call: u64, wanted: &str) -> Result<bool, RowError> {
+    let area = base.open(alloc, &[call])?;
+    let is_told = is_fault(&area);
+    let opens = opens_to(alloc, base, area.close(), wanted)?;
+    Ok(is_told && opens)
+}
+
+// How many of the first so many calls are told as a fault when they fail, with what opens to the same then.
+fn faults_in(alloc: Global, base: &Base, calls: u64, wanted: &str) -> Result<u64, RowError> {
+    let mut count = 0_u64;
+    for call in 0..calls {
+        if faults(alloc, base, call.saturating_add(1), wanted)? {
+            count = count.saturating_add(1);
+        }
+    }
+    Ok(count)
+}
+
+// How many images of crashes, four of each moment, open to the same.
+fn images(alloc: Global, base: &Base, disk: &Quiet, wanted: &str) -> Result<u64, RowError> {
+    let mut count = 0_u64;
+    for image in 0..disk.calls().saturating_add(1).saturating_mul(4) {
+        let left = disk.crashed(image / 4, (image % 4) as u8)?;
+        if opens_to(alloc, base, left, wanted)? {
+            count = count.saturating_add(1);
+        }
+    }
+    Ok(count)
+}
+
+/// `opening`: how many device calls the opening makes; how many of them are told as a fault where they fail, and leave what opens to
+/// the same; and how many images of crashes, four of each moment, open to the same.
+pub(crate) fn opening(alloc: Global, base: &Base) -> Result<String, RowError> {
+    let memory = base.memory_on(alloc, base.disk(alloc, &[])?)?;
+    let disk = base.opened(alloc)?;
+    let faults = faults_in(alloc, base, disk.calls(), memory.as_str())?;
+    let images = images(alloc, base, &disk, memory.as_str())?;
+    let calls = disk.calls();
+    Ok(format!(in alloc; "{calls} calls, {faults} faults, {images} images")?)
+}

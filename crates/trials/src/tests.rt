@@ -1,7 +1,0 @@
-//! The tables.
-
-mod drawn;
-mod parts;
-mod refusals;
-mod rows;
-mod stops;
