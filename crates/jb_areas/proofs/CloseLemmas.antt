@@ -1,15 +1,18 @@
 -- Areas that are closed, the last first.
-use Rattle.std.proofs.Common.{◌≡◌, ℕ, suc, ◌+◌, ◌<◌, ◌≤◌, Bool, true, false, ◌||◌, List, [], ◌∷◌, length, take, drop, All, refl, sym, ap, subst, ◌∙◌, arith}
+use Rattle.std.proofs.Common.{◌≡◌, ℕ, zero, suc, ◌+◌, ◌<◌, ◌≤◌, Bool, true, false, ◌||◌, List, [], ◌∷◌, length, take, drop, All, refl, sym, ap, subst, ◌∙◌, arith}
 use Rattle.std.specs.Prelude.{AllPairs, slice_index_or, fold}
-use Rattle.std.proofs.lemmas.List.{drop_all, drop_more, get_or-drop, get_or-take, get_or_default, length-drop, length-take-le, take-take}
+use Rattle.std.proofs.lemmas.List.{drop_all, drop_more, get_or-drop, get_or-take, get_or_default, length-drop, length-take-le, take-take, take_all}
 use Rattle.jb_conf.specs.declared.board.BoardArea.{BoardArea}
 use Rattle.jb_disk.specs.Device.{Device}
 use Rattle.jb_host.specs.Desk.{Desk, TakesBack}
 use Rattle.jb_shared.specs.Passes.{PassView}
-use Rattle.jb_areas.specs.All.{ClosesAll, any}
-use Rattle.jb_areas.specs.Lives.{EndsAlone}
+use Rattle.jb_areas.specs.All.{ClosesAll, EndsAt, any}
+use Rattle.jb_areas.specs.Desks.{PutsBack}
+use Rattle.jb_areas.specs.Lives.{Ends}
+use Rattle.jb_areas.specs.Rows.{IsDealt}
 use Rattle.jb_areas.proofs.DeskLemmas.{IsElsewhere, puts_back_first, puts_back_none}
-use Rattle.jb_areas.proofs.EachLemmas.{each_first, one_of}
+use Rattle.jb_areas.proofs.EachLemmas.{one_of}
+use Rattle.jb_areas.proofs.RowLemmas.{column_of_first, dealt_take}
 
 -- the order of three does not matter
 or_turned : (a b c : Bool) → (a || (b || c)) ≡ ((a || c) || b)
@@ -28,30 +31,6 @@ any_from so_far (bit ∷ bits) = any_from (so_far || bit) bits ∙ or_turned (an
 any_first : (bit : Bool) (bits : List Bool) → any (bit ∷ bits) ≡ (any bits || bit)
 any_first bit bits = any_from bit bits
 
--- nothing is closed
-pub closes_none : (desk : Desk) → ClosesAll [] [] desk desk false
-closes_none desk = record {
-  afters = [];
-  doubts = [];
-  back = puts_back_none desk;
-  ends = record { count = refl; each = λ k pass doubt after within. absurd (omega arith) };
-  doubt = refl;
-}
-
--- the area before these is closed too
-closes_first : (area : BoardArea) (areas : List BoardArea) (pass : PassView) (passes : List PassView) (old mid new : Desk) (so_far doubt : Bool) (after : Device) → All (IsElsewhere area) areas
-    → TakesBack area.dir area.base after mid new → EndsAlone pass.known doubt after → ClosesAll areas passes old mid so_far → ClosesAll (area ∷ areas) (pass ∷ passes) old new (so_far || doubt)
-closes_first area areas pass passes old mid new so_far doubt after apart takes ends all = record {
-  afters = after ∷ all.afters;
-  doubts = doubt ∷ all.doubts;
-  back = puts_back_first area after areas all.afters old mid new apart all.back takes;
-  ends = record {
-    count = ap suc all.ends.count;
-    each = each_first (λ (p : PassView) (d : Bool) (a : Device). EndsAlone p.known d a) pass passes doubt all.doubts after all.afters ends all.ends.each;
-  };
-  doubt = ap (λ (b : Bool). b || doubt) all.doubt ∙ sym (any_first doubt all.doubts);
-}
-
 -- an area is elsewhere than all behind it
 elsewhere_behind : (areas : List BoardArea) (k : ℕ) (area : BoardArea) → k < length areas → AllPairs IsElsewhere areas → All (IsElsewhere (slice_index_or areas k area)) (drop (k + 1) areas)
 elsewhere_behind areas k area within places = λ j d low.
@@ -66,38 +45,100 @@ places_take areas n within places = λ i j d before low.
     subst (λ (a : BoardArea). IsElsewhere a (slice_index_or (take n areas) j d)) (sym (get_or-take n areas i d (omega arith)))
     (subst (IsElsewhere (slice_index_or areas i d)) (sym (get_or-take n areas j d in_j)) (places i j d before (omega arith)))
 
--- the area at a place is closed, as those behind it are
-pub closes_at : (areas : List BoardArea) (passes : List PassView) (k : ℕ) (old mid new : Desk) (so_far doubt : Bool) (after : Device) → k < length areas → k < length passes → AllPairs IsElsewhere areas
-    → ((area : BoardArea) → TakesBack (slice_index_or areas k area).dir (slice_index_or areas k area).base after mid new)
-    → ((pass : PassView) → EndsAlone (slice_index_or passes k pass).known doubt after)
-    → ClosesAll (drop (k + 1) areas) (drop (k + 1) passes) old mid so_far → ClosesAll (drop k areas) (drop k passes) old new (so_far || doubt)
-closes_at areas passes k old mid new so_far doubt after in_areas in_passes places takes ends all =
-    let area = one_of areas k in_areas in
-    let pass = one_of passes k in_passes in
-    subst (λ (l : List BoardArea). ClosesAll l (drop k passes) old new (so_far || doubt)) (sym (drop_more areas k area in_areas))
-    (subst (λ (l : List PassView). ClosesAll (slice_index_or areas k area ∷ drop (k + 1) areas) l old new (so_far || doubt)) (sym (drop_more passes k pass in_passes))
-    (closes_first (slice_index_or areas k area) (drop (k + 1) areas) (slice_index_or passes k pass) (drop (k + 1) passes) old mid new so_far doubt after
-    (elsewhere_behind areas k area in_areas places) (takes area) (ends pass) all))
+-- the areas from this place on are closed, each with the passes that the nodes had of it
+pub record ClosesFrom (place : ℕ) (areas : List BoardArea) (nodes : List (List PassView)) (old new : Desk) (is_doubtful : Bool) : Type 0 where
+  pub afters : List Device
+  pub doubts : List Bool
+  pub back : PutsBack (drop place areas) afters old new
+  pub count : length doubts ≡ length (drop place areas)
+  pub ends : (k : ℕ) (doubt : Bool) (after : Device) → k < length (drop place areas) → EndsAt nodes (place + k) (slice_index_or doubts k doubt) (slice_index_or afters k after)
+  pub doubt : is_doubtful ≡ any doubts
 
--- no area is closed yet
-pub closes_begin : (areas : List BoardArea) (first : List PassView) (n : ℕ) (desk : Desk) → n ≤ length areas → length first ≡ n → ClosesAll (drop n (take n areas)) (drop n first) desk desk false
-closes_begin areas first n desk within same =
-    subst (λ (l : List BoardArea). ClosesAll l (drop n first) desk desk false) (sym (drop_all n (take n areas) (omega (arith, length-take-le n areas within))))
-    (subst (λ (l : List PassView). ClosesAll [] l desk desk false) (sym (drop_all n first (omega arith))) (closes_none desk))
+-- none is closed yet
+pub closes_begin : (areas : List BoardArea) (nodes : List (List PassView)) (n : ℕ) (desk : Desk) → length areas ≡ n → ClosesFrom n areas nodes desk desk false
+closes_begin areas nodes n desk same =
+    let none : drop n areas ≡ [] = drop_all n areas (omega (arith, same)) in
+    record {
+      afters = [];
+      doubts = [];
+      back = subst (λ (l : List BoardArea). PutsBack l [] desk desk) (sym none) (puts_back_none desk);
+      count = sym (ap length none);
+      ends = λ k doubt after within. absurd (omega (arith, within, ap length none));
+      doubt = refl;
+    }
+
+-- all are closed
+pub closes_end : (areas : List BoardArea) (nodes : List (List PassView)) (old new : Desk) (is_doubtful : Bool) → ClosesFrom 0 areas nodes old new is_doubtful → ClosesAll areas nodes old new is_doubtful
+closes_end areas nodes old new is_doubtful all = record {
+  afters = all.afters;
+  doubts = all.doubts;
+  back = all.back;
+  count = all.count;
+  ends = λ k doubt after within. subst (λ (n : ℕ). EndsAt nodes n (slice_index_or all.doubts k doubt) (slice_index_or all.afters k after)) (omega arith) (all.ends k doubt after within);
+  doubt = all.doubt;
+}
+
+-- the area before those is closed too
+closes_first : (area : BoardArea) (rest : List BoardArea) (nodes : List (List PassView)) (k : ℕ) (areas : List BoardArea) (old mid new : Desk) (so_far doubt : Bool) (after : Device)
+    → drop k areas ≡ area ∷ rest → drop (k + 1) areas ≡ rest → All (IsElsewhere area) rest → TakesBack area.dir area.base after mid new → EndsAt nodes k doubt after
+    → ClosesFrom (k + 1) areas nodes old mid so_far → ClosesFrom k areas nodes old new (so_far || doubt)
+closes_first area rest nodes k areas old mid new so_far doubt after here behind apart takes ends all =
+    let first : PutsBack rest all.afters old mid = subst (λ (l : List BoardArea). PutsBack l all.afters old mid) behind all.back in
+    let later : (j : ℕ) (d : Bool) (a : Device) → j < length rest → EndsAt nodes (k + 1 + j) (slice_index_or all.doubts j d) (slice_index_or all.afters j a)
+    = λ j d a within. all.ends j d a (omega (arith, within, ap length behind)) in
+    record {
+      afters = after ∷ all.afters;
+      doubts = doubt ∷ all.doubts;
+      back = subst (λ (l : List BoardArea). PutsBack l (after ∷ all.afters) old new) (sym here) (puts_back_first area after rest all.afters old mid new apart first takes);
+      count = ap suc (all.count ∙ ap length behind) ∙ sym (ap length here);
+      ends = λ j d a within. ends_each nodes k doubt after all.doubts all.afters (length rest) ends later j d a (omega (arith, within, ap length here));
+      doubt = ap (λ (b : Bool). b || doubt) all.doubt ∙ sym (any_first doubt all.doubts);
+    }
+  where
+    ends_each : (nodes : List (List PassView)) (k : ℕ) (doubt : Bool) (after : Device) (doubts : List Bool) (afters : List Device) (count : ℕ) → EndsAt nodes k doubt after
+        → ((j : ℕ) (d : Bool) (a : Device) → j < count → EndsAt nodes (k + 1 + j) (slice_index_or doubts j d) (slice_index_or afters j a))
+        → (j : ℕ) (d : Bool) (a : Device) → j < suc count → EndsAt nodes (k + j) (slice_index_or (doubt ∷ doubts) j d) (slice_index_or (after ∷ afters) j a)
+    ends_each nodes k doubt after doubts afters count ends later zero d a within = subst (λ (n : ℕ). EndsAt nodes n doubt after) (omega arith) ends
+    ends_each nodes k doubt after doubts afters count ends later (suc j) d a within =
+        subst (λ (n : ℕ). EndsAt nodes n (slice_index_or doubts j d) (slice_index_or afters j a)) (omega arith) (later j d a (omega (arith, within)))
+
+-- the area at a place is closed, as those behind it are
+closes_at : (areas : List BoardArea) (nodes : List (List PassView)) (k : ℕ) (old mid new : Desk) (so_far doubt : Bool) (after : Device) → k < length areas → AllPairs IsElsewhere areas
+    → ((area : BoardArea) → TakesBack (slice_index_or areas k area).dir (slice_index_or areas k area).base after mid new) → EndsAt nodes k doubt after
+    → ClosesFrom (k + 1) areas nodes old mid so_far → ClosesFrom k areas nodes old new (so_far || doubt)
+closes_at areas nodes k old mid new so_far doubt after within places takes ends all =
+    let area = one_of areas k within in
+    closes_first (slice_index_or areas k area) (drop (k + 1) areas) nodes k areas old mid new so_far doubt after (drop_more areas k area within) refl
+    (elsewhere_behind areas k area within places) (takes area) ends all
 
 -- of the first areas the last that is open is closed
-pub closes_next : (areas : List BoardArea) (first passes : List PassView) (n m k : ℕ) (old mid new : Desk) (so_far doubt : Bool) (after : Device) → n ≤ length areas → length first ≡ n → m ≤ n → m ≡ k + 1
-    → passes ≡ take m first → AllPairs IsElsewhere areas
-    → ((area : BoardArea) → TakesBack (slice_index_or areas k area).dir (slice_index_or areas k area).base after mid new)
-    → ((pass : PassView) → EndsAlone (slice_index_or passes k pass).known doubt after)
-    → ClosesAll (drop m (take n areas)) (drop m first) old mid so_far → ClosesAll (drop k (take n areas)) (drop k first) old new (so_far || doubt)
-closes_next areas first passes n m k old mid new so_far doubt after within same most next shown places takes ends all =
-    let few : length (take n areas) ≡ n = length-take-le n areas within in
-    closes_at (take n areas) first k old mid new so_far doubt after (omega arith) (omega arith) (places_take areas n within places)
-    (λ area. subst (λ (a : BoardArea). TakesBack a.dir a.base after mid new) (sym (get_or-take n areas k area (omega arith))) (takes area))
-    (λ pass. subst (λ (p : PassView). EndsAlone p.known doubt after) (ap (λ (l : List PassView). slice_index_or l k pass) shown ∙ get_or-take m first k pass (omega arith)) (ends pass))
-    (subst (λ (j : ℕ). ClosesAll (drop j (take n areas)) (drop j first) old mid so_far) next all)
+pub closes_next : (areas : List BoardArea) (nodes : List (List PassView)) (n k : ℕ) (old mid new : Desk) (so_far doubt : Bool) (after : Device) → n ≤ length areas → k < n → AllPairs IsElsewhere areas
+    → ((area : BoardArea) → TakesBack (slice_index_or areas k area).dir (slice_index_or areas k area).base after mid new) → EndsAt nodes k doubt after
+    → ClosesFrom (k + 1) (take n areas) nodes old mid so_far → ClosesFrom k (take n areas) nodes old new (so_far || doubt)
+closes_next areas nodes n k old mid new so_far doubt after within low places takes ends all =
+    closes_at (take n areas) nodes k old mid new so_far doubt after (omega (arith, low, length-take-le n areas within)) (places_take areas n within places)
+    (λ area. subst (λ (a : BoardArea). TakesBack a.dir a.base after mid new) (sym (get_or-take n areas k area low)) (takes area)) ends all
 
--- its pass is no longer there
-pub passes_left : (first passes fewer : List PassView) (m k : ℕ) → m ≡ k + 1 → passes ≡ take m first → fewer ≡ take k passes → fewer ≡ take k first
-passes_left first passes fewer m k next shown left = left ∙ ap (take k) shown ∙ take-take k m first (omega arith)
+-- what is left of each node's passes is the first of them
+abbrev pub AreFirst : ℕ → List (List PassView) → List (List PassView) → Type 0
+AreFirst count all left = (length left ≡ length all) × ((n : ℕ) → n < length all → slice_index_or left n [] ≡ take count (slice_index_or all n []))
+
+-- nothing was taken yet
+pub all_first : (nodes : List (List PassView)) (count : ℕ) → ((n : ℕ) → n < length nodes → length (slice_index_or nodes n []) ≡ count) → AreFirst count nodes nodes
+all_first nodes count long = (refl, λ n here. sym (take_all count (slice_index_or nodes n []) (omega (arith, long n here))))
+
+-- the last of each was taken
+pub fewer_first : (all more fewer : List (List PassView)) (row : List PassView) (k : ℕ) → AreFirst (k + 1) all more → IsDealt fewer row more
+    → ((n : ℕ) → n < length fewer → length (slice_index_or fewer n []) ≡ k) → AreFirst k all fewer
+fewer_first all more fewer row k (same, first) dealt long = (
+  sym dealt.lists ∙ same,
+  λ n here.
+      let low : n < length fewer = omega (arith, here, dealt.lists, same) in
+      dealt_take fewer row more n k low (long n low) dealt ∙ ap (take k) (first n here) ∙ take-take k (k + 1) (slice_index_or all n []) (omega arith),
+)
+
+-- they are a column of all
+pub column_closed : (all more fewer : List (List PassView)) (row : List PassView) (k : ℕ) (is_doubtful : Bool) (after : Device) → AreFirst (k + 1) all more → IsDealt fewer row more
+    → ((n : ℕ) → n < length fewer → length (slice_index_or fewer n []) ≡ k) → Ends row is_doubtful after → EndsAt all k is_doubtful after
+column_closed all more fewer row k is_doubtful after (same, first) dealt long ends =
+    (row, column_of_first all fewer row more k (sym same ∙ dealt.lists) dealt long (λ n low. first n (omega (arith, low, dealt.lists, same))), ends)

@@ -8,9 +8,10 @@ use Rattle.std.proofs.lemmas.List.Elements.{All-head, All-tail}
 use Rattle.std.proofs.lemmas.Slice.Eq.{bytes_eq-Decides}
 use Rattle.jb_conf.specs.declared.board.BoardArea.{BoardArea}
 use Rattle.jb_disk.specs.Device.{Device}
+use Rattle.jb_host.proofs.Callers.{keeps_more, keeps_none}
 use Rattle.jb_host.specs.Desk.{Desk, Disks, GivesDisk, HostCall, Place, TakesBack, and_call, asked_disk, handed_out, has_disk, with_place}
 use Rattle.jb_areas.proofs.EachLemmas.{each_pair_last}
-use Rattle.jb_areas.specs.Desks.{HandsOut, KeepsRest, PutsBack, asked_for, with_each, without}
+use Rattle.jb_areas.specs.Desks.{HandsOut, PutsBack, asked_for, with_each, without}
 
 -- the areas have places of their own
 abbrev pub IsElsewhere : BoardArea → BoardArea → Type 0
@@ -95,10 +96,6 @@ map-same : {A : Type 0} (f : A → A) (o : Option A) → ((x : A) → f x ≡ x)
 map-same f None same = refl
 map-same f (Some x) same = ap (λ y. Some y) (same x)
 
--- nothing has changed
-rest_same : (desk : Desk) → KeepsRest desk desk
-rest_same desk = record { settings = refl; console = refl; reading = refl; faults = refl }
-
 -- no disk was handed out
 pub hands_out_none : (desk : Desk) → HandsOut [] [] desk desk
 hands_out_none desk = record {
@@ -106,7 +103,7 @@ hands_out_none desk = record {
   were = λ disks there k area device within. absurd (omega arith);
   disks = sym (map-same (without []) desk.disks (λ disks. refl));
   calls = sym (map-same (λ (earlier : List HostCall). earlier ++ []) desk.calls (λ earlier. append-nil earlier));
-  rest = rest_same desk;
+  rest = keeps_none desk;
 }
 
 -- one disk more was handed out
@@ -123,12 +120,7 @@ hands_out_more areas devices area device old mid new hands gives = record {
   calls = gives.calls ∙ ap (and_call (asked_disk area.dir area.base)) hands.calls
       ∙ map-map (λ (earlier : List HostCall). earlier ++ asked_for areas) (λ (earlier : List HostCall). earlier ++ asked_disk area.dir area.base ∷ []) (λ (earlier : List HostCall). earlier ++ asked_for (areas ++ area ∷ []))
       old.calls (λ earlier. ap (λ (more : List HostCall). earlier ++ more) (map_push (λ (a : BoardArea). asked_disk a.dir a.base) areas area) ∙ sym (append_assoc earlier (asked_for areas) (asked_disk area.dir area.base ∷ [])));
-  rest = record {
-    settings = gives.settings ∙ hands.rest.settings;
-    console = gives.console ∙ hands.rest.console;
-    reading = gives.reading ∙ hands.rest.reading;
-    faults = gives.faults ∙ hands.rest.faults;
-  };
+  rest = keeps_more old mid new hands.rest gives.rest;
 }
 
 -- no disk was put back
@@ -137,7 +129,7 @@ puts_back_none desk = record {
   count = refl;
   disks = λ disks there out. sym (map-same (with_each [] []) desk.disks (λ disks. refl));
   calls = refl;
-  rest = rest_same desk;
+  rest = keeps_none desk;
 }
 
 -- the disk of the area before these is put back behind theirs
@@ -153,10 +145,5 @@ puts_back_first area device areas devices old mid new apart back takes = record 
       ∙ ap (λ (d : Disks). Some d) (sym (with_each-first area device areas devices disks apart))
       ∙ sym (told-map (with_each (area ∷ areas) (device ∷ devices)) old.disks disks there);
   calls = takes.calls ∙ back.calls;
-  rest = record {
-    settings = takes.settings ∙ back.rest.settings;
-    console = takes.console ∙ back.rest.console;
-    reading = takes.reading ∙ back.rest.reading;
-    faults = takes.faults ∙ back.rest.faults;
-  };
+  rest = keeps_more old mid new back.rest takes.rest;
 }

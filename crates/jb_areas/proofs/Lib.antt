@@ -1,8 +1,11 @@
 pub mod EachLemmas
+pub mod RowLemmas
 pub mod DeskLemmas
 pub mod WholeLemmas
 pub mod OpenLemmas
 pub mod LifeLemmas
-pub mod AloneLemmas
+pub mod EndLemmas
 pub mod CloseLemmas
+pub mod AbandonLemmas
 pub mod RefuseLemmas
+pub mod Callers

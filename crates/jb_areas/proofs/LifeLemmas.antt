@@ -1,10 +1,8 @@
 -- One area of a board, from its disk to its disk.
-use Rattle.std.proofs.Common.{◌≡◌, ℕ, ◌≤◌, Bool, true, false, List, [], ◌∷◌, ◌++◌, length, All, Option, Some, None, inl, inr, refl, sym, ap, subst, ◌∙◌, arith}
+use Rattle.std.proofs.Common.{◌≡◌, ℕ, ◌≤◌, Bool, true, false, List, length, Option, Some, None, inl, inr, refl, sym, ap, subst, ◌∙◌, arith}
 use Rattle.std.specs.Option.{ForSome, option_map}
-use Rattle.std.specs.Prelude.{IsTrue, is_some, not, slice_get}
-use Rattle.std.proofs.lemmas.List.{length_push, nil_from_length}
-use Rattle.std.proofs.lemmas.List.Elements.{All-head}
-use Rattle.std.proofs.lemmas.Option.{same_Some}
+use Rattle.std.specs.Prelude.{IsTrue, is_some, not, slice_index_or}
+use Rattle.std.proofs.lemmas.Option.{same_Some, slice_get-get_or}
 use Rattle.jb_area.specs.Area.{DoubtOpens, HasDoubt, IsDoubtful, IsResting, device_of, loaded_of}
 use Rattle.jb_area.specs.Holds.{IsAtRest, Opens}
 use Rattle.jb_area.specs.declared.area.OpenArea.{OpenArea}
@@ -20,7 +18,6 @@ use Rattle.jb_model.specs.History.{last_faults}
 use Rattle.jb_model.specs.Standing.{InDoubt, Settled, Standing, is_settled}
 use Rattle.jb_model.specs.declared.loaded.Loaded.{Loaded}
 use Rattle.jb_turn.specs.Whole.{HasAll}
-use Rattle.jb_shared.specs.Areas.{IsOf}
 use Rattle.jb_shared.specs.Closing.{Closes, IsMissing, known_by}
 use Rattle.jb_shared.specs.Histories.{stopped_last}
 use Rattle.jb_shared.specs.Passes.{PassView}
@@ -33,6 +30,7 @@ use Rattle.jb_areas.specs.Errors.{RefusesArea}
 use Rattle.jb_areas.specs.Lives.{Ends, HoldsAt, OpensAs, OpensOver, SharesArea}
 use Rattle.jb_areas.specs.declared.error.AreasError.TheVariants.{OutOfMemory}
 use Rattle.jb_areas.proofs.OpenLemmas.{OpensOne}
+use Rattle.jb_areas.proofs.WholeLemmas.{nobody}
 
 -- texts are told where the files are
 same_told : (contents : Option Files) → is_some (option_map (λ (files : Files). files Jdt) contents) ≡ is_some contents
@@ -71,25 +69,19 @@ module _ {D : Type 0} (shown : D → Device) where
         subst (λ (t : List ℕ). Opens (loaded_of opened) t was) (told_texts (device_of shown opened).contents (loaded_of opened) at.texts texts told at.rests.kept.settled.rests) at.opens;
   }
 
-  -- there is no other pass
-  pub no_other : (area : BoardArea) (old new : Desk) (one : SharedArea D) (passes rest : List PassView) (pass : PassView)
-      → SharesArea shown area 1 old new one passes → passes ≡ rest ++ pass ∷ [] → rest ≡ []
-  no_other area old new one passes rest pass shares there = nil_from_length rest (omega (arith, shares.shares.count, ap length there, length_push rest pass))
-
-  -- an area that is shared with one node
-  pub opens_one : (area : BoardArea) (old new : Desk) (one : SharedArea D) (passes rest : List PassView) (pass : PassView)
-      → SharesArea shown area 1 old new one passes → passes ≡ rest ++ pass ∷ [] → OpensOne area old new one pass
-  opens_one area old new one passes rest pass shares there =
-      let alone : passes ≡ pass ∷ [] = there ∙ ap (λ (l : List PassView). l ++ pass ∷ []) (no_other area old new one passes rest pass shares there) in
-      record {
-        before = shares.before;
-        opening = opening_of shown shares.opened;
-        gives = shares.gives;
-        opens = opens_as area.rules shares.before shares.opened shares.opens;
-        fresh = ap (λ (p : PassView). p.known) (shares.shares.fresh 0 pass (ap (λ (l : List PassView). slice_get l 0) alone));
-        ours = All-head (IsOf one) pass [] (subst (All (IsOf one)) alone shares.shares.ours);
-        alone = shares.shares.seats;
-      }
+  -- an area that is shared with so many nodes
+  pub opens_one : (area : BoardArea) (nodes : ℕ) (old new : Desk) (one : SharedArea D) (row : List PassView) → SharesArea shown area nodes old new one row → OpensOne area nodes old new one row
+  opens_one area nodes old new one row shares = record {
+    before = shares.before;
+    opening = opening_of shown shares.opened;
+    gives = shares.gives;
+    opens = opens_as area.rules shares.before shares.opened shares.opens;
+    fresh = λ n here.
+        ap (λ (p : PassView). p.known) (shares.shares.fresh n (slice_index_or row n nobody) (slice_get-get_or row n nobody (omega (arith, here, shares.shares.count))));
+    count = shares.shares.count;
+    ours = shares.shares.ours;
+    all = shares.shares.seats;
+  }
 
   -- an area that was opened and is put back for want of memory
   pub lacks_room : (place : ℕ) (area : BoardArea) (old mid new : Desk) (before : Device) (opened : OpenArea D) (after : Device)

@@ -3,7 +3,7 @@ use Rattle.std.specs.Prelude.{◌≡◌, ℕ, ◌<◌, List, [], ◌∷◌, ◌+
 use Rattle.std.specs.Option.{ForSome, option_map}
 use Rattle.jb_conf.specs.declared.board.BoardArea.{BoardArea}
 use Rattle.jb_disk.specs.Device.{Device}
-use Rattle.jb_host.specs.Desk.{Desk, Disks, HostCall, asked_disk, handed_out, has_disk, with_place}
+use Rattle.jb_host.specs.Desk.{Desk, Disks, HostCall, KeepsRest, asked_disk, handed_out, has_disk, with_place}
 
 -- the calls for the disks of these areas, in order
 abbrev pub asked_for : List BoardArea → List HostCall
@@ -29,14 +29,7 @@ with_each [] devices disks = disks
 with_each (area ∷ areas) [] disks = disks
 with_each (area ∷ areas) (device ∷ devices) disks = with_each areas devices (with_place area.dir area.base (has_disk device) disks)
 
--- nothing else of the host has changed
-pub record KeepsRest (old new : Desk) : Type 0 where
-  pub settings : new.settings ≡ old.settings
-  pub console : new.console ≡ old.console
-  pub reading : new.reading ≡ old.reading
-  pub faults : new.faults ≡ old.faults
-
--- the disks of these areas were asked for in order and handed out; they were these
+-- the disks of these areas were asked for in order and handed out; they were these; nothing else of the host has changed
 pub record HandsOut (areas : List BoardArea) (devices : List Device) (old new : Desk) : Type 0 where
   pub count : length devices ≡ length areas
   pub were : ForSome old.disks (Stand areas devices)
@@ -44,7 +37,7 @@ pub record HandsOut (areas : List BoardArea) (devices : List Device) (old new : 
   pub calls : new.calls ≡ option_map (λ earlier. earlier ++ asked_for areas) old.calls
   pub rest : KeepsRest old new
 
--- these disks were put back for the areas
+-- these disks were put back for the areas; nothing else of the host has changed
 pub record PutsBack (areas : List BoardArea) (devices : List Device) (old new : Desk) : Type 0 where
   pub count : length devices ≡ length areas
   pub disks : ForSome old.disks (λ disks. AreOut areas disks → new.disks ≡ option_map (with_each areas devices) old.disks)

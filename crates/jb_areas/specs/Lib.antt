@@ -1,4 +1,5 @@
 pub mod Desks
+pub mod Rows
 pub mod Lives
 pub mod Errors
 pub mod All

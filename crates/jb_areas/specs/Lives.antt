@@ -1,5 +1,5 @@
 -- One area of a board, from its disk as the host had it to its disk as the host has it back.
-use Rattle.std.specs.Prelude.{◌≡◌, ◌≢◌, ℕ, ◌≤◌, Bool, true, false, not, List, [], length, Option, Some, is_some}
+use Rattle.std.specs.Prelude.{◌≡◌, ℕ, ◌≤◌, Bool, true, false, not, List, [], length, Option, Some, is_some}
 use Rattle.std.specs.Option.{ForSome}
 use Rattle.jb_area.specs.Area.{DoubtOpens, device_of, rules_of}
 use Rattle.jb_area.specs.Calls.{HasRest}
@@ -19,12 +19,12 @@ use Rattle.jb_model.specs.Standing.{Standing, Settled, InDoubt, StandsWithin, is
 use Rattle.jb_model.specs.State.{state_of}
 use Rattle.jb_model.specs.declared.entry.Entry.{Entry}
 use Rattle.jb_model.specs.declared.loaded.Loaded.{Loaded}
-use Rattle.jb_turn.specs.Rows.{Begins, Has, row}
+use Rattle.jb_turn.specs.Rows.{Has, row}
 use Rattle.jb_turn.specs.Whole.{HasNode}
 use Rattle.jb_shared.specs.Areas.{IsShared}
 use Rattle.jb_shared.specs.Closing.{IsPartOf, known_by}
-use Rattle.jb_shared.specs.Histories.{IsHistory, Tells, leads_to, settled_of, stopped_last}
-use Rattle.jb_shared.specs.Passes.{Known, PassView, shown_of}
+use Rattle.jb_shared.specs.Histories.{IsHistory, Tells, leads_to, stopped_last}
+use Rattle.jb_shared.specs.Passes.{Known, PassView}
 use Rattle.jb_shared.specs.Standing.{doubt_between}
 use Rattle.jb_shared.specs.declared.opening.Opening.{Opening}
 use Rattle.jb_shared.specs.declared.shared.SharedArea.{SharedArea}
@@ -94,16 +94,6 @@ pub record Ends (passes : List PassView) (is_doubtful : Bool) (after : Device) :
   pub others : (node : ℕ) → (HasNode (known_by passes) node → ⊥) → calls_of node history ≡ []
   pub longest : (known : Known) × Has (known_by passes) known × (known.front ≡ history)
 
--- what one node knows at the end, where it is the only one: its front is the whole history, in which all calls are its own, and its
--- looks have shown a beginning of all that is settled
-pub record EndsAlone (known : Known) (is_doubtful : Bool) (after : Device) : Type 0 where
-  pub opening : Opening
-  pub from : known.opening ≡ Some opening
-  pub leaves : Leaves opening known.front is_doubtful after
-  pub mine : calls_of known.node known.front ≡ known.mine
-  pub others : (node : ℕ) → node ≢ known.node → calls_of node known.front ≡ []
-  pub shown : Begins (shown_of known) (settled_of opening known.front)
-
--- what a node knows of an area that is just shared: it is the first, and has seen nothing
-abbrev pub first_known : Opening → Known
-first_known opening = row 1 (Some opening) [] [] []
+-- what this node knows of an area that is just shared: it has seen nothing
+abbrev pub first_known : ℕ → Opening → Known
+first_known node opening = row node (Some opening) [] [] []

@@ -1,7 +1,11 @@
 //! All areas are closed.
-ghost use Rattle.std.specs.Prelude.{◌≡◌, ◌≤◌, IfNone, IfSome, length, take};
-ghost use Rattle.jb_areas.specs.All.{AreOpenable, AreWhole, ClosesAll, ClosesLast};
+ghost use Rattle.std.specs.Prelude.{◌≡◌, ◌≤◌, IfNone, IfSome, List, length, take};
+ghost use Rattle.jb_disk.specs.Device.{Device};
+ghost use Rattle.jb_shared.specs.declared.opening.Opening.{Opening};
+ghost use Rattle.jb_areas.specs.All.{Abandons, AreOpenable, AreWhole, ClosesAll, ClosesLast, OpenAs};
+ghost use Rattle.jb_areas.specs.Rows.{lists_of};
 
+use crate::dealing::collect;
 use crate::opening::SharedAreas;
 use crate::sharing::end;
 use jb_conf::BoardArea;
@@ -13,19 +17,19 @@ fn close_last<H: Host>(
     areas: &[BoardArea],
     shared: &mut SharedAreas<H::Disk>,
 ) -> Option<bool>
-    requires whole { AreWhole shared.old (length shared.old.areas.items) }
+    requires whole { AreWhole shared.old (length shared.old.nodes.items) (length shared.old.areas.items) }
     requires within { length shared.old.areas.items ≤ length areas.now }
-    ensures whole { AreWhole shared.new (length shared.new.areas.items) }
+    ensures whole { AreWhole shared.new (length shared.new.nodes.items) (length shared.new.areas.items) }
     ensures closed { IfSome result (ClosesLast areas.now shared.old shared.new (H.desk host.old) (H.desk host.new)) }
     ensures none { IfNone result ((length shared.old.areas.items ≡ 0) × (H.desk host.new ≡ H.desk host.old)) }
 {
     let area = shared.areas.pop()?;
-    let (Some(pass), Some(mut room)) = (shared.passes.pop(), shared.rooms.pop()) else {
+    let Some(mut row) = shared.rooms.pop() else {
         unreachable!()
     };
-    room.push_reserved(pass);
+    collect(&mut shared.nodes, &mut row);
     let place = shared.areas.len();
-    Some(end(host, &areas[place], area, room))
+    Some(end(host, &areas[place], area, row))
 }
 
 /// Closes areas that were opened, which are the first of these, and puts their disks back. Says whether one is in doubt. It takes no
@@ -36,13 +40,26 @@ pub fn close_areas<H: Host>(
     mut shared: SharedAreas<H::Disk>,
 ) -> bool
     requires areas { AreOpenable areas.now }
-    requires whole { AreWhole shared (length shared.areas.items) }
+    requires whole { AreWhole shared (length shared.nodes.items) (length shared.areas.items) }
     requires within { length shared.areas.items ≤ length areas.now }
-    ensures { ClosesAll (take (length shared.areas.items) areas.now) shared.passes.items (H.desk host.old) (H.desk host.new) result }
+    ensures { ClosesAll (take (length shared.areas.items) areas.now) (lists_of shared.nodes.items) (H.desk host.old) (H.desk host.new) result }
 {
     let mut is_doubtful = false;
     while let Some(doubtful) = close_last(host, areas, &mut shared) {
         is_doubtful |= doubtful;
     }
     is_doubtful
+}
+
+/// Closes areas on which nobody has called, which are the first of these: each disk is back, and left at just what its files opened
+/// to. It takes no memory.
+pub fn abandon_areas<H: Host>(host: &mut H, areas: &[BoardArea], shared: SharedAreas<H::Disk>)
+    requires areas { AreOpenable areas.now }
+    requires whole { AreWhole shared (length shared.nodes.items) (length shared.areas.items) }
+    requires within { length shared.areas.items ≤ length areas.now }
+    ensures { (befores : List Device) (openings : List Opening)
+        → OpenAs (take (length shared.areas.items) areas.now) befores openings (lists_of shared.nodes.items)
+        → Abandons (take (length shared.areas.items) areas.now) befores (H.desk host.old) (H.desk host.new) }
+{
+    close_areas(host, areas, shared);
 }

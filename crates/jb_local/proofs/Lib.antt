@@ -1,4 +1,6 @@
-mod Places
-mod Passing
-mod Refusing
-mod Serving
+pub mod Alone
+pub mod Keeping
+pub mod Places
+pub mod Passing
+pub mod Refusing
+pub mod Serving

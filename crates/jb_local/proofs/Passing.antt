@@ -29,10 +29,10 @@ pub record KeepsStart (old new : Known) : Type 0 where
   pub node : new.node ≡ old.node
   pub opening : new.opening ≡ old.opening
 
-is_same : (old new : Known) → new ≡ old → KeepsStart old new
+pub is_same : (old new : Known) → new ≡ old → KeepsStart old new
 is_same old new is = record { node = ap (λ (k : Known). k.node) is; opening = ap (λ (k : Known). k.opening) is }
 
-and_then : (a b c : Known) → KeepsStart a b → KeepsStart b c → KeepsStart a c
+pub and_then : (a b c : Known) → KeepsStart a b → KeepsStart b c → KeepsStart a c
 and_then a b c one two = record { node = two.node ∙ one.node; opening = two.opening ∙ one.opening }
 
 ends : (old new : Known) (ended : Option Bool) → new ≡ ending old ended → KeepsStart old new
@@ -51,7 +51,7 @@ stopped old new user moment command (inr not_begun) = records old new None _ not
 of_seen : (old new : Known) (log : List Entry) → KeepsStart (seen old log) new → KeepsStart old new
 of_seen old new log keeps = record { node = keeps.node; opening = keeps.opening }
 
-called : (old new : Known) (user : User) (moment : ℕ) (command : Command) (result : Result Reply SharedError)
+pub called : (old new : Known) (user : User) (moment : ℕ) (command : Command) (result : Result Reply SharedError)
     → Calls old new user moment command result → KeepsStart old new
 called old new user moment command (Ok reply) c = of_seen old new c.taken (records (seen old c.taken) new c.answers.1.0 _ c.answers.1.1)
 called old new user moment command (Err StoreFault) c = of_seen old new c.taken (stopped (seen old c.taken) new user moment command c.answers.1)

@@ -15,17 +15,19 @@ use Rattle.jb_conf.specs.declared.board.BoardArea.{BoardArea}
 use Rattle.jb_conf.specs.declared.error.ConfError.{ConfError}
 use Rattle.jb_conf.specs.declared.error.ConfError.TheVariants as conf
 use Rattle.jb_disk.specs.Device.{Device}
-use Rattle.jb_host.specs.Desk.{Desk, Disks, HasHostCause, Place, handed_out, has_disk, no_disk, with_place}
+use Rattle.jb_host.proofs.Callers.{keeps_more, keeps_none}
+use Rattle.jb_host.specs.Desk.{Desk, Disks, HasHostCause, KeepsRest, Place, handed_out, has_disk, no_disk, with_place}
 use Rattle.jb_host.specs.declared.host.HostError.{HostError}
 use Rattle.jb_host.specs.declared.host.HostError.TheVariants as host
 use Rattle.jb_image.specs.declared.error.OpenError.TheVariants as refused
 use Rattle.jb_local.specs.Ending.{of_areas, of_host, of_settings}
 use Rattle.jb_local.specs.Local.{AllBack, BeginsNone, HasNoSettings, IsBack, RefusesAreas, RefusesSettings}
-use Rattle.jb_local.specs.declared.ending.LocalError.{LocalError}
-use Rattle.jb_local.specs.declared.ending.LocalError.TheVariants.{HostFault, OutOfMemory}
+use Rattle.jb_local.specs.declared.error.RunError.{RunError}
+use Rattle.jb_local.specs.declared.error.RunError.TheVariants.{HostFault, OutOfMemory}
+use Rattle.jb_local.proofs.Keeping.{but_faults, keeps_more_faults}
 use Rattle.jb_local.proofs.Places.{are_out, both, parts, is_filled, is_left, is_of, is_untouched, stood}
 
-is_as_it_was : (p : Place) → IsBack p p
+pub is_as_it_was : (p : Place) → IsBack p p
 is_as_it_was (has_disk device) = (device, refl)
 is_as_it_was no_disk = refl
 is_as_it_was handed_out = refl
@@ -46,9 +48,7 @@ all_same old new is = λ was told. (was, is ∙ told, λ dir name. is_as_it_was 
 -- what the refusal of an area leaves
 record Leaves (old new : Desk) (error : AreasError) : Type 0 where
   disks : AllBack old.disks new.disks
-  settings : new.settings ≡ old.settings
-  console : new.console ≡ old.console
-  reading : new.reading ≡ old.reading
+  rest : KeepsRest old (record new { faults = old.faults })
   cause : error ≡ areas.HostFault → Rose old.faults new.faults
   steady : (error ≡ areas.HostFault → ⊥) → new.faults ≡ old.faults
 
@@ -117,11 +117,9 @@ refused_disk place area old new error other r = record {
         back ∙ ap (option_map (with_place area.dir area.base (has_disk r.after))) out,
         returned area.dir area.base r.before r.after was (r.gives.was was told),
       );
-  settings = r.back.settings ∙ r.gives.settings;
-  console = r.back.console ∙ r.gives.console;
-  reading = r.back.reading ∙ r.gives.reading;
+  rest = but_faults old new (keeps_more old r.mid new r.gives.rest r.back.rest);
   cause = λ is. absurd (other is);
-  steady = λ _. r.back.faults ∙ r.gives.faults;
+  steady = λ _. r.back.rest.faults ∙ r.gives.rest.faults;
 }
 
 by_why : (place : ℕ) (area : BoardArea) (old new : Desk) (error : AreasError) (r : ReturnsDisk place area old new error) → error ≡ areas.HostFault → ⊥
@@ -132,7 +130,7 @@ by_why place area old new error r is = because r.why
     because (inr room) = no_want (sym room.is ∙ is)
 
 -- a refusal of the host
-by_host : (why : HostError) (old new : Desk) (error : AreasError) → error ≡ of_host_call why → HasHostCause why old new
+by_host : (why : HostError) (old new : Desk) (error : AreasError) → error ≡ of_host_call why → HasHostCause why old.faults new.faults
     → (error ≡ areas.HostFault → Rose old.faults new.faults) × ((error ≡ areas.HostFault → ⊥) → new.faults ≡ old.faults)
 by_host host.Failed old new error is rose = (λ _. rose, λ other. absurd (other is))
 by_host host.OutOfMemory old new error is same = (λ fault. absurd (no_want (sym is ∙ fault)), λ _. same)
@@ -142,9 +140,7 @@ no_area area old new error h =
     let causes = by_host h.why old new error h.is h.refuses.cause in
     record {
       disks = all_same old.disks new.disks h.refuses.disks;
-      settings = h.refuses.settings;
-      console = h.refuses.console;
-      reading = h.refuses.reading;
+      rest = h.refuses.rest;
       cause = causes.0;
       steady = causes.1;
     }
@@ -152,9 +148,7 @@ no_area area old new error h =
 nothing_asked : (old new : Desk) (error : AreasError) → AsksNothing old new error → Leaves old new error
 nothing_asked old new error asks = record {
   disks = all_same old.disks new.disks (ap (λ (d : Desk). d.disks) asks.1);
-  settings = ap (λ (d : Desk). d.settings) asks.1;
-  console = ap (λ (d : Desk). d.console) asks.1;
-  reading = ap (λ (d : Desk). d.reading) asks.1;
+  rest = but_faults old new (subst (KeepsRest old) (sym asks.1) (keeps_none old));
   cause = λ is. absurd (no_want (sym asks.0 ∙ is));
   steady = λ _. ap (λ (d : Desk). d.faults) asks.1;
 }
@@ -180,9 +174,7 @@ all_refused areas old new error r =
             r.back.disks last.0 last.1 (still_all_out r.done was last.0 last.2) ∙ ap (option_map (with_each r.done r.afters)) last.1,
             all_back r.done r.befores r.afters was last.0 (r.out.were was told) last.2 r.back.count,
           );
-      settings = r.back.rest.settings ∙ next.settings ∙ r.out.rest.settings;
-      console = r.back.rest.console ∙ next.console ∙ r.out.rest.console;
-      reading = r.back.rest.reading ∙ next.reading ∙ r.out.rest.reading;
+      rest = keeps_more_faults old r.mid new (but_faults old r.mid r.out.rest) (keeps_more_faults r.mid r.last new next.rest (but_faults r.last new r.back.rest));
       cause = λ is. omega (arith, r.back.rest.faults, next.cause is, r.out.rest.faults);
       steady = λ other. r.back.rest.faults ∙ next.steady other ∙ r.out.rest.faults;
     }
@@ -190,20 +182,18 @@ all_refused areas old new error r =
 no_memory : OutOfMemory ≡ HostFault → ⊥
 no_memory is = cc
 
-by_setting : (why : HostError) (old new : Desk) (error : LocalError) → error ≡ of_host why → HasHostCause why old new
+pub by_setting : (why : HostError) (old new : Desk) (error : RunError) → error ≡ of_host why → HasHostCause why old.faults new.faults
     → (error ≡ HostFault → Rose old.faults new.faults) × ((error ≡ HostFault → ⊥) → new.faults ≡ old.faults)
 by_setting host.Failed old new error is rose = (λ _. rose, λ other. absurd (other is))
 by_setting host.OutOfMemory old new error is same = (λ fault. absurd (no_memory (sym is ∙ fault)), λ _. same)
 
-no_settings : (path : List ℕ) (old new : Desk) (error : LocalError) → HasNoSettings path old new error → BeginsNone path old new error
+no_settings : (path : List ℕ) (old new : Desk) (error : RunError) → HasNoSettings path old new error → BeginsNone path old new error
 no_settings path old new error h =
     let causes = by_setting h.why old new error h.is h.refuses.cause in
     record {
       why = inl h;
       disks = all_same old.disks new.disks h.refuses.disks;
-      settings = h.refuses.settings;
-      console = h.refuses.console;
-      reading = h.refuses.reading;
+      rest = h.refuses.rest;
       cause = causes.0;
       steady = causes.1;
     }
@@ -212,19 +202,17 @@ no_setting_fault : (why : ConfError) → of_settings why ≡ HostFault → ⊥
 no_setting_fault conf.OutOfMemory is = cc
 no_setting_fault why is = cc
 
-settings_refused : (path : List ℕ) (old new : Desk) (error : LocalError) → RefusesSettings path old new error → BeginsNone path old new error
+settings_refused : (path : List ℕ) (old new : Desk) (error : RunError) → RefusesSettings path old new error → BeginsNone path old new error
 settings_refused path old new error r = record {
   why = inr (inl r);
   disks = all_same old.disks new.disks r.gives.disks;
-  settings = r.gives.settings;
-  console = r.gives.console;
-  reading = r.gives.reading;
+  rest = but_faults old new r.gives.rest;
   cause = λ is. absurd (no_setting_fault r.why (sym r.is ∙ is));
-  steady = λ _. r.gives.faults;
+  steady = λ _. r.gives.rest.faults;
 }
 
 -- no board was read
-pub no_board : (path : List ℕ) (old new : Desk) (error : LocalError) → HasNoSettings path old new error ⊎ RefusesSettings path old new error → BeginsNone path old new error
+pub no_board : (path : List ℕ) (old new : Desk) (error : RunError) → HasNoSettings path old new error ⊎ RefusesSettings path old new error → BeginsNone path old new error
 no_board path old new error (inl none) = no_settings path old new error none
 no_board path old new error (inr refuses) = settings_refused path old new error refuses
 
@@ -234,16 +222,14 @@ host_fault areas.HostFault is = refl
 host_fault areas.OutOfMemory is = absurd (no_memory is)
 
 -- the areas were not opened
-pub no_areas : (path : List ℕ) (old new : Desk) (error : LocalError) → RefusesAreas path old new error → BeginsNone path old new error
+pub no_areas : (path : List ℕ) (old new : Desk) (error : RunError) → RefusesAreas path old new error → BeginsNone path old new error
 no_areas path old new error r =
     let left = all_refused r.board.areas r.mid new r.why r.refuses in
     let gives = r.has.gives in
     record {
       why = inr (inr r);
       disks = subst (λ (d : Option Disks). AllBack d new.disks) gives.disks left.disks;
-      settings = left.settings ∙ gives.settings;
-      console = left.console ∙ gives.console;
-      reading = left.reading ∙ gives.reading;
-      cause = λ is. omega (arith, left.cause (host_fault r.why (sym r.is ∙ is)), gives.faults);
-      steady = λ other. left.steady (λ is. other (r.is ∙ ap of_areas is)) ∙ gives.faults;
+      rest = keeps_more_faults old r.mid new (but_faults old r.mid gives.rest) left.rest;
+      cause = λ is. omega (arith, left.cause (host_fault r.why (sym r.is ∙ is)), gives.rest.faults);
+      steady = λ other. left.steady (λ is. other (r.is ∙ ap of_areas is)) ∙ gives.rest.faults;
     }

@@ -9,8 +9,8 @@ use Rattle.jb_host.specs.declared.host.HostError.TheVariants as host
 use Rattle.jb_session.specs.declared.end.SessionEnd.{SessionEnd}
 use Rattle.jb_session.specs.declared.end.SessionEnd.TheVariants as session
 use Rattle.jb_local.specs.declared.ending.LocalEnd.{LocalEnd}
-use Rattle.jb_local.specs.declared.ending.LocalError.{LocalError}
-use Rattle.jb_local.specs.declared.ending.LocalError.TheVariants.{Settings, Area, HostFault, OutOfMemory}
+use Rattle.jb_local.specs.declared.error.RunError.{RunError}
+use Rattle.jb_local.specs.declared.error.RunError.TheVariants.{Settings, Area, HostFault, OutOfMemory}
 
 -- the status of a session without an area in doubt: 0 where its caller ended it, 5 the link failed, 6 want of memory, 7 where the board ended it
 abbrev pub session_status : SessionEnd → ℕ
@@ -31,17 +31,17 @@ abbrev pub status_of : LocalEnd → ℕ
 status_of end = status_with end.is_doubtful end.session
 
 -- a refusal of the host
-abbrev pub of_host : HostError → LocalError
+abbrev pub of_host : HostError → RunError
 of_host host.Failed = HostFault
 of_host host.OutOfMemory = OutOfMemory
 
 -- a refusal of the areas
-abbrev pub of_areas : AreasError → LocalError
+abbrev pub of_areas : AreasError → RunError
 of_areas (areas.Area place error) = Area place error
 of_areas areas.HostFault = HostFault
 of_areas areas.OutOfMemory = OutOfMemory
 
 -- a refusal of the settings
-abbrev pub of_settings : ConfError → LocalError
+abbrev pub of_settings : ConfError → RunError
 of_settings conf.OutOfMemory = OutOfMemory
 of_settings error = Settings error

@@ -1,7 +1,7 @@
 -- A run with one session at the console: what is asked of the host and in which order, what is served, and what is left.
-use Rattle.std.specs.Prelude.{◌≡◌, ◌⊎◌, ℕ, ◌<◌, true, Bool, List, ◌∷◌, ◌++◌, length, slice_index_or, Option, Some, Result, Ok, Err}
+use Rattle.std.specs.Prelude.{◌≡◌, ◌⊎◌, ℕ, ◌<◌, true, Bool, List, [], ◌∷◌, ◌++◌, length, slice_index_or, Option, Some, Result, Ok, Err}
 use Rattle.std.specs.Option.{ForSome, option_map}
-use Rattle.jb_areas.specs.All.{EndEach, OpenAs, RefusesAll, any}
+use Rattle.jb_areas.specs.All.{OpenAs, RefusesAll, any}
 use Rattle.jb_areas.specs.Desks.{Stand, asked_for, with_each}
 use Rattle.jb_areas.specs.declared.error.AreasError.{AreasError}
 use Rattle.jb_base.specs.Fault.{Rose}
@@ -11,16 +11,17 @@ use Rattle.jb_conf.specs.declared.board.Board.{Board}
 use Rattle.jb_conf.specs.declared.board.BoardArea.{BoardArea}
 use Rattle.jb_conf.specs.declared.error.ConfError.{ConfError}
 use Rattle.jb_disk.specs.Device.{Device}
-use Rattle.jb_host.specs.Desk.{Desk, Disks, GivesSettings, Place, RefusesCall, asked_settings, handed_out, has_disk, no_disk}
+use Rattle.jb_host.specs.Desk.{Desk, Disks, GivesSettings, KeepsRest, Place, RefusesCall, asked_settings, handed_out, has_disk, no_disk}
 use Rattle.jb_host.specs.Wire.{Wire}
 use Rattle.jb_host.specs.declared.host.HostError.{HostError}
 use Rattle.jb_session.specs.Served.{Served}
 use Rattle.jb_shared.specs.Passes.{PassView}
 use Rattle.jb_shared.specs.declared.opening.Opening.{Opening}
+use Rattle.jb_local.specs.Alone.{EndEach}
 use Rattle.jb_local.specs.Ending.{of_areas, of_host, of_settings}
 use Rattle.jb_local.specs.declared.ending.LocalEnd.{LocalEnd}
-use Rattle.jb_local.specs.declared.ending.LocalError.{LocalError}
-use Rattle.jb_local.specs.declared.ending.LocalError.TheVariants.{HostFault}
+use Rattle.jb_local.specs.declared.error.RunError.{RunError}
+use Rattle.jb_local.specs.declared.error.RunError.TheVariants.{HostFault}
 
 -- the board that a settings file says
 pub record HasBoard (path : List ℕ) (board : Board) (old new : Desk) : Type 0 where
@@ -30,13 +31,13 @@ pub record HasBoard (path : List ℕ) (board : Board) (old new : Desk) : Type 0 
   pub range : IsInRange board
 
 -- the host has no settings file there
-pub record HasNoSettings (path : List ℕ) (old new : Desk) (error : LocalError) : Type 0 where
+pub record HasNoSettings (path : List ℕ) (old new : Desk) (error : RunError) : Type 0 where
   pub why : HostError
   pub is : error ≡ of_host why
   pub refuses : RefusesCall (asked_settings path) why old new
 
 -- the settings are refused, or memory was wanting to read them
-pub record RefusesSettings (path : List ℕ) (old new : Desk) (error : LocalError) : Type 0 where
+pub record RefusesSettings (path : List ℕ) (old new : Desk) (error : RunError) : Type 0 where
   pub bytes : List ℕ
   pub why : ConfError
   pub is : error ≡ of_settings why
@@ -44,7 +45,7 @@ pub record RefusesSettings (path : List ℕ) (old new : Desk) (error : LocalErro
   pub reads : IsReading bytes (Err why)
 
 -- the areas that the settings say are not opened
-pub record RefusesAreas (path : List ℕ) (old new : Desk) (error : LocalError) : Type 0 where
+pub record RefusesAreas (path : List ℕ) (old new : Desk) (error : RunError) : Type 0 where
   pub board : Board
   pub mid : Desk
   pub has : HasBoard path board old mid
@@ -63,12 +64,11 @@ abbrev pub AllBack : Option Disks → Option Disks → Type 0
 AllBack old new = ForSome old (λ was. (now : Disks) × (new ≡ Some now) × ((dir name : List ℕ) → IsBack (was dir name) (now dir name)))
 
 -- no session is begun, and why: the first refusal that comes; all that was handed out is back
-pub record BeginsNone (path : List ℕ) (old new : Desk) (error : LocalError) : Type 0 where
+pub record BeginsNone (path : List ℕ) (old new : Desk) (error : RunError) : Type 0 where
   pub why : HasNoSettings path old new error ⊎ (RefusesSettings path old new error ⊎ RefusesAreas path old new error)
   pub disks : AllBack old.disks new.disks
-  pub settings : new.settings ≡ old.settings
-  pub console : new.console ≡ old.console
-  pub reading : new.reading ≡ old.reading
+  -- nothing else of the host has changed but its calls and its count of faults
+  pub rest : KeepsRest old (record new { faults = old.faults })
   -- the host has failed just where that is the refusal
   pub cause : error ≡ HostFault → Rose old.faults new.faults
   pub steady : (error ≡ HostFault → ⊥) → new.faults ≡ old.faults
@@ -99,7 +99,7 @@ pub record ServesOne (path : List ℕ) (old new : Desk) (end : LocalEnd) : Type 
   pub were : ForSome old.disks (Stand board.areas befores)
   pub openings : List Opening
   pub from : List PassView
-  pub opens : OpenAs board.areas befores openings from
+  pub opens : OpenAs board.areas befores openings (from ∷ [])
   -- one caller is served on the console, which is back then
   pub console : Wire
   pub console_was : old.console ≡ Some console
@@ -119,11 +119,9 @@ pub record ServesOne (path : List ℕ) (old new : Desk) (end : LocalEnd) : Type 
   pub doubt : end.is_doubtful ≡ any doubts
   pub cause : end.is_doubtful ≡ true → OneFailed board.areas befores afters
   -- nothing else of the host has changed
-  pub settings : new.settings ≡ old.settings
-  pub reading : new.reading ≡ old.reading
-  pub faults : new.faults ≡ old.faults
+  pub rest : KeepsRest old (record new { console = old.console })
 
 -- a run of `local`
-abbrev pub RunsLocal : List ℕ → Desk → Desk → Result LocalEnd LocalError → Type 0
+abbrev pub RunsLocal : List ℕ → Desk → Desk → Result LocalEnd RunError → Type 0
 RunsLocal path old new (Ok end) = ServesOne path old new end
 RunsLocal path old new (Err error) = BeginsNone path old new error

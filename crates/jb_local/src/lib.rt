@@ -3,7 +3,9 @@
 #![tactic(auto)]
 
 mod ending;
+mod error;
 mod running;
 
-pub use ending::{LocalEnd, LocalError};
-pub use running::local;
+pub use ending::LocalEnd;
+pub use error::RunError;
+pub use running::{board_at, local};

@@ -1,12 +1,12 @@
 //! The run of one session.
 ghost use Rattle.std.specs.Prelude.{◌≡◌, ◌⊎◌, IfErr, IfOk, IsSome, List, Some, length};
-ghost use Rattle.jb_areas.specs.All.{AreWhole};
+ghost use Rattle.jb_areas.specs.All.{AreWhole, passes_at};
 ghost use Rattle.jb_conf.specs.InRange.{IsInRange};
 ghost use Rattle.jb_host.specs.Wire.{Wire};
 ghost use Rattle.jb_session.specs.Served.{Served};
 ghost use Rattle.jb_local.specs.Local.{HasBoard, HasNoSettings, RefusesSettings, RunsLocal};
 
-use crate::ending::{LocalEnd, LocalError};
+use crate::{LocalEnd, RunError};
 use jb_areas::{SharedAreas, close_areas, open_areas};
 use jb_conf::{Board, read};
 use jb_host::Host;
@@ -14,8 +14,8 @@ use jb_session::{SessionEnd, serve_session};
 use std::alloc::Global;
 use std::sync::Wait;
 
-/// The board that the settings file at this path says.
-fn board_at<H: Host>(alloc: Global, host: &mut H, path: &str) -> Result<Board, LocalError>
+/// The board that the settings file at this path says, with which each run over areas begins.
+pub fn board_at<H: Host>(alloc: Global, host: &mut H, path: &str) -> Result<Board, RunError>
     ensures ok { IfOk result (λ board. HasBoard path.now board (H.desk host.old) (H.desk host.new)) }
     ensures err { IfErr result (λ error. HasNoSettings path.now (H.desk host.old) (H.desk host.new) error
         ⊎ RefusesSettings path.now (H.desk host.old) (H.desk host.new) error) }
@@ -33,11 +33,11 @@ fn serve<R: Wait, H: Host>(
     shared: &mut SharedAreas<H::Disk>,
 ) -> SessionEnd
     requires board { IsInRange board.now }
-    requires whole { AreWhole shared.old (length board.now.areas) }
+    requires whole { AreWhole shared.old 1 (length board.now.areas) }
     requires console { IsSome (H.desk host.old).console }
-    ensures whole { AreWhole shared.new (length board.now.areas) }
+    ensures whole { AreWhole shared.new 1 (length board.now.areas) }
     ensures served { (old now : Wire) × ((H.desk host.old).console ≡ Some old) × (H.desk host.new ≡ record (H.desk host.old) { console = Some now })
-        × Served (H.desk host.old).reading board.now old shared.old.passes.items result now shared.new.passes.items }
+        × Served (H.desk host.old).reading board.now old (passes_at shared.old 0) result now (passes_at shared.new 0) }
 {
     let mut clock = host.clock();
     let mut console = host.console();
@@ -46,7 +46,7 @@ fn serve<R: Wait, H: Host>(
         alloc,
         board,
         shared.areas.as_slice(),
-        shared.passes.as_mut_slice(),
+        shared.nodes[0].as_mut_slice(),
         &mut console,
         &mut clock,
     );
@@ -61,12 +61,12 @@ pub fn local<R: Wait, H: Host>(
     alloc: Global,
     host: &mut H,
     path: &str,
-) -> Result<LocalEnd, LocalError>
+) -> Result<LocalEnd, RunError>
     requires { IsSome (H.desk host.old).console }
     ensures { RunsLocal path.now (H.desk host.old) (H.desk host.new) result }
 {
     let board = board_at(alloc, host, path)?;
-    let mut shared = open_areas(alloc, host, board.areas.as_slice())?;
+    let mut shared = open_areas(alloc, host, board.areas.as_slice(), 1)?;
     let session = serve(rt, alloc, host, &board, &mut shared);
     let is_doubtful = close_areas(host, board.areas.as_slice(), shared);
     Ok(LocalEnd {

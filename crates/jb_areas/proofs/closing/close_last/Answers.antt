@@ -1,37 +1,50 @@
-use Rattle.std.proofs.Common.{List, length, sym, subst, arith}
+use Rattle.std.proofs.Common.{length, ap, arith}
+use Rattle.std.proofs.lemmas.List.{length_push}
 use Rattle.jb_shared.specs.Areas.{passes_of}
-use Rattle.jb_shared.specs.Closing.{known_by}
-use Rattle.jb_shared.specs.Passes.{PassView}
-use Rattle.jb_turn.specs.Whole.{HasAll}
 use Rattle.jb_areas.specs.declared.opening.SharedAreas.{SharedAreas}
-use Rattle.jb_areas.proofs.AloneLemmas.{all_alone, closes_last, lone}
-use Rattle.jb_areas.proofs.WholeLemmas.{IsAlone, IsBehind, whole_last, whole_less}
+use Rattle.jb_areas.proofs.EndLemmas.{all_there, closes_last}
+use Rattle.jb_areas.proofs.WholeLemmas.{IsBehind, IsSharedBy, last_of_each, whole_last, whole_less, whole_own}
 use Rattle.jb_areas.proofs.closing.close_last.Goals as goal
+
+pub collect-requires-clause-last : goal.collect-requires-clause-last
+collect-requires-clause-last g c =
+    let more = c.args.shared.now in
+    last_of_each more (length more.nodes.items) (length more.areas.items) (omega (arith, ap length c.in_ok-area.ensures.items, length_push c.pop.new.self.items c.in_ok-area.area)) c.requires.whole
+
+-- the row has the pass of each node
+pub end-requires-clause-ours : goal.end-requires-clause-ours
+end-requires-clause-ours g c =
+    let area = c.in_ok-area.area in
+    let row = c.collect.new.row.items in
+    let room = c.in-Some.row in
+    let more = c.args.shared.now in
+    let fewer : SharedAreas g.row.H-Disk.Denot = record { areas = c.pop.new.self; nodes = c.collect.new.lists; rooms = c.pop-2.new.self } in
+    let behind : IsBehind more fewer area row room = record { areas = c.in_ok-area.ensures.items; passes = c.collect.ensures; rooms = c.in-Some.ensures.items } in
+    let by : IsSharedBy (length more.nodes.items) area row = whole_last more fewer area row room (length more.nodes.items) (length more.areas.items) behind c.requires.whole in
+    by.ours
 
 pub end-requires-clause-all : goal.end-requires-clause-all
 end-requires-clause-all g c =
     let area = c.in_ok-area.area in
-    let pass = c.in-Some-Some.pass in
-    let room = c.in-Some-Some.room in
+    let row = c.collect.new.row.items in
+    let room = c.in-Some.row in
     let more = c.args.shared.now in
-    let fewer : SharedAreas g.row.H-Disk.Denot = record { areas = c.pop.new.self; passes = c.pop-2.new.self; rooms = c.pop-3.new.self } in
-    let behind : IsBehind more fewer area pass room = record { areas = c.in_ok-area.ensures.items; passes = c.in-Some-Some.ensures.items; rooms = c.in-Some-Some.ensures'.items } in
-    let alone : IsAlone area pass room = whole_last more fewer area pass room (length more.areas.items) behind c.requires.whole in
-    subst (λ (l : List PassView). HasAll (known_by l) (passes_of area)) (sym (lone pass room.items c.push_reserved.new.self.items alone.empty c.push_reserved.ensures.items)) (all_alone pass (passes_of area) alone.alone alone.first)
+    let fewer : SharedAreas g.row.H-Disk.Denot = record { areas = c.pop.new.self; nodes = c.collect.new.lists; rooms = c.pop-2.new.self } in
+    let behind : IsBehind more fewer area row room = record { areas = c.in_ok-area.ensures.items; passes = c.collect.ensures; rooms = c.in-Some.ensures.items } in
+    let by : IsSharedBy (length more.nodes.items) area row = whole_last more fewer area row room (length more.nodes.items) (length more.areas.items) behind c.requires.whole in
+    all_there (length more.nodes.items) area row (passes_of area) by.all by
 
 pub returns : goal.returns
 returns g c =
     let area = c.in_ok-area.area in
-    let pass = c.in-Some-Some.pass in
-    let room = c.in-Some-Some.room in
+    let row = c.collect.new.row.items in
+    let room = c.in-Some.row in
     let more = c.args.shared.now in
-    let fewer : SharedAreas g.row.H-Disk.Denot = record { areas = c.pop.new.self; passes = c.pop-2.new.self; rooms = c.pop-3.new.self } in
-    let behind : IsBehind more fewer area pass room = record { areas = c.in_ok-area.ensures.items; passes = c.in-Some-Some.ensures.items; rooms = c.in-Some-Some.ensures'.items } in
-    let alone : IsAlone area pass room = whole_last more fewer area pass room (length more.areas.items) behind c.requires.whole in
+    let fewer : SharedAreas g.row.H-Disk.Denot = record { areas = c.pop.new.self; nodes = c.collect.new.lists; rooms = c.pop-2.new.self } in
+    let behind : IsBehind more fewer area row room = record { areas = c.in_ok-area.ensures.items; passes = c.collect.ensures; rooms = c.in-Some.ensures.items } in
     record {
-      whole = whole_less more fewer area pass room (length more.areas.items) behind c.requires.whole;
-      closed = closes_last c.args.areas.now c.len-place.result c.index-areas-place.result more fewer area pass room c.push_reserved.new.self.items (g.H.Host.desk c.args.host.now) (g.H.Host.desk c.end.new.host)
-          c.end.result c.end.ensures.0 behind c.requires.whole c.requires.within (omega (arith, c.len-place.ensures, c.pop.new.self.ok.0)) c.index-areas-place.is
-          (lone pass room.items c.push_reserved.new.self.items alone.empty c.push_reserved.ensures.items) c.end.ensures.1 c.end.ensures.2;
+      whole = whole_own fewer (length more.nodes.items) (length fewer.areas.items) (whole_less more fewer area row room (length more.nodes.items) (length more.areas.items) behind c.requires.whole);
+      closed = closes_last c.args.areas.now c.len-place.result c.index-areas-place.result more fewer area row room (g.H.Host.desk c.args.host.now) (g.H.Host.desk c.end.new.host)
+          c.end.result c.end.ensures.0 behind c.requires.within (omega (arith, c.len-place.ensures, c.pop.new.self.ok.0)) c.index-areas-place.is c.end.ensures.1 c.end.ensures.2;
       none = tt;
     }

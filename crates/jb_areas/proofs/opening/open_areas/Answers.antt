@@ -9,5 +9,5 @@ returns-in_err-shared-clause-err g c =
 
 pub returns-in-Err-clause-err : goal.returns-in-Err-clause-err
 returns-in-Err-clause-err g c =
-    refuses_all c.args.areas.now (g.H.Host.desk c.args.host.now) (g.H.Host.desk c.open_rest.new.host) (g.H.Host.desk c.close_areas.new.host) c.open_rest.new.shared c.in-Err.error c.close_areas.result
-    c.in-Err.ensures.err c.close_areas.ensures
+    refuses_all c.args.areas.now c.args.nodes (g.H.Host.desk c.args.host.now) (g.H.Host.desk c.open_rest.new.host) (g.H.Host.desk c.abandon_areas.new.host) c.open_rest.new.shared c.in-Err.error
+    c.in-Err.ensures.err c.abandon_areas.ensures

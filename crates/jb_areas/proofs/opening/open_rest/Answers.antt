@@ -2,7 +2,7 @@ use Rattle.std.proofs.Common.{length, take, arith}
 use Rattle.std.proofs.lemmas.Result.{err_from_is_err_and}
 use Rattle.jb_areas.proofs.OpenLemmas.{opens_begin}
 use Rattle.jb_areas.proofs.RefuseLemmas.{stops_at}
-use Rattle.jb_areas.proofs.WholeLemmas.{whole_again}
+use Rattle.jb_areas.proofs.WholeLemmas.{whole_as}
 use Rattle.jb_areas.proofs.opening.open_rest.Goals as goal
 
 pub loop-alloc-init : goal.loop-alloc-init
@@ -10,9 +10,9 @@ loop-alloc-init g c =
     let shared = c.args.shared.now in
     record {
       within = omega (arith, c.requires.none.areas);
-      whole = whole_again shared 0 c.requires.none;
+      whole = whole_as shared c.args.nodes 0 c.requires.none;
       room = c.requires.room;
-      opens = opens_begin c.args.areas.now (g.H.Host.desk c.args.host.now) shared c.requires.none;
+      opens = opens_begin c.args.areas.now c.args.nodes (g.H.Host.desk c.args.host.now) shared c.requires.none;
     }
 
 pub loop-alloc-preserved : goal.loop-alloc-preserved
@@ -21,7 +21,7 @@ loop-alloc-preserved g c =
     let opens = c.in_ok-open_next.ensures.ok (g.H.Host.desk c.args.host.now) at.invariant.opens in
     record {
       within = omega (arith, c.in_ok-open_next.ensures.count, c.loop-alloc-test.true, c.len.ensures);
-      whole = whole_again c.open_next.new.shared (length (take (length c.open_next.new.shared.areas.items) c.args.areas.now)) opens.whole;
+      whole = whole_as c.open_next.new.shared c.args.nodes (length (take (length c.open_next.new.shared.areas.items) c.args.areas.now)) opens.whole;
       room = c.in_ok-open_next.ensures.room;
       opens = opens;
     }
@@ -32,5 +32,5 @@ returns-in_err-open_next-clause-err g c =
     let at = c.loop-alloc in
     let why = c.in_err-open_next.ensures.err in
     rw (p.1, p.2)
-    (stops_at c.args.areas.now (length at.shared.areas.items) (g.H.Host.desk c.args.host.now) (g.H.Host.desk at.host) (g.H.Host.desk c.open_next.new.host) c.open_next.new.shared at.shared c.in_err-open_next.field-0.0
+    (stops_at c.args.areas.now c.args.nodes (length at.shared.areas.items) (g.H.Host.desk c.args.host.now) (g.H.Host.desk at.host) (g.H.Host.desk c.open_next.new.host) c.open_next.new.shared at.shared c.in_err-open_next.field-0.0
     (omega (arith, c.loop-alloc-test.true, c.len.ensures)) why.0 at.invariant.opens why.1)

@@ -6,9 +6,9 @@ use Rattle.jb_areas.proofs.opening.open_rest.Given as goal
 abbrev pub invariant-loop-alloc : goal.invariant-loop-alloc
 invariant-loop-alloc g l = record {
   within : length l.shared.areas.items ≤ length l.areas;
-  whole : AreWhole l.shared (length l.shared.areas.items);
+  whole : AreWhole l.shared l.nodes (length l.shared.areas.items);
   room : HasRoom l.shared (length l.areas);
-  opens : OpensAll (take (length l.shared.areas.items) l.areas) (g.H.Host.desk l.initial.host) (g.H.Host.desk l.host) l.shared;
+  opens : OpensAll (take (length l.shared.areas.items) l.areas) l.nodes (g.H.Host.desk l.initial.host) (g.H.Host.desk l.host) l.shared;
 }
 
 abbrev pub decreases-loop-alloc : goal.decreases-loop-alloc
