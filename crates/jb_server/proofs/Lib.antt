@@ -1,0 +1,3 @@
+mod RingRuns
+mod SessionRuns
+mod Told

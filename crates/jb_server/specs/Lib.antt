@@ -1,0 +1,4 @@
+pub mod Tallies
+pub mod Sessions
+pub mod Rounds
+pub mod Workers

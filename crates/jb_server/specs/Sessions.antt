@@ -1,0 +1,58 @@
+-- The sessions of a node, one after another, on the links of its door.
+use Rattle.std.specs.Prelude.{◌≡◌, ℕ, ◌+◌, Bool, true, false, List, [], ◌∷◌, ◌++◌, length, map, Option, Some}
+use Rattle.std.specs.Option.{option_map}
+use Rattle.jb_base.specs.Fault.{Rose}
+use Rattle.jb_conf.specs.declared.board.Board.{Board}
+use Rattle.jb_host.specs.Gate.{Gate}
+use Rattle.jb_host.specs.Wire.{Wire}
+use Rattle.jb_session.specs.Served.{Served}
+use Rattle.jb_session.specs.declared.end.SessionEnd.{SessionEnd}
+use Rattle.jb_shared.specs.Passes.{PassView}
+use Rattle.jb_server.specs.Tallies.{and_failed, counted_all}
+use Rattle.jb_server.specs.declared.tally.Tally.{Tally}
+
+-- a session on a link: the link as the door gave it, the end, and the link as it was hung up
+pub record Session : Type 0 where
+  pub given : Wire
+  pub end : SessionEnd
+  pub back : Wire
+
+-- the links of sessions, as they were given
+abbrev pub given_of : List Session → List Wire
+given_of sessions = map (λ session. session.given) sessions
+
+-- and as they were hung up
+abbrev pub back_of : List Session → List Wire
+back_of sessions = map (λ session. session.back) sessions
+
+-- their ends
+abbrev pub ends_of : List Session → List SessionEnd
+ends_of sessions = map (λ session. session.end) sessions
+
+-- why a node serves no more: its door has failed, or is shut since no call was left
+abbrev pub Stops : Bool → Gate → Gate → Type 0
+Stops true old new = Rose old.faults new.faults × (new.is_shut ≡ old.is_shut)
+Stops false old new = (new.is_shut ≡ true) × (new.left ≡ Some 0) × (new.faults ≡ old.faults)
+
+-- a clock that shows this reading, where it tells one, and a board
+module _ (reading : Option ℕ) (board : Board) where
+  -- the sessions were served one after another on these passes
+  abbrev pub SessionsRun : List PassView → List Session → List PassView → Type 0
+  SessionsRun from [] to = to ≡ from
+  SessionsRun from (session ∷ sessions) to =
+      (mid : List PassView) × Served reading board session.given from session.end session.back mid × SessionsRun mid sessions to
+
+  -- and their links are those that the door gave next, each hung up behind its session
+  pub record Serves (sessions : List Session) (old : Gate) (from : List PassView) (new : Gate) (to : List PassView) : Type 0 where
+    pub run : SessionsRun from sessions to
+    pub gave : old.to_come ≡ option_map (λ rest. given_of sessions ++ rest) new.to_come
+    pub hung : new.hung ≡ option_map (λ earlier. earlier ++ back_of sessions) old.hung
+    pub left : old.left ≡ option_map (λ n. n + length sessions) new.left
+
+  -- what a node has done once it serves no more: its sessions, each counted under its end
+  pub record NodeWorks (old : Gate) (from : List PassView) (before : Tally) (new : Gate) (to : List PassView) (after : Tally) : Type 0 where
+    pub sessions : List Session
+    pub serves : Serves sessions old from new to
+    pub has_failed : Bool
+    pub stops : Stops has_failed old new
+    pub tally : after ≡ and_failed has_failed (counted_all before (ends_of sessions))

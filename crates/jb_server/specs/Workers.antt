@@ -1,0 +1,44 @@
+-- The workers of a server.
+use Rattle.std.specs.Prelude.{◌≡◌, ℕ, ◌≤◌, List, length, Option}
+use Rattle.jb_base.specs.declared.limits.TheConstants.{MOST_NAME_BYTES}
+use Rattle.jb_conf.specs.declared.board.Board.{Board}
+use Rattle.jb_host.specs.Gate.{Gate}
+use Rattle.jb_host.specs.Rings.{Rings}
+use Rattle.jb_session.specs.Exchanges.{AreOf}
+use Rattle.jb_shared.specs.declared.shared.SharedArea.{SharedArea}
+use Rattle.jb_server.specs.Rounds.{PackerWorks}
+use Rattle.jb_server.specs.Sessions.{NodeWorks}
+use Rattle.jb_server.specs.declared.worker.NodeSlot.{NodeSlot}
+use Rattle.jb_server.specs.declared.worker.PackSlot.{PackSlot}
+use Rattle.jb_server.specs.declared.worker.Worker.{Worker}
+use Rattle.jb_server.specs.declared.worker.Worker.TheVariants.{Node, Packer}
+
+module _ {D R B C : Type 0} (areas : List (SharedArea D)) where
+  -- a worker has a pass of each area, in order, and a packer a name that an area takes
+  abbrev pub IsAtWork : Worker R B C → Type 0
+  IsAtWork (Node slot) = AreOf areas slot.passes.items
+  IsAtWork (Packer slot) = AreOf areas slot.passes.items × (length slot.user.name ≤ MOST_NAME_BYTES)
+
+-- of doors and clocks that show themselves so
+module _ {R C : Type 0} (gate : R → Gate) (reading : C → Option ℕ) (board : Board) where
+  -- a node has served until its door was shut or failed
+  pub record NodeHasWorked (old new : NodeSlot R C) : Type 0 where
+    pub node : new.node ≡ old.node
+    pub clock : reading new.clock ≡ reading old.clock
+    pub works : NodeWorks (reading old.clock) board (gate old.door) old.passes.items old.tally (gate new.door) new.passes.items new.tally
+
+-- of bells and clocks that show themselves so
+module _ {B C : Type 0} (rings : B → Rings) (reading : C → Option ℕ) where
+  -- a packer has packed until its bell was shut
+  pub record PackerHasWorked (old new : PackSlot B C) : Type 0 where
+    pub user : new.user ≡ old.user
+    pub clock : reading new.clock ≡ reading old.clock
+    pub works : PackerWorks (reading old.clock) old.user (rings old.bell) old.passes.items old.packs (rings new.bell) new.passes.items new.packs
+
+-- of doors, bells and clocks that show themselves so
+module _ {R B C : Type 0} (gate : R → Gate) (rings : B → Rings) (reading : C → Option ℕ) (board : Board) where
+  -- a worker has done its work
+  abbrev pub HasWorked : Worker R B C → Worker R B C → Type 0
+  HasWorked (Node old) (Node new) = NodeHasWorked gate reading board old new
+  HasWorked (Packer old) (Packer new) = PackerHasWorked rings reading old new
+  HasWorked _ _ = ⊥

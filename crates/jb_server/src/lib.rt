@@ -1,0 +1,16 @@
+//! The workers of a server: a node for each line, which serves one caller after another, and a packer.
+//!
+//! The layer above may rely on [`serve`]: each worker works on passes of its own; every link that a door gave was served as
+//! `jb_session` says, hung up and counted under its end; each ring of the bell for an area that is there is one pack, asked as the
+//! packer's next call. A worker ends when its door or its bell is shut, or its door fails.
+#![tactic(auto)]
+
+mod node;
+mod packer;
+mod serving;
+mod tally;
+mod worker;
+
+pub use serving::serve;
+pub use tally::Tally;
+pub use worker::{NodeSlot, PackSlot, Worker};

@@ -1,0 +1,53 @@
+//! The work of a node.
+ghost use Rattle.std.specs.Prelude.{◌≡◌, length};
+ghost use Rattle.jb_conf.specs.InRange.{IsInRange};
+ghost use Rattle.jb_session.specs.Exchanges.{AreOf};
+ghost use Rattle.jb_server.specs.Workers.{NodeHasWorked};
+
+use crate::worker::NodeSlot;
+use jb_conf::Board;
+use jb_disk::Disk;
+use jb_host::{Accepted, Clock, Door};
+use jb_session::serve_session;
+use jb_shared::SharedArea;
+use std::alloc::Global;
+use std::sync::Wait;
+
+/// One caller after another, until the door is shut or fails. Each is served on the passes of the node, hung up, and counted.
+pub(crate) fn serve_node<T: Wait, D: Disk, R: Door, C: Clock>(
+    rt: &T,
+    alloc: Global,
+    board: &Board,
+    areas: &[SharedArea<D>],
+    slot: &mut NodeSlot<R, C>,
+)
+    requires board { IsInRange board.now }
+    requires areas { length areas.now ≡ length board.now.areas }
+    requires ours { AreOf areas.now slot.old.passes.items }
+    ensures ours { AreOf areas.now slot.new.passes.items }
+    ensures worked { NodeHasWorked R.gate C.reading board.now slot.old slot.new }
+{
+    for _call in rt.forever() {
+        match slot.door.accept() {
+            Err(_) => {
+                slot.tally.fail();
+                return;
+            }
+            Ok(Accepted::Shut) => return,
+            Ok(Accepted::Call(mut link)) => {
+                let end = serve_session(
+                    rt,
+                    alloc,
+                    board,
+                    areas,
+                    slot.passes.as_mut_slice(),
+                    &mut link,
+                    &mut slot.clock,
+                );
+                slot.door.hang_up(link);
+                slot.tally.count(end);
+            }
+        }
+    }
+    unreachable!()
+}

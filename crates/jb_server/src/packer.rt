@@ -1,0 +1,103 @@
+//! The work of a packer.
+ghost use Rattle.std.specs.Prelude.{◌≡◌, ◌≤◌, length};
+ghost use Rattle.jb_base.specs.declared.limits.TheConstants.{MOST_NAME_BYTES};
+ghost use Rattle.jb_model.specs.declared.command.Command.{Command};
+ghost use Rattle.jb_session.specs.Exchanges.{AreOf, Asks};
+ghost use Rattle.jb_shared.specs.Areas.{IsOf};
+ghost use Rattle.jb_server.specs.Rounds.{AnswersRing, packs_with};
+ghost use Rattle.jb_server.specs.Workers.{PackerHasWorked};
+
+use crate::worker::PackSlot;
+use jb_base::User;
+use jb_disk::Disk;
+use jb_host::{Bell, Clock, Ring};
+use jb_model::{Command, Reply};
+use jb_shared::{Pass, SharedArea, SharedError};
+use std::alloc::Global;
+use std::sync::Wait;
+
+/// Asks a pack as the next call of a pass, at the moment that the clock shows.
+fn ask_pack<T: Wait, D: Disk, C: Clock>(
+    rt: &T,
+    alloc: Global,
+    area: &SharedArea<D>,
+    pass: &mut Pass,
+    clock: &mut C,
+    user: &User,
+) -> Result<Reply, SharedError>
+    requires ours { IsOf area.now pass.old }
+    requires name { length user.now.name ≤ MOST_NAME_BYTES }
+    ensures ours { IsOf area.now pass.new }
+    ensures clock { C.reading clock.new ≡ C.reading clock.old }
+    ensures asks { Asks (C.reading clock.old) user.now Command.Pack pass.old.known pass.new.known result }
+{
+    let moment = clock.now();
+    area.call(rt, alloc, pass, user, moment, &Command::Pack)
+}
+
+impl<B: Bell, C: Clock> PackSlot<B, C> {
+    /// Asks a pack of the area with this number, from 1. A number that no area has is passed over.
+    fn pack<T: Wait, D: Disk>(
+        &mut self,
+        rt: &T,
+        alloc: Global,
+        areas: &[SharedArea<D>],
+        number: u32,
+    ) -> Option<Result<Reply, SharedError>>
+        requires ours { AreOf areas.now self.old.passes.items }
+        requires name { length self.old.user.name ≤ MOST_NAME_BYTES }
+        ensures ours { AreOf areas.now self.new.passes.items }
+        ensures answers { AnswersRing (C.reading self.old.clock) self.old.user number result self.old.passes.items self.new.passes.items }
+
+        // All else stays.
+        ensures bell { self.new.bell ≡ self.old.bell }
+        ensures clock { C.reading self.new.clock ≡ C.reading self.old.clock }
+        ensures user { self.new.user ≡ self.old.user }
+        ensures packs { self.new.packs ≡ self.old.packs }
+    {
+        let k = number.checked_sub(1)? as usize;
+        let area = areas.get(k)?;
+        Some(ask_pack(
+            rt,
+            alloc,
+            area,
+            &mut self.passes[k],
+            &mut self.clock,
+            &self.user,
+        ))
+    }
+}
+
+/// The number of packs that were done, where this came of one ring more.
+fn count_pack(packs: u32, came: Option<Result<Reply, SharedError>>) -> u32
+    ensures { result ≡ packs_with packs came }
+{
+    match came {
+        Some(Ok(Reply::Packed { .. })) => packs.saturating_add(1),
+        _ => packs,
+    }
+}
+
+/// One pack after another, until the bell is shut.
+pub(crate) fn serve_bell<T: Wait, D: Disk, B: Bell, C: Clock>(
+    rt: &T,
+    alloc: Global,
+    areas: &[SharedArea<D>],
+    slot: &mut PackSlot<B, C>,
+)
+    requires ours { AreOf areas.now slot.old.passes.items }
+    requires name { length slot.old.user.name ≤ MOST_NAME_BYTES }
+    ensures ours { AreOf areas.now slot.new.passes.items }
+    ensures worked { PackerHasWorked B.rings C.reading slot.old slot.new }
+{
+    for _ring in rt.forever() {
+        match slot.bell.next() {
+            Ring::Shut => return,
+            Ring::Pack(number) => {
+                let came = slot.pack(rt, alloc, areas, number);
+                slot.packs = count_pack(slot.packs, came);
+            }
+        }
+    }
+    unreachable!()
+}

@@ -1,0 +1,35 @@
+//! The workers.
+
+use crate::tally::Tally;
+use jb_base::User;
+use jb_shared::Pass;
+
+/// What a node works with: its number, from 1, its door, a clock, a pass of each area in order, and what it has counted.
+#[derive(Drop)]
+pub struct NodeSlot<R, C> {
+    pub node: u32,
+    pub door: R,
+    pub clock: C,
+    pub passes: Vec<Pass>,
+    pub tally: Tally,
+}
+
+/// What a packer works with: its bell, a clock, a pass of each area in order, the user that it is, and how many packs were done.
+#[derive(Drop)]
+pub struct PackSlot<B, C> {
+    pub bell: B,
+    pub clock: C,
+    pub passes: Vec<Pass>,
+    pub user: User,
+    /// It stops at its greatest value.
+    pub packs: u32,
+}
+
+/// One that works at the same time as others.
+#[derive(Drop)]
+pub enum Worker<R, B, C> {
+    /// It serves callers.
+    Node(NodeSlot<R, C>),
+    /// It packs areas.
+    Packer(PackSlot<B, C>),
+}
