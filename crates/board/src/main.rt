@@ -5,6 +5,10 @@
 //! program ends.
 #![tactic(auto)]
 
+ghost use Rattle.std.specs.Prelude.{IsSome};
+ghost use Rattle.std.specs.Option.{option_map};
+ghost use Rattle.jb_host.specs.Real.{silent_wire};
+
 use jb_board::{Fault, board};
 use jb_host::RealHost;
 use std::process::ExitCode;
@@ -19,9 +23,16 @@ fn words(rt: &HostRuntime) -> io::Result<Vec<String>> {
     Ok(words)
 }
 
+/// The surroundings of this process, with its console.
+fn surroundings(rt: &HostRuntime) -> RealHost<HostRuntime>
+    ensures { IsSome (option_map (λ link. silent_wire link.faults link.ends link.unsent) result.console) }
+{
+    RealHost::new(*rt, *rt, rt.alloc())
+}
+
 fn main(rt: HostRuntime) -> ExitCode {
     let alloc = rt.alloc();
-    let mut host = RealHost::new(rt, rt, alloc);
+    let mut host = surroundings(&rt);
     match words(&rt) {
         Ok(words) => ExitCode::from(board(&rt, alloc, words.as_slice(), &mut host)),
         // Words that are no UTF-8 are no command line.

@@ -5,8 +5,8 @@ use Rattle.jb_area_open.specs.declared.error.OpeningError.TheVariants.{BadJourna
 use Rattle.jb_conf.specs.Names.{field_name}
 use Rattle.jb_conf.specs.declared.error.ConfError.{ConfError}
 use Rattle.jb_conf.specs.declared.error.ConfError.TheVariants as conf
-use Rattle.jb_local.specs.declared.ending.LocalError.{LocalError}
-use Rattle.jb_local.specs.declared.ending.LocalError.TheVariants as no_session
+use Rattle.jb_local.specs.declared.error.RunError.{RunError}
+use Rattle.jb_local.specs.declared.error.RunError.TheVariants as no_session
 use Rattle.jb_image.specs.declared.error.OpenError.{OpenError}
 use Rattle.jb_image.specs.declared.error.OpenError.TheVariants as refused
 use Rattle.jb_tool.specs.declared.error.ToolError.{ToolError}
@@ -38,7 +38,7 @@ settings_status conf.OutOfMemory = 6
 settings_status _ = 2
 
 -- why there is no session, as the fault of a run
-abbrev pub fault_of : LocalError → Fault
+abbrev pub fault_of : RunError → Fault
 fault_of (no_session.Settings error) = Settings error
 fault_of (no_session.Area place error) = Area place error
 fault_of no_session.HostFault = HostFault

@@ -3,25 +3,28 @@ use Rattle.std.specs.Prelude.{◌≡◌, ◌⊎◌, ℕ, ◌≤◌, List, Option
 use Rattle.std.specs.Option.{ForSome}
 use Rattle.jb_base.specs.Fault.{Rose}
 use Rattle.jb_disk.specs.Device.{Device}
-use Rattle.jb_host.specs.Desk.{Desk, Disks, has_disk, with_place, asked_disk, and_call}
+use Rattle.jb_host.specs.Desk.{Desk, Disks, KeepsRest, has_disk, with_place, asked_disk, and_call}
 use Rattle.jb_host.specs.Wire.{Wire, Begins, Sends}
 use Rattle.jb_load.specs.Summary.{summary_of}
 use Rattle.jb_load.specs.Workload.{load_run}
 use Rattle.jb_local.specs.Ending.{status_of as status_behind}
 use Rattle.jb_local.specs.Local.{RunsLocal}
 use Rattle.jb_local.specs.declared.ending.LocalEnd.{LocalEnd}
-use Rattle.jb_local.specs.declared.ending.LocalError.{LocalError}
+use Rattle.jb_local.specs.declared.error.RunError.{RunError}
+use Rattle.jb_nodes.specs.Ending.{status_of as status_behind_nodes}
+use Rattle.jb_nodes.specs.Nodes.{RunsNodes}
+use Rattle.jb_nodes.specs.declared.ending.NodesEnd.{NodesEnd}
 use Rattle.jb_tool.specs.Answers.{AnswersTool, KeepsUnderTool}
 use Rattle.jb_tool.specs.declared.error.ToolError.{ToolError}
 use Rattle.jb_tool.specs.declared.tool.Tool.{Tool as ToolName}
 use Rattle.jb_board.specs.declared.fault.Fault.{Fault}
 use Rattle.jb_board.specs.declared.fault.Fault.TheVariants.{Words as NoWords, Tool, HostFault, OutOfMemory}
 use Rattle.jb_board.specs.declared.top.Outcome.{Outcome}
-use Rattle.jb_board.specs.declared.top.Outcome.TheVariants.{Text, Session}
+use Rattle.jb_board.specs.declared.top.Outcome.TheVariants.{Text, Session, Nodes}
 use Rattle.jb_board.specs.Faults.{fault_of, line_of, status_of}
-use Rattle.jb_board.specs.Words.{Words, use_tool, run_load, serve_one, show_help, command_line_of, help_text}
+use Rattle.jb_board.specs.Words.{Words, use_tool, run_load, serve_one, serve_all, show_help, command_line_of, help_text}
 
--- what a run answers: the text to print, a session that has ended, or why it is refused
+-- what a run answers: the text to print, a session or a run with many nodes that has ended, or why it is refused
 abbrev pub Answer : Type 0
 Answer = Result Outcome Fault
 
@@ -55,9 +58,7 @@ GetsNoDisk old new answer =
 pub record UsesTool (tool : ToolName) (moment : ℕ) (dir name : List ℕ) (old new : Desk) (answer : Answer) : Type 0 where
   pub calls : (new.calls ≡ and_call (asked_disk dir name) old.calls) ⊎ ((answer ≡ Err OutOfMemory) × (new.calls ≡ old.calls))
   pub disk : GetsNoDisk old new answer ⊎ ForSome old.disks (λ disks. UsesDisk tool moment dir name disks new.disks answer)
-  pub settings : new.settings ≡ old.settings
-  pub console : new.console ≡ old.console
-  pub reading : new.reading ≡ old.reading
+  pub rest : KeepsRest old (record new { faults = old.faults })
   pub cause : answer ≡ Err HostFault → Rose old.faults new.faults
   pub memory : answer ≡ Err OutOfMemory → new.faults ≡ old.faults
   pub known : answer ≡ Err NoWords → ⊥
@@ -68,15 +69,26 @@ abbrev pub Says : List ℕ → Answer → Type 0
 Says text answer = (answer ≡ Ok (Text text)) ⊎ (answer ≡ Err OutOfMemory)
 
 -- what a session came to, as what the run answers
-abbrev pub answer_behind : Result LocalEnd LocalError → Answer
+abbrev pub answer_behind : Result LocalEnd RunError → Answer
 answer_behind (Ok end) = Ok (Session end)
 answer_behind (Err error) = Err (fault_of error)
 
 -- a session is served, or why none is
 pub record Serves (path : List ℕ) (old new : Desk) (answer : Answer) : Type 0 where
-  pub came : Result LocalEnd LocalError
+  pub came : Result LocalEnd RunError
   pub runs : RunsLocal path old new came
   pub is : answer ≡ answer_behind came
+
+-- what a run with many nodes came to, as what the run answers
+abbrev pub answer_behind_nodes : Result NodesEnd RunError → Answer
+answer_behind_nodes (Ok end) = Ok (Nodes end)
+answer_behind_nodes (Err error) = Err (fault_of error)
+
+-- all nodes serve, or why none does
+pub record ServesNodes (path : List ℕ) (calls : Option ℕ) (old new : Desk) (answer : Answer) : Type 0 where
+  pub came : Result NodesEnd RunError
+  pub runs : RunsNodes path calls old new came
+  pub is : answer ≡ answer_behind_nodes came
 
 -- the run of these words, if they are a command line; where no tool is used and nobody is served, the host is asked for nothing
 abbrev pub AnswersWords : Option Words → ℕ → Desk → Desk → Answer → Type 0
@@ -84,6 +96,7 @@ AnswersWords None moment old new answer = (answer ≡ Err NoWords) × (new ≡ o
 AnswersWords (Some (use_tool tool dir name)) moment old new answer = UsesTool tool moment dir name old new answer
 AnswersWords (Some (run_load seed count)) moment old new answer = Says (summary_of (load_run seed count)) answer × (new ≡ old)
 AnswersWords (Some (serve_one path)) moment old new answer = Serves path old new answer
+AnswersWords (Some (serve_all path calls)) moment old new answer = ServesNodes path calls old new answer
 AnswersWords (Some show_help) moment old new answer = Says help_text answer × (new ≡ old)
 
 -- a write of the console failed, and only a beginning of these bytes was sent
@@ -103,10 +116,11 @@ pub record KeepsInput (old new : Wire) : Type 0 where
 abbrev pub IsSent : Wire → Wire → List ℕ → Type 0
 IsSent old new bytes = Sends old.sent bytes new.sent ⊎ Stops old new bytes
 
--- the answer is printed, and this is the status; behind a session nothing is
+-- the answer is printed, and this is the status; behind a session and a run with many nodes nothing is
 abbrev pub IsPrinted : Answer → ℕ → Wire → Wire → Type 0
 IsPrinted (Ok (Text text)) status old new = KeepsInput old new × (((status ≡ 0) × Sends old.sent text new.sent) ⊎ ((status ≡ 5) × Stops old new text))
 IsPrinted (Ok (Session end)) status old new = (status ≡ status_behind end) × (new ≡ old)
+IsPrinted (Ok (Nodes end)) status old new = (status ≡ status_behind_nodes end) × (new ≡ old)
 IsPrinted (Err fault) status old new = KeepsInput old new × (status ≡ status_of fault) × IsSent old new (line_of fault)
 
 -- a whole run, at one moment: what the host's clocks give, where it tells that

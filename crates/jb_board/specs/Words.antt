@@ -5,16 +5,17 @@ use Rattle.std.specs.List.{list_all}
 use Rattle.std.specs.Str.Parse.{digits_value}
 use Rattle.jb_tool.specs.declared.tool.Tool.{Tool}
 use Rattle.jb_tool.specs.declared.tool.Tool.TheVariants.{List as Listing, Check, Make, Pack, Relink}
-use Rattle.jb_board.specs.declared.command.TheConstants.{MOST_SEED, MOST_STEPS}
+use Rattle.jb_board.specs.declared.command.TheConstants.{MOST_CALLS, MOST_SEED, MOST_STEPS}
 use Rattle.jb_board.specs.declared.command.CommandLine.{CommandLine}
-use Rattle.jb_board.specs.declared.command.CommandLine.TheVariants.{Use, Load, Local, Help}
+use Rattle.jb_board.specs.declared.command.CommandLine.TheVariants.{Use, Load, Local, Serve, Help}
 
 -- a command line: a tool with the folder and the name of a base, the workload with a seed and a count of steps, a session with the path of
--- the settings, or a call for help
+-- the settings, a run with many nodes with that path and how many calls each node takes, or a call for help
 pub data Words : Type 0 where
   use_tool : Tool → List ℕ → List ℕ → Words
   run_load : ℕ → ℕ → Words
   serve_one : List ℕ → Words
+  serve_all : List ℕ → Option ℕ → Words
   show_help : Words
 
 -- a workload has at most the steps that it may have
@@ -22,6 +23,7 @@ abbrev pub HasFewSteps : Words → Type 0
 HasFewSteps (use_tool tool dir name) = Unit {0}
 HasFewSteps (run_load seed count) = count ≤ MOST_STEPS
 HasFewSteps (serve_one path) = Unit {0}
+HasFewSteps (serve_all path calls) = Unit {0}
 HasFewSteps show_help = Unit {0}
 
 -- the command line that the program made of its words
@@ -29,6 +31,7 @@ abbrev pub words_of : CommandLine → Words
 words_of (Use tool dir name) = use_tool tool dir.now name.now
 words_of (Load seed count) = run_load seed count
 words_of (Local path) = serve_one path.now
+words_of (Serve path calls) = serve_all path.now calls
 words_of Help = show_help
 
 -- the tool that a word names
@@ -63,16 +66,30 @@ load_line _ _ = None
 abbrev pub local_line : List ℕ → Option Words
 local_line path = if length path == 0 then None else Some (serve_one path)
 
--- three words of which the first is `load` or names a tool, two of which the first is `local`, or `help` alone
+-- the same for a run with many nodes
+abbrev pub serve_line : List ℕ → Option ℕ → Option Words
+serve_line path calls = if length path == 0 then None else Some (serve_all path calls)
+
+-- and where each node takes a number of calls, which is not 0
+abbrev pub counted_line : List ℕ → Option ℕ → Option Words
+counted_line path None = None
+counted_line path (Some calls) = if calls == 0 then None else serve_line path (Some calls)
+
+-- three words of which the first is `load` or names a tool, two of which the first is `local` or `serve`, four of which the first is `serve`
+-- and the third `--calls`, or `help` alone
 abbrev pub command_line_of : List (List ℕ) → Option Words
 command_line_of (verb ∷ []) = if bytes_eq verb (codes "help") then Some show_help else None
-command_line_of (verb ∷ path ∷ []) = if bytes_eq verb (codes "local") then local_line path else None
+command_line_of (verb ∷ path ∷ []) =
+    if bytes_eq verb (codes "local") then local_line path else if bytes_eq verb (codes "serve") then serve_line path None else None
 command_line_of (verb ∷ first ∷ second ∷ []) =
     if bytes_eq verb (codes "load") then load_line (number_up_to MOST_SEED first) (number_up_to MOST_STEPS second) else tool_line (tool_named verb) first second
+command_line_of (verb ∷ path ∷ option ∷ calls ∷ []) =
+    if bytes_eq verb (codes "serve") && bytes_eq option (codes "--calls") then counted_line path (number_up_to MOST_CALLS calls) else None
 command_line_of _ = None
 
 -- what `help` prints: the forms of words, each with the program's name before it
 abbrev pub help_text : List ℕ
 help_text =
     codes "board list DIR NAME" ++ 10 ∷ codes "board check DIR NAME" ++ 10 ∷ codes "board make DIR NAME" ++ 10 ∷ codes "board pack DIR NAME" ++ 10
-    ∷ codes "board relink DIR NAME" ++ 10 ∷ codes "board load SEED COUNT" ++ 10 ∷ codes "board local CONF" ++ 10 ∷ codes "board help" ++ 10 ∷ []
+    ∷ codes "board relink DIR NAME" ++ 10 ∷ codes "board load SEED COUNT" ++ 10 ∷ codes "board local CONF" ++ 10 ∷ codes "board serve CONF" ++ 10
+    ∷ codes "board serve CONF --calls N" ++ 10 ∷ codes "board help" ++ 10 ∷ []

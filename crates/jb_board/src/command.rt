@@ -1,7 +1,7 @@
 //! The words of the command line.
 ghost use Rattle.std.specs.Prelude.{◌≡◌, IfNone, IfSome, None, Some, map};
 ghost use Rattle.std.specs.String.{string_bytes};
-ghost use Rattle.jb_board.specs.Words.{HasFewSteps, command_line_of, load_line, local_line, number_up_to, tool_line, tool_named, words_of};
+ghost use Rattle.jb_board.specs.Words.{HasFewSteps, command_line_of, counted_line, load_line, local_line, number_up_to, serve_line, tool_line, tool_named, words_of};
 
 use crate::number::number_up_to;
 use jb_tool::Tool;
@@ -10,6 +10,8 @@ use jb_tool::Tool;
 pub const MOST_SEED: u32 = 4_294_967_295;
 /// The greatest count of its steps.
 pub const MOST_STEPS: u32 = 50_000;
+/// The greatest number of calls that a node is to take.
+pub const MOST_CALLS: u32 = 1_000_000;
 
 /// What the words of a command line ask for.
 #[derive(Clone, Copy, Debug)]
@@ -28,6 +30,12 @@ pub enum CommandLine<'a> {
     /// `local CONF`: a session at the console, and the path of the settings, which is not empty.
     Local {
         path: &'a str,
+    },
+    /// `serve CONF`, `serve CONF --calls N`: all nodes at their doors, the path of the settings, which is not empty, and how many calls
+    /// each node takes, from 1 to [`MOST_CALLS`], where that is said.
+    Serve {
+        path: &'a str,
+        calls: Option<u32>,
     },
     /// `help`.
     Help,
@@ -91,6 +99,31 @@ fn local_line<'a>(path: &'a str) -> Option<CommandLine<'a>>
     Some(CommandLine::Local { path })
 }
 
+/// The command line of a run with many nodes.
+fn serve_line<'a>(path: &'a str, calls: Option<u32>) -> Option<CommandLine<'a>>
+    ensures found { IfSome result (λ line. serve_line path.now calls ≡ Some (words_of line)) }
+    ensures none { IfNone result (serve_line path.now calls ≡ None) }
+    ensures few { IfSome result (λ line. HasFewSteps (words_of line)) }
+{
+    if path.is_empty() {
+        return None;
+    }
+    Some(CommandLine::Serve { path, calls })
+}
+
+/// The command line of such a run in which each node takes a number of calls.
+fn counted_line<'a>(path: &'a str, calls: &str) -> Option<CommandLine<'a>>
+    ensures found { IfSome result (λ line. counted_line path.now (number_up_to MOST_CALLS calls.now) ≡ Some (words_of line)) }
+    ensures none { IfNone result (counted_line path.now (number_up_to MOST_CALLS calls.now) ≡ None) }
+    ensures few { IfSome result (λ line. HasFewSteps (words_of line)) }
+{
+    let calls = number_up_to(MOST_CALLS, calls)?;
+    if calls == 0 {
+        return None;
+    }
+    serve_line(path, Some(calls))
+}
+
 /// The command line that these words are, if they are one.
 pub fn command<'a>(words: &'a [String]) -> Option<CommandLine<'a>>
     ensures found { IfSome result (λ line. command_line_of (map string_bytes words.now) ≡ Some (words_of line)) }
@@ -98,9 +131,13 @@ pub fn command<'a>(words: &'a [String]) -> Option<CommandLine<'a>>
     ensures few { IfSome result (λ line. HasFewSteps (words_of line)) }
 {
     match words {
+        [verb, path, option, calls] if verb.as_str() == "serve" && option.as_str() == "--calls" => {
+            counted_line(path.as_str(), calls.as_str())
+        }
         [verb, seed, count] if verb.as_str() == "load" => load_line(seed.as_str(), count.as_str()),
         [verb, dir, name] => tool_line(verb.as_str(), dir.as_str(), name.as_str()),
         [verb, path] if verb.as_str() == "local" => local_line(path.as_str()),
+        [verb, path] if verb.as_str() == "serve" => serve_line(path.as_str(), None),
         [verb] if verb.as_str() == "help" => Some(CommandLine::Help),
         _ => None,
     }

@@ -8,7 +8,7 @@ use itoa::Buffer;
 use jb_area_open::OpeningError;
 use jb_conf::{ConfError, Field};
 use jb_image::OpenError;
-use jb_local::LocalError;
+use jb_local::RunError;
 use jb_tool::ToolError;
 
 /// A line of at most 96 bytes; it takes no memory.
@@ -198,15 +198,15 @@ fn settings_line(error: ConfError) -> Line
     }
 }
 
-impl From<LocalError> for Fault {
+impl From<RunError> for Fault {
     ghost from_gives = { λ error fault. fault ≡ fault_of error };
 
-    fn from(error: LocalError) -> Fault {
+    fn from(error: RunError) -> Fault {
         match error {
-            LocalError::Settings(error) => Fault::Settings(error),
-            LocalError::Area { place, error } => Fault::Area { place, error },
-            LocalError::HostFault => Fault::HostFault,
-            LocalError::OutOfMemory => Fault::OutOfMemory,
+            RunError::Settings(error) => Fault::Settings(error),
+            RunError::Area { place, error } => Fault::Area { place, error },
+            RunError::HostFault => Fault::HostFault,
+            RunError::OutOfMemory => Fault::OutOfMemory,
         }
     }
 }

@@ -1,7 +1,7 @@
 //! The program over any host.
 ghost use Rattle.std.specs.Prelude.{◌≡◌, ◌≤◌, Err, IfOk, IsSome, Ok, OnErr, Some, map};
 ghost use Rattle.std.specs.String.{string_bytes};
-ghost use Rattle.jb_board.specs.Run.{AnswersWords, HasRun, IsPrinted, Serves, UsesTool, answer_of};
+ghost use Rattle.jb_board.specs.Run.{AnswersWords, HasRun, IsPrinted, Serves, ServesNodes, UsesTool, answer_of};
 ghost use Rattle.jb_board.specs.declared.top.Outcome.TheVariants.{Text as is_text};
 ghost use Rattle.jb_board.specs.Words.{command_line_of};
 ghost use Rattle.jb_board.specs.declared.fault.Fault.TheVariants.{OutOfMemory as no_memory};
@@ -9,16 +9,18 @@ ghost use Rattle.jb_board.specs.declared.fault.Fault.TheVariants.{OutOfMemory as
 use crate::command::{CommandLine, command};
 use crate::fault::Fault;
 use jb_base::{Bytes, OutOfMemory};
-use jb_host::{Clock, Host, HostError, Link, send};
+use jb_host::{Clock, Door, Host, HostError, Link, send};
 use jb_load::load_in_memory;
 use jb_local::{LocalEnd, local};
+use jb_nodes::{NodesEnd, serve_nodes};
 use jb_tool::{Tool, ToolError};
 use std::alloc::Global;
 use std::sync::Wait;
+use std::thread::Threads;
 
 /// The forms of words, each with the program's name before it.
 const HELP: &[u8] =
-    b"board list DIR NAME\nboard check DIR NAME\nboard make DIR NAME\nboard pack DIR NAME\nboard relink DIR NAME\nboard load SEED COUNT\nboard local CONF\nboard help\n";
+    b"board list DIR NAME\nboard check DIR NAME\nboard make DIR NAME\nboard pack DIR NAME\nboard relink DIR NAME\nboard load SEED COUNT\nboard local CONF\nboard serve CONF\nboard serve CONF --calls N\nboard help\n";
 
 /// What a run that is not refused comes to.
 #[derive(Debug, Drop)]
@@ -27,6 +29,8 @@ pub(crate) enum Outcome {
     Text(Bytes),
     /// A session that has ended. Nothing is printed behind it.
     Session(LocalEnd),
+    /// A run with many nodes that has ended. Nothing is printed behind it.
+    Nodes(NodesEnd),
 }
 
 /// What a tool answered, as what the run answers.
@@ -84,14 +88,39 @@ fn serve<R: Wait, H: Host>(
     Ok(Outcome::Session(local(rt, alloc, host, path)?))
 }
 
+/// How a run with many nodes ends.
+fn serve_all<R: Threads + Wait + Sync, H: Host>(
+    rt: &R,
+    alloc: Global,
+    path: &str,
+    calls: Option<u32>,
+    host: &mut H,
+) -> Result<Outcome, Fault>
+where
+    H::Disk: Send + Sync,
+    H::Door: Send,
+    <H::Door as Door>::Link: Send,
+    H::Bell: Send,
+    H::Clock: Send,
+    ensures { ServesNodes path.now calls (H.desk host.old) (H.desk host.new) result }
+{
+    Ok(Outcome::Nodes(serve_nodes(rt, alloc, host, path, calls)?))
+}
+
 /// What these words are answered.
-fn answer<R: Wait, H: Host>(
+fn answer<R: Threads + Wait + Sync, H: Host>(
     rt: &R,
     alloc: Global,
     words: &[String],
     moment: u32,
     host: &mut H,
 ) -> Result<Outcome, Fault>
+where
+    H::Disk: Send + Sync,
+    H::Door: Send,
+    <H::Door as Door>::Link: Send,
+    H::Bell: Send,
+    H::Clock: Send,
     requires { IsSome (H.desk host.old).console }
     ensures found { AnswersWords (command_line_of (map string_bytes words.now)) moment (H.desk host.old) (H.desk host.new) result }
     ensures console { IsSome (H.desk host.new).console }
@@ -102,6 +131,7 @@ fn answer<R: Wait, H: Host>(
         ),
         Some(CommandLine::Load { seed, count }) => told(load_in_memory(alloc, seed, count)),
         Some(CommandLine::Local { path }) => serve(rt, alloc, path, host),
+        Some(CommandLine::Serve { path, calls }) => serve_all(rt, alloc, path, calls, host),
         Some(CommandLine::Help) => told(Bytes::copy(alloc, HELP)),
         None => Err(Fault::Words),
     }
@@ -113,6 +143,7 @@ fn print<L: Link>(console: &mut L, answer: &Result<Outcome, Fault>) -> u8
 {
     match answer {
         Ok(Outcome::Session(end)) => end.status(),
+        Ok(Outcome::Nodes(end)) => end.status(),
         Ok(Outcome::Text(text)) => match send(console, text.as_slice()) {
             Ok(()) => 0,
             Err(_) => Fault::HostFault.status(),
@@ -125,16 +156,29 @@ fn print<L: Link>(console: &mut L, answer: &Result<Outcome, Fault>) -> u8
     }
 }
 
-/// The whole program: answers the words at the moment that the host's clock shows, prints on the host's console or serves a caller
-/// there, and gives the exit status.
+/// The whole program: answers the words at the moment that the host's clock shows, prints on the host's console, serves a caller there
+/// or many at the host's doors, and gives the exit status.
 ///
-/// 0: done and printed whole, or a session that its caller ended. 1: the words are no command line. 2: the settings are refused.
-/// 3: the base is refused. 4: its disk failed, or an area is in doubt behind a session. 5: the host or the console failed. 6: want of
-/// memory. 7: a session that was ended by three refused log-ins, or took all that it may take. Under a status other than 0 the
-/// console has one line that begins with `fault`, or, where the console itself failed, a beginning of what was to be printed; but
-/// nothing is printed behind a session. Nothing is read from the console but by a session. The host is asked for the disk of the base
-/// alone, at most once, or for the settings and then for the disk of each area, in order, and has all back when the call returns.
-pub fn board<R: Wait, H: Host>(rt: &R, alloc: Global, words: &[String], host: &mut H) -> u8
+/// 0: done and printed whole, a session that its caller ended, or a run with many nodes whose doors were shut. 1: the words are no
+/// command line. 2: the settings are refused. 3: the base is refused. 4: its disk failed, or an area is in doubt behind a session or a
+/// run with many nodes. 5: the host, the console or a door failed. 6: want of memory. 7: a session that was ended by three refused
+/// log-ins, or took all that it may take. Under a status other than 0 the console has one line that begins with `fault`, or, where the
+/// console itself failed, a beginning of what was to be printed; but nothing is printed behind a session or a run with many nodes.
+/// Nothing is read from the console but by a session. The host is asked for the disk of the base alone, at most once, or for the
+/// settings and then for the disk of each area, in order, and then for the doors of all nodes and the bell where many are served, and
+/// has all back when the call returns.
+pub fn board<R: Threads + Wait + Sync, H: Host>(
+    rt: &R,
+    alloc: Global,
+    words: &[String],
+    host: &mut H,
+) -> u8
+where
+    H::Disk: Send + Sync,
+    H::Door: Send,
+    <H::Door as Door>::Link: Send,
+    H::Bell: Send,
+    H::Clock: Send,
     requires { IsSome (H.desk host.old).console }
     ensures { HasRun (map string_bytes words.now) (H.desk host.old) (H.desk host.new) result }
 {

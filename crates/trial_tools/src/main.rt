@@ -15,10 +15,11 @@ use base::Base;
 use std::alloc::Global;
 use std::io;
 use std::sync::Wait;
+use std::thread::Threads;
 use trial_rows::{Row, RowError};
 
 /// What the row comes to. It may wait, since a session waits for the turn of an area.
-fn answer<R: Wait>(
+fn answer<R: Threads + Wait + Sync>(
     rt: &R,
     files: HostRuntime,
     alloc: Global,

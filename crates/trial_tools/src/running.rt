@@ -9,6 +9,7 @@ use jb_disk::MemDisk;
 use jb_host::{MemHost, MemLink};
 use std::alloc::Global;
 use std::sync::Wait;
+use std::thread::Threads;
 use trial_rows::{Row, RowError, shown};
 
 /// A host with the base `general` in the folder `a`, at this moment, on whose console this comes and which fails the calls with these
@@ -58,7 +59,12 @@ fn ended(alloc: Global, status: u8, host: &MemHost, base: &mut Base) -> Result<S
 }
 
 /// `board MOMENT DISK CONSOLE WORD..`: a run of the words over the base, in which these calls of its disk and of the console fail.
-pub fn run<R: Wait>(rt: &R, alloc: Global, row: &Row, base: &mut Base) -> Result<String, RowError> {
+pub fn run<R: Threads + Wait + Sync>(
+    rt: &R,
+    alloc: Global,
+    row: &Row,
+    base: &mut Base,
+) -> Result<String, RowError> {
     let moment = row.u32(1)?;
     let words = words(alloc, row, 4)?;
     let disk = base.disk(alloc, row, 2)?;
@@ -75,7 +81,7 @@ pub fn run<R: Wait>(rt: &R, alloc: Global, row: &Row, base: &mut Base) -> Result
 
 /// `session MOMENT DISK CONSOLE SETTINGS INPUT`: one session over the base by these settings, with this on the console, in which these
 /// calls of its disk and of the console fail.
-pub fn session<R: Wait>(
+pub fn session<R: Threads + Wait + Sync>(
     rt: &R,
     alloc: Global,
     row: &Row,

@@ -1,0 +1,7 @@
+mod Lists
+mod Doors
+mod Crew
+mod Starts
+mod Closing
+mod Refusing
+mod Serving

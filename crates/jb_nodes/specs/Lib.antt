@@ -1,0 +1,5 @@
+pub mod Lines
+pub mod Ending
+pub mod Workers
+pub mod Working
+pub mod Nodes
