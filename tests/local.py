@@ -3,46 +3,23 @@
 
 usage: local.py PROGRAM [quick]
 
-Where it is to be quick, the session that takes as many bytes as it may is left out. Each caller is a process of its own, spoken to over pipes. What must be sent is written out here or made from what is typed; the files are
-read by the reader of real_base.py, which knows the tables of the JAM proposal and nothing of the program.
+Where it is to be quick, the session that takes as many bytes as it may is left out. Each caller is a process of its own, spoken to
+over pipes. What must be sent is written out here or made from what is typed; the files are read by jam.py, which knows the tables of
+the JAM proposal and nothing of the program.
 """
 import os
-import resource
 import select
 import shutil
-import signal
 import struct
 import subprocess
 import sys
 import tempfile
 import time
-import zlib
 
-from real_base import EMPTY, FIELDS, Base, Message, read, read_files, write
+from jam import EMPTY, FIELDS, PRIVATE, Base, Message, crc, read, read_files, write
+from trial import OFFERS, Trial, settings, with_limit
 
 TOP = os.path.dirname(os.path.dirname(os.path.realpath(__file__)))
-OFFERS = b"\xff\xfb\x01\xff\xfb\x03"
-BOARD = """name = "Test Board"
-address = "2:5020/1042"
-nodes = 2
-"""
-AREA = """[[area]]
-name = "{name}"
-dir = "areas"
-base = "{base}"
-read = 10
-post = 10
-sysop = 200
-"""
-USER = """[[user]]
-name = "{name}"
-id = {id}
-level = {level}
-digest = "{digest}"
-"""
-USERS = (("Test", 7, 50, "ba7816bf8f01cfea414140de5dae2223b00361a396177a9cb410ff61f20015ad"),
-         ("Hello", 8, 50, "9f86d081884c7d659a2feaa0c55ad015a3bf4f1b2b0b822cd15d6c15b0f00a08"),
-         ("Sysop", 9, 255, "2cf24dba5fb0a30e26e83b2ac5b9e29e1b161e5c1fa7425e73043362938b9824"))
 START = OFFERS + b"Test Board\r\nName: "
 ANSWERED = ["Hello", "test", "1", "N", "R", "Thanks", ".", "Q"]
 FIRST = START + (
@@ -52,24 +29,13 @@ FIRST = START + (
 WRONG = START + b"Password: Login incorrect.\r\nName: " * 2 + b"Password: Login incorrect.\r\nGoodbye.\r\n"
 MOST_SESSION_BYTES = 16_777_216
 MOST_SETTINGS_BYTES = 1_048_576
-PRIVATE = 4
 LIMIT = 600
 # seconds in which an answer is waited for before it is taken as not coming
 GUARD = 60
 
 
-def crc(name):
-    """The CRC of a name by the JAM proposal: that of zlib without its last complement, over lower-case letters."""
-    return zlib.crc32(name.lower()) ^ 0xFFFFFFFF
-
-
 def lines(words):
     return "".join(word + "\r\n" for word in words).encode()
-
-
-def settings(areas=("general",)):
-    return (BOARD + "".join(AREA.format(name=area, base=area) for area in areas)
-            + "".join(USER.format(name=name, id=number, level=level, digest=digest) for name, number, level, digest in USERS))
 
 
 def one_message():
@@ -83,22 +49,13 @@ def one_message():
     return Base(fixed, [Message(head, fields, b"Good\r", crc(b"Hello"))], b"")
 
 
-class Trial:
-    """Runs of the program in one folder, each with what it must send and its status; tells what was otherwise."""
+class Sessions(Trial):
+    """Runs of the program in one folder, each with what it must send and its status."""
 
     def __init__(self, program, folder):
-        self.program, self.folder, self.areas, self.wrong, self.tried = program, folder, f"{folder}/areas", 0, 0
+        super().__init__(program, folder)
+        self.areas = f"{folder}/areas"
         os.mkdir(self.areas)
-
-    def holds(self, what, is_so):
-        self.tried += 1
-        if not is_so:
-            self.wrong += 1
-            print(f"wrong: {what}")
-        return is_so
-
-    def is_so(self, what, found, wanted):
-        return self.holds(f"{what}: {str(found)[-300:]}, where {str(wanted)[-300:]} is wanted", found == wanted)
 
     def has_base(self, *names):
         """Only these bases, each with one message."""
@@ -106,10 +63,6 @@ class Trial:
         os.mkdir(self.areas)
         for name in names:
             write(self.areas, name, one_message())
-
-    def has_settings(self, text):
-        with open(f"{self.folder}/board.toml", "w") as file:
-            file.write(text)
 
     def base(self, name="general"):
         return read(self.areas, name)[0]
@@ -331,14 +284,6 @@ def try_limit(trial):
     trial.run("an end with the last byte", entered + b"Goodbye.\r\n", 0, typed[:-3] + lines(["Q"]))
 
 
-def with_limit(most):
-    """Before a program begins: no file grows beyond this, and the system answers so and does not end the program."""
-    def before():
-        signal.signal(signal.SIGXFSZ, signal.SIG_IGN)
-        resource.setrlimit(resource.RLIMIT_FSIZE, (most, most))
-    return before
-
-
 def try_faults(trial):
     """A console that fails, and a disk that fails in the middle: the change is in doubt, and the next program settles it."""
     trial.has_settings(settings())
@@ -349,8 +294,8 @@ def try_faults(trial):
         trial.run("a console that gives nothing", START, 5, stdin=file)
     trial.is_so("nothing came of it", (trial.base().slots[0].head["read"], trial.base().marks), (0, b""))
 
-    doubt = START + (b"Password: Welcome, Hello.\r\nTop> 1 visible, 1 unread.\r\n[general] " + b"Store fault: the change is in doubt.\r\n[general] " * 2
-                     + b"Goodbye.\r\n")
+    doubt = START + (b"Password: Welcome, Hello.\r\nTop> 1 visible, 1 unread.\r\n[general] "
+                     + b"Store fault: the change is in doubt.\r\n[general] " * 2 + b"Goodbye.\r\n")
     typed = lines(["Hello", "test", "1", "N", "1", "Q"])
     for what, most, again, times_read in (("a journal that does not grow", 40, doubt[:-len(b"Goodbye.\r\n")], 0),
                                           ("a header that cannot be written", 700, b"fault 4 StoreFault area.1\n", 1)):
@@ -365,13 +310,12 @@ def main(program, tries):
     folder = tempfile.mkdtemp()
     try:
         shutil.copy(program, f"{folder}/board")
-        trial = Trial(f"{folder}/board", folder)
+        trial = Sessions(f"{folder}/board", folder)
         for tried in tries:
             tried(trial)
     finally:
         shutil.rmtree(folder)
-    print(f"a session at the console: {trial.tried - trial.wrong} as they must, {trial.wrong} otherwise")
-    return 1 if trial.wrong else 0
+    return trial.tells("a session at the console")
 
 
 QUICK = (try_transcripts, try_pauses, try_telnet, try_privacy, try_areas, try_settings, try_faults, try_example)

@@ -5,7 +5,7 @@ usage: terminal.py PROGRAM
 
 The terminal is a pseudo-terminal, on which a shell runs the launcher as a user's would: it writes down what `stty -a` tells before and after,
 the status, and which line it reads itself then. Each key is typed when all that the keys before it lead to is shown, and not before. What is to be
-shown is written out here. The files are read by the reader of real_base.py.
+shown is written out here. The files are read by jam.py.
 """
 import fcntl
 import hashlib
@@ -21,8 +21,9 @@ import termios
 import time
 
 import local
-from local import FIRST, PRIVATE, START, ANSWERED, lines, settings
-from real_base import read_files, write
+from jam import PRIVATE, crc, read_files, write
+from local import FIRST, START, ANSWERED, lines
+from trial import USERS, settings
 
 TOP = os.path.dirname(os.path.dirname(os.path.realpath(__file__)))
 LIMIT = 60
@@ -127,7 +128,7 @@ class Terminal:
 
 def has_letter(trial, text=b"Good\r"):
     """A base with one letter to Hello, who has a password of their own."""
-    trial.has_settings(settings().replace(local.USERS[1][3], hashlib.sha256(PASSWORD).hexdigest()))
+    trial.has_settings(settings().replace(USERS[1][3], hashlib.sha256(PASSWORD).hexdigest()))
     trial.has_base("general")
     base = local.one_message()
     base.slots[0].text = text
@@ -167,7 +168,7 @@ def try_session(trial):
                 ([third.first(kind) for kind in (2, 3, 6)], third.text, third.head["reply_to"], third.head["attribute"] & PRIVATE),
                 ([b"Hello", b"Sysop", b"secret"], b"hush\r", 0, PRIVATE))
     trial.holds("they were written now", all(since <= letter.head["written"] <= time.time() for letter in (second, third)))
-    trial.is_so("the mark", base.marks, b"".join(n.to_bytes(4, "little") for n in (local.crc(b"Hello"), 8, 3, 3)))
+    trial.is_so("the mark", base.marks, b"".join(n.to_bytes(4, "little") for n in (crc(b"Hello"), 8, 3, 3)))
 
 
 def try_bytes(trial):
@@ -262,14 +263,13 @@ def main(program):
     try:
         launcher, copied = launch(f"{folder}/top", program)
         os.mkdir(f"{folder}/run")
-        trial = local.Trial(copied, f"{folder}/run")
+        trial = local.Sessions(copied, f"{folder}/run")
         trial.launcher = launcher
         for tried in (try_session, try_bytes, try_ends, try_refusals, try_pipes):
             tried(trial)
     finally:
         shutil.rmtree(folder)
-    print(f"a session on a terminal: {trial.tried - trial.wrong} as they must, {trial.wrong} otherwise")
-    return 1 if trial.wrong else 0
+    return trial.tells("a session on a terminal")
 
 
 if __name__ == "__main__":

@@ -1,0 +1,159 @@
+"""A caller of a board over a socket: a Telnet client as there are some, and what it is sent."""
+import socket
+import time
+
+IAC, WILL, WONT, DO, DONT = 255, 251, 252, 253, 254
+ECHO, AHEAD = 1, 3
+OFFERED = [(WILL, ECHO), (WILL, AHEAD)]
+# seconds in which an answer is waited for before it is taken as not coming
+GUARD = 20
+
+
+class Otherwise(Exception):
+    """A caller was sent something else than it must be, or nothing."""
+
+
+class Client:
+    """How a client behaves: what it says at once of its options, whether it takes up what is offered, what it sends for the key Enter,
+    and what the board must say of options to it."""
+
+    def __init__(self, name, opening, takes_up, enter, answers):
+        self.name, self.opening, self.takes_up, self.enter = name, bytes(opening), takes_up, enter
+        self.commands = OFFERED + answers
+        self.is_echoed = takes_up or bytes((IAC, DO, ECHO)) in self.opening
+
+
+# one that says nothing of its own, one that says much at once, as PuTTY does, and one that knows nothing of Telnet, as netcat
+PLAIN = Client("telnet", b"", True, b"\r\0", [])
+SAID = [(WILL, 31), (WILL, 32), (WILL, 24), (WILL, 39), (DO, ECHO), (WILL, AHEAD), (DO, AHEAD)]
+TALKATIVE = Client("a talkative client", [byte for command in SAID for byte in (IAC, *command)], False, b"\r\n",
+                   [(DONT, 31), (DONT, 32), (DONT, 24), (DONT, 39), (DO, AHEAD)])
+BARE = Client("netcat", b"", False, b"\n", [])
+
+
+def connected(port, host="127.0.0.1", is_going=lambda: True, limit=GUARD):
+    """A connection, which is tried for until the port is open."""
+    end = time.monotonic() + limit
+    while True:
+        try:
+            line = socket.create_connection((host, port), limit)
+            line.setsockopt(socket.IPPROTO_TCP, socket.TCP_NODELAY, 1)
+            return line
+        except ConnectionRefusedError:
+            if time.monotonic() > end or not is_going():
+                raise Otherwise(f"port {port} of {host} is not open") from None
+            time.sleep(0.005)
+
+
+class Caller:
+    """One who types at a client, and looks at what comes."""
+
+    def __init__(self, line, client=BARE, what="a caller"):
+        self.line, self.client, self.what = line, client, what
+        self.raw, self.seen, self.commands, self.is_over = b"", b"", [], False
+        if client.opening:
+            self.line.sendall(client.opening)
+
+    def take(self):
+        """Takes what comes next, and waits for it; nothing more comes where the board has hung up."""
+        try:
+            more = self.line.recv(65536)
+        except TimeoutError:
+            raise Otherwise(f"{self.what}: nothing came behind {self.seen[-300:]!r}") from None
+        except ConnectionError:
+            more = b""
+        self.is_over = not more
+        self.raw += more
+        self.split()
+
+    def split(self):
+        """Puts the text apart from the commands of Telnet, and answers the offers."""
+        while self.raw:
+            at = self.raw.find(IAC)
+            self.seen += self.raw if at < 0 else self.raw[:at]
+            self.raw = b"" if at < 0 else self.raw[at:]
+            if len(self.raw) < 2 or self.raw[1] in (WILL, WONT, DO, DONT) and len(self.raw) < 3:
+                return
+            if self.raw[1] in (WILL, WONT, DO, DONT):
+                command = (self.raw[1], self.raw[2])
+                self.commands.append(command)
+                self.raw = self.raw[3:]
+                if command in OFFERED and self.client.takes_up:
+                    self.line.sendall(bytes((IAC, DO, command[1])))
+            else:
+                self.seen += b"\xff" if self.raw[1] == IAC else b""
+                self.raw = self.raw[2:]
+
+    def reads(self, wanted):
+        """Looks whether this text is what comes."""
+        while len(self.seen) < len(wanted) and not self.is_over:
+            self.take()
+        found, self.seen = self.seen[:len(wanted)], self.seen[len(wanted):]
+        if found != wanted:
+            raise Otherwise(f"{self.what}: {found[-300:]!r} came, where {wanted[-300:]!r} is wanted")
+
+    def reads_to(self, end):
+        """What comes before this text, which ends all that comes."""
+        while not self.seen.endswith(end):
+            if self.is_over:
+                raise Otherwise(f"{self.what}: hung up behind {self.seen[-300:]!r}, where {end!r} is wanted")
+            self.take()
+        found, self.seen = self.seen[:-len(end)], b""
+        return found
+
+    def types(self, text):
+        """Types without a look at what comes."""
+        try:
+            self.line.sendall(text.replace(b"\xff", b"\xff\xff"))
+        except TimeoutError:
+            raise Otherwise(f"{self.what}: {text[:80]!r} was not taken") from None
+
+    def enters(self, text, end=b"", shown=None):
+        """Types a line, looks whether its echo comes where there is one, and gives what comes then before this end."""
+        self.types(text + self.client.enter)
+        if self.client.is_echoed:
+            self.reads((text if shown is None else shown) + b"\r\n")
+        return self.reads_to(end) if end else b""
+
+    def answers(self, text, wanted, end):
+        """Types a line, and looks whether this comes before this end."""
+        found = self.enters(text, end)
+        if found != wanted:
+            raise Otherwise(f"{self.what}: {found[-300:]!r} came upon {text!r}, where {wanted[-300:]!r} is wanted")
+
+    def logs_in(self, name, password, board=b"Test Board"):
+        self.reads(board + b"\r\nName: ")
+        self.answers(name, b"", b"Password: ")
+        found = self.enters(password, b"Top> ", b"*" * len(password))
+        if found != b"Welcome, %s.\r\n" % name:
+            raise Otherwise(f"{self.what}: {found!r} came upon the log-in of {name!r}")
+        if self.commands != self.client.commands:
+            raise Otherwise(f"{self.what}: the options {self.commands}, where {self.client.commands} are wanted")
+
+    def posts(self, to, subject, text, is_private=False, prompt=b"[general] "):
+        """Posts a message, and gives its number once that is acknowledged."""
+        self.answers(b"p", b"", b"To: ")
+        self.answers(to, b"", b"Subject: ")
+        self.answers(subject, b"", b"Private (Y/N): ")
+        self.enters(b"y" if is_private else b"n")
+        return self.ends_text(text, prompt)
+
+    def ends_text(self, text, prompt):
+        """Types the lines of a text and its end, and gives the number under which it is posted."""
+        self.reads(b"Text, . ends, ! cancels\r\n")
+        for line in text:
+            self.enters(line)
+        found = self.enters(b".", prompt)
+        if not (found.startswith(b"Posted as ") and found.endswith(b".\r\n") and found[10:-3].isdigit()):
+            raise Otherwise(f"{self.what}: {found!r} came upon a post")
+        return int(found[10:-3])
+
+    def quits(self):
+        """Leaves, and looks whether the board hangs up then."""
+        self.enters(b"q")
+        self.reads(b"Goodbye.\r\n")
+        while not self.is_over:
+            self.take()
+        if self.seen or self.raw:
+            raise Otherwise(f"{self.what}: {self.seen!r} came behind the end")
+        self.line.close()

@@ -1,0 +1,326 @@
+#!/usr/bin/env python3
+"""Tries `board serve CONF` of the built program on a port of this machine: what each of several callers is sent, how a run ends, and what
+the files then hold.
+
+usage: serve.py PROGRAM
+
+The callers are sockets, each a Telnet client of one of three kinds (caller.py). Eight of them post, list, read, answer, mark and kill in
+three areas at once, while a ninth waits for a free node and the areas are packed. Then runs are killed at drawn moments while callers
+post, and callers who behave badly share a board with one who does not. What must be sent is made here from what was posted; the files
+are read by jam.py, which knows the tables of the JAM proposal and nothing of the program.
+"""
+import os
+import random
+import re
+import shutil
+import signal
+import socket
+import struct
+import sys
+import tempfile
+import threading
+import time
+
+import jam
+from caller import GUARD, PLAIN, TALKATIVE, Otherwise
+from served import Served, free_port, has_version_6, is_quiet, resets, together
+from trial import settings, with_limit
+from visits import AREAS, CLIENTS, COUNT, NAMES, SYSOP, Hall, Post, Visit, password_of, users
+
+TOP = os.path.dirname(os.path.dirname(os.path.realpath(__file__)))
+NOBODY = 65534
+MOST_SESSION_BYTES = 16_777_216
+HOST_FAULT = b"fault 5 HostFault\n"
+
+
+def try_callers(trial):
+    """Eight callers at once and a ninth who waits, then seven more, and the end when each node has served two."""
+    trial.has_bases()
+    since = int(time.time())
+    trial.begins("--calls", "2")
+    hosts = ["127.0.0.1"] * (COUNT - 1) + ["::1" if has_version_6() else "127.0.0.1"]
+    hall = Hall()
+    first = trial.caller(NAMES[0].decode(), CLIENTS[0])
+    visits = [Visit(hall, n, first if n == 0 else trial.caller(NAMES[n].decode(), CLIENTS[n], hosts[n])) for n in range(COUNT)]
+    together(visit.logs_in for visit in visits)
+    ninth = trial.caller("the ninth")
+    ninth.types(b"Grace\n%s\n1\nq\n" % password_of(b"Grace"))
+    for step in (Visit.posts, Visit.looks, Visit.answers, Visit.lists_again):
+        together((lambda visit=visit: step(visit)) for visit in visits)
+    trial.holds("who waits for a node is sent nothing", is_quiet(ninth))
+    together(visit.caller.quits for visit in visits)
+    ninth.reads(b"Test Board\r\nName: Password: Welcome, Grace.\r\nTop> ")
+    figures = ninth.reads_to(b"[general] Goodbye.\r\n")
+    seen = len(hall.seen("general", b"Grace"))
+    trial.holds(f"who waited is served: {figures}", figures.startswith(b"%d visible, " % seen))
+    try_ends(trial)
+    trial.ends("each node has served two", 0)
+    hall.compares(trial, "eight callers", f"{trial.folder}/areas", since)
+    for k, area in enumerate(AREAS):
+        marks = jam.read(f"{trial.folder}/areas", area)[0].marks
+        wanted = {(jam.crc(visit.name), 11 + visit.n, *visit.marks[area]) for visit in visits}
+        found = list(struct.iter_unpack("<4I", marks))
+        trial.is_so(f"what has been read of {area}", (len(found), set(found)), (COUNT, wanted))
+    trial.checks("eight callers")
+
+
+def try_ends(trial):
+    """Seven more, each with an end of another kind."""
+    def wrong():
+        caller = trial.caller("one who guesses")
+        caller.types(b"Ada\nx\n" * 3)
+        caller.reads(b"Test Board\r\nName: " + b"Password: Login incorrect.\r\nName: " * 2 + b"Password: Login incorrect.\r\nGoodbye.\r\n")
+
+    def hung_up(typed):
+        caller = trial.caller("one who hangs up")
+        caller.types(typed)
+        caller.line.close()
+
+    def reset():
+        caller = trial.caller("one who is cut off")
+        caller.types(b"Ad")
+        resets(caller.line)
+
+    def quit_at_once():
+        caller = trial.caller("Hedy", TALKATIVE)
+        caller.logs_in(b"Hedy", password_of(b"Hedy"))
+        caller.quits()
+
+    together((wrong, reset, quit_at_once, quit_at_once, lambda: hung_up(b""), lambda: hung_up(b"Ad"), lambda: hung_up(b"Ada\n")))
+
+
+class Poster:
+    """One who posts until the line breaks, and what was acknowledged to them until then."""
+
+    def __init__(self, trial, hall, n, draw):
+        self.hall, self.n, self.draw, self.count, self.under_way, self.killing = hall, n, draw, 0, None, None
+        self.area = AREAS[n % len(AREAS)]
+        self.prompt, self.caller = b"[%s] " % self.area.encode(), trial.guest(n, self.area, CLIENTS[n])
+
+    def goes_on(self, is_broken):
+        """Posts again and again; the sysop kills every other message of their own, and packs."""
+        try:
+            while True:
+                number = self.posts()
+                if self.n == SYSOP and self.count % 2:
+                    self.kills(number)
+        except (Otherwise, ConnectionError):
+            if not is_broken.is_set():
+                raise
+            self.hears_the_last()
+
+    def posts(self):
+        text = [b"%d of %s" % (self.draw.randrange(10**9), NAMES[self.n]), b"x" * self.draw.randrange(70)]
+        self.under_way = Post(NAMES[self.n], b"All", b"post %d" % self.draw.randrange(10**9), text)
+        number = self.caller.posts(b"All", self.under_way.subject, text, False, self.prompt)
+        self.hall.adds(self.area, number, self.under_way)
+        self.under_way = None
+        self.count += 1
+        return number
+
+    def kills(self, number):
+        self.killing = self.hall.posts[self.area][number]
+        self.caller.answers(b"k %d" % number, b"Killed %d.\r\n" % number, self.prompt)
+        self.killing.is_killed, self.killing = True, None
+        if not self.caller.enters(b"x", self.prompt).startswith(b"Packed: "):
+            raise Otherwise("a pack was refused")
+
+    def hears_the_last(self):
+        """What was acknowledged in the last text that came, of which the rest was lost."""
+        posted = re.search(rb"Posted as (\d+)\.", self.caller.seen)
+        if self.under_way is not None and posted:
+            self.hall.adds(self.area, int(posted[1]), self.under_way)
+            self.under_way = None
+        if self.killing is not None and b"Killed " in self.caller.seen:
+            self.killing.is_killed, self.killing = True, None
+
+    def settles(self, live):
+        """Finds out whether what was under way came to be: it did whole, or not at all."""
+        known = self.hall.posts[self.area]
+        if self.under_way is not None:
+            found = [number for number in live if number not in known and live[number].first(6) == self.under_way.subject]
+            known.update((number, self.under_way) for number in found[:1])
+        if self.killing is not None:
+            self.killing.is_killed = not any(known[number] is self.killing for number in live if number in known)
+
+
+def try_kills(trial):
+    """The program is ended at drawn moments while callers post, and begun again over the same bases: what was acknowledged is there."""
+    trial.has_bases()
+    draw, hall, since = random.Random(20), Hall(), int(time.time())
+    for turn, how in enumerate((signal.SIGKILL, signal.SIGKILL, signal.SIGTERM, signal.SIGKILL)):
+        what = f"run {turn + 1}, which is ended by {how.name}"
+        trial.begins()
+        posters = together((lambda n=n, seed=draw.random(): Poster(trial, hall, n, random.Random(seed))) for n in range(COUNT))
+        is_broken, many, rest = threading.Event(), draw.randrange(20, 200), draw.random() / 200
+        threads = [threading.Thread(target=trial.tells_wrong, args=(what, lambda it=it: it.goes_on(is_broken))) for it in posters]
+        for thread in threads:
+            thread.start()
+        end = time.monotonic() + GUARD
+        while sum(it.count for it in posters) < many and any(thread.is_alive() for thread in threads) and time.monotonic() < end:
+            time.sleep(0.0005)
+        time.sleep(rest)
+        is_broken.set()
+        trial.ends(what, -how, how)
+        for thread in threads:
+            thread.join()
+        trial.holds(f"{what}: {many} posts were acknowledged", sum(it.count for it in posters) >= many)
+        trial.checks(what)
+        for poster in posters:
+            poster.settles(jam.read(f"{trial.folder}/areas", poster.area)[0].live())
+        hall.compares(trial, what, f"{trial.folder}/areas", since)
+
+
+def try_rude(trial):
+    """Callers who say nothing, never read, send bytes 255 for ever, hang up or break off harm nobody, and cost no node but their own."""
+    trial.has_bases()
+    since, hall = int(time.time()), Hall()
+    trial.begins()
+    silent = trial.caller("one who says nothing")
+    deaf, endless = trial.guest(1), trial.caller("one who sends bytes 255 for ever")
+    stuffed, sent = threading.Thread(target=stuffs, args=(deaf,)), []
+    flood = threading.Thread(target=lambda: sent.append(floods(endless.line)))
+    stuffed.start()
+    flood.start()
+    polite = trial.guest(0, client=PLAIN)
+    for n in range(30):
+        for typed in (b"", b"Ad", b"Ada\n", b"Ada\n%s\n1\np\nAll\nnever posted\nn\na line" % password_of(b"Ada")):
+            rude = trial.caller("one who hangs up")
+            rude.types(typed)
+            if n % 2:
+                resets(rude.line)
+            else:
+                rude.line.close()
+        post = Post(b"Ada", b"All", b"post %d" % n, [b"a line"])
+        hall.adds("general", polite.posts(b"All", post.subject, post.text), post)
+    polite.answers(b"l", b"".join(post.line(number) for number, post in hall.seen("general", b"Ada")[:20]), b"[general] ")
+    for thread in (stuffed, flood):
+        thread.join(3 * GUARD)
+    trial.holds(f"bytes 255 are taken up to the most of a session: {sent}", bool(sent) and sent[0] >= MOST_SESSION_BYTES)
+    together((lambda n=n: trial.guest(n).quits()) for n in range(2, 2 + COUNT - 3))
+    five = together((lambda n=n: trial.guest(n)) for n in range(2, 2 + COUNT - 3))
+    waits = trial.caller("one more")
+    trial.holds("three nodes are held, and five are free", is_quiet(waits))
+    silent.line.close()
+    waits.reads(b"Test Board\r\nName: ")
+    for caller in [polite] + five:
+        caller.quits()
+    trial.ends("after rude callers", -signal.SIGTERM, signal.SIGTERM)
+    trial.checks("after rude callers")
+    hall.compares(trial, "after rude callers", f"{trial.folder}/areas", since)
+
+
+def stuffs(caller):
+    """Asks on and on without a look at the answers, until nothing more is taken."""
+    caller.line.settimeout(1)
+    try:
+        while True:
+            caller.line.sendall(b"?\n" * 8192)
+    except OSError:
+        return
+
+
+def floods(line):
+    """Sends bytes 255 until the board hangs up, and says how many were taken."""
+    sent = 0
+    try:
+        while True:
+            sent += line.send(b"\xff" * 65536)
+    except OSError:
+        return sent
+
+
+def try_refusals(trial):
+    """What keeps a board from being served, by its status and its line; the areas are then as they were."""
+    trial.port = free_port()
+    trial.has_bases()
+    before = [jam.read_files(f"{trial.folder}/areas", area) for area in AREAS]
+    words = ("serve", "board.toml")
+    for family, host in [(socket.AF_INET, "0.0.0.0"), (socket.AF_INET, "127.0.0.1")] + [(socket.AF_INET6, "::")] * has_version_6():
+        with socket.socket(family) as held:
+            held.bind((host, trial.port))
+            held.listen()
+            trial.is_so(f"a port that another has at {host}", trial.ended(*words), (HOST_FAULT, 5))
+    low = low_port()
+    if low is not None:
+        trial.has_settings(settings(AREAS, users(), port=low, nodes=COUNT))
+        trial.opens_to_all()
+        trial.is_so(f"port {low}, without the right", trial.ended(*words, user=NOBODY, group=NOBODY, extra_groups=[]), (HOST_FAULT, 5))
+    after = [jam.read_files(f"{trial.folder}/areas", area) for area in AREAS]
+    trial.holds("where a port is refused the areas are as they were", all(
+        was[file] == now[file] for was, now in zip(before, after) for file in jam.FILES) and all(now["jnl"][:1] == b"\0" for now in after))
+    for path in ("nothing.toml", "areas"):
+        trial.is_so(f"the settings file {path}", trial.ended("serve", path), (HOST_FAULT, 5))
+    trial.has_settings(settings(AREAS, users(), port=trial.port, nodes=33))
+    trial.is_so("33 nodes", trial.ended(*words), (b"fault 2.4 OutOfRange nodes\n", 2))
+    trial.has_settings(settings(AREAS + ("more",), users(), port=trial.port))
+    trial.is_so("an area that is not there", trial.ended(*words), (b"fault 3.1 ShortHeader area.4\n", 3))
+    counts = ("0", "1000001", "+1", "00000000001", "one", "")
+    for behind in ((), ("",), ("board.toml", "--calls"), *(("board.toml", "--calls", count) for count in counts), ("board.toml", "--call", "1"),
+                   ("board.toml", "1"), ("--calls", "1", "board.toml"), ("board.toml", "--calls", "1", "more")):
+        trial.is_so(f"the words {behind}", trial.ended("serve", *behind), (b"fault 1 Words\n", 1))
+
+
+def low_port():
+    """A port that a user without rights may not open, if there is one and this user has the right to try."""
+    with open("/proc/sys/net/ipv4/ip_unprivileged_port_start") as file:
+        return 79 if os.geteuid() == 0 and int(file.read()) > 79 else None
+
+
+def try_doubt(trial):
+    """A disk that fails while callers are served: each is told so, and goes on, and the run ends with status 4."""
+    trial.has_bases()
+    trial.has_settings(settings(AREAS, users(), port=trial.port, nodes=2))
+    trial.begins("--calls", "0000000001", preexec_fn=with_limit(40))
+    callers = together((lambda n=n: trial.guest(n)) for n in range(2))
+    for caller in callers:
+        caller.answers(b"p", b"", b"To: ")
+        caller.answers(b"All", b"", b"Subject: ")
+        caller.answers(b"it fails", b"", b"Private (Y/N): ")
+        caller.enters(b"n")
+        caller.reads(b"Text, . ends, ! cancels\r\n")
+        caller.enters(b"a line")
+        caller.answers(b".", b"Store fault: the change is in doubt.\r\n", b"[general] ")
+    for caller in callers:
+        caller.quits()
+    trial.ends("a journal that does not grow", 4)
+    trial.checks("a journal that does not grow")
+    trial.is_so("nothing was posted", jam.read(f"{trial.folder}/areas", "general")[0].slots, [])
+
+
+def try_example(trial):
+    """The settings that are shown to an operator, at another port."""
+    shutil.rmtree(f"{trial.folder}/areas")
+    os.mkdir(f"{trial.folder}/areas")
+    trial.is_so("a base is made", trial.ended("make", "areas", "general"), (b"", 0))
+    with open(f"{TOP}/examples/board.toml") as file:
+        text = file.read()
+    trial.holds("the port that is shown", "\nport = 2323\n" in text)
+    trial.has_settings(text.replace("port = 2323", f"port = {trial.port}"))
+    trial.begins()
+    caller = trial.caller("Ada", PLAIN)
+    caller.logs_in(b"Ada", b"good morning", b"A Small Board")
+    caller.enters(b"1", b"[general] ")
+    trial.is_so("the first post", caller.posts(b"Sysop", b"A question", [b"When is the next pack?"]), 1)
+    caller.quits()
+    trial.ends("the settings that are shown", -signal.SIGTERM, signal.SIGTERM)
+    trial.is_so("what is then listed", trial.ended("list", "areas", "general"), (b"       1  Ada > Sysop  A question\n", 0))
+
+
+def main(program):
+    folder = tempfile.mkdtemp()
+    try:
+        shutil.copy(program, f"{folder}/board")
+        trial = Served(f"{folder}/board", folder)
+        for tried in (try_callers, try_kills, try_rude, try_refusals, try_doubt, try_example):
+            trial.tells_wrong(tried.__name__, lambda: tried(trial))
+            trial.is_gone()
+    finally:
+        shutil.rmtree(folder)
+    return trial.tells("callers at a port")
+
+
+if __name__ == "__main__":
+    if len(sys.argv) != 2:
+        sys.exit(__doc__)
+    sys.exit(main(sys.argv[1]))

@@ -1,0 +1,67 @@
+"""What the scripts here have in common: a count of what was looked at and what was otherwise, the settings of a small board, and files
+that cannot grow.
+"""
+import resource
+import signal
+
+OFFERS = b"\xff\xfb\x01\xff\xfb\x03"
+BOARD = """name = "Test Board"
+address = "2:5020/1042"
+"""
+AREA = """[[area]]
+name = "{name}"
+dir = "areas"
+base = "{name}"
+read = 10
+post = 10
+sysop = 200
+"""
+USER = """[[user]]
+name = "{}"
+id = {}
+level = {}
+digest = "{}"
+"""
+USERS = (("Test", 7, 50, "ba7816bf8f01cfea414140de5dae2223b00361a396177a9cb410ff61f20015ad"),
+         ("Hello", 8, 50, "9f86d081884c7d659a2feaa0c55ad015a3bf4f1b2b0b822cd15d6c15b0f00a08"),
+         ("Sysop", 9, 255, "2cf24dba5fb0a30e26e83b2ac5b9e29e1b161e5c1fa7425e73043362938b9824"))
+
+
+def settings(areas=("general",), users=USERS, **numbers):
+    """A settings file with these areas and users, and these numbers of the board, as nodes=2."""
+    return (BOARD + "".join(f"{key} = {value}\n" for key, value in numbers.items()) + "".join(AREA.format(name=area) for area in areas)
+            + "".join(USER.format(*user) for user in users))
+
+
+def with_limit(most):
+    """Before a program begins: no file grows beyond this, and the system answers so and does not end the program."""
+    def before():
+        signal.signal(signal.SIGXFSZ, signal.SIG_IGN)
+        resource.setrlimit(resource.RLIMIT_FSIZE, (most, most))
+    return before
+
+
+class Trial:
+    """What was looked at with a program, and how much of it was otherwise than it must be; each such thing is told at once."""
+
+    def __init__(self, program, folder):
+        self.program, self.folder, self.wrong, self.tried = program, folder, 0, 0
+
+    def holds(self, what, is_so):
+        self.tried += 1
+        if not is_so:
+            self.wrong += 1
+            print(f"wrong: {what}", flush=True)
+        return is_so
+
+    def is_so(self, what, found, wanted):
+        return self.holds(f"{what}: {str(found)[-300:]}, where {str(wanted)[-300:]} is wanted", found == wanted)
+
+    def has_settings(self, text):
+        with open(f"{self.folder}/board.toml", "w") as file:
+            file.write(text)
+
+    def tells(self, what):
+        """The line that a script ends with, and its status."""
+        print(f"{what}: {self.tried - self.wrong} as they must, {self.wrong} otherwise")
+        return 1 if self.wrong else 0
