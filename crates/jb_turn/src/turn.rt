@@ -14,6 +14,7 @@ use crossbeam_utils::Backoff;
 use std::alloc::Global;
 use std::snapshot::Snapshot;
 use std::sync::Wait;
+use std::time::Duration;
 
 // The words of the table.
 const TICKET: usize = 0;
@@ -21,6 +22,9 @@ const TICKET: usize = 0;
 const SERVING: usize = 1;
 
 const COUNT: usize = 2;
+
+/// A thread that waits looks again after this, if nothing wakes it before.
+const LONGEST_SLEEP_SECONDS: u64 = 1;
 
 impl<O, E, Q> RestingSeat<O, E, Q> {
     /// The seat itself, for a turn over `S`.
@@ -137,9 +141,9 @@ impl<S: Kept<O, E>, O, E, Q> Turn<S, O, E, Q> {
 
     /// Draws a ticket, waits until its turn has come, and takes the state. It is never refused.
     ///
-    /// A waiting thread looks at one word, first with short pauses and then with a yield to the system between two looks. It
-    /// does not sleep: with 32 seats, 31 threads may look while one has the state, each for as long as the queue before it
-    /// takes, and a hand-over waits until the system lets the next thread run. So keep a turn short.
+    /// A waiting thread looks at one word a few times, with growing pauses, and then sleeps until a turn is given. Who gives one
+    /// wakes one sleeper, as the system has queued them, which is nearly always the next; one whose turn has not come wakes the
+    /// one behind it and sleeps again. It also looks once a second, whatever is woken.
     pub fn take<R: Wait>(&self, rt: &R, seat: &mut Seat<S, O, E, Q>) -> Held<S>
         requires seat { Rests self.now seat.old }
 
@@ -155,6 +159,7 @@ impl<S: Kept<O, E>, O, E, Q> Turn<S, O, E, Q> {
         let shared = &self.table.shared;
         let ticket = shared.fetch_add::<Draw>(&mut seat.place, TICKET, 1);
         let backoff = Backoff::new();
+        let mut slept_at = None;
         for _ in rt.forever() {
             let serving = shared.load::<Come>(&mut seat.place, SERVING);
             if serving == ticket {
@@ -162,7 +167,20 @@ impl<S: Kept<O, E>, O, E, Q> Turn<S, O, E, Q> {
                 let count = shared.load::<Count>(&mut seat.place, COUNT);
                 return Held { state, count };
             }
-            backoff.snooze();
+            if !backoff.is_completed() {
+                backoff.snooze();
+                continue;
+            }
+            if slept_at.is_some_and(|was| was != serving) {
+                shared.wake_one(SERVING);
+            }
+            shared.park_timeout(
+                rt,
+                SERVING,
+                (serving % 4_294_967_296) as u32,
+                Duration::from_secs(LONGEST_SLEEP_SECONDS),
+            );
+            slept_at = Some(serving);
         }
         unreachable!()
     }
@@ -200,7 +218,10 @@ impl<S: Kept<O, E>, O, E, Q> Turn<S, O, E, Q> {
         let shared = &self.table.shared;
         let was = shared.exchange(&mut seat.place, 0, Some(state));
         let None = was else { unreachable!() };
-        shared.fetch_add::<Give<J>>(&mut seat.place, SERVING, 1);
+        let served = shared.fetch_add::<Give<J>>(&mut seat.place, SERVING, 1);
+        if shared.peek(TICKET) != served.wrapping_add(1) {
+            shared.wake_one(SERVING);
+        }
     }
 
     /// Ends the turn where all its seats are there, and gives the state. It takes no memory.
