@@ -102,4 +102,8 @@ pub trait Host {
     fn clock(&mut self) -> Self::Clock
         ensures gives { Self.Clock.reading result ≡ (desk self.old).reading }
         ensures same { desk self.new ≡ desk self.old };
+
+    /// Tells the operator a line, where there is a way to. It may be lost, and nothing rests on it.
+    fn note(&mut self, line: &str)
+        ensures { desk self.new ≡ desk self.old };
 }

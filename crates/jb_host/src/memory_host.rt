@@ -211,4 +211,6 @@ impl Host for MemHost {
     fn clock(&mut self) -> MemClock {
         MemClock::new(self.reading)
     }
+
+    fn note(&mut self, _line: &str) {}
 }

@@ -116,6 +116,7 @@ pub struct RealHost<
     R: Files<File = File>
         + Input
         + Print
+        + Eprint
         + time::Clock
         + Net<Listener = TcpListener, Stream = TcpStream>
         + Copy
@@ -132,6 +133,7 @@ impl<
     R: Files<File = File>
         + Input
         + Print
+        + Eprint
         + time::Clock
         + Net<Listener = TcpListener, Stream = TcpStream>
         + Copy
@@ -156,6 +158,7 @@ impl<
     R: Files<File = File>
         + Input
         + Print
+        + Eprint
         + time::Clock
         + Net<Listener = TcpListener, Stream = TcpStream>
         + Copy
@@ -165,7 +168,7 @@ impl<
 
     type Link = ConsoleLink<R>;
 
-    type Door = TcpDoor;
+    type Door = TcpDoor<R>;
 
     type Bell = TimedBell<R>;
 
@@ -198,9 +201,9 @@ impl<
         self.console = Some(link);
     }
 
-    fn door(&mut self, _node: u32, port: u16, calls: Option<u32>) -> Result<TcpDoor, HostError> {
+    fn door(&mut self, _node: u32, port: u16, calls: Option<u32>) -> Result<TcpDoor<R>, HostError> {
         match listener_at(&self.rt, &mut self.ports, port) {
-            Ok(listener) => Ok(TcpDoor::new(listener, calls)),
+            Ok(listener) => Ok(TcpDoor::new(self.rt, listener, calls)),
             Err(error) => {
                 if error == HostError::Failed {
                     self.faults = self.faults.saturating_add(1);
@@ -210,7 +213,7 @@ impl<
         }
     }
 
-    fn put_door(&mut self, _node: u32, _door: TcpDoor) {}
+    fn put_door(&mut self, _node: u32, _door: TcpDoor<R>) {}
 
     fn bell(
         &mut self,
@@ -225,5 +228,9 @@ impl<
 
     fn clock(&mut self) -> SystemClock<R> {
         SystemClock::new(self.rt)
+    }
+
+    fn note(&mut self, line: &str) {
+        let _ = self.rt.eprintln(line);
     }
 }

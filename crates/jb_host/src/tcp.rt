@@ -4,10 +4,10 @@ ghost use Rattle.jb_host.specs.Real.{silent_gate, silent_wire};
 
 use crate::door::{Accepted, Door, DoorFailed};
 use crate::link::{Link, LinkFailed};
-use std::io;
 use std::io::{ErrorKind, Read, Write};
 use std::net::{Shutdown, TcpListener, TcpStream};
 use std::time::Duration;
+use std::{io, thread, time};
 
 /// Seconds for which a caller may be silent; then a read fails.
 pub const MOST_SILENT_SECONDS: u64 = 1_800;
@@ -19,6 +19,10 @@ const LAST_SECONDS: u64 = 1;
 const LAST_READS: u32 = 8;
 /// How often a call is made again where a signal came between, and a caller is waited for where one went at once.
 const TRIES: u32 = 16;
+/// How often a door that has found no caller is opened again, and the pause before.
+const PAUSES: u32 = 6_000;
+
+const PAUSE_MILLISECONDS: u64 = 100;
 
 /// The connection of a caller. What is sent goes out at once. A read that has waited for half an hour, or a write for a minute, fails.
 #[derive(Drop)]
@@ -113,21 +117,24 @@ impl Link for TcpLink {
     }
 }
 
-/// Where callers come in over TCP. It is shut after its number of calls, where it was given one.
+/// Where callers come in over TCP. It is shut after its number of calls, where it was given one. A caller for whom the system has no
+/// file or no memory left is asked for again every tenth of a second; the door fails once that has gone on for ten minutes.
 #[derive(Drop)]
-pub struct TcpDoor {
+pub struct TcpDoor<R: time::Clock + Drop> {
+    rt: R,
     listener: TcpListener,
     left: Option<u32>,
     faults: u64,
     is_shut: bool,
 }
 
-impl TcpDoor {
+impl<R: time::Clock + Drop> TcpDoor<R> {
     /// A door at this port, for so many calls, or as many as come.
-    pub fn new(listener: TcpListener, calls: Option<u32>) -> TcpDoor
+    pub fn new(rt: R, listener: TcpListener, calls: Option<u32>) -> TcpDoor<R>
         ensures { silent_gate result.faults result.is_shut result.left ≡ silent_gate 0 false calls }
     {
         TcpDoor {
+            rt,
             listener,
             left: calls,
             faults: 0,
@@ -136,19 +143,40 @@ impl TcpDoor {
     }
 }
 
-/// The next caller; one that has gone before it was let in is passed over.
-fn next_caller(listener: &TcpListener) -> io::Result<TcpLink> {
+/// The next caller, where one comes without a fault of the system; one that has gone before it was let in is passed over.
+fn caller_at(listener: &TcpListener) -> Option<TcpLink> {
     for _ in 0..TRIES {
-        if let Ok((stream, _)) = listener.accept() {
-            if let Ok(link) = TcpLink::new(stream) {
-                return Ok(link);
+        match listener.accept() {
+            Ok((stream, _)) => {
+                if let Ok(link) = TcpLink::new(stream) {
+                    return Some(link);
+                }
+            }
+            Err(error) => {
+                if !matches!(
+                    error.kind(),
+                    ErrorKind::Interrupted | ErrorKind::ConnectionAborted
+                ) {
+                    return None;
+                }
             }
         }
     }
-    Err(io::Error::from(ErrorKind::ConnectionAborted))
+    None
 }
 
-impl Door for TcpDoor {
+/// The next caller, waited for until one comes or the door has no patience left.
+fn next_caller<R: time::Clock>(rt: &R, listener: &TcpListener) -> Option<TcpLink> {
+    for _ in 0..PAUSES {
+        if let Some(link) = caller_at(listener) {
+            return Some(link);
+        }
+        thread::sleep(rt, Duration::from_millis(PAUSE_MILLISECONDS));
+    }
+    None
+}
+
+impl<R: time::Clock + Drop> Door for TcpDoor<R> {
     type Link = TcpLink;
 
     ghost gate = { λ door. silent_gate door.faults door.is_shut door.left };
@@ -162,16 +190,12 @@ impl Door for TcpDoor {
             Some(left) => Some(left - 1),
             None => None,
         };
-        match next_caller(&self.listener) {
-            Ok(link) => {
-                self.left = left;
-                Ok(Accepted::Call(link))
-            }
-            Err(_) => {
-                self.faults = self.faults.saturating_add(1);
-                Err(DoorFailed)
-            }
+        if let Some(link) = next_caller(&self.rt, &self.listener) {
+            self.left = left;
+            return Ok(Accepted::Call(link));
         }
+        self.faults = self.faults.saturating_add(1);
+        Err(DoorFailed)
     }
 
     fn hang_up(&mut self, link: TcpLink) {

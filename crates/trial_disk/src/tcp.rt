@@ -19,12 +19,12 @@ pub(crate) fn answer(rt: HostRuntime, alloc: Global, row: &Row) -> Result<String
 }
 
 // A door for one call at a port of its own, and a caller there, who has said all.
-fn met(rt: HostRuntime, said: &[u8]) -> io::Result<(TcpDoor, TcpStream)> {
+fn met(rt: HostRuntime, said: &[u8]) -> io::Result<(TcpDoor<HostRuntime>, TcpStream)> {
     let listener = TcpListener::bind(&rt, (Ipv4Addr::LOCALHOST, 0))?;
     let mut caller = TcpStream::connect(&rt, listener.local_addr()?)?;
     caller.write_all(said)?;
     caller.shutdown(Shutdown::Write)?;
-    Ok((TcpDoor::new(listener, Some(1)), caller))
+    Ok((TcpDoor::new(rt, listener, Some(1)), caller))
 }
 
 // The bytes of a link until its end.
@@ -50,7 +50,7 @@ fn got(alloc: Global, caller: &mut TcpStream) -> Result<String, RowError> {
     }
 }
 
-fn called(door: &mut TcpDoor) -> Option<TcpLink> {
+fn called(door: &mut TcpDoor<HostRuntime>) -> Option<TcpLink> {
     match door.accept() {
         Ok(Accepted::Call(link)) => Some(link),
         _ => None,
@@ -58,7 +58,7 @@ fn called(door: &mut TcpDoor) -> Option<TcpLink> {
 }
 
 // What a door answers, where its caller is hung up at once.
-fn accepted(door: &mut TcpDoor) -> &'static str {
+fn accepted(door: &mut TcpDoor<HostRuntime>) -> &'static str {
     match door.accept() {
         Ok(Accepted::Call(link)) => {
             door.hang_up(link);
