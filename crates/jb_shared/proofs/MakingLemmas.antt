@@ -1,5 +1,5 @@
 -- A shared area and its passes, when they are new.
-use Rattle.std.proofs.Common.{◌≡◌, ℕ, ◌+◌, ◌<◌, List, [], ◌∷◌, ◌++◌, length, map, All, get_or, slice_get, Option, Some, None, refl, sym, ◌∙◌, ap, subst, arith}
+use Rattle.std.proofs.Common.{◌≡◌, ℕ, ◌+◌, ◌<◌, List, [], ◌∷◌, ◌++◌, length, map, All, get_or, slice_get, Option, Some, None, refl, sym, ◌∙◌, ap, subst}
 use Rattle.std.specs.Option.{option_map, ForSome}
 use Rattle.std.specs.Prelude.{is_some, unwrap_or, IsSome}
 use Rattle.std.proofs.lemmas.List.{length-map}
@@ -64,7 +64,7 @@ module _ {D : Type 0} (shown : D → Device) where
     record {
       rules = refl;
       history = record { numbered = λ node. refl; risen = tt; allowed = λ t. tt };
-      faults = omega arith;
+      faults = refl;
       told = same_told (device_of shown area).contents;
       at = (rest.texts, rest.rests, refl);
       kind = refl;

@@ -1,5 +1,5 @@
 -- What each answer of an area makes of the history for which it stands.
-use Rattle.std.proofs.Common.{◌≡◌, ℕ, ◌+◌, ◌≤◌, Bool, true, false, cond, List, [], ◌∷◌, ◌++◌, length, Ok, Err, Option, Some, None, inl, refl, sym, ◌∙◌, ap, subst, arith}
+use Rattle.std.proofs.Common.{◌≡◌, ℕ, ◌+◌, Bool, true, false, cond, List, [], ◌∷◌, ◌++◌, length, Ok, Err, Option, Some, None, inl, refl, sym, ◌∙◌, ap, subst, arith}
 use Rattle.std.specs.Prelude.{is_some, not, IfSome}
 use Rattle.jb_area.specs.Area.{device_of, loaded_of, rules_of, HasDoubt, IsDoubtful, IsResting, SettlesAt}
 use Rattle.jb_area.specs.Calls.{HasRest, IsChangeOf, MeetsCall}
@@ -41,7 +41,7 @@ changed answered reply state false is other same = ap change_of same ∙ ap (λ 
 module _ {D : Type 0} (shown : D → Device) where
   -- the area stands for one entry more
   stands_push : (old new : OpenArea D) (opening : Opening) (history : List Entry) (entry : Entry) (standing standing' : Standing) → StandsAt shown old opening history standing
-      → rules_of new ≡ rules_of old → TellsAlike (device_of shown old) (device_of shown new) → IsNextCall history entry → last_faults opening.faults (history ++ entry ∷ []) ≤ (device_of shown new).faults
+      → rules_of new ≡ rules_of old → TellsAlike (device_of shown old) (device_of shown new) → IsNextCall history entry → last_faults opening.faults (history ++ entry ∷ []) ≡ (device_of shown new).faults
       → IfSome (faults_of entry) (λ told. Rose (last_faults opening.faults history) told) → (Tells opening → Allows opening.rules standing entry)
       → is_settled standing' ≡ not (is_some (faults_of entry))
       → IsAt shown new standing' → (Tells opening → standing' ≡ after_entry opening.rules standing entry) → StandsAt shown new opening (history ++ entry ∷ []) standing'
@@ -67,7 +67,7 @@ module _ {D : Type 0} (shown : D → Device) where
       let entry : Entry = Called node call user moment command (Replied reply) in
       let same : last_faults opening.faults (history ++ entry ∷ []) ≡ last_faults opening.faults history = last_same opening.faults history entry refl in (
         Settled (state_to done.coming),
-        stands_push old new opening history entry (Settled state) (Settled (state_to done.coming)) stands meets.rules meets.alike next (omega (arith, same, stands.faults, meets.later)) tt
+        stands_push old new opening history entry (Settled state) (Settled (state_to done.coming)) stands meets.rules meets.alike next (same ∙ stands.faults ∙ sym meets.quiet) tt
             (λ t. ap (λ (a : Answered). a.reply) (is t)) refl (done.coming.texts, done.rests.rests, ap (state_of done.coming.texts) done.rests.is) (λ t. ap (λ (a : Answered). Settled a.state) (sym (is t))),
       )
 
@@ -95,9 +95,9 @@ module _ {D : Type 0} (shown : D → Device) where
       let doubt = doubt_at old new opening state at.0 user moment command stopped.coming stands.rules at.2 (λ t. stands.told ∙ t) stopped.change stopped.doubt stopped.loaded in
       let entry : Entry = Called node call user moment command (LeftInDoubt (device_of shown new).faults) in
       let last : last_faults opening.faults (history ++ entry ∷ []) ≡ (device_of shown new).faults = last_new opening.faults history entry (device_of shown new).faults refl in
-      let rose = rose_from (last_faults opening.faults history) (device_of shown old).faults (device_of shown new).faults stands.faults meets.cause in (
+      let rose = rose_from (last_faults opening.faults history) (device_of shown old).faults (device_of shown new).faults (omega (arith, stands.faults)) meets.cause in (
         InDoubt state doubt.0,
-        stands_push old new opening history entry (Settled state) (InDoubt state doubt.0) stands meets.rules meets.alike next (omega (arith, last)) rose (λ t. tt)
+        stands_push old new opening history entry (Settled state) (InDoubt state doubt.0) stands meets.rules meets.alike next last rose (λ t. tt)
             refl doubt.1 (λ t. ap (InDoubt state) (doubt.2 t)),
       )
 
@@ -111,7 +111,7 @@ module _ {D : Type 0} (shown : D → Device) where
         record {
           rules = meets.rules ∙ stands.rules;
           history = stands.history;
-          faults = omega (arith, stands.faults, meets.later);
+          faults = stands.faults ∙ sym meets.cause;
           told = meets.alike ∙ stands.told;
           at = (at.0, failed.0.rests, ap (state_of at.0) failed.0.is ∙ at.2);
           kind = stands.kind;
@@ -137,13 +137,13 @@ module _ {D : Type 0} (shown : D → Device) where
   -- a doubt that is ended
   pub stands_reopened : (old new : OpenArea D) (opening : Opening) (history : List Entry) (stands : Bool) → StandsInDoubt shown old opening history
       → ((texts : List ℕ) (coming : Option Coming) → IsDoubtful shown old texts coming → SettlesAt shown stands (loaded_of old) texts coming new)
-      → rules_of new ≡ rules_of old → TellsAlike (device_of shown old) (device_of shown new) → (device_of shown old).faults ≤ (device_of shown new).faults
+      → rules_of new ≡ rules_of old → TellsAlike (device_of shown old) (device_of shown new) → (device_of shown new).faults ≡ (device_of shown old).faults
       → StandsSettled shown new opening (history ++ Reopened stands ∷ [])
-  stands_reopened old new opening history stands (before, after, was) settled rules alike later =
+  stands_reopened old new opening history stands (before, after, was) settled rules alike quiet =
       let at = was.at in
       let end = ends_at old new opening before after stands at.0 at.1 at.3 (settled at.0 at.1 at.2) in
       let same : last_faults opening.faults (history ++ Reopened stands ∷ []) ≡ last_faults opening.faults history = last_same opening.faults history (Reopened stands) refl in
-      (end.0, stands_push old new opening history (Reopened stands) (InDoubt before after) (Settled end.0) was rules alike tt (omega (arith, same, was.faults, later)) tt (λ t. end.3) refl end.1 (λ t. end.2))
+      (end.0, stands_push old new opening history (Reopened stands) (InDoubt before after) (Settled end.0) was rules alike tt (same ∙ was.faults ∙ sym quiet) tt (λ t. end.3) refl end.1 (λ t. end.2))
 
   -- a doubt that could not be ended
   pub stands_not_begun : (old new : OpenArea D) (opening : Opening) (history : List Entry) (node call : ℕ) (user : User) (moment : ℕ) (command : Command) → StandsInDoubt shown old opening history
@@ -154,9 +154,9 @@ module _ {D : Type 0} (shown : D → Device) where
       let at = was.at in
       let entry : Entry = Called node call user moment command (NotBegun (device_of shown new).faults) in
       let last : last_faults opening.faults (history ++ entry ∷ []) ≡ (device_of shown new).faults = last_new opening.faults history entry (device_of shown new).faults refl in
-      let risen = rose_from (last_faults opening.faults history) (device_of shown old).faults (device_of shown new).faults was.faults rose in (
+      let risen = rose_from (last_faults opening.faults history) (device_of shown old).faults (device_of shown new).faults (omega (arith, was.faults)) rose in (
         InDoubt before after,
-        stands_push old new opening history entry (InDoubt before after) (InDoubt before after) was rules alike next (omega (arith, last)) risen (λ t. tt)
+        stands_push old new opening history entry (InDoubt before after) (InDoubt before after) was rules alike next last risen (λ t. tt)
             refl
             (at.0, at.1, still at.0 at.1 at.2, subst (λ (l : Loaded). StandsWithin (doubt_between at.0 l at.1) (InDoubt before after)) (sym loaded) at.3) (λ t. refl),
       )

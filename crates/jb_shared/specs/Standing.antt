@@ -1,5 +1,5 @@
 -- When an open area stands for a history.
-use Rattle.std.specs.Prelude.{◌≡◌, ℕ, ◌≤◌, not, List, Option, Some, None, is_some, option_map}
+use Rattle.std.specs.Prelude.{◌≡◌, ℕ, not, List, Option, Some, None, is_some, option_map}
 use Rattle.jb_area.specs.Area.{device_of, loaded_of, rules_of, IsDoubtful, IsResting}
 use Rattle.jb_area.specs.declared.area.OpenArea.{OpenArea}
 use Rattle.jb_decide.specs.Coming.{Coming}
@@ -54,7 +54,7 @@ module _ {D : Type 0} (shown : D → Device) where
   pub record StandsAt (area : OpenArea D) (opening : Opening) (entries : List Entry) (standing : Standing) : Type 0 where
     pub rules : rules_of area ≡ opening.rules
     pub history : IsHistory opening entries
-    pub faults : last_faults opening.faults entries ≤ (device_of shown area).faults
+    pub faults : last_faults opening.faults entries ≡ (device_of shown area).faults
     pub told : is_some (device_of shown area).contents ≡ is_some opening.texts
     pub at : IsAt area standing
     pub kind : is_settled standing ≡ not (stopped_last entries)

@@ -18,7 +18,7 @@ returns-in-Ok-clause-ok g c =
             knows_at (StandsInDoubt shown) (StandsSettled shown) c.reopen.new.self c.note_reopened.new.held.state (ending known (Some c.in-Ok.stands)) (row_of c.note_reopened.new.seat)
             c.note_reopened.ensures.kept c.note_reopened.ensures.row
             (knows_ended (StandsInDoubt shown) (StandsSettled shown) c.args.held.now.state c.reopen.new.self known c.in-Ok.stands c.requires.out.0.knows
-            (λ first was. stands_reopened shown c.args.held.now.state c.reopen.new.self first known.front c.in-Ok.stands was c.in-Ok.ensures.settled c.reopen.ensures.rules c.reopen.ensures.alike c.reopen.ensures.later));
+            (λ first was. stands_reopened shown c.args.held.now.state c.reopen.new.self first known.front c.in-Ok.stands was c.in-Ok.ensures.settled c.reopen.ensures.rules c.reopen.ensures.alike c.in-Ok.ensures.quiet));
       },
       omega (arith, c.note_reopened.ensures.count, c.requires.out.1),
     )
