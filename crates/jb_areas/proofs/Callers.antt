@@ -16,12 +16,12 @@ only_list (list ∷ other ∷ lists) one = absurd (omega (arith, one))
 
 -- areas are still whole where each node has passes of them, as many as before and with its own number
 pub still_whole : {D : Type 0} (shared : SharedAreas D) (now : Vec (Vec PassView Global) Global) (nodes count : ℕ) → AreWhole shared nodes count → length now.items ≡ nodes
-    → ((n : ℕ) → n < nodes → length (passes_at (record { areas = shared.areas; nodes = now; rooms = shared.rooms }) n) ≡ count)
+    → ((n : ℕ) → n < nodes → length (passes_at (record shared { nodes = now }) n) ≡ count)
     → ((n k : ℕ) (area : SharedArea D) (pass : PassView) → n < nodes → k < count
-    → IsOf (slice_index_or shared.areas.items k area) (slice_index_or (passes_at (record { areas = shared.areas; nodes = now; rooms = shared.rooms }) n) k pass))
+    → IsOf (slice_index_or shared.areas.items k area) (slice_index_or (passes_at (record shared { nodes = now }) n) k pass))
     → ((n k : ℕ) (pass : PassView) → n < nodes → k < count
-    → (slice_index_or (passes_at (record { areas = shared.areas; nodes = now; rooms = shared.rooms }) n) k pass).known.node ≡ (slice_index_or (passes_at shared n) k pass).known.node)
-    → AreWhole (record { areas = shared.areas; nodes = now; rooms = shared.rooms }) nodes count
+    → (slice_index_or (passes_at (record shared { nodes = now }) n) k pass).known.node ≡ (slice_index_or (passes_at shared n) k pass).known.node)
+    → AreWhole (record shared { nodes = now }) nodes count
 still_whole shared now nodes count whole as_many long ours same = record {
   areas = whole.areas;
   lists = as_many;

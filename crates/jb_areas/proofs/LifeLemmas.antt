@@ -70,8 +70,9 @@ module _ {D : Type 0} (shown : D → Device) where
   }
 
   -- an area that is shared with so many nodes
-  pub opens_one : (area : BoardArea) (nodes : ℕ) (old new : Desk) (one : SharedArea D) (row : List PassView) → SharesArea shown area nodes old new one row → OpensOne area nodes old new one row
-  opens_one area nodes old new one row shares = record {
+  pub opens_one : (area : BoardArea) (nodes : ℕ) (old new : Desk) (one : SharedArea D) (row : List PassView) (live : ℕ) → SharesArea shown area nodes old new one row live
+      → OpensOne area nodes old new one row live
+  opens_one area nodes old new one row live shares = record {
     before = shares.before;
     opening = opening_of shown shares.opened;
     gives = shares.gives;
@@ -81,6 +82,7 @@ module _ {D : Type 0} (shown : D → Device) where
     count = shares.shares.count;
     ours = shares.shares.ours;
     all = shares.shares.seats;
+    counts = shares.counts;
   }
 
   -- an area that was opened and is put back for want of memory
@@ -124,7 +126,7 @@ module _ {D : Type 0} (shown : D → Device) where
       let at = closes.stands.1 in
       let is : is_doubtful ≡ not (is_settled standing) = doubt_is opened is_doubtful standing at.at doubt rests in
       let stopped : is_doubtful ≡ stopped_last closes.history = is ∙ ap not at.kind ∙ not_not (stopped_last closes.history) in
-      let told : last_faults closes.opening.faults closes.history ≤ after.faults = subst (λ (d : Device). last_faults closes.opening.faults closes.history ≤ d.faults) same at.faults in
+      let told : last_faults closes.opening.faults closes.history ≡ after.faults = at.faults ∙ ap (λ (d : Device). d.faults) same in
       record {
         opening = closes.opening;
         history = closes.history;

@@ -10,8 +10,8 @@ use Rattle.jb_shared.specs.Areas.{IsOf, passes_of}
 use Rattle.jb_shared.specs.Passes.{Known, PassView}
 use Rattle.jb_shared.specs.declared.opening.Opening.{Opening}
 use Rattle.jb_shared.specs.declared.shared.SharedArea.{SharedArea}
-use Rattle.jb_areas.specs.All.{AreWhole, OpenAs, OpensAll}
-use Rattle.jb_areas.specs.Lives.{OpensAs, first_known}
+use Rattle.jb_areas.specs.All.{AreLive, AreWhole, OpenAs, OpensAll}
+use Rattle.jb_areas.specs.Lives.{HasLive, OpensAs, first_known}
 use Rattle.jb_areas.specs.Rows.{IsDealt, lists_of}
 use Rattle.jb_areas.specs.declared.opening.SharedAreas.{SharedAreas}
 use Rattle.jb_areas.proofs.DeskLemmas.{hands_out_more, hands_out_none}
@@ -46,14 +46,29 @@ open_more areas befores openings fewer area before opening row more same_befores
       (omega (arith, within, length_push areas area, length_push passes pass, same_passes n low)));
 }
 
+-- and counted
+live_more : (openings : List Opening) (opening : Opening) (counts : List ℕ) (live : ℕ) → HasLive live opening.loaded → AreLive openings counts
+    → AreLive (openings ++ opening ∷ []) (counts ++ live ∷ [])
+live_more openings opening counts live has are = record {
+  count = length_push counts live ∙ ap (λ (n : ℕ). n + 1) are.count ∙ sym (length_push openings opening);
+  each = each_pair_last (λ (o : Opening) (n : ℕ). HasLive n o.loaded) openings opening counts live are.count are.each has;
+}
+
 module _ {D : Type 0} where
+  -- its count stands behind the others
+  pub record CountsOne (opening : Opening) (fewer more : SharedAreas D) : Type 0 where
+    pub live : ℕ
+    pub behind : more.live.items ≡ fewer.live.items ++ live ∷ []
+    pub has : HasLive live opening.loaded
+
   -- no area is open and shared
-  pub opens_none : (nodes : ℕ) (desk : Desk) (shared : SharedAreas D) → AreWhole shared nodes 0 → OpensAll [] nodes desk desk shared
-  opens_none nodes desk shared whole = record {
+  pub opens_none : (nodes : ℕ) (desk : Desk) (shared : SharedAreas D) → AreWhole shared nodes 0 → shared.live.items ≡ [] → OpensAll [] nodes desk desk shared
+  opens_none nodes desk shared whole uncounted = record {
     befores = [];
     openings = [];
     out = hands_out_none desk;
     start = open_none (lists_of shared.nodes.items);
+    live = record { count = ap length uncounted; each = λ k opening one within. absurd (omega arith) };
     whole = whole;
   }
 
@@ -61,8 +76,8 @@ module _ {D : Type 0} where
   pub opens_more : (areas : List BoardArea) (nodes : ℕ) (area : BoardArea) (before : Device) (opening : Opening) (row : List PassView) (old mid new : Desk) (fewer more : SharedAreas D)
       → GivesDisk area.dir area.base before mid new → OpensAs area.rules before opening → ((n : ℕ) → n < nodes → (slice_index_or row n nobody).known ≡ first_known (n + 1) opening)
       → IsDealt (lists_of fewer.nodes.items) row (lists_of more.nodes.items) → AreWhole more nodes (length areas + 1)
-      → OpensAll areas nodes old mid fewer → OpensAll (areas ++ area ∷ []) nodes old new more
-  opens_more areas nodes area before opening row old mid new fewer more gives opens fresh dealt whole all =
+      → CountsOne opening fewer more → OpensAll areas nodes old mid fewer → OpensAll (areas ++ area ∷ []) nodes old new more
+  opens_more areas nodes area before opening row old mid new fewer more gives opens fresh dealt whole counts all =
       let as_many : length (lists_of fewer.nodes.items) ≡ nodes = length-lists_of fewer.nodes.items ∙ all.whole.lists in
       record {
         befores = all.befores ++ before ∷ [];
@@ -70,6 +85,7 @@ module _ {D : Type 0} where
         out = hands_out_more areas all.befores area before old mid new all.out gives;
         start = open_more areas all.befores all.openings (lists_of fewer.nodes.items) area before opening row (lists_of more.nodes.items) all.out.count
             (λ n here. all.whole.passes n (omega (arith, here, as_many))) opens (λ n here. fresh n (omega (arith, here, as_many))) dealt all.start;
+        live = subst (AreLive (all.openings ++ opening ∷ [])) (sym counts.behind) (live_more all.openings opening fewer.live.items counts.live counts.has all.live);
         whole = subst (AreWhole more nodes) (sym (length_push areas area)) whole;
       }
 
@@ -78,20 +94,21 @@ module _ {D : Type 0} where
       → k < length areas → area ≡ slice_index_or areas k area
       → GivesDisk area.dir area.base before mid new → OpensAs area.rules before opening → ((n : ℕ) → n < nodes → (slice_index_or row n nobody).known ≡ first_known (n + 1) opening)
       → IsDealt (lists_of fewer.nodes.items) row (lists_of more.nodes.items) → AreWhole more nodes (k + 1)
-      → OpensAll (take k areas) nodes old mid fewer → OpensAll (take (k + 1) areas) nodes old new more
-  opens_at areas nodes k area before opening row old mid new fewer more within here gives opens fresh dealt whole all =
+      → CountsOne opening fewer more → OpensAll (take k areas) nodes old mid fewer → OpensAll (take (k + 1) areas) nodes old new more
+  opens_at areas nodes k area before opening row old mid new fewer more within here gives opens fresh dealt whole counts all =
       let next : take (k + 1) areas ≡ take k areas ++ area ∷ [] = take_more areas k area within ∙ ap (λ (a : BoardArea). take k areas ++ a ∷ []) (sym here) in
       subst (λ (l : List BoardArea). OpensAll l nodes old new more) (sym next)
       (opens_more (take k areas) nodes area before opening row old mid new fewer more gives opens fresh dealt
-      (subst (λ (n : ℕ). AreWhole more nodes (n + 1)) (sym (length-take-le k areas (omega arith))) whole) all)
+      (subst (λ (n : ℕ). AreWhole more nodes (n + 1)) (sym (length-take-le k areas (omega arith))) whole) counts all)
 
   -- none of the first is open yet
-  pub opens_begin : (areas : List BoardArea) (nodes : ℕ) (desk : Desk) (shared : SharedAreas D) → AreWhole shared nodes 0
+  pub opens_begin : (areas : List BoardArea) (nodes : ℕ) (desk : Desk) (shared : SharedAreas D) → AreWhole shared nodes 0 → shared.live.items ≡ []
       → OpensAll (take (length shared.areas.items) areas) nodes desk desk shared
-  opens_begin areas nodes desk shared whole = subst (λ (n : ℕ). OpensAll (take n areas) nodes desk desk shared) (sym whole.areas) (opens_none nodes desk shared whole)
+  opens_begin areas nodes desk shared whole uncounted =
+      subst (λ (n : ℕ). OpensAll (take n areas) nodes desk desk shared) (sym whole.areas) (opens_none nodes desk shared whole uncounted)
 
   -- the host handed the disk of the area out; it is open and shared with so many nodes, which have seen nothing
-  pub record OpensOne (area : BoardArea) (nodes : ℕ) (old new : Desk) (one : SharedArea D) (row : List PassView) : Type 0 where
+  pub record OpensOne (area : BoardArea) (nodes : ℕ) (old new : Desk) (one : SharedArea D) (row : List PassView) (live : ℕ) : Type 0 where
     pub before : Device
     pub opening : Opening
     pub gives : GivesDisk area.dir area.base before old new
@@ -100,15 +117,17 @@ module _ {D : Type 0} where
     pub count : length row ≡ nodes
     pub ours : All (IsOf one) row
     pub all : passes_of one ≡ nodes
+    pub counts : HasLive live opening.loaded
 
   -- and it stands behind the others
-  pub opens_next : (areas : List BoardArea) (nodes k : ℕ) (area : BoardArea) (one : SharedArea D) (row : List PassView) (room : Vec PassView Global) (old mid new : Desk) (fewer more : SharedAreas D)
-      → k ≡ length fewer.areas.items → length fewer.areas.items < length areas → area ≡ slice_index_or areas k area → OpensOne area nodes mid new one row → room.items ≡ [] → nodes ≤ vec_capacity room
-      → IsBehind more fewer one row room → AreWhole fewer nodes (length fewer.areas.items)
+  pub opens_next : (areas : List BoardArea) (nodes k : ℕ) (area : BoardArea) (one : SharedArea D) (row : List PassView) (live : ℕ) (room : Vec PassView Global) (old mid new : Desk) (fewer more : SharedAreas D)
+      → k ≡ length fewer.areas.items → length fewer.areas.items < length areas → area ≡ slice_index_or areas k area → OpensOne area nodes mid new one row live → room.items ≡ [] → nodes ≤ vec_capacity room
+      → IsBehind more fewer one row room → more.live.items ≡ fewer.live.items ++ live ∷ [] → AreWhole fewer nodes (length fewer.areas.items)
       → OpensAll (take (length fewer.areas.items) areas) nodes old mid fewer → OpensAll (take (length more.areas.items) areas) nodes old new more
-  opens_next areas nodes k area one row room old mid new fewer more place within here opens empty fits behind whole all =
+  opens_next areas nodes k area one row live room old mid new fewer more place within here opens empty fits behind counted whole all =
       let n = length fewer.areas.items in
       let by : IsSharedBy nodes one row = record { count = opens.count; ours = opens.ours; numbers = λ m low. ap (λ (k : Known). k.node) (opens.fresh m low); all = opens.all } in
       let is_whole : AreWhole more nodes (n + 1) = whole_more more fewer one row room nodes n behind by empty fits whole in
       subst (λ (m : ℕ). OpensAll (take m areas) nodes old new more) (sym is_whole.areas)
-      (opens_at areas nodes n area opens.before opens.opening row old mid new fewer more within (here ∙ ap (λ (m : ℕ). slice_index_or areas m area) place) opens.gives opens.opens opens.fresh behind.passes is_whole all)
+      (opens_at areas nodes n area opens.before opens.opening row old mid new fewer more within (here ∙ ap (λ (m : ℕ). slice_index_or areas m area) place) opens.gives opens.opens opens.fresh behind.passes is_whole
+      (record { live = live; behind = counted; has = opens.counts }) all)

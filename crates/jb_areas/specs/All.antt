@@ -10,7 +10,7 @@ use Rattle.jb_shared.specs.Passes.{PassView}
 use Rattle.jb_shared.specs.declared.opening.Opening.{Opening}
 use Rattle.jb_areas.specs.Desks.{HandsOut, PutsBack}
 use Rattle.jb_areas.specs.Errors.{AsksNothing, RefusesArea}
-use Rattle.jb_areas.specs.Lives.{Ends, KeepsArea, OpensAs, first_known}
+use Rattle.jb_areas.specs.Lives.{Ends, HasLive, KeepsArea, OpensAs, first_known}
 use Rattle.jb_areas.specs.Rows.{HaveRoom, IsColumn, IsDealt, lists_of}
 use Rattle.jb_areas.specs.declared.error.AreasError.{AreasError}
 use Rattle.jb_areas.specs.declared.opening.SharedAreas.{SharedAreas}
@@ -40,11 +40,12 @@ module _ {D : Type 0} where
     pub empty : (k : ℕ) (room : _) → k < count → (slice_index_or shared.rooms.items k room).items ≡ []
     pub fits : (k : ℕ) (room : _) → k < count → nodes ≤ vec_capacity (slice_index_or shared.rooms.items k room)
 
-  -- room for so many areas and as many passes of each node
+  -- room for so many areas, as many passes of each node, and as many counts
   pub record HasRoom (shared : SharedAreas D) (count : ℕ) : Type 0 where
     pub areas : count ≤ vec_capacity shared.areas
     pub passes : HaveRoom count shared.nodes.items
     pub rooms : count ≤ vec_capacity shared.rooms
+    pub counts : count ≤ vec_capacity shared.live
 
 -- the areas go on from these openings over these disks, of which no node has seen more
 pub record OpenAs (areas : List BoardArea) (befores : List Device) (openings : List Opening) (nodes : List (List PassView)) : Type 0 where
@@ -54,12 +55,18 @@ pub record OpenAs (areas : List BoardArea) (befores : List Device) (openings : L
   pub fresh : (n k : ℕ) (pass : PassView) (opening : Opening) → n < length nodes → k < length areas
       → (slice_index_or (slice_index_or nodes n []) k pass).known ≡ first_known (n + 1) (slice_index_or openings k opening)
 
+-- so many messages of each area were live as it was opened
+pub record AreLive (openings : List Opening) (live : List ℕ) : Type 0 where
+  pub count : length live ≡ length openings
+  pub each : (k : ℕ) (opening : Opening) (one : ℕ) → k < length openings → HasLive (slice_index_or live k one) (slice_index_or openings k opening).loaded
+
 -- all disks were handed out, and each area is open and shared with so many nodes
 pub record OpensAll {D : Type 0} (areas : List BoardArea) (nodes : ℕ) (old new : Desk) (shared : SharedAreas D) : Type 0 where
   pub befores : List Device
   pub openings : List Opening
   pub out : HandsOut areas befores old new
   pub start : OpenAs areas befores openings (lists_of shared.nodes.items)
+  pub live : AreLive openings shared.live.items
   pub whole : AreWhole shared nodes (length areas)
 
 -- the last of the areas that are open is closed with its passes, and its disk is back

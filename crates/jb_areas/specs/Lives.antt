@@ -1,7 +1,7 @@
 -- One area of a board, from its disk as the host had it to its disk as the host has it back.
 use Rattle.std.specs.Prelude.{◌≡◌, ℕ, ◌≤◌, Bool, true, false, not, List, [], length, Option, Some, is_some}
 use Rattle.std.specs.Option.{ForSome}
-use Rattle.jb_area.specs.Area.{DoubtOpens, device_of, rules_of}
+use Rattle.jb_area.specs.Area.{DoubtOpens, device_of, loaded_of, rules_of}
 use Rattle.jb_area.specs.Calls.{HasRest}
 use Rattle.jb_area.specs.Holds.{IsAtRest, Opens}
 use Rattle.jb_area.specs.declared.area.OpenArea.{OpenArea}
@@ -15,6 +15,7 @@ use Rattle.jb_disk.specs.Runs.{IsAllSynced}
 use Rattle.jb_host.specs.Desk.{Desk, GivesDisk}
 use Rattle.jb_journal.specs.Recover.{IsGrowthSafe}
 use Rattle.jb_model.specs.History.{calls_of, last_faults}
+use Rattle.jb_model.specs.Live.{live_count}
 use Rattle.jb_model.specs.Standing.{Standing, Settled, InDoubt, StandsWithin, is_settled}
 use Rattle.jb_model.specs.State.{state_of}
 use Rattle.jb_model.specs.declared.entry.Entry.{Entry}
@@ -38,6 +39,10 @@ pub record OpensAs (by : AreaRules) (before : Device) (opening : Opening) : Type
   pub told : is_some opening.texts ≡ is_some before.contents
   pub opens : ForSome before.contents (λ was. IsGrowthSafe was → ForSome opening.texts (λ texts. Opens opening.loaded texts was))
 
+-- so many messages of what is loaded are live
+abbrev pub HasLive : ℕ → Loaded → Type 0
+HasLive live loaded = (texts : List ℕ) → live ≡ live_count (state_of texts loaded).slots
+
 -- of a disk that shows itself so
 module _ {D : Type 0} (shown : D → Device) where
   -- the area is open over this disk, at rest and by these rules
@@ -50,13 +55,14 @@ module _ {D : Type 0} (shown : D → Device) where
     pub firm : OpensFirmly before (device_of shown opened)
     pub alike : TellsAlike before (device_of shown opened)
 
-  -- the host handed the disk of the area out, and it is open and shared among so many nodes
-  pub record SharesArea (area : BoardArea) (nodes : ℕ) (old new : Desk) (shared : SharedArea D) (passes : List PassView) : Type 0 where
+  -- the host handed the disk of the area out, and it is open with so many live messages and shared among so many nodes
+  pub record SharesArea (area : BoardArea) (nodes : ℕ) (old new : Desk) (shared : SharedArea D) (passes : List PassView) (live : ℕ) : Type 0 where
     pub before : Device
     pub gives : GivesDisk area.dir area.base before old new
     pub opened : OpenArea D
     pub opens : OpensOver area.rules before opened
     pub shares : IsShared shown opened nodes shared passes
+    pub counts : HasLive live (loaded_of opened)
 
 -- the disk holds the area so: settled, with nothing on its way, or between two states, to one of which its files open
 abbrev pub HoldsAt : Standing → Device → Type 0
@@ -65,11 +71,11 @@ HoldsAt (Settled state) device = IsAllSynced device
 HoldsAt (InDoubt before after) device = ForSome device.contents (λ files. (loaded : Loaded) × (texts : List ℕ) × (coming : Option Coming)
     × DoubtOpens loaded texts coming files × StandsWithin (doubt_between texts loaded coming) (InDoubt before after))
 
--- the disk is left as the history says: it has failed at least as often as the history tells, and the area is in doubt just where the
+-- the disk is left as the history says: it has failed as often as the history tells, and the area is in doubt just where the
 -- device stopped the last call, which then has raised its count of faults
 pub record Leaves (opening : Opening) (entries : List Entry) (is_doubtful : Bool) (after : Device) : Type 0 where
   pub history : IsHistory opening entries
-  pub faults : last_faults opening.faults entries ≤ after.faults
+  pub faults : last_faults opening.faults entries ≡ after.faults
   pub told : is_some after.contents ≡ is_some opening.texts
   pub standing : Standing
   pub leads : Tells opening → standing ≡ leads_to opening entries

@@ -1,5 +1,5 @@
 //! All areas are opened and shared, one after another.
-ghost use Rattle.std.specs.Prelude.{◌≡◌, ◌+◌, ◌<◌, ◌≤◌, IfErr, IfOk, List, OnOk, length, slice_index_or, take};
+ghost use Rattle.std.specs.Prelude.{◌≡◌, ◌+◌, ◌<◌, ◌≤◌, IfErr, IfOk, List, OnOk, [], length, slice_index_or, take};
 ghost use Rattle.jb_conf.specs.declared.board.BoardArea.{BoardArea};
 ghost use Rattle.jb_host.specs.Desk.{Desk};
 ghost use Rattle.jb_areas.specs.All.{AreOpenable, AreWhole, HasRoom, OpensAll, RefusesAll, StopsAt};
@@ -22,6 +22,8 @@ pub struct SharedAreas<D: Disk> {
     pub areas: Vec<SharedArea<D>>,
     /// For each node, from 1 on, its passes: one of each area, in order.
     pub nodes: Vec<Vec<Pass>>,
+    /// For each area how many of its messages were live as it was opened.
+    pub live: Vec<usize>,
     /// For each area room for its passes, so that it can be closed without memory.
     pub(crate) rooms: Vec<Vec<Pass>>,
 }
@@ -34,13 +36,16 @@ fn with_room<D: Disk + Drop>(
 ) -> Result<SharedAreas<D>, OutOfMemory>
     ensures room { IfOk result (λ shared. HasRoom shared count) }
     ensures none { IfOk result (λ shared. AreWhole shared nodes 0) }
+    ensures uncounted { IfOk result (λ shared. shared.live.items ≡ []) }
 {
     let areas = Vec::with_capacity(alloc, count)?;
     let nodes = roomy_lists(alloc, nodes as usize, count)?;
+    let live = Vec::with_capacity(alloc, count)?;
     let rooms = Vec::with_capacity(alloc, count)?;
     Ok(SharedAreas {
         areas,
         nodes,
+        live,
         rooms,
     })
 }
@@ -57,6 +62,7 @@ fn open_next<H: Host>(
     requires nodes { (0 < nodes) × (nodes ≤ 33) }
     requires next { length shared.old.areas.items < length areas.now }
     requires whole { AreWhole shared.old nodes (length shared.old.areas.items) }
+    requires counted { length shared.old.live.items ≡ length shared.old.areas.items }
     requires room { HasRoom shared.old (length areas.now) }
     ensures room { HasRoom shared.new (length areas.now) }
     ensures count { OnOk result (length shared.new.areas.items ≡ length shared.old.areas.items + 1) }
@@ -66,10 +72,11 @@ fn open_next<H: Host>(
         × ((area : BoardArea) → RefusesArea (length shared.old.areas.items + 1) (slice_index_or areas.now (length shared.old.areas.items) area) (H.desk host.old) (H.desk host.new) error)) }
 {
     let k = shared.areas.len();
-    let (area, mut row) = share(alloc, host, &areas[k], k as u32 + 1, nodes)?;
-    deal(&mut shared.nodes, &mut row);
-    shared.areas.push_reserved(area);
-    shared.rooms.push_reserved(row);
+    let mut opened = share(alloc, host, &areas[k], k as u32 + 1, nodes)?;
+    deal(&mut shared.nodes, &mut opened.passes);
+    shared.areas.push_reserved(opened.area);
+    shared.rooms.push_reserved(opened.passes);
+    shared.live.push_reserved(opened.live);
     Ok(())
 }
 
@@ -84,6 +91,7 @@ fn open_rest<H: Host>(
     requires areas { AreOpenable areas.now }
     requires nodes { (0 < nodes) × (nodes ≤ 33) }
     requires none { AreWhole shared.old nodes 0 }
+    requires uncounted { shared.old.live.items ≡ [] }
     requires room { HasRoom shared.old (length areas.now) }
     ensures ok { OnOk result (OpensAll areas.now nodes (H.desk host.old) (H.desk host.new) shared.new) }
     ensures err { IfErr result (StopsAt areas.now nodes (H.desk host.old) (H.desk host.new) shared.new) }

@@ -1,9 +1,11 @@
 //! One area: its disk is taken from the host, opened and shared, and put back.
-ghost use Rattle.std.specs.Prelude.{◌≡◌, ◌<◌, ◌≤◌, All, Bool, IfErr, IfOk, length};
+ghost use Rattle.std.specs.Prelude.{◌≡◌, ◌<◌, ◌≤◌, ℕ, All, Bool, IfErr, IfOk, List, length, map};
 ghost use Rattle.std.specs.Option.{ForSome};
 ghost use Rattle.jb_base.specs.declared.limits.TheConstants.{MOST_ADDRESS_BYTES, MOST_SLOTS};
 ghost use Rattle.jb_disk.specs.Device.{Device};
 ghost use Rattle.jb_host.specs.Desk.{GivesDisk, TakesBack, handed_out};
+ghost use Rattle.jb_model.specs.Live.{live_count};
+ghost use Rattle.jb_model.specs.State.{slot_state};
 ghost use Rattle.jb_shared.specs.Areas.{IsOf, passes_of};
 ghost use Rattle.jb_shared.specs.Closing.{known_by};
 ghost use Rattle.jb_turn.specs.Whole.{HasAll};
@@ -16,9 +18,31 @@ use jb_area::OpenArea;
 use jb_area_open::open_area;
 use jb_base::AreaRules;
 use jb_conf::BoardArea;
+use jb_disk::Disk;
 use jb_host::Host;
+use jb_model::LoadedSlot;
 use jb_shared::{Pass, SharedArea};
 use std::alloc::Global;
+
+/// An area that is open and shared.
+#[derive(Drop)]
+pub(crate) struct Shared<D: Disk> {
+    pub area: SharedArea<D>,
+    /// One of each node, from 1 on.
+    pub passes: Vec<Pass>,
+    /// How many of its messages were live as it was opened.
+    pub live: usize,
+}
+
+/// How many of these slots have a live message.
+fn count_live(slots: &[LoadedSlot]) -> usize
+    ensures { (texts : List ℕ) → result ≡ live_count (map (slot_state texts) slots.now) }
+{
+    slots
+        .iter()
+        .filter(|slot| matches!(slot, LoadedSlot::Live(_)))
+        .count()
+}
 
 /// Opens an area by these rules over the disk that the host has for it; where that is refused the disk is back.
 fn open_disk<H: Host>(
@@ -53,17 +77,18 @@ pub(crate) fn share<H: Host>(
     area: &BoardArea,
     place: u32,
     nodes: u32,
-) -> Result<(SharedArea<H::Disk>, Vec<Pass>), AreasError>
+) -> Result<Shared<H::Disk>, AreasError>
     requires few_slots { area.now.rules.slots ≤ MOST_SLOTS }
     requires address { length area.now.rules.address ≤ MOST_ADDRESS_BYTES }
     requires nodes { (0 < nodes) × (nodes ≤ 33) }
-    ensures ok { IfOk result (λ r. SharesArea H.Disk.device area.now nodes (H.desk host.old) (H.desk host.new) r.0 r.1.items) }
+    ensures ok { IfOk result (λ shared. SharesArea H.Disk.device area.now nodes (H.desk host.old) (H.desk host.new) shared.area shared.passes.items shared.live) }
     ensures err { IfErr result (RefusesArea place area.now (H.desk host.old) (H.desk host.new)) }
 {
     let rules = area.rules.copy(alloc)?;
     let opened = open_disk(alloc, host, area, place, rules)?;
+    let live = count_live(opened.loaded().slots.as_slice());
     match SharedArea::new(alloc, opened, nodes) {
-        Ok(shared) => Ok(shared),
+        Ok((area, passes)) => Ok(Shared { area, passes, live }),
         Err(opened) => {
             host.put_back(area.dir.as_str(), area.base.as_str(), opened.close());
             Err(AreasError::OutOfMemory)

@@ -120,7 +120,7 @@ pub whole_after : {D : Type 0} (shared : SharedAreas D) (count : ℕ) (node : Ve
     → AreWhole shared 1 count → node ≡ slice_index_or shared.nodes.items 0 node → areas ≡ shared.areas.items → from ≡ node.items
     → now.items ≡ set shared.nodes.items 0 (with_items node to)
     → AreOf areas to → ((k : ℕ) (pass : PassView) → KeepsStart (slice_index_or from k pass).known (slice_index_or to k pass).known)
-    → AreWhole (record { areas = shared.areas; nodes = now; rooms = shared.rooms }) 1 count
+    → AreWhole (record shared { nodes = now }) 1 count
 whole_after {D} shared count node areas from to now whole found same_areas same_passes is ours keeps =
     let of_them : AreOf shared.areas.items to = subst (λ (list : List (SharedArea D)). AreOf list to) same_areas ours in
     let long : length to ≡ count = sym of_them.count ∙ whole.areas in

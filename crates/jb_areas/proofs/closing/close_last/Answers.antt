@@ -18,7 +18,7 @@ end-requires-clause-ours g c =
     let row = c.collect.new.row.items in
     let room = c.in-Some.row in
     let more = c.args.shared.now in
-    let fewer : SharedAreas g.row.H-Disk.Denot = record { areas = c.pop.new.self; nodes = c.collect.new.lists; rooms = c.pop-2.new.self } in
+    let fewer : SharedAreas g.row.H-Disk.Denot = record { areas = c.pop.new.self; nodes = c.collect.new.lists; rooms = c.pop-2.new.self; live = c.args.shared.now.live } in
     let behind : IsBehind more fewer area row room = record { areas = c.in_ok-area.ensures.items; passes = c.collect.ensures; rooms = c.in-Some.ensures.items } in
     let by : IsSharedBy (length more.nodes.items) area row = whole_last more fewer area row room (length more.nodes.items) (length more.areas.items) behind c.requires.whole in
     by.ours
@@ -29,7 +29,7 @@ end-requires-clause-all g c =
     let row = c.collect.new.row.items in
     let room = c.in-Some.row in
     let more = c.args.shared.now in
-    let fewer : SharedAreas g.row.H-Disk.Denot = record { areas = c.pop.new.self; nodes = c.collect.new.lists; rooms = c.pop-2.new.self } in
+    let fewer : SharedAreas g.row.H-Disk.Denot = record { areas = c.pop.new.self; nodes = c.collect.new.lists; rooms = c.pop-2.new.self; live = c.args.shared.now.live } in
     let behind : IsBehind more fewer area row room = record { areas = c.in_ok-area.ensures.items; passes = c.collect.ensures; rooms = c.in-Some.ensures.items } in
     let by : IsSharedBy (length more.nodes.items) area row = whole_last more fewer area row room (length more.nodes.items) (length more.areas.items) behind c.requires.whole in
     all_there (length more.nodes.items) area row (passes_of area) by.all by
@@ -40,7 +40,7 @@ returns g c =
     let row = c.collect.new.row.items in
     let room = c.in-Some.row in
     let more = c.args.shared.now in
-    let fewer : SharedAreas g.row.H-Disk.Denot = record { areas = c.pop.new.self; nodes = c.collect.new.lists; rooms = c.pop-2.new.self } in
+    let fewer : SharedAreas g.row.H-Disk.Denot = record { areas = c.pop.new.self; nodes = c.collect.new.lists; rooms = c.pop-2.new.self; live = c.args.shared.now.live } in
     let behind : IsBehind more fewer area row room = record { areas = c.in_ok-area.ensures.items; passes = c.collect.ensures; rooms = c.in-Some.ensures.items } in
     record {
       whole = whole_own fewer (length more.nodes.items) (length fewer.areas.items) (whole_less more fewer area row room (length more.nodes.items) (length more.areas.items) behind c.requires.whole);

@@ -1,4 +1,4 @@
-use Rattle.std.proofs.Common.{length, take, arith}
+use Rattle.std.proofs.Common.{length, take, sym, ◌∙◌, arith}
 use Rattle.std.proofs.lemmas.Result.{err_from_is_err_and}
 use Rattle.jb_areas.proofs.OpenLemmas.{opens_begin}
 use Rattle.jb_areas.proofs.RefuseLemmas.{stops_at}
@@ -12,8 +12,14 @@ loop-alloc-init g c =
       within = omega (arith, c.requires.none.areas);
       whole = whole_as shared c.args.nodes 0 c.requires.none;
       room = c.requires.room;
-      opens = opens_begin c.args.areas.now c.args.nodes (g.H.Host.desk c.args.host.now) shared c.requires.none;
+      opens = opens_begin c.args.areas.now c.args.nodes (g.H.Host.desk c.args.host.now) shared c.requires.none c.requires.uncounted;
     }
+
+-- each is counted
+pub open_next-requires-clause-counted : goal.open_next-requires-clause-counted
+open_next-requires-clause-counted g c =
+    let opens = c.loop-alloc.invariant.opens in
+    opens.live.count ∙ opens.start.count ∙ sym opens.whole.areas
 
 pub loop-alloc-preserved : goal.loop-alloc-preserved
 loop-alloc-preserved g c =

@@ -1,8 +1,26 @@
-use Rattle.std.proofs.Common.{◌≡◌, ◌∙◌, ap, sym}
-use Rattle.jb_area.specs.Area.{device_of}
+use Rattle.std.proofs.Common.{◌≡◌, ◌∙◌, List, ap, map, sym}
+use Rattle.jb_area.specs.Area.{device_of, loaded_of}
 use Rattle.jb_area.specs.declared.area.OpenArea.{OpenArea}
+use Rattle.jb_model.specs.Live.{live_count}
+use Rattle.jb_model.specs.State.{slot_state}
+use Rattle.jb_model.specs.declared.loaded.Loaded.{Loaded}
+use Rattle.jb_model.specs.declared.loaded.LoadedSlot.{LoadedSlot}
 use Rattle.jb_areas.proofs.LifeLemmas.{lacks_room, takes_back_at}
 use Rattle.jb_areas.proofs.sharing.share.Goals as goal
+
+pub returns-in-Ok-clause-ok : goal.returns-in-Ok-clause-ok
+returns-in-Ok-clause-ok g c =
+    let given = c.in_ok-opened.ensures.ok in
+    let opened = c.in_ok-opened.opened in
+    let slots : c.as_slice.result.now ≡ (loaded_of opened).slots = c.as_slice.ensures ∙ ap (λ (l : Loaded). l.slots) c.loaded.ensures in
+    record {
+      before = given.0;
+      gives = given.1;
+      opened = opened;
+      opens = given.2;
+      shares = c.in-Ok.ensures.ok;
+      counts = λ texts. c.count_live-live.ensures texts ∙ ap (λ (s : List LoadedSlot). live_count (map (slot_state texts) s)) slots;
+    }
 
 pub returns-in-Err-clause-err : goal.returns-in-Err-clause-err
 returns-in-Err-clause-err g c =
