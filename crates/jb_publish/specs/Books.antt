@@ -1,0 +1,16 @@
+-- The rule of the book whose log is the published list, and what its one step tells.
+use Rattle.std.specs.Prelude.{ℕ, ◌≡◌, ◌==◌, true, List, [], ◌∷◌, length, MatchBool}
+use Rattle.logbook.specs.Pages.{Cell, Step, View, Book, Named}
+
+-- the word of the book whose value is the length of the list
+abbrev pub head_of : Book → Named
+head_of b = record { tracked = true; key = 0; book = b }
+
+module _ {E : Type 0} where
+  -- the first word is the length of the list; a book has two words, of which this one leaves the second at 0
+  abbrev pub IsKept : List Cell → List E → Type 0
+  IsKept cells log = cells ≡ (length log, true) ∷ (0, true) ∷ []
+
+  -- where the word was the one expected, the list is now this one
+  abbrev pub Grows : List E → Step E → View E ℕ → ℕ → View E ℕ → Type 0
+  Grows items s v found w = MatchBool (found == s.old) (w.0 ≡ items) (Unit {0})

@@ -1,0 +1,49 @@
+//! What is done with a front.
+ghost use Rattle.std.specs.Prelude.{◌≡◌, ◌≤◌, ◌<◌, length, MatchBool};
+ghost use mathlib.Core.List.{IsPrefix};
+ghost use Rattle.jb_publish.specs.Fronts.{book_of, list_of};
+
+use super::Front;
+
+impl<E> Front<E> {
+    /// Another of the same.
+    pub fn again(&self) -> Front<E>
+        ensures { result ≡ self.now }
+    {
+        Front {
+            count: self.count,
+            seen: self.seen.again(),
+        }
+    }
+
+    /// How many entries the list has.
+    pub fn entries(&self) -> u64
+        ensures { result ≡ length (list_of self.now) }
+    {
+        self.count
+    }
+
+    /// Shows that this list begins the other, which is no shorter.
+    pub(crate) fn begins(&self, other: &Front<E>)
+        requires { (book_of self.now ≡ book_of other.now) × (self.now.count ≤ other.now.count) }
+        ensures { IsPrefix (list_of self.now) (list_of other.now) }
+    {
+        let mut both = self.seen.again();
+        both.learn(&other.seen);
+    }
+
+    /// Whether the other list is no longer. Then it begins this one, and else this one begins it.
+    pub(crate) fn covers(&self, other: &Front<E>) -> bool
+        requires { book_of other.now ≡ book_of self.now }
+        ensures prefix { MatchBool result (IsPrefix (list_of other.now) (list_of self.now)) (IsPrefix (list_of self.now) (list_of other.now)) }
+        ensures length { MatchBool result (length (list_of other.now) ≤ length (list_of self.now)) (length (list_of self.now) < length (list_of other.now)) }
+    {
+        if other.count <= self.count {
+            other.begins(self);
+            true
+        } else {
+            self.begins(other);
+            false
+        }
+    }
+}
