@@ -39,7 +39,7 @@ AllKeepStarts from to = (n : ℕ) → n < length from → KeepStarts (slice_inde
 -- the areas are whole when all have worked
 pub whole_after : {D : Type 0} (shared : SharedAreas D) (now : Vec (Vec PassView Global) Global) (nodes count : ℕ) → AreWhole shared nodes count
     → length (lists_of now.items) ≡ nodes → AreAllOf shared.areas.items (lists_of now.items) → AllKeepStarts (lists_of shared.nodes.items) (lists_of now.items)
-    → AreWhole (record { areas = shared.areas; nodes = now; rooms = shared.rooms }) nodes count
+    → AreWhole (record shared { nodes = now }) nodes count
 whole_after shared now nodes count whole many ours keep =
     still_whole shared now nodes count whole (sym (length-lists_of now.items) ∙ many)
     (λ n here. sym (ours n (omega (arith, here, many))).count ∙ whole.areas)
@@ -57,7 +57,7 @@ all_of_whole shared nodes count whole = λ n within.
 
 -- areas are whole where all have their passes back
 pub whole_same : {D : Type 0} (shared : SharedAreas D) (now : Vec (Vec PassView Global) Global) (nodes count : ℕ) → AreWhole shared nodes count
-    → lists_of now.items ≡ lists_of shared.nodes.items → AreWhole (record { areas = shared.areas; nodes = now; rooms = shared.rooms }) nodes count
+    → lists_of now.items ≡ lists_of shared.nodes.items → AreWhole (record shared { nodes = now }) nodes count
 whole_same shared now nodes count whole same =
     whole_after shared now nodes count whole (ap length same ∙ length-lists_of shared.nodes.items ∙ whole.lists)
     (subst (AreAllOf shared.areas.items) (sym same) (all_of_whole shared nodes count whole))

@@ -5,3 +5,4 @@ mod Starts
 mod Closing
 mod Refusing
 mod Serving
+mod Naming

@@ -9,6 +9,7 @@ mod ending;
 mod lines;
 mod parting;
 mod running;
+mod telling;
 
 pub use ending::NodesEnd;
 pub use running::serve_nodes;

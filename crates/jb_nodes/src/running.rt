@@ -10,6 +10,7 @@ ghost use Rattle.jb_nodes.specs.Working.{AreAllOf, GivesUp, RunsOn, WorkToTheEnd
 use crate::ending::NodesEnd;
 use crate::lines::{Room, open_lines, room_for, take_passes};
 use crate::parting::{part_nodes, part_packer};
+use crate::telling::tell_open;
 use jb_areas::{SharedAreas, abandon_areas, close_areas, open_areas};
 use jb_conf::Board;
 use jb_host::{Door, Host, HostError};
@@ -107,8 +108,10 @@ where
                 nodes: workers,
                 packer,
             };
+            tell_open(host, board, shared.live.as_slice());
             let door_failed = work(rt, alloc, host, board, &mut shared, crew);
             let is_doubtful = close_areas(host, board.areas.as_slice(), shared);
+            host.note("closed");
             Ok(NodesEnd {
                 is_doubtful,
                 door_failed,
@@ -123,7 +126,8 @@ where
 }
 
 /// A run with many nodes of the board that the settings file at this path says: each node serves callers at a door of its own, so many
-/// or as many as come, and the areas are packed meanwhile. Everything that the host handed out is back then.
+/// or as many as come, and the areas are packed meanwhile. The operator is told when callers may come, and when all is closed.
+/// Everything that the host handed out is back then.
 pub fn serve_nodes<T: Threads + Wait + Sync, H: Host>(
     rt: &T,
     alloc: Global,

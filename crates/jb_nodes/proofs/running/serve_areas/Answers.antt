@@ -39,7 +39,7 @@ work-door_failed-requires-clause-ours g c κs within =
     subst (AreAllOf shared.areas.items) (sym rows) (all_of_whole shared (board.nodes + 1) count c.requires.whole)
 
 pub close_areas-is_doubtful-requires-clause-areas : goal.close_areas-is_doubtful-requires-clause-areas
-close_areas-is_doubtful-requires-clause-areas g c = subst AreOpenable (sym c.as_slice.ensures) (are_openable c.args.board.now c.requires.board)
+close_areas-is_doubtful-requires-clause-areas g c = subst AreOpenable (sym c.as_slice-in-Ok.ensures) (are_openable c.args.board.now c.requires.board)
 
 pub close_areas-is_doubtful-requires-clause-whole : goal.close_areas-is_doubtful-requires-clause-whole
 close_areas-is_doubtful-requires-clause-whole g c =
@@ -58,17 +58,17 @@ close_areas-is_doubtful-requires-clause-whole g c =
     (c.take_passes-passes.ensures.taken ∙ ap (λ (n : ℕ). get_or left n []) at) in
     let now = c.work-door_failed.new.shared.nodes in
     let worked = c.work-door_failed.ensures.worked in
-    let same_areas : c.work-door_failed.new.shared ≡ record { areas = shared.areas; nodes = now; rooms = shared.rooms } = c.work-door_failed.ensures.areas in
+    let same_areas : c.work-door_failed.new.shared ≡ record shared { nodes = now } = c.work-door_failed.ensures.areas in
     let keep : AllKeepStarts (lists_of shared.nodes.items) (lists_of now.items)
     = subst (λ (l : Rows). AllKeepStarts l (lists_of now.items)) rows
-    (λ n within. work_keeps (g.H.Host.desk c.clock-clock.new.self).reading board (gates_of g.H.Door.Door.gate workers) worked.gates_after (g.H.Bell.Bell.rings c.in-Ok.bell) worked.rings_after
+    (λ n within. work_keeps (g.H.Host.desk c.tell_open.new.host).reading board (gates_of g.H.Door.Door.gate workers) worked.gates_after (g.H.Bell.Bell.rings c.in-Ok.bell) worked.rings_after
     (map passes_of workers ++ passes ∷ []) (lists_of now.items) worked.tallies worked.works n within) in
     let ours : AreAllOf shared.areas.items (lists_of now.items)
     = subst (λ (s : SharedAreas D). AreAllOf s.areas.items (lists_of now.items)) same_areas c.work-door_failed.ensures.ours in
-    let whole : AreWhole (record { areas = shared.areas; nodes = now; rooms = shared.rooms }) (board.nodes + 1) count
+    let whole : AreWhole (record shared { nodes = now }) (board.nodes + 1) count
     = whole_after shared now (board.nodes + 1) count c.requires.whole worked.works.ended ours keep in
     subst (λ (s : SharedAreas D). AreWhole s (length s.nodes.items) (length s.areas.items)) (sym same_areas)
-    (whole_own (record { areas = shared.areas; nodes = now; rooms = shared.rooms }) (board.nodes + 1) count whole)
+    (whole_own (record shared { nodes = now }) (board.nodes + 1) count whole)
 
 pub part_nodes-requires-clause-lists : goal.part_nodes-requires-clause-lists
 part_nodes-requires-clause-lists g c = omega (arith, c.in-Err.ensures.few, c.in-Err.ensures.lists, c.requires.whole.lists)
@@ -82,7 +82,7 @@ abandon_areas-requires-clause-whole g c =
     let shared = c.args.shared in
     let now = c.part_nodes.new.nodes in
     let count : ℕ = length c.args.board.now.areas in
-    whole_own (record { areas = shared.areas; nodes = now; rooms = shared.rooms }) (c.args.board.now.nodes + 1) count
+    whole_own (record shared { nodes = now }) (c.args.board.now.nodes + 1) count
     (whole_same shared now (c.args.board.now.nodes + 1) count c.requires.whole (c.part_nodes.ensures.rows ∙ c.in-Err.ensures.rows))
 
 pub returns-in-Ok-clause-ok : goal.returns-in-Ok-clause-ok
@@ -102,28 +102,30 @@ returns-in-Ok-clause-ok g c =
     (c.take_passes-passes.ensures.taken ∙ ap (λ (n : ℕ). get_or left n []) at) in
     let now = c.work-door_failed.new.shared.nodes in
     let worked = c.work-door_failed.ensures.worked in
-    let same_areas : c.work-door_failed.new.shared ≡ record { areas = shared.areas; nodes = now; rooms = shared.rooms } = c.work-door_failed.ensures.areas in
+    let same_areas : c.work-door_failed.new.shared ≡ record shared { nodes = now } = c.work-door_failed.ensures.areas in
     let keep : AllKeepStarts (lists_of shared.nodes.items) (lists_of now.items)
     = subst (λ (l : Rows). AllKeepStarts l (lists_of now.items)) rows
-    (λ n within. work_keeps (g.H.Host.desk c.clock-clock.new.self).reading board (gates_of g.H.Door.Door.gate workers) worked.gates_after (g.H.Bell.Bell.rings c.in-Ok.bell) worked.rings_after
+    (λ n within. work_keeps (g.H.Host.desk c.tell_open.new.host).reading board (gates_of g.H.Door.Door.gate workers) worked.gates_after (g.H.Bell.Bell.rings c.in-Ok.bell) worked.rings_after
     (map passes_of workers ++ passes ∷ []) (lists_of now.items) worked.tallies worked.works n within) in
     let ours : AreAllOf shared.areas.items (lists_of now.items)
     = subst (λ (s : SharedAreas D). AreAllOf s.areas.items (lists_of now.items)) same_areas c.work-door_failed.ensures.ours in
-    let whole : AreWhole (record { areas = shared.areas; nodes = now; rooms = shared.rooms }) (board.nodes + 1) count
+    let whole : AreWhole (record shared { nodes = now }) (board.nodes + 1) count
     = whole_after shared now (board.nodes + 1) count c.requires.whole worked.works.ended ours keep in
     let old = g.H.Host.desk c.args.host.now in
-    let rung = g.H.Host.desk c.clock-clock.new.self in
+    let rung = g.H.Host.desk c.tell_open.new.host in
     let end = g.H.Host.desk c.work-door_failed.new.host in
-    let new = g.H.Host.desk c.close_areas-is_doubtful.new.host in
+    let closed = g.H.Host.desk c.close_areas-is_doubtful.new.host in
+    let new = g.H.Host.desk c.note.new.self in
     let doubtful = c.close_areas-is_doubtful.result in
     let ready = subst (λ (d : Desk). OpensLines g.H.Door.Door.gate g.H.Clock.Clock.reading board c.args.calls (g.H.Bell.Bell.rings c.in-Ok.bell) workers old d)
-    (sym c.clock-clock.ensures.same) opened in
+    (sym (c.tell_open.ensures ∙ c.clock-clock.ensures.same)) opened in
     let as_many : length c.work-door_failed.new.shared.areas.items ≡ count = ap (λ (s : SharedAreas D). length s.areas.items) same_areas ∙ c.requires.whole.areas in
-    let all : take (length c.work-door_failed.new.shared.areas.items) c.as_slice.result.now ≡ board.areas
-    = ap (λ (l : List BoardArea). take (length c.work-door_failed.new.shared.areas.items) l) c.as_slice.ensures ∙ ap (λ (n : ℕ). take n board.areas) as_many ∙ take-length board.areas in
+    let all : take (length c.work-door_failed.new.shared.areas.items) c.as_slice-in-Ok.result.now ≡ board.areas
+    = ap (λ (l : List BoardArea). take (length c.work-door_failed.new.shared.areas.items) l) c.as_slice-in-Ok.ensures ∙ ap (λ (n : ℕ). take n board.areas) as_many ∙ take-length board.areas in
     runs_on g.H.Door.Door.gate g.H.Clock.Clock.reading board c.args.calls (g.H.Bell.Bell.rings c.in-Ok.bell) workers old rung end new
     (map passes_of workers ++ passes ∷ []) (lists_of shared.nodes.items) (lists_of now.items) doubtful c.work-door_failed.result ready rows worked
-    (subst (λ (l : List BoardArea). ClosesAll l (lists_of now.items) end new doubtful) all c.close_areas-is_doubtful.ensures)
+    (subst (λ (d : Desk). ClosesAll board.areas (lists_of now.items) end d doubtful) (sym c.note.ensures)
+    (subst (λ (l : List BoardArea). ClosesAll l (lists_of now.items) end closed doubtful) all c.close_areas-is_doubtful.ensures))
 
 pub returns-in-Err-clause-err : goal.returns-in-Err-clause-err
 returns-in-Err-clause-err g c =
