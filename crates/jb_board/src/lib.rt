@@ -7,6 +7,7 @@
 
 mod command;
 mod fault;
+mod meaning;
 mod number;
 mod top;
 

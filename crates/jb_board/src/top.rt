@@ -8,6 +8,7 @@ ghost use Rattle.jb_board.specs.declared.fault.Fault.TheVariants.{OutOfMemory as
 
 use crate::command::{CommandLine, command};
 use crate::fault::Fault;
+use crate::meaning::explain;
 use jb_base::{Bytes, OutOfMemory};
 use jb_host::{Clock, Door, Host, HostError, Link, send};
 use jb_load::load_in_memory;
@@ -156,6 +157,20 @@ fn print<L: Link>(console: &mut L, answer: &Result<Outcome, Fault>) -> u8
     }
 }
 
+/// Tells the operator in words why a run is refused, where it is.
+fn tell_refusal<H: Host>(
+    alloc: Global,
+    host: &mut H,
+    words: &[String],
+    answer: &Result<Outcome, Fault>,
+)
+    ensures { H.desk host.new ≡ H.desk host.old }
+{
+    if let Err(fault) = answer {
+        explain(alloc, host, words, *fault);
+    }
+}
+
 /// The whole program: answers the words at the moment that the host's clock shows, prints on the host's console, serves a caller there
 /// or many at the host's doors, and gives the exit status.
 ///
@@ -163,7 +178,8 @@ fn print<L: Link>(console: &mut L, answer: &Result<Outcome, Fault>) -> u8
 /// command line. 2: the settings are refused. 3: the base is refused. 4: its disk failed, or an area is in doubt behind a session or a
 /// run with many nodes. 5: the host, the console or a door failed. 6: want of memory. 7: a session that was ended by three refused
 /// log-ins, or took all that it may take. Under a status other than 0 the console has one line that begins with `fault`, or, where the
-/// console itself failed, a beginning of what was to be printed; but nothing is printed behind a session or a run with many nodes.
+/// console itself failed, a beginning of what was to be printed; but nothing is printed behind a session or a run with many nodes. What the refusal means is told the operator where the host has
+/// a way to (`Host::note`).
 /// Nothing is read from the console but by a session. The host is asked for the disk of the base alone, at most once, or for the
 /// settings and then for the disk of each area, in order, and then for the doors of all nodes and the bell where many are served, and
 /// has all back when the call returns.
@@ -188,5 +204,6 @@ where
     let mut console = host.console();
     let status = print(&mut console, &answer);
     host.put_console(console);
+    tell_refusal(alloc, host, words, &answer);
     status
 }

@@ -24,5 +24,5 @@ returns g c =
       console_is = c.console-console.ensures.was;
       console_after = _;
       printed = c.print-status.ensures;
-      left = c.put_console.ensures ∙ ap (λ (d : Desk). record d { console = back }) c.console-console.ensures.out;
+      left = c.tell_refusal.ensures ∙ c.put_console.ensures ∙ ap (λ (d : Desk). record d { console = back }) c.console-console.ensures.out;
     }
