@@ -2,18 +2,21 @@
 
 use crate::files::{BaseFiles, file_named};
 use crate::parts::Parts;
+use crate::serving::Entrance;
 use jb_base::Bytes;
 use jb_disk::MemDisk;
 use std::alloc::Global;
 use trial_rows::{Row, RowError, shown};
 
-/// Named bytes, the files of one base, and of an earlier moment, and how many calls the last tool made of its disk.
+/// Named bytes, the files of one base, and of an earlier moment, and how many calls the last tool made of its disk; and what a host
+/// with doors is given.
 #[derive(Debug, Drop)]
 pub struct Base {
     pub parts: Parts,
     pub files: BaseFiles,
     kept: BaseFiles,
     calls: u64,
+    pub entrance: Entrance,
 }
 
 impl Base {
@@ -24,6 +27,7 @@ impl Base {
             files: BaseFiles::new(alloc),
             kept: BaseFiles::new(alloc),
             calls: 0,
+            entrance: Entrance::new(alloc),
         }
     }
 

@@ -9,6 +9,7 @@ mod loading;
 mod parts;
 mod real;
 mod running;
+mod serving;
 mod using;
 
 use base::Base;
@@ -42,6 +43,10 @@ fn answer<R: Threads + Wait + Sync>(
         "stopped-make" => going::stopped_make(alloc, &row, base),
         "board" => running::run(rt, alloc, &row, base),
         "session" => running::session(rt, alloc, &row, base),
+        "door" => serving::door(alloc, &row, base),
+        "bell" => serving::bell(alloc, &row, base),
+        "nodes" => serving::nodes(rt, alloc, &row, base),
+        "sent" => serving::sent(alloc, &row, base),
         "load" => loading::load(alloc, &row),
         "load-on-disk" => loading::load_on_disk(alloc, &row, base),
         "real" => real::answer(files, alloc, &row, base),

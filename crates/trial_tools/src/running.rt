@@ -14,7 +14,7 @@ use trial_rows::{Row, RowError, shown};
 
 /// A host with the base `general` in the folder `a`, at this moment, on whose console this comes and which fails the calls with these
 /// numbers there.
-fn host(
+pub fn host(
     alloc: Global,
     general: MemDisk,
     moment: u32,
@@ -30,7 +30,7 @@ fn host(
 }
 
 /// The words of the command line; `-` is one of no characters.
-fn words(alloc: Global, row: &Row, from: usize) -> Result<Vec<String>, RowError> {
+pub fn words(alloc: Global, row: &Row, from: usize) -> Result<Vec<String>, RowError> {
     let mut words = Vec::new(alloc);
     for place in from..row.len() {
         let word = row.word(place)?;
@@ -49,7 +49,12 @@ fn printed(alloc: Global, host: &MemHost) -> Result<String, RowError> {
 }
 
 /// How the run ended. The base takes the files of its disk.
-fn ended(alloc: Global, status: u8, host: &MemHost, base: &mut Base) -> Result<String, RowError> {
+pub fn ended(
+    alloc: Global,
+    status: u8,
+    host: &MemHost,
+    base: &mut Base,
+) -> Result<String, RowError> {
     let Some(disk) = host.disk_at("a", "general") else {
         return Ok(String::from_str(alloc, "the disk is out")?);
     };

@@ -1,0 +1,58 @@
+//! Tries the workers of a server by rows of words: nodes serve callers on doors in memory while areas are packed, and two nodes serve
+//! callers who wait for one another. What was counted and sent is written, and what the base holds behind it.
+#![tactic(auto)]
+
+mod base;
+mod callers;
+mod crew;
+mod held;
+mod keeping;
+mod rows;
+mod serving;
+mod signals;
+
+use crate::rows::{Trial, answer};
+use std::alloc::Global;
+use std::io;
+use std::sync::Wait;
+use std::thread::Threads;
+use trial_rows::{Row, RowError};
+
+// The line that is written for this one.
+fn answered<T: Threads + Wait + Sync>(
+    rt: &T,
+    alloc: Global,
+    trial: &mut Trial,
+    line: &str,
+) -> Result<String, RowError> {
+    let row = Row::of(alloc, line)?;
+    answer(rt, alloc, trial, &row)
+}
+
+// The rows of trial_rows, in a loop of its own: what answers them here starts threads and waits for them.
+fn run<T: Threads + Wait + Sync + Input + Print>(
+    rt: &T,
+    alloc: Global,
+    trial: &mut Trial,
+) -> io::Result<()> {
+    for line in rt.lines(alloc) {
+        let line = line?;
+        let line = line.as_str();
+        if line.is_empty() || line.starts_with('#') {
+            println!(rt; "{line}")?;
+            continue;
+        }
+        match answered(rt, alloc, trial, line) {
+            Ok(text) => println!(rt; "{text}")?,
+            Err(error) => println!(rt; "no answer to '{line}': {error}")?,
+        }
+    }
+    Ok(())
+}
+
+fn main(rt: HostRuntime) -> io::Result<()> {
+    match Trial::new(rt.alloc()) {
+        Ok(mut trial) => run(&rt, rt.alloc(), &mut trial),
+        Err(_) => println!(rt; "out of memory"),
+    }
+}

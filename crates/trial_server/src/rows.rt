@@ -1,0 +1,199 @@
+//! The rows.
+
+use crate::base::{copied, empty, held, listed};
+use crate::callers::{Caller, caller_in, door_of, lines_from, numbers_from};
+use crate::held::{HeldDoor, Side};
+use crate::keeping::{Keeps, Worked};
+use crate::serving::{board_of, run};
+use crate::signals::Signals;
+use jb_base::Bytes;
+use jb_disk::MemDisk;
+use jb_host::{MemBell, MemDoor};
+use std::alloc::Global;
+use std::mem;
+use std::sync::Wait;
+use std::thread::Threads;
+use trial_rows::{Row, RowError, shown};
+
+/// Settings and a base; who waits for the next run, and what came of the last one.
+#[derive(Drop)]
+pub(crate) struct Trial {
+    settings: Bytes,
+    base: MemDisk,
+    failing: Vec<u64>,
+    callers: Vec<Caller>,
+    doors: Vec<MemDoor>,
+    worked: Vec<Worked>,
+    calls: u64,
+}
+
+// A word as a line.
+fn said(alloc: Global, word: &str) -> Result<String, RowError> {
+    Ok(String::from_str(alloc, word)?)
+}
+
+// The areas for which a bell is to ring, from this place of a row on.
+fn rings_from(alloc: Global, row: &Row, place: usize) -> Result<Vec<u32>, RowError> {
+    let mut rings = Vec::new(alloc);
+    for at in place..row.len() {
+        rings.push(row.u32(at)?)?;
+    }
+    Ok(rings)
+}
+
+impl Trial {
+    /// No settings, and an empty base.
+    pub(crate) fn new(alloc: Global) -> Result<Trial, RowError> {
+        Ok(Trial {
+            settings: Bytes::new(alloc),
+            base: empty(alloc)?,
+            failing: Vec::new(alloc),
+            callers: Vec::new(alloc),
+            doors: Vec::new(alloc),
+            worked: Vec::new(alloc),
+            calls: 0,
+        })
+    }
+
+    /// `settings LINE..`: the settings file, which has one area.
+    fn set_settings(&mut self, alloc: Global, row: &Row) -> Result<String, RowError> {
+        let settings = lines_from(alloc, row, 1, b"\n")?;
+        let users = board_of(alloc, settings.as_slice())?.users.as_slice().len();
+        self.settings = settings;
+        Ok(format!(in alloc; "{users} users")?)
+    }
+
+    /// `base`: a base without a message.
+    fn set_base(&mut self, alloc: Global) -> Result<String, RowError> {
+        self.base = empty(alloc)?;
+        said(alloc, "base")
+    }
+
+    /// `disk CALL..`: these calls of the disk fail in the next run.
+    fn set_disk(&mut self, alloc: Global, row: &Row) -> Result<String, RowError> {
+        self.failing = numbers_from(alloc, row, 1)?;
+        said(alloc, "disk")
+    }
+
+    /// `call FAILING LINE..`: one caller more who waits.
+    fn add_caller(&mut self, alloc: Global, row: &Row) -> Result<String, RowError> {
+        self.callers.push(caller_in(alloc, row)?)?;
+        said(alloc, "call")
+    }
+
+    /// `door CALL..`: one node more, at whose door those who wait come in, and which fails these of its calls.
+    fn add_door(&mut self, alloc: Global, row: &Row) -> Result<String, RowError> {
+        let callers = mem::replace(&mut self.callers, Vec::new(alloc));
+        let failing = numbers_from(alloc, row, 1)?;
+        self.doors.push(door_of(alloc, callers, failing)?)?;
+        said(alloc, "door")
+    }
+
+    // All work at these doors and at this bell. The base is then what the disk holds.
+    fn work<T: Threads + Wait + Sync, R: Keeps + Drop + Send>(
+        &mut self,
+        rt: &T,
+        alloc: Global,
+        doors: Vec<R>,
+        bell: MemBell,
+    ) -> Result<String, RowError>
+    where
+        R::Link: Send,
+    {
+        let failing = mem::replace(&mut self.failing, Vec::new(alloc));
+        let disk = copied(alloc, &self.base, failing)?;
+        let ended = run(rt, alloc, self.settings.as_slice(), disk, doors, bell)?;
+        let stands = if ended.is_doubtful {
+            "in doubt"
+        } else {
+            "at rest"
+        };
+        let packs = ended.packs;
+        self.worked = ended.nodes;
+        self.calls = ended.disk.calls();
+        self.base = ended.disk;
+        Ok(format!(in alloc; "{packs} packed, {stands}")?)
+    }
+
+    /// `serve AREA..`: the nodes serve, while the bell rings for these areas.
+    fn serve<T: Threads + Wait + Sync>(
+        &mut self,
+        rt: &T,
+        alloc: Global,
+        row: &Row,
+    ) -> Result<String, RowError> {
+        let doors = mem::replace(&mut self.doors, Vec::new(alloc));
+        let bell = MemBell::new(rings_from(alloc, row, 1)?);
+        self.work(rt, alloc, doors, bell)
+    }
+
+    /// `held`: two nodes serve the two who wait, and these wait for one another.
+    fn serve_held<T: Threads + Wait + Sync>(
+        &mut self,
+        rt: &T,
+        alloc: Global,
+    ) -> Result<String, RowError> {
+        let (Some(second), Some(first)) = (self.callers.pop(), self.callers.pop()) else {
+            return Err(RowError::Unknown(0));
+        };
+        let signals = Signals::new();
+        let mut doors = Vec::new(alloc);
+        doors.push(HeldDoor::new(alloc, &signals, Side::First, first))?;
+        doors.push(HeldDoor::new(alloc, &signals, Side::Second, second))?;
+        self.work(rt, alloc, doors, MemBell::new(Vec::new(alloc)))
+    }
+
+    // What the node of a row has done.
+    fn worked_in(&self, row: &Row) -> Result<&Worked, RowError> {
+        let place = (row.u32(1)? as usize).wrapping_sub(1);
+        match self.worked.get(place) {
+            Some(worked) => Ok(worked),
+            None => Err(RowError::Number(1)),
+        }
+    }
+
+    /// `tally NODE`: what it has counted.
+    fn tally(&self, alloc: Global, row: &Row) -> Result<String, RowError> {
+        let tally = self.worked_in(row)?.tally;
+        Ok(format!(in alloc; "{tally:?}")?)
+    }
+
+    /// `sent NODE CALL`: what was sent to this caller of the node.
+    fn sent(&self, alloc: Global, row: &Row) -> Result<String, RowError> {
+        let place = (row.u32(2)? as usize).wrapping_sub(1);
+        match self.worked_in(row)?.sent.get(place) {
+            Some(sent) => shown(alloc, sent.as_slice()),
+            None => Err(RowError::Number(2)),
+        }
+    }
+
+    /// `calls`: how many calls of the disk the last run made.
+    fn disk_calls(&self, alloc: Global) -> Result<String, RowError> {
+        let calls = self.calls;
+        Ok(format!(in alloc; "{calls}")?)
+    }
+}
+
+/// The line that is written for this row.
+pub(crate) fn answer<T: Threads + Wait + Sync>(
+    rt: &T,
+    alloc: Global,
+    trial: &mut Trial,
+    row: &Row,
+) -> Result<String, RowError> {
+    match row.word(0)? {
+        "settings" => trial.set_settings(alloc, row),
+        "base" => trial.set_base(alloc),
+        "disk" => trial.set_disk(alloc, row),
+        "call" => trial.add_caller(alloc, row),
+        "door" => trial.add_door(alloc, row),
+        "serve" => trial.serve(rt, alloc, row),
+        "held" => trial.serve_held(rt, alloc),
+        "tally" => trial.tally(alloc, row),
+        "sent" => trial.sent(alloc, row),
+        "calls" => trial.disk_calls(alloc),
+        "list" => listed(alloc, &trial.base),
+        "file" => held(alloc, &trial.base, row),
+        _ => Err(RowError::Unknown(0)),
+    }
+}

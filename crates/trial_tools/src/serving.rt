@@ -1,0 +1,116 @@
+//! Whole runs of the program with many nodes, over a host in memory with doors and a bell.
+ghost use Rattle.std.specs.Prelude.{IsSome};
+ghost use Rattle.jb_host.specs.Shelves.{memory_desk};
+
+use crate::base::{Base, failing};
+use crate::running::{ended, host, words};
+use jb_base::{Bytes, OutOfMemory};
+use jb_board::board;
+use jb_host::{MemBell, MemDoor, MemHost, MemLink};
+use std::alloc::Global;
+use std::mem;
+use std::sync::Wait;
+use std::thread::Threads;
+use trial_rows::{Row, RowError, shown};
+
+/// The doors and the bell that the next host is given, and the host of the last run.
+#[derive(Debug, Drop)]
+pub struct Entrance {
+    doors: Vec<MemDoor>,
+    bell: Option<MemBell>,
+    host: Option<MemHost>,
+}
+
+impl Entrance {
+    /// No doors and no bell.
+    pub fn new(alloc: Global) -> Entrance {
+        Entrance {
+            doors: Vec::new(alloc),
+            bell: None,
+            host: None,
+        }
+    }
+
+    /// The doors and the bell, of which none are left.
+    fn take(&mut self, alloc: Global) -> (Vec<MemDoor>, Option<MemBell>) {
+        let doors = mem::replace(&mut self.doors, Vec::new(alloc));
+        (doors, self.bell.take())
+    }
+}
+
+/// Gives the host these doors, in order, and the bell.
+fn furnish(
+    host: &mut MemHost,
+    doors: Vec<MemDoor>,
+    bell: Option<MemBell>,
+) -> Result<(), OutOfMemory>
+    requires { IsSome (memory_desk host.old).console }
+    ensures { IsSome (memory_desk host.new).console }
+{
+    for door in doors {
+        host.add_door(door)?;
+    }
+    if let Some(bell) = bell {
+        host.add_bell(bell);
+    }
+    Ok(())
+}
+
+/// `door FAILING INPUT..`: one door more for the next host, at which callers with these inputs come in, and which fails that call.
+pub fn door(alloc: Global, row: &Row, base: &mut Base) -> Result<String, RowError> {
+    let mut links = Vec::new(alloc);
+    for place in 2..row.len() {
+        let input = base.joined(alloc, row, place)?;
+        links.push(MemLink::new(alloc, input, Vec::new(alloc)))?;
+    }
+    let callers = links.len();
+    let door = MemDoor::new(alloc, links, failing(alloc, row, 1)?)?;
+    base.entrance.doors.push(door)?;
+    Ok(format!(in alloc; "{callers} to come")?)
+}
+
+/// `bell AREA..`: the bell of the next host, which rings for these areas.
+pub fn bell(alloc: Global, row: &Row, base: &mut Base) -> Result<String, RowError> {
+    let mut areas = Vec::new(alloc);
+    for place in 1..row.len() {
+        areas.push(row.u32(place)?)?;
+    }
+    let rings = areas.len();
+    base.entrance.bell = Some(MemBell::new(areas));
+    Ok(format!(in alloc; "{rings} to come")?)
+}
+
+/// `nodes MOMENT DISK SETTINGS WORD..`: a run of the words over the base, with these settings in `board.toml`, the doors and the bell,
+/// in which that call of its disk fails.
+pub fn nodes<R: Threads + Wait + Sync>(
+    rt: &R,
+    alloc: Global,
+    row: &Row,
+    base: &mut Base,
+) -> Result<String, RowError> {
+    let disk = base.disk(alloc, row, 2)?;
+    let settings = base.joined(alloc, row, 3)?;
+    let words = words(alloc, row, 4)?;
+    let (doors, bell) = base.entrance.take(alloc);
+    let mut host = host(alloc, disk, row.u32(1)?, Bytes::new(alloc), Vec::new(alloc))?;
+    host.add_settings("board.toml", settings)?;
+    furnish(&mut host, doors, bell)?;
+    let status = board(rt, alloc, words.as_slice(), &mut host);
+    let text = ended(alloc, status, &host, base)?;
+    base.entrance.host = Some(host);
+    Ok(text)
+}
+
+/// `sent NODE CALL`: what the last run sent to this caller at the door of the node, where the door is back.
+pub fn sent(alloc: Global, row: &Row, base: &Base) -> Result<String, RowError> {
+    let Some(host) = &base.entrance.host else {
+        return Err(RowError::Unknown(0));
+    };
+    let Some(door) = host.door_of(row.u32(1)?) else {
+        return Ok(String::from_str(alloc, "no door is back")?);
+    };
+    match door.hung().get((row.u32(2)? as usize).wrapping_sub(1)) {
+        Some(link) => shown(alloc, link.sent()),
+        None => Ok(String::from_str(alloc, "nobody was served")?),
+    }
+}
