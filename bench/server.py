@@ -74,7 +74,7 @@ class Server:
         with open(f"{folder}/board.toml", "w") as file:
             file.write(SETTINGS.format(port=self.port) + "".join(USER.format(n=n, digest=digest) for n in range(1, max(COUNTS) + 1)))
         os.sync()
-        self.child = subprocess.Popen([*before, program, "serve", "board.toml"], cwd=folder, start_new_session=True)
+        self.child = subprocess.Popen([*before, program, "serve", "board.toml"], cwd=folder, stderr=subprocess.DEVNULL, start_new_session=True)
         atexit.register(self.ends)
         connected(self.port, is_going=lambda: self.child.poll() is None, limit=OPENING).close()
         self.pid = self.child.pid if not before else child_of(self.child.pid)

@@ -73,7 +73,7 @@ class Sessions(Trial):
         if run["stdin"] is None:
             del run["stdin"]
             run["input"] = typed
-        return subprocess.run([self.program, *words], cwd=self.folder, stderr=subprocess.STDOUT, timeout=LIMIT, check=False, **run)
+        return subprocess.run([self.program, *words], cwd=self.folder, stderr=subprocess.PIPE, timeout=LIMIT, check=False, **run)
 
     def run(self, what, text, status, typed=b"", **run):
         try:
@@ -83,6 +83,9 @@ class Sessions(Trial):
             return
         self.is_so(f"{what}: what is sent", done.stdout, text)
         self.is_so(f"{what}: the status", done.returncode, status)
+        # a refusal is told in words too, in a line of its own
+        told = done.stderr.startswith(b"board: ") and done.stderr.count(b"\n")
+        self.is_so(f"{what}: the error output", told if done.stderr else 0, 1 if text and text.startswith(b"fault ") else 0)
 
 
 class Caller:
@@ -91,7 +94,7 @@ class Caller:
     def __init__(self, trial, what):
         self.trial, self.what, self.seen = trial, what, b""
         self.process = subprocess.Popen([trial.program, "local", "board.toml"], cwd=trial.folder, stdin=subprocess.PIPE,
-                                        stdout=subprocess.PIPE, stderr=subprocess.STDOUT, bufsize=0)
+                                        stdout=subprocess.PIPE, stderr=subprocess.DEVNULL, bufsize=0)
 
     def waits_for(self, text):
         """Reads on until as much was sent as this has, and looks whether it is this."""

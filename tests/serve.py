@@ -2,12 +2,13 @@
 """Tries `board serve CONF` of the built program on a port of this machine: what each of several callers is sent, how a run ends, and what
 the files then hold.
 
-usage: serve.py PROGRAM
+usage: serve.py PROGRAM [--kills N]
 
 The callers are sockets, each a Telnet client of one of three kinds (caller.py). Eight of them post, list, read, answer, mark and kill in
 three areas at once, while a ninth waits for a free node and the areas are packed. Then runs are killed at drawn moments while callers
 post, and callers who behave badly share a board with one who does not. What must be sent is made here from what was posted; the files
-are read by jam.py, which knows the tables of the JAM proposal and nothing of the program.
+are read by jam.py, which knows the tables of the JAM proposal and nothing of the program. Where N is given, as many runs are killed, at other
+moments, and nothing else is tried.
 """
 import os
 import random
@@ -24,13 +25,14 @@ import time
 import jam
 from caller import GUARD, PLAIN, TALKATIVE, Otherwise
 from served import Served, free_port, has_version_6, is_quiet, resets, together
-from trial import settings, with_limit
+from trial import settings, with_files, with_limit
 from visits import AREAS, CLIENTS, COUNT, NAMES, SYSOP, Hall, Post, Visit, password_of, users
 
 TOP = os.path.dirname(os.path.dirname(os.path.realpath(__file__)))
 NOBODY = 65534
 MOST_SESSION_BYTES = 16_777_216
 HOST_FAULT = b"fault 5 HostFault\n"
+GREETING = b"Test Board\r\nName: "
 
 
 def try_callers(trial):
@@ -144,11 +146,15 @@ class Poster:
             self.killing.is_killed = not any(known[number] is self.killing for number in live if number in known)
 
 
-def try_kills(trial):
-    """The program is ended at drawn moments while callers post, and begun again over the same bases: what was acknowledged is there."""
-    trial.has_bases()
-    draw, hall, since = random.Random(20), Hall(), int(time.time())
-    for turn, how in enumerate((signal.SIGKILL, signal.SIGKILL, signal.SIGTERM, signal.SIGKILL)):
+def try_kills(trial, runs=4):
+    """The program is ended at drawn moments while callers post, and begun again over the same bases: what was acknowledged is there. The bases
+    are new in every tenth run."""
+    draw, since = random.Random(16 + runs), int(time.time())
+    for turn in range(runs):
+        if turn % 10 == 0:
+            trial.has_bases()
+            hall = Hall()
+        how = signal.SIGTERM if turn % 4 == 2 else signal.SIGKILL
         what = f"run {turn + 1}, which is ended by {how.name}"
         trial.begins()
         posters = together((lambda n=n, seed=draw.random(): Poster(trial, hall, n, random.Random(seed))) for n in range(COUNT))
@@ -202,7 +208,7 @@ def try_rude(trial):
     waits = trial.caller("one more")
     trial.holds("three nodes are held, and five are free", is_quiet(waits))
     silent.line.close()
-    waits.reads(b"Test Board\r\nName: ")
+    waits.reads(GREETING)
     for caller in [polite] + five:
         caller.quits()
     trial.ends("after rude callers", -signal.SIGTERM, signal.SIGTERM)
@@ -271,7 +277,7 @@ def try_doubt(trial):
     """A disk that fails while callers are served: each is told so, and goes on, and the run ends with status 4."""
     trial.has_bases()
     trial.has_settings(settings(AREAS, users(), port=trial.port, nodes=2))
-    trial.begins("--calls", "0000000001", preexec_fn=with_limit(40))
+    trial.begins("--calls", "0000000001", nodes=2, preexec_fn=with_limit(40))
     callers = together((lambda n=n: trial.guest(n)) for n in range(2))
     for caller in callers:
         caller.answers(b"p", b"", b"To: ")
@@ -288,6 +294,32 @@ def try_doubt(trial):
     trial.is_so("nothing was posted", jam.read(f"{trial.folder}/areas", "general")[0].slots, [])
 
 
+def try_few_files(trial):
+    """The system has files for three callers: those who come then wait, and are served when others have left; no node is lost by that."""
+    trial.has_bases()
+    trial.has_settings(settings(AREAS, users(), port=trial.port, nodes=COUNT, pack_minutes=0))
+    trial.begins()
+    served = trial.caller("one who is served")
+    served.reads(GREETING)
+    files = len(os.listdir(f"/proc/{trial.process.pid}/fd")) - 1
+    served.line.close()
+    trial.ends("a run whose files are counted", -signal.SIGTERM, signal.SIGTERM)
+    trial.begins(preexec_fn=with_files(files + 3))
+    callers = [trial.caller(f"caller {n + 1} of 12") for n in range(12)]
+    for n in range(0, len(callers), 3):
+        for caller in callers[n:n + 3]:
+            caller.reads(GREETING)
+        trial.holds("who gets no file is sent nothing", n + 3 == len(callers) or is_quiet(callers[n + 3]))
+        for caller in callers[n:n + 3]:
+            caller.line.close()
+    for _ in range(2 * COUNT):
+        last = trial.caller("one who comes when all have left")
+        last.reads(GREETING)
+        last.line.close()
+    trial.ends("few files", -signal.SIGTERM, signal.SIGTERM)
+    trial.checks("few files")
+
+
 def try_example(trial):
     """The settings that are shown to an operator, at another port."""
     shutil.rmtree(f"{trial.folder}/areas")
@@ -295,9 +327,9 @@ def try_example(trial):
     trial.is_so("a base is made", trial.ended("make", "areas", "general"), (b"", 0))
     with open(f"{TOP}/examples/board.toml") as file:
         text = file.read()
-    trial.holds("the port that is shown", "\nport = 2323\n" in text)
+    trial.holds("the port and the nodes that are shown", "\nport = 2323\n" in text and "\nnodes = 4\n" in text)
     trial.has_settings(text.replace("port = 2323", f"port = {trial.port}"))
-    trial.begins()
+    trial.begins(areas=("general",), nodes=4)
     caller = trial.caller("Ada", PLAIN)
     caller.logs_in(b"Ada", b"good morning", b"A Small Board")
     caller.enters(b"1", b"[general] ")
@@ -305,14 +337,20 @@ def try_example(trial):
     caller.quits()
     trial.ends("the settings that are shown", -signal.SIGTERM, signal.SIGTERM)
     trial.is_so("what is then listed", trial.ended("list", "areas", "general"), (b"       1  Ada > Sysop  A question\n", 0))
+    trial.begins("--calls", "1", areas=("general",), nodes=4)
+    together(lambda: trial.caller("who leaves").line.close() for _ in range(4))
+    trial.ends("the same, of which one message is live", 0)
 
 
-def main(program):
+def main(program, kills=None):
     folder = tempfile.mkdtemp()
+    tries = (try_callers, try_kills, try_rude, try_refusals, try_doubt, try_few_files, try_example)
+    if kills is not None:
+        tries = (lambda trial: try_kills(trial, kills),)
     try:
         shutil.copy(program, f"{folder}/board")
         trial = Served(f"{folder}/board", folder)
-        for tried in (try_callers, try_kills, try_rude, try_refusals, try_doubt, try_example):
+        for tried in tries:
             trial.tells_wrong(tried.__name__, lambda: tried(trial))
             trial.is_gone()
     finally:
@@ -321,6 +359,9 @@ def main(program):
 
 
 if __name__ == "__main__":
-    if len(sys.argv) != 2:
+    words = sys.argv[1:]
+    if len(words) == 3 and words[1] == "--kills" and words[2].isdigit():
+        sys.exit(main(words[0], int(words[2])))
+    if len(words) != 1:
         sys.exit(__doc__)
-    sys.exit(main(sys.argv[1]))
+    sys.exit(main(words[0]))

@@ -55,7 +55,7 @@ class Served(Trial):
 
     def __init__(self, program, folder):
         super().__init__(program, folder)
-        self.port, self.process = free_port(), None
+        self.port, self.process, self.opening = free_port(), None, b""
 
     def has_bases(self):
         """Three empty bases, made by the program, and the settings."""
@@ -66,17 +66,23 @@ class Served(Trial):
         self.has_settings(settings(AREAS, users(), port=self.port, nodes=COUNT))
 
     def ended(self, *words, **run):
-        """What a run prints and its status."""
-        run = {"cwd": self.folder, "stdin": subprocess.DEVNULL, "stdout": subprocess.PIPE, "timeout": GUARD, **run}
+        """What a run prints and its status; the operator is told why it is refused, and nothing else."""
+        run = {"cwd": self.folder, "stdin": subprocess.DEVNULL, "stdout": subprocess.PIPE, "stderr": subprocess.PIPE, "timeout": GUARD, **run}
         try:
             done = subprocess.run([self.program, *words], check=False, **run)
         except subprocess.TimeoutExpired:
             return b"no end", None
+        told = done.stderr.count(b"\n") if done.stderr.startswith(b"board: ") else done.stderr
+        self.is_so(f"{words}: what the operator is told", told, 1 if done.stdout.startswith(b"fault ") else b"")
         return done.stdout, done.returncode
 
-    def begins(self, *words, **run):
+    def begins(self, *words, areas=AREAS, nodes=COUNT, **run):
+        """Begins to serve these areas, whose journals hold no change, with so many nodes."""
+        live = {area: len(jam.read(f"{self.folder}/areas", area)[0].live()) for area in areas}
+        self.opening = b"listening port %d nodes %d\n" % (self.port, nodes) + b"".join(
+            b"area %s live %d\n" % (area.encode(), live[area]) for area in areas)
         self.process = subprocess.Popen([self.program, "serve", "board.toml", *words], cwd=self.folder, stdin=subprocess.DEVNULL,
-                                        stdout=subprocess.PIPE, **run)
+                                        stdout=subprocess.PIPE, stderr=subprocess.PIPE, **run)
 
     def caller(self, name, client=BARE, host="127.0.0.1"):
         """One who is connected, and known by this name here."""
@@ -90,12 +96,13 @@ class Served(Trial):
         return caller
 
     def ends(self, what, status, how=None):
-        """Looks whether the run ends so, by itself or by this signal, and has printed nothing."""
+        """Looks whether the run ends so, by itself or by this signal, has printed nothing, and has told the operator what it opened with."""
         if how is not None:
             self.process.send_signal(how)
         try:
-            printed, _ = self.process.communicate(timeout=GUARD)
+            printed, told = self.process.communicate(timeout=GUARD)
             self.is_so(f"{what}: what is printed, and the status", (printed, self.process.returncode), (b"", status))
+            self.is_so(f"{what}: what the operator is told", told, self.opening + (b"closed\n" if how is None else b""))
         except subprocess.TimeoutExpired:
             self.holds(f"{what}: no end", False)
         self.is_gone()

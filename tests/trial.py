@@ -1,5 +1,5 @@
 """What the scripts here have in common: a count of what was looked at and what was otherwise, the settings of a small board, and files
-that cannot grow.
+that cannot grow or of which there are few.
 """
 import resource
 import signal
@@ -39,6 +39,11 @@ def with_limit(most):
         signal.signal(signal.SIGXFSZ, signal.SIG_IGN)
         resource.setrlimit(resource.RLIMIT_FSIZE, (most, most))
     return before
+
+
+def with_files(most):
+    """Before a program begins: it has no more files open at once."""
+    return lambda: resource.setrlimit(resource.RLIMIT_NOFILE, (most, most))
 
 
 class Trial:

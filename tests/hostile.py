@@ -1,0 +1,295 @@
+#!/usr/bin/env python3
+"""Tries `board serve CONF` of the built program with callers who mean harm, on a port of this machine: what one who behaves is sent meanwhile,
+what the program takes of memory, and what the files then hold.
+
+usage: hostile.py PROGRAM [--all]
+
+All but one of the 32 nodes have callers who send drawn bytes, commands of Telnet or commands of the menus, who send as much as a session
+takes, who are silent, close one half of the line or break off, or who ask on and never read. One posts and lists meanwhile in an area of
+their own. The bytes are drawn from fixed seeds, and with --all there are ten times as many.
+"""
+import os
+import random
+import resource
+import shutil
+import signal
+import socket
+import sys
+import tempfile
+import threading
+
+import jam
+from caller import GUARD
+from damage import memory_folder
+from local import one_message
+from served import Served, resets, together
+from trial import settings
+from visits import AREAS, COUNT, NAMES, password_of, users
+
+NODES = 32
+MOST_SESSION_BYTES = 16_777_216
+# what is heard at once, and the commands in it at most: all that these are answered is kept until it is sent
+PIECE_BYTES, PIECE_COMMANDS = 4096, 2048
+# what a caller costs in memory besides, and what the program may have more or less of it by itself
+CALLER_BYTES, SLACK_BYTES = 131_072, 4_194_304
+OWN = AREAS[-1]
+# the longest text that a base may hold
+LETTER_BYTES = 1_048_576
+
+
+def drawn_bytes(draw, size):
+    return draw.randbytes(size)
+
+
+def drawn_telnet(draw, size):
+    """Commands of Telnet with their options, subnegotiations that end or do not, and text between."""
+    parts = [b"\xff" + bytes((draw.randrange(240, 256),)) + draw.randbytes(draw.randrange(3)) for _ in range(size // 8)]
+    parts += [b"\xff\xfa" + draw.randbytes(draw.randrange(40)) + draw.choice((b"\xff\xf0", b"")) for _ in range(size // 60)]
+    parts += [draw.choice((b"Ada\r\0", b"\xff\xff", b"\x08\x7f", b"q\n", b"\r\n")) for _ in range(size // 16)]
+    draw.shuffle(parts)
+    return b"".join(parts)
+
+
+def drawn_commands(draw, size):
+    """One of the users logs in, and types commands with numbers of all sizes, answers to what may be asked, and what is no command."""
+    n = draw.randrange(COUNT)
+    numbers = (b"", b"0", b"1", b"2", b"7", b"20", b"4294967295", b"4294967296", b"9" * 77, b"-1", b" 3 ")
+    typed = [NAMES[n], password_of(NAMES[n]), b"1"]
+    while sum(map(len, typed)) < size:
+        letter = draw.choice((b"a", b"b", b"k", b"l", b"m", b"n", b"p", b"r", b"t", b"x", b"y", b"z", b"", b"?", b"1", b"2", b".", b"!", b"All",
+                              draw.randbytes(draw.randrange(90)).replace(b"\xff", b"")))
+        typed.append(letter + draw.choice((b"", b" ")) + draw.choice(numbers))
+        if letter in (b"p", b"r") and draw.randrange(2):
+            typed += [b"p", draw.choice((b"All", b"Ada", b"x" * 78)), b"drawn", b"n", b"text", b"."]
+    return b"".join(line + draw.choice((b"\r\n", b"\r\0", b"\n")) for line in typed if line not in (b"q", b"Q"))
+
+
+class Hostile(Served):
+    """Runs of `serve` with 32 nodes, and what they take of memory."""
+
+    def begins(self, *words, **run):
+        """A run over empty bases, in which each node had a caller who left; what it has of memory then is what the rest is measured by."""
+        self.has_bases()
+        self.has_settings(settings(AREAS, users(), port=self.port, nodes=NODES))
+        super().begins(*words, nodes=NODES, **run)
+        for caller in together((lambda n=n: self.guest(n % COUNT)) for n in range(NODES)):
+            caller.quits()
+        self.before, self.posted = self.of_memory(), {}
+
+    def of_memory(self, name="VmHWM"):
+        """The most bytes of memory that the run has had, or of addresses."""
+        with open(f"/proc/{self.process.pid}/status", encoding="ascii") as file:
+            return next(int(line.split()[1]) * 1024 for line in file if line.startswith(name + ":"))
+
+    def user(self, n):
+        """One of the users, in the one area that there is."""
+        caller = self.caller(NAMES[n].decode())
+        caller.logs_in(NAMES[n], password_of(NAMES[n]))
+        caller.enters(b"1", b"[large] ")
+        return caller
+
+    def takes_at_most(self, what, size):
+        grown = self.of_memory() - self.before
+        print(f"{what}: {grown // 1024} KB of memory more than 32 callers who behave, {(size + SLACK_BYTES) // 1024} KB at most")
+        self.holds(f"{what}: {grown} bytes of memory more, where {size + SLACK_BYTES} are the most", grown <= size + SLACK_BYTES)
+
+    def behaves(self, caller, is_going, least=10):
+        """Posts and lists in an area where nobody else does, so often at least and while the others go on, and leaves."""
+        turn = 0
+        while turn < least or is_going():
+            number = caller.posts(b"All", b"post %d" % turn, [b"a line"], False, b"[%s] " % OWN.encode())
+            self.posted[number] = b"post %d" % turn
+            listed = b"".join(b"%8d  Ada > All  %s\r\n" % it for it in sorted(self.posted.items())[-3:])
+            caller.answers(b"l %d" % max(1, number - 2), listed, b"[%s] " % OWN.encode())
+            turn += 1
+        caller.quits()
+
+    def ends_well(self, what):
+        """Ends the run, and looks whether all bases hold together and what was posted is there."""
+        for caller in together((lambda n=n: self.guest(n)) for n in range(COUNT)):
+            caller.quits()
+        self.ends(what, -signal.SIGTERM, signal.SIGTERM)
+        self.checks(what)
+        live = jam.read(f"{self.folder}/areas", OWN)[0].live()
+        self.is_so(f"{what}: what was posted", {number: message.first(6) for number, message in live.items()}, self.posted)
+
+    def with_others(self, what, does):
+        """Does all of these at once, each in a thread, while one behaves; gives what each answers."""
+        polite, done = self.guest(0, OWN), []
+        threads = [threading.Thread(target=self.tells_wrong, args=(what, lambda it=it: done.append(it()))) for it in does]
+        for thread in threads:
+            thread.start()
+        self.behaves(polite, lambda: any(thread.is_alive() for thread in threads))
+        for thread in threads:
+            thread.join()
+        return done
+
+
+def pours(line, data, draw):
+    """Sends all of this in drawn pieces and reads what comes, until the board hangs up; then ends the line in a drawn way."""
+    at = 0
+    line.setblocking(False)
+    try:
+        while at < len(data):
+            at += tried(lambda: line.send(data[at:at + draw.randrange(1, 3000)]), 0)
+            if tried(lambda: line.recv(65536), None) == b"":
+                return at
+        line.settimeout(GUARD)
+        end = draw.randrange(3)
+        if end == 0:
+            resets(line)
+        elif end == 1:
+            line.shutdown(socket.SHUT_WR)
+            while line.recv(65536):
+                pass
+    except ConnectionError:
+        pass
+    finally:
+        line.close()
+    return at
+
+
+def tried(does, otherwise):
+    try:
+        return does()
+    except BlockingIOError:
+        return otherwise
+
+
+def try_noise(trial, many):
+    """Drawn bytes, drawn commands of Telnet and drawn commands of the menus, by 31 at once, one after another at each node."""
+    trial.begins()
+
+    def one(seed):
+        draw = random.Random(seed)
+        made, size = ((drawn_bytes, 40_000), (drawn_telnet, 40_000), (drawn_commands, 3000))[seed % 3]
+        for _ in range(many):
+            pours(trial.caller("one who sends noise").line, made(draw, size), draw)
+    trial.with_others("noise", [lambda seed=seed: one(seed) for seed in range(NODES - 1)])
+    trial.takes_at_most("noise", (NODES - 1) * (CALLER_BYTES + PIECE_COMMANDS * 256))
+    trial.ends_well("noise")
+
+
+def try_limit(trial, many):
+    """As much as a session takes, of bytes that make no line, at several nodes."""
+    trial.begins()
+    kinds = (b"\xff\xfa" + bytes(65534), b"\0" * 65536, b"a" * 65536, b"a\x08" * 32768, b"\xff\xfd\x63" * 21845)
+
+    def one(kind):
+        line, sent = trial.caller("one who sends all that is taken").line, 0
+        reader = threading.Thread(target=drains, args=(line,))
+        reader.start()
+        try:
+            while sent <= 2 * MOST_SESSION_BYTES:
+                sent += line.send(kind)
+        except (ConnectionError, TimeoutError):
+            pass
+        reader.join(GUARD)
+        line.close()
+        return sent
+    sent = trial.with_others("the limit", [lambda kind=kind: one(kind) for kind in kinds * min(many, 5)])
+    trial.holds(f"the limit: hung up when a session is spent: {sent}", all(MOST_SESSION_BYTES <= it < 2 * MOST_SESSION_BYTES for it in sent))
+    trial.takes_at_most("the limit", len(sent) * CALLER_BYTES)
+    trial.ends_well("the limit")
+
+
+def drains(line):
+    """Reads until the board hangs up, and says whether it did before nothing came for long."""
+    try:
+        while line.recv(65536):
+            pass
+    except TimeoutError:
+        return False
+    except OSError:
+        pass
+    return True
+
+
+def try_half_open(trial, many):
+    """Callers who are silent at all nodes but one, and others who wait, of whom some have closed one half, some all, some broke off."""
+    trial.begins()
+    silent = [trial.caller("one who says nothing") for _ in range(NODES - 1)]
+    for caller in silent:
+        caller.reads(b"Test Board\r\nName: ")
+    polite, waiting = trial.guest(0, OWN), []
+    for n in range(100):
+        caller = trial.caller("one who waits")
+        caller.types((b"", b"Ada\n", b"\xff", b"\xff\xfa", b"Ada\nx\n" * 3)[n % 5])
+        (caller.line.close, lambda it=caller: resets(it.line), lambda it=caller: it.line.shutdown(socket.SHUT_WR), lambda: None)[n % 4]()
+        if n % 4 > 1:
+            waiting.append(caller)
+    trial.behaves(polite, lambda: False)
+    for caller in silent[::2]:
+        caller.line.shutdown(socket.SHUT_WR)
+        trial.holds("half a line closed: hung up", drains(caller.line))
+    for caller in silent + waiting:
+        caller.line.close()
+    trial.takes_at_most("half-open lines", NODES * CALLER_BYTES)
+    trial.ends_well("half-open lines")
+
+
+def try_deaf(trial, many):
+    """Callers who ask for lists again and again and never read; a node is kept by each, and no other by them."""
+    trial.begins()
+    full = trial.guest(1, "general")
+    for n in range(20):
+        full.posts(b"All", b"s" * 72, [b"a line"])
+    full.quits()
+    page = 20 * (8 + 2 + 7 + 3 + 3 + 2 + 72 + 2) + 10
+
+    def one(n):
+        caller = trial.guest(1 + n % (COUNT - 1), "general")
+        caller.line.setsockopt(socket.SOL_SOCKET, socket.SO_RCVBUF, 4096)
+        caller.line.settimeout(1)
+        try:
+            while True:
+                caller.line.sendall(b"l\n" * PIECE_COMMANDS)
+        except OSError:
+            return caller
+    callers = trial.with_others("who never reads", [lambda n=n: one(n) for n in range(NODES - 1 if many > 1 else 8)])
+    trial.takes_at_most("who never reads", 2 * len(callers) * PIECE_COMMANDS * page)
+    for caller in callers:
+        caller.line.close()
+    trial.ends_well("who never reads")
+
+
+def try_hoarder(trial, many):
+    """One who asks for more than there is memory for is hung up, and nobody else: the addresses of the program are limited to what it needs
+    and some more."""
+    most = None
+    for run in ({}, {"preexec_fn": lambda: resource.setrlimit(resource.RLIMIT_AS, (most, most))}):
+        trial.is_gone()
+        trial.has_bases()
+        base = one_message()
+        base.slots[0].text = b"x" * LETTER_BYTES
+        jam.write(f"{trial.folder}/areas", "large", base)
+        trial.has_settings(settings(("large",), users(), port=trial.port, nodes=4))
+        Served.begins(trial, areas=("large",), nodes=4, **run)
+        others = together((lambda n=n: trial.user(n)) for n in range(3))
+        most = trial.of_memory("VmPeak") + 64 * LETTER_BYTES
+    hoarder = trial.user(3)
+    hoarder.types(b"1\n" * 200 * many)
+    trial.holds("a hoarder is hung up", drains(hoarder.line))
+    found = [caller.posts(b"All", b"post", [b"a line"], False, b"[large] ") for caller in others]
+    trial.is_so("beside a hoarder the others post", found, [2, 3, 4])
+    for caller in others + [trial.user(3)]:
+        caller.quits()
+    trial.ends("a hoarder", -signal.SIGTERM, signal.SIGTERM)
+
+
+def main(program, is_all):
+    folder = tempfile.mkdtemp(dir=memory_folder())
+    try:
+        trial = Hostile(os.path.realpath(program), folder)
+        for tried_ in (try_noise, try_limit, try_half_open, try_deaf, try_hoarder):
+            trial.tells_wrong(tried_.__name__, lambda: tried_(trial, 10 if is_all else 1))
+            trial.is_gone()
+    finally:
+        shutil.rmtree(folder)
+    return trial.tells("callers who mean harm")
+
+
+if __name__ == "__main__":
+    if len(sys.argv) < 2 or sys.argv[2:] not in ([], ["--all"]):
+        sys.exit(__doc__)
+    sys.exit(main(sys.argv[1], bool(sys.argv[2:])))

@@ -1,0 +1,97 @@
+#!/usr/bin/env python3
+"""Tries how many bytes the built program reads of bases that were made to cost much: no more than so many times their files.
+
+usage: reading.py PROGRAM
+
+The bases are as large as they may be, and whole, or with slots that name the same header. The counts are the system's (/proc/PID/io); where
+it tells none, a line says so.
+"""
+import itertools
+import os
+import random
+import shutil
+import struct
+import subprocess
+import sys
+import tempfile
+
+import jam
+from damage import header, memory_folder, named, subfields
+from trial import Trial
+
+MOST_SUBFIELD_BYTES = 262_144
+NAMES = named(b"Test", b"Hello", b"abc")
+# what is read of a program's own: it and the C library
+BESIDES = 65_536
+
+
+def counts():
+    return os.access("/proc/self/io", os.R_OK)
+
+
+class Readings(Trial):
+    """Lists of bases in one folder, and the bytes that they read."""
+
+    def has_base(self, headers, slots):
+        """These headers one behind another, and slots that name them by their place among these; gives the bytes of all files."""
+        starts = list(itertools.accumulate(map(len, headers), initial=1024))
+        fixed = b"JAM\0" + struct.pack("<5I", 10**9, 1, 1, jam.EMPTY, 1) + bytes(1000)
+        files = {"jhr": fixed + b"".join(headers), "jdx": b"".join(struct.pack("<II", 0, starts[at]) for at in slots), "jdt": b"", "jlr": b""}
+        for extension, data in files.items():
+            with open(f"{self.folder}/read.{extension}", "wb") as file:
+                file.write(data)
+        return sum(map(len, files.values()))
+
+    def lists(self):
+        """What a list prints, its status, and how many bytes it reads."""
+        with subprocess.Popen([self.program, "list", ".", "read"], cwd=self.folder, stdin=subprocess.DEVNULL, stdout=subprocess.PIPE,
+                              stderr=subprocess.DEVNULL) as child:
+            printed = child.stdout.read()
+            os.waitid(os.P_PID, child.pid, os.WEXITED | os.WNOWAIT)
+            with open(f"/proc/{child.pid}/io", encoding="ascii") as file:
+                read = int(file.readline().split()[1])
+            return printed, child.wait(), read
+
+    def reads(self, what, headers, slots, line, most):
+        """Looks whether this base is listed or refused so, and at most so many times its files are read, where that is bounded."""
+        size = self.has_base(headers, slots)
+        printed, status, read = self.lists()
+        wanted = (line, 3) if line else (b"".join(b"%8d  Test > Hello  abc\n" % (1 + n) for n in range(len(slots))), 0)
+        self.is_so(f"{what}: what is printed, and the status", (printed, status), wanted)
+        print(f"{what}: {size} bytes of files, {read} read, {read / size:.1f} times{'' if most else ', which is not bounded'}")
+        self.holds(f"{what}: {read} bytes read, where {most} times {size} are the most", most is None or read <= most * size + BESIDES)
+
+
+def try_readings(trial):
+    draw, small = random.Random(4), header(NAMES)
+    long = header(NAMES + subfields((99, bytes(MOST_SUBFIELD_BYTES - len(NAMES) - 8))))
+    overlap = b"fault 3.13 HeadersOverlap 1 2\n"
+    trial.reads("60,000 slots that name one long header", [long], [0] * 60_000, overlap, 4)
+    trial.reads("the same, its last slot another header", [long, small], [0] * 60_000 + [1], overlap, 4)
+    trial.reads("600 slots that name two long headers by turns", [long] * 2, [0, 1] * 300, b"fault 3.13 HeadersOverlap 1 3\n", None)
+    within = header(subfields((99, b""))[:4] + struct.pack("<I", 76), subfields=84 * 3120)
+    trial.reads("600 slots that name headers each within the one before", [within] * 3800, range(600), overlap, None)
+    trial.reads("200 long headers, each before the one of a lower number", [long] * 200, range(199, -1, -1), None, 4)
+    places = list(range(30_000))
+    trial.reads("small headers in their order", [small] * 30_000, places, None, 2)
+    draw.shuffle(places)
+    trial.reads("small headers in a drawn order", [small] * 30_000, places, None, 100)
+
+
+def main(program):
+    if not counts():
+        print("the bytes that are read were not counted: the system does not tell them")
+        return 0
+    folder = tempfile.mkdtemp(dir=memory_folder())
+    try:
+        trial = Readings(os.path.realpath(program), folder)
+        try_readings(trial)
+    finally:
+        shutil.rmtree(folder)
+    return trial.tells("bytes that are read")
+
+
+if __name__ == "__main__":
+    if len(sys.argv) != 2:
+        sys.exit(__doc__)
+    sys.exit(main(sys.argv[1]))
