@@ -175,7 +175,7 @@ def try_stops(trial, what, words, typed, printed_after):
     before, start = trial.plain(LIST)[0], trial.files()
     printed, _, trace = trial.traced(words, typed)
     trial.holds(f"{what}: it is done", printed_after in printed)
-    after = trial.plain(LIST)[0]
+    after, gates = trial.plain(LIST)[0], words_of(trace).count("gate opened, ")
     for call in DISK_CALLS:
         for at in range(1, 1 + sum(call + "(" in line for line in trace)):
             for how in ("signal=KILL", "error=EIO"):
@@ -184,7 +184,8 @@ def try_stops(trial, what, words, typed, printed_after):
                 where = f"{what}, {call} {at} with {how}"
                 trial.holds(f"{where}: the status {status}", status == (-signal.SIGKILL if how == "signal=KILL" else 4))
                 trial.holds(f"{where}: nothing is acknowledged", printed_after not in printed)
-                wanted = after if "gate opened, " in words_of(calls) else before
+                # a mark has a gate of its own, before that of the answer
+                wanted = after if words_of(calls).count("gate opened, ") == gates else before
                 trial.is_so(f"{where}: what is listed then", trial.plain(LIST), (wanted, 0))
                 trial.is_so(f"{where}: a check", trial.plain(("check", *LIST[1:])), (jam.figures(jam.read(trial.areas, "general")[0]), 0))
 
