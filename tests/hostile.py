@@ -51,9 +51,10 @@ def drawn_telnet(draw, size):
 
 
 def drawn_commands(draw, size):
-    """One of the users logs in, and types commands with numbers of all sizes, answers to what may be asked, and what is no command."""
+    """One of the users logs in, and types commands with numbers of all sizes, answers to what may be asked, and what is no command. None of the
+    numbers is that of the area where nobody else posts."""
     n = draw.randrange(COUNT)
-    numbers = (b"", b"0", b"1", b"2", b"7", b"20", b"4294967295", b"4294967296", b"9" * 77, b"-1", b" 3 ")
+    numbers = (b"", b"0", b"1", b"2", b"7", b"20", b"4294967295", b"4294967296", b"9" * 77, b"-1", b" 5 ")
     typed = [NAMES[n], password_of(NAMES[n]), b"1"]
     while sum(map(len, typed)) < size:
         letter = draw.choice((b"a", b"b", b"k", b"l", b"m", b"n", b"p", b"r", b"t", b"x", b"y", b"z", b"", b"?", b"1", b"2", b".", b"!", b"All",
