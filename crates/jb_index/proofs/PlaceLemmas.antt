@@ -81,7 +81,7 @@ find_filter p q (x ∷ xs) = by (q x) (p x) refl refl (find_filter p q xs)
     by false b qx px rest = rest
 
 -- where one passes, one is found
-is_some_find : {X : Type 0} (p : X → Bool) (xs : List X) (at : ℕ) (d : X) → at < length xs → p (get_or xs at d) ≡ true → is_some (find p xs) ≡ true
+pub is_some_find : {X : Type 0} (p : X → Bool) (xs : List X) (at : ℕ) (d : X) → at < length xs → p (get_or xs at d) ≡ true → is_some (find p xs) ≡ true
 is_some_find p [] at d within passes = absurd (omega arith)
 is_some_find p (x ∷ xs) zero d within passes = rw passes refl
 is_some_find p (x ∷ xs) (suc at) d within passes =

@@ -1,5 +1,5 @@
 -- How an index is held.
-use Rattle.std.specs.Prelude.{◌+◌, ◌≤◌, length}
+use Rattle.std.specs.Prelude.{◌≡◌, ◌+◌, ◌≤◌, length}
 use Rattle.jb_base.specs.declared.limits.TheConstants.{MOST_MARKS}
 use Rattle.jb_index.specs.Cut.{NumbersRise}
 use Rattle.jb_index.specs.Index.{AreaIndex}
@@ -21,4 +21,4 @@ pub record IsHeld (held : Inside) : Type 0 where
   pub counted : length held.summaries.items ≤ 4294967295
   pub few : length held.summaries.items ≤ held.rules.slots
   pub summaries_room : held.rules.slots ≤ length held.summaries.items + held.summaries.room
-  pub marks_room : MOST_MARKS ≤ length held.marks.marks + held.marks.room
+  pub marks_room : length held.marks.marks + held.marks.room ≡ MOST_MARKS

@@ -1,9 +1,13 @@
 pub mod Answer
 pub mod Area
+pub mod Change
 pub mod Cut
+pub mod Edit
 pub mod Index
 pub mod Inside
 pub mod Laws
 pub mod Making
+pub mod Orphan
+pub mod Room
 pub mod Thread
 pub mod Wanted

@@ -2,14 +2,18 @@
 ghost use Rattle.std.specs.Prelude.{◌≡◌, ◌+◌, ◌≤◌, ℕ, [], List, IfOk, length, map, take};
 ghost use Rattle.jb_base.specs.declared.limits.TheConstants.{MOST_MARKS};
 ghost use Rattle.jb_index.specs.Answer.{answer_to, figures_to, first_from, last_of, high_of, listed_to, mark_in, received_by, thread_to, unread_to};
+ghost use Rattle.jb_index.specs.Edit.{absorbed, edited};
 ghost use Rattle.jb_index.specs.Index.{index_of, parents_in};
+ghost use Rattle.jb_index.specs.declared.op.OpEdit.TheVariants.{Put, Drop as Dropping, Parent, Attribute, Mark as Marking, Reset};
 ghost use Rattle.jb_model.specs.Sound.{IsSound};
 ghost use Rattle.jb_model.specs.State.{state_of};
 
+use crate::editing::{put, refill, remove, set_attribute, set_parent};
 use crate::listing::{count_wanted, first_wanted};
 use crate::making::summaries_of;
 use crate::shown::Wanted;
 use crate::threads::first_of_thread;
+use crate::{Op, OpEdit};
 use jb_base::{AreaRules, MOST_MARKS, OutOfMemory, User};
 use jb_crc::jam_crc;
 use jb_marks::Marks;
@@ -46,7 +50,7 @@ impl Model for Index {
 fn roomy_marks(alloc: Global, from: &[Mark]) -> Result<Marks, OutOfMemory>
     requires { length from.now ≤ MOST_MARKS }
     ensures marks { IfOk result (λ marks. marks.marks ≡ from.now) }
-    ensures room { IfOk result (λ marks. MOST_MARKS ≤ length marks.marks + marks.room) }
+    ensures room { IfOk result (λ marks. length marks.marks + marks.room ≡ MOST_MARKS) }
 {
     let mut marks = Marks::copy(alloc, from)?;
     marks.reserve(MOST_MARKS - from.len() as u32)?;
@@ -79,6 +83,84 @@ impl Index {
             rules,
             alloc,
         })
+    }
+
+    /// Does what an op says, edit by edit. It takes no memory and nothing in it fails: an edit that does not fit the room
+    /// changes nothing, and one of an area's own changes always fits.
+    pub fn absorb(&mut self, op: &Op)
+        ensures { self.new ≡ absorbed self.old op.now }
+    {
+        for edit in op.as_slice() {
+            self.apply(edit);
+        }
+    }
+
+    /// Does one edit.
+    fn apply(&mut self, edit: &OpEdit)
+        ensures { self.new ≡ edited self.old edit.now }
+    {
+        match edit {
+            OpEdit::Put(one) => self.put(one),
+            OpEdit::Drop { number } => self.drop_number(*number),
+            OpEdit::Parent { number, parent } => self.set_parent(*number, *parent),
+            OpEdit::Attribute { number, attribute } => self.set_attribute(*number, *attribute),
+            OpEdit::Base { base } => self.base = *base,
+            OpEdit::Mark(mark) => self.set_mark(mark),
+            OpEdit::Reset(other) => self.reset(other),
+        }
+    }
+
+    /// Puts a summary in the place of the one with its number, or between the others, where there is room.
+    fn put(&mut self, one: &Summary)
+        ensures { self.new ≡ edited self.old (Put one.now) }
+    {
+        if put(&mut self.summaries, self.rules.slots, one) {
+            self.next = self.next.max(one.number.saturating_add(1));
+        }
+    }
+
+    /// Takes the summary with this number out.
+    fn drop_number(&mut self, number: u32)
+        ensures { self.new ≡ edited self.old (Dropping number) }
+    {
+        remove(&mut self.summaries, number);
+    }
+
+    /// Gives the message with this number another parent.
+    fn set_parent(&mut self, number: u32, parent: u32)
+        ensures { self.new ≡ edited self.old (Parent number parent) }
+    {
+        set_parent(&mut self.summaries, number, parent);
+    }
+
+    /// Gives the message with this number other bits of its attribute.
+    fn set_attribute(&mut self, number: u32, attribute: u32)
+        ensures { self.new ≡ edited self.old (Attribute number attribute) }
+    {
+        set_attribute(&mut self.summaries, number, attribute);
+    }
+
+    /// Sets a mark, where its pair has one or there is room.
+    fn set_mark(&mut self, mark: &Mark)
+        ensures { self.new ≡ edited self.old (Marking mark.now) }
+    {
+        let found = self.marks.find(mark.user_crc, mark.user_id);
+        if found.is_some() || self.marks.as_slice().len() < MOST_MARKS as usize {
+            self.marks.set(*mark);
+        }
+    }
+
+    /// Has all that another index has, but for its rules, where there is room.
+    fn reset(&mut self, other: &Index)
+        ensures { self.new ≡ edited self.old (Reset other.now) }
+    {
+        if other.summaries.len() > self.rules.slots as usize {
+            return;
+        }
+        refill(&mut self.summaries, &other.summaries);
+        self.marks.replace(&other.marks);
+        self.base = other.base;
+        self.next = other.next;
     }
 
     /// The user's mark.

@@ -7,21 +7,34 @@
 //! answer is what the area itself shows ([`answers_of_the_area`]). [`unread_in`] counts what a user has not read without an
 //! index.
 //!
-//! The summaries stand in pieces (`jb_tiered`), so that a change of one message can be made later without a copy of the
-//! others; there is room for as many as the area may have, and for as many marks.
+//! An index is made once and then follows its area: [`Op::of`] says what a call that was answered changes, from the area
+//! as it is loaded before the call, and [`Index::absorb`] makes the index of the area after it of that before it. An op
+//! is made before the change is committed, since it may want memory; `absorb` wants none, since [`Index::of`] has taken
+//! the room for as many summaries and marks as the area may ever have. [`OpEdit::Reset`] brings an index that was made anew,
+//! for an area that was reopened.
+//!
+//! The summaries stand in pieces (`jb_tiered`), so that a change of one message copies none of the others.
 //!
 //! Cost, in an area of n messages: [`Index::of`] takes one step a message, and sorts the marks. [`Index::listed`],
 //! [`Index::unread`] and [`Index::received`] make one search of log n steps for the first number, and then look at each
 //! message until they have enough; [`Index::figures`] and [`Index::unread_count`] look once at each. A thread is
 //! found by one walk from the lowest number to the highest, in which each parent is looked up by one search, and takes 4
-//! bytes a message while it lasts.
+//! bytes a message while it lasts. [`Index::absorb`] makes one or two searches of log n steps for each edit: an op of a post,
+//! a reading, a mark or a pack has one edit, one of a kill has one and one more for each answer to the message. Only a kill
+//! moves others, up to 256 within a piece and one for each 512 behind it, and a Reset copies all. [`Op::of`] takes the same
+//! time in each area, but for an answer, which looks at the messages up to the one that it answers, and a kill, which looks
+//! once at each.
 #![tactic(auto)]
 
+mod changes;
 mod counting;
+mod editing;
 mod index;
+mod kills;
 mod laws;
 mod listing;
 mod making;
+mod op;
 mod parents;
 mod shown;
 mod threads;
@@ -29,4 +42,5 @@ mod threads;
 pub use counting::unread_in;
 pub use index::Index;
 pub use laws::answers_of_the_area;
+pub use op::{Op, OpEdit};
 pub use parents::parents_of;

@@ -11,7 +11,7 @@ use jb_tiered::Tiered;
 use std::alloc::Global;
 
 /// How many of them have a number below this one.
-fn place_of(summaries: &Tiered<Summary>, number: u32) -> usize
+pub(crate) fn place_of(summaries: &Tiered<Summary>, number: u32) -> usize
     requires { NumbersRise summaries.now.items }
     ensures { IsCutAt summaries.now.items number result }
 {

@@ -6,8 +6,8 @@
 //!
 //! Cost: beside the marks stands an index of four bytes a mark. A `find` or a `place_of`, and a `set` of a pair that is
 //! there, look at about as many marks as their number has binary digits. A `set` of a new pair moves part of the index
-//! besides, and takes no memory. `copy` sorts the index; `reserve` moves marks and index where the room is not there
-//! yet; `as_slice` costs nothing.
+//! besides, and takes no memory. `copy` sorts the index, `replace` copies marks and index; `reserve` moves marks and index
+//! where the room is not there yet; `as_slice` costs nothing.
 #![tactic(auto)]
 
 mod marks;

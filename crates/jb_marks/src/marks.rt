@@ -4,7 +4,7 @@ ghost use Rattle.jb_base.specs.declared.limits.TheConstants.{MOST_MARKS};
 ghost use Rattle.jb_model.specs.Marks.{mark_of, with_mark};
 ghost use Rattle.jb_marks.specs.Places.{FindOthersAlike, IsPlaceOf};
 
-use crate::order::{append, ordered_places, search};
+use crate::order::{append, ordered_places, refill, search};
 use jb_base::OutOfMemory;
 use jb_model::Mark;
 use std::alloc::Global;
@@ -89,6 +89,18 @@ impl Marks {
                 self.room -= 1;
             }
         }
+    }
+
+    /// Has the marks of another in the place of its own, in the room that there is. It takes no memory and sorts nothing.
+    pub fn replace(&mut self, other: &Marks)
+        requires { length other.now.marks ≤ length self.old.marks + self.old.room }
+        ensures marks { self.new.marks ≡ other.now.marks }
+        ensures room { length self.new.marks + self.new.room ≡ length self.old.marks + self.old.room }
+    {
+        let places = self.items.len() as u32 + self.room;
+        refill(&mut self.items, &other.items);
+        refill(&mut self.order, &other.order);
+        self.room = places - other.items.len() as u32;
     }
 
     /// Makes room for so many marks more, where there is less.

@@ -102,3 +102,15 @@ pub(crate) fn append(items: &mut Vec<Mark>, order: &mut Vec<u32>, at: usize, mar
         unreachable!()
     };
 }
+
+/// Puts these in the place of those that are there, in the room that there is.
+pub(crate) fn refill<T: Copy>(list: &mut Vec<T>, from: &[T])
+    requires { length from.now ≤ vec_capacity list.old }
+    ensures items { list.new.items ≡ from.now }
+    ensures room { vec_capacity list.old ≤ vec_capacity list.new }
+{
+    list.clear();
+    for item in from {
+        list.push_reserved(*item);
+    }
+}

@@ -26,8 +26,8 @@ use crate::sizes::Sizes;
 use crate::testing::END;
 use jb_disk::{Disk, DiskFailed, FileId};
 
-/// Bytes that go from file to file at once.
-const CHUNK_BYTES: usize = 4_096;
+/// Bytes that go from file to file at once, at most.
+const CHUNK_BYTES: usize = 65_536;
 
 /// Copies so many bytes of a part as the chunk has, behind those that are copied.
 fn copy_chunk<D: Disk>(
@@ -56,12 +56,14 @@ fn copy_chunk<D: Disk>(
     disk.write_at(part.to, part.to_at + done, chunk)
 }
 
-/// Copies all bytes of a part.
-fn copy_part<D: Disk>(disk: &mut D, part: &Part) -> Result<(), DiskFailed>
+/// Copies all bytes of a part, as many at once as the buffer has.
+fn copy_part<D: Disk>(disk: &mut D, part: &Part, buffer: &mut [u8]) -> Result<(), DiskFailed>
     requires sound { IsSound part.now }
+    requires some { 0 < length buffer.old }
     requires room { ForSome (D.device disk.old).contents (HasRoom part.now) }
 
     // What a read gives then.
+    ensures size { length buffer.new ≡ length buffer.old }
     ensures ok { OnOk result ((D.device disk.new).contents
         ≡ option_map (copied part.now part.now.len) (D.device disk.old).contents) }
 
@@ -72,10 +74,9 @@ fn copy_part<D: Disk>(disk: &mut D, part: &Part) -> Result<(), DiskFailed>
     ensures later { (D.device disk.old).faults ≤ (D.device disk.new).faults }
     ensures cause { OnErr result (Rose (D.device disk.old).faults (D.device disk.new).faults) }
 {
-    let mut buffer = [0; CHUNK_BYTES];
     let mut done = 0;
     while done < part.len {
-        let count = (part.len - done).min(CHUNK_BYTES as u64);
+        let count = (part.len - done).min(buffer.len() as u64);
         copy_chunk(disk, part, done, &mut buffer[..count as usize])?;
         done += count;
     }
@@ -162,11 +163,12 @@ fn apply_pieces<D: Disk>(disk: &mut D, lengths: &NewLengths) -> Result<u64, Reco
         return Err(RecordError::Bad { at });
     };
     at += 4;
+    let mut buffer = [0; CHUNK_BYTES];
     for _ in 0..count {
         let Some(part) = read_part(disk, &lengths.ends, &lengths.ends, at)? else {
             return Err(RecordError::Bad { at });
         };
-        copy_part(disk, &part)?;
+        copy_part(disk, &part, &mut buffer)?;
         at = part.behind;
     }
     Ok(at)
@@ -220,14 +222,14 @@ fn apply<D: Disk>(disk: &mut D) -> Result<(), RecordError>
     write_pieces(disk, &lengths)
 }
 
-/// Does what the journal's record says: sets the new lengths, then writes the pieces in order, through a buffer of
-/// 4,096 bytes. It takes no memory, syncs nothing and leaves the gate as it is.
+/// Does what the journal's record says: sets the new lengths, then writes the pieces in order, through one buffer of
+/// 65,536 bytes. It takes no memory, syncs nothing and leaves the gate as it is.
 ///
 /// Where the disk tells its files they are to hold a record, as [`test_record`](crate::test_record) answers.
 /// `StoreFault` may come at any point. After it, and after a crash at any moment, the journal still holds the record,
 /// and applying it again comes to the same files, where each byte past an old end is written by some piece. `Bad` comes
 /// only from a disk that tells nothing, when it reads otherwise than before. Six questions for a length; a read for each
-/// field and two for a copy; a change of each new length; a read and a write for each 4,096 bytes of a piece.
+/// field and two for a copy; a change of each new length; a read and a write for each 65,536 bytes of a piece.
 pub fn apply_record<D: Disk>(disk: &mut D) -> Result<(), RecordError>
     requires { ForSome (D.device disk.old).contents HasRecord }
 

@@ -6,7 +6,7 @@ use Rattle.std.specs.declared.collections.VecDeque.{VecDeque}
 use Rattle.std.proofs.Math.ListN.{get_or-append}
 use Rattle.std.proofs.Math.Seq.{take-append-add, drop-append-add}
 use Rattle.std.proofs.lemmas.Bool.{cases_eq}
-use Rattle.std.proofs.lemmas.List.{get_or-append-add, get_or-set_same, get_or-set_other, length-set, take-append-le, drop-append-le}
+use Rattle.std.proofs.lemmas.List.{get_or-append-add, get_or-set_same, get_or-set_other, length-set, set-append_left, set-append_right, take-append-le, drop-append-le}
 use Rattle.jb_tiered.specs.Pieces.{AreFilled, HaveGap, items_of, len_at}
 
 module _ {X : Type 0} where
@@ -29,6 +29,15 @@ module _ {X : Type 0} where
       let next : suc at ≡ length front + suc r = omega arith in
       rw (next, ← is, take-append-add front (mid ++ back) r, drop-append-add front (mid ++ back) (suc r), take-append-le r mid back (omega arith), drop-append-le (suc r) mid back (omega arith))
       (simp append_assoc)
+
+  -- another element in the place of one of it
+  set_between : (front mid back : List X) (at r : ℕ) (x : X) → length front + r ≡ at → r < length mid
+      → set (front ++ (mid ++ back)) at x ≡ front ++ (set mid r x ++ back)
+  set_between front mid back at r x is within =
+      let behind : at - length front ≡ r = omega arith in
+      set-append_right front (mid ++ back) (length front) at x refl (omega arith)
+      ∙ ap (λ k. front ++ set (mid ++ back) k x) behind
+      ∙ ap (λ l. front ++ l) (set-append_left mid back r x within)
 
 module _ {X Z : Type 0} where
   -- the pieces before this one are full
@@ -145,5 +154,42 @@ module _ {X Z : Type 0} where
           short = λ d. ap (λ v. deque_len v + 1) (get_or-set_same ps k p d within) ∙ less ∙ len;
         };
         items = remove_piece ps k at (at % 512) was p piece is (omega arith) (omega arith) items;
+        as_many = as_many;
+      }
+
+  set_piece : (ps : List (VecDeque X Z)) (k at r : ℕ) (was p : VecDeque X Z) (x : X) → IsPiece ps k → was ≡ get_or ps k was → k * 512 + r ≡ at → r < length was.items
+      → p.items ≡ set was.items r x → items_of (set ps k p) ≡ set (items_of ps) at x
+  set_piece ps k at r was p x piece is place within items =
+      let long = piece.as_long in
+      rw (piece.changed p, items, piece.whole was, ← is) (sym (set_between piece.front was.items piece.back at r x (omega arith) within))
+
+  -- what another element in the place of one makes of the list
+  pub record IsReplaced (count at : ℕ) (x : X) (old new : List (VecDeque X Z)) : Type 0 where
+    pub filled : AreFilled count new
+    pub items : items_of new ≡ set (items_of old) at x
+    pub as_many : length new ≡ length old
+
+  pub replaced : (count at : ℕ) (ps : List (VecDeque X Z)) (was p : VecDeque X Z) (x : X) → AreFilled count ps → at < count → at / 512 < length ps
+      → was ≡ get_or ps (at / 512) was → p.items ≡ set was.items (at % 512) x → deque_len p ≡ deque_len was → deque_capacity p ≡ deque_capacity was
+      → IsReplaced count at x ps (set ps (at / 512) p)
+  replaced count at ps was p x filled below within is items same room =
+      let k = at / 512 in
+      let piece = piece_of ps k within (λ i e lower. filled.lens i e (omega arith) ∙ omega arith) in
+      let len : deque_len was ≡ min 512 (count - k * 512) = subst (λ v. deque_len v ≡ min 512 (count - k * 512)) (sym is) (filled.lens k was within) in
+      let places : 512 ≤ deque_capacity was = subst (λ v. 512 ≤ deque_capacity v) (sym is) (filled.places k was within) in
+      let ring = was.ok.0 in
+      let as_many : length (set ps k p) ≡ length ps = length-set ps k p in
+      record {
+        filled = record {
+          places = λ i d lower. elim (cases_eq i k) [
+            | inl same ↦ subst (λ j. 512 ≤ deque_capacity (get_or (set ps k p) j d)) (sym same) (subst (λ v. 512 ≤ deque_capacity v) (sym (get_or-set_same ps k p d within)) (omega arith))
+            | inr not ↦ subst (λ v. 512 ≤ deque_capacity v) (sym (get_or-set_other ps k i p d not)) (filled.places i d (omega arith))
+          ];
+          lens = λ i d lower. elim (cases_eq i k) [
+            | inl there ↦ subst (λ j. len_at (set ps k p) j d ≡ min 512 (count - j * 512)) (sym there) (ap deque_len (get_or-set_same ps k p d within) ∙ same ∙ len)
+            | inr not ↦ ap deque_len (get_or-set_other ps k i p d not) ∙ filled.lens i d (omega arith)
+          ];
+        };
+        items = set_piece ps k at (at % 512) was p x piece is (omega arith) (omega arith) items;
         as_many = as_many;
       }

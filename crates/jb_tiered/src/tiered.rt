@@ -1,5 +1,5 @@
 //! The list in pieces.
-ghost use Rattle.std.specs.Prelude.{◌≡◌, ◌+◌, ◌<◌, ◌≤◌, [], Bool, IfOk, OnOk, OnErr, length, insert, remove, slice_get, slice_index_or, true, false};
+ghost use Rattle.std.specs.Prelude.{◌≡◌, ◌+◌, ◌<◌, ◌≤◌, [], Bool, IfOk, OnOk, OnErr, length, insert, remove, slice_get, slice_index_or, slice_set, true, false};
 ghost use Rattle.std.specs.Fn.{ComputesKey};
 ghost use Rattle.std.specs.List.Sorted.{IsPartitionPoint, IsPartitionedBy};
 
@@ -140,6 +140,16 @@ impl<T: Copy> Tiered<T> {
             unreachable!()
         };
         self.len += 1;
+    }
+
+    /// Puts another element in the place of one. No other moves.
+    pub fn set(&mut self, at: usize, item: T)
+        requires { at < length self.old.items }
+        ensures items { self.new.items ≡ slice_set self.old.items at item }
+        ensures room { self.new.room ≡ self.old.room }
+    {
+        let piece = &mut self.pieces[at / PIECE];
+        piece[at % PIECE] = item;
     }
 
     /// Takes the element out that stands at this place. It takes no memory and gives none back: the room grows.

@@ -5,6 +5,7 @@ mod applying;
 mod base;
 mod change;
 mod committing;
+mod copying;
 mod crashing;
 mod showing;
 mod testing;
@@ -35,6 +36,7 @@ impl Answers for Trial {
             "long" => applying::long(alloc, &self.base, row),
             "stopped" => applying::stopped(alloc, &self.base, row),
             "commit" => committing::commit_done(alloc, &self.base, &mut self.done),
+            "copied" => copying::copied(alloc, row),
             "settled" => committing::settled(alloc, &self.base, row),
             "crash" => crashing::crash(alloc, &self.done, row),
             "recover" => crashing::opened(alloc, &self.base),

@@ -1,4 +1,4 @@
-use Rattle.std.proofs.Common.{◌≡◌, ◌∙◌, ap, refl, sym, arith}
+use Rattle.std.proofs.Common.{◌≡◌, ◌∙◌, ap, refl, sym, arith, rules}
 use Rattle.std.specs.Prelude.{is_some}
 use Rattle.jb_redo.proofs.ApplyLemmas.{nothing_keeps, keeps_after, keeps_before, keeps_part, told_start, told_done, told_fixed, told_none_back, told_part_room, told_next, told_covers}
 use Rattle.jb_redo.proofs.OneReading.{record_or_bad_place}
@@ -17,6 +17,7 @@ loop-init g c =
     let fits = rw c.in-Some.is at c.in_ok-count.ensures.fits in
     let kept = c.read_number.ensures.kept.contents in
     record {
+      size = search rules;
       quiet = refl;
       alike = refl;
       told = told_start c.in-Some.count c.args.lengths.now.at c.args.lengths.now.ends (g.D.Disk.device c.read_number.new.disk).contents
@@ -80,6 +81,7 @@ loop-preserved g c =
     let sound = rw c.in-Some-2.is at c.in_ok-part.ensures.sound in
     let found = rw c.in-Some-2.is at c.in_ok-part.ensures.found in
     record {
+      size = c.copy_part.ensures.size ∙ c.loop.invariant.size;
       quiet = c.in_ok-copy_part.ensures.quiet ∙ c.in_ok-part.ensures.quiet ∙ c.loop.invariant.quiet;
       alike = c.copy_part.ensures.alike ∙ ap is_some c.read_part.ensures.kept.contents ∙ c.loop.invariant.alike;
       told = told_next c.in-Some.count c.loop.counter c.loop.at c.args.lengths.now.ends (device c.read_number.new.disk).contents (device c.loop.disk).contents

@@ -1,4 +1,4 @@
-use Rattle.std.proofs.Common.{◌≡◌, ◌∙◌, refl, ◌+◌, ◌≤◌, length, take, drop, arith, rules}
+use Rattle.std.proofs.Common.{◌≡◌, ◌∙◌, refl, ◌+◌, ◌≤◌, length, take, drop, arith}
 use Rattle.std.proofs.lemmas.List.{length-take-le, length-append, length-drop}
 use Rattle.jb_disk.proofs.RunLemmas.{keeps-refl}
 use Rattle.jb_redo.specs.OnTheWay.{IsOnTheWay}
@@ -7,7 +7,7 @@ use Rattle.jb_redo.proofs.applying.copy_part.Goals as goal
 
 pub loop-done-init : goal.loop-done-init
 loop-done-init g c = record {
-  size = search rules;
+  size = refl;
   few = omega arith;
   quiet = refl;
   alike = refl;

@@ -6,7 +6,7 @@ use Rattle.jb_redo.proofs.applying.copy_part.Given as goal
 
 abbrev pub invariant-loop-done : goal.invariant-loop-done
 invariant-loop-done g l = record {
-  size : length l.buffer ≡ 4096;
+  size : length l.buffer ≡ length l.initial.buffer;
   few : l.done ≤ l.part.len;
   quiet : (g.D.Disk.device l.disk).faults ≡ (g.D.Disk.device l.initial.disk).faults;
   alike : TellsAlike (g.D.Disk.device l.initial.disk) (g.D.Disk.device l.disk);

@@ -1,0 +1,298 @@
+-- What a kill changes in the index of an area.
+use Rattle.std.proofs.Common.{◌≡◌, ◌≢◌, inl, inr, ℕ, zero, suc, ◌+◌, ◌-◌, ◌<◌, ◌≤◌, nat_lt, Bool, true, false, not, ◌&&◌, ◌==◌, cond, List, [], ◌∷◌, Option, Some, None, filter, find, map, length, get_or, slice_get, slice_set, refl, sym, ◌∙◌, ap, subst, arith, eq-eqb, ne_eqb, eqb-true}
+use Rattle.std.specs.Prelude.{All, is_some}
+use Rattle.std.proofs.lemmas.Bool.{cond-true, eqb-false, false≢true}
+use Rattle.std.proofs.lemmas.List.{length-set}
+use Rattle.std.proofs.lemmas.List.Elements.{All-cons, All-filter, All-nil, filter_agree}
+use Rattle.jb_base.specs.Access.{first_refusal}
+use Rattle.jb_base.specs.declared.area.Action.TheVariants.{List as Listing, Kill as Killing}
+use Rattle.jb_base.specs.declared.area.AreaRules.{AreaRules}
+use Rattle.jb_base.specs.declared.user.User.{User}
+use Rattle.jb_model.specs.Answered.{Answered, counted, unless_denied, with_message}
+use Rattle.jb_model.specs.Kill.{kill_done, kill_step}
+use Rattle.jb_model.specs.Links.{Linkable, is_answered_by, is_kept_by, linkable, linkables_of, number_or_0, parent_at, parent_for, parent_of, parent_or_0}
+use Rattle.jb_model.specs.Live.{Numbered, live_from, live_in, message_at, with_slot}
+use Rattle.jb_model.specs.Message.{envelope_of}
+use Rattle.jb_model.specs.Standing.{is_refusal}
+use Rattle.jb_model.specs.State.{AreaState, LiveMessage, SlotState, killed_message, live_message, next_number, no_message, state_of}
+use Rattle.jb_model.specs.Visible.{visible_at}
+use Rattle.jb_model.specs.declared.loaded.Loaded.{Loaded}
+use Rattle.jb_model.specs.declared.mark.Mark.{Mark}
+use Rattle.jb_model.specs.declared.reply.Reply.{Reply}
+use Rattle.jb_model.specs.declared.reply.Reply.TheVariants.{Killed}
+use Rattle.jb_model.specs.declared.summary.Summary.{Summary}
+use Rattle.jb_model.proofs.ThreadLaws.{parent_is_lower}
+use Rattle.jb_link.specs.Slots.{IsLive}
+use Rattle.jb_link.proofs.LiveLemmas.{linkables_with_texts, live_at_place}
+use Rattle.jb_index.specs.Change.{IsLiveKill, edits_killing, edits_of_kill, without_one}
+use Rattle.jb_index.specs.Edit.{absorbed, changed_at, with_parent, without}
+use Rattle.jb_index.specs.Index.{index_of, summary_of, summary_with}
+use Rattle.jb_index.specs.declared.op.OpEdit.TheVariants.{Parent}
+use Rattle.jb_index.proofs.ChangeLemmas.{Ends, denied_ends, message_ends, seen_is_named}
+use Rattle.jb_index.proofs.EditLemmas.{changed_none}
+use Rattle.jb_index.proofs.ListLemmas.{filter_all, filter_filter, filter_map}
+use Rattle.jb_index.proofs.MakingLemmas.{same_index}
+use Rattle.jb_index.proofs.SlotLemmas.{StandsAt, all_made, live_all, map_agree, numbered, others_behind, stands_at}
+
+-- the live messages without the one that is killed
+killed_live : (k base number : ℕ) (slots : List SlotState) (message : LiveMessage) → slice_get slots k ≡ Some (live_message message) → number ≡ base + k
+    → live_from base (slice_set slots k killed_message) ≡ filter (λ one. not (one.number == number)) (live_from base slots)
+killed_live k base number [] message at is = cc
+killed_live zero base number (no_message ∷ slots) message at is = cc
+killed_live zero base number (killed_message ∷ slots) message at is = cc
+killed_live zero base number (live_message first ∷ slots) message at is =
+    let here : (base == number) ≡ true = eq-eqb _ _ (omega arith) in
+    rw here
+    (sym (filter_all (λ one. not (one.number == number)) (live_from (base + 1) slots)
+    (live_all (λ one. not (one.number == number) ≡ true) (base + 1) slots (λ n other from to. ap not (ne_eqb _ _ (λ same. omega arith))))))
+killed_live (suc k) base number (no_message ∷ slots) message at is = killed_live k (base + 1) number slots message at (omega arith)
+killed_live (suc k) base number (killed_message ∷ slots) message at is = killed_live k (base + 1) number slots message at (omega arith)
+killed_live (suc k) base number (live_message first ∷ slots) message at is =
+    let other : (base == number) ≡ false = ne_eqb _ _ (λ same. omega arith) in
+    rw other (ap (λ (rest : List Numbered). numbered base first ∷ rest) (killed_live k (base + 1) number slots message at (omega arith)))
+
+-- what is found, if it is not the one that is left out, is found without that
+stays_found : (test : Linkable → Bool) (number : ℕ) (live : List Linkable) → number_or_0 (find test live) ≢ number
+    → number_or_0 (find test (without_one number live)) ≡ number_or_0 (find test live)
+stays_found test number [] other = refl
+stays_found test number (one ∷ live) other = by (test one) (one.number == number) refl refl
+  where
+    W : List Linkable
+    W = without_one number live
+
+    left : (b : Bool) → (one.number == number) ≡ b → number_or_0 (find test (without_one number (one ∷ live))) ≡ number_or_0 (find test (cond (not b) (one ∷ W) W))
+    left b e = ap (λ c. number_or_0 (find test (cond (not c) (one ∷ W) W))) e
+
+    right : (a : Bool) → test one ≡ a → number_or_0 (find test (one ∷ live)) ≡ number_or_0 (cond a (Some one) (find test live))
+    right a e = ap (λ c. number_or_0 (cond c (Some one) (find test live))) e
+
+    later : test one ≡ false → number_or_0 (find test W) ≡ number_or_0 (find test live)
+    later e = stays_found test number live (λ same. other (right false e ∙ same))
+
+    by : (a b : Bool) → test one ≡ a → (one.number == number) ≡ b → number_or_0 (find test (without_one number (one ∷ live))) ≡ number_or_0 (find test (one ∷ live))
+    by true true passes same = absurd (other (right true passes ∙ eqb-true _ _ same))
+    by true false passes differs =
+        left false differs ∙ ap (λ c. number_or_0 (cond c (Some one) (find test W))) passes ∙ sym (right true passes)
+    by false true fails same = left true same ∙ later fails ∙ sym (right false fails)
+    by false false fails differs =
+        left false differs ∙ ap (λ c. number_or_0 (cond c (Some one) (find test W))) fails ∙ later fails ∙ sym (right false fails)
+
+-- a parent that is another stays
+parent_stays : (live : List Linkable) (number : ℕ) (one : Linkable) → parent_of live one ≢ number → parent_of (without_one number live) one ≡ parent_of live one
+parent_stays live number one other = by one.replyid other
+  where
+    by : (id : Option (List ℕ)) → parent_for live one.number id one.kept ≢ number → parent_for (without_one number live) one.number id one.kept ≡ parent_for live one.number id one.kept
+    by (Some bytes) differs = stays_found (is_answered_by one.number bytes) number live differs
+    by None differs = stays_found (is_kept_by one.number one.kept) number live differs
+
+-- each live message is found by its number
+itself : (base : ℕ) (slots : List SlotState) → All (λ one. find (λ (x : Linkable). x.number == one.number) (map linkable (live_from base slots)) ≡ Some (linkable one)) (live_from base slots)
+itself base [] = All-nil (λ one. find (λ (x : Linkable). x.number == one.number) [] ≡ Some (linkable one))
+itself base (no_message ∷ slots) = itself (base + 1) slots
+itself base (killed_message ∷ slots) = itself (base + 1) slots
+itself base (live_message message ∷ slots) =
+    All-cons (λ one. find (λ (x : Linkable). x.number == one.number) (map linkable (live_from base (live_message message ∷ slots))) ≡ Some (linkable one))
+    (numbered base message) (live_from (base + 1) slots)
+    (let here : (base == base) ≡ true = eq-eqb _ _ refl in ap (λ b. cond b (Some (linkable (numbered base message))) (find (λ (x : Linkable). x.number == base) (map linkable (live_from (base + 1) slots)))) here)
+    (λ k d within.
+    let from : base + 1 ≤ (get_or (live_from (base + 1) slots) k d).number = live_all (λ one. base + 1 ≤ one.number) (base + 1) slots (λ n other above to. above) k d within in
+    let other : (base == (get_or (live_from (base + 1) slots) k d).number) ≡ false = ne_eqb _ _ (λ same. omega arith) in
+    ap (λ b. cond b (Some (linkable (numbered base message))) (find (λ (x : Linkable). x.number == (get_or (live_from (base + 1) slots) k d).number) (map linkable (live_from (base + 1) slots)))) other
+    ∙ itself (base + 1) slots k d within)
+
+-- the parent by the number is that of the message
+own_parent : (base : ℕ) (slots : List SlotState)
+    → All (λ one. parent_at (map linkable (live_from base slots)) one.number ≡ parent_of (map linkable (live_from base slots)) (linkable one)) (live_from base slots)
+own_parent base slots = λ k d within. ap (parent_or_0 (map linkable (live_from base slots))) (itself base slots k d within)
+
+-- summaries after so many of them have got another parent
+abbrev parents_set : (Linkable → ℕ) → List Linkable → List Summary → List Summary
+parents_set parent [] xs = xs
+parents_set parent (one ∷ ones) xs = parents_set parent ones (changed_at one.number (with_parent (parent one)) xs)
+
+-- that is what the edits of their parents do
+absorbs_parents : (xs : List Summary) (marks : List Mark) (base next : ℕ) (rules : AreaRules) (parent : Linkable → ℕ) (ones : List Linkable)
+    → absorbed (record { summaries = xs; marks = marks; base = base; next = next; rules = rules }) (map (λ one. Parent one.number (parent one)) ones)
+    ≡ record { summaries = parents_set parent ones xs; marks = marks; base = base; next = next; rules = rules }
+absorbs_parents xs marks base next rules parent [] = refl
+absorbs_parents xs marks base next rules parent (one ∷ ones) = absorbs_parents (changed_at one.number (with_parent (parent one)) xs) marks base next rules parent ones
+
+-- one that none of them is stays
+skips : (parent : Linkable → ℕ) (ones : List Linkable) (x : Summary) (xs : List Summary) → All (λ one. (x.number == one.number) ≡ false) ones
+    → parents_set parent ones (x ∷ xs) ≡ x ∷ parents_set parent ones xs
+skips parent [] x xs others = refl
+skips parent (one ∷ ones) x xs others =
+    let other : (x.number == one.number) ≡ false = others 0 one (omega arith) in
+    ap (λ b. parents_set parent ones (cond b (with_parent (parent one) x) x ∷ changed_at one.number (with_parent (parent one)) xs)) other
+    ∙ skips parent ones x (changed_at one.number (with_parent (parent one)) xs) (λ k d within. others (suc k) d (omega arith))
+
+-- each that is one of them has its parent then
+sets_each : (p : Linkable → Bool) (parent : Linkable → ℕ) (f : Numbered → Summary) (keeps : (one : Numbered) → (f one).number ≡ one.number) (base : ℕ) (slots : List SlotState)
+    → parents_set parent (filter p (map linkable (live_from base slots))) (map f (live_from base slots))
+    ≡ map (λ one. cond (p (linkable one)) (with_parent (parent (linkable one)) (f one)) (f one)) (live_from base slots)
+sets_each p parent f keeps base [] = refl
+sets_each p parent f keeps base (no_message ∷ slots) = sets_each p parent f keeps (base + 1) slots
+sets_each p parent f keeps base (killed_message ∷ slots) = sets_each p parent f keeps (base + 1) slots
+sets_each p parent f keeps base (live_message message ∷ slots) = by (p (linkable h)) (sets_each p parent f keeps (base + 1) slots)
+  where
+    h : Numbered
+    h = numbered base message
+
+    R : List Numbered
+    R = live_from (base + 1) slots
+
+    F : List Linkable
+    F = filter p (map linkable R)
+
+    M : List Summary
+    M = map (λ one. cond (p (linkable one)) (with_parent (parent (linkable one)) (f one)) (f one)) R
+
+    behind : (x : Summary) → x.number ≡ base → All (λ one. (x.number == one.number) ≡ false) F
+    behind x is =
+        All-filter p (λ one. (x.number == one.number) ≡ false) (map linkable R)
+        (all_made (λ one. (x.number == one.number) ≡ false) linkable R
+        (live_all (λ one. (x.number == one.number) ≡ false) (base + 1) slots (λ n other from to. ne_eqb _ _ (λ same. omega arith))))
+
+    by : (b : Bool) → parents_set parent F (map f R) ≡ M
+        → parents_set parent (cond b (linkable h ∷ F) F) (f h ∷ map f R) ≡ cond b (with_parent (parent (linkable h)) (f h)) (f h) ∷ M
+    by true rest =
+        let here : ((f h).number == base) ≡ true = eq-eqb _ _ (keeps h) in
+        ap (λ b. parents_set parent F (cond b (with_parent (parent (linkable h)) (f h)) (f h) ∷ changed_at base (with_parent (parent (linkable h))) (map f R))) here
+        ∙ ap (λ l. parents_set parent F (with_parent (parent (linkable h)) (f h) ∷ l))
+        (sym (changed_none (map f R) base (with_parent (parent (linkable h))) (others_behind f keeps base (base + 1) slots (omega arith))))
+        ∙ skips parent F (with_parent (parent (linkable h)) (f h)) (map f R) (behind (with_parent (parent (linkable h)) (f h)) (keeps h))
+        ∙ ap (λ l. with_parent (parent (linkable h)) (f h) ∷ l) rest
+    by false rest = skips parent F (f h) (map f R) (behind (f h) (keeps h)) ∙ ap (λ l. f h ∷ l) rest
+
+-- one that answers a message is another
+answers_other : (live : List Linkable) (number : ℕ) (one : Linkable) → 1 ≤ number → (not (one.number == number) && (parent_of live one == number)) ≡ (parent_of live one == number)
+answers_other live number one some = by (one.number == number) (parent_of live one == number) refl refl
+  where
+    by : (a b : Bool) → (one.number == number) ≡ a → (parent_of live one == number) ≡ b → (not a && b) ≡ b
+    by true true same answers =
+        let is : one.number ≡ number = eqb-true _ _ same in
+        let parent : parent_of live one ≡ number = eqb-true _ _ answers in
+        absurd (elim (parent_is_lower live one.number one.replyid one.kept) [
+          | inl none ↦ (let no : parent_of live one ≡ 0 = none in omega arith)
+          | inr lower ↦ (let less : parent_of live one < one.number = lower in omega arith)
+        ])
+    by true false same differs = refl
+    by false b other e = refl
+
+-- a kill that is done
+kill_index : (rules : AreaRules) (state : AreaState) (number : ℕ) (message : LiveMessage) → 1 ≤ state.base → StandsAt state number message
+    → absorbed (index_of rules state) (edits_of_kill (linkables_of state) number) ≡ index_of rules (counted (with_slot state number killed_message))
+kill_index rules state number message above stands =
+    absorbs_parents (without number (map (summary_of L) (live_in state))) state.marks state.base (next_number state) rules parent (filter p L)
+    ∙ same_index _ _ state.marks state.marks state.base _ _ rules rules
+    (ap (parents_set parent (filter p L)) left
+    ∙ ap (λ ones. parents_set parent ones (map (summary_of L) live')) answering
+    ∙ sets_each p parent (summary_of L) (λ one. refl) state.base slots'
+    ∙ map_agree (λ one. cond (p (linkable one)) (with_parent (parent (linkable one)) (summary_of L one)) (summary_of L one)) (summary_of (map linkable live')) live' each)
+    refl (ap (λ n. state.base + n) (sym (length-set state.slots (number - state.base) killed_message))) refl
+  where
+    L : List Linkable
+    L = linkables_of state
+
+    p : Linkable → Bool
+    p one = parent_of L one == number
+
+    parent : Linkable → ℕ
+    parent one = parent_of (without_one number L) one
+
+    slots' : List SlotState
+    slots' = slice_set state.slots (number - state.base) killed_message
+
+    live' : List Numbered
+    live' = live_from state.base slots'
+
+    place : number ≡ state.base + (number - state.base)
+    place = let from : state.base ≤ number = stands.from in omega arith
+
+    some : 1 ≤ number
+    some = let from : state.base ≤ number = stands.from in omega arith
+
+    rest : live' ≡ filter (λ one. not (one.number == number)) (live_in state)
+    rest = killed_live (number - state.base) state.base number state.slots message stands.at place
+
+    links : without_one number L ≡ map linkable live'
+    links = filter_map (λ (one : Linkable). not (one.number == number)) linkable (live_in state) ∙ ap (map linkable) (sym rest)
+
+    left : without number (map (summary_of L) (live_in state)) ≡ map (summary_of L) live'
+    left = filter_map (λ (one : Summary). not (one.number == number)) (summary_of L) (live_in state) ∙ ap (map (summary_of L)) (sym rest)
+
+    answering : filter p L ≡ filter p (map linkable live')
+    answering =
+        sym (filter_filter p (λ one. not (one.number == number)) L ∙ filter_agree (λ one. not (one.number == number) && p one) p (λ one. answers_other L number one some) L)
+        ∙ ap (filter p) links
+
+    had : All (λ one. parent_at L one.number ≡ parent_of L (linkable one)) live'
+    had =
+        subst (λ (l : List Numbered). All (λ one. parent_at L one.number ≡ parent_of L (linkable one)) l) (sym rest)
+        (All-filter (λ one. not (one.number == number)) (λ one. parent_at L one.number ≡ parent_of L (linkable one)) (live_in state) (own_parent state.base state.slots))
+
+    same : (one : Numbered) → parent_at L one.number ≡ parent_of L (linkable one) → parent_at (map linkable live') one.number ≡ parent_of (map linkable live') (linkable one)
+        → cond (p (linkable one)) (with_parent (parent (linkable one)) (summary_of L one)) (summary_of L one) ≡ summary_of (map linkable live') one
+    same one was is = by (p (linkable one)) refl
+      where
+        has : parent (linkable one) ≡ parent_at (map linkable live') one.number
+        has = ap (λ (live : List Linkable). parent_of live (linkable one)) links ∙ sym is
+
+        by : (b : Bool) → p (linkable one) ≡ b
+            → cond b (with_parent (parent (linkable one)) (summary_of L one)) (summary_of L one) ≡ summary_of (map linkable live') one
+        by true answers = ap (summary_with one.number one.message.head one.message.subfields) has
+        by false other =
+            ap (summary_with one.number one.message.head one.message.subfields)
+            (was ∙ sym (parent_stays L number (linkable one) (eqb-false _ _ other)) ∙ has)
+
+    each : All (λ one. cond (p (linkable one)) (with_parent (parent (linkable one)) (summary_of L one)) (summary_of L one) ≡ summary_of (map linkable live') one) live'
+    each = λ k d within. same (get_or live' k d) (had k d within) (own_parent state.base slots' k d within)
+
+-- a kill ends so
+pub kill_ends : (rules : AreaRules) (state : AreaState) (user : User) (number : ℕ)
+    → Ends (λ answered. (message : LiveMessage) × (visible_at rules user state number ≡ Some message) × (answered ≡ kill_done state number)) state (kill_step rules state user number)
+kill_ends rules state user number =
+    denied_ends D state (first_refusal user rules Listing None)
+    (with_message state number (visible_at rules user state number) (λ message. unless_denied state (first_refusal user rules Killing (Some (envelope_of message))) (kill_done state number)))
+    (message_ends D state number (visible_at rules user state number) (λ message. unless_denied state (first_refusal user rules Killing (Some (envelope_of message))) (kill_done state number))
+    (λ message seen. denied_ends D state (first_refusal user rules Killing (Some (envelope_of message))) (kill_done state number) (inr (message, seen, refl))))
+  where
+    D : Answered → Type 0
+    D answered = (message : LiveMessage) × (visible_at rules user state number ≡ Some message) × (answered ≡ kill_done state number)
+
+-- the edits of a refused kill
+no_kill : (loaded : Loaded) (number : ℕ) (reply : Reply) → is_refusal reply ≡ true → edits_killing loaded number reply ≡ []
+no_kill loaded number (Killed killed) refuses = absurd (false≢true refuses)
+no_kill loaded number reply refuses = refl
+
+-- a kill
+pub kill_follows : (rules : AreaRules) (texts : List ℕ) (loaded : Loaded) (user : User) (number : ℕ) (reply : Reply) → 1 ≤ loaded.base
+    → (kill_step rules (state_of texts loaded) user number).reply ≡ reply
+    → absorbed (index_of rules (state_of texts loaded)) (edits_killing loaded number reply) ≡ index_of rules (kill_step rules (state_of texts loaded) user number).state
+kill_follows rules texts loaded user number reply above e =
+    subst (λ (r : Reply). absorbed (index_of rules (state_of texts loaded)) (edits_killing loaded number r) ≡ index_of rules (kill_step rules (state_of texts loaded) user number).state) e
+    (by (kill_step rules (state_of texts loaded) user number) (kill_ends rules (state_of texts loaded) user number))
+  where
+    by : (x : Answered)
+        → Ends (λ answered. (message : LiveMessage) × (visible_at rules user (state_of texts loaded) number ≡ Some message) × (answered ≡ kill_done (state_of texts loaded) number)) (state_of texts loaded) x
+        → absorbed (index_of rules (state_of texts loaded)) (edits_killing loaded number x.reply) ≡ index_of rules x.state
+    by x (inl (refuses, same)) =
+        ap (absorbed (index_of rules (state_of texts loaded))) (no_kill loaded number x.reply refuses) ∙ ap (index_of rules) (sym same)
+    by x (inr (message, seen, is)) =
+        subst (λ (y : Answered). absorbed (index_of rules (state_of texts loaded)) (edits_killing loaded number y.reply) ≡ index_of rules y.state) (sym is)
+        (ap (λ (live : List Linkable). absorbed (index_of rules (state_of texts loaded)) (edits_of_kill live number)) (sym (linkables_with_texts texts loaded.base loaded.slots))
+        ∙ kill_index rules (state_of texts loaded) number message above
+        (stands_at (state_of texts loaded) number message (seen_is_named rules user (state_of texts loaded) number message seen)))
+
+-- what was killed is live
+pub killed_is_live : (rules : AreaRules) (texts : List ℕ) (loaded : Loaded) (user : User) (number : ℕ) (reply : Reply) → (kill_step rules (state_of texts loaded) user number).reply ≡ reply → IsLiveKill loaded number reply
+killed_is_live rules texts loaded user number (Killed killed) e = by (kill_ends rules (state_of texts loaded) user number)
+  where
+    by : Ends (λ answered. (message : LiveMessage) × (visible_at rules user (state_of texts loaded) number ≡ Some message) × (answered ≡ kill_done (state_of texts loaded) number)) (state_of texts loaded)
+        (kill_step rules (state_of texts loaded) user number) → IsLive loaded number
+    by (inl (refuses, same)) = absurd (false≢true (ap is_refusal (sym e) ∙ refuses))
+    by (inr (message, seen, is)) =
+        let named : message_at (state_of texts loaded) number ≡ Some message = seen_is_named rules user (state_of texts loaded) number message seen in
+        let from : loaded.base ≤ number = (stands_at (state_of texts loaded) number message named).from in
+        sym (live_at_place [] loaded number from) ∙ live_at_place texts loaded number from ∙ ap is_some named
+killed_is_live rules texts loaded user number reply e = tt

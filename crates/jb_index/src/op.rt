@@ -1,0 +1,71 @@
+//! What a change of an area does to its index.
+ghost use Rattle.std.specs.Prelude.{◌≡◌, [], ◌∷◌, ◌++◌, OnOk, OnErr};
+
+use crate::Index;
+use jb_base::OutOfMemory;
+use jb_model::{Mark, Summary};
+use std::alloc::Global;
+use std::marker::Model;
+
+/// One edit of an index. It changes what it names and moves no other summary; what does not fit the room of the index
+/// changes nothing.
+#[derive(Debug, Drop)]
+pub enum OpEdit {
+    /// The summary of a message: it takes the place of the one with its number, or comes between the others. The next
+    /// number is then above its number.
+    Put(Summary),
+    /// There is no summary with this number.
+    Drop { number: u32 },
+    /// The message with this number answers that one, or none where it is 0.
+    Parent { number: u32, parent: u32 },
+    /// The message with this number has these bits of its attribute.
+    Attribute { number: u32, attribute: u32 },
+    /// The base number.
+    Base { base: u32 },
+    /// The mark takes the place of the first one of its pair, or goes last.
+    Mark(Mark),
+    /// All summaries, all marks and both numbers are those of another index.
+    Reset(Index),
+}
+
+/// What a change of an area does to its index: edits, in order. Contracts see the list of them.
+#[derive(Debug, Drop)]
+pub struct Op {
+    edits: Vec<OpEdit>,
+}
+
+impl Model for Op {
+    ghost use Rattle.std.specs.Prelude.{List};
+    ghost use Rattle.jb_index.specs.declared.op.OpEdit.{OpEdit};
+
+    ghost Value = { List OpEdit };
+
+    ghost view = { λ op. op.edits.items };
+}
+
+impl Op {
+    /// No edit yet. It takes no memory.
+    pub fn new(alloc: Global) -> Op
+        ensures { result ≡ [] }
+    {
+        Op {
+            edits: Vec::new(alloc),
+        }
+    }
+
+    /// The edits, in order.
+    pub fn as_slice(&self) -> &[OpEdit]
+        ensures { result.now ≡ self.now }
+    {
+        self.edits.as_slice()
+    }
+
+    /// Puts one edit behind the others, or for want of memory leaves all as it was.
+    pub fn push(&mut self, edit: OpEdit) -> Result<(), OutOfMemory>
+        ensures ok { OnOk result (self.new ≡ self.old ++ edit ∷ []) }
+        ensures err { OnErr result (self.new ≡ self.old) }
+    {
+        self.edits.push(edit)?;
+        Ok(())
+    }
+}
