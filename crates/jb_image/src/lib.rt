@@ -3,13 +3,11 @@
 //! The layer above may rely on this: [`decode`] answers with the area for which the files stand, without its texts, or
 //! with the first test that they fail, its number and its place ([`OpenError`]). It asks for four lengths, and looks at
 //! .JHR, .JDX and .JLR through windows of 65,536 bytes, each a device read; no text is read. Where the headers stand in the
-//! order of the index each part of .JHR is read once, one read a window. Where they do not it begins again, and looks at
-//! each header and then at each live message's subfields: at most four looks a slot in all, of which one that the window
-//! does not hold is a read. A window has 4,096 bytes for each look that the one before it answered, so that headers which
-//! jump back and forth cost no more than 4,096 bytes a look beside what is looked at. Beside what it gives it holds a
-//! window of each file, which a header with longer subfields makes as long as these, and where headers do not rise the
-//! fields of one header a slot; it keeps subfields of several messages only while or once their headers lie apart. It
-//! reads the files as they are: the layer above first does the change that waits in the journal.
+//! order of the index each part of .JHR is read once, one read a window. Where they do not it begins again, with the whole
+//! of .JHR in one read, and looks at each header and then at each live message's subfields. Beside what it gives it holds
+//! a window of each file, which a header with longer subfields makes as long as these, and where headers do not rise
+//! .JHR and the fields of one header a slot, until it answers; it keeps subfields of several messages only while or once
+//! their headers lie apart. It reads the files as they are: the layer above first does the change that waits in the journal.
 #![tactic(auto)]
 
 mod error;

@@ -52,10 +52,11 @@ fn later_refusal(alloc: Global, seen: &Seen, base: u32) -> Result<Option<OpenErr
 }
 
 /// The slots that the index names, in whatever order their headers stand, with the subfields of the live messages; or the
-/// first test of a slot that fails.
+/// first test of a slot that fails. .JHR is read once, as a whole, and held until then, so that it does not matter in
+/// which order its parts are looked at, nor how often.
 ///
 /// Where a test fails nothing is kept of the slots before it, so that a base that names one long header again and again
-/// is refused in little memory.
+/// is refused in no more memory than that.
 fn read_mixed_slots<D: Disk>(
     alloc: Global,
     disk: &mut D,
@@ -84,6 +85,7 @@ fn read_mixed_slots<D: Disk>(
     ensures later { (D.device disk.old).faults ≤ (D.device disk.new).faults }
     ensures cause { IfErr result (OpenFaultRose (D.device disk.old).faults (D.device disk.new).faults) }
 {
+    window.reach_all(disk)?;
     let seen = see_slots(alloc, disk, window, lengths, count as usize)?;
     let slots = seen.slots.as_slice();
     match later_refusal(alloc, &seen, base)? {
@@ -96,7 +98,7 @@ fn read_mixed_slots<D: Disk>(
 }
 
 /// The slots that the index names, with the subfields of the live messages; or the first test of a slot that fails. Where
-/// the headers stand in the order of the index, each part of .JHR is read once.
+/// the headers stand in the order of the index, each part of .JHR is read once; else at most twice.
 fn read_slots<D: Disk>(
     alloc: Global,
     disk: &mut D,
@@ -204,7 +206,7 @@ fn read_base<D: Disk>(alloc: Global, disk: &mut D, slots: u32) -> Result<Loaded,
 ///
 /// Four questions for a length, and the reads of a window on each of three files; no text is read. Where the headers stand
 /// in the order of the index, each read of .JHR takes 65,536 bytes, and none is read twice but a record across a border; in
-/// whatever order they stand, at most one read a look, and at most four looks a slot.
+/// any other order the whole of .JHR is read once more, in one read, and .JDX once more.
 pub fn decode<D: Disk>(alloc: Global, disk: &mut D, slots: u32) -> Result<Loaded, OpenError>
     // What the files say, where the disk tells them; a fault comes only where the count rose, and each other answer only where
     // it did not.

@@ -11,26 +11,19 @@ use crate::error::ReadError;
 use jb_disk::{Disk, DiskFailed, FileId};
 use std::alloc::Global;
 
-/// The bytes of a whole window. Only a look that asks for more is given more.
+/// The bytes of a window. Only a look that asks for more is given more.
 const WINDOW_BYTES: usize = 65_536;
-/// So many bytes the next window may have for each look that this one answered.
-const BYTES_A_LOOK: usize = 4_096;
-/// After so many looks the next window is a whole one.
-const MOST_LOOKS: usize = WINDOW_BYTES / BYTES_A_LOOK;
 
 /// A part of a file as it was read, which moves to where it is looked at.
 ///
-/// A look that the window holds reads nothing. The first window is a whole one; each later one has 4,096 bytes for each
-/// look that the one before it answered, at most 65,536, or the bytes that are asked for where these are more. So where
-/// records stand in order, rising or falling, each read takes a whole window; and in whatever order they stand no more is
-/// read than 65,536 bytes, 4,096 a look and what is asked for.
+/// A look that the window holds reads nothing, so where records stand in rising order each read takes a whole window, and
+/// only a record across a border is read twice. For any other order there is [`Window::reach_all`].
 #[derive(Debug, Drop)]
 pub(crate) struct Window {
     file: FileId,
     file_len: u64,
     at: u64,
     bytes: Vec<u8>,
-    looks: usize,
 }
 
 /// Bytes of a file, by their place.
@@ -52,7 +45,6 @@ impl Window {
             file_len,
             at: 0,
             bytes: Vec::new(alloc),
-            looks: MOST_LOOKS,
         }
     }
 
@@ -68,8 +60,8 @@ impl Window {
         before <= held && len as u64 <= held - before
     }
 
-    /// The bytes that the next window reads, so that it holds these. Where they lie less than a window before this one,
-    /// they are the last of them, else the first. Near the end of the file it begins earlier, so that it is no smaller.
+    /// The bytes that the next window reads: these are the first of them. Near the end of the file it begins earlier, so that
+    /// it is no smaller.
     fn next(&self, at: u64, len: usize) -> Range
         requires { at + len ≤ self.now.file_len }
         ensures from { result.at ≤ at }
@@ -77,21 +69,15 @@ impl Window {
         ensures inside { result.at + result.len ≤ self.now.file_len }
     {
         let file_len = self.file_len;
-        let size = len.max(self.looks.min(MOST_LOOKS) * BYTES_A_LOOK) as u64;
+        let size = len.max(WINDOW_BYTES) as u64;
         if file_len <= size {
             return Range {
                 at: 0,
                 len: file_len as usize,
             };
         }
-        let last = file_len - size;
-        let begin = if at < self.at && self.at - at <= size {
-            (at + len as u64).saturating_sub(size)
-        } else {
-            at
-        };
         Range {
-            at: begin.min(last),
+            at: at.min(file_len - size),
             len: size as usize,
         }
     }
@@ -112,7 +98,6 @@ impl Window {
         match read_into(disk, self.file, range.at, &mut self.bytes) {
             Ok(()) => {
                 self.at = range.at;
-                self.looks = 1;
                 Ok(())
             }
             Err(DiskFailed) => {
@@ -148,9 +133,23 @@ impl Window {
             let range = self.next(at, len);
             return self.fill(disk, range);
         }
-        let looks = self.looks;
-        self.looks = looks.saturating_add(1);
         Ok(())
+    }
+
+    /// Makes it hold its whole file, so that no later look reads. At most one device read.
+    pub(crate) fn reach_all<D: Disk>(&mut self, disk: &mut D) -> Result<(), ReadError>
+        requires on { IsWindowOn self.old.file self.old.file_len (D.device disk.old).contents self.old }
+        ensures on { IsWindowOn self.old.file self.old.file_len (D.device disk.new).contents self.new }
+        ensures covers { OnOk result (Covers 0 self.old.file_len self.new) }
+
+        // The disk is only read.
+        ensures kept { OnlyReads (D.device disk.old) (D.device disk.new) }
+        ensures quiet { OnOk result ((D.device disk.new).faults ≡ (D.device disk.old).faults) }
+        ensures later { (D.device disk.old).faults ≤ (D.device disk.new).faults }
+        ensures cause { IfErr result (FaultRose (D.device disk.old).faults (D.device disk.new).faults) }
+    {
+        let file_len = self.file_len;
+        self.reach(disk, 0, file_len as usize)
     }
 
     /// The bytes from a place on, of those that it holds.

@@ -15,16 +15,17 @@ use Rattle.jb_image.proofs.opening.read_mixed_slots.Goals as goal
 
 pub returns-in-Some-clause-refused : goal.returns-in-Some-clause-refused
 returns-in-Some-clause-refused g c = λ files contents_is.
-    let now = c.see_slots.ensures.kept.contents ∙ contents_is in
+    let first = c.reach_all.ensures.kept.contents ∙ contents_is in
+    let now = c.see_slots.ensures.kept.contents ∙ first in
     let later = rw c.in-Some.is at c.in_ok-later.ensures.found in
     let passed = c.in_ok-test_slots-in-Some.ensures.passed files now in
     let same = ap length c.as_slice-slots.ensures.value in
     let index_is = (c.requires.lengths files contents_is).index in
     later_refused files c.args.base c.args.count c.in_ok-seen.seen.slots.items c.in_ok-seen.seen.damage c.in-Some.later
-    (c.requires.base files contents_is) (omega (arith, c.requires.all, index_is)) (c.in_ok-seen.ensures.found files contents_is)
+    (c.requires.base files contents_is) (omega (arith, c.requires.all, index_is)) (c.in_ok-seen.ensures.found files first)
     (λ k low. passed k (omega (arith, low, same)))
     c.in_ok-seen.ensures.whole c.in_ok-seen.ensures.part
-    (if_some_told c.in_ok-seen.seen.damage (g.D.Disk.device c.args.disk.now).contents files (λ (told : Files) damage. IsDamaged told (entry_in told (length c.in_ok-seen.seen.slots.items)) damage) contents_is c.in_ok-seen.ensures.damaged) later
+    (if_some_told c.in_ok-seen.seen.damage (g.D.Disk.device c.reach_all.new.disk).contents files (λ (told : Files) damage. IsDamaged told (entry_in told (length c.in_ok-seen.seen.slots.items)) damage) first c.in_ok-seen.ensures.damaged) later
 
 pub returns-clause-within : goal.returns-clause-within
 returns-clause-within g c =
@@ -43,9 +44,9 @@ returns-clause-apart g c =
 pub returns-clause-named : goal.returns-clause-named
 returns-clause-named g c =
     IfOk-weaker c.load_slots.result _ (λ (slots : List LoadedSlot). ForSome (g.D.Disk.device c.args.disk.now).contents (λ files. AreSlotsOf files slots))
-    (λ slots named files contents_is. named files (c.see_slots.ensures.kept.contents ∙ contents_is)) c.load_slots.ensures.named
+    (λ slots named files contents_is. named files (c.see_slots.ensures.kept.contents ∙ c.reach_all.ensures.kept.contents ∙ contents_is)) c.load_slots.ensures.named
 
 pub returns-clause-refused : goal.returns-clause-refused
 returns-clause-refused g c =
     IfErr-weaker c.load_slots.result _ (λ (error : OpenError). ForSome (g.D.Disk.device c.args.disk.now).contents (λ files. IsRefusedAmongSlots files error))
-    (λ error refused files contents_is. refused_among_slots files error (refused files (c.see_slots.ensures.kept.contents ∙ contents_is))) c.load_slots.ensures.refused
+    (λ error refused files contents_is. refused_among_slots files error (refused files (c.see_slots.ensures.kept.contents ∙ c.reach_all.ensures.kept.contents ∙ contents_is))) c.load_slots.ensures.refused
