@@ -1,9 +1,11 @@
 pub mod Answering
 pub mod Boards
 pub mod Bounds
+pub mod Differing
 pub mod Digests
 pub mod FieldFaults
 pub mod FoundFields
 pub mod Named
 pub mod NumberFields
+pub mod OneNamed
 pub mod TableLists
