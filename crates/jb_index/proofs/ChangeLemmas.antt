@@ -1,5 +1,5 @@
 -- What commands change in the index of an area.
-use Rattle.std.proofs.Common.{◌≡◌, ◌⊎◌, inl, inr, ℕ, ◌+◌, ◌-◌, ◌<◌, ◌≤◌, nat_le, nat_lt, Bool, true, false, ◌&&◌, ◌||◌, ◌==◌, cond, List, [], ◌∷◌, ◌++◌, Option, Some, None, find, get_or, map, length, slice_set, refl, sym, ◌∙◌, ap, subst, arith}
+use Rattle.std.proofs.Common.{◌≡◌, ◌⊎◌, inl, inr, ℕ, ◌+◌, ◌-◌, ◌≤◌, nat_le, nat_lt, Bool, true, false, ◌&&◌, ◌||◌, ◌==◌, cond, List, Option, Some, None, find, get_or, map, length, slice_set, refl, sym, ◌∙◌, ap, subst, arith}
 use Rattle.std.specs.Prelude.{IfSome, is_none, is_some, option_map, option_to_list}
 use Rattle.std.proofs.lemmas.Bool.{cond_both, false≢true, leb-false, lt-ltb}
 use Rattle.std.proofs.lemmas.List.{length-set}
@@ -10,9 +10,8 @@ use Rattle.jb_base.specs.declared.area.Rule.{Rule}
 use Rattle.jb_base.specs.declared.limits.TheConstants.{MOST_MARKS, TEXTS_CEILING}
 use Rattle.jb_base.specs.declared.user.User.{User}
 use Rattle.jb_model.specs.Answered.{Answered, counted, unless_denied, unless_refused, with_message}
-use Rattle.jb_model.specs.Links.{Linkable, linkable, linkables_of, parent_at, parent_of, parent_or_0}
+use Rattle.jb_model.specs.Links.{Linkable, linkable, linkables_of, parent_at, parent_or_0}
 use Rattle.jb_model.specs.Live.{Numbered, live_from, live_in, message_at, with_slot}
-use Rattle.jb_model.specs.Marks.{mark_of}
 use Rattle.jb_model.specs.Message.{letter_of}
 use Rattle.jb_model.specs.Pack.{pack_done, pack_refusal, pack_step, packed_base, packed_state}
 use Rattle.jb_base.specs.Name.{same_name}
@@ -21,19 +20,18 @@ use Rattle.jb_model.specs.Read.{peek_step, read_done, read_message, read_once_mo
 use Rattle.jb_model.specs.Relink.{relink_done, relink_step, relinked_area, wrongly_linked}
 use Rattle.jb_model.specs.SetMark.{mark_at, mark_done, mark_refusal, set_mark_step}
 use Rattle.jb_model.specs.Standing.{is_refusal}
-use Rattle.jb_model.specs.State.{AreaState, LiveMessage, SlotState, live_message, next_number}
+use Rattle.jb_model.specs.State.{AreaState, LiveMessage, live_message, next_number}
 use Rattle.jb_model.specs.Tight.{texts_together}
 use Rattle.jb_model.specs.Visible.{if_shown, is_shown, mark_of_user, visible_at}
 use Rattle.jb_model.specs.declared.mark.Mark.{Mark}
 use Rattle.jb_model.specs.declared.reply.Reply.{Reply}
 use Rattle.jb_model.specs.declared.reply.Reply.TheVariants.{Marked, MarksFull, NoMessage, Packed, Relinked, Text, TextFull}
-use Rattle.jb_model.specs.declared.summary.Summary.{Summary}
 use Rattle.jb_link.proofs.SpliceLemmas.{linkables_set}
-use Rattle.jb_model.proofs.PackLaws.{live_in-packed, packed_next}
-use Rattle.jb_model.proofs.RelinkLaws.{length-relinked, linkables-relinked, live_in-relinked, map-map, parent_of-kept, relinked_one, with_kept}
+use Rattle.jb_model.proofs.PackLaws.{length-relinked, live_in-packed, packed_next}
+use Rattle.jb_model.proofs.RelinkLaws.{linkables-relinked, live_in-relinked, map-map, parent_of-kept, relinked_one, with_kept}
 use Rattle.jb_index.specs.Change.{edit_of_mark, edit_of_pack, edit_of_read}
-use Rattle.jb_index.specs.Edit.{absorbed, changed_at, edited, fits_mark, with_attribute}
-use Rattle.jb_index.specs.Index.{AreaIndex, index_of, summary_of, summary_with}
+use Rattle.jb_index.specs.Edit.{absorbed, fits_mark, with_attribute}
+use Rattle.jb_index.specs.Index.{index_of, summary_of, summary_with}
 use Rattle.jb_index.specs.declared.op.OpEdit.{OpEdit}
 use Rattle.jb_index.proofs.ListLemmas.{find_map}
 use Rattle.jb_index.proofs.MakingLemmas.{same_index}

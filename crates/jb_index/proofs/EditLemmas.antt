@@ -1,12 +1,12 @@
 -- Edits of summaries whose numbers rise.
-use Rattle.std.proofs.Common.{◌≡◌, ◌≢◌, inl, inr, ℕ, zero, suc, ◌+◌, ◌<◌, ◌≤◌, nat_lt, Bool, true, false, not, ◌||◌, ◌==◌, cond, List, [], ◌∷◌, ◌++◌, Option, Some, None, filter, find, map, length, take, drop, get_or, set, refl, sym, ◌∙◌, ap, arith, eq-eqb, ne_eqb, lt-ltb, le-ltb}
+use Rattle.std.proofs.Common.{◌≡◌, ◌≢◌, inl, inr, ℕ, zero, suc, ◌<◌, ◌≤◌, nat_lt, Bool, true, false, not, ◌||◌, ◌==◌, cond, List, [], ◌∷◌, ◌++◌, Option, filter, find, length, take, drop, get_or, set, refl, sym, ◌∙◌, ap, arith, eq-eqb, ne_eqb, lt-ltb, le-ltb}
 use Rattle.std.specs.Prelude.{All, insert, is_some, remove}
 use Rattle.std.proofs.lemmas.Bool.{cases_lt, cond_both, eqb-false, ltb-true}
 use Rattle.std.proofs.lemmas.List.{get_or-map, length-map, set_split}
 use Rattle.std.proofs.lemmas.List.Elements.{All-append, All-cons, All-filter, All-head, All-tail, All-weaker, filter_passes}
 use Rattle.jb_model.specs.declared.summary.Summary.{Summary}
 use Rattle.jb_index.specs.Cut.{IsCutAt, NumbersRise}
-use Rattle.jb_index.specs.Edit.{above, below, changed_at, fits, with_attribute, with_parent, with_summary, without}
+use Rattle.jb_index.specs.Edit.{above, below, changed_at, fits, with_summary, without}
 use Rattle.jb_index.proofs.ListLemmas.{filter_all, filter_cut}
 use Rattle.jb_index.proofs.PlaceLemmas.{find_none, is_some_find}
 use Rattle.jb_index.proofs.ThreadLemmas.{no_summary}

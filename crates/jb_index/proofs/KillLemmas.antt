@@ -1,7 +1,7 @@
 -- What a kill changes in the index of an area.
-use Rattle.std.proofs.Common.{◌≡◌, ◌≢◌, inl, inr, ℕ, zero, suc, ◌+◌, ◌-◌, ◌<◌, ◌≤◌, nat_lt, Bool, true, false, not, ◌&&◌, ◌==◌, cond, List, [], ◌∷◌, Option, Some, None, filter, find, map, length, get_or, slice_get, slice_set, refl, sym, ◌∙◌, ap, subst, arith, eq-eqb, ne_eqb, eqb-true}
+use Rattle.std.proofs.Common.{◌≡◌, ◌≢◌, inl, inr, ℕ, zero, suc, ◌+◌, ◌-◌, ◌<◌, ◌≤◌, Bool, true, false, not, ◌&&◌, ◌==◌, cond, List, [], ◌∷◌, Option, Some, None, filter, find, map, get_or, slice_get, slice_set, refl, sym, ◌∙◌, ap, subst, arith, eq-eqb, ne_eqb, eqb-true}
 use Rattle.std.specs.Prelude.{All, is_some}
-use Rattle.std.proofs.lemmas.Bool.{cond-true, eqb-false, false≢true}
+use Rattle.std.proofs.lemmas.Bool.{eqb-false, false≢true}
 use Rattle.std.proofs.lemmas.List.{length-set}
 use Rattle.std.proofs.lemmas.List.Elements.{All-cons, All-filter, All-nil, filter_agree}
 use Rattle.jb_base.specs.Access.{first_refusal}
@@ -15,7 +15,10 @@ use Rattle.jb_model.specs.Live.{Numbered, live_from, live_in, message_at, with_s
 use Rattle.jb_model.specs.Message.{envelope_of}
 use Rattle.jb_model.specs.Standing.{is_refusal}
 use Rattle.jb_model.specs.State.{AreaState, LiveMessage, SlotState, killed_message, live_message, next_number, no_message, state_of}
+use Rattle.jb_model.specs.Step.{step}
 use Rattle.jb_model.specs.Visible.{visible_at}
+use Rattle.jb_model.specs.declared.command.Command.{Command}
+use Rattle.jb_model.specs.declared.command.Command.TheVariants.{Kill}
 use Rattle.jb_model.specs.declared.loaded.Loaded.{Loaded}
 use Rattle.jb_model.specs.declared.mark.Mark.{Mark}
 use Rattle.jb_model.specs.declared.reply.Reply.{Reply}
@@ -24,7 +27,7 @@ use Rattle.jb_model.specs.declared.summary.Summary.{Summary}
 use Rattle.jb_model.proofs.ThreadLaws.{parent_is_lower}
 use Rattle.jb_link.specs.Slots.{IsLive}
 use Rattle.jb_link.proofs.LiveLemmas.{linkables_with_texts, live_at_place}
-use Rattle.jb_index.specs.Change.{IsLiveKill, edits_killing, edits_of_kill, without_one}
+use Rattle.jb_index.specs.Change.{FollowsStep, IsAnswer, IsLiveKill, edits_killing, edits_of_kill, without_one}
 use Rattle.jb_index.specs.Edit.{absorbed, changed_at, with_parent, without}
 use Rattle.jb_index.specs.Index.{index_of, summary_of, summary_with}
 use Rattle.jb_index.specs.declared.op.OpEdit.TheVariants.{Parent}
@@ -55,7 +58,7 @@ killed_live (suc k) base number (live_message first ∷ slots) message at is =
 stays_found : (test : Linkable → Bool) (number : ℕ) (live : List Linkable) → number_or_0 (find test live) ≢ number
     → number_or_0 (find test (without_one number live)) ≡ number_or_0 (find test live)
 stays_found test number [] other = refl
-stays_found test number (one ∷ live) other = by (test one) (one.number == number) refl refl
+stays_found test number (one ∷ live) other = by (test one) (one.number == number) refl refl (λ differs. stays_found test number live differs)
   where
     W : List Linkable
     W = without_one number live
@@ -66,16 +69,14 @@ stays_found test number (one ∷ live) other = by (test one) (one.number == numb
     right : (a : Bool) → test one ≡ a → number_or_0 (find test (one ∷ live)) ≡ number_or_0 (cond a (Some one) (find test live))
     right a e = ap (λ c. number_or_0 (cond c (Some one) (find test live))) e
 
-    later : test one ≡ false → number_or_0 (find test W) ≡ number_or_0 (find test live)
-    later e = stays_found test number live (λ same. other (right false e ∙ same))
-
-    by : (a b : Bool) → test one ≡ a → (one.number == number) ≡ b → number_or_0 (find test (without_one number (one ∷ live))) ≡ number_or_0 (find test (one ∷ live))
-    by true true passes same = absurd (other (right true passes ∙ eqb-true _ _ same))
-    by true false passes differs =
+    by : (a b : Bool) → test one ≡ a → (one.number == number) ≡ b → (number_or_0 (find test live) ≢ number → number_or_0 (find test W) ≡ number_or_0 (find test live))
+        → number_or_0 (find test (without_one number (one ∷ live))) ≡ number_or_0 (find test (one ∷ live))
+    by true true passes same rest = absurd (other (right true passes ∙ eqb-true _ _ same))
+    by true false passes differs rest =
         left false differs ∙ ap (λ c. number_or_0 (cond c (Some one) (find test W))) passes ∙ sym (right true passes)
-    by false true fails same = left true same ∙ later fails ∙ sym (right false fails)
-    by false false fails differs =
-        left false differs ∙ ap (λ c. number_or_0 (cond c (Some one) (find test W))) fails ∙ later fails ∙ sym (right false fails)
+    by false true fails same rest = left true same ∙ rest (λ is. other (right false fails ∙ is)) ∙ sym (right false fails)
+    by false false fails differs rest =
+        left false differs ∙ ap (λ c. number_or_0 (cond c (Some one) (find test W))) fails ∙ rest (λ is. other (right false fails ∙ is)) ∙ sym (right false fails)
 
 -- a parent that is another stays
 parent_stays : (live : List Linkable) (number : ℕ) (one : Linkable) → parent_of live one ≢ number → parent_of (without_one number live) one ≡ parent_of live one
@@ -296,3 +297,15 @@ killed_is_live rules texts loaded user number (Killed killed) e = by (kill_ends 
         let from : loaded.base ≤ number = (stands_at (state_of texts loaded) number message named).from in
         sym (live_at_place [] loaded number from) ∙ live_at_place texts loaded number from ∙ ap is_some named
 killed_is_live rules texts loaded user number reply e = tt
+
+-- the kill that was answered so
+pub kill_is_live : (rules : AreaRules) (loaded : Loaded) (user : User) (moment number : ℕ) (command : Command) (reply : Reply) → command ≡ Kill number → IsAnswer rules loaded user moment command reply
+    → IsLiveKill loaded number reply
+kill_is_live rules loaded user moment number command reply is (texts, e) =
+    killed_is_live rules texts loaded user number reply (ap (λ (c : Command). (step rules (state_of texts loaded) user moment c).reply) (sym is) ∙ e)
+
+-- the edits of a kill make of the index what the kill makes of the area
+pub kill_edits : (rules : AreaRules) (loaded : Loaded) (user : User) (moment number : ℕ) (command : Command) (reply : Reply) → command ≡ Kill number → 1 ≤ loaded.base
+    → FollowsStep rules loaded user moment command reply (edits_killing loaded number reply)
+kill_edits rules loaded user moment number command reply is above =
+    subst (λ (c : Command). FollowsStep rules loaded user moment c reply (edits_killing loaded number reply)) (sym is) (λ texts e. kill_follows rules texts loaded user number reply above e)

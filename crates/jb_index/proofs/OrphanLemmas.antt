@@ -1,5 +1,5 @@
 -- The edits of a kill, as one pass over the messages behind finds them.
-use Rattle.std.proofs.Common.{◌≡◌, ◌≢◌, inl, inr, ℕ, suc, ◌+◌, ◌-◌, ◌<◌, ◌≤◌, nat_lt, Bool, true, false, not, ◌&&◌, ◌==◌, cond, List, [], ◌∷◌, ◌++◌, Option, Some, None, filter, find, map, length, take, drop, get_or, slice_get, bytes_eq, length-append, length-take, append-nil, refl, sym, ◌∙◌, ap, subst, arith, eq-eqb, ne_eqb, eqb-true, lt-ltb, le-ltb}
+use Rattle.std.proofs.Common.{◌≡◌, inl, inr, ℕ, ◌+◌, ◌-◌, ◌<◌, ◌≤◌, nat_lt, Bool, true, false, not, ◌&&◌, ◌==◌, cond, List, [], ◌∷◌, ◌++◌, Option, Some, None, filter, find, map, length, take, drop, get_or, slice_get, length-take, append-nil, refl, sym, ◌∙◌, ap, arith, eq-eqb, ne_eqb, eqb-true, lt-ltb}
 use Rattle.std.specs.Prelude.{All}
 use Rattle.std.specs.Option.{option_or}
 use Rattle.std.proofs.lemmas.Bool.{false≢true}
@@ -11,13 +11,14 @@ use Rattle.std.proofs.lemmas.Option.{slice_get_within}
 use Rattle.std.proofs.lemmas.Slice.Eq.{bytes_eq-Decides}
 use Rattle.jb_model.specs.Links.{Linkable, is_answered_by, is_id, is_kept_by, number_or_0, parent_for, parent_of}
 use Rattle.jb_model.specs.Message.{msgid_of, replyid_of}
+use Rattle.jb_model.specs.declared.loaded.Loaded.{Loaded}
 use Rattle.jb_model.specs.declared.loaded.LoadedMessage.{LoadedMessage}
 use Rattle.jb_model.specs.declared.loaded.LoadedSlot.{LoadedSlot}
 use Rattle.jb_model.specs.declared.loaded.LoadedSlot.TheVariants.{Empty, Killed, Live}
 use Rattle.jb_model.proofs.ThreadLaws.{parent_is_lower}
-use Rattle.jb_link.specs.Slots.{linkables_from, loaded_linkable}
+use Rattle.jb_link.specs.Slots.{linkables_from, loaded_linkable, msgid_in}
 use Rattle.jb_link.specs.Splice.{own_id}
-use Rattle.jb_link.proofs.LiveLemmas.{find_below, linkables_from-append}
+use Rattle.jb_link.proofs.LiveLemmas.{StandsAt, find_below, linkables_from-append}
 use Rattle.jb_link.proofs.RangeLemmas.{found_from, same_found}
 use Rattle.jb_link.proofs.ReplyLemmas.{has_parent, split_live}
 use Rattle.jb_index.specs.Change.{edits_of_kill, without_one}
@@ -285,3 +286,54 @@ pub edits_are : (base k number : ℕ) (slots : List LoadedSlot) (message : Loade
     → Drop number ∷ parents_of number (linkables_from base slots) (behind number k slots) ≡ edits_of_kill (linkables_from base slots) number
 edits_are base k number slots message is =
     ap (λ ones. Drop number ∷ map (λ one. Parent one.number (parent_of (without_one number (linkables_from base slots)) one)) ones) (sym (answers_behind base k number slots message is))
+
+-- a live message that a number names stands at its place
+pub is_at : (loaded : Loaded) (number : ℕ) → 1 ≤ loaded.base → (stands : StandsAt loaded.base number loaded.slots) → IsAt loaded.base (number - loaded.base) number loaded.slots stands.message
+is_at loaded number above stands =
+    let numbered : number ≡ loaded.base + stands.place = stands.numbered in
+    let place : number - loaded.base ≡ stands.place = omega arith in
+    record { above = above; numbered = omega arith; at = ap (slice_get loaded.slots) place ∙ stands.at }
+
+-- the edit of a message with this number that gets this parent, where it gets one
+abbrev pub parent_edit : ℕ → Option ℕ → List OpEdit
+parent_edit number None = []
+parent_edit number (Some parent) = Parent number parent ∷ []
+
+-- the edits with one more message behind it
+pub edits_more : (base k number : ℕ) (slots : List LoadedSlot) (message : LoadedMessage) → IsAt base k number slots message
+    → (own : Option (List ℕ)) → own ≡ own_id (before base k slots) (msgid_of message.subfields)
+    → (i heir : ℕ) (later : List LoadedSlot) (slot : LoadedSlot) (one : LoadedMessage) → later ≡ drop (k + 1) slots → i < length later → slot ≡ get_or later i slot → slot ≡ Live one
+    → heir ≡ heir_among own (linkables_from (number + 1) (take i later))
+    → (found : Option ℕ) → found ≡ orphan_parent own number heir (replyid_of one.subfields) one.head.reply_to
+    → (edits : List OpEdit) → edits ≡ Drop number ∷ parents_of number (linkables_from base slots) (linkables_from (number + 1) (take i later))
+    → edits ++ parent_edit (number + 1 + i) found ≡ Drop number ∷ parents_of number (linkables_from base slots) (linkables_from (number + 1) (take (i + 1) later))
+edits_more base k number slots message is own owned i heir later slot one behind_it within read live is_heir found gets edits so_far =
+    ap (λ l. l ++ parent_edit (number + 1 + i) found) so_far
+    ∙ ap (λ o. Drop number ∷ parents_of number L (linkables_from (number + 1) (take i later)) ++ parent_edit (number + 1 + i) o)
+    (gets ∙ orphan_is base k number slots message is i (number + 1 + i) one refl own heir owned (is_heir ∙ ap (λ (l : List LoadedSlot). heir_among own (linkables_from (number + 1) (take i l))) behind_it))
+    ∙ ap (λ l. Drop number ∷ parents_of number L (linkables_from (number + 1) (take i later)) ++ l) (chosen (parent_of L (loaded_linkable (number + 1 + i) one) == number))
+    ∙ ap (λ l. Drop number ∷ l) (sym (parents_more number (number + 1) i L later slot one (parent_of L (loaded_linkable (number + 1 + i) one) == number) within read live refl))
+  where
+    L : List Linkable
+    L = linkables_from base slots
+
+    Q : ℕ
+    Q = parent_of (without_one number L) (loaded_linkable (number + 1 + i) one)
+
+    chosen : (b : Bool) → parent_edit (number + 1 + i) (cond b (Some Q) None) ≡ cond b (Parent (number + 1 + i) Q ∷ []) []
+    chosen true = refl
+    chosen false = refl
+
+-- the own id of the message at its place
+pub own_at : (loaded : Loaded) (number : ℕ) (message : LoadedMessage) (own : Option (List ℕ)) → IsAt loaded.base (number - loaded.base) number loaded.slots message
+    → own ≡ own_id (before loaded.base (number - loaded.base) loaded.slots) (msgid_in (slice_get loaded.slots (number - loaded.base)))
+    → own ≡ own_id (before loaded.base (number - loaded.base) loaded.slots) (msgid_of message.subfields)
+own_at loaded number message own is owned = owned ∙ ap (λ slot. own_id (before loaded.base (number - loaded.base) loaded.slots) (msgid_in slot)) is.at
+
+-- the id of a message at a place is its own where none below it is found by it
+pub own_id_found : (loaded : Loaded) (k at lowest : ℕ) (message : LoadedMessage) (id : List ℕ) (b : Bool) → at ≡ loaded.base + k → slice_get loaded.slots k ≡ Some (Live message)
+    → msgid_of message.subfields ≡ Some id → lowest ≡ parent_for (linkables_from loaded.base loaded.slots) at (Some id) 0 → (lowest == 0) ≡ b
+    → cond b (Some id) None ≡ own_id (linkables_from loaded.base (take k loaded.slots)) (msgid_in (slice_get loaded.slots k))
+own_id_found loaded k at lowest message id b place stands has is zero =
+    ap (λ c. cond c (Some id) None) (sym zero ∙ ap (λ n. n == 0) (is ∙ ap number_or_0 (find_below (λ one. is_id id one.msgid) k loaded.base at loaded.slots place)))
+    ∙ sym (ap (own_id (linkables_from loaded.base (take k loaded.slots))) (ap msgid_in stands ∙ has))

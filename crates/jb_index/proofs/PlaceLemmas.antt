@@ -1,11 +1,11 @@
 -- Where numbers stand in a list in which they rise.
-use Rattle.std.proofs.Common.{◌≡◌, inl, inr, ℕ, zero, suc, ◌<◌, ◌≤◌, Bool, true, false, ◌&&◌, ◌==◌, cond, List, [], ◌∷◌, Some, None, filter, find, length, get_or, slice_get, refl, sym, ◌∙◌, ap, arith, eq-eqb, ne_eqb}
+use Rattle.std.proofs.Common.{◌≡◌, inl, inr, ℕ, zero, suc, ◌<◌, ◌≤◌, Bool, true, false, ◌&&◌, ◌==◌, cond, List, [], ◌∷◌, Option, Some, None, filter, find, length, get_or, slice_get, refl, sym, ◌∙◌, ap, arith, eq-eqb, ne_eqb}
 use Rattle.std.specs.Prelude.{All, is_some}
 use Rattle.std.proofs.lemmas.Bool.{cases_order, cond_both}
 use Rattle.std.proofs.lemmas.Option.{get_or_from_slice_get}
 use Rattle.std.proofs.lemmas.List.{get_or_default}
 use Rattle.jb_model.specs.declared.summary.Summary.{Summary}
-use Rattle.jb_index.specs.Cut.{IsCutAt, NumbersRise}
+use Rattle.jb_index.specs.Cut.{IsCutAt, IsPlaceOf, NumbersRise}
 
 -- where another number stands at the place of this one, none has it
 pub not_at : (xs : List Summary) (number at : ℕ) (one : Summary) → NumbersRise xs → IsCutAt xs number at → slice_get xs at ≡ Some one → (one.number ≡ number → ⊥)
@@ -25,6 +25,11 @@ not_at xs number at one rises cut here other = λ k d within. ne_eqb _ _ (differ
               let from : number ≤ (get_or xs at d).number = cut.rest at d (omega arith) (omega arith) in
               absurd (omega arith))
         ]
+
+-- where no place is found, none has the number
+pub none_there : (xs : List Summary) (number : ℕ) (found : Option ℕ) → IsPlaceOf xs number found → ((at : ℕ) → found ≡ Some at → ⊥) → All (λ x. (x.number == number) ≡ false) xs
+none_there xs number None place other = place
+none_there xs number (Some at) place other = absurd (other at refl)
 
 -- nothing is found where nothing passes
 pub find_none : {X : Type 0} (p : X → Bool) (xs : List X) → ((k : ℕ) (d : X) → k < length xs → p (get_or xs k d) ≡ false) → find p xs ≡ None

@@ -1,6 +1,6 @@
 -- What a post changes in the index of an area.
-use Rattle.std.proofs.Common.{◌≡◌, ◌≢◌, ◌⊎◌, inl, inr, ℕ, suc, ◌+◌, ◌-◌, ◌<◌, ◌≤◌, nat_le, nat_lt, Bool, true, false, not, ◌&&◌, ◌||◌, ◌==◌, cond, List, [], ◌∷◌, ◌++◌, Option, Some, None, find, map, length, get_or, slice_get, append-nil, refl, sym, ◌∙◌, ap, subst, arith, eq-eqb, ne_eqb, lt-ltb, le-ltb, eqb-true}
-use Rattle.std.specs.Prelude.{All, IfSome, is_none, is_some, max, min, option_and_then, option_map, option_to_list}
+use Rattle.std.proofs.Common.{◌≡◌, inl, inr, ℕ, suc, ◌+◌, ◌-◌, ◌<◌, ◌≤◌, nat_le, nat_lt, Bool, true, false, not, ◌&&◌, ◌==◌, cond, List, [], ◌∷◌, ◌++◌, Option, Some, None, find, map, length, slice_get, refl, sym, ◌∙◌, ap, subst, arith, eq-eqb, ne_eqb, eqb-true}
+use Rattle.std.specs.Prelude.{All, IfSome, is_none, max, min, option_and_then, option_map, option_to_list}
 use Rattle.std.specs.Option.{option_or}
 use Rattle.std.proofs.lemmas.Bool.{cond_both, false≢true}
 use Rattle.std.proofs.lemmas.Option.{slice_get-map}
@@ -12,8 +12,8 @@ use Rattle.jb_base.specs.declared.area.AreaRules.{AreaRules}
 use Rattle.jb_base.specs.declared.limits.TheConstants.{HEADERS_CEILING, LAST_POSTED_NUMBER, MOST_NAME_BYTES, MOST_POSTED_TEXT_BYTES, MOST_SUBJECT_BYTES, TEXTS_CEILING}
 use Rattle.jb_base.specs.declared.subfield.TheConstants.{MSGID, RECEIVER_NAME, REPLYID, SENDER_NAME, SUBJECT}
 use Rattle.jb_base.specs.declared.user.User.{User}
-use Rattle.jb_model.specs.Answered.{Answered, counted, unless_denied, unless_refused}
-use Rattle.jb_model.specs.Links.{Linkable, last_reply_of, linkable, linkables_of, parent_at, parent_for, parent_of, parent_or_0}
+use Rattle.jb_model.specs.Answered.{Answered, unless_refused}
+use Rattle.jb_model.specs.Links.{Linkable, last_reply_of, linkable, linkables_of, parent_at, parent_for, parent_or_0}
 use Rattle.jb_model.specs.Live.{Numbered, live_from, live_in, live_of, message_at}
 use Rattle.jb_model.specs.Message.{header_length, msgid_of, replyid_of, subject_of}
 use Rattle.jb_model.specs.Post.{Draft, answer_refusal, draft_refusal, if_copied, plain_field, post_done, post_step, posted_attribute, posted_message, posted_msgid, posted_parent, posted_replyid, posted_state, room_refusal, slots_with, spliced_slots, told_length, with_first_reply, with_next_reply}

@@ -1,16 +1,14 @@
 -- Live messages of slots, one of which is another now.
-use Rattle.std.proofs.Common.{◌≡◌, inl, inr, ℕ, zero, suc, ◌+◌, ◌-◌, ◌<◌, ◌≤◌, nat_lt, Bool, true, false, not, ◌==◌, cond, List, [], ◌∷◌, ◌++◌, Option, Some, None, filter, find, map, length, get_or, slice_get, slice_set, refl, sym, ◌∙◌, ap, arith, eq-eqb, ne_eqb}
+use Rattle.std.proofs.Common.{◌≡◌, ℕ, zero, suc, ◌+◌, ◌-◌, ◌<◌, ◌≤◌, nat_lt, Bool, true, false, ◌==◌, cond, List, [], ◌∷◌, ◌++◌, Option, Some, None, map, length, slice_get, slice_set, refl, sym, ◌∙◌, ap, arith, eq-eqb, ne_eqb}
 use Rattle.std.specs.Prelude.{All, option_map}
-use Rattle.std.proofs.lemmas.Bool.{cond_both, ltb-false}
+use Rattle.std.proofs.lemmas.Bool.{ltb-false}
 use Rattle.std.proofs.lemmas.List.{length-set}
 use Rattle.std.proofs.lemmas.List.Elements.{All-cons, All-nil}
-use Rattle.jb_model.specs.Links.{Linkable, linkable, linkables_of, parent_at, parent_of, parent_or_0}
 use Rattle.jb_model.specs.Live.{Numbered, live_from, live_of, message_at}
 use Rattle.jb_model.specs.Post.{slots_with}
 use Rattle.jb_model.specs.State.{AreaState, LiveMessage, SlotState, killed_message, live_message, no_message}
 use Rattle.jb_model.specs.declared.summary.Summary.{Summary}
 use Rattle.jb_index.specs.Edit.{changed_at}
-use Rattle.jb_index.specs.Index.{summary_of}
 use Rattle.jb_index.proofs.EditLemmas.{changed_none}
 
 -- a live message and its number
@@ -75,7 +73,7 @@ mapped_set f (suc k) base (live_message first ∷ slots) message changed at same
     ap (λ rest. f (numbered base first) ∷ rest) (mapped_set f k (base + 1) slots message changed at same)
 
 -- summaries of slots behind a number have other numbers
-others_behind : (f : Numbered → Summary) (keeps : (one : Numbered) → (f one).number ≡ one.number) (number base : ℕ) (slots : List SlotState) → number < base
+pub others_behind : (f : Numbered → Summary) (keeps : (one : Numbered) → (f one).number ≡ one.number) (number base : ℕ) (slots : List SlotState) → number < base
     → All (λ one. (one.number == number) ≡ false) (map f (live_from base slots))
 others_behind f keeps number base slots below =
     all_made (λ one. (one.number == number) ≡ false) f (live_from base slots)

@@ -1,6 +1,4 @@
-use Rattle.std.proofs.Common.{◌≡◌, ◌+◌, ◌∷◌, List, take}
-use Rattle.std.specs.Prelude.{option_map}
-use Rattle.std.specs.Borrow.{Bor}
+use Rattle.std.proofs.Common.{◌≡◌, ◌+◌, ◌∷◌, take}
 use Rattle.jb_index.specs.Orphan.{heir_among}
 use Rattle.jb_index.specs.declared.op.OpEdit.TheVariants.{Drop}
 use Rattle.jb_index.proofs.OrphanLemmas.{parents_of}
