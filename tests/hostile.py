@@ -28,13 +28,15 @@ from visits import AREAS, COUNT, NAMES, password_of, users
 
 NODES = 32
 MOST_SESSION_BYTES = 16_777_216
-# what is heard at once, and the commands in it at most: all that these are answered is kept until it is sent
-PIECE_BYTES, PIECE_COMMANDS = 4096, 2048
+# what is heard at once, the commands in it at most, and what is owed at most before another is done
+PIECE_BYTES, PIECE_COMMANDS, OWED_BYTES = 4096, 2048, 65_536
 # what a caller costs in memory besides, and what the program may have more or less of it by itself
 CALLER_BYTES, SLACK_BYTES = 131_072, 4_194_304
 OWN = AREAS[-1]
 # the longest text that a base may hold
 LETTER_BYTES = 1_048_576
+# what the answer with it takes of memory while it is made and sent, in letters
+ANSWER_LETTERS = 6
 
 
 def drawn_bytes(draw, size):
@@ -167,7 +169,7 @@ def try_noise(trial, many):
         for _ in range(many):
             pours(trial.caller("one who sends noise").line, made(draw, size), draw)
     trial.with_others("noise", [lambda seed=seed: one(seed) for seed in range(NODES - 1)])
-    trial.takes_at_most("noise", (NODES - 1) * (CALLER_BYTES + PIECE_COMMANDS * 256))
+    trial.takes_at_most("noise", (NODES - 1) * (CALLER_BYTES + 2 * OWED_BYTES))
     trial.ends_well("noise")
 
 
@@ -248,41 +250,67 @@ def try_deaf(trial, many):
         except OSError:
             return caller
     callers = trial.with_others("who never reads", [lambda n=n: one(n) for n in range(NODES - 1 if many > 1 else 8)])
-    trial.takes_at_most("who never reads", 2 * len(callers) * PIECE_COMMANDS * page)
+    trial.takes_at_most("who never reads", len(callers) * (CALLER_BYTES + 2 * (OWED_BYTES + page)))
     for caller in callers:
         caller.line.close()
     trial.ends_well("who never reads")
 
 
+def of_large_letter(trial, **run):
+    """A run over a base with one letter as long as a base may hold."""
+    trial.is_gone()
+    trial.has_bases()
+    base = one_message()
+    base.slots[0].text = b"x" * LETTER_BYTES
+    jam.write(f"{trial.folder}/areas", "large", base)
+    trial.has_settings(settings(("large",), users(), port=trial.port, nodes=4))
+    Served.begins(trial, areas=("large",), nodes=4, **run)
+
+
 def try_hoarder(trial, many):
+    """One who asks for the longest letter again and again, in one piece, costs no more than one who asks once: who reads gets all of them, and who
+    does not is waited for."""
+    of_large_letter(trial)
+    trial.before = trial.of_memory()
+    hoarder, deaf = trial.user(0), trial.user(1)
+    deaf.line.setsockopt(socket.SOL_SOCKET, socket.SO_RCVBUF, 4096)
+    deaf.types(b"1\n" * PIECE_COMMANDS)
+    hoarder.types(b"1\n" * 100 * many + b"q\n")
+    size = 0
+    while part := hoarder.line.recv(1 << 20):
+        size += len(part)
+    trial.holds(f"a hoarder is given all: {size} bytes", size > 100 * many * LETTER_BYTES)
+    trial.takes_at_most("a hoarder and one who does not read", 2 * ANSWER_LETTERS * LETTER_BYTES)
+    deaf.line.close()
+    trial.ends("a hoarder", -signal.SIGTERM, signal.SIGTERM)
+
+
+def try_no_memory(trial, many):
     """One who asks for more than there is memory for is hung up, and nobody else: the addresses of the program are limited to what it needs
     and some more."""
-    most = None
-    for run in ({}, {"preexec_fn": lambda: resource.setrlimit(resource.RLIMIT_AS, (most, most))}):
-        trial.is_gone()
-        trial.has_bases()
-        base = one_message()
-        base.slots[0].text = b"x" * LETTER_BYTES
-        jam.write(f"{trial.folder}/areas", "large", base)
-        trial.has_settings(settings(("large",), users(), port=trial.port, nodes=4))
-        Served.begins(trial, areas=("large",), nodes=4, **run)
-        others = together((lambda n=n: trial.user(n)) for n in range(3))
-        most = trial.of_memory("VmPeak") + 64 * LETTER_BYTES
-    hoarder = trial.user(3)
-    hoarder.types(b"1\n" * 200 * many)
-    trial.holds("a hoarder is hung up", drains(hoarder.line))
+    # with one heap for all threads, else each has addresses of its own in store
+    heap = {"env": {**os.environ, "MALLOC_ARENA_MAX": "1"}}
+    of_large_letter(trial, **heap)
+    for caller in [trial.user(n) for n in range(4)]:
+        caller.quits()
+    most = trial.of_memory("VmPeak") + LETTER_BYTES // 2
+    of_large_letter(trial, preexec_fn=lambda: resource.setrlimit(resource.RLIMIT_AS, (most, most)), **heap)
+    others = together((lambda n=n: trial.user(n)) for n in range(3))
+    wanting = trial.user(3)
+    wanting.types(b"1\n")
+    trial.holds("who wants more than there is memory for is hung up", drains(wanting.line))
     found = [caller.posts(b"All", b"post", [b"a line"], False, b"[large] ") for caller in others]
-    trial.is_so("beside a hoarder the others post", found, [2, 3, 4])
+    trial.is_so("beside them the others post", found, [2, 3, 4])
     for caller in others + [trial.user(3)]:
         caller.quits()
-    trial.ends("a hoarder", -signal.SIGTERM, signal.SIGTERM)
+    trial.ends("want of memory", -signal.SIGTERM, signal.SIGTERM)
 
 
 def main(program, is_all):
     folder = tempfile.mkdtemp(dir=memory_folder())
     try:
         trial = Hostile(os.path.realpath(program), folder)
-        for tried_ in (try_noise, try_limit, try_half_open, try_deaf, try_hoarder):
+        for tried_ in (try_noise, try_limit, try_half_open, try_deaf, try_hoarder, try_no_memory):
             trial.tells_wrong(tried_.__name__, lambda: tried_(trial, 10 if is_all else 1))
             trial.is_gone()
     finally:

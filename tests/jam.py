@@ -142,7 +142,7 @@ def held_links(base):
 def has_id(message):
     """Whether the text of the first MSGID is an address, a space and eight hexadecimal digits (FTS-0009)."""
     text = message.first(4)
-    return text is not None and re.fullmatch(rb'([^ "]+|"([^"]|"")+") [0-9A-Fa-f]{8}', text) is not None
+    return text is not None and re.fullmatch(rb'([^ "][^ ]*|"([^"]|"")+") [0-9A-Fa-f]{8}', text) is not None
 
 
 def shown(text):
