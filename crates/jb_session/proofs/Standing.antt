@@ -47,10 +47,10 @@ takes_same a b c xs takes same = let P : Option (List ℕ) → Type 0 = λ w. Ta
 sends_same : (a b c : Option (List ℕ)) (xs : List ℕ) → Sends a xs b → c ≡ b → Sends a xs c
 sends_same a b c xs sends same = let P : Option (List ℕ) → Type 0 = λ w. Sends a xs w in subst P (sym same) sends
 
--- what was handed out is a beginning of what is said over more bytes with more answers
-says_some : (board : Board) → EachTalks → TalksGrow → EachStands → (talking : Talking) (heard rest out : List ℕ) (answers later : List Given) (asked : List Request)
-    → HasTalked board talking heard answers out asked → SaysSome board (heard ++ rest) (answers ++ later) out asked
-says_some board each grow stands talking heard rest out answers later asked talked =
+-- what was handed out, and a part of what is owed, is a beginning of what is said over more bytes with more answers
+says_part : (board : Board) → EachTalks → TalksGrow → EachStands → (talking : Talking) (heard rest out part : List ℕ) (answers later : List Given) (asked : List Request)
+    → HasTalked board talking heard answers out asked → IsFront part talking.owed → SaysSome board (heard ++ rest) (answers ++ later) (out ++ part) asked
+says_part board each grow stands talking heard rest out part answers later asked talked begins =
     let so_far = stands board talking heard out answers asked talked in
     let whole = each board (heard ++ rest) (answers ++ later) in
     let grown = grow board heard rest answers later (out ++ talking.owed) whole.out asked whole.asked (end_of talking.place.standing talking.taken) whole.end so_far whole.talks in
@@ -58,9 +58,23 @@ says_some board each grow stands talking heard rest out answers later asked talk
       all = whole.out;
       every = whole.asked;
       says = record { end = whole.end; talks = whole.talks };
-      sent = record { rest = talking.owed ++ grown.0.rest; is = grown.0.is ∙ append_assoc out talking.owed grown.0.rest };
+      sent = record {
+        rest = begins.rest ++ grown.0.rest;
+        is = grown.0.is
+            ∙ ap (λ w. (out ++ w) ++ grown.0.rest) begins.is
+            ∙ ap (λ w. w ++ grown.0.rest) (sym (append_assoc out part begins.rest))
+            ∙ append_assoc (out ++ part) begins.rest grown.0.rest;
+      };
       made = grown.1;
     }
+
+-- what was handed out is one
+says_some : (board : Board) → EachTalks → TalksGrow → EachStands → (talking : Talking) (heard rest out : List ℕ) (answers later : List Given) (asked : List Request)
+    → HasTalked board talking heard answers out asked → SaysSome board (heard ++ rest) (answers ++ later) out asked
+says_some board each grow stands talking heard rest out answers later asked talked =
+    let P : List ℕ → Type 0 = λ w. SaysSome board (heard ++ rest) (answers ++ later) w asked in
+    subst P (append-nil out)
+    (says_part board each grow stands talking heard rest out [] answers later asked talked (record { rest = talking.owed; is = refl }))
 
 front_refl : {T : Type 0} (xs : List T) → IsFront xs xs
 front_refl xs = record { rest = []; is = sym (append-nil xs) }
@@ -69,11 +83,18 @@ front_refl xs = record { rest = []; is = sym (append-nil xs) }
 some_of_all : (board : Board) (taken out : List ℕ) (answers : List Given) (asked : List Request) → SaysAll board taken answers out asked → SaysSome board taken answers out asked
 some_of_all board taken out answers asked all = record { all = out; every = asked; says = all; sent = front_refl out; made = front_refl asked }
 
-pub rest_of : (n : ℕ) (xs : List ℕ) → take (length xs - n) (drop n xs) ≡ drop n xs
+cut_at : (n : ℕ) (xs : List ℕ) → xs ≡ take n xs ++ drop n xs
+cut_at n xs = same_lists _ _ (grind (arith, places)) (λ k d h. grind (arith, places))
+
+-- a part that reaches to the end
+rest_of : (n : ℕ) (xs : List ℕ) → take (length xs - n) (drop n xs) ≡ drop n xs
 rest_of n xs = same_lists _ _ (grind (arith, places)) (λ k d h. grind (arith, places))
 
-pub drop_on : (n m : ℕ) (xs : List ℕ) → drop n xs ≡ take m (drop n xs) ++ drop (n + m) xs
-drop_on n m xs = same_lists _ _ (grind (arith, places)) (λ k d h. grind (arith, places))
+drop_then : (n m : ℕ) (xs : List ℕ) → drop m (drop n xs) ≡ drop (n + m) xs
+drop_then n m xs = same_lists _ _ (grind (arith, places)) (λ k d h. grind (arith, places))
+
+pub drop_all : (n : ℕ) (xs : List ℕ) → length xs ≤ n → drop n xs ≡ []
+drop_all n xs all = same_lists _ _ (grind (arith, places)) (λ k d h. grind (arith, places))
 
 module _ (reading : Option ℕ) (board : Board) where
   passed_then : (from mid to : List PassView) (xs : List Exchange) (x : Exchange)
@@ -180,18 +201,30 @@ module _ (reading : Option ℕ) (board : Board) where
         subst Q (append-nil (asks_of s.exchanges)) talked;
   }
 
-  -- so many bytes behind the first ones of a piece were heard
-  pub take_on : (old now : Wire) (from to : List PassView) (at n : ℕ) (piece : List ℕ) (talking after : Talking) (next : Option Request)
-      → Stands reading board old from now (drop at piece) talking None to
+  -- so many bytes of a piece were heard
+  pub hear_on : (old now : Wire) (from to : List PassView) (n : ℕ) (piece : List ℕ) (talking after : Talking) (next : Option Request)
+      → Stands reading board old from now piece talking None to
       → ((bytes sent : List ℕ) (answers : List Given) (asked : List Request) → HasTalked board talking bytes answers sent asked
-      → HasTalked board after (bytes ++ take n (take (length piece - at) (drop at piece))) answers sent (asked ++ option_to_list next))
-      → Stands reading board old from now (drop (at + n) piece) after next to
-  take_on old now from to at n piece talking after next s fits =
+      → HasTalked board after (bytes ++ take n piece) answers sent (asked ++ option_to_list next))
+      → Stands reading board old from now (drop n piece) after next to
+  hear_on old now from to n piece talking after next s fits =
       let P : List ℕ → Type 0 = λ w. Stands reading board old from now w talking None to in
-      let t : Stands reading board old from now (take n (drop at piece) ++ drop (at + n) piece) talking None to = subst P (drop_on at n piece) s in
-      let Q : List ℕ → Type 0 = λ w. HasTalked board after (t.heard ++ take n w) (answers_of t.exchanges) t.out ((asks_of t.exchanges ++ []) ++ option_to_list next) in
-      heard_on old now from to (take n (drop at piece)) (drop (at + n) piece) talking after next t
-      (subst Q (rest_of at piece) (fits t.heard t.out (answers_of t.exchanges) (asks_of t.exchanges ++ []) t.talked))
+      let t : Stands reading board old from now (take n piece ++ drop n piece) talking None to = subst P (cut_at n piece) s in
+      heard_on old now from to (take n piece) (drop n piece) talking after next t (fits t.heard t.out (answers_of t.exchanges) (asks_of t.exchanges ++ []) t.talked)
+
+  -- what is left of a piece, as a part of it
+  pub rest_on : (old now : Wire) (from to : List PassView) (at : ℕ) (piece : List ℕ) (talking : Talking)
+      → Stands reading board old from now (drop at piece) talking None to → Stands reading board old from now (take (length piece - at) (drop at piece)) talking None to
+  rest_on old now from to at piece talking s =
+      let P : List ℕ → Type 0 = λ w. Stands reading board old from now w talking None to in
+      subst P (sym (rest_of at piece)) s
+
+  -- and what is left behind more of it
+  pub left_on : (old now : Wire) (from to : List PassView) (at n : ℕ) (piece : List ℕ) (talking : Talking)
+      → Stands reading board old from now (drop n (take (length piece - at) (drop at piece))) talking None to → Stands reading board old from now (drop (at + n) piece) talking None to
+  left_on old now from to at n piece talking s =
+      let P : List ℕ → Type 0 = λ w. Stands reading board old from now w talking None to in
+      subst P (ap (drop n) (rest_of at piece) ∙ drop_then at n piece) s
 
   -- a piece was read
   pub read_on : (old now now' : Wire) (from to : List PassView) (piece : List ℕ) (talking : Talking)
@@ -213,10 +246,10 @@ module _ (reading : Option ℕ) (board : Board) where
   }
 
   -- all that was owed was sent
-  pub sent_on : (old now now' : Wire) (from to : List PassView) (talking after : Talking)
-      → (s : Stands reading board old from now [] talking None to) → Sends now.sent talking.owed now'.sent → now'.to_come ≡ now.to_come → now'.unsent ≡ now.unsent → Later now now'
-      → HasTalked board after s.heard (answers_of s.exchanges) (s.out ++ talking.owed) (asks_of s.exchanges ++ []) → Stands reading board old from now' [] after None to
-  sent_on old now now' from to talking after s sends to_come quiet later talked = record {
+  pub sent_on : (old now now' : Wire) (from to : List PassView) (rest : List ℕ) (talking after : Talking)
+      → (s : Stands reading board old from now rest talking None to) → Sends now.sent talking.owed now'.sent → now'.to_come ≡ now.to_come → now'.unsent ≡ now.unsent → Later now now'
+      → HasTalked board after s.heard (answers_of s.exchanges) (s.out ++ talking.owed) (asks_of s.exchanges ++ []) → Stands reading board old from now' rest after None to
+  sent_on old now now' from to rest talking after s sends to_come quiet later talked = record {
     heard = s.heard;
     within = s.within;
     takes = takes_same _ _ _ _ s.takes to_come;
@@ -227,6 +260,33 @@ module _ (reading : Option ℕ) (board : Board) where
     later = later_then old now now' s.later later;
     quiet = quiet ∙ s.quiet;
     talked = talked;
+  }
+
+  -- a write failed
+  pub ends_unsent : EachTalks → TalksGrow → EachStands → (old now now' : Wire) (from to : List PassView) (rest : List ℕ) (talking : Talking) (part : List ℕ)
+      → Stands reading board old from now rest talking None to → Begins part talking.owed → Sends now.sent part now'.sent → now'.to_come ≡ now.to_come → Later now now'
+      → Rose now.faults now'.faults → Rose now.unsent now'.unsent → Served reading board old from LinkFault now' to
+  ends_unsent each grow stands old now now' from to rest talking part s begins sends to_come later faults unsent = record {
+    taken = s.heard ++ rest;
+    within = omega (arith, s.within, length-append s.heard rest);
+    takes = takes_same _ _ _ _ s.takes to_come;
+    exchanges = s.exchanges;
+    mid = to;
+    passed = s.passed;
+    last = None;
+    lacks = refl;
+    only = refl;
+    out = s.out ++ part;
+    sends = sends_more _ _ _ _ _ s.sends sends;
+    later = later_then old now now' s.later later;
+    quiet = λ other. absurd (other refl);
+    ends =
+        let P : List Given → Type 0 = λ w. SaysSome board (s.heard ++ rest) w (s.out ++ part) (asks_of s.exchanges ++ []) in (
+          subst P (append-nil (answers_of s.exchanges))
+              (says_part board each grow stands talking s.heard rest s.out part (answers_of s.exchanges) [] (asks_of s.exchanges ++ []) s.talked (record { rest = begins.rest; is = begins.is })),
+          rose_later old.faults now.faults now'.faults now'.faults s.later.faults faults (omega arith),
+          inl (rose_later old.unsent now.unsent now'.unsent now'.unsent s.later.unsent unsent (omega arith)),
+        );
   }
 
   -- a session that stands with nothing left to hear ends so
@@ -258,24 +318,6 @@ module _ (reading : Option ℕ) (board : Board) where
   said stands old now from to talking s part owed =
       let P : List ℕ → Type 0 = λ w. Talks board s.heard (answers_of s.exchanges) (s.out ++ w) (asks_of s.exchanges ++ []) (end_of talking.place.standing talking.taken) in
       subst P owed (stands board talking s.heard s.out (answers_of s.exchanges) (asks_of s.exchanges ++ []) s.talked)
-
-  -- a write failed
-  pub ends_unsent : EachStands → (old now now' : Wire) (from to : List PassView) (talking : Talking) (part : List ℕ)
-      → Stands reading board old from now [] talking None to → Begins part talking.owed → Sends now.sent part now'.sent → now'.to_come ≡ now.to_come → Later now now'
-      → Rose now.faults now'.faults → Rose now.unsent now'.unsent → Served reading board old from LinkFault now' to
-  ends_unsent stands old now now' from to talking part s begins sends to_come later faults unsent =
-      let talks = said stands old now from to talking s talking.owed refl in
-      ends_so old now now' from to talking LinkFault part s refl sends to_come later (λ other. absurd (other refl)) (
-        record {
-          all = s.out ++ talking.owed;
-          every = asks_of s.exchanges ++ [];
-          says = record { end = end_of talking.place.standing talking.taken; talks = talks };
-          sent = record { rest = begins.rest; is = ap (λ w. s.out ++ w) begins.is ∙ sym (append_assoc s.out part begins.rest) };
-          made = front_refl (asks_of s.exchanges ++ []);
-        },
-        rose_later old.faults now.faults now'.faults now'.faults s.later.faults faults (omega arith),
-        inl (rose_later old.unsent now.unsent now'.unsent now'.unsent s.later.unsent unsent (omega arith)),
-      )
 
   -- a read failed, with nothing owed
   pub ends_unread : EachStands → (old now now' : Wire) (from to : List PassView) (talking : Talking)

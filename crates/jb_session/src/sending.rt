@@ -1,34 +1,59 @@
 //! What a talk owes, sent; and a piece for it, read.
-ghost use Rattle.std.specs.Prelude.{◌≡◌, ◌<◌, ◌≤◌, ◌++◌, ℕ, List, [], IfOk, OnErr, OnOk, length, take};
+ghost use Rattle.std.specs.Prelude.{◌≡◌, ◌<◌, ◌≤◌, ℕ, List, [], None, Option, IfOk, OnErr, OnOk, length, take};
 ghost use Rattle.std.specs.Option.{ForSome};
 ghost use Rattle.jb_base.specs.Fault.{HasCause, Rose};
 ghost use Rattle.jb_conf.specs.declared.board.Board.{Board};
-ghost use Rattle.jb_host.specs.Wire.{Begins, Sends, Takes};
-ghost use Rattle.jb_menu.specs.declared.given.Given.{Given};
-ghost use Rattle.jb_talk.specs.Talking.{HasTalked};
-ghost use Rattle.jb_talk.specs.declared.request.Request.{Request};
+ghost use Rattle.jb_host.specs.Wire.{Takes, Wire};
+ghost use Rattle.jb_shared.specs.Passes.{PassView};
+ghost use Rattle.jb_talk.specs.Talking.{Hands};
+ghost use Rattle.jb_session.specs.Served.{Served, Stands};
+ghost use Rattle.jb_session.specs.declared.end.SessionEnd.TheVariants.{LinkFault};
 
 use jb_host::{Link, LinkFailed, send};
-use jb_talk::Talk;
+use jb_talk::{Talk, conversations_are_one};
 
-/// Sends all that is owed, in one write where the link takes it so. After a refusal it is still owed.
+/// Sends all that is owed, in one write where the link takes it so. A refusal ends the session.
 pub(crate) fn send_owed<L: Link>(link: &mut L, talk: &mut Talk) -> Result<(), LinkFailed>
-    ensures ok { OnOk result (talk.new ≡ record talk.old { owed = [] }) }
-    ensures sent { OnOk result (Sends (L.wire link.old).sent talk.old.owed (L.wire link.new).sent) }
-    ensures fits { OnOk result ((board : Board) (bytes sent : List ℕ) (answers : List Given) (asked : List Request)
-        → HasTalked board talk.old bytes answers sent asked
-        → HasTalked board talk.new bytes answers (sent ++ talk.old.owed) asked) }
-    ensures part { OnErr result ((front : List ℕ) × Begins front talk.old.owed × Sends (L.wire link.old).sent front (L.wire link.new).sent) }
+    ensures owed { OnOk result (talk.new.owed ≡ []) }
+    ensures counted { OnOk result (talk.new.taken ≡ talk.old.taken) }
+    ensures hands { OnOk result ((board : Board) → Hands board talk.old None → Hands board talk.new None) }
 
-    // What stays, and the cause of a refusal.
-    ensures to_come { (L.wire link.new).to_come ≡ (L.wire link.old).to_come }
-    ensures ends { (L.wire link.new).ends ≡ (L.wire link.old).ends }
-    ensures unsent { HasCause (L.wire link.old).unsent (L.wire link.new).unsent result }
-    ensures quiet { OnOk result ((L.wire link.new).unsent ≡ (L.wire link.old).unsent) }
-    ensures cause { HasCause (L.wire link.old).faults (L.wire link.new).faults result }
+    // What was said, and how the session ends.
+    ensures ok { OnOk result ((reading : Option ℕ) (board : Board) (old : Wire) (from to : List PassView) (rest : List ℕ)
+        → Stands reading board old from (L.wire link.old) rest talk.old None to
+        → Stands reading board old from (L.wire link.new) rest talk.new None to) }
+    ensures err { OnErr result ((reading : Option ℕ) (board : Board) (old : Wire) (from to : List PassView) (rest : List ℕ)
+        → Stands reading board old from (L.wire link.old) rest talk.old None to
+        → Served reading board old from LinkFault (L.wire link.new) to) }
 {
-    send(link, talk.owed())?;
+    conversations_are_one();
+    let Ok(()) = send(link, talk.owed()) else {
+        return Err(LinkFailed);
+    };
     talk.was_sent();
+    Ok(())
+}
+
+/// So many bytes may be owed while more of a piece is heard.
+const MOST_OWED: usize = 65_536;
+
+/// Sends all that is owed where it is long, so that no more is held than this and what one line leads to. A
+/// refusal ends the session.
+pub(crate) fn relieve<L: Link>(link: &mut L, talk: &mut Talk) -> Result<(), LinkFailed>
+    ensures counted { OnOk result (talk.new.taken ≡ talk.old.taken) }
+    ensures hands { OnOk result ((board : Board) → Hands board talk.old None → Hands board talk.new None) }
+
+    // What was said, and how the session ends.
+    ensures ok { OnOk result ((reading : Option ℕ) (board : Board) (old : Wire) (from to : List PassView) (rest : List ℕ)
+        → Stands reading board old from (L.wire link.old) rest talk.old None to
+        → Stands reading board old from (L.wire link.new) rest talk.new None to) }
+    ensures err { OnErr result ((reading : Option ℕ) (board : Board) (old : Wire) (from to : List PassView) (rest : List ℕ)
+        → Stands reading board old from (L.wire link.old) rest talk.old None to
+        → Served reading board old from LinkFault (L.wire link.new) to) }
+{
+    if talk.owed().len() > MOST_OWED {
+        return send_owed(link, talk);
+    }
     Ok(())
 }
 

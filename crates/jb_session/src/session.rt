@@ -1,5 +1,5 @@
 //! The loop of a session: what is owed is sent, a piece is read and heard, and what it asks of the areas is answered.
-ghost use Rattle.std.specs.Prelude.{◌≡◌, ◌+◌, ◌<◌, ◌≤◌, ℕ, List, [], None, Option, Some, false, true, IfErr, IfOk, OnErr, OnOk, length};
+ghost use Rattle.std.specs.Prelude.{◌≡◌, ◌+◌, ◌<◌, ◌≤◌, ℕ, List, [], None, Option, Some, false, true, IfErr, IfOk, OnErr, OnOk, drop, length};
 ghost use Rattle.std.specs.Option.{is_some};
 ghost use Rattle.jb_base.specs.declared.limits.TheConstants.{MOST_SESSION_BYTES};
 ghost use Rattle.jb_conf.specs.InRange.{IsInRange};
@@ -13,7 +13,7 @@ ghost use Rattle.jb_session.specs.Served.{Served, Stands};
 
 use crate::end::{SessionEnd, ended};
 use crate::exchange::exchange;
-use crate::sending::{read_piece, send_owed};
+use crate::sending::{read_piece, relieve, send_owed};
 use jb_base::OutOfMemory;
 use jb_conf::Board;
 use jb_disk::Disk;
@@ -93,8 +93,9 @@ fn respond_all<R: Wait, D: Disk, C: Clock>(
     Ok(())
 }
 
-/// Hears a piece, and does all that it asks of the areas.
-fn take<R: Wait, D: Disk, C: Clock>(
+/// Hears a piece, as far as the byte at which an area is asked something, and does all that is asked then. Gives how many
+/// bytes were heard.
+fn hear<R: Wait, D: Disk, C: Clock>(
     rt: &R,
     alloc: Global,
     board: &Board,
@@ -103,7 +104,46 @@ fn take<R: Wait, D: Disk, C: Clock>(
     clock: &mut C,
     talk: &mut Talk,
     piece: &[u8],
-) -> Result<(), OutOfMemory>
+) -> Result<usize, OutOfMemory>
+    requires board { IsInRange board.now }
+    requires areas { length areas.now ≡ length board.now.areas }
+    requires ours { AreOf areas.now passes.old }
+    requires hands { Hands board.now talk.old None }
+    requires room { talk.old.taken + length piece.now ≤ MOST_SESSION_BYTES }
+    ensures ours { AreOf areas.now passes.new }
+    ensures clock { C.reading clock.new ≡ C.reading clock.old }
+    ensures hands { OnOk result (Hands board.now talk.new None) }
+    ensures within { IfOk result (λ heard. heard ≤ length piece.now) }
+    ensures some { IfOk result (λ heard. 0 < length piece.now → 0 < heard) }
+    ensures counted { IfOk result (λ heard. talk.new.taken ≡ talk.old.taken + heard) }
+
+    // What was said and asked, and how the session ends where memory is wanting.
+    ensures ok { IfOk result (λ heard. (old now : Wire) (from : List PassView)
+        → Stands (C.reading clock.old) board.now old from now piece.now talk.old None passes.old
+        → Stands (C.reading clock.old) board.now old from now (drop heard piece.now) talk.new None passes.new) }
+    ensures err { OnErr result ((old now : Wire) (from : List PassView)
+        → Stands (C.reading clock.old) board.now old from now piece.now talk.old None passes.old
+        → Served (C.reading clock.old) board.now old from SessionEnd.OutOfMemory now passes.new) }
+{
+    conversations_are_one();
+    let heard = talk.hear(alloc, board, piece)?;
+    respond_all(rt, alloc, board, areas, passes, clock, talk, heard.request)?;
+    Ok(heard.taken)
+}
+
+/// Hears a piece, and does all that it asks of the areas; or ends the session. Between two requests it sends what is owed
+/// where that is long.
+fn take<R: Wait, D: Disk, L: Link, C: Clock>(
+    rt: &R,
+    alloc: Global,
+    board: &Board,
+    areas: &[SharedArea<D>],
+    passes: &mut [Pass],
+    link: &mut L,
+    clock: &mut C,
+    talk: &mut Talk,
+    piece: &[u8],
+) -> Result<(), SessionEnd>
     requires board { IsInRange board.now }
     requires areas { length areas.now ≡ length board.now.areas }
     requires ours { AreOf areas.now passes.old }
@@ -114,20 +154,24 @@ fn take<R: Wait, D: Disk, C: Clock>(
     ensures hands { OnOk result (Hands board.now talk.new None) }
     ensures counted { OnOk result (talk.new.taken ≡ talk.old.taken + length piece.now) }
 
-    // What was said and asked, and how the session ends where memory is wanting.
-    ensures ok { OnOk result ((old now : Wire) (from : List PassView)
-        → Stands (C.reading clock.old) board.now old from now piece.now talk.old None passes.old
-        → Stands (C.reading clock.old) board.now old from now [] talk.new None passes.new) }
-    ensures err { OnErr result ((old now : Wire) (from : List PassView)
-        → Stands (C.reading clock.old) board.now old from now piece.now talk.old None passes.old
-        → Served (C.reading clock.old) board.now old from SessionEnd.OutOfMemory now passes.new) }
+    // What was said and asked, and how the session ends.
+    ensures ok { OnOk result ((old : Wire) (from : List PassView)
+        → Stands (C.reading clock.old) board.now old from (L.wire link.old) piece.now talk.old None passes.old
+        → Stands (C.reading clock.old) board.now old from (L.wire link.new) [] talk.new None passes.new) }
+    ensures err { IfErr result (λ end. (old : Wire) (from : List PassView)
+        → Stands (C.reading clock.old) board.now old from (L.wire link.old) piece.now talk.old None passes.old
+        → Served (C.reading clock.old) board.now old from end (L.wire link.new) passes.new) }
 {
-    conversations_are_one();
     let mut at = 0;
     while at < piece.len() {
-        let heard = talk.hear(alloc, board, &piece[at..])?;
-        at += heard.taken;
-        respond_all(rt, alloc, board, areas, passes, clock, talk, heard.request)?;
+        let Ok(()) = relieve(link, talk) else {
+            return Err(SessionEnd::LinkFault);
+        };
+        let rest = &piece[at..];
+        let Ok(heard) = hear(rt, alloc, board, areas, passes, clock, talk, rest) else {
+            return Err(SessionEnd::OutOfMemory);
+        };
+        at += heard;
     }
     Ok(())
 }
@@ -170,9 +214,11 @@ fn turn<R: Wait, D: Disk, L: Link, C: Clock>(
     if n == 0 {
         return Err(SessionEnd::Hangup);
     }
-    let Ok(()) = take(rt, alloc, board, areas, passes, clock, talk, &buffer[..n]) else {
-        return Err(SessionEnd::OutOfMemory);
-    };
+    let piece = &buffer[..n];
+    match take(rt, alloc, board, areas, passes, link, clock, talk, piece) {
+        Ok(()) => {}
+        Err(end) => return Err(end),
+    }
     let Ok(()) = send_owed(link, talk) else {
         return Err(SessionEnd::LinkFault);
     };
@@ -181,8 +227,9 @@ fn turn<R: Wait, D: Disk, L: Link, C: Clock>(
 
 /// Serves one caller, from the greeting to the end, on the passes of a node: one for each area of the board, in order.
 ///
-/// All that is owed is sent before more is read, and no more is read than one session takes. A fault of an area is said, and
-/// the session goes on; after a fault of the link or without memory nothing more is sent.
+/// All that is owed is sent before more is read, and no more is read than one session takes. Of what is owed a session holds
+/// at most 65,536 bytes and what one line leads to. A fault of an area is said, and the session goes on; after a fault of the
+/// link or without memory nothing more is sent.
 pub fn serve_session<R: Wait, D: Disk, L: Link, C: Clock>(
     rt: &R,
     alloc: Global,

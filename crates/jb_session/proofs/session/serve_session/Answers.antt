@@ -1,10 +1,8 @@
-use Rattle.std.proofs.Common.{[], ◌++◌, None, refl, sym, ap, subst, ◌∙◌, arith}
-use Rattle.jb_talk.specs.Talking.{Hands, Talking}
+use Rattle.std.proofs.Common.{[], refl, sym, ap, subst, ◌∙◌, arith}
 use Rattle.jb_session.specs.Ends.{end_as}
-use Rattle.jb_session.specs.Exchanges.{answers_of, asks_of}
 use Rattle.jb_session.specs.Served.{Served}
 use Rattle.jb_session.specs.declared.end.SessionEnd.{SessionEnd}
-use Rattle.jb_session.proofs.Standing.{ends_over, ends_unsent, sent_on, served_none, stands_first, wrote}
+use Rattle.jb_session.proofs.Standing.{ends_over, served_none, stands_first}
 use Rattle.jb_session.proofs.Wanting.{is_over}
 use Rattle.jb_session.proofs.session.serve_session.Goals as goal
 
@@ -14,25 +12,20 @@ returns-in_default-clause-served g c =
 
 pub returns-in_default-send_owed-clause-served : goal.returns-in_default-send_owed-clause-served
 returns-in_default-send_owed-clause-served g c =
-    let f = c.in_default-send_owed.ensures in
-    let s = stands_first (g.C.Clock.reading c.args.clock.now) c.args.board.now (g.L.Link.wire c.args.link.now) c.args.passes.now _ c.in-Ok.ensures.fits in
-    ends_unsent (g.C.Clock.reading c.args.clock.now) c.args.board.now c.conversations_are_one.ensures.stands _ _ _ _ _ _ f.part.0 s f.part.1 f.part.2 f.to_come (wrote _ _ f.ends f.unsent.later f.cause.later) f.cause.failed f.unsent.failed
+    c.in_default-send_owed.ensures.err (g.C.Clock.reading c.args.clock.now) c.args.board.now (g.L.Link.wire c.args.link.now) c.args.passes.now c.args.passes.now []
+    (stands_first (g.C.Clock.reading c.args.clock.now) c.args.board.now (g.L.Link.wire c.args.link.now) c.args.passes.now c.in-Ok.talk c.in-Ok.ensures.fits)
 
 pub loop-alloc-init : goal.loop-alloc-init
 loop-alloc-init g c =
     let f = c.in-Ok-send_owed.ensures in
-    let h = c.in-Ok.ensures.hands in
-    let t = c.in-Ok.ensures.fits in
-    let s = stands_first (g.C.Clock.reading c.args.clock.now) c.args.board.now (g.L.Link.wire c.args.link.now) c.args.passes.now c.in-Ok.talk t in
-    let P : Talking → Type 0 = λ w. Hands c.args.board.now w None in (
+    let t = c.in-Ok.ensures.fits in (
       c.requires.ours,
       refl,
-      subst P (sym f.ok) (record { menu = h.menu; waits = h.waits; of = h.of }),
-      ap (λ (w : Talking). w.owed) f.ok,
-      omega (arith, ap (λ (w : Talking). w.taken) f.ok, t.counted),
-      sent_on (g.C.Clock.reading c.args.clock.now) c.args.board.now (g.L.Link.wire c.args.link.now) (g.L.Link.wire c.args.link.now) (g.L.Link.wire c.send_owed.new.link) c.args.passes.now c.args.passes.now c.in-Ok.talk c.send_owed.new.talk
-          s f.sent f.to_come f.quiet (wrote _ _ f.ends f.unsent.later f.cause.later)
-          (f.fits c.args.board.now s.heard s.out (answers_of s.exchanges) (asks_of s.exchanges ++ []) s.talked),
+      f.hands c.args.board.now c.in-Ok.ensures.hands,
+      f.owed,
+      omega (arith, f.counted, t.counted),
+      f.ok (g.C.Clock.reading c.args.clock.now) c.args.board.now (g.L.Link.wire c.args.link.now) c.args.passes.now c.args.passes.now []
+          (stands_first (g.C.Clock.reading c.args.clock.now) c.args.board.now (g.L.Link.wire c.args.link.now) c.args.passes.now c.in-Ok.talk t),
     )
 
 pub returns-clause-served : goal.returns-clause-served

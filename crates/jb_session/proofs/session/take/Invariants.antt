@@ -13,8 +13,8 @@ invariant-loop-at g l =
     × (g.C.Clock.reading l.clock ≡ g.C.Clock.reading l.fn.clock)
     × Hands l.board l.talk None
     × (l.talk.taken ≡ l.fn.talk.taken + l.at)
-    × ((old now : Wire) (from : List PassView) → Stands (g.C.Clock.reading l.fn.clock) l.board old from now l.piece l.fn.talk None l.fn.passes
-    → Stands (g.C.Clock.reading l.fn.clock) l.board old from now (drop l.at l.piece) l.talk None l.passes)
+    × ((old : Wire) (from : List PassView) → Stands (g.C.Clock.reading l.fn.clock) l.board old from (g.L.Link.wire l.fn.link) l.piece l.fn.talk None l.fn.passes
+    → Stands (g.C.Clock.reading l.fn.clock) l.board old from (g.L.Link.wire l.link) (drop l.at l.piece) l.talk None l.passes)
 
 abbrev pub decreases-loop-at : goal.decreases-loop-at
 decreases-loop-at g l = length l.piece - l.at
