@@ -3,11 +3,13 @@
 
 usage: damage.py PROGRAM [--all]
 
-One base is made here, with ten messages of all kinds and empty slots, its headers in no order with dead bytes between. It is damaged in one
-place: a byte becomes 00, FF, or another in one drawn bit; or a file is cut at a length. Also in some places at once, where the first test
-that fails is named; and so that slots name the places of others. All that is done once more while a change waits in the journal, which is
-then done first. What must be printed, the status, and what the files must then be is found out by reader.py, which was written from
-docs/FORMATS.md and has nothing of the program. Without --all a drawn part is tried, always the same.
+A base of one message is cut anywhere in its message, its index or its text, or has another number in one place; what is to be told of each
+of these stands here. A second base is made, with ten messages of all kinds and empty slots, its headers in no order with dead bytes between.
+It is damaged in one place: a byte becomes 00, FF, or another in one drawn bit; or a file is cut at a length. Also in some places at once,
+where the first test that fails is named; and so that slots name the places of others. All that is done once more while a change waits in the
+journal, which is then done first. What must be printed, the status, and what the files must then be is found out by reader.py, which was
+written from docs/FORMATS.md and has nothing of the program. Without --all a drawn part of the second base's damages is tried, always the
+same.
 """
 import os
 import random
@@ -19,7 +21,7 @@ import tempfile
 
 import jam
 import reader
-from trial import Trial
+from trial import Trial, memory_folder
 
 BATCH = 250
 LIMIT = 600
@@ -115,6 +117,29 @@ def waiting_base(draw):
     return files | {"jnl": b"\1" + bytes(15) + record + b"JBJE" + b"old bytes", "ndt": draw.randbytes(70)}
 
 
+def small_base():
+    """The files of a base with one message."""
+    fields = subfields((2, b"Test"), (3, b"Hello"), msgid(0x01000001), (6, b"abc"))
+    fixed = b"JAM\0" + struct.pack("<5I", 10**9, 1, 1, jam.EMPTY, 1) + bytes(1000)
+    head = header(fields, number=1, length=5, attribute=0x00800001, written=10**9)
+    index = struct.pack("<II", jam.crc(b"Hello"), len(fixed))
+    return {"jhr": fixed + head, "jdt": b"Good\r", "jdx": index, "jlr": b"", "jnl": b"", "ndt": b""}
+
+
+def small_damages():
+    """Each damage of that base with a word on it, and what is told of it; nothing is told where it opens without a message."""
+    cuts = [("jhr", (0, 1, 1023), b"fault 3.1 ShortHeader\n"), ("jhr", range(1024, 1164), b"fault 3.8 HeaderPlace 1\n"),
+            ("jdx", range(1, 8), b"fault 3.4 IndexLength\n"), ("jdx", range(1), b""), ("jdt", range(5), b"fault 3.12 TextPlace 1\n")]
+    for extension, lengths, line in cuts:
+        for length in lengths:
+            yield f".{extension} cut to {length} bytes", [(extension, length, None)], line
+    yield "a signature that begins with 00", [("jhr", 1024, 0)], b"fault 3.9 HeaderSignature 1\n"
+    yield "Revision 2", [("jhr", 1028, 2)], b"fault 3.10 HeaderRevision 1\n"
+    yield "SubfieldLen 65", [("jhr", 1032, 65)], b"fault 3.8 HeaderPlace 1\n"
+    yield "SubfieldLen 63", [("jhr", 1032, 63)], b"fault 3.11 Subfields 1 53\n"
+    yield "HdrOffset 1,023", [("jdx", 4, 0xFF), ("jdx", 5, 3)], b"fault 3.8 HeaderPlace 1\n"
+
+
 def damages(files, draw):
     """Each damage of one place, with a word on it: a file, the place, and the byte that comes there, or none where it is cut."""
     for extension, data in files.items():
@@ -206,15 +231,20 @@ def chosen(files, is_all, draw):
     return (cases if is_all else part) + list(several(telling, 200 * more, draw)) + list(misplaced(files, 150 * more, draw))
 
 
-def memory_folder():
-    """Where files are not written to a disk, if there is such a place: each run syncs its files."""
-    return "/dev/shm" if os.access("/dev/shm", os.W_OK | os.X_OK) else None
+def try_small(trial):
+    """The damages of a base of one message, with what is written here of each, which the plain reader has to find too."""
+    files, cases = small_base(), []
+    for what, changes, line in small_damages():
+        trial.is_so(f"one message, {what}: what the plain reader finds", reader.read(damaged(files, changes))[0], line)
+        cases.append((what, changes))
+    trial.tries("one message", files, cases)
 
 
 def main(program, is_all):
     folder = tempfile.mkdtemp(dir=memory_folder())
     try:
         trial = Damages(os.path.realpath(program), folder)
+        try_small(trial)
         draw = random.Random(25)
         scenes = {"at rest": whole_base(draw)[0], "while a change waits": waiting_base(draw)}
         for what, files in scenes.items():

@@ -3,9 +3,9 @@
 
 usage: local.py PROGRAM [quick]
 
-Where it is to be quick, the session that takes as many bytes as it may is left out. Each caller is a process of its own, spoken to
-over pipes. What must be sent is written out here or made from what is typed; the files are read by jam.py, which knows the tables of
-the JAM proposal and nothing of the program.
+Where it is to be quick, sessions that take as many bytes as they may, and a console that breaks off at each byte, are left out. Each caller
+is a process of its own, spoken to over pipes. What must be sent is written out here or made from what is typed; the files are read by jam.py,
+which knows the tables of the JAM proposal and nothing of the program.
 """
 import os
 import select
@@ -17,7 +17,7 @@ import tempfile
 import time
 
 from jam import EMPTY, FIELDS, PRIVATE, Base, Message, crc, read, read_files, write
-from trial import OFFERS, Trial, settings, with_limit
+from trial import OFFERS, Trial, memory_folder, settings, with_limit
 
 TOP = os.path.dirname(os.path.dirname(os.path.realpath(__file__)))
 START = OFFERS + b"Test Board\r\nName: "
@@ -28,6 +28,10 @@ FIRST = START + (
     b"Reply to Test, subject Re: abc\r\nText, . ends, ! cancels\r\nPosted as 2.\r\n[general] Goodbye.\r\n")
 WRONG = START + b"Password: Login incorrect.\r\nName: " * 2 + b"Password: Login incorrect.\r\nGoodbye.\r\n"
 MOST_SESSION_BYTES = 16_777_216
+# how many bytes a session reads at once
+PIECE_BYTES = 4096
+# more than any file of the bases here has
+LONG_FILE = 1_000_000
 MOST_SETTINGS_BYTES = 1_048_576
 LIMIT = 600
 # seconds in which an answer is waited for before it is taken as not coming
@@ -54,7 +58,11 @@ class Sessions(Trial):
 
     def __init__(self, program, folder):
         super().__init__(program, folder)
-        self.areas = f"{folder}/areas"
+        self.goes_to(folder)
+
+    def goes_to(self, folder):
+        """Further runs are in this folder, which is empty."""
+        self.folder, self.areas = folder, f"{folder}/areas"
         os.mkdir(self.areas)
 
     def has_base(self, *names):
@@ -146,6 +154,7 @@ def try_transcripts(trial):
     trial.run("a right name and wrong passwords", WRONG, 7, lines(["Hello", "tEst"] * 3))
     trial.run("hung up at once", START, 0)
     trial.run("hung up in a line", START, 0, b"Hel")
+    trial.run("hung up in a command of Telnet", START, 0, b"\xff")
     trial.run("hung up after the name", START + b"Password: ", 0, lines(["Hello"]))
     after = read_files(trial.areas, "general")
     trial.holds("who does not get in changes nothing", all(before[file] == after[file] for file in ("jhr", "jdt", "jdx", "jlr")))
@@ -285,6 +294,27 @@ def try_limit(trial):
     trial.run("as many bytes as a session takes, and more", entered, 7, typed + lines(["Q"]))
     trial.run("one byte less", entered, 0, typed[:-1])
     trial.run("an end with the last byte", entered + b"Goodbye.\r\n", 0, typed[:-3] + lines(["Q"]))
+    trial.run("a command of Telnet that never ends", START, 7, b"\xff\xfa" + b"\0" * (MOST_SESSION_BYTES - 2))
+
+
+def try_breaks(trial):
+    """A console that breaks off at each byte: what was sent is a beginning of all that is to be sent, and what was asked by then is done."""
+    trial.has_settings(settings())
+    # each line comes in a read of its own: the zeros behind it are no keys
+    with open(f"{trial.folder}/typed", "wb") as file:
+        file.write(b"".join(lines([word]).ljust(PIECE_BYTES, b"\0") for word in ANSWERED))
+    read, posted = FIRST.index(b"Message 1"), FIRST.index(b"Posted")
+    for most in range(len(FIRST) + 1):
+        trial.has_base("general")
+        what = f"a console that takes {most} bytes"
+        with open(f"{trial.folder}/typed", "rb") as typed, open(f"{trial.folder}/sent", "w+b") as sent:
+            sent.seek(LONG_FILE - most)
+            trial.run(what, None, 0 if most == len(FIRST) else 5, stdin=typed, stdout=sent, preexec_fn=with_limit(LONG_FILE))
+            sent.seek(LONG_FILE - most)
+            trial.is_so(f"{what}: what is sent", sent.read(), FIRST[:most])
+        slots = trial.base().slots
+        trial.is_so(f"{what}: how often the letter was read, and how many there are", (slots[0].head["read"], len(slots)),
+                    (int(most >= read), 1 + int(most >= posted)))
 
 
 def try_faults(trial):
@@ -309,21 +339,26 @@ def try_faults(trial):
         trial.is_so(f"{what}: how often the letter was read", trial.base().slots[0].head["read"], times_read)
 
 
-def main(program, tries):
-    folder = tempfile.mkdtemp()
+def main(program, tries, long):
+    folder, memory = tempfile.mkdtemp(), tempfile.mkdtemp(dir=memory_folder())
     try:
         shutil.copy(program, f"{folder}/board")
         trial = Sessions(f"{folder}/board", folder)
         for tried in tries:
             tried(trial)
+        trial.goes_to(memory)
+        for tried in long:
+            tried(trial)
     finally:
         shutil.rmtree(folder)
+        shutil.rmtree(memory)
     return trial.tells("a session at the console")
 
 
 QUICK = (try_transcripts, try_pauses, try_telnet, try_privacy, try_areas, try_settings, try_faults, try_example)
+LONG = (try_limit, try_breaks)
 
 if __name__ == "__main__":
     if sys.argv[2:] not in ([], ["quick"]) or len(sys.argv) < 2:
         sys.exit(__doc__)
-    sys.exit(main(sys.argv[1], QUICK if sys.argv[2:] else QUICK + (try_limit,)))
+    sys.exit(main(sys.argv[1], QUICK, () if sys.argv[2:] else LONG))

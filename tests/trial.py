@@ -1,6 +1,7 @@
 """What the scripts here have in common: a count of what was looked at and what was otherwise, the settings of a small board, and files
 that cannot grow or of which there are few.
 """
+import os
 import resource
 import signal
 
@@ -44,6 +45,11 @@ def with_limit(most):
 def with_files(most):
     """Before a program begins: it has no more files open at once."""
     return lambda: resource.setrlimit(resource.RLIMIT_NOFILE, (most, most))
+
+
+def memory_folder():
+    """Where files are not written to a disk, if there is such a place: each run syncs its files."""
+    return "/dev/shm" if os.access("/dev/shm", os.W_OK | os.X_OK) else None
 
 
 class Trial:

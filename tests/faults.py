@@ -1,0 +1,330 @@
+#!/usr/bin/env python3
+"""Tries an area that is shared by nodes, over a disk that fails: each call of the disk that a change makes, one after another.
+
+usage: faults.py PROGRAM [--all]
+
+PROGRAM is that of crates/trial_shared, whose README tells the rows that it reads; one process answers all of them. On five messages a node
+posts, replies, reads, kills, marks, relinks or packs while the first call of the disk fails, or the second, and so on until none does. The node
+has to be told of a store fault. Until another node's call ends the doubt looks show the area as it was, and from then on all that is answered,
+and what the closed area holds when it is opened anew, is as if the node had asked nothing, or as if that had been done: the one up to some
+call of the disk, behind which the gate was open, and the other from there on. The same where the area is closed in doubt. What has to be
+answered is told by a plain area that stands here, made from docs/FORMATS.md, "The rules of an area". With --all a call of the disk fails
+besides in what comes next.
+"""
+import copy
+import re
+import subprocess
+import sys
+
+from trial import Trial
+
+LIMIT = 600
+# more than the calls of the disk that any change here makes, and that a reopening makes with a change behind it
+MOST_CALLS, MOST_CALLS_BEHIND = 40, 40
+SYSOP_LEVEL = 200
+FAULT = "StoreFault"
+FIVE = ["call 1 Test 20 post 0"] * 5
+THREAD = [f"call 1 Test 20 post {n}" for n in (0, 1, 1, 3, 3)] + ["call 1 Test 20 mark 3"] + [f"call 1 Test 20 kill {n}" for n in (1, 2, 4)]
+ACTS = {
+    "a post": (FIVE, "call 1 Test 20 post 0"),
+    "a first reply": (FIVE, "call 1 Hello 20 post 3"),
+    "another reply": (THREAD, "call 1 Test 20 private 3"),
+    "a reading": (FIVE, "call 1 Hello 20 read 2"),
+    "a kill": (FIVE, "call 1 Test 20 kill 3"),
+    "a first mark": (FIVE, "call 1 Test 20 mark 3"),
+    "another mark": (THREAD, "call 1 Test 20 mark 1"),
+    "a relink": (THREAD, "call 1 Sysop 200 relink 0"),
+    "a pack": (THREAD, "call 1 Sysop 200 pack 0"),
+}
+LOOKS = ["list {} Sysop 200", "unread {} Test 20", "to {} Hello 20", "figures {} Test 20", "figures {} Hello 20", "count {} Test 20"]
+PEEKS = ["call {} Sysop 200 peek %d" % number for number in range(9)]
+
+
+class Message:
+    def __init__(self, sender, receiver, answers):
+        self.sender, self.receiver, self.answers, self.links = sender, receiver, answers, [answers, 0, 0]
+        self.is_read = self.is_killed = False
+
+    def is_seen_by(self, name, level):
+        return self.receiver != "Sysop" or level >= SYSOP_LEVEL or name == self.sender
+
+    def letter(self, number):
+        """It in the words of the program: all posts are about `abc`, have their sender's name as text, and are of one moment."""
+        attribute = 0x800001 | 4 * (self.receiver == "Sysop") | 8 * self.is_read
+        return (f"Text {number} {self.sender} {self.receiver} abc {self.sender} {msgid(number)} {msgid(self.answers) if self.answers else '-'} "
+                f"1000000000 {attribute:x} {'/'.join(map(str, self.links))}")
+
+
+def msgid(number):
+    return f"2:5020/1042%20{0x1000000 + number:08x}"
+
+
+def missing(number):
+    return f"NoMessage {{ number: {number} }}"
+
+
+class Area:
+    """A plain area, which answers the rows of those who may ask what they ask. A private post is to Sysop, any other to Hello."""
+
+    def __init__(self):
+        self.base, self.slots, self.marks = 1, [], {}
+
+    def answer(self, row):
+        """What the program has to write for a row."""
+        word, *words = row.split()
+        if word in ("base", "share"):
+            return {"base": "base", "share": "shared"}[word]
+        if word == "close":
+            return f"at rest, {len(self.live())} live"
+        name, level = words[1], int(words[2])
+        if word == "call":
+            return getattr(self, words[3])(name, level, int(words[4]))
+        seen, (last, high) = self.seen(name, level), self.marks.get(name, (0, 0))
+        unread = [number for number in seen if number > last]
+        if word == "figures":
+            return (f"Figures {{ base: {self.base}, next: {self.next()}, visible: {len(seen)}, unread: {len(unread)}, "
+                    f"last: {last}, high: {high} }}")
+        if word == "count":
+            return f"{len(unread)} unread"
+        shown = {"list": seen, "unread": unread, "to": [number for number in seen if self.at(number).receiver == name]}[word]
+        return " ".join(["numbers", *map(str, shown)])
+
+    def at(self, number):
+        return self.slots[number - self.base]
+
+    def next(self):
+        return self.base + len(self.slots)
+
+    def live(self):
+        return [number for number, slot in enumerate(self.slots, self.base) if slot is not None and not slot.is_killed]
+
+    def seen(self, name, level):
+        return [number for number in self.live() if self.at(number).is_seen_by(name, level)]
+
+    def answers_of(self, number):
+        return [other for other in self.live() if number and self.at(other).answers == number]
+
+    def post(self, name, level, number, receiver="Hello"):
+        if number and number not in self.seen(name, level):
+            return missing(number)
+        new, others = self.next(), self.answers_of(number)
+        if others:
+            self.at(others[-1]).links[2] = new
+        elif number:
+            self.at(number).links[1] = new
+        self.slots.append(Message(name, receiver, number))
+        return f"Posted {{ number: {new} }}"
+
+    def private(self, name, level, number):
+        return self.post(name, level, number, "Sysop")
+
+    def peek(self, name, level, number):
+        return self.at(number).letter(number) if number in self.seen(name, level) else missing(number)
+
+    def read(self, name, level, number):
+        if number in self.seen(name, level):
+            self.at(number).is_read |= name == self.at(number).receiver
+        return self.peek(name, level, number)
+
+    def kill(self, name, level, number):
+        if number not in self.seen(name, level):
+            return missing(number)
+        self.at(number).is_killed = True
+        return f"Killed {{ number: {number} }}"
+
+    def mark(self, name, _level, number):
+        if number >= self.next():
+            return missing(number)
+        self.marks[name] = number, max(number, self.marks.get(name, (0, 0))[1])
+        return "Marked {{ last: {}, high: {} }}".format(*self.marks[name])
+
+    def relink(self, _name, _level, _number):
+        changed = 0
+        for number in self.live():
+            message, beside = self.at(number), self.answers_of(self.at(number).answers)
+            parent = message.answers if message.answers in self.live() else 0
+            after = [other for other in beside if parent and other > number]
+            links = [parent, (self.answers_of(number) or [0])[0], (after or [0])[0]]
+            changed, message.links = changed + (links != message.links), links
+        return f"Relinked {{ changed: {changed} }}"
+
+    def pack(self, name, level, number):
+        self.relink(name, level, number)
+        live = self.live()
+        dropped = sum(slot is not None and slot.is_killed for slot in self.slots)
+        base = live[0] if live else self.next()
+        self.slots = [slot if slot and not slot.is_killed else None for slot in self.slots[base - self.base:]]
+        self.base = base
+        return f"Packed {{ base: {base}, live: {len(live)}, dropped: {dropped} }}"
+
+
+def after(area, rows):
+    """The area behind these rows."""
+    area = copy.deepcopy(area)
+    for row in rows:
+        area.answer(row)
+    return area
+
+
+def told(area, rows):
+    """What is answered to these rows, by a copy of the area."""
+    area = copy.deepcopy(area)
+    return [area.answer(row) for row in rows]
+
+
+def looks(nodes):
+    """Each look, and what each message is, from these nodes in turn."""
+    return [row.format(nodes[n % len(nodes)]) for n, row in enumerate(LOOKS)], [row.format(nodes[n % len(nodes)]) for n, row in enumerate(PEEKS)]
+
+
+class Case:
+    """A change by node 1, and what node 2 does next: a call, or nothing, where the area is closed in doubt."""
+
+    def __init__(self, what, setup, act, behind):
+        self.what, self.act, self.behind = f"{what}, then {behind or 'closed'}", act, behind
+        self.setup = ["base", "share 1", *setup, "close"]
+        self.before = after(Area(), self.setup)
+        self.done = after(self.before, [act])
+        shown, peeks = looks((2, 3, 1))
+        self.doubt = shown
+        self.rest = ["close"] if not behind else [*shown, *peeks, "close"]
+        shown, peeks = looks((1,))
+        self.anew = ["share 1", *shown, *peeks, "close"]
+
+    def rows(self, *failing):
+        """The rows of a run in which these calls of the disk fail."""
+        share = " ".join(map(str, ("share 3", *failing)))
+        behind = [self.behind, *(self.doubt + [self.behind.replace("call 2", "call 3")] if len(failing) == 2 else [])] if self.behind else []
+        return [*self.setup, share, self.act, *self.doubt, *behind, *self.rest, *self.anew]
+
+    def told_before(self):
+        return [*told(Area(), self.setup), "shared"]
+
+    def told_rest(self, area):
+        """What is told of an area at rest, and when it is opened anew."""
+        return told(area, [*self.rest, *self.anew])
+
+    def without_fault(self):
+        behind = [self.behind] if self.behind else []
+        return [*self.told_before(), *told(self.before, [self.act]), *told(self.done, [*self.doubt, *behind]), *self.told_rest(after(self.done, behind))]
+
+    def with_fault(self, settled):
+        """What is told where the change is stopped, and is found to have left this area."""
+        begin = [*self.told_before(), FAULT, *told(self.before, self.doubt)]
+        if not self.behind:
+            return [*begin, f"in doubt, {len(self.before.live())} live", *told(settled, self.anew)]
+        return [*begin, *told(settled, [self.behind]), *self.told_rest(after(settled, [self.behind]))]
+
+    def with_two_faults(self, settled, shown, is_done):
+        """What is told where what comes next is stopped too, when this is shown, and has then been done, or not."""
+        left = after(settled, [self.behind] * is_done)
+        again = self.behind.replace("call 2", "call 3")
+        return [*self.told_before(), FAULT, *told(self.before, self.doubt), FAULT, *told(shown, self.doubt), *told(left, [again]),
+                *self.told_rest(after(left, [again]))]
+
+    def place(self):
+        """The place of the change among the rows."""
+        return len(self.setup) + 1
+
+
+def cases():
+    for what, (setup, act) in ACTS.items():
+        for behind in ("call 2 Sysop 200 peek 3", "call 2 Hello 20 post 5", act.replace("call 1", "call 2"), None):
+            yield Case(what, setup, act, behind)
+
+
+def run(program, runs):
+    """What the program writes for the rows of each run."""
+    rows = [row for one in runs for row in one]
+    done = subprocess.run([program], input="\n".join(rows) + "\n", stdout=subprocess.PIPE, text=True, timeout=LIMIT, check=False)
+    lines, at = done.stdout.split("\n"), 0
+    if done.returncode != 0 or len(lines) != len(rows) + 1:
+        sys.exit(f"{program}: status {done.returncode}, and {len(lines) - 1} lines for {len(rows)} rows")
+    found = []
+    for one in runs:
+        found.append(lines[at:at + len(one)])
+        at += len(one)
+    return found
+
+
+def first_other(rows, found, wanted):
+    """The first row that is answered otherwise, with both answers, or none."""
+    return next((f"{row!r} is answered {it!r}, where {that!r} is wanted" for row, it, that in zip(rows, found, wanted) if it != that), None)
+
+
+def try_case(trial, case, found):
+    """Looks at the runs of a case, first the one without a fault, and tells the fate of the change by the call of the disk that failed: it falls
+    (f), it stands (s), or what is told is the same (?)."""
+    falls, stands, whole, at = case.with_fault(case.before), case.with_fault(case.done), case.without_fault(), case.place()
+    fate = ""
+    other = first_other(case.rows(), found[0], whole)
+    trial.holds(f"{case.what}, without a fault: {other}", other is None)
+    for call, lines in enumerate(found[1:], 1):
+        what = f"{case.what}, call {call} of the disk fails"
+        if lines[at] != FAULT:
+            # what fails then comes behind the change
+            other, letter = first_other(case.rows(call)[:at + 1 + len(case.doubt)], lines, whole), "."
+        else:
+            others = [first_other(case.rows(call), lines, it) for it in (falls, stands)]
+            other, letter = None, "?" if others == [None, None] else "f" if others[0] is None else "s"
+            if None not in others:
+                other, letter = f"{others[0]} where it falls, and {others[1]} where it stands", "x"
+        fate += letter
+        trial.holds(f"{what}: {other}", other is None)
+    return fate
+
+
+def try_faults(trial):
+    """Each change with each call of the disk failing. Gives the fate of each."""
+    fates, all_cases = {}, list(cases())
+    runs = [[case.rows()] + [case.rows(call) for call in range(1, MOST_CALLS + 1)] for case in all_cases]
+    found = run(trial.program, [rows for one in runs for rows in one])
+    for n, case in enumerate(all_cases):
+        fate = try_case(trial, case, found[n * (MOST_CALLS + 1):(n + 1) * (MOST_CALLS + 1)])
+        trial.holds(f"{case.what}: first it falls and then it stands, and there is an end: {fate}", re.fullmatch(r"f+s+\.+|\?+\.+", fate) is not None)
+        fates.setdefault((tuple(case.setup), case.act), []).append((case, fate))
+    for told_of in fates.values():
+        kinds = {fate for _, fate in told_of if "?" not in fate}
+        trial.is_so(f"{told_of[0][0].what}: whatever comes next, one fate", len(kinds), 1)
+        trial.is_so(f"{told_of[0][0].what}: how many calls fail", len({fate.count(".") for _, fate in told_of}), 1)
+    return [case_and_fate for told_of in fates.values() for case_and_fate in told_of]
+
+
+def try_two_faults(trial, case, fate):
+    """The change is stopped at each call of the disk, and so is what comes next, at each of its own: it is not begun, or falls, or stands; and the
+    change has the fate that it had."""
+    if "x" in fate:
+        return
+    calls = len(fate.rstrip("."))
+    runs = [(call, case.rows(call, call + more)) for call in range(1, calls + 1) for more in range(1, MOST_CALLS_BEHIND + 1)]
+    found = run(trial.program, [rows for _, rows in runs])
+    place, ranks, told_of = case.place() + 1 + len(case.doubt), {}, {}
+    for fated, areas in (("f", [case.before]), ("s", [case.done]), ("?", [case.before, case.done])):
+        told_of[fated] = [(rank, case.with_two_faults(area, shown, rank == 2)) for area in areas
+                          for rank, shown in enumerate((case.before, area, area))]
+    for (call, rows), lines in zip(runs, found):
+        if lines[place] != FAULT:
+            continue
+        wanted = told_of[fate[call - 1]]
+        fits = [rank for rank, it in wanted if it == lines]
+        others = [] if fits else [first_other(rows, lines, it) for _, it in wanted]
+        if trial.holds(f"{case.what}, {rows[len(case.setup)]}: {others}", bool(fits)):
+            ranks.setdefault(call, []).append(min(fits))
+    for call in range(1, calls + 1):
+        found = ranks.get(call, [])
+        trial.holds(f"{case.what}, call {call} of the disk fails: what comes next is not begun, then falls, then stands, and there is an end: {found}",
+                    found == sorted(found) and 0 < len(found) < MOST_CALLS_BEHIND)
+
+
+def main(program, is_all):
+    trial = Trial(program, None)
+    for case, fate in try_faults(trial):
+        if is_all and case.behind:
+            try_two_faults(trial, case, fate)
+    return trial.tells("faults of a shared area's disk")
+
+
+if __name__ == "__main__":
+    if len(sys.argv) < 2 or sys.argv[2:] not in ([], ["--all"]):
+        sys.exit(__doc__)
+    sys.exit(main(sys.argv[1], bool(sys.argv[2:])))
