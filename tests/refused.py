@@ -46,7 +46,8 @@ static int is_refused(void) {
 void *malloc(size_t size) { return is_refused() ? NULL : __libc_malloc(size); }
 void *realloc(void *old, size_t size) { return is_refused() ? NULL : __libc_realloc(old, size); }
 """
-WANTING = re.compile(r"OutOfMemory\b|NoMemory\b|out of memory|no answer to '.*': out of memory")
+# that the digits of a word are no bytes is said too where there was no memory for them
+WANTING = re.compile(r"OutOfMemory\b|NoMemory\b|out of memory|no answer to '.*': (out of memory|word \d+ is no bytes)")
 LOST = re.compile(r"no answer to '.*': word 0 is not known|no area is shared|not open|NotAsked|none")
 
 
@@ -62,7 +63,6 @@ PROGRAMS = {
     "trial_bytes": Rows(),
     "trial_lists": Rows(anew=("marks", "drawn-marks", "area", "even"), several=("set", "front", "ends")),
     "trial_bases": Rows(anew=("new",), faults="StoreFault|no answer to 'plan': word 0 is not known"),
-    "trial_menus": Rows(),
     "trial_terminal": Rows(),
     "trial_areas": Rows(("try", "stops", "parts", "behind", "opening", "drawn"), ("base", "files"), ("ask", "call"), "Stopped|StoreFault"),
     "trial_shared": Rows(("drawn", "crowd"), ("base",), (), "StoreFault|no answer to 'share .*': word 0 is not known"),
@@ -98,7 +98,7 @@ class Refusals(Trial):
     def refused(self, number, words=(), given=b""):
         """What a run prints and its status, and whether the allocation came, where that is known."""
         if not self.is_built:
-            return (*self.tried(number, given), True)
+            return (*self.by_the_kit(number, given), True)
         mark = f"{self.folder}/came"
         found = self.runs({"LD_PRELOAD": f"{self.folder}/refusing.so", "REFUSED": str(number), "REFUSED_FILE": mark}, words, given)
         is_come = os.path.exists(mark)
@@ -106,7 +106,7 @@ class Refusals(Trial):
             os.remove(mark)
         return (*found, is_come)
 
-    def tried(self, number, given):
+    def by_the_kit(self, number, given):
         """The same by the kit, which says last how the program ended. Its own interpreter is not waited for."""
         done = subprocess.run(["rt", "try", "--steps", "1", "--fail-alloc", str(number)], cwd=f"{TOP}/crates/{self.name}", input=given,
                               stdout=subprocess.PIPE, stderr=subprocess.PIPE, timeout=LIMIT, check=False)
