@@ -262,8 +262,9 @@ def try_case(trial, case, found):
     for call, lines in enumerate(found[1:], 1):
         what = f"{case.what}, call {call} of the disk fails"
         if lines[at] != FAULT:
-            # what fails then comes behind the change
-            other, letter = first_other(case.rows(call)[:at + 1 + len(case.doubt)], lines, whole), "."
+            # what fails then, if anything does, comes behind the change
+            end = lines.index(FAULT, at) if FAULT in lines[at:] else len(lines)
+            other, letter = first_other(case.rows(call)[:end], lines, whole), "."
         else:
             others = [first_other(case.rows(call), lines, it) for it in (falls, stands)]
             other, letter = None, "?" if others == [None, None] else "f" if others[0] is None else "s"
