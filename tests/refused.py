@@ -47,7 +47,7 @@ void *malloc(size_t size) { return is_refused() ? NULL : __libc_malloc(size); }
 void *realloc(void *old, size_t size) { return is_refused() ? NULL : __libc_realloc(old, size); }
 """
 # that the digits of a word are no bytes is said too where there was no memory for them
-WANTING = re.compile(r"OutOfMemory\b|NoMemory\b|out of memory|no answer to '.*': (out of memory|word \d+ is no bytes)")
+WANTING = re.compile(r"(Base\()?OutOfMemory\b|NoMemory\b|out of memory|no answer to '.*': (out of memory|word \d+ is no bytes)")
 LOST = re.compile(r"no answer to '.*': word 0 is not known|no area is shared|not open|NotAsked|none")
 
 
@@ -62,9 +62,9 @@ class Rows:
 PROGRAMS = {
     "trial_bytes": Rows(),
     "trial_lists": Rows(anew=("marks", "drawn-marks", "area", "even"), several=("set", "front", "ends")),
-    "trial_bases": Rows(anew=("new",), faults="StoreFault|no answer to 'plan': word 0 is not known"),
+    "trial_bases": Rows(anew=("new",), faults=r"StoreFault|the disk failed|no answer to '(plan|post)\b.*': word 0 is not known"),
     "trial_terminal": Rows(),
-    "trial_areas": Rows(("try", "stops", "parts", "behind", "opening", "drawn"), ("base", "files"), ("ask", "call"), "Stopped|StoreFault"),
+    "trial_areas": Rows(("try", "stops", "parts", "behind", "opening", "drawn"), ("base", "files"), ("ask", "call"), r"Stopped|(Base\()?StoreFault"),
     "trial_shared": Rows(("drawn", "crowd"), ("base",), (), "StoreFault|no answer to 'share .*': word 0 is not known"),
 }
 
