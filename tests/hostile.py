@@ -20,10 +20,9 @@ import threading
 
 import jam
 from caller import GUARD
-from damage import memory_folder
 from local import one_message
 from served import Served, resets, together
-from trial import settings
+from trial import memory_folder, settings
 from visits import AREAS, COUNT, NAMES, password_of, users
 
 NODES = 32

@@ -16,8 +16,8 @@ import sys
 import tempfile
 
 import jam
-from damage import header, memory_folder, named, subfields
-from trial import Trial
+from damage import header, named, subfields
+from trial import Trial, memory_folder
 
 MOST_SUBFIELD_BYTES = 262_144
 NAMES = named(b"Test", b"Hello", b"abc")
