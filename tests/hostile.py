@@ -6,7 +6,8 @@ usage: hostile.py PROGRAM [--all]
 
 All but one of the 32 nodes have callers who send drawn bytes, commands of Telnet or commands of the menus, who send as much as a session
 takes, who are silent, close one half of the line or break off, or who ask on and never read. One posts and lists meanwhile in an area of
-their own. The bytes are drawn from fixed seeds, and with --all there are ten times as many.
+their own. Then one asks for the longest letter again and again, and one for more than there is memory for. The bytes are drawn from fixed
+seeds, and with --all there are ten times as many.
 """
 import os
 import random
@@ -27,8 +28,8 @@ from visits import AREAS, COUNT, NAMES, password_of, users
 
 NODES = 32
 MOST_SESSION_BYTES = 16_777_216
-# what is heard at once, the commands in it at most, and what is owed at most before another is done
-PIECE_BYTES, PIECE_COMMANDS, OWED_BYTES = 4096, 2048, 65_536
+# the commands in what is heard at once, at most, and what is owed at most before another is done
+PIECE_COMMANDS, OWED_BYTES = 2048, 65_536
 # what a caller costs in memory besides, and what the program may have more or less of it by itself
 CALLER_BYTES, SLACK_BYTES = 131_072, 4_194_304
 OWN = AREAS[-1]
