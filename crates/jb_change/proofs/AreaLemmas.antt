@@ -46,7 +46,7 @@ behind_fixed files entry (Live message) i has covers =
     omega (arith, covers.0)
 
 -- the counts written into the fixed header of files
-module _ (files : Files) (to : Loaded) (counter active : ℕ) (loads : Loads files to) (counter_fits : counter < 2 ^ 32) (active_fits : active < 2 ^ 32) where
+module _ (files : Files) (to : Loaded) (counter active : ℕ) (loads : Loads to files) (counter_fits : counter < 2 ^ 32) (active_fits : active < 2 ^ 32) where
   -- what is written
   abbrev counts : List ℕ
   counts = number_bytes 4 counter ++ number_bytes 4 active
@@ -85,7 +85,7 @@ module _ (files : Files) (to : Loaded) (counter active : ℕ) (loads : Loads fil
       ∙ (λ i. record (fixed_in files) { counter = first i; active = second i })
 
   -- the files hold the area with those counts
-  pub loads_counts : Loads after (with_counts counter active to)
+  pub loads_counts : Loads (with_counts counter active to) after
   loads_counts = record {
     header = subst (λ (l : List ℕ). IsFixedHeader (bytes_at 0 1024 l)) (sym headers_then) (still_fixed counts (files Jhr) refl fixed_room loads.header);
     fixed = (λ i. record (loads.fixed i) { counter = counter; active = active }) ∙ sym fixed_then;
@@ -116,7 +116,7 @@ pub counts_only : (counter active : ℕ) (old new : Change) → Puts Jhr 8 (numb
 counts_only counter active old new puts = put_only Jhr 8 (number_bytes 4 counter ++ number_bytes 4 active) old new puts 8 8 (omega arith) (omega arith)
 
 -- a mark written into .JLR
-module _ (files : Files) (to : Loaded) (place : ℕ) (mark : Mark) (bytes : List ℕ) (loads : Loads files to) (low : place < length to.marks) (sixteen : length bytes ≡ 16)
+module _ (files : Files) (to : Loaded) (place : ℕ) (mark : Mark) (bytes : List ℕ) (loads : Loads to files) (low : place < length to.marks) (sixteen : length bytes ≡ 16)
     (is : lastread_record_of bytes ≡ mark_record mark) where
   -- the files then
   abbrev marked : Files
@@ -180,7 +180,7 @@ module _ (files : Files) (to : Loaded) (place : ℕ) (mark : Mark) (bytes : List
   ]
 
   -- the files hold the area with that mark
-  pub loads_mark : Loads marked (with_marks (slice_set to.marks place mark) to)
+  pub loads_mark : Loads (with_marks (slice_set to.marks place mark) to) marked
   loads_mark =
       let count = length-set to.marks place mark in
       let few = loads.few_marks in
@@ -226,7 +226,7 @@ makes_nothing change loaded no_lengths no_pieces =
       legal = λ files held. subst (λ (l : List Length). IsLegal (sizes_of files) l change.pieces) (sym no_lengths) (subst (IsLegal (sizes_of files) []) (sym no_pieces) (empty_legal files));
       grown = λ files held. subst (λ (l : List Length). IsGrowthCovered l change.pieces files) (sym no_lengths) (λ file i past low. absurd (omega (arith, past, low)));
       made = λ files held. record {
-        loads = subst (λ (f : Files). Loads f loaded) (sym (nothing files)) held;
+        loads = subst (λ (f : Files). Loads loaded f) (sym (nothing files)) held;
         texts = ap (λ (f : Files). f Jdt) (nothing files) ∙ sym (append-nil (files Jdt));
       };
     }

@@ -38,7 +38,7 @@ module _ (at o : ℕ) (bytes : List ℕ) (old new : Change) (puts : Puts Jhr (at
   puts_there message is = subst (λ (n : ℕ). Puts Jhr (n + o) bytes old new) (sym is) puts
 
   -- they lie within the file
-  within_file : (to : Loaded) (place : ℕ) (message : LoadedMessage) → IsMessageAt to place message → (files : Files) → Loads files to → message.header_at + o + length bytes ≤ length (files Jhr)
+  within_file : (to : Loaded) (place : ℕ) (message : LoadedMessage) → IsMessageAt to place message → (files : Files) → Loads to files → message.header_at + o + length bytes ≤ length (files Jhr)
   within_file to place message there files held =
       let high = inside.high in
       let room = header_room files to place message held there o bytes inside.low inside.high inside.o_whole inside.whole in

@@ -123,13 +123,13 @@ pairs_set {X} R xs place one other there first second pairs i j d low high =
     ]
 
 -- the slot that stands at a place
-pub slot_there : (files : Files) (loaded : Loaded) (place : ℕ) (slot : LoadedSlot) → Loads files loaded → slice_get loaded.slots place ≡ Some slot → HasSlot files (entry_in files place) slot
+pub slot_there : (files : Files) (loaded : Loaded) (place : ℕ) (slot : LoadedSlot) → Loads loaded files → slice_get loaded.slots place ≡ Some slot → HasSlot files (entry_in files place) slot
 slot_there files loaded place slot loads there =
     subst (HasSlot files (entry_in files place)) (get_or_from_slice_get loaded.slots place slot Empty there) (loads.slots place Empty (slice_get_within loaded.slots place slot there))
 
 -- a write inside the header of a live message: what the files hold then, where this slot stands at its place
 module _ (old new : Files) (loaded : Loaded) (place : ℕ) (message : LoadedMessage) (slot : LoadedSlot)
-    (torn : IsTornAt message.header_at 76 old new) (marks_are : new Jlr ≡ old Jlr) (loads : Loads old loaded) (there : IsMessageAt loaded place message) where
+    (torn : IsTornAt message.header_at 76 old new) (marks_are : new Jlr ≡ old Jlr) (loads : Loads loaded old) (there : IsMessageAt loaded place message) where
   -- another slot lies apart from it
   others_apart : (k : ℕ) (d : LoadedSlot) → k < length loaded.slots → k ≢ place
       → (i : ℕ) → Covers (slice_index_or loaded.slots k d) i → message.header_at ≤ i → i < message.header_at + 76 → ⊥
@@ -162,7 +162,7 @@ module _ (old new : Files) (loaded : Loaded) (place : ℕ) (message : LoadedMess
       bytes_kept message.header_at 76 0 1024 (old Jhr) (new Jhr) torn.headers (λ i a b c d. omega (arith, b, c))
 
   -- the files hold the area with that slot
-  pub loads_slot : ((i : ℕ) → Covers slot i → Covers (Live message) i) → HasSlot new (entry_in new place) slot → Loads new (with_slot_at place slot loaded)
+  pub loads_slot : ((i : ℕ) → Covers slot i → Covers (Live message) i) → HasSlot new (entry_in new place) slot → Loads (with_slot_at place slot loaded) new
   loads_slot covers has =
       let count = length-set loaded.slots place slot in
       record {
@@ -217,7 +217,7 @@ live_then old new message head torn live shaped places head_is undeleted =
     }
 
 -- a write into a live message's header, behind its first twelve bytes and before the places of its text
-module _ (files : Files) (loaded : Loaded) (place : ℕ) (message : LoadedMessage) (loads : Loads files loaded) (there : IsMessageAt loaded place message)
+module _ (files : Files) (loaded : Loaded) (place : ℕ) (message : LoadedMessage) (loads : Loads loaded files) (there : IsMessageAt loaded place message)
     (o : ℕ) (bytes : List ℕ) (low : 12 ≤ o) (high : o + length bytes ≤ 60) (o_whole : o % 4 ≡ 0) (whole : length bytes % 4 ≡ 0) where
   -- the files then
   abbrev after : Files
@@ -262,7 +262,7 @@ module _ (files : Files) (loaded : Loaded) (place : ℕ) (message : LoadedMessag
 
   -- the files hold the area with the fields that the header has then
   pub loads_head : (head : Head) → head ≡ head_of (with_bytes o bytes (header_in files message.header_at)) → bit_and head.attribute DELETED ≡ 0
-      → Loads after (with_head_at place head message loaded)
+      → Loads (with_head_at place head message loaded) after
   loads_head head is undeleted =
       let was = slot_there files loaded place (Live message) loads there in
       let places : KeepsPlaces (header_in files message.header_at) (with_bytes o bytes (header_in files message.header_at)) = record {
@@ -277,7 +277,7 @@ module _ (files : Files) (loaded : Loaded) (place : ℕ) (message : LoadedMessag
       )
 
   -- the files hold the area with the message killed, where its header says so then
-  pub loads_killed : IsDeleted (with_bytes o bytes (header_in files message.header_at)) → Loads after (with_killed_at place message loaded)
+  pub loads_killed : IsDeleted (with_bytes o bytes (header_in files message.header_at)) → Loads (with_killed_at place message loaded) after
   loads_killed deleted =
       let was = slot_there files loaded place (Live message) loads there in
       loads_slot files after loaded place message (Killed message.header_at) torn_then marks_then loads there (λ i covers. (covers.0, omega (arith, covers.1))) (

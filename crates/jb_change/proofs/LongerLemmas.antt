@@ -29,7 +29,7 @@ use Rattle.jb_change.proofs.KeptLemmas.{entry_kept, mark_kept, slot_kept}
 use Rattle.jb_change.proofs.RecordLemmas.{length-entry, length-mark, length-message, shaped_header}
 
 -- .JHR is no shorter than the fixed header
-pub fixed_whole : (files : Files) (loaded : Loaded) → Loads files loaded → 1024 ≤ length (files Jhr)
+pub fixed_whole : (files : Files) (loaded : Loaded) → Loads loaded files → 1024 ≤ length (files Jhr)
 fixed_whole files loaded loads =
     let size = loads.header.size in
     omega (arith, length-take 1024 (files Jhr))
@@ -58,7 +58,7 @@ read_again loaded message slots same header entry = record {
 }
 
 module _ (files after : Files) (loaded : Loaded) (message : LoadedMessage) (text : List ℕ)
-    (loads : Loads files loaded) (next : IsNext loaded message text) (back : AreReadAgain loaded message) (each : All IsSubfield message.subfields)
+    (loads : Loads loaded files) (next : IsNext loaded message text) (back : AreReadAgain loaded message) (each : All IsSubfield message.subfields)
     (jhr : after Jhr ≡ files Jhr ++ message_bytes (number_behind loaded) message)
     (jdt : after Jdt ≡ files Jdt ++ text) (jdx : after Jdx ≡ files Jdx ++ index_record_bytes (entry_for (Live message))) (jlr : after Jlr ≡ files Jlr) where
   -- the message stands where .JHR ended
@@ -150,7 +150,7 @@ module _ (files after : Files) (loaded : Loaded) (message : LoadedMessage) (text
       omega (arith, other.0))
 
   -- the files hold the area with the message
-  pub posted : Loads after (with_message_behind message loaded)
+  pub posted : Loads (with_message_behind message loaded) after
   posted =
       let whole = fixed_whole files loaded loads in
       let first : bytes_at 0 1024 (after Jhr) ≡ bytes_at 0 1024 (files Jhr) = below_end (files Jhr) (after Jhr) _ 0 1024 jhr (omega arith) in
@@ -169,7 +169,7 @@ module _ (files after : Files) (loaded : Loaded) (message : LoadedMessage) (text
         texts_len = omega (arith, loads.texts_len, next.text_len, ap length jdt, length-append (files Jdt) text);
       }
 
-module _ (files after : Files) (loaded : Loaded) (mark : Mark) (loads : Loads files loaded) (back : IsMarkReadAgain mark) (few : length loaded.marks < 65000)
+module _ (files after : Files) (loaded : Loaded) (mark : Mark) (loads : Loads loaded files) (back : IsMarkReadAgain mark) (few : length loaded.marks < 65000)
     (jhr : after Jhr ≡ files Jhr) (jdt : after Jdt ≡ files Jdt) (jdx : after Jdx ≡ files Jdx)
     (jlr : after Jlr ≡ files Jlr ++ lastread_record_bytes (mark_record mark)) where
   -- each mark is there
@@ -187,7 +187,7 @@ module _ (files after : Files) (loaded : Loaded) (mark : Mark) (loads : Loads fi
   ]
 
   -- the files hold the area with the mark
-  pub marked : Loads after (with_marks (loaded.marks ++ mark ∷ []) loaded)
+  pub marked : Loads (with_marks (loaded.marks ++ mark ∷ []) loaded) after
   marked =
       let same_headers : after Jhr ≡ files Jhr ++ [] = jhr ∙ sym (append-nil (files Jhr)) in
       let same_texts : after Jdt ≡ files Jdt ++ [] = jdt ∙ sym (append-nil (files Jdt)) in

@@ -49,7 +49,7 @@ module _ (count : ℕ) (mark : Mark) (few : count < 65000) where
       let piece = length-pieces Jlr (16 * count) (lastread_record_bytes (mark_record mark)) [] in
       omega (arith, length-record change.lengths change.pieces, length-mark (mark_record mark))
 
-  module _ (loaded : Loaded) (counted : length loaded.marks ≡ count) (files : Files) (loads : Loads files loaded) where
+  module _ (loaded : Loaded) (counted : length loaded.marks ≡ count) (files : Files) (loads : Loads loaded files) where
     -- where .JLR ended
     marks_end : 16 * count ≡ length (files Jlr)
     marks_end = omega (arith, loads.lastread)
@@ -91,7 +91,7 @@ module _ (count : ℕ) (mark : Mark) (few : count < 65000) where
         one_behind (files Jlr) (lastread_record_bytes (mark_record mark)) (16 * count) (16 * count + 16) marks_end (omega (arith, marks_end, length-mark (mark_record mark)))
 
     -- the files hold the area with the mark behind
-    mark_there : IsMarkReadAgain mark → Loads after (with_marks (loaded.marks ++ mark ∷ []) loaded)
+    mark_there : IsMarkReadAgain mark → Loads (with_marks (loaded.marks ++ mark ∷ []) loaded) after
     mark_there back =
         marked files after loaded mark loads back (omega arith) (same_length (files Jhr)) texts_same (same_length (files Jdx)) marks_behind
 
@@ -117,7 +117,7 @@ module _ (count : ℕ) (mark : Mark) (few : count < 65000) where
             (subst (λ (pieces : List Piece). IsGrowthCovered (mark_lengths count) pieces files) (sym pieces_are) (covers_mark loaded counted files loads));
         made = λ files loads. record {
           loads =
-              subst (λ (now : Files). Loads now (with_marks (loaded.marks ++ mark ∷ []) loaded)) (sym (made files)) (mark_there loaded counted files loads back);
+              subst (λ (now : Files). Loads (with_marks (loaded.marks ++ mark ∷ []) loaded) now) (sym (made files)) (mark_there loaded counted files loads back);
           texts = ap (λ (now : Files). now Jdt) (made files) ∙ texts_same loaded counted files loads ∙ sym (append-nil (files Jdt));
         };
       }

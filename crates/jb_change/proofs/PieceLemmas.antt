@@ -144,13 +144,13 @@ module _ (file : FileId) (at : ℕ) (bytes : List ℕ) where
 
     -- what it makes of an area
     pub put_makes : (from to then : Loaded) (text : List ℕ) → Makes old from to text → number_of file < 4 → file ≢ Jdt → at < 2 ^ 32 → length bytes < 2 ^ 32
-        → ((files : Files) → Loads files to → at + length bytes ≤ length (files file)) → ((files : Files) → Loads files to → Loads (written file at bytes files) then)
+        → ((files : Files) → Loads to files → at + length bytes ≤ length (files file)) → ((files : Files) → Loads to files → Loads then (written file at bytes files))
         → Makes new from then text
     put_makes from to then text makes of_base no_text place short within loads = record {
       legal = λ files held. legal_then files of_base place short (within (done old files) (makes.made files held).loads) (makes.legal files held);
       grown = λ files held. grown_then files (makes.grown files held);
       made = λ files held. record {
-        loads = subst (λ (f : Files). Loads f then) (sym (put_done files)) (loads (done old files) (makes.made files held).loads);
+        loads = subst (λ (f : Files). Loads then f) (sym (put_done files)) (loads (done old files) (makes.made files held).loads);
         texts = ap (λ (f : Files). f Jdt) (put_done files)
             ∙ with_file-other file Jdt (overwritten at bytes (done old files file)) (done old files) (λ is. no_text (sym is)) ∙ (makes.made files held).texts;
       };

@@ -72,7 +72,7 @@ module _ (loaded : Loaded) (message : LoadedMessage) (text : List ℕ) (next : I
       let third = length-pieces Jdx (8 * length loaded.slots) (index_record_bytes (entry_for (Live message))) [] in
       omega (arith, length-record change.lengths change.pieces, length-message (number_behind loaded) message, length-entry (entry_for (Live message)))
 
-  module _ (files : Files) (loads : Loads files loaded) where
+  module _ (files : Files) (loads : Loads loaded files) where
     -- where .JHR ended
     headers_end : message.header_at ≡ length (files Jhr)
     headers_end = next.header_at ∙ loads.headers_len
@@ -171,7 +171,7 @@ module _ (loaded : Loaded) (message : LoadedMessage) (text : List ℕ) (next : I
           (subst (λ (pieces : List Piece). IsGrowthCovered (post_lengths loaded message) pieces files) (sym pieces_are) (covers_post files loads));
       made = λ files loads. record {
         loads =
-            subst (λ (now : Files). Loads now (with_message_behind message loaded)) (sym (made files))
+            subst (λ (now : Files). Loads (with_message_behind message loaded) now) (sym (made files))
             (posted files (after files loads) loaded message text loads next back each
             (headers_behind files loads) (texts_behind files loads) (index_behind files loads) (marks_same files loads));
         texts = ap (λ (now : Files). now Jdt) (made files) ∙ texts_behind files loads;

@@ -9,4 +9,4 @@ use Rattle.jb_model.specs.declared.loaded.Loaded.{Loaded}
 
 -- every byte that files of this area have stays as it is, also one that no slot and no mark shows
 abbrev pub AppendsOnly : Change → Loaded → Type 0
-AppendsOnly change loaded = (files : Files) → Loads files loaded → (file : FileId) → take (length (files file)) (done change files file) ≡ files file
+AppendsOnly change loaded = (files : Files) → Loads loaded files → (file : FileId) → take (length (files file)) (done change files file) ≡ files file

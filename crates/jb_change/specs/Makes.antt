@@ -27,9 +27,9 @@ pub record Brings (change : Change) (before : Files → Type 0) (after : Files �
 
 -- the files then hold this area, with these bytes behind the texts
 pub record HoldsBehind (loaded : Loaded) (text : List ℕ) (files now : Files) : Type 0 where
-  pub loads : Loads now loaded
+  pub loads : Loads loaded now
   pub texts : now Jdt ≡ files Jdt ++ text
 
 -- of files that hold this area it makes files that hold that one, with these bytes behind the texts
 abbrev pub Makes : Change → Loaded → Loaded → List ℕ → Type 0
-Makes change from to text = Brings change (λ files. Loads files from) (HoldsBehind to text)
+Makes change from to text = Brings change (Loads from) (HoldsBehind to text)

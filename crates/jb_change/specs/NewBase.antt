@@ -43,7 +43,7 @@ AreEmpty files = (file : FileId) → number_of file < 4 → files file ≡ []
 pub record AreNew (moment : ℕ) (files : Files) : Type 0 where
   pub headers : files Jhr ≡ fixed_header_bytes (fixed_of (new_loaded moment))
   pub others : (file : FileId) → number_of file < 4 → file ≢ Jhr → files file ≡ []
-  pub loads : Loads files (new_loaded moment)
+  pub loads : Loads (new_loaded moment) files
 
 -- of empty files the change makes those of a base, and its record is legal and short
 pub record MakesBase (moment : ℕ) (change : Change) : Type 0 where

@@ -41,7 +41,7 @@ number_behind loaded = loaded.base + length loaded.slots
 
 -- the header that stands at the message's place after the change has the area's next number
 abbrev pub HasNextNumber : Change → Loaded → LoadedMessage → Type 0
-HasNextNumber change loaded message = (files : Files) → Loads files loaded
+HasNextNumber change loaded message = (files : Files) → Loads loaded files
     → (header_in (done change files) message.header_at).number ≡ number_behind loaded
 
 -- the lengths of .JHR, .JDT and .JDX with the message

@@ -94,7 +94,7 @@ once_listed f one other x size each =
     get_or-map f one k x (f x) low' ∙ each k low' ∙ sym (get_or-map f other k x (f x) low''))
 
 -- files hold one area, as a state
-loads_once : (files : Files) (one other : Loaded) → Loads files one → Loads files other → state_of (files Jdt) one ≡ state_of (files Jdt) other
+loads_once : (files : Files) (one other : Loaded) → Loads one files → Loads other files → state_of (files Jdt) one ≡ state_of (files Jdt) other
 loads_once files one other loads loads' =
     let fixed : fixed_of one ≡ fixed_of other = loads.fixed ∙ sym loads'.fixed in
     let created = ap (λ (f : FixedHeader). f.created) fixed in

@@ -74,7 +74,7 @@ IsRefusedBy limit files refused.OutOfMemory = Unit {0}
 
 -- the files hold this area, and it has at most so many slots
 pub record OpensTo (limit : ℕ) (files : Files) (loaded : Loaded) : Type 0 where
-  pub loads : Loads files loaded
+  pub loads : Loads loaded files
   pub few_slots : length loaded.slots ≤ limit
 
 -- what an answer says of the files; each but a fault and want of memory excludes the others
@@ -96,9 +96,9 @@ refusal_of number (Subfields at) = refused.Subfields number at
 refusal_of number TextPlace = refused.TextPlace number
 
 -- a fault has its cause: the disk's count rose; and want of memory hides none
-abbrev pub FaultRose : ℕ → ℕ → ReadError → Type 0
-FaultRose before now FaultInPart = Rose before now
-FaultRose before now NoMemoryForPart = now ≡ before
+abbrev pub ReadFaultRose : ℕ → ℕ → ReadError → Type 0
+ReadFaultRose before now FaultInPart = Rose before now
+ReadFaultRose before now NoMemoryForPart = now ≡ before
 
 -- the same of a base that is not opened: no other refusal hides a fault
 abbrev pub OpenFaultRose : ℕ → ℕ → OpenError → Type 0

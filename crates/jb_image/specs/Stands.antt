@@ -94,7 +94,7 @@ abbrev pub mark_record : Mark → MarkRecord
 mark_record mark = record { user_crc = mark.user_crc; user_id = mark.user_id; last = mark.last; high = mark.high }
 
 -- the files hold this area
-pub record Loads (files : Files) (loaded : Loaded) : Type 0 where
+pub record Loads (loaded : Loaded) (files : Files) : Type 0 where
   -- the fixed header
   pub header : IsFixedHeader (bytes_at 0 1024 (files Jhr))
   pub fixed : fixed_of loaded ≡ fixed_in files
@@ -115,6 +115,6 @@ pub record Loads (files : Files) (loaded : Loaded) : Type 0 where
 -- the files stand for this state, of at most so many slots
 pub record StandsFor (limit : ℕ) (files : Files) (state : AreaState) : Type 0 where
   pub loaded : Loaded
-  pub loads : Loads files loaded
+  pub loads : Loads loaded files
   pub few_slots : length loaded.slots ≤ limit
   pub same : state ≡ state_of (files Jdt) loaded

@@ -5,7 +5,7 @@ ghost use Rattle.jb_disk.specs.Device.{OnlyReads};
 ghost use Rattle.jb_model.specs.Sound.{IsWithin};
 ghost use Rattle.jb_record.specs.Fields.{signature};
 ghost use Rattle.jb_record.specs.declared.index.TheConstants.{EMPTY_SLOT as empty_slot};
-ghost use Rattle.jb_image.specs.Answers.{FaultRose, IsDamaged};
+ghost use Rattle.jb_image.specs.Answers.{ReadFaultRose, IsDamaged};
 ghost use Rattle.jb_image.specs.Lengths.{AreLengths};
 ghost use Rattle.jb_image.specs.Places.{header_in};
 ghost use Rattle.jb_image.specs.Reading.{IsSeenAs, IsSeenWithin};
@@ -49,7 +49,7 @@ fn read_header<D: Disk>(
     ensures kept { OnlyReads (D.device disk.old) (D.device disk.new) }
     ensures quiet { OnOk result ((D.device disk.new).faults ≡ (D.device disk.old).faults) }
     ensures later { (D.device disk.old).faults ≤ (D.device disk.new).faults }
-    ensures cause { IfErr result (FaultRose (D.device disk.old).faults (D.device disk.new).faults) }
+    ensures cause { IfErr result (ReadFaultRose (D.device disk.old).faults (D.device disk.new).faults) }
 {
     if !is_within(lengths.headers, entry.offset, MESSAGE_HEADER_BYTES as u32) {
         return Ok(Err(Damage::HeaderPlace));
@@ -96,7 +96,7 @@ pub(crate) fn see_slot<D: Disk>(
     ensures kept { OnlyReads (D.device disk.old) (D.device disk.new) }
     ensures quiet { OnOk result ((D.device disk.new).faults ≡ (D.device disk.old).faults) }
     ensures later { (D.device disk.old).faults ≤ (D.device disk.new).faults }
-    ensures cause { IfErr result (FaultRose (D.device disk.old).faults (D.device disk.new).faults) }
+    ensures cause { IfErr result (ReadFaultRose (D.device disk.old).faults (D.device disk.new).faults) }
 {
     if entry.offset == EMPTY_SLOT {
         return Ok(Ok(SeenSlot::Empty));

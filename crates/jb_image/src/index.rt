@@ -3,7 +3,7 @@ ghost use Rattle.std.specs.Prelude.{◌≡◌, ◌+◌, ◌*◌, ◌<◌, ◌≤
 ghost use Rattle.std.specs.Option.{ForSome};
 ghost use Rattle.jb_disk.specs.Device.{OnlyReads};
 ghost use Rattle.jb_disk.specs.declared.file.FileId.TheVariants.{Jdx as index_file, Jhr as headers_file};
-ghost use Rattle.jb_image.specs.Answers.{FaultRose, IsDamaged};
+ghost use Rattle.jb_image.specs.Answers.{ReadFaultRose, IsDamaged};
 ghost use Rattle.jb_image.specs.Lengths.{AreLengths};
 ghost use Rattle.jb_image.specs.Places.{entry_in};
 ghost use Rattle.jb_image.specs.Reading.{AreSeen, IsSeenWithin};
@@ -33,7 +33,7 @@ pub(crate) fn read_entry<D: Disk>(
     ensures kept { OnlyReads (D.device disk.old) (D.device disk.new) }
     ensures quiet { OnOk result ((D.device disk.new).faults ≡ (D.device disk.old).faults) }
     ensures later { (D.device disk.old).faults ≤ (D.device disk.new).faults }
-    ensures cause { IfErr result (FaultRose (D.device disk.old).faults (D.device disk.new).faults) }
+    ensures cause { IfErr result (ReadFaultRose (D.device disk.old).faults (D.device disk.new).faults) }
 {
     let at = (INDEX_RECORD_BYTES * k) as u64;
     index.reach(disk, at, INDEX_RECORD_BYTES)?;
@@ -74,7 +74,7 @@ pub(crate) fn see_slots<D: Disk>(
     ensures kept { OnlyReads (D.device disk.old) (D.device disk.new) }
     ensures quiet { OnOk result ((D.device disk.new).faults ≡ (D.device disk.old).faults) }
     ensures later { (D.device disk.old).faults ≤ (D.device disk.new).faults }
-    ensures cause { IfErr result (FaultRose (D.device disk.old).faults (D.device disk.new).faults) }
+    ensures cause { IfErr result (ReadFaultRose (D.device disk.old).faults (D.device disk.new).faults) }
 {
     let mut slots = Vec::new(alloc);
     let mut index = Window::new(alloc, FileId::Jdx, lengths.index);

@@ -2,7 +2,7 @@
 ghost use Rattle.std.specs.Prelude.{◌≤◌, IfOk, IfErr, ◌≡◌, OnOk};
 ghost use Rattle.std.specs.Option.{ForSome};
 ghost use Rattle.jb_disk.specs.Device.{OnlyReads};
-ghost use Rattle.jb_image.specs.Answers.{FaultRose};
+ghost use Rattle.jb_image.specs.Answers.{ReadFaultRose};
 ghost use Rattle.jb_image.specs.Lengths.{AreLengths};
 
 use crate::error::ReadError;
@@ -24,7 +24,7 @@ impl Lengths {
         ensures kept { OnlyReads (D.device disk.old) (D.device disk.new) }
         ensures quiet { OnOk result ((D.device disk.new).faults ≡ (D.device disk.old).faults) }
         ensures later { (D.device disk.old).faults ≤ (D.device disk.new).faults }
-        ensures cause { IfErr result (FaultRose (D.device disk.old).faults (D.device disk.new).faults) }
+        ensures cause { IfErr result (ReadFaultRose (D.device disk.old).faults (D.device disk.new).faults) }
     {
         Ok(Lengths {
             headers: disk.len(FileId::Jhr)?,

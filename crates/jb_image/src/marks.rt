@@ -3,7 +3,7 @@ ghost use Rattle.std.specs.Prelude.{◌≡◌, ◌+◌, ◌*◌, ◌%◌, ◌≤
 ghost use Rattle.std.specs.Option.{ForSome};
 ghost use Rattle.jb_disk.specs.Device.{OnlyReads};
 ghost use Rattle.jb_disk.specs.declared.file.FileId.TheVariants.{Jlr as lastread_file};
-ghost use Rattle.jb_image.specs.Answers.{FaultRose};
+ghost use Rattle.jb_image.specs.Answers.{ReadFaultRose};
 ghost use Rattle.jb_image.specs.Places.{mark_in};
 ghost use Rattle.jb_image.specs.Reading.{AreMarksIn};
 ghost use Rattle.jb_image.specs.Stands.{mark_record};
@@ -31,7 +31,7 @@ fn read_mark<D: Disk>(
     ensures kept { OnlyReads (D.device disk.old) (D.device disk.new) }
     ensures quiet { OnOk result ((D.device disk.new).faults ≡ (D.device disk.old).faults) }
     ensures later { (D.device disk.old).faults ≤ (D.device disk.new).faults }
-    ensures cause { IfErr result (FaultRose (D.device disk.old).faults (D.device disk.new).faults) }
+    ensures cause { IfErr result (ReadFaultRose (D.device disk.old).faults (D.device disk.new).faults) }
 {
     let at = (MARK_RECORD_BYTES * k) as u64;
     window.reach(disk, at, MARK_RECORD_BYTES)?;
@@ -59,7 +59,7 @@ pub(crate) fn read_marks<D: Disk>(
     ensures kept { OnlyReads (D.device disk.old) (D.device disk.new) }
     ensures quiet { OnOk result ((D.device disk.new).faults ≡ (D.device disk.old).faults) }
     ensures later { (D.device disk.old).faults ≤ (D.device disk.new).faults }
-    ensures cause { IfErr result (FaultRose (D.device disk.old).faults (D.device disk.new).faults) }
+    ensures cause { IfErr result (ReadFaultRose (D.device disk.old).faults (D.device disk.new).faults) }
 {
     let mut window = Window::new(alloc, FileId::Jlr, len);
     let mut marks = LoadedMarks::new(alloc)?;

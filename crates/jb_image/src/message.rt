@@ -6,7 +6,7 @@ ghost use Rattle.jb_disk.specs.Device.{OnlyReads};
 ghost use Rattle.jb_disk.specs.declared.file.FileId.TheVariants.{Jhr as headers_file};
 ghost use Rattle.jb_model.specs.Sound.{IsTextWithin};
 ghost use Rattle.jb_record.specs.declared.index.IndexRecord.{IndexRecord};
-ghost use Rattle.jb_image.specs.Answers.{FaultRose, IsDamaged};
+ghost use Rattle.jb_image.specs.Answers.{ReadFaultRose, IsDamaged};
 ghost use Rattle.jb_image.specs.Lengths.{AreLengths};
 ghost use Rattle.jb_image.specs.Places.{bytes_at};
 ghost use Rattle.jb_image.specs.Reading.{IsCutBy, IsLoadedFrom, IsSeenAs, IsSeenLive, IsSeenWithin};
@@ -46,7 +46,7 @@ fn read_subfields<D: Disk>(
     ensures kept { OnlyReads (D.device disk.old) (D.device disk.new) }
     ensures quiet { OnOk result ((D.device disk.new).faults ≡ (D.device disk.old).faults) }
     ensures later { (D.device disk.old).faults ≤ (D.device disk.new).faults }
-    ensures cause { IfErr result (FaultRose (D.device disk.old).faults (D.device disk.new).faults) }
+    ensures cause { IfErr result (ReadFaultRose (D.device disk.old).faults (D.device disk.new).faults) }
 {
     window.reach(disk, at as u64, len as usize)?;
     let bytes = window.view(at as u64, len as usize);
@@ -101,7 +101,7 @@ fn load_message<D: Disk>(
     ensures kept { OnlyReads (D.device disk.old) (D.device disk.new) }
     ensures quiet { OnOk result ((D.device disk.new).faults ≡ (D.device disk.old).faults) }
     ensures later { (D.device disk.old).faults ≤ (D.device disk.new).faults }
-    ensures cause { IfErr result (FaultRose (D.device disk.old).faults (D.device disk.new).faults) }
+    ensures cause { IfErr result (ReadFaultRose (D.device disk.old).faults (D.device disk.new).faults) }
 {
     let header = &seen.header;
     let begin = seen.header_at + MESSAGE_HEADER_BYTES as u32;
@@ -154,7 +154,7 @@ pub(crate) fn load_slot<D: Disk>(
     ensures kept { OnlyReads (D.device disk.old) (D.device disk.new) }
     ensures quiet { OnOk result ((D.device disk.new).faults ≡ (D.device disk.old).faults) }
     ensures later { (D.device disk.old).faults ≤ (D.device disk.new).faults }
-    ensures cause { IfErr result (FaultRose (D.device disk.old).faults (D.device disk.new).faults) }
+    ensures cause { IfErr result (ReadFaultRose (D.device disk.old).faults (D.device disk.new).faults) }
 {
     match seen {
         SeenSlot::Empty => Ok(Ok(LoadedSlot::Empty)),

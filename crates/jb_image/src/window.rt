@@ -3,7 +3,7 @@ ghost use Rattle.std.specs.Prelude.{◌≡◌, ◌+◌, ◌≤◌, ◌↔◌, Is
 ghost use Rattle.std.specs.Option.{ForSome};
 ghost use Rattle.jb_base.specs.Fault.{Rose};
 ghost use Rattle.jb_disk.specs.Device.{OnlyReads};
-ghost use Rattle.jb_image.specs.Answers.{FaultRose};
+ghost use Rattle.jb_image.specs.Answers.{ReadFaultRose};
 ghost use Rattle.jb_image.specs.Places.{bytes_at};
 ghost use Rattle.jb_image.specs.Windows.{Covers, IsWindowOn, ShowsIn, seen_at};
 
@@ -92,7 +92,7 @@ impl Window {
         ensures kept { OnlyReads (D.device disk.old) (D.device disk.new) }
         ensures quiet { OnOk result ((D.device disk.new).faults ≡ (D.device disk.old).faults) }
         ensures later { (D.device disk.old).faults ≤ (D.device disk.new).faults }
-        ensures cause { IfErr result (FaultRose (D.device disk.old).faults (D.device disk.new).faults) }
+        ensures cause { IfErr result (ReadFaultRose (D.device disk.old).faults (D.device disk.new).faults) }
     {
         self.bytes.resize(range.len, 0)?;
         match read_into(disk, self.file, range.at, &mut self.bytes) {
@@ -127,7 +127,7 @@ impl Window {
         ensures kept { OnlyReads (D.device disk.old) (D.device disk.new) }
         ensures quiet { OnOk result ((D.device disk.new).faults ≡ (D.device disk.old).faults) }
         ensures later { (D.device disk.old).faults ≤ (D.device disk.new).faults }
-        ensures cause { IfErr result (FaultRose (D.device disk.old).faults (D.device disk.new).faults) }
+        ensures cause { IfErr result (ReadFaultRose (D.device disk.old).faults (D.device disk.new).faults) }
     {
         if !self.holds(at, len) {
             let range = self.next(at, len);
@@ -146,7 +146,7 @@ impl Window {
         ensures kept { OnlyReads (D.device disk.old) (D.device disk.new) }
         ensures quiet { OnOk result ((D.device disk.new).faults ≡ (D.device disk.old).faults) }
         ensures later { (D.device disk.old).faults ≤ (D.device disk.new).faults }
-        ensures cause { IfErr result (FaultRose (D.device disk.old).faults (D.device disk.new).faults) }
+        ensures cause { IfErr result (ReadFaultRose (D.device disk.old).faults (D.device disk.new).faults) }
     {
         let file_len = self.file_len;
         self.reach(disk, 0, file_len as usize)

@@ -14,7 +14,7 @@ use Rattle.jb_disk.specs.Device.{Device, TellsAnImage}
 use Rattle.jb_disk.specs.Runs.{LeavesNow, Shows, Keeps, IsAllSynced}
 use Rattle.jb_redo.specs.declared.error.RecordError.{RecordError}
 use Rattle.jb_redo.specs.declared.error.RecordError.TheVariants.{Bad, StoreFault as record_fault}
-use Rattle.jb_redo.specs.Answers.{FaultRose as RecordFaultRose}
+use Rattle.jb_redo.specs.Answers.{RecordFaultRose}
 use Rattle.jb_redo.specs.Applying.{IsFault}
 use Rattle.jb_disk.specs.Gate.{IsGateOpen, with_gate_closed}
 use Rattle.jb_redo.specs.OnTheWay.{IsOnTheWay}
@@ -23,7 +23,7 @@ use Rattle.jb_redo.proofs.WayLemmas.{way_start, way_kept, way_replays, replays_t
 use Rattle.jb_journal.specs.declared.error.JournalError.TheVariants.{StoreFault}
 use Rattle.jb_journal.specs.Filing.{AgreeBelow}
 use Rattle.jb_journal.specs.Commit.{ReplaysTo, changed}
-use Rattle.jb_journal.specs.Recover.{error_of, IsGrowthSafe, FaultRose, ReplaysAs, MightBe, ReplaysAsAtStart}
+use Rattle.jb_journal.specs.Recover.{error_of, IsGrowthSafe, JournalFaultRose, ReplaysAs, MightBe, ReplaysAsAtStart}
 use Rattle.jb_journal.specs.Stages.{IsAtGate, IsOpened, closed}
 use Rattle.jb_journal.proofs.Told.{only_told}
 use Rattle.jb_journal.proofs.SyncLemmas.{leaves_map, leaves_both, shows_map}
@@ -36,7 +36,7 @@ fault_of (Bad at) fault = absurd fault
 fault_of record_fault fault = refl
 
 -- a fault's cause
-pub rose_of : (before now : ℕ) (error : RecordError) → RecordFaultRose before now error → FaultRose before now (error_of error)
+pub rose_of : (before now : ℕ) (error : RecordError) → RecordFaultRose before now error → JournalFaultRose before now (error_of error)
 rose_of before now (Bad at) rose = tt
 rose_of before now record_fault rose = rose
 

@@ -38,9 +38,9 @@ IsRefusedOver (BadRecord at) device was = IsGateOpen was × IsBadAt was at × (d
 IsRefusedOver StoreFault device was = Unit {0}
 
 -- a fault has its cause: the disk's count rose
-abbrev pub FaultRose : ℕ → ℕ → JournalError → Type 0
-FaultRose before now (BadRecord at) = Unit {0}
-FaultRose before now StoreFault = Rose before now
+abbrev pub JournalFaultRose : ℕ → ℕ → JournalError → Type 0
+JournalFaultRose before now (BadRecord at) = Unit {0}
+JournalFaultRose before now StoreFault = Rose before now
 
 -- the one files replay to exactly what the others do
 abbrev pub ReplaysAs : Files → Files → Type 0

@@ -15,7 +15,7 @@ ghost use Rattle.jb_redo.specs.Replay.{Replays};
 ghost use Rattle.jb_journal.specs.declared.error.JournalError.TheVariants.{StoreFault};
 ghost use Rattle.jb_journal.specs.Filing.{AgreeBelow};
 ghost use Rattle.jb_journal.specs.Stages.{IsAtGate};
-ghost use Rattle.jb_journal.specs.Recover.{IsFound, IsGrowthSafe, IsRefusedOver, FaultRose, FirmSince, ReplaysAs, MightBe, ReplaysAsAtStart};
+ghost use Rattle.jb_journal.specs.Recover.{IsFound, IsGrowthSafe, IsRefusedOver, JournalFaultRose, FirmSince, ReplaysAs, MightBe, ReplaysAsAtStart};
 ghost use Rattle.jb_journal.specs.Writing.{Adds};
 
 use crate::gate::{is_gate_open, set_gate};
@@ -90,7 +90,7 @@ fn redo_record<D: Disk>(disk: &mut D) -> Result<(), JournalError>
     ensures quiet { OnOk result ((D.device disk.new).faults ≡ (D.device disk.old).faults) }
     ensures later { (D.device disk.old).faults ≤ (D.device disk.new).faults }
     ensures alike { TellsAlike (D.device disk.old) (D.device disk.new) }
-    ensures cause { IfErr result (FaultRose (D.device disk.old).faults (D.device disk.new).faults) }
+    ensures cause { IfErr result (JournalFaultRose (D.device disk.old).faults (D.device disk.new).faults) }
 {
     apply_record(disk)?;
     sync_base(disk)?;
@@ -119,7 +119,7 @@ pub fn recover<D: Disk>(disk: &mut D) -> Result<Recovered, JournalError>
     // Why it is refused.
     ensures refused { IfErr result (λ error. ForSome
         (D.device disk.old).contents (IsRefusedOver error (D.device disk.new))) }
-    ensures cause { IfErr result (FaultRose (D.device disk.old).faults (D.device disk.new).faults) }
+    ensures cause { IfErr result (JournalFaultRose (D.device disk.old).faults (D.device disk.new).faults) }
     ensures quiet { OnOk result ((D.device disk.new).faults ≡ (D.device disk.old).faults) }
     ensures later { (D.device disk.old).faults ≤ (D.device disk.new).faults }
 

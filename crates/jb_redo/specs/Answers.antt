@@ -17,6 +17,6 @@ AnswersFor files (Ok value) = HasRecord files
 AnswersFor files (Err error) = RefusesFor files error
 
 -- a fault has its cause: the disk's count rose
-abbrev pub FaultRose : ℕ → ℕ → RecordError → Type 0
-FaultRose before now (Bad at) = Unit {0}
-FaultRose before now StoreFault = Rose before now
+abbrev pub RecordFaultRose : ℕ → ℕ → RecordError → Type 0
+RecordFaultRose before now (Bad at) = Unit {0}
+RecordFaultRose before now StoreFault = Rose before now

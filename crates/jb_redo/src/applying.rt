@@ -9,7 +9,7 @@ ghost use Rattle.jb_disk.specs.Device.{Turns, TellsAlike};
 ghost use Rattle.jb_disk.specs.Files.{Files, number_of, written, InFile, IsResized};
 ghost use Rattle.jb_disk.specs.Runs.{Keeps};
 ghost use Rattle.jb_redo.specs.Applying.{IsSound, HasRoom, copied, copied_chunk, AreResized, pieced, KeepsInRange, KeepsWay, ArePieced, HasPieced, IsFault};
-ghost use Rattle.jb_redo.specs.Answers.{FaultRose};
+ghost use Rattle.jb_redo.specs.Answers.{RecordFaultRose};
 ghost use Rattle.jb_redo.specs.Laws.{HasOneReplayAtMost, ReplayOnTheWay};
 ghost use Rattle.jb_redo.specs.Reading.{HasRecord};
 ghost use Rattle.jb_redo.specs.Replay.{IsAppliedTo};
@@ -155,7 +155,7 @@ fn apply_pieces<D: Disk>(disk: &mut D, lengths: &NewLengths) -> Result<u64, Reco
     ensures alike { TellsAlike (D.device disk.old) (D.device disk.new) }
     ensures quiet { OnOk result ((D.device disk.new).faults ≡ (D.device disk.old).faults) }
     ensures later { (D.device disk.old).faults ≤ (D.device disk.new).faults }
-    ensures cause { IfErr result (FaultRose (D.device disk.old).faults (D.device disk.new).faults) }
+    ensures cause { IfErr result (RecordFaultRose (D.device disk.old).faults (D.device disk.new).faults) }
 {
     let end = lengths.ends.get(FileId::Jnl);
     let mut at = lengths.at;
@@ -190,7 +190,7 @@ fn write_pieces<D: Disk>(disk: &mut D, lengths: &NewLengths) -> Result<(), Recor
     ensures alike { TellsAlike (D.device disk.old) (D.device disk.new) }
     ensures quiet { OnOk result ((D.device disk.new).faults ≡ (D.device disk.old).faults) }
     ensures later { (D.device disk.old).faults ≤ (D.device disk.new).faults }
-    ensures cause { IfErr result (FaultRose (D.device disk.old).faults (D.device disk.new).faults) }
+    ensures cause { IfErr result (RecordFaultRose (D.device disk.old).faults (D.device disk.new).faults) }
 {
     let at = apply_pieces(disk, lengths)?;
     if !has_mark(disk, lengths.ends.get(FileId::Jnl), at, &END)? {
@@ -214,7 +214,7 @@ fn apply<D: Disk>(disk: &mut D) -> Result<(), RecordError>
     ensures alike { TellsAlike (D.device disk.old) (D.device disk.new) }
     ensures quiet { OnOk result ((D.device disk.new).faults ≡ (D.device disk.old).faults) }
     ensures later { (D.device disk.old).faults ≤ (D.device disk.new).faults }
-    ensures cause { IfErr result (FaultRose (D.device disk.old).faults (D.device disk.new).faults) }
+    ensures cause { IfErr result (RecordFaultRose (D.device disk.old).faults (D.device disk.new).faults) }
 {
     let sizes = Sizes::of(disk)?;
     let lengths = read_lengths(disk, &sizes)?;
@@ -247,7 +247,7 @@ pub fn apply_record<D: Disk>(disk: &mut D) -> Result<(), RecordError>
     ensures fault { IfErr result (λ error. ForSome (D.device disk.old).contents (λ _. IsFault error)) }
     ensures quiet { OnOk result ((D.device disk.new).faults ≡ (D.device disk.old).faults) }
     ensures later { (D.device disk.old).faults ≤ (D.device disk.new).faults }
-    ensures cause { IfErr result (FaultRose (D.device disk.old).faults (D.device disk.new).faults) }
+    ensures cause { IfErr result (RecordFaultRose (D.device disk.old).faults (D.device disk.new).faults) }
 
     // A disk that tells its files goes on telling them, and one that tells nothing goes on so, whatever is answered.
     ensures alike { TellsAlike (D.device disk.old) (D.device disk.new) }

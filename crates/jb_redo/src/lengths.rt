@@ -6,7 +6,7 @@ ghost use Rattle.jb_disk.specs.Device.{OnlyReads};
 ghost use Rattle.jb_disk.specs.Files.{number_of};
 ghost use Rattle.jb_disk.specs.declared.file.FileId.TheVariants.{Jnl as journal};
 ghost use Rattle.jb_disk.specs.declared.piece.Length.{Length};
-ghost use Rattle.jb_redo.specs.Answers.{FaultRose, RefusesFor};
+ghost use Rattle.jb_redo.specs.Answers.{RecordFaultRose, RefusesFor};
 ghost use Rattle.jb_redo.specs.Reading.{BeginsWith, Lengths};
 ghost use Rattle.jb_redo.specs.Record.{length_bytes};
 ghost use Rattle.jb_redo.specs.Rules.{IsLegalLength};
@@ -78,7 +78,7 @@ fn read_count<D: Disk>(disk: &mut D, end: u64) -> Result<u32, RecordError>
     ensures kept { OnlyReads (D.device disk.old) (D.device disk.new) }
     ensures quiet { OnOk result ((D.device disk.new).faults ≡ (D.device disk.old).faults) }
     ensures later { (D.device disk.old).faults ≤ (D.device disk.new).faults }
-    ensures cause { IfErr result (FaultRose (D.device disk.old).faults (D.device disk.new).faults) }
+    ensures cause { IfErr result (RecordFaultRose (D.device disk.old).faults (D.device disk.new).faults) }
 {
     if !has_mark(disk, end, RECORD_AT, &HEAD)? {
         return Err(RecordError::Bad { at: RECORD_AT });
@@ -108,7 +108,7 @@ pub(crate) fn read_lengths<D: Disk>(disk: &mut D, sizes: &Sizes) -> Result<NewLe
     ensures kept { OnlyReads (D.device disk.old) (D.device disk.new) }
     ensures quiet { OnOk result ((D.device disk.new).faults ≡ (D.device disk.old).faults) }
     ensures later { (D.device disk.old).faults ≤ (D.device disk.new).faults }
-    ensures cause { IfErr result (FaultRose (D.device disk.old).faults (D.device disk.new).faults) }
+    ensures cause { IfErr result (RecordFaultRose (D.device disk.old).faults (D.device disk.new).faults) }
 {
     let end = sizes.get(FileId::Jnl);
     let count = read_count(disk, end)?;

@@ -3,7 +3,7 @@ ghost use Rattle.std.specs.Prelude.{◌≡◌, ◌≤◌, ◌<◌, ◌^◌, IfOk
 ghost use Rattle.std.specs.Option.{ForSome};
 ghost use Rattle.jb_base.specs.Fault.{Rose};
 ghost use Rattle.jb_disk.specs.Device.{OnlyReads};
-ghost use Rattle.jb_redo.specs.Answers.{AnswersFor, FaultRose, RefusesFor};
+ghost use Rattle.jb_redo.specs.Answers.{AnswersFor, RecordFaultRose, RefusesFor};
 ghost use Rattle.jb_redo.specs.Laws.{HasOneBadPlaceAtMost, HasOneRecordAtMost, HasRecordOrBadPlace};
 ghost use Rattle.jb_redo.specs.Walk.{AreSizes, HasLengths, HasPieces};
 
@@ -37,7 +37,7 @@ fn test_pieces<D: Disk>(
     ensures kept { OnlyReads (D.device disk.old) (D.device disk.new) }
     ensures quiet { OnOk result ((D.device disk.new).faults ≡ (D.device disk.old).faults) }
     ensures later { (D.device disk.old).faults ≤ (D.device disk.new).faults }
-    ensures cause { IfErr result (FaultRose (D.device disk.old).faults (D.device disk.new).faults) }
+    ensures cause { IfErr result (RecordFaultRose (D.device disk.old).faults (D.device disk.new).faults) }
 {
     let mut at = lengths.at;
     let Some(count) = read_number(disk, sizes.get(FileId::Jnl), at)? else {
@@ -59,7 +59,7 @@ fn walk_record<D: Disk>(disk: &mut D) -> Result<(), RecordError>
     ensures kept { OnlyReads (D.device disk.old) (D.device disk.new) }
     ensures quiet { OnOk result ((D.device disk.new).faults ≡ (D.device disk.old).faults) }
     ensures later { (D.device disk.old).faults ≤ (D.device disk.new).faults }
-    ensures cause { IfErr result (FaultRose (D.device disk.old).faults (D.device disk.new).faults) }
+    ensures cause { IfErr result (RecordFaultRose (D.device disk.old).faults (D.device disk.new).faults) }
 {
     let sizes = Sizes::of(disk)?;
     let lengths = read_lengths(disk, &sizes)?;
@@ -85,7 +85,7 @@ pub fn test_record<D: Disk>(disk: &mut D) -> Result<(), RecordError>
     ensures kept { OnlyReads (D.device disk.old) (D.device disk.new) }
     ensures quiet { OnOk result ((D.device disk.new).faults ≡ (D.device disk.old).faults) }
     ensures later { (D.device disk.old).faults ≤ (D.device disk.new).faults }
-    ensures cause { IfErr result (FaultRose (D.device disk.old).faults (D.device disk.new).faults) }
+    ensures cause { IfErr result (RecordFaultRose (D.device disk.old).faults (D.device disk.new).faults) }
 {
     walk_record(disk)
 }
