@@ -1,10 +1,11 @@
 -- What users find after a set.
-use Rattle.std.proofs.Common.{◌≡◌, ℕ, true, false, cond, inl, inr, List, [], ◌∷◌, sym, ◌∙◌, ap, arith}
+use Rattle.std.proofs.Common.{◌≡◌, ℕ, true, false, cond, inl, inr, List, [], ◌∷◌, sym, ◌∙◌, ap, arith, subst}
 use Rattle.std.specs.Prelude.{Option, Some}
 use Rattle.std.proofs.lemmas.Bool.{cases_Bool, cond-true, cond-false}
 use Rattle.std.proofs.lemmas.Bool.Decides.{nat_tests}
 use Rattle.jb_model.specs.declared.mark.Mark.{Mark}
 use Rattle.jb_model.specs.Marks.{is_mark, mark_of, with_mark}
+use Rattle.jb_marks.specs.Places.{FindOthersAlike}
 
 -- a mark is of its own pair
 own_pair : (mark : Mark) → is_mark mark.user_crc mark.user_id mark ≡ true
@@ -31,3 +32,11 @@ mark_of-with_other crc id mark (one ∷ marks) apart = elim (cases_Bool (is_mark
   | inr other ↦
       ap (λ (l : List Mark). mark_of crc id l) (cond-false _ _ _ other) ∙ ap (λ (r : Option Mark). cond (is_mark crc id one) (Some one) r) (mark_of-with_other crc id mark marks apart)
 ]
+
+-- where these are the marks after a set, the pair has the mark that was set
+pub own-after_set : (mark : Mark) (old new : List Mark) → new ≡ with_mark mark old → mark_of mark.user_crc mark.user_id new ≡ Some mark
+own-after_set mark old new is = subst (λ (l : List Mark). mark_of mark.user_crc mark.user_id l ≡ Some mark) (sym is) (mark_of-with_mark mark old)
+
+-- and every other pair has the mark that it had
+pub others-after_set : (mark : Mark) (old new : List Mark) → new ≡ with_mark mark old → FindOthersAlike mark old new
+others-after_set mark old new is = subst (FindOthersAlike mark old) (sym is) (λ crc id apart. mark_of-with_other crc id mark old apart)

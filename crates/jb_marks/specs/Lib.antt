@@ -1,3 +1,4 @@
+pub mod Indexed
 pub mod Kept
 pub mod Order
 pub mod Places

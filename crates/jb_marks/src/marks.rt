@@ -1,10 +1,11 @@
 //! The marks, their index and the room.
-ghost use Rattle.std.specs.Prelude.{◌≡◌, ◌+◌, ◌<◌, ◌≤◌, ◌⊎◌, length, max, IfOk, OnOk, OnErr, IsSome, Some};
+ghost use Rattle.std.specs.Prelude.{◌≡◌, ◌+◌, ◌<◌, ◌≤◌, ◌⊎◌, [], ◌∷◌, ◌++◌, length, max, IfOk, OnOk, OnErr, IsSome, Some};
 ghost use Rattle.jb_base.specs.declared.limits.TheConstants.{MOST_MARKS};
 ghost use Rattle.jb_model.specs.Marks.{mark_of, with_mark};
-ghost use Rattle.jb_marks.specs.Places.{FindOthersAlike, IsPlaceOf};
+ghost use Rattle.jb_marks.specs.Places.{FindOthersAlike, HasNone, IsPlaceOf};
 
-use crate::order::{append, ordered_places, refill, search};
+use crate::index::MarkIndex;
+use crate::order::refill;
 use jb_base::OutOfMemory;
 use jb_model::Mark;
 use std::alloc::Global;
@@ -15,7 +16,7 @@ use std::marker::Model;
 #[derive(Debug, Drop)]
 pub struct Marks {
     items: Vec<Mark>,
-    order: Vec<u32>,
+    index: MarkIndex,
     room: u32,
 }
 
@@ -38,10 +39,10 @@ impl Marks {
         ensures { IfOk result (λ copy. (copy.marks ≡ from.now) × (copy.room ≡ 0)) }
     {
         let items = Vec::from_slice(alloc, from)?;
-        let order = ordered_places(alloc, from)?;
+        let index = MarkIndex::of(alloc, from)?;
         Ok(Marks {
             items,
-            order,
+            index,
             room: 0,
         })
     }
@@ -57,17 +58,14 @@ impl Marks {
     pub fn find(&self, user_crc: u32, user_id: u32) -> Option<Mark>
         ensures { result ≡ mark_of user_crc user_id self.now.marks }
     {
-        match search(&self.items, &self.order, user_crc, user_id) {
-            Ok(place) => Some(self.items[place]),
-            Err(_) => None,
-        }
+        self.index.find(&self.items, user_crc, user_id)
     }
 
     /// The place of that mark among the others, from 0: its record begins at 16 times the place in .JLR.
     pub fn place_of(&self, user_crc: u32, user_id: u32) -> Option<usize>
         ensures { IsPlaceOf user_crc user_id self.now.marks result }
     {
-        search(&self.items, &self.order, user_crc, user_id).ok()
+        self.index.place_of(&self.items, user_crc, user_id)
     }
 
     /// Puts a mark in the place of the first one of its pair, or last where the pair has none. It takes no memory.
@@ -82,13 +80,25 @@ impl Marks {
         // One that is put last takes up room.
         ensures room { length self.new.marks + self.new.room ≡ length self.old.marks + self.old.room }
     {
-        match search(&self.items, &self.order, mark.user_crc, mark.user_id) {
-            Ok(place) => self.items[place] = mark,
-            Err(at) => {
-                append(&mut self.items, &mut self.order, at, mark);
-                self.room -= 1;
-            }
+        match self
+            .index
+            .place_of(&self.items, mark.user_crc, mark.user_id)
+        {
+            Some(place) => self.items[place] = mark,
+            None => self.put_last(mark),
         }
+    }
+
+    /// Puts a mark of a new pair last.
+    fn put_last(&mut self, mark: Mark)
+        requires none { HasNone mark.user_crc mark.user_id self.old.marks }
+        requires room { 0 < self.old.room }
+        ensures marks { self.new.marks ≡ self.old.marks ++ mark ∷ [] }
+        ensures room { length self.new.marks + self.new.room ≡ length self.old.marks + self.old.room }
+    {
+        self.index.add(&self.items, mark);
+        self.items.push_reserved(mark);
+        self.room -= 1;
     }
 
     /// Has the marks of another in the place of its own, in the room that there is. It takes no memory and sorts nothing.
@@ -99,7 +109,7 @@ impl Marks {
     {
         let places = self.items.len() as u32 + self.room;
         refill(&mut self.items, &other.items);
-        refill(&mut self.order, &other.order);
+        self.index.replace(&other.index);
         self.room = places - other.items.len() as u32;
     }
 
@@ -111,7 +121,7 @@ impl Marks {
         ensures err { OnErr result (self.new.room ≡ self.old.room) }
     {
         self.items.reserve(more as usize)?;
-        self.order.reserve(more as usize)?;
+        self.index.reserve(more)?;
         self.room = self.room.max(more);
         Ok(())
     }

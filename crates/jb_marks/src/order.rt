@@ -1,8 +1,8 @@
 //! The index of the marks: their places, in the order of their pairs and then of the places.
-ghost use Rattle.std.specs.Prelude.{◌≡◌, ◌+◌, ◌*◌, ◌^◌, ◌<◌, ◌≤◌, [], ◌∷◌, ◌++◌, length, nat_lt, IfOk, vec_len, vec_capacity};
+ghost use Rattle.std.specs.Prelude.{◌≡◌, ◌+◌, ◌*◌, ◌^◌, ◌≤◌, length, nat_lt, IfOk, vec_capacity};
 ghost use Rattle.std.specs.Ordering.{nat_cmp};
 ghost use Rattle.jb_base.specs.declared.limits.TheConstants.{MOST_MARKS};
-ghost use Rattle.jb_marks.specs.Order.{EndsSearch, IsGapFor, IsOrdered, IsSplit, pair_in, pair_number, place_number};
+ghost use Rattle.jb_marks.specs.Order.{EndsSearch, IsOrdered, IsSplit, pair_in, pair_number, place_number};
 
 use jb_base::OutOfMemory;
 use jb_model::Mark;
@@ -76,31 +76,6 @@ pub(crate) fn search(
     } else {
         Err(at)
     }
-}
-
-/// Puts a mark of a new pair behind the others, and its place into the index, in the room that both have.
-pub(crate) fn append(items: &mut Vec<Mark>, order: &mut Vec<u32>, at: usize, mark: Mark)
-    requires ordered { IsOrdered items.old.items order.old.items }
-    requires few { length items.old.items < MOST_MARKS }
-    requires gap { IsGapFor mark.user_crc mark.user_id items.old.items order.old.items at }
-    requires marks_room { vec_len items.old < vec_capacity items.old }
-    requires index_room { vec_len order.old < vec_capacity order.old }
-
-    // The mark goes last, and the index is that of the marks again.
-    ensures marks { items.new.items ≡ items.old.items ++ mark ∷ [] }
-    ensures ordered { IsOrdered items.new.items order.new.items }
-
-    // The room beside it stays.
-    ensures marks_room { vec_capacity items.old ≤ vec_capacity items.new }
-    ensures index_room { vec_capacity order.old ≤ vec_capacity order.new }
-{
-    let place = items.len() as u32;
-    let Ok(()) = order.insert(at, place) else {
-        unreachable!()
-    };
-    let Ok(()) = items.push(mark) else {
-        unreachable!()
-    };
 }
 
 /// Puts these in the place of those that are there, in the room that there is.
