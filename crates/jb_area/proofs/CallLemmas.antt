@@ -1,5 +1,5 @@
 -- A call that was decided is begun, and then it ends.
-use Rattle.std.proofs.Common.{◌≡◌, ℕ, ◌+◌, ◌≤◌, Bool, List, [], ◌∷◌, length, Result, Ok, Err, IfErr, IsOk, OnErr, OnOk, Some, ap, refl, sym, ◌∙◌, subst, arith}
+use Rattle.std.proofs.Common.{◌≡◌, ℕ, ◌≤◌, Bool, List, Result, Ok, Err, IfErr, IsOk, OnErr, OnOk, Some, ap, refl, sym, ◌∙◌, subst, arith}
 use Rattle.std.specs.Option.{ForSome}
 use Rattle.std.specs.Prelude.{is_some}
 use Rattle.jb_base.specs.Fault.{Rose}
@@ -7,28 +7,21 @@ use Rattle.jb_base.specs.declared.area.AreaRules.{AreaRules}
 use Rattle.jb_base.specs.declared.user.User.{User}
 use Rattle.jb_decide.specs.Decided.{ChangesNothing, IsNoPack, IsTold}
 use Rattle.jb_decide.specs.Headers.{KeepsHeaders, PacksHeaders}
-use Rattle.jb_decide.specs.Errors.{FaultRose}
+use Rattle.jb_decide.specs.Errors.{AreaFaultRose}
+use Rattle.jb_decide.proofs.AgreeLemmas.{headers_agree, packs_agree}
 use Rattle.jb_decide.specs.declared.error.AreaError.{AreaError}
 use Rattle.jb_decide.specs.declared.error.AreaError.TheVariants.{StoreFault}
 use Rattle.jb_disk.specs.Device.{Device, OnlyReads}
 use Rattle.jb_disk.specs.Files.{Files, number_of}
 use Rattle.jb_disk.specs.declared.file.FileId.TheVariants.{Jdt, Jhr}
-use Rattle.jb_image.specs.Places.{bytes_at}
 use Rattle.jb_disk.specs.Images.{Images}
 use Rattle.jb_disk.specs.Runs.{LeavesNow, LeavesOnly, Runs}
-use Rattle.jb_model.specs.Loaded.{header_size}
 use Rattle.jb_model.specs.State.{state_of}
 use Rattle.jb_model.specs.Step.{Step}
 use Rattle.jb_model.specs.declared.command.Command.{Command}
 use Rattle.jb_model.specs.declared.command.Command.TheVariants.{Post}
 use Rattle.jb_model.specs.declared.loaded.Loaded.{Loaded}
-use Rattle.jb_model.specs.declared.loaded.LoadedSlot.{LoadedSlot}
-use Rattle.jb_model.specs.declared.loaded.LoadedSlot.TheVariants.{Empty, Killed, Live}
 use Rattle.jb_model.specs.declared.reply.Reply.{Reply}
-use Rattle.jb_model.specs.declared.reply.Reply.TheVariants.{Posted}
-use Rattle.jb_model.specs.declared.reply.Reply.TheVariants as replies
-use Rattle.jb_pack.specs.Standing.{StandTogether}
-use Rattle.jb_record.specs.Message.{message_header_of}
 use Rattle.jb_area.specs.Area.{files_after, HasBegun, HasMade, HasNoChange, IsDoubtful, IsResting, RestsAt}
 use Rattle.jb_area.specs.Calls.{BeginsCall, EndsCall, FailsWith, HasAnswered, HasStoppedIn, IsBegunFor, MeetsCall}
 use Rattle.jb_area.specs.Holds.{OpensToEither}
@@ -59,9 +52,9 @@ err_gives : {T E : Type 0} (result : Result T E) (error : E) (P : E → Type 0) 
 err_gives {T} {E} result error P refused claim = subst (λ (r : Result T E). IfErr r P) refused claim
 
 -- a fault that is the only error has its cause
-fault_rose : {T : Type 0} (result : Result T AreaError) (before mid now : ℕ) → before ≤ mid → IfErr result (λ error. error ≡ StoreFault) → OnErr result (Rose mid now) → IfErr result (FaultRose before now)
+fault_rose : {T : Type 0} (result : Result T AreaError) (before mid now : ℕ) → before ≤ mid → IfErr result (λ error. error ≡ StoreFault) → OnErr result (Rose mid now) → IfErr result (AreaFaultRose before now)
 fault_rose (Ok value) before mid now later fault cause = tt
-fault_rose (Err error) before mid now later fault cause = subst (FaultRose before now) (sym fault) (omega (arith, cause, later))
+fault_rose (Err error) before mid now later fault cause = subst (AreaFaultRose before now) (sym fault) (omega (arith, cause, later))
 
 -- two claims on a refusal
 on_err_both : {T E : Type 0} (result : Result T E) (P Q : Type 0) → OnErr result P → OnErr result Q → OnErr result (P × Q)
@@ -78,66 +71,19 @@ fails_so : {T : Type 0} (result : Result T AreaError) (P : Type 0) (Q : AreaErro
 fails_so (Ok value) P Q fault doubt then = tt
 fails_so (Err error) P Q fault doubt then = subst Q (sym fault) (then doubt)
 
--- the headers of an area, in files with the same .JHR
-headers_agree : (reply : Reply) (from to : Loaded) (was now other : Files) → now Jhr ≡ other Jhr → KeepsHeaders reply from to was other → KeepsHeaders reply from to was now
-headers_agree reply from to was now other jhr keeps = record {
-  places = keeps.places;
-  numbers = λ place at is. ap (λ (b : List ℕ). (message_header_of (bytes_at at 76 b)).number) jhr ∙ keeps.numbers place at is;
-  behind = λ place message past here.
-      let stands = keeps.behind place message past here in
-      record {
-        header_at = stands.header_at;
-        text_at = stands.text_at;
-        numbered = stands.numbered ∙ ap (λ (b : List ℕ). Posted (message_header_of (bytes_at message.header_at 76 b)).number) (sym jhr);
-      };
-}
-
--- messages that stand together do so in files with the same .JHR and .JDT
-stand_agree : (now other : Files) (number header_at text_at : ℕ) (slots : List LoadedSlot) → now Jhr ≡ other Jhr → now Jdt ≡ other Jdt
-    → StandTogether other number header_at text_at slots → StandTogether now number header_at text_at slots
-stand_agree now other number header_at text_at [] jhr jdt stands = (ap length jhr ∙ stands.0, ap length jdt ∙ stands.1)
-stand_agree now other number header_at text_at (Empty ∷ slots) jhr jdt stands = stand_agree now other (number + 1) header_at text_at slots jhr jdt stands
-stand_agree now other number header_at text_at (Killed killed_at ∷ slots) jhr jdt stands = absurd stands
-stand_agree now other number header_at text_at (Live message ∷ slots) jhr jdt stands = (
-  record {
-    header = stands.0.header;
-    text = stands.0.text;
-    numbered = ap (λ (b : List ℕ). (message_header_of (bytes_at header_at 76 b)).number) jhr ∙ stands.0.numbered;
-  },
-  stand_agree now other (number + 1) (header_at + header_size message) (text_at + message.text_len) slots jhr jdt stands.1,
-)
-
--- and so do those of a pack
-packs_agree : (reply : Reply) (to : Loaded) (now other : Files) → now Jhr ≡ other Jhr → now Jdt ≡ other Jdt → PacksHeaders reply to other → PacksHeaders reply to now
-packs_agree (replies.Packed base live dropped) to now other jhr jdt packs = stand_agree now other to.base 1024 0 to.slots jhr jdt packs
-packs_agree (replies.Posted number) to now other jhr jdt packs = tt
-packs_agree (replies.Text letter) to now other jhr jdt packs = tt
-packs_agree (replies.Killed number) to now other jhr jdt packs = tt
-packs_agree (replies.Marked last high) to now other jhr jdt packs = tt
-packs_agree (replies.Relinked changed) to now other jhr jdt packs = tt
-packs_agree (replies.Denied rule) to now other jhr jdt packs = tt
-packs_agree (replies.NoMessage number) to now other jhr jdt packs = tt
-packs_agree (replies.TooLong field len) to now other jhr jdt packs = tt
-packs_agree (replies.EmptyName field) to now other jhr jdt packs = tt
-packs_agree (replies.SlotsFull slots) to now other jhr jdt packs = tt
-packs_agree (replies.HeadersFull len) to now other jhr jdt packs = tt
-packs_agree (replies.TextFull len) to now other jhr jdt packs = tt
-packs_agree (replies.NumbersSpent next) to now other jhr jdt packs = tt
-packs_agree (replies.MarksFull marks) to now other jhr jdt packs = tt
-
 module _ {D : Type 0} (shown : D → Device) (old mid new : OpenArea D) (texts : List ℕ) (user : User) (moment : ℕ) (command : Command)
-    (same : OnlyReads (shown old.disk) (shown mid.disk)) (loaded : mid.held.loaded ≡ old.held.loaded) (rules : mid.rules ≡ old.rules) (begun : IsBegunFor shown mid texts user moment command) where
+    (same : OnlyReads (shown old.disk) (shown mid.disk)) (loaded : mid.held ≡ old.held) (rules : mid.rules ≡ old.rules) (begun : IsBegunFor shown mid texts user moment command) where
   -- the step, as it was before the call
   step_before : IsTold begun.reply (shown old.disk).contents
-      → Step old.rules (state_of texts old.held.loaded) user moment command begun.reply (state_of begun.coming.texts begun.coming.to)
+      → Step old.rules (state_of texts old.held) user moment command begun.reply (state_of begun.coming.texts begun.coming.to)
   step_before told =
-      subst (λ (r : AreaRules). Step r (state_of texts old.held.loaded) user moment command begun.reply (state_of begun.coming.texts begun.coming.to)) rules
+      subst (λ (r : AreaRules). Step r (state_of texts old.held) user moment command begun.reply (state_of begun.coming.texts begun.coming.to)) rules
       (subst (λ (l : Loaded). Step mid.rules (state_of texts l) user moment command begun.reply (state_of begun.coming.texts begun.coming.to)) loaded
       (begun.step (subst (IsTold begun.reply) (sym same.contents) told)))
 
   -- a call that changes nothing has no change, and leaves the device
   idle_before : (HasNoChange mid → shown new.disk ≡ shown mid.disk) → ChangesNothing command begun.reply
-      → OnlyReads (shown old.disk) (shown new.disk) × (begun.coming ≡ record { to = old.held.loaded; texts = texts })
+      → OnlyReads (shown old.disk) (shown new.disk) × (begun.coming ≡ record { to = old.held; texts = texts })
   idle_before left nothing =
       let none = begun.idle nothing in (
         subst (OnlyReads (shown old.disk)) (sym (left none.0)) same,
@@ -145,18 +91,18 @@ module _ {D : Type 0} (shown : D → Device) (old mid new : OpenArea D) (texts :
       )
 
   -- what a crash leaves meanwhile
-  crash_before : ForSome (shown mid.disk).contents (λ files. LeavesOnly (shown mid.disk) (shown new.disk) (OpensToEither mid.held.loaded texts begun.coming))
-      → ForSome (shown old.disk).contents (λ files. LeavesOnly (shown old.disk) (shown new.disk) (OpensToEither old.held.loaded texts begun.coming))
+  crash_before : ForSome (shown mid.disk).contents (λ files. LeavesOnly (shown mid.disk) (shown new.disk) (OpensToEither mid.held texts begun.coming))
+      → ForSome (shown old.disk).contents (λ files. LeavesOnly (shown old.disk) (shown new.disk) (OpensToEither old.held texts begun.coming))
   crash_before crash = λ files there.
       subst (λ (l : Loaded). LeavesOnly (shown old.disk) (shown new.disk) (OpensToEither l texts begun.coming)) loaded
-      (only_from (OpensToEither mid.held.loaded texts begun.coming) (shown old.disk) (shown mid.disk) (shown new.disk) same (crash files (same.contents ∙ there)))
+      (only_from (OpensToEither mid.held texts begun.coming) (shown old.disk) (shown mid.disk) (shown new.disk) same (crash files (same.contents ∙ there)))
 
   -- what becomes of the headers
   headers_then : HasMade shown mid new → IsNoPack command → ForSome (shown old.disk).contents (λ was. ForSome (shown new.disk).contents (λ now.
-      KeepsHeaders begun.reply old.held.loaded begun.coming.to was now))
+      KeepsHeaders begun.reply old.held begun.coming.to was now))
   headers_then made in_place was there now here =
       let there_too = same.contents ∙ there in
-      headers_agree begun.reply old.held.loaded begun.coming.to was now (files_after mid was) (made was there_too now here Jhr (λ is. let number = ap number_of is in omega (arith, number)))
+      headers_agree begun.reply old.held begun.coming.to was now (files_after mid was) (made was there_too now here Jhr (λ is. let number = ap number_of is in omega (arith, number)))
       (subst (λ (l : Loaded). KeepsHeaders begun.reply l begun.coming.to was (files_after mid was)) loaded (begun.headers in_place was (begun.begun.kept.settled.rests was there_too).holds))
 
   -- and of those of a pack
@@ -171,22 +117,22 @@ module _ {D : Type 0} (shown : D → Device) (old mid new : OpenArea D) (texts :
   -- finished
   answered_by : (reply : Reply) → (reply ≡ begun.reply) × RestsAt shown new begun.coming.texts begun.coming.to → HasMade shown mid new
       → (HasNoChange mid → shown new.disk ≡ shown mid.disk)
-      → ForSome (shown mid.disk).contents (λ files. LeavesOnly (shown mid.disk) (shown new.disk) (OpensToEither mid.held.loaded texts begun.coming))
+      → ForSome (shown mid.disk).contents (λ files. LeavesOnly (shown mid.disk) (shown new.disk) (OpensToEither mid.held texts begun.coming))
       → HasAnswered shown old new texts user moment command reply
   answered_by reply done made left crash = record {
     coming = begun.coming;
-    step = subst (λ (r : Reply). IsTold r (shown old.disk).contents → Step old.rules (state_of texts old.held.loaded) user moment command r (state_of begun.coming.texts begun.coming.to)) (sym done.0) step_before;
+    step = subst (λ (r : Reply). IsTold r (shown old.disk).contents → Step old.rules (state_of texts old.held) user moment command r (state_of begun.coming.texts begun.coming.to)) (sym done.0) step_before;
     rests = done.1;
     idle = λ nothing. idle_before left (subst (ChangesNothing command) done.0 nothing);
     headers = λ in_place was there now here.
-        subst (λ (r : Reply). KeepsHeaders r old.held.loaded begun.coming.to was now) (sym done.0) (headers_then made in_place was there now here);
+        subst (λ (r : Reply). KeepsHeaders r old.held begun.coming.to was now) (sym done.0) (headers_then made in_place was there now here);
     packs = λ was there now here. subst (λ (r : Reply). PacksHeaders r begun.coming.to now) (sym done.0) (packs_then made was there now here);
     crash = crash_before crash;
   }
 
   -- stopped
-  stopped_by : IsDoubtful shown new texts (Some begun.coming) → ForSome (shown new.disk).contents (OpensToEither mid.held.loaded texts begun.coming) → new.held.loaded ≡ mid.held.loaded → (HasNoChange mid → ⊥)
-      → ForSome (shown mid.disk).contents (λ files. LeavesOnly (shown mid.disk) (shown new.disk) (OpensToEither mid.held.loaded texts begun.coming))
+  stopped_by : IsDoubtful shown new texts (Some begun.coming) → ForSome (shown new.disk).contents (OpensToEither mid.held texts begun.coming) → new.held ≡ mid.held → (HasNoChange mid → ⊥)
+      → ForSome (shown mid.disk).contents (λ files. LeavesOnly (shown mid.disk) (shown new.disk) (OpensToEither mid.held texts begun.coming))
       → HasStoppedIn shown old new texts user moment command
   stopped_by doubt opens stays some crash = record {
     coming = Some begun.coming;

@@ -1,5 +1,5 @@
 -- What a settling makes of an area in doubt.
-use Rattle.std.proofs.Common.{◌≡◌, ◌≢◌, ℕ, List, Option, None, Some, true, false, ap, sym, refl, ◌∙◌, subst, ◌+◌, ◌≤◌, length}
+use Rattle.std.proofs.Common.{◌≡◌, ◌≢◌, ℕ, List, Option, None, Some, true, false, ap, sym, refl, ◌∙◌, subst}
 use Rattle.std.specs.Option.{ForSome}
 use Rattle.jb_disk.specs.Change.{Change}
 use Rattle.jb_disk.specs.Device.{Device, TellsAlike}
@@ -13,11 +13,8 @@ use Rattle.jb_decide.specs.Coming.{Coming, IsChange}
 use Rattle.jb_decide.specs.Decided.{IsPending}
 use Rattle.jb_area.specs.Area.{redo_in, redo_of, DoubtOpens, IsBetween, IsDoubtful, IsUnchanged, RestsAt, SettlesAt}
 use Rattle.jb_area.specs.Commits.{IsAnsweredAs, IsSettledAs, IsStoppedAs, MaySettle}
-use Rattle.jb_decide.specs.Held.{IsKeptWhole}
-use Rattle.jb_decide.specs.declared.held.Held.{Held}
-use Rattle.jb_step.specs.After.{live_messages}
 use Rattle.jb_area.specs.Holds.{Opens, OpensToEither}
-use Rattle.jb_decide.specs.Pending.{IsFit, after, live_after}
+use Rattle.jb_decide.specs.Pending.{MayApply, after}
 use Rattle.jb_area.specs.declared.area.OpenArea.{OpenArea}
 use Rattle.jb_decide.specs.declared.pending.Pending.{Pending}
 use Rattle.jb_decide.specs.declared.pending.Pending.TheVariants.{Nothing}
@@ -41,9 +38,9 @@ at_doubt shown area texts (Some coming) doubt = (doubt.stopped, doubt.pending, d
 
 -- what is read of an area in doubt opens to one of the two
 pub doubt_reads : {D : Type 0} (shown : D → Device) (area : OpenArea D) (texts : List ℕ) (coming : Option Coming) → IsDoubtful shown area texts coming
-    → ForSome (shown area.disk).contents (DoubtOpens area.held.loaded texts coming)
-doubt_reads shown area texts None doubt = λ files there. rest_opens area.held.loaded texts files (doubt.kept.settled.rests files there)
-doubt_reads shown area texts (Some coming) doubt = stopped_opens (redo_of area) doubt.stopped (shown area.disk) area.held.loaded texts coming doubt.doubt doubt.change.change
+    → ForSome (shown area.disk).contents (DoubtOpens area.held texts coming)
+doubt_reads shown area texts None doubt = λ files there. rest_opens area.held texts files (doubt.kept.settled.rests files there)
+doubt_reads shown area texts (Some coming) doubt = stopped_opens (redo_of area) doubt.stopped (shown area.disk) area.held texts coming doubt.doubt doubt.change.change
 
 module _ {D : Type 0} (shown : D → Device) (area : OpenArea D) (stopped : Stopped) (pending : Pending) (is : area.stage ≡ Doubtful stopped pending) where
   -- a call that had no change
@@ -55,11 +52,11 @@ module _ {D : Type 0} (shown : D → Device) (area : OpenArea D) (stopped : Stop
 
     -- and leaves the area as it is, whenever a crash comes
     pub idle : (texts : List ℕ) (coming : Option Coming) → IsDoubtful shown area texts coming → (was : Files) → (shown area.disk).contents ≡ Some was
-        → LeavesOnly (shown area.disk) (shown area.disk) (DoubtOpens area.held.loaded texts coming)
+        → LeavesOnly (shown area.disk) (shown area.disk) (DoubtOpens area.held texts coming)
     idle texts coming doubt was there =
         let so = unchanged texts coming doubt in
-        subst (λ (c : Option Coming). LeavesOnly (shown area.disk) (shown area.disk) (DoubtOpens area.held.loaded texts c)) (sym so.1)
-        (record { first = settled_opens area.held.loaded texts (shown area.disk) was there so.0.kept.settled; run = runs-refl (Opens area.held.loaded texts) _ _ refl })
+        subst (λ (c : Option Coming). LeavesOnly (shown area.disk) (shown area.disk) (DoubtOpens area.held texts c)) (sym so.1)
+        (record { first = settled_opens area.held texts (shown area.disk) was there so.0.kept.settled; run = runs-refl (Opens area.held texts) _ _ refl })
 
   -- a call that had one
   module _ (some : pending ≢ Nothing) where
@@ -68,56 +65,36 @@ module _ {D : Type 0} (shown : D → Device) (area : OpenArea D) (stopped : Stop
     no_none texts unchanged = some (same_pending stopped unchanged.stopped pending Nothing (sym is ∙ unchanged.stage))
 
     -- what is in doubt
-    doubt_is : (texts : List ℕ) (coming : Coming) → IsBetween shown area texts coming → IsStoppedAs stopped (redo_of area) area.held.loaded texts (shown area.disk)
+    doubt_is : (texts : List ℕ) (coming : Coming) → IsBetween shown area texts coming → IsStoppedAs stopped (redo_of area) area.held texts (shown area.disk)
     doubt_is texts coming between =
-        subst (λ (s : Stopped). IsStoppedAs s (redo_of area) area.held.loaded texts (shown area.disk)) (same_stopped between.stopped stopped between.pending pending (sym between.stage ∙ is)) between.doubt
+        subst (λ (s : Stopped). IsStoppedAs s (redo_of area) area.held texts (shown area.disk)) (same_stopped between.stopped stopped between.pending pending (sym between.stage ∙ is)) between.doubt
 
     -- what is to come
-    change_is : (texts : List ℕ) (coming : Coming) → IsBetween shown area texts coming → IsPending area.rules.slots (shown area.disk).contents (redo_of area) pending area.held.loaded texts coming
+    change_is : (texts : List ℕ) (coming : Coming) → IsBetween shown area texts coming → IsPending area.rules.slots (shown area.disk).contents (redo_of area) pending area.held texts coming
     change_is texts coming between =
-        subst (λ (p : Pending). IsPending area.rules.slots (shown area.disk).contents (redo_of area) p area.held.loaded texts coming) (same_pending between.stopped stopped between.pending pending (sym between.stage ∙ is)) between.change
+        subst (λ (p : Pending). IsPending area.rules.slots (shown area.disk).contents (redo_of area) p area.held texts coming) (same_pending between.stopped stopped between.pending pending (sym between.stage ∙ is)) between.change
 
-    -- so many messages are live then
-    pub live : (texts : List ℕ) (coming : Option Coming) → IsDoubtful shown area texts coming → live_messages (after pending area.held.loaded) ≡ live_after pending area.held.live
-    live texts None doubt = absurd (no_none texts doubt)
-    live texts (Some coming) doubt =
-        let change = change_is texts coming doubt in
-        ap live_messages (sym change.becomes) ∙ change.live ∙ ap (live_after pending) (sym doubt.ruled.whole.live)
-
-    -- what is kept is whole
-    pub whole_is : (texts : List ℕ) (coming : Option Coming) → IsDoubtful shown area texts coming → IsKeptWhole area.held
-    whole_is texts None doubt = doubt.kept.ruled.whole
-    whole_is texts (Some coming) doubt = doubt.ruled.whole
-
-    -- it has its place
-    pub fits : (texts : List ℕ) (coming : Option Coming) → IsDoubtful shown area texts coming → IsFit pending area.held.loaded
-    fits texts None doubt = absurd (no_none texts doubt)
-    fits texts (Some coming) doubt = (change_is texts coming doubt).fit
-
-    -- its numbers stay in their range
-    pub numbered : (texts : List ℕ) (coming : Option Coming) → IsDoubtful shown area texts coming
-        → (after pending area.held.loaded).base + length (after pending area.held.loaded).slots ≤ 4294967295
-    numbered texts None doubt = absurd (no_none texts doubt)
-    numbered texts (Some coming) doubt =
-        let change = change_is texts coming doubt in
-        subst (λ (l : Loaded). l.base + length l.slots ≤ 4294967295) change.becomes change.sound.numbers
+    -- it may be done in what is loaded
+    pub may_apply : (texts : List ℕ) (coming : Option Coming) → IsDoubtful shown area texts coming → MayApply pending area.held
+    may_apply texts None doubt = absurd (no_none texts doubt)
+    may_apply texts (Some coming) doubt = (change_is texts coming doubt).may
 
     -- of the redo that is in use
     module _ (redo : Change) (used : redo ≡ redo_of area) where
       -- what is in doubt
-      doubt_in : (texts : List ℕ) (coming : Coming) → IsBetween shown area texts coming → IsStoppedAs stopped redo area.held.loaded texts (shown area.disk)
-      doubt_in texts coming between = subst (λ (r : Change). IsStoppedAs stopped r area.held.loaded texts (shown area.disk)) (sym used) (doubt_is texts coming between)
+      doubt_in : (texts : List ℕ) (coming : Coming) → IsBetween shown area texts coming → IsStoppedAs stopped redo area.held texts (shown area.disk)
+      doubt_in texts coming between = subst (λ (r : Change). IsStoppedAs stopped r area.held texts (shown area.disk)) (sym used) (doubt_is texts coming between)
 
       -- what is to come
-      change_in : (texts : List ℕ) (coming : Coming) → IsBetween shown area texts coming → IsPending area.rules.slots (shown area.disk).contents redo pending area.held.loaded texts coming
+      change_in : (texts : List ℕ) (coming : Coming) → IsBetween shown area texts coming → IsPending area.rules.slots (shown area.disk).contents redo pending area.held texts coming
       change_in texts coming between =
-          subst (λ (r : Change). IsPending area.rules.slots (shown area.disk).contents r pending area.held.loaded texts coming) (sym used) (change_is texts coming between)
+          subst (λ (r : Change). IsPending area.rules.slots (shown area.disk).contents r pending area.held texts coming) (sym used) (change_is texts coming between)
 
       -- it may be settled
       pub may_settle : (texts : List ℕ) (coming : Option Coming) → IsDoubtful shown area texts coming → MaySettle stopped redo (shown area.disk)
       may_settle texts None doubt = absurd (no_none texts doubt)
       may_settle texts (Some coming) doubt = record {
-        from = area.held.loaded;
+        from = area.held;
         texts = texts;
         coming = coming;
         doubt = doubt_in texts coming doubt;
@@ -125,21 +102,21 @@ module _ {D : Type 0} (shown : D → Device) (area : OpenArea D) (stopped : Stop
       }
 
       -- settled with the change
-      pub stands : (disk : D) (held : Held) (large : Option Change) (stage : Stage) → large ≡ None → stage ≡ Resting → held.loaded ≡ after pending area.held.loaded → IsKeptWhole held
+      pub stands : (disk : D) (held : Loaded) (large : Option Change) (stage : Stage) → large ≡ None → stage ≡ Resting → held ≡ after pending area.held
           → ((from : Loaded) (texts : List ℕ) (coming : Coming) → IsStoppedAs stopped redo from texts (shown area.disk) → IsChange (shown area.disk).contents redo from texts coming → IsAnsweredAs true from texts coming (shown disk))
           → (texts : List ℕ) (coming : Option Coming) → IsDoubtful shown area texts coming
-          → SettlesAt shown true area.held.loaded texts coming (record area { disk = disk; held = held; large = large; stage = stage })
-      stands disk held large stage small resting applied whole answer texts None doubt = no_none texts doubt
-      stands disk held large stage small resting applied whole answer texts (Some coming) doubt =
+          → SettlesAt shown true area.held texts coming (record area { disk = disk; held = held; large = large; stage = stage })
+      stands disk held large stage small resting applied answer texts None doubt = no_none texts doubt
+      stands disk held large stage small resting applied answer texts (Some coming) doubt =
           let change = change_in texts coming doubt in
-          let to : coming.to ≡ held.loaded = change.becomes ∙ sym applied in
+          let to : coming.to ≡ held = change.becomes ∙ sym applied in
           record {
             rests = record {
               stage = resting;
               small = small;
               kept = record {
-                ruled = record { few_slots = doubt.ruled.few_slots; address = doubt.ruled.address; sound = subst (IsSound area.rules.slots) to change.sound; sized = change.sized ∙ ap (λ (l : Loaded). l.texts_len) to; whole = whole; room = doubt.ruled.room };
-                settled = subst (λ (l : Loaded). IsSettledAs l coming.texts (shown disk)) to (answer area.held.loaded texts coming (doubt_in texts coming doubt) change.change);
+                ruled = record { few_slots = doubt.ruled.few_slots; address = doubt.ruled.address; sound = subst (IsSound area.rules.slots) to change.sound; sized = change.sized ∙ ap (λ (l : Loaded). l.texts_len) to; room = doubt.ruled.room };
+                settled = subst (λ (l : Loaded). IsSettledAs l coming.texts (shown disk)) to (answer area.held texts coming (doubt_in texts coming doubt) change.change);
               };
             };
             is = sym to;
@@ -149,15 +126,15 @@ module _ {D : Type 0} (shown : D → Device) (area : OpenArea D) (stopped : Stop
       pub falls : (disk : D) (large : Option Change) (stage : Stage) → large ≡ None → stage ≡ Resting
           → ((from : Loaded) (texts : List ℕ) (coming : Coming) → IsStoppedAs stopped redo from texts (shown area.disk) → IsChange (shown area.disk).contents redo from texts coming → IsAnsweredAs false from texts coming (shown disk))
           → (texts : List ℕ) (coming : Option Coming) → IsDoubtful shown area texts coming
-          → RestsAt shown (record area { disk = disk; large = large; stage = stage }) texts area.held.loaded
+          → RestsAt shown (record area { disk = disk; large = large; stage = stage }) texts area.held
       falls disk large stage small resting answer texts None doubt = absurd (no_none texts doubt)
       falls disk large stage small resting answer texts (Some coming) doubt = record {
         rests = record {
           stage = resting;
           small = small;
           kept = record {
-            ruled = record { few_slots = doubt.ruled.few_slots; address = doubt.ruled.address; sound = doubt.ruled.sound; sized = doubt.ruled.sized; whole = doubt.ruled.whole; room = doubt.ruled.room };
-            settled = answer area.held.loaded texts coming (doubt_in texts coming doubt) (change_in texts coming doubt).change;
+            ruled = record { few_slots = doubt.ruled.few_slots; address = doubt.ruled.address; sound = doubt.ruled.sound; sized = doubt.ruled.sized; room = doubt.ruled.room };
+            settled = answer area.held texts coming (doubt_in texts coming doubt) (change_in texts coming doubt).change;
           };
         };
         is = refl;
@@ -175,10 +152,10 @@ module _ {D : Type 0} (shown : D → Device) (area : OpenArea D) (stopped : Stop
             stopped = again;
             pending = pending;
             stage = refl;
-            ruled = record { few_slots = doubt.ruled.few_slots; address = doubt.ruled.address; sound = doubt.ruled.sound; sized = doubt.ruled.sized; whole = doubt.ruled.whole; room = doubt.ruled.room };
-            change = subst (λ (r : Change). IsPending area.rules.slots (shown disk).contents r pending area.held.loaded texts coming) kept
-                (pending_later area.rules.slots (shown area.disk) (shown disk) redo pending area.held.loaded texts coming alike change);
-            doubt = subst (λ (r : Change). IsStoppedAs again r area.held.loaded texts (shown disk)) kept (answer area.held.loaded texts coming (doubt_in texts coming doubt) change.change);
+            ruled = record { few_slots = doubt.ruled.few_slots; address = doubt.ruled.address; sound = doubt.ruled.sound; sized = doubt.ruled.sized; room = doubt.ruled.room };
+            change = subst (λ (r : Change). IsPending area.rules.slots (shown disk).contents r pending area.held texts coming) kept
+                (pending_later area.rules.slots (shown area.disk) (shown disk) redo pending area.held texts coming alike change);
+            doubt = subst (λ (r : Change). IsStoppedAs again r area.held texts (shown disk)) kept (answer area.held texts coming (doubt_in texts coming doubt) change.change);
           }
 
       -- whenever a crash comes
@@ -186,6 +163,6 @@ module _ {D : Type 0} (shown : D → Device) (area : OpenArea D) (stopped : Stop
           → ((from : Loaded) (texts : List ℕ) (coming : Coming) → IsStoppedAs stopped redo from texts (shown area.disk) → IsChange (shown area.disk).contents redo from texts coming
           → (was : Files) → (shown area.disk).contents ≡ Some was → LeavesOnly (shown area.disk) new (OpensToEither from texts coming))
           → (texts : List ℕ) (coming : Option Coming) → IsDoubtful shown area texts coming → (was : Files) → (shown area.disk).contents ≡ Some was
-          → LeavesOnly (shown area.disk) new (DoubtOpens area.held.loaded texts coming)
+          → LeavesOnly (shown area.disk) new (DoubtOpens area.held texts coming)
       crashes new crash texts None doubt was there = absurd (no_none texts doubt)
-      crashes new crash texts (Some coming) doubt was there = crash area.held.loaded texts coming (doubt_in texts coming doubt) (change_in texts coming doubt).change was there
+      crashes new crash texts (Some coming) doubt was there = crash area.held texts coming (doubt_in texts coming doubt) (change_in texts coming doubt).change was there

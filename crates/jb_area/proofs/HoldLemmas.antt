@@ -1,99 +1,20 @@
 -- From what the journal promises of files to what it means for the area.
-use Rattle.std.proofs.Common.{◌≡◌, ◌≢◌, inl, inr, ℕ, ◌+◌, ◌*◌, ◌<◌, ◌≤◌, List, [], ◌∷◌, length, take, ap, refl, sym, ◌∙◌, subst, arith, length-append, length-take}
+use Rattle.std.proofs.Common.{◌≡◌, ◌≢◌, inl, inr, ℕ, ◌<◌, ◌≤◌, List, [], ◌∷◌, length, take, ap, refl, ◌∙◌, arith, length-append, length-take}
 use Rattle.std.proofs.lemmas.List.{places}
-use Rattle.std.specs.Prelude.{slice_index, slice_index_or, bit_and}
-use Rattle.jb_base.specs.declared.attribute.TheConstants.{DELETED}
+use Rattle.std.specs.Prelude.{slice_index}
 use Rattle.jb_disk.specs.Change.{Change}
 use Rattle.jb_disk.specs.Files.{Files, number_of, overwritten, with_file}
 use Rattle.jb_disk.specs.declared.file.FileId.{FileId}
 use Rattle.jb_disk.specs.declared.file.FileId.TheVariants.{Jhr, Jdt, Jdx, Jlr, Jnl}
-use Rattle.jb_image.specs.Places.{bytes_at}
-use Rattle.jb_image.specs.Stands.{Loads, HasHeader, HasSlot, IsLiveIn, IsLiveHeader, head_of}
-use Rattle.jb_image.specs.Places.{entry_in, header_in}
 use Rattle.jb_journal.specs.Commit.{AgreeButJournal, IsReady, ReplaysTo, IsBeforeOrAfter, changed, committed, journal_of}
 use Rattle.jb_journal.specs.Doubt.{IsSettledAt}
 use Rattle.jb_disk.specs.FileLaws.{with_file-here, with_file-other, length-overwritten}
-use Rattle.jb_model.specs.Sound.{IsWithin}
 use Rattle.jb_model.specs.declared.loaded.Loaded.{Loaded}
-use Rattle.jb_model.specs.declared.loaded.LoadedMessage.{LoadedMessage}
-use Rattle.jb_model.specs.declared.loaded.LoadedSlot.{LoadedSlot}
-use Rattle.jb_model.specs.declared.loaded.LoadedSlot.TheVariants.{Empty, Killed, Live}
-use Rattle.jb_record.specs.declared.index.IndexRecord.{IndexRecord}
-use Rattle.jb_record.specs.declared.message.MessageHeader.{MessageHeader}
-use Rattle.jb_record.specs.Fixed.{IsFixedHeader, fixed_header_of}
-use Rattle.jb_record.specs.Index.{index_record_of}
-use Rattle.jb_record.specs.Lastread.{lastread_record_of}
-use Rattle.jb_record.specs.Message.{IsMessageHeader, message_header_of}
-use Rattle.jb_base.specs.Subfields.{IsSubfieldList}
 use Rattle.jb_redo.specs.Record.{record_bytes}
 use Rattle.jb_decide.specs.Coming.{BringsComing, Coming}
 use Rattle.jb_decide.specs.Holds.{Holds}
+use Rattle.jb_decide.proofs.AgreeLemmas.{loads_agree}
 use Rattle.jb_area.specs.Holds.{IsAtRest, Opens, OpensToEither}
-
--- files that hold the same in the four files of the base
-module _ (files other : Files) (jhr : files Jhr ≡ other Jhr) (jdt : files Jdt ≡ other Jdt) (jdx : files Jdx ≡ other Jdx) (jlr : files Jlr ≡ other Jlr) where
-  -- a fact of the headers
-  by_headers : (P : List ℕ → Type 0) → P (other Jhr) → P (files Jhr)
-  by_headers P is = subst P (sym jhr) is
-
-  -- a header
-  header_agrees : (at : ℕ) → HasHeader other at → HasHeader files at
-  header_agrees at has = record {
-    placed = by_headers (λ b. IsWithin (length b) at 76) has.placed;
-    shaped = by_headers (λ b. IsMessageHeader (bytes_at at 76 b)) has.shaped;
-  }
-
-  -- what stands in it
-  header_same : (at : ℕ) → header_in files at ≡ header_in other at
-  header_same at = ap (λ (b : List ℕ). message_header_of (bytes_at at 76 b)) jhr
-
-  -- a live message
-  live_agrees : (message : LoadedMessage) → IsLiveIn other message → IsLiveIn files message
-  live_agrees message is = record {
-    header = header_agrees message.header_at is.header;
-    live = subst (λ (h : MessageHeader). IsLiveHeader (length (files Jhr)) (length (files Jdt)) message.header_at h) (sym (header_same message.header_at))
-        (subst (λ (t : List ℕ). IsLiveHeader (length (files Jhr)) (length t) message.header_at (header_in other message.header_at)) (sym jdt)
-        (by_headers (λ b. IsLiveHeader (length b) (length (other Jdt)) message.header_at (header_in other message.header_at)) is.live));
-    subfields = subst (λ (h : MessageHeader). IsSubfieldList message.subfields (bytes_at (message.header_at + 76) h.subfields (files Jhr))) (sym (header_same message.header_at))
-        (by_headers (λ b. IsSubfieldList message.subfields (bytes_at (message.header_at + 76) (header_in other message.header_at).subfields b)) is.subfields);
-    head = is.head ∙ ap head_of (sym (header_same message.header_at));
-    text_at = is.text_at ∙ ap (λ (h : MessageHeader). h.offset) (sym (header_same message.header_at));
-    text_len = is.text_len ∙ ap (λ (h : MessageHeader). h.text_len) (sym (header_same message.header_at));
-  }
-
-  -- an index record
-  entry_same : (k : ℕ) → entry_in files k ≡ entry_in other k
-  entry_same k = ap (λ (b : List ℕ). index_record_of (bytes_at (8 * k) 8 b)) jdx
-
-  -- a slot that one record names
-  slot_agrees : (entry : IndexRecord) (slot : LoadedSlot) → HasSlot other entry slot → HasSlot files entry slot
-  slot_agrees entry Empty has = has
-  slot_agrees entry (Killed header_at) has = (
-    has.0,
-    record {
-      header = header_agrees header_at has.1.header;
-      deleted = subst (λ (h : MessageHeader). bit_and h.attribute DELETED ≢ 0) (sym (header_same header_at)) has.1.deleted;
-    },
-  )
-  slot_agrees entry (Live message) has = (has.0, has.1, live_agrees message has.2)
-
-  -- what is loaded
-  pub loads_agree : (loaded : Loaded) → Loads other loaded → Loads files loaded
-  loads_agree loaded loads = record {
-    header = by_headers (λ b. IsFixedHeader (bytes_at 0 1024 b)) loads.header;
-    fixed = loads.fixed ∙ ap (λ (b : List ℕ). fixed_header_of (bytes_at 0 1024 b)) (sym jhr);
-    base = loads.base;
-    numbers = loads.numbers;
-    index = ap length jdx ∙ loads.index;
-    slots = λ k d low. subst (λ (e : IndexRecord). HasSlot files e (slice_index_or loaded.slots k d)) (sym (entry_same k))
-        (slot_agrees (entry_in other k) (slice_index_or loaded.slots k d) (loads.slots k d low));
-    apart = loads.apart;
-    lastread = ap length jlr ∙ loads.lastread;
-    marks = λ k d low. loads.marks k d low ∙ ap (λ (b : List ℕ). lastread_record_of (bytes_at (16 * k) 16 b)) (sym jlr);
-    few_marks = loads.few_marks;
-    headers_len = loads.headers_len ∙ ap length (sym jhr);
-    texts_len = loads.texts_len ∙ ap length (sym jdt);
-  }
 
 -- a file with another number is another file
 apart : (file : FileId) → number_of file < 4 → file ≢ Jnl

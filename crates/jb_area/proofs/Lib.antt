@@ -1,8 +1,7 @@
-mod CallLemmas
+pub mod CallLemmas
 mod CommitLemmas
 mod DoubtLemmas
-pub mod HoldLemmas
-mod IndexLemmas
+mod HoldLemmas
 mod Outcomes
 mod StageLemmas
 mod StartLemmas

@@ -1,5 +1,5 @@
 -- What is on its way in an open area, from its stage.
-use Rattle.std.proofs.Common.{◌≡◌, ◌≢◌, ◌⊎◌, inl, inr, ℕ, ◌+◌, ◌≤◌, List, length, Option, None, ap, sym, refl, ◌∙◌, subst}
+use Rattle.std.proofs.Common.{◌≡◌, ◌≢◌, ◌⊎◌, inl, inr, ℕ, List, Option, None, ap, sym, refl, ◌∙◌, subst}
 use Rattle.jb_disk.specs.Device.{Device, TellsAlike}
 use Rattle.jb_disk.specs.Change.{Change}
 use Rattle.jb_disk.proofs.RunLemmas.{stays_silent}
@@ -14,10 +14,7 @@ use Rattle.jb_journal.specs.Commit.{AgreeButJournal, changed}
 use Rattle.jb_decide.specs.Decided.{IsNoChange, IsPending, made}
 use Rattle.jb_area.specs.Area.{done_in, redo_in, redo_of, HasMade, HasNoChange, IsBegun, IsBetween, RestsAt}
 use Rattle.jb_area.specs.Commits.{IsSettledAs, IsStoppedAs, MayCommit}
-use Rattle.jb_decide.specs.Held.{IsKeptWhole}
-use Rattle.jb_decide.specs.declared.held.Held.{Held}
-use Rattle.jb_step.specs.After.{live_messages}
-use Rattle.jb_decide.specs.Pending.{IsFit, after, live_after}
+use Rattle.jb_decide.specs.Pending.{MayApply, after}
 use Rattle.jb_area.specs.declared.area.OpenArea.{OpenArea}
 use Rattle.jb_area.proofs.CommitLemmas.{some-same, told_before}
 use Rattle.jb_decide.specs.declared.pending.Pending.{Pending}
@@ -58,10 +55,9 @@ pending_later limit old new redo pending from texts coming alike is = record {
     brings = told_before old new (stays_silent old.contents new.contents alike) (BringsComing redo from texts coming) is.change.brings;
     writable = is.change.writable;
   };
-  fit = is.fit;
+  may = is.may;
   sound = is.sound;
   sized = is.sized;
-  live = is.live;
 }
 
 -- what is pending is done in the files
@@ -73,13 +69,13 @@ some_made (Packed plan base replies) redo files some = refl
 
 module _ {D : Type 0} (shown : D → Device) (area : OpenArea D) (reply : Reply) (pending : Pending) (is : area.stage ≡ Begun reply pending) where
   -- a call without a change leaves the files
-  pub made_nothing : (disk : D) (held : Held) (large : Option Change) (stage : Stage) → pending ≡ Nothing → disk ≡ area.disk → HasMade shown area (record area { disk = disk; held = held; large = large; stage = stage })
+  pub made_nothing : (disk : D) (held : Loaded) (large : Option Change) (stage : Stage) → pending ≡ Nothing → disk ≡ area.disk → HasMade shown area (record area { disk = disk; held = held; large = large; stage = stage })
   made_nothing disk held large stage none same was there now here = λ file ne.
       ap (λ (f : Files). f file) (some-same _ _ (sym here ∙ ap (λ (d : D). (shown d).contents) same ∙ there))
       ∙ sym (ap (λ (s : Stage). done_in s (redo_of area) was file) is ∙ ap (λ (p : Pending). made p (redo_of area) was file) none)
 
   -- and one with a change does it
-  pub made_change : (disk : D) (held : Held) (large : Option Change) (stage : Stage) (redo : Change) → redo ≡ redo_of area → pending ≢ Nothing
+  pub made_change : (disk : D) (held : Loaded) (large : Option Change) (stage : Stage) (redo : Change) → redo ≡ redo_of area → pending ≢ Nothing
       → ForSome (shown area.disk).contents (λ was. ForSome (shown disk).contents (λ now. AgreeButJournal now (changed redo was)))
       → HasMade shown area (record area { disk = disk; held = held; large = large; stage = stage })
   made_change disk held large stage redo used some agree was there now here = λ file ne.
@@ -98,20 +94,20 @@ module _ {D : Type 0} (shown : D → Device) where
     pending_is reply pending is = same_pending decided reply begun.pending pending (sym begun.stage ∙ is)
 
     -- where nothing is pending
-    pub none_is : (reply : Reply) (pending : Pending) → area.stage ≡ Begun reply pending → pending ≡ Nothing → coming ≡ record { to = area.held.loaded; texts = texts }
-    none_is reply pending is none = none_pending area.rules.slots (shown area.disk).contents (redo_of area) begun.pending area.held.loaded texts coming (pending_is reply pending is ∙ none) begun.change
+    pub none_is : (reply : Reply) (pending : Pending) → area.stage ≡ Begun reply pending → pending ≡ Nothing → coming ≡ record { to = area.held; texts = texts }
+    none_is reply pending is none = none_pending area.rules.slots (shown area.disk).contents (redo_of area) begun.pending area.held texts coming (pending_is reply pending is ∙ none) begun.change
 
     -- where something is pending
-    pub some_is : (reply : Reply) (pending : Pending) → area.stage ≡ Begun reply pending → pending ≢ Nothing → IsPending area.rules.slots (shown area.disk).contents (redo_of area) pending area.held.loaded texts coming
+    pub some_is : (reply : Reply) (pending : Pending) → area.stage ≡ Begun reply pending → pending ≢ Nothing → IsPending area.rules.slots (shown area.disk).contents (redo_of area) pending area.held texts coming
     some_is reply pending is some =
-        subst (λ (p : Pending). IsPending area.rules.slots (shown area.disk).contents (redo_of area) p area.held.loaded texts coming) (pending_is reply pending is)
-        (some_pending area.rules.slots (shown area.disk).contents (redo_of area) begun.pending area.held.loaded texts coming (λ none. some (sym (pending_is reply pending is) ∙ none)) begun.change)
+        subst (λ (p : Pending). IsPending area.rules.slots (shown area.disk).contents (redo_of area) p area.held texts coming) (pending_is reply pending is)
+        (some_pending area.rules.slots (shown area.disk).contents (redo_of area) begun.pending area.held texts coming (λ none. some (sym (pending_is reply pending is) ∙ none)) begun.change)
 
     -- the same, of the redo that is in use
     pub some_in : (reply : Reply) (pending : Pending) (redo : Change) → redo ≡ redo_of area → area.stage ≡ Begun reply pending → pending ≢ Nothing
-        → IsPending area.rules.slots (shown area.disk).contents redo pending area.held.loaded texts coming
+        → IsPending area.rules.slots (shown area.disk).contents redo pending area.held texts coming
     some_in reply pending redo used is some =
-        subst (λ (r : Change). IsPending area.rules.slots (shown area.disk).contents r pending area.held.loaded texts coming) (sym used) (some_is reply pending is some)
+        subst (λ (r : Change). IsPending area.rules.slots (shown area.disk).contents r pending area.held texts coming) (sym used) (some_is reply pending is some)
 
     -- a call without a change is finished
     pub rests_unchanged : (reply : Reply) (pending : Pending) (large : Option Change) (stage : Stage) → area.stage ≡ Begun reply pending → pending ≡ Nothing → large ≡ None → stage ≡ Resting
@@ -120,26 +116,26 @@ module _ {D : Type 0} (shown : D → Device) where
         let same = none_is reply pending is none in (
           reply_is reply pending is,
           subst (λ (c : Coming). RestsAt shown (record area { large = large; stage = stage }) c.texts c.to) (sym same)
-              (record { rests = record { stage = resting; small = small; kept = record { ruled = record { few_slots = begun.kept.ruled.few_slots; address = begun.kept.ruled.address; sound = begun.kept.ruled.sound; sized = begun.kept.ruled.sized; whole = begun.kept.ruled.whole; room = begun.kept.ruled.room }; settled = begun.kept.settled } }; is = refl }),
+              (record { rests = record { stage = resting; small = small; kept = record { ruled = record { few_slots = begun.kept.ruled.few_slots; address = begun.kept.ruled.address; sound = begun.kept.ruled.sound; sized = begun.kept.ruled.sized; room = begun.kept.ruled.room }; settled = begun.kept.settled } }; is = refl }),
         )
 
     -- and a call with one
-    pub rests_changed : (reply : Reply) (pending : Pending) (disk : D) (held : Held) (large : Option Change) (stage : Stage) (redo : Change) → redo ≡ redo_of area → area.stage ≡ Begun reply pending → pending ≢ Nothing
+    pub rests_changed : (reply : Reply) (pending : Pending) (disk : D) (held : Loaded) (large : Option Change) (stage : Stage) (redo : Change) → redo ≡ redo_of area → area.stage ≡ Begun reply pending → pending ≢ Nothing
         → large ≡ None → stage ≡ Resting
-        → held.loaded ≡ after pending area.held.loaded → IsKeptWhole held
+        → held ≡ after pending area.held
         → ((from : Loaded) (texts : List ℕ) (coming : Coming) → IsSettledAs from texts (shown area.disk) → IsChange (shown area.disk).contents redo from texts coming → IsSettledAs coming.to coming.texts (shown disk))
         → (reply ≡ decided) × RestsAt shown (record area { disk = disk; held = held; large = large; stage = stage }) coming.texts coming.to
-    rests_changed reply pending disk held large stage redo used is some small resting applied whole done =
+    rests_changed reply pending disk held large stage redo used is some small resting applied done =
         let change = some_in reply pending redo used is some in
-        let to : coming.to ≡ held.loaded = change.becomes ∙ sym applied in (
+        let to : coming.to ≡ held = change.becomes ∙ sym applied in (
           reply_is reply pending is,
           record {
             rests = record {
               stage = resting;
               small = small;
               kept = record {
-                ruled = record { few_slots = begun.kept.ruled.few_slots; address = begun.kept.ruled.address; sound = subst (IsSound area.rules.slots) to change.sound; sized = change.sized ∙ ap (λ (l : Loaded). l.texts_len) to; whole = whole; room = begun.kept.ruled.room };
-                settled = subst (λ (l : Loaded). IsSettledAs l coming.texts (shown disk)) to (done area.held.loaded texts coming begun.kept.settled change.change);
+                ruled = record { few_slots = begun.kept.ruled.few_slots; address = begun.kept.ruled.address; sound = subst (IsSound area.rules.slots) to change.sound; sized = change.sized ∙ ap (λ (l : Loaded). l.texts_len) to; room = begun.kept.ruled.room };
+                settled = subst (λ (l : Loaded). IsSettledAs l coming.texts (shown disk)) to (done area.held texts coming begun.kept.settled change.change);
               };
             };
             is = sym to;
@@ -157,29 +153,16 @@ module _ {D : Type 0} (shown : D → Device) where
           stopped = stopped;
           pending = pending;
           stage = refl;
-          ruled = record { few_slots = begun.kept.ruled.few_slots; address = begun.kept.ruled.address; sound = begun.kept.ruled.sound; sized = begun.kept.ruled.sized; whole = begun.kept.ruled.whole; room = begun.kept.ruled.room };
-          change = subst (λ (r : Change). IsPending area.rules.slots (shown disk).contents r pending area.held.loaded texts coming) kept
-              (pending_later area.rules.slots (shown area.disk) (shown disk) redo pending area.held.loaded texts coming alike change);
-          doubt = subst (λ (r : Change). IsStoppedAs stopped r area.held.loaded texts (shown disk)) kept (doubt area.held.loaded texts coming begun.kept.settled change.change);
+          ruled = record { few_slots = begun.kept.ruled.few_slots; address = begun.kept.ruled.address; sound = begun.kept.ruled.sound; sized = begun.kept.ruled.sized; room = begun.kept.ruled.room };
+          change = subst (λ (r : Change). IsPending area.rules.slots (shown disk).contents r pending area.held texts coming) kept
+              (pending_later area.rules.slots (shown area.disk) (shown disk) redo pending area.held texts coming alike change);
+          doubt = subst (λ (r : Change). IsStoppedAs stopped r area.held texts (shown disk)) kept (doubt area.held texts coming begun.kept.settled change.change);
         }
 
     -- the change may be committed
     pub may_commit : (reply : Reply) (pending : Pending) (redo : Change) → redo ≡ redo_of area → area.stage ≡ Begun reply pending → pending ≢ Nothing → MayCommit redo (shown area.disk)
-    may_commit reply pending redo used is some = record { from = area.held.loaded; texts = texts; coming = coming; settled = begun.kept.settled; change = (some_in reply pending redo used is some).change }
+    may_commit reply pending redo used is some = record { from = area.held; texts = texts; coming = coming; settled = begun.kept.settled; change = (some_in reply pending redo used is some).change }
 
-    -- so many messages are live then
-    pub live : (reply : Reply) (pending : Pending) → area.stage ≡ Begun reply pending → pending ≢ Nothing → live_messages (after pending area.held.loaded) ≡ live_after pending area.held.live
-    live reply pending is some =
-        let change = some_is reply pending is some in
-        ap live_messages (sym change.becomes) ∙ change.live ∙ ap (live_after pending) (sym begun.kept.ruled.whole.live)
-
-    -- it has its place
-    pub fits : (reply : Reply) (pending : Pending) → area.stage ≡ Begun reply pending → pending ≢ Nothing → IsFit pending area.held.loaded
-    fits reply pending is some = (some_is reply pending is some).fit
-
-    -- its numbers stay in their range
-    pub numbered : (reply : Reply) (pending : Pending) → area.stage ≡ Begun reply pending → pending ≢ Nothing
-        → (after pending area.held.loaded).base + length (after pending area.held.loaded).slots ≤ 4294967295
-    numbered reply pending is some =
-        let change = some_is reply pending is some in
-        subst (λ (l : Loaded). l.base + length l.slots ≤ 4294967295) change.becomes change.sound.numbers
+    -- it may be done in what is loaded
+    pub may_apply : (reply : Reply) (pending : Pending) → area.stage ≡ Begun reply pending → pending ≢ Nothing → MayApply pending area.held
+    may_apply reply pending is some = (some_is reply pending is some).may

@@ -7,13 +7,12 @@ use Rattle.jb_base.specs.declared.area.AreaRules.{AreaRules}
 use Rattle.jb_base.specs.declared.user.User.{User}
 use Rattle.jb_decide.specs.Coming.{Coming}
 use Rattle.jb_decide.specs.Decided.{IsDecided, IsNoChange, IsPending, IsTold}
-use Rattle.jb_decide.specs.Errors.{FaultRose}
+use Rattle.jb_decide.specs.Errors.{AreaFaultRose}
 use Rattle.jb_decide.specs.Holds.{AreTexts, Holds}
 use Rattle.jb_decide.specs.Ready.{HasRoomInAll}
 use Rattle.jb_decide.specs.declared.decided.Decided.{Decided}
 use Rattle.jb_decide.specs.declared.error.AreaError.{AreaError}
 use Rattle.jb_decide.specs.declared.error.AreaError.TheVariants.{StoreFault, OutOfMemory}
-use Rattle.jb_decide.specs.declared.held.Held.{Held}
 use Rattle.jb_decide.specs.declared.pending.Pending.{Pending}
 use Rattle.jb_decide.specs.declared.pending.Pending.TheVariants.{Nothing}
 use Rattle.jb_disk.specs.Change.{Change}
@@ -93,20 +92,20 @@ two_causes is = cc
 
 module _ {D : Type 0} (shown : D → Device) where
   -- the texts of an area at rest
-  texts_own : (area : OpenArea D) (texts : List ℕ) → IsResting shown area texts → AreTexts area.held.loaded texts (shown area.disk).contents
+  texts_own : (area : OpenArea D) (texts : List ℕ) → IsResting shown area texts → AreTexts area.held texts (shown area.disk).contents
   texts_own area texts resting = record {
     sized = resting.kept.ruled.sized;
     told = λ files there. (resting.kept.settled.rests files there).holds.texts_are;
   }
 
   -- an area, from its parts
-  rebuilt : (P : OpenArea D → Type 0) (new : OpenArea D) (disk : D) (rules : AreaRules) (held : Held) (redo : Change) (large : Option Change) (stage : Stage) → new.disk ≡ disk → new.rules ≡ rules
+  rebuilt : (P : OpenArea D → Type 0) (new : OpenArea D) (disk : D) (rules : AreaRules) (held : Loaded) (redo : Change) (large : Option Change) (stage : Stage) → new.disk ≡ disk → new.rules ≡ rules
       → new.held ≡ held → new.redo ≡ redo → new.large ≡ large → new.stage ≡ stage → P (record { disk = disk; rules = rules; held = held; redo = redo; large = large; stage = stage }) → P new
   rebuilt P new disk rules held redo large stage is_disk is_rules is_held is_redo is_large is_stage p =
       subst (λ (s : Stage). P (record { disk = new.disk; rules = new.rules; held = new.held; redo = new.redo; large = new.large; stage = s })) (sym is_stage)
       (subst (λ (l : Option Change). P (record { disk = new.disk; rules = new.rules; held = new.held; redo = new.redo; large = l; stage = stage })) (sym is_large)
       (subst (λ (r : Change). P (record { disk = new.disk; rules = new.rules; held = new.held; redo = r; large = large; stage = stage })) (sym is_redo)
-      (subst (λ (h : Held). P (record { disk = new.disk; rules = new.rules; held = h; redo = redo; large = large; stage = stage })) (sym is_held)
+      (subst (λ (h : Loaded). P (record { disk = new.disk; rules = new.rules; held = h; redo = redo; large = large; stage = stage })) (sym is_held)
       (subst (λ (u : AreaRules). P (record { disk = new.disk; rules = u; held = held; redo = redo; large = large; stage = stage })) (sym is_rules)
       (subst (λ (d : D). P (record { disk = d; rules = rules; held = held; redo = redo; large = large; stage = stage })) (sym is_disk) p)))))
 
@@ -116,17 +115,17 @@ module _ {D : Type 0} (shown : D → Device) where
     kept_read : (large : Option Change) (stage : Stage) (texts : List ℕ) → IsKept shown area texts
         → IsKept shown (record { disk = disk; rules = area.rules; held = area.held; redo = redo; large = large; stage = stage }) texts
     kept_read large stage texts kept = record {
-      ruled = record { few_slots = kept.ruled.few_slots; address = kept.ruled.address; sound = kept.ruled.sound; sized = kept.ruled.sized; whole = kept.ruled.whole; room = room };
-      settled = settled_read area.held.loaded texts (shown area.disk) (shown disk) reads kept.settled;
+      ruled = record { few_slots = kept.ruled.few_slots; address = kept.ruled.address; sound = kept.ruled.sound; sized = kept.ruled.sized; room = room };
+      settled = settled_read area.held texts (shown area.disk) (shown disk) reads kept.settled;
     }
 
     -- what is pending, by what a disk tells
     abbrev Changes : Pending → List ℕ → Coming → Option Files → Type 0
-    Changes pending texts coming contents = IsNoChange pending area.held.loaded texts coming ⊎ IsPending area.rules.slots contents (redo_in given redo) pending area.held.loaded texts coming
+    Changes pending texts coming contents = IsNoChange pending area.held texts coming ⊎ IsPending area.rules.slots contents (redo_in given redo) pending area.held texts coming
 
     -- begun
     starts : (decided : Result Decided AreaError) (result : Result (Unit {0}) AreaError) (user : User) (moment : ℕ) (command : Command) → StartsAs decided area.stage new.stage → new.large ≡ large_after decided given area.large → AnswersAs decided result
-        → IfOk decided (λ one. (texts : List ℕ) → AreTexts area.held.loaded texts (shown area.disk).contents → IsDecided area.rules area.held.loaded texts (shown area.disk).contents (redo_in given redo) user moment command one)
+        → IfOk decided (λ one. (texts : List ℕ) → AreTexts area.held texts (shown area.disk).contents → IsDecided area.rules area.held texts (shown area.disk).contents (redo_in given redo) user moment command one)
         → OnOk result ((texts : List ℕ) → IsResting shown area texts → IsBegunFor shown new texts user moment command)
     starts (Ok decided) (Ok done) user moment command stage is_large answer is = λ texts resting.
         let decides = is texts (texts_own area texts resting) in
@@ -153,18 +152,18 @@ module _ {D : Type 0} (shown : D → Device) where
         rebuilt (λ (a : OpenArea D). IsUnchanged shown a texts) new disk area.rules area.held redo area.large (Doubtful Early Nothing) is_disk is_rules is_held is_redo is_large stage
         (record { stopped = Early; stage = refl; kept = kept_read area.large (Doubtful Early Nothing) texts resting.kept })
     starts_not (Err OutOfMemory) (Err OutOfMemory) stage is_large answer = λ texts resting.
-        rebuilt (λ (a : OpenArea D). RestsAt shown a texts area.held.loaded) new disk area.rules area.held redo area.large Resting is_disk is_rules is_held is_redo is_large (stage ∙ resting.stage)
+        rebuilt (λ (a : OpenArea D). RestsAt shown a texts area.held) new disk area.rules area.held redo area.large Resting is_disk is_rules is_held is_redo is_large (stage ∙ resting.stage)
         (record { rests = record { stage = refl; small = resting.small; kept = kept_read area.large Resting texts resting.kept }; is = refl })
     starts_not (Err StoreFault) (Err OutOfMemory) stage is_large answer = absurd (two_causes (sym (same_error (Err OutOfMemory) OutOfMemory StoreFault refl answer)))
     starts_not (Err OutOfMemory) (Err StoreFault) stage is_large answer = absurd (two_causes (same_error (Err StoreFault) StoreFault OutOfMemory refl answer))
 
     -- what is not begun has the cause of what is not decided
     same_cause : (decided : Result Decided AreaError) (result : Result (Unit {0}) AreaError) → AnswersAs decided result
-        → IfErr decided (FaultRose (shown area.disk).faults (shown disk).faults) → IfErr result (FaultRose (shown area.disk).faults (shown disk).faults)
+        → IfErr decided (AreaFaultRose (shown area.disk).faults (shown disk).faults) → IfErr result (AreaFaultRose (shown area.disk).faults (shown disk).faults)
     same_cause decided (Ok done) answer cause = tt
     same_cause (Ok decided) (Err error) answer cause = let refused : Result (Unit {0}) AreaError = Err error in absurd (err_not_ok refused error refl answer)
     same_cause (Err one) (Err other) answer cause =
-        subst (FaultRose (shown area.disk).faults (shown disk).faults) (sym (same_error (Err other) other one refl answer)) cause
+        subst (AreaFaultRose (shown area.disk).faults (shown disk).faults) (sym (same_error (Err other) other one refl answer)) cause
 
     -- what is begun raised no count, as what was decided
     same_quiet : (decided : Result Decided AreaError) (result : Result (Unit {0}) AreaError) → AnswersAs decided result → OnOk decided ((shown disk).faults ≡ (shown area.disk).faults)
@@ -175,37 +174,37 @@ module _ {D : Type 0} (shown : D → Device) where
 
     -- a call is begun, or not
     pub begins : (decided : Result Decided AreaError) (result : Result (Unit {0}) AreaError) (user : User) (moment : ℕ) (command : Command) → StartsAs decided area.stage new.stage → new.large ≡ large_after decided given area.large → AnswersAs decided result
-        → IfOk decided (λ one. (texts : List ℕ) → AreTexts area.held.loaded texts (shown area.disk).contents → IsDecided area.rules area.held.loaded texts (shown area.disk).contents (redo_in given redo) user moment command one)
-        → IfErr decided (FaultRose (shown area.disk).faults (shown disk).faults) → OnOk decided ((shown disk).faults ≡ (shown area.disk).faults) → (shown area.disk).faults ≤ (shown disk).faults
+        → IfOk decided (λ one. (texts : List ℕ) → AreTexts area.held texts (shown area.disk).contents → IsDecided area.rules area.held texts (shown area.disk).contents (redo_in given redo) user moment command one)
+        → IfErr decided (AreaFaultRose (shown area.disk).faults (shown disk).faults) → OnOk decided ((shown disk).faults ≡ (shown area.disk).faults) → (shown area.disk).faults ≤ (shown disk).faults
         → BeginsCall shown area new user moment command result
     begins decided result user moment command stage is_large answer is cause quiet later = record {
       begun = starts decided result user moment command stage is_large answer is;
       failed = starts_not decided result stage is_large answer;
-      cause = subst (λ (d : D). IfErr result (FaultRose (shown area.disk).faults (shown d).faults)) (sym is_disk) (same_cause decided result answer cause);
+      cause = subst (λ (d : D). IfErr result (AreaFaultRose (shown area.disk).faults (shown d).faults)) (sym is_disk) (same_cause decided result answer cause);
       quiet = subst (λ (d : D). OnOk result ((shown d).faults ≡ (shown area.disk).faults)) (sym is_disk) (same_quiet decided result answer quiet);
       reads = subst (λ (d : D). OnlyReads (shown area.disk) (shown d)) (sym is_disk) reads;
       later = subst (λ (d : D). (shown area.disk).faults ≤ (shown d).faults) (sym is_disk) later;
-      loaded = ap (λ (h : Held). h.loaded) is_held;
+      loaded = is_held;
       rules = is_rules;
     }
 
   -- a call that changed nothing was stopped
-  pub stopped_unchanged : (old new : OpenArea D) (texts : List ℕ) (user : User) (moment : ℕ) (command : Command) → OnlyReads (shown old.disk) (shown new.disk) → new.held.loaded ≡ old.held.loaded → IsResting shown old texts
+  pub stopped_unchanged : (old new : OpenArea D) (texts : List ℕ) (user : User) (moment : ℕ) (command : Command) → OnlyReads (shown old.disk) (shown new.disk) → new.held ≡ old.held → IsResting shown old texts
       → IsUnchanged shown new texts → HasStoppedIn shown old new texts user moment command
   stopped_unchanged old new texts user moment command same loaded resting unchanged = record {
     coming = None;
     change = tt;
     doubt = unchanged;
-    opens = λ files there. subst (λ (l : Loaded). Opens l texts files) loaded (rest_opens new.held.loaded texts files (unchanged.kept.settled.rests files there));
+    opens = λ files there. subst (λ (l : Loaded). Opens l texts files) loaded (rest_opens new.held texts files (unchanged.kept.settled.rests files there));
     loaded = loaded;
     crash = λ files there. record {
-      first = settled_opens old.held.loaded texts (shown old.disk) files there resting.kept.settled;
-      run = runs-refl (Opens old.held.loaded texts) _ _ same.moments;
+      first = settled_opens old.held texts (shown old.disk) files there resting.kept.settled;
+      run = runs-refl (Opens old.held texts) _ _ same.moments;
     };
   }
 
   -- why a call was not begun, as what it leaves
-  pub fails_with : (error : AreaError) (old new : OpenArea D) (texts : List ℕ) (user : User) (moment : ℕ) (command : Command) → OnlyReads (shown old.disk) (shown new.disk) → new.held.loaded ≡ old.held.loaded → IsResting shown old texts
+  pub fails_with : (error : AreaError) (old new : OpenArea D) (texts : List ℕ) (user : User) (moment : ℕ) (command : Command) → OnlyReads (shown old.disk) (shown new.disk) → new.held ≡ old.held → IsResting shown old texts
       → IsNotBegun shown error old new texts → FailsWith shown error old new texts user moment command
   fails_with StoreFault old new texts user moment command same loaded resting not = stopped_unchanged old new texts user moment command same loaded resting not
   fails_with OutOfMemory old new texts user moment command same loaded resting not = (not, same)

@@ -5,7 +5,6 @@ use Rattle.jb_base.specs.declared.area.AreaRules.{AreaRules}
 use Rattle.jb_base.specs.declared.limits.TheConstants.{MOST_ADDRESS_BYTES, MOST_SLOTS}
 use Rattle.jb_decide.specs.Coming.{Coming}
 use Rattle.jb_decide.specs.Decided.{IsNoChange, IsPending, made}
-use Rattle.jb_decide.specs.Held.{IsKeptWhole}
 use Rattle.jb_decide.specs.Ready.{HasRoomInAll}
 use Rattle.jb_decide.specs.declared.pending.Pending.{Pending}
 use Rattle.jb_decide.specs.declared.pending.Pending.TheVariants.{Nothing}
@@ -37,7 +36,7 @@ redo_in (Some large) small = large
 module _ {D : Type 0} where
   -- the area as it is loaded; while a call is begun or in doubt, as it was before that call
   abbrev pub loaded_of : OpenArea D → Loaded
-  loaded_of area = area.held.loaded
+  loaded_of area = area.held
 
   -- its rules
   abbrev pub rules_of : OpenArea D → AreaRules
@@ -64,9 +63,8 @@ module _ {D : Type 0} where
   pub record IsSoundFor (area : OpenArea D) (texts : List ℕ) : Type 0 where
     pub few_slots : area.rules.slots ≤ MOST_SLOTS
     pub address : length area.rules.address ≤ MOST_ADDRESS_BYTES
-    pub sound : IsSound area.rules.slots area.held.loaded
-    pub sized : length texts ≡ area.held.loaded.texts_len
-    pub whole : IsKeptWhole area.held
+    pub sound : IsSound area.rules.slots area.held
+    pub sized : length texts ≡ area.held.texts_len
     pub room : HasRoomInAll area.redo
 
 -- of a disk that shows itself so
@@ -78,7 +76,7 @@ module _ {D : Type 0} (shown : D → Device) where
   -- the files hold what is loaded, with these texts; nothing is on its way, and a crash now leaves them so
   pub record IsKept (area : OpenArea D) (texts : List ℕ) : Type 0 where
     pub ruled : IsSoundFor area texts
-    pub settled : IsSettledAs area.held.loaded texts (shown area.disk)
+    pub settled : IsSettledAs area.held texts (shown area.disk)
 
   -- no call is begun, no redo is kept but the small one, and the area is settled
   pub record IsResting (area : OpenArea D) (texts : List ℕ) : Type 0 where
@@ -91,7 +89,7 @@ module _ {D : Type 0} (shown : D → Device) where
     pub pending : Pending
     pub stage : area.stage ≡ Begun reply pending
     pub kept : IsKept area texts
-    pub change : IsNoChange pending area.held.loaded texts coming ⊎ IsPending area.rules.slots (shown area.disk).contents (redo_of area) pending area.held.loaded texts coming
+    pub change : IsNoChange pending area.held texts coming ⊎ IsPending area.rules.slots (shown area.disk).contents (redo_of area) pending area.held texts coming
 
   -- the files are those that they were with what was begun done in them, but for the journal
   abbrev pub HasMade : OpenArea D → OpenArea D → Type 0
@@ -103,8 +101,8 @@ module _ {D : Type 0} (shown : D → Device) where
     pub pending : Pending
     pub stage : area.stage ≡ Doubtful stopped pending
     pub ruled : IsSoundFor area texts
-    pub change : IsPending area.rules.slots (shown area.disk).contents (redo_of area) pending area.held.loaded texts coming
-    pub doubt : IsStoppedAs stopped (redo_of area) area.held.loaded texts (shown area.disk)
+    pub change : IsPending area.rules.slots (shown area.disk).contents (redo_of area) pending area.held texts coming
+    pub doubt : IsStoppedAs stopped (redo_of area) area.held texts (shown area.disk)
 
   -- a call was stopped that had changed nothing
   pub record IsUnchanged (area : OpenArea D) (texts : List ℕ) : Type 0 where
@@ -133,7 +131,7 @@ module _ {D : Type 0} (shown : D → Device) where
   -- at rest with this loaded
   pub record RestsAt (area : OpenArea D) (texts : List ℕ) (loaded : Loaded) : Type 0 where
     pub rests : IsResting area texts
-    pub is : area.held.loaded ≡ loaded
+    pub is : area.held ≡ loaded
 
   -- settled as the answer says: with the change, or without it
   abbrev pub SettlesAt : Bool → Loaded → List ℕ → Option Coming → OpenArea D → Type 0

@@ -5,7 +5,7 @@ use Rattle.jb_base.specs.Fault.{Rose}
 use Rattle.jb_base.specs.declared.user.User.{User}
 use Rattle.jb_decide.specs.Coming.{Coming}
 use Rattle.jb_decide.specs.Decided.{ChangesNothing, IsNoPack, IsTold}
-use Rattle.jb_decide.specs.Errors.{FaultRose}
+use Rattle.jb_decide.specs.Errors.{AreaFaultRose}
 use Rattle.jb_decide.specs.Headers.{KeepsHeaders, PacksHeaders}
 use Rattle.jb_decide.specs.Holds.{Holds}
 use Rattle.jb_decide.specs.declared.decided.Decided.{Decided}
@@ -40,62 +40,62 @@ module _ {D : Type 0} (shown : D → Device) where
     pub coming : Coming
     pub begun : IsBegun shown area texts reply coming
     pub step : IsTold reply (shown area.disk).contents
-        → Step area.rules (state_of texts area.held.loaded) user moment command reply (state_of coming.texts coming.to)
+        → Step area.rules (state_of texts area.held) user moment command reply (state_of coming.texts coming.to)
     -- a refusal, a look, and a relink that finds no wrong link have no change
-    pub idle : ChangesNothing command reply → HasNoChange area × (coming ≡ record { to = area.held.loaded; texts = texts })
+    pub idle : ChangesNothing command reply → HasNoChange area × (coming ≡ record { to = area.held; texts = texts })
     -- but for a pack, each header stays in its place in whatever files hold the area
-    pub headers : IsNoPack command → (files : Files) → Holds area.held.loaded texts files
-        → KeepsHeaders reply area.held.loaded coming.to files (files_after area files)
+    pub headers : IsNoPack command → (files : Files) → Holds area.held texts files
+        → KeepsHeaders reply area.held coming.to files (files_after area files)
     -- and a pack that is done puts all of them one behind another
-    pub packs : (files : Files) → Holds area.held.loaded texts files → PacksHeaders reply coming.to (files_after area files)
+    pub packs : (files : Files) → Holds area.held texts files → PacksHeaders reply coming.to (files_after area files)
 
   -- the command was answered so, and is done; a crash meanwhile leaves the area before it or after it
   pub record HasAnswered (old new : OpenArea D) (texts : List ℕ) (user : User) (moment : ℕ) (command : Command) (reply : Reply) : Type 0 where
     pub coming : Coming
     pub step : IsTold reply (shown old.disk).contents
-        → Step old.rules (state_of texts old.held.loaded) user moment command reply (state_of coming.texts coming.to)
+        → Step old.rules (state_of texts old.held) user moment command reply (state_of coming.texts coming.to)
     pub rests : RestsAt shown new coming.texts coming.to
     -- for a refusal, a look, and a relink that found no wrong link, the device was only read
-    pub idle : ChangesNothing command reply → OnlyReads (shown old.disk) (shown new.disk) × (coming ≡ record { to = old.held.loaded; texts = texts })
+    pub idle : ChangesNothing command reply → OnlyReads (shown old.disk) (shown new.disk) × (coming ≡ record { to = old.held; texts = texts })
     -- but for a pack, each header stayed in its place
     pub headers : IsNoPack command → ForSome (shown old.disk).contents (λ was. ForSome (shown new.disk).contents (λ now.
-        KeepsHeaders reply old.held.loaded coming.to was now))
+        KeepsHeaders reply old.held coming.to was now))
     -- and a pack that was done put all of them one behind another
     pub packs : ForSome (shown old.disk).contents (λ was. ForSome (shown new.disk).contents (λ now. PacksHeaders reply coming.to now))
     pub crash : ForSome (shown old.disk).contents (λ files.
-        LeavesOnly (shown old.disk) (shown new.disk) (OpensToEither old.held.loaded texts coming))
+        LeavesOnly (shown old.disk) (shown new.disk) (OpensToEither old.held texts coming))
 
   -- what the change of a call in doubt would come to, as it would have been answered; a call that changes nothing has none
   abbrev pub IsChangeOf : OpenArea D → List ℕ → User → ℕ → Command → Option Coming → Type 0
   IsChangeOf old texts user moment command None = Unit {0}
   IsChangeOf old texts user moment command (Some coming) = (reply : Reply) × (ChangesNothing command reply → ⊥) × (IsTold reply (shown old.disk).contents
-      → Step old.rules (state_of texts old.held.loaded) user moment command reply (state_of coming.texts coming.to))
+      → Step old.rules (state_of texts old.held) user moment command reply (state_of coming.texts coming.to))
 
   -- the call was stopped by a fault: its change, where it had one, may stand or not, and the area is loaded as before
   pub record HasStoppedIn (old new : OpenArea D) (texts : List ℕ) (user : User) (moment : ℕ) (command : Command) : Type 0 where
     pub coming : Option Coming
     pub change : IsChangeOf old texts user moment command coming
     pub doubt : IsDoubtful shown new texts coming
-    pub opens : ForSome (shown new.disk).contents (DoubtOpens old.held.loaded texts coming)
-    pub loaded : new.held.loaded ≡ old.held.loaded
+    pub opens : ForSome (shown new.disk).contents (DoubtOpens old.held texts coming)
+    pub loaded : new.held ≡ old.held
     pub crash : ForSome (shown old.disk).contents (λ files.
-        LeavesOnly (shown old.disk) (shown new.disk) (DoubtOpens old.held.loaded texts coming))
+        LeavesOnly (shown old.disk) (shown new.disk) (DoubtOpens old.held texts coming))
 
   -- why a call was not begun: a fault, and then the area is in doubt without a change; or want of memory, and then nothing is otherwise
   abbrev pub IsNotBegun : AreaError → OpenArea D → OpenArea D → List ℕ → Type 0
   IsNotBegun StoreFault old new texts = IsUnchanged shown new texts
-  IsNotBegun OutOfMemory old new texts = RestsAt shown new texts old.held.loaded
+  IsNotBegun OutOfMemory old new texts = RestsAt shown new texts old.held
 
   -- what a call that was not done leaves: after a fault a doubt, after want of memory all as it was, and the device was only read
   abbrev pub FailsWith : AreaError → OpenArea D → OpenArea D → List ℕ → User → ℕ → Command → Type 0
   FailsWith StoreFault old new texts user moment command = HasStoppedIn old new texts user moment command
-  FailsWith OutOfMemory old new texts user moment command = RestsAt shown new texts old.held.loaded × OnlyReads (shown old.disk) (shown new.disk)
+  FailsWith OutOfMemory old new texts user moment command = RestsAt shown new texts old.held × OnlyReads (shown old.disk) (shown new.disk)
 
   -- a call at rest: it is answered and done, or fails and leaves what its error says; a fault has its cause, and no other answer hides one; the disk tells as before, and the rules stay
   pub record MeetsCall (old new : OpenArea D) (user : User) (moment : ℕ) (command : Command) (result : Result Reply AreaError) : Type 0 where
     pub answered : IfOk result (λ reply. (texts : List ℕ) → IsResting shown old texts → HasAnswered old new texts user moment command reply)
     pub failed : IfErr result (λ error. (texts : List ℕ) → IsResting shown old texts → FailsWith error old new texts user moment command)
-    pub cause : IfErr result (FaultRose (shown old.disk).faults (shown new.disk).faults)
+    pub cause : IfErr result (AreaFaultRose (shown old.disk).faults (shown new.disk).faults)
     pub quiet : OnOk result ((shown new.disk).faults ≡ (shown old.disk).faults)
     pub later : (shown old.disk).faults ≤ (shown new.disk).faults
     pub alike : TellsAlike (shown old.disk) (shown new.disk)
@@ -105,11 +105,11 @@ module _ {D : Type 0} (shown : D → Device) where
   pub record BeginsCall (old new : OpenArea D) (user : User) (moment : ℕ) (command : Command) (result : Result (Unit {0}) AreaError) : Type 0 where
     pub begun : OnOk result ((texts : List ℕ) → IsResting shown old texts → IsBegunFor new texts user moment command)
     pub failed : IfErr result (λ error. (texts : List ℕ) → IsResting shown old texts → IsNotBegun error old new texts)
-    pub cause : IfErr result (FaultRose (shown old.disk).faults (shown new.disk).faults)
+    pub cause : IfErr result (AreaFaultRose (shown old.disk).faults (shown new.disk).faults)
     pub quiet : OnOk result ((shown new.disk).faults ≡ (shown old.disk).faults)
     pub reads : OnlyReads (shown old.disk) (shown new.disk)
     pub later : (shown old.disk).faults ≤ (shown new.disk).faults
-    pub loaded : new.held.loaded ≡ old.held.loaded
+    pub loaded : new.held ≡ old.held
     pub rules : new.rules ≡ old.rules
 
   -- a call that is begun ends: done, with the reply and the area that were to come, or stopped by a fault, and then its change is in doubt
@@ -123,14 +123,14 @@ module _ {D : Type 0} (shown : D → Device) where
     pub doubt : OnErr result ((texts : List ℕ) (decided : Reply) (coming : Coming) → IsBegun shown old texts decided coming
         → IsDoubtful shown new texts (Some coming))
     pub opens : OnErr result ((texts : List ℕ) (decided : Reply) (coming : Coming) → IsBegun shown old texts decided coming
-        → ForSome (shown new.disk).contents (OpensToEither old.held.loaded texts coming))
-    pub loaded : OnErr result (new.held.loaded ≡ old.held.loaded)
+        → ForSome (shown new.disk).contents (OpensToEither old.held texts coming))
+    pub loaded : OnErr result (new.held ≡ old.held)
     pub cause : OnErr result (Rose (shown old.disk).faults (shown new.disk).faults)
     pub quiet : OnOk result ((shown new.disk).faults ≡ (shown old.disk).faults)
     pub later : (shown old.disk).faults ≤ (shown new.disk).faults
     pub alike : TellsAlike (shown old.disk) (shown new.disk)
     pub crash : (texts : List ℕ) (decided : Reply) (coming : Coming) → IsBegun shown old texts decided coming
-        → ForSome (shown old.disk).contents (λ files. LeavesOnly (shown old.disk) (shown new.disk) (OpensToEither old.held.loaded texts coming))
+        → ForSome (shown old.disk).contents (λ files. LeavesOnly (shown old.disk) (shown new.disk) (OpensToEither old.held texts coming))
     pub room : small_redo_of new ≡ small_redo_of old
     pub rules : new.rules ≡ old.rules
 

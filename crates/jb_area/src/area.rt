@@ -1,6 +1,5 @@
 //! The open area, and what becomes of a call that is begun.
 
-use crate::applying::apply;
 use crate::committing::{commit_change, in_use, settle_change};
 use crate::stage::Stage;
 use jb_base::AreaRules;
@@ -38,7 +37,7 @@ impl<D: Disk> OpenArea<D> {
     pub fn loaded(&self) -> &Loaded
         ensures { result.now ≡ loaded_of self.now }
     {
-        &self.held.loaded
+        self.held.loaded()
     }
 
     /// The rules of the area.
@@ -87,7 +86,7 @@ impl<D: Disk> OpenArea<D> {
         match commit_change(&mut self.disk, in_use(&self.large, &self.redo)) {
             Ok(()) => {
                 self.large = None;
-                apply(&mut self.held, pending);
+                self.held.apply(pending);
                 Ok(reply)
             }
             Err(stopped) => {
@@ -170,7 +169,7 @@ impl<D: Disk> OpenArea<D> {
         match settle_change(&mut self.disk, in_use(&self.large, &self.redo), stopped) {
             Ok(true) => {
                 self.large = None;
-                apply(&mut self.held, pending);
+                self.held.apply(pending);
                 Ok(true)
             }
             Ok(false) => {

@@ -58,7 +58,7 @@ module _ (journal : List ℕ) (files : Files) where
   slot_kept entry (Live message) has = (has.0, has.1, live_kept message has.2)
 
   -- so the same is loaded
-  loads_kept : (loaded : Loaded) → Loads files loaded → Loads (with_file Jnl journal files) loaded
+  loads_kept : (loaded : Loaded) → Loads loaded files → Loads loaded (with_file Jnl journal files)
   loads_kept loaded loads = record {
     header = loads.header;
     fixed = loads.fixed;
@@ -139,7 +139,7 @@ preparing_as start files shut preparing base =
     )
 
 -- a prepared journal is ready for a change
-prepared_rests : (loaded : Loaded) (before now : Files) → (IsGateOpen before → ⊥) → Loads before loaded → IsPrepared before now → IsAtRest loaded (now Jdt) now
+prepared_rests : (loaded : Loaded) (before now : Files) → (IsGateOpen before → ⊥) → Loads loaded before → IsPrepared before now → IsAtRest loaded (now Jdt) now
 prepared_rests loaded before now shut loads prepared = elim (cases_lt 16 (length (before Jnl))) [
   | inl longer ↦
       let kept = prepared.kept longer in
@@ -161,7 +161,7 @@ prepared_rests loaded before now shut loads prepared = elim (cases_lt 16 (length
     held = holds_beside now before loaded (now Jdt) prepared.same (record { loads = loads; texts_are = sym (prepared.same Jdt (λ is. cc)) })
 
 -- files that were read, with their journal prepared, are at rest
-pub rests_prepared : (loaded : Loaded) (read made : Option Files) → ForSome read (λ files. IsGateOpen files → ⊥) → ForSome read (λ files. Loads files loaded) → Turns IsPrepared read made
+pub rests_prepared : (loaded : Loaded) (read made : Option Files) → ForSome read (λ files. IsGateOpen files → ⊥) → ForSome read (Loads loaded) → Turns IsPrepared read made
     → ForSome made (λ files. IsAtRest loaded (files Jdt) files)
 rests_prepared loaded read made shut loads prepared = λ now there.
     let from = turns_from IsPrepared read made now prepared there in

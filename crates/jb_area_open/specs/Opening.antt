@@ -53,9 +53,9 @@ Refuses limit before after (BadJournal at) = ForSome before.contents (IsRefusedO
 Refuses limit before after (Base error) = error ≢ StoreFault → RefusesFiles limit before after error
 
 -- a fault has its cause: the disk's count rose; and no other refusal of the base hides one
-abbrev pub FaultRose : ℕ → ℕ → OpeningError → Type 0
-FaultRose before now (BadJournal at) = Unit {0}
-FaultRose before now (Base error) = OpenFaultRose before now error
+abbrev pub OpeningFaultRose : ℕ → ℕ → OpeningError → Type 0
+OpeningFaultRose before now (BadJournal at) = Unit {0}
+OpeningFaultRose before now (Base error) = OpenFaultRose before now error
 
 -- a refusal of recovery, as one of the opening
 abbrev pub of_journal : JournalError → OpeningError

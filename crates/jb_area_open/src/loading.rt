@@ -2,7 +2,7 @@
 ghost use Rattle.std.specs.Prelude.{◌≡◌, ◌≤◌, IfErr, IfOk, OnOk};
 ghost use Rattle.std.specs.Option.{ForSome};
 ghost use Rattle.jb_area.specs.Holds.{IsAtRest};
-ghost use Rattle.jb_area_open.specs.Opening.{FaultRose, IsRecovered, KeepsOpening, OpensFirmly, Refuses};
+ghost use Rattle.jb_area_open.specs.Opening.{OpeningFaultRose, IsRecovered, KeepsOpening, OpensFirmly, Refuses};
 ghost use Rattle.jb_disk.specs.Device.{TellsAlike};
 ghost use Rattle.jb_disk.specs.Runs.{IsAllSynced};
 ghost use Rattle.jb_disk.specs.declared.file.FileId.TheVariants.{Jdt as texts_file};
@@ -27,7 +27,7 @@ pub(crate) fn load<D: Disk>(alloc: Global, disk: &mut D, slots: u32) -> Result<L
 
     // Why it is refused.
     ensures refused { IfErr result (Refuses slots (D.device disk.old) (D.device disk.new)) }
-    ensures cause { IfErr result (FaultRose (D.device disk.old).faults (D.device disk.new).faults) }
+    ensures cause { IfErr result (OpeningFaultRose (D.device disk.old).faults (D.device disk.new).faults) }
     ensures quiet { OnOk result ((D.device disk.new).faults ≡ (D.device disk.old).faults) }
     ensures later { (D.device disk.old).faults ≤ (D.device disk.new).faults }
 

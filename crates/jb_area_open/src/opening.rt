@@ -3,7 +3,7 @@ ghost use Rattle.std.specs.Prelude.{◌≡◌, ◌≤◌, IfErr, IfOk, List, OnO
 ghost use Rattle.std.specs.Option.{ForSome};
 ghost use Rattle.jb_area.specs.Area.{IsResting, device_of, loaded_of, rules_of};
 ghost use Rattle.jb_area.specs.Calls.{HasRest};
-ghost use Rattle.jb_area_open.specs.Opening.{FaultRose, IsOpenAt, IsRecovered, KeepsOpening, OpensFirmly, Refuses, device_after};
+ghost use Rattle.jb_area_open.specs.Opening.{OpeningFaultRose, IsOpenAt, IsRecovered, KeepsOpening, OpensFirmly, Refuses, device_after};
 ghost use Rattle.jb_base.specs.declared.limits.TheConstants.{MOST_ADDRESS_BYTES, MOST_SLOTS};
 ghost use Rattle.jb_decide.specs.Holds.{AreTexts};
 ghost use Rattle.jb_disk.specs.Device.{TellsAlike};
@@ -45,7 +45,7 @@ pub fn open_area<D: Disk>(
 
     // Refused: for the first thing that is wrong, or for a fault that the disk counted; want of memory hides no fault.
     ensures refused { IfErr result (λ back. Refuses rules.slots (D.device disk) (D.device back.0) back.1) }
-    ensures cause { IfErr result (λ back. FaultRose (D.device disk).faults (D.device back.0).faults back.1) }
+    ensures cause { IfErr result (λ back. OpeningFaultRose (D.device disk).faults (D.device back.0).faults back.1) }
 
     // Either way: a crash at any moment leaves files that open to exactly what some open to that it might have left at the
     // start, and once the first syncs are done, to what those open to that were read at the start. A disk that tells its files

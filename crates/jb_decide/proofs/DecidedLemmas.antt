@@ -52,7 +52,7 @@ use Rattle.jb_decide.specs.Decided.{ChangesNothing, IsDecided, IsLook, IsTold, m
 use Rattle.jb_decide.specs.Headers.{KeepsHeaders, PacksHeaders, Updates}
 use Rattle.jb_decide.proofs.HeaderLemmas.{keeps_all, keeps_headers}
 use Rattle.jb_decide.proofs.BringLemmas.{brings_same}
-use Rattle.jb_decide.specs.Pending.{headed_at}
+use Rattle.jb_decide.specs.Pending.{IsFit, MayApply, after, headed_at, live_after}
 use Rattle.jb_decide.specs.declared.decided.Decided.{Decided}
 use Rattle.jb_decide.specs.declared.pending.Pending.{Pending}
 use Rattle.jb_decide.specs.declared.pending.Pending.TheVariants.{Nothing, Counted, Marked}
@@ -126,6 +126,15 @@ of_letter contents letter P told is = by_contents contents refl (told letter ref
         not_some some = cc
     by_contents (Some files) there some = is files there
 
+-- what is pending may be done, where the area to come is sound
+pub may_apply : (pending : Pending) (from to : Loaded) (limit : ℕ) → to ≡ after pending from → IsFit pending from → IsSound limit to → live_messages to ≡ live_after pending (live_messages from)
+    → MayApply pending from
+may_apply pending from to limit becomes fit sound live = record {
+  fit = fit;
+  live = ap live_messages (sym becomes) ∙ live;
+  numbers = subst (λ (l : Loaded). l.base + length l.slots ≤ 4294967295) becomes sound.numbers;
+}
+
 -- a kill
 pub kill_decided : (rules : AreaRules) (from : Loaded) (texts : List ℕ) (contents : Option Files) (redo : Change) (user : User) (moment number counter active : ℕ) (killing : Killing) → IsKilling rules from user number killing → IsSound rules.slots from → length texts ≡ from.texts_len
     → counter ≡ next_counter from → active ≡ live_messages from - 1
@@ -140,19 +149,20 @@ kill_decided rules from texts contents redo user moment number counter active ki
     ∙ ap (λ (n : ℕ). with_counts (next_counter from) n (with_killed_at killing.place is.message from)) live in
     let fewer = is.live in
     let updates : Updates redo from to [] = subst (λ (l : Loaded). Updates redo from l []) same (makes killing.place is.message is.named.here (sym is.header)) in
+    let becomes = sym same ∙ ap (λ (n : ℕ). with_counts counter active (with_slot_at killing.place (slot.Killed n) from)) (sym is.header) in
     record {
       coming = record { to = to; texts = texts };
       change = inr (record {
         some = counted_some (slots.Killed killing.place killing.header_at) counter active;
-        becomes = sym same ∙ ap (λ (n : ℕ). with_counts counter active (with_slot_at killing.place (slot.Killed n) from)) (sym is.header);
+        becomes = becomes;
         change = record {
           brings = λ files there. brings_same redo from to texts updates.makes;
           writable = writable;
         };
-        fit = slice_get_within from.slots killing.place _ is.named.here;
+        may = may_apply (Counted (slots.Killed killing.place killing.header_at) counter active) from to rules.slots becomes
+            (slice_get_within from.slots killing.place _ is.named.here) (is.sound before) (omega (arith, fewer, live));
         sound = is.sound before;
         sized = sized;
-        live = omega (arith, fewer, live);
       });
       step = λ told. is.step texts moment;
       idle = λ nothing. absurd (something (Kill number) (reply.Killed number) refl (λ look. look) (λ links. cc) nothing);
@@ -196,10 +206,9 @@ mark_decided rules from texts contents redo user moment number mark place is bef
         some = marked_some place mark;
         becomes = refl;
         change = record { brings = λ files there. brings_same redo from to texts makes.makes; writable = writable };
-        fit = (placed, mark_room mark.user_crc mark.user_id from.marks place placed room);
+        may = may_apply (Marked place mark) from to rules.slots refl (placed, mark_room mark.user_crc mark.user_id from.marks place placed room) (is.sound before) refl;
         sound = is.sound before;
         sized = sized;
-        live = refl;
       });
       step = λ told. is.step texts moment;
       idle = λ nothing. absurd (something (SetMark number) (reply.Marked mark.last mark.high) refl (λ look. look) (λ links. cc) nothing);
@@ -253,16 +262,18 @@ read_decided rules from texts contents redo user moment number counter active re
     ∙ ap (λ (n : ℕ). with_counts (next_counter from) n (with_head_at reading.place reading.head is.message from)) live in
     let as_many = is.live in
     let updates : Updates redo from to [] = subst (λ (l : Loaded). Updates redo from l []) same makes in
+    let becomes = sym same ∙ ap (with_counts counter active) (headed_is reading.place reading.head is.message from is.named.here) in
     record {
       coming = record { to = to; texts = texts };
       change = inr (record {
         some = counted_some (slots.Headed reading.place reading.head) counter active;
-        becomes = sym same ∙ ap (with_counts counter active) (headed_is reading.place reading.head is.message from is.named.here);
+        becomes = becomes;
         change = record { brings = λ files there. brings_same redo from to texts updates.makes; writable = writable };
-        fit = record { message = is.message; here = is.named.here; reply_to = ap (λ (h : Head). h.reply_to) is.head ∙ reading_keeps_parent user moment is.message };
+        may = may_apply (Counted (slots.Headed reading.place reading.head) counter active) from to rules.slots becomes
+            (record { message = is.message; here = is.named.here; reply_to = ap (λ (h : Head). h.reply_to) is.head ∙ reading_keeps_parent user moment is.message })
+            (is.sound before) (as_many ∙ sym live);
         sound = is.sound before;
         sized = sized;
-        live = as_many ∙ sym live;
       });
       step = λ told. subst (λ (l : Letter). Step rules (state_of texts from) user moment (Read number) (reply.Text l) (state_of texts to))
           (sym (of_letter contents letter _ told shown)) (is.step texts);

@@ -98,7 +98,7 @@ slot_header files entry (Killed header_at) at is has = subst (HasHeader files) (
 slot_header files entry (Live message) at is has = subst (HasHeader files) (one_place message.header_at at is) has.2.header
 
 -- each header of an area stands in its files
-pub header_there : (files : Files) (loaded : Loaded) (place at : ℕ) → Loads files loaded → header_place_at loaded place ≡ Some at → HasHeader files at
+pub header_there : (files : Files) (loaded : Loaded) (place at : ℕ) → Loads loaded files → header_place_at loaded place ≡ Some at → HasHeader files at
 header_there files loaded place at loads is =
     slot_header files (entry_in files place) (get_or loaded.slots place Empty) at (place_of loaded.slots place at Empty is)
     (loads.slots place Empty (place_within loaded.slots place at is))
@@ -147,7 +147,7 @@ number_kept at len from old new torn apart = ap (λ (b : List ℕ). (message_hea
 module _ (old new : Change) (at : ℕ) (act : MessageHeader → MessageHeader) (same : (header : MessageHeader) → (act header).number ≡ header.number)
     (changes : ChangesHeader old new at act) (only : WritesOnly old new Jhr at 76) where
   -- keeps the numbers of the area that was made
-  numbers_put : (files : Files) (to : Loaded) (place : ℕ) → Loads (done old files) to → header_place_at to place ≡ Some at → KeepsNumbers to (done old files) (done new files)
+  numbers_put : (files : Files) (to : Loaded) (place : ℕ) → Loads to (done old files) → header_place_at to place ≡ Some at → KeepsNumbers to (done old files) (done new files)
   numbers_put files to place loads here p from is =
       let has = header_there (done old files) to place at loads here in
       let room : at + 76 ≤ length (done old files Jhr) = has.placed.inside in
@@ -174,7 +174,7 @@ module _ (old new : Change) (at : ℕ) (act : MessageHeader → MessageHeader) (
       }
 
 -- the counts keep the numbers
-pub numbers_counted : (old new : Change) → WritesOnly old new Jhr 8 8 → (files : Files) (to : Loaded) → Loads (done old files) to → KeepsNumbers to (done old files) (done new files)
+pub numbers_counted : (old new : Change) → WritesOnly old new Jhr 8 8 → (files : Files) (to : Loaded) → Loads to (done old files) → KeepsNumbers to (done old files) (done new files)
 numbers_counted old new only files to loads p at is =
     let has = header_there (done old files) to p at loads is in
     let after = has.placed.after in
@@ -191,7 +191,7 @@ updates_counted old new counter active changes only from to text was = record {
 }
 
 -- what is only put behind files keeps the numbers
-pub numbers_behind : (change : Change) (loaded : Loaded) → AppendsOnly change loaded → (files : Files) → Loads files loaded → KeepsNumbers loaded files (done change files)
+pub numbers_behind : (change : Change) (loaded : Loaded) → AppendsOnly change loaded → (files : Files) → Loads loaded files → KeepsNumbers loaded files (done change files)
 numbers_behind change loaded appends files loads p at is =
     let has = header_there files loaded p at loads is in
     let old : List ℕ = files Jhr in
@@ -245,7 +245,7 @@ updates_links old new at reply_to first next makes header only from to text plac
 
 -- and they keep the numbers
 pub numbers_linked : (old new : Change) (at reply_to first next : ℕ) → ChangesHeader old new at (header_with_links reply_to first next) → WritesOnly old new Jhr at 76
-    → (files : Files) (to : Loaded) (place : ℕ) → Loads (done old files) to → header_place_at to place ≡ Some at → KeepsNumbers to (done old files) (done new files)
+    → (files : Files) (to : Loaded) (place : ℕ) → Loads to (done old files) → header_place_at to place ≡ Some at → KeepsNumbers to (done old files) (done new files)
 numbers_linked old new at reply_to first next header only = numbers_put old new at (header_with_links reply_to first next) (λ h. refl) header only
 
 -- so does a reading
@@ -293,7 +293,7 @@ last_message slots p message other past is = live_same other message (last_behin
 
 -- where there are no more slots than before, what updates the area keeps its headers
 pub keeps_headers : (reply : Reply) (change : Change) (from to : Loaded) (text : List ℕ) → Updates change from to text → length to.slots ≡ length from.slots
-    → (files : Files) → Loads files from → KeepsHeaders reply from to files (done change files)
+    → (files : Files) → Loads from files → KeepsHeaders reply from to files (done change files)
 keeps_headers reply change from to text updates as_many files loads = record {
   places = updates.places;
   numbers = updates.numbers files loads;

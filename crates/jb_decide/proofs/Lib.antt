@@ -1,6 +1,8 @@
+pub mod AgreeLemmas
 pub mod BringLemmas
 pub mod DecidedLemmas
 mod HeaderLemmas
+mod IndexLemmas
 mod LinkedLemmas
 pub mod MarkLemmas
 mod PackIndexLemmas

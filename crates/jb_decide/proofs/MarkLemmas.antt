@@ -1,11 +1,12 @@
 -- The mark that is set, by its place.
-use Rattle.std.proofs.Common.{◌≡◌, ◌⊎◌, inl, inr, ℕ, ◌+◌, ◌<◌, List, [], ◌∷◌, ◌++◌, length, Option, None, Some, ap, sym, refl, subst, arith}
-use Rattle.std.specs.Prelude.{slice_set, IsSome}
-use Rattle.jb_base.specs.declared.limits.TheConstants.{MOST_MARKS}
-use Rattle.jb_marks.proofs.MarkLemmas.{mark_of-first, with_mark-first, with_mark-none}
+use Rattle.std.proofs.Common.{◌≡◌, ℕ, List, [], ◌∷◌, ◌++◌, Option, None, Some, ap, sym, subst}
+use Rattle.std.specs.Prelude.{slice_set}
+use Rattle.jb_marks.proofs.MarkLemmas.{with_mark-first, with_mark-none}
+use Rattle.jb_marks.proofs.OrderLemmas.{ordered-set}
+use Rattle.jb_marks.specs.Order.{IsOrdered}
 use Rattle.jb_marks.specs.Places.{IsPlaceOf}
 use Rattle.jb_model.specs.Loaded.{with_marks}
-use Rattle.jb_model.specs.Marks.{mark_of, with_mark}
+use Rattle.jb_model.specs.Marks.{with_mark}
 use Rattle.jb_model.specs.declared.loaded.Loaded.{Loaded}
 use Rattle.jb_model.specs.declared.mark.Mark.{Mark}
 
@@ -19,11 +20,16 @@ pub marked_last : (mark : Mark) (loaded : Loaded) → IsPlaceOf mark.user_crc ma
     → with_marks (loaded.marks ++ mark ∷ []) loaded ≡ with_marks (with_mark mark loaded.marks) loaded
 marked_last mark loaded none = ap (λ (m : List Mark). with_marks m loaded) (sym (with_mark-none mark loaded.marks none))
 
--- there is such a mark, or room for one
-pub mark_or_room : (mark : Mark) (place : Option ℕ) (marks : List Mark) (room : ℕ) → IsPlaceOf mark.user_crc mark.user_id marks place → (place ≡ None → length marks < MOST_MARKS)
-    → length marks + room ≡ MOST_MARKS → IsSome (mark_of mark.user_crc mark.user_id marks) ⊎ (0 < room)
-mark_or_room mark None marks room is few all = let low = few refl in inr (omega (arith, low, all))
-mark_or_room mark (Some place) marks room is few all = inl (subst IsSome (sym (mark_of-first mark.user_crc mark.user_id marks place mark is)) refl)
+-- a mark in its place leaves the index as it is
+pub ordered_first : (mark : Mark) (place : ℕ) (marks : List Mark) (order : List ℕ) → IsPlaceOf mark.user_crc mark.user_id marks (Some place) → IsOrdered marks order
+    → IsOrdered (with_mark mark marks) order
+ordered_first mark place marks order first is =
+    subst (λ (m : List Mark). IsOrdered m order) (sym (with_mark-first mark marks place first)) (ordered-set mark marks order place is first)
+
+-- the index with one behind the others is that of the marks after the set
+pub ordered_last : (mark : Mark) (marks : List Mark) (order : List ℕ) → IsPlaceOf mark.user_crc mark.user_id marks None → IsOrdered (marks ++ mark ∷ []) order
+    → IsOrdered (with_mark mark marks) order
+ordered_last mark marks order none is = subst (λ (m : List Mark). IsOrdered m order) (sym (with_mark-none mark marks none)) is
 
 -- the place of a mark, from that of its pair
 pub place_for : (crc id : ℕ) (mark : Mark) (one other : List Mark) (place : Option ℕ) → IsPlaceOf crc id one place → crc ≡ mark.user_crc → id ≡ mark.user_id → one ≡ other

@@ -1,5 +1,5 @@
 -- From what a pack comes to in the loaded area to what is pending.
-use Rattle.std.proofs.Common.{◌≡◌, ◌≢◌, ◌⊎◌, inl, inr, ℕ, ◌+◌, ◌≤◌, ◌<◌, cond, List, [], ◌∷◌, ◌++◌, All, length, Option, None, Some, ap, sym, refl, ◌∙◌, subst, arith, length-append}
+use Rattle.std.proofs.Common.{◌≡◌, ◌≢◌, inl, inr, ℕ, ◌+◌, ◌≤◌, cond, List, [], ◌∷◌, All, length, Option, None, Some, ap, sym, refl, ◌∙◌, arith, length-append}
 use Rattle.std.specs.Prelude.{sum_by}
 use Rattle.std.proofs.lemmas.Bool.{cases_lt}
 use Rattle.std.proofs.lemmas.List.Elements.{All-head, All-tail}
@@ -31,14 +31,14 @@ use Rattle.jb_model.specs.declared.reply.Reply.TheVariants as reply
 use Rattle.jb_pack.proofs.PlanLemmas.{refused_full}
 use Rattle.jb_pack.proofs.SoundLemmas.{packed_sound}
 use Rattle.jb_pack.proofs.StateLemmas.{base_packed, kept_within, length-text, live_of_state, state_packed, sum_of_kept}
-use Rattle.jb_pack.specs.Packed.{is_live_slot, kept_slots, live_slots, moved, new_base, packed, packed_from, packed_texts, slot_text_size, texts_in, texts_size}
+use Rattle.jb_pack.specs.Packed.{is_live_slot, kept_slots, moved, new_base, packed, packed_from, packed_texts, slot_text_size, texts_in, texts_size}
 use Rattle.jb_pack.specs.Plan.{AnswersPack, IsPackOf}
 use Rattle.jb_pack.specs.declared.packing.Packing.TheVariants.{Fits, TextFull}
 use Rattle.jb_replies.specs.Index.{IsIndexOf, ReplyIndex}
 use Rattle.jb_step.specs.After.{live_messages}
 use Rattle.jb_decide.specs.Decided.{IsDecided}
 use Rattle.jb_decide.specs.Holds.{AreTexts}
-use Rattle.jb_decide.proofs.DecidedLemmas.{something}
+use Rattle.jb_decide.proofs.DecidedLemmas.{may_apply, something}
 use Rattle.jb_decide.specs.declared.pending.Pending.TheVariants.{Nothing, Packed}
 
 -- a sound area is so under a higher limit
@@ -170,17 +170,18 @@ pack_decided rules from texts contents redo user moment base live dropped plan r
           };
           writable = is.writable;
         };
-        fit = record {
-          sound = sound_under rules.slots MOST_SLOTS from few sound;
-          links = links;
-          base_is = base_answered from texts base live dropped answer;
-          texts = fits;
-          index = index;
-          room = room;
-        };
+        may = may_apply (Packed plan base replies) from (packed from) rules.slots refl
+            (record {
+              sound = sound_under rules.slots MOST_SLOTS from few sound;
+              links = links;
+              base_is = base_answered from texts base live dropped answer;
+              texts = fits;
+              index = index;
+              room = room;
+            })
+            (packed_sound rules.slots from sound fits) (live_stays from);
         sound = packed_sound rules.slots from sound fits;
         sized = length-texts from.headers_len from.texts_len texts (kept_slots from) are.sized (kept_within rules.slots texts from sound are.sized);
-        live = live_stays from;
       });
       step = λ told. step_of rules state user _ allowed answer.0
           ((λ i. record { reply = answer.1 i; state = packed_state state }) ∙ ap (λ (s : AreaState). record { reply = reply.Packed base live dropped; state = s }) (sym (state_packed rules.slots texts from sound are.sized)));

@@ -29,7 +29,7 @@ use Rattle.jb_step.specs.Post.{IsPosting}
 use Rattle.jb_step.specs.declared.neighbours.Neighbour.{Neighbour}
 use Rattle.jb_step.specs.declared.posts.Posting.{Posting}
 use Rattle.jb_decide.proofs.BringLemmas.{brings}
-use Rattle.jb_decide.proofs.DecidedLemmas.{counted_some, headed_is, something}
+use Rattle.jb_decide.proofs.DecidedLemmas.{counted_some, headed_is, may_apply, something}
 use Rattle.jb_decide.specs.Decided.{IsDecided}
 use Rattle.jb_decide.specs.Headers.{StandsBehind, Updates}
 use Rattle.jb_decide.proofs.HeaderLemmas.{last_message}
@@ -105,7 +105,7 @@ linked_slots (Some one) from = length-set from.slots one.place _
 
 -- the new message stands behind the others
 stands : (from : Loaded) (posting : Posting) (linked : Loaded) (redo : Change) (files : Files) (message : LoadedMessage) → posting.number ≡ next_of from
-    → posting.message.header_at ≡ from.headers_len → posting.message.text_at ≡ from.texts_len → HasNextNumber redo from posting.message → Loads files from
+    → posting.message.header_at ≡ from.headers_len → posting.message.text_at ≡ from.texts_len → HasNextNumber redo from posting.message → Loads from files
     → message ≡ posting.message → StandsBehind (reply.Posted posting.number) message files (done redo files)
 stands from posting linked redo files message number header_at text_at numbered loads same =
     subst (λ (m : LoadedMessage). StandsBehind (reply.Posted posting.number) m files (done redo files)) (sym same) (record {
@@ -140,7 +140,7 @@ post_decided rules from texts contents redo user moment counter active size draf
         some = counted_some (slots.Posted posting.message size posting.neighbour) counter active;
         becomes = sym same;
         change = record { brings = λ files there. brings redo from to texts draft.text updates.makes; writable = writable };
-        fit = (
+        may = may_apply (Counted (slots.Posted posting.message size posting.neighbour) counter active) from to rules.slots (sym same) (
           link_fit posting.neighbour from is.linked is.written,
           omega (arith, slot, few),
           record {
@@ -148,10 +148,10 @@ post_decided rules from texts contents redo user moment counter active size draf
             headers = is.place.headers;
             texts = subst (λ (n : ℕ). from.texts_len + n ≤ TEXTS_CEILING) (sym is.text_len) is.place.texts;
           },
-        );
+        )
+            (is.sound before name address) (is.live ∙ sym live);
         sound = is.sound before name address;
         sized = omega (arith, length-append texts draft.text, as_long, linked, text_len);
-        live = is.live ∙ sym live;
       });
       step = λ told. is.step before texts as_long;
       idle = λ nothing. absurd (something (post_of draft) (reply.Posted posting.number) refl (λ look. look) (λ links. cc) nothing);

@@ -29,7 +29,7 @@ use Rattle.jb_step.specs.After.{live_messages, next_counter}
 use Rattle.jb_step.specs.Relink.{IsPlaced, IsRelinking, after_relink, with_links_in, with_links_of}
 use Rattle.jb_step.specs.declared.relinks.Relinking.{Relinking}
 use Rattle.jb_decide.proofs.BringLemmas.{brings_same}
-use Rattle.jb_decide.proofs.DecidedLemmas.{counted_some, something, within_is}
+use Rattle.jb_decide.proofs.DecidedLemmas.{counted_some, may_apply, something, within_is}
 use Rattle.jb_decide.specs.Decided.{IsDecided}
 use Rattle.jb_decide.specs.Headers.{Updates}
 use Rattle.jb_decide.specs.Links.{HasNearHeaders}
@@ -239,13 +239,14 @@ relink_decided rules from texts contents redo user moment counter active relinki
         some = counted_some (slots.Relinked relinking.plan) counter active;
         becomes = sym same;
         change = record { brings = λ files there. brings_same redo from to texts updates.makes; writable = writable };
-        fit = record {
-          placed = is.placed;
-          index = λ replies index. rests_on_slots replies (with_counts counter active linked) linked refl refl (subst (IsIndexOf replies) (sym same) (is.index replies index));
-        };
+        may = may_apply (Counted (slots.Relinked relinking.plan) counter active) from to rules.slots (sym same)
+            (record {
+              placed = is.placed;
+              index = λ replies index. rests_on_slots replies (with_counts counter active linked) linked refl refl (subst (IsIndexOf replies) (sym same) (is.index replies index));
+            })
+            (is.sound before) (is.live ∙ sym live);
         sound = is.sound before;
         sized = sized ∙ sym (texts_of relinking.plan from) ∙ ap (λ (l : Loaded). l.texts_len) same;
-        live = is.live ∙ sym live;
       });
       step = λ told. is.step texts moment;
       idle = λ nothing. absurd (something Relink (reply.Relinked relinking.changed) refl (λ look. look) (λ none. some (same_count relinking.changed 0 none)) nothing);

@@ -16,32 +16,27 @@ use Rattle.jb_model.specs.declared.loaded.Loaded.{Loaded}
 use Rattle.jb_model.specs.declared.reply.Letter.{Letter}
 use Rattle.jb_model.specs.declared.reply.Reply.{Reply}
 use Rattle.jb_model.specs.declared.reply.Reply.TheVariants.{Relinked, Text}
-use Rattle.jb_step.specs.After.{live_messages}
 use Rattle.jb_decide.specs.Coming.{Coming, IsChange}
 use Rattle.jb_decide.specs.Headers.{KeepsHeaders, PacksHeaders}
-use Rattle.jb_decide.specs.Held.{IsKeptWhole}
 use Rattle.jb_decide.specs.Holds.{Holds}
-use Rattle.jb_decide.specs.Pending.{IsFit, after, live_after}
+use Rattle.jb_decide.specs.Pending.{MayApply, after}
 use Rattle.jb_decide.specs.declared.decided.Decided.{Decided}
-use Rattle.jb_decide.specs.declared.held.Held.{Held}
 use Rattle.jb_decide.specs.declared.pending.Pending.{Pending}
 use Rattle.jb_decide.specs.declared.pending.Pending.TheVariants.{Nothing, Counted, Marked, Packed}
 
--- what is kept of an area by these rules is sound
-pub record IsKeptFor (rules : AreaRules) (held : Held) : Type 0 where
+-- an area that is kept by these rules is sound, and has no more slots than they allow
+pub record IsKeptFor (rules : AreaRules) (loaded : Loaded) : Type 0 where
   pub few_slots : rules.slots ≤ MOST_SLOTS
-  pub sound : IsSound rules.slots held.loaded
-  pub whole : IsKeptWhole held
+  pub sound : IsSound rules.slots loaded
 
 -- the change that is pending, in this redo, brings what is to come
 pub record IsPending (limit : ℕ) (contents : Option Files) (redo : Change) (pending : Pending) (from : Loaded) (texts : List ℕ) (coming : Coming) : Type 0 where
   pub some : pending ≢ Nothing
   pub becomes : coming.to ≡ after pending from
   pub change : IsChange contents redo from texts coming
-  pub fit : IsFit pending from
+  pub may : MayApply pending from
   pub sound : IsSound limit coming.to
   pub sized : length coming.texts ≡ coming.to.texts_len
-  pub live : live_messages coming.to ≡ live_after pending (live_messages from)
 
 -- nothing is to be changed
 pub record IsNoChange (pending : Pending) (from : Loaded) (texts : List ℕ) (coming : Coming) : Type 0 where

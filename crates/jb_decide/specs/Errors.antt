@@ -7,9 +7,9 @@ use Rattle.jb_pack.specs.declared.error.PackError.{PackError}
 use Rattle.jb_pack.specs.declared.error.PackError.TheVariants as pack_error
 
 -- a fault of the store has its cause: the device's count rose; and want of memory hides none
-abbrev pub FaultRose : ℕ → ℕ → AreaError → Type 0
-FaultRose before now StoreFault = Rose before now
-FaultRose before now OutOfMemory = now ≡ before
+abbrev pub AreaFaultRose : ℕ → ℕ → AreaError → Type 0
+AreaFaultRose before now StoreFault = Rose before now
+AreaFaultRose before now OutOfMemory = now ≡ before
 
 -- why an area is not packed, as why the call is not done
 abbrev pub area_error : PackError → AreaError

@@ -55,4 +55,4 @@ PacksHeaders _ to files = Unit {0}
 pub record Updates (change : Change) (from to : Loaded) (text : List ℕ) : Type 0 where
   pub makes : Makes change from to text
   pub places : KeepsPlaces from to
-  pub numbers : (files : Files) → Loads files from → KeepsNumbers from files (done change files)
+  pub numbers : (files : Files) → Loads from files → KeepsNumbers from files (done change files)

@@ -8,7 +8,7 @@ use Rattle.jb_model.specs.declared.loaded.Loaded.{Loaded}
 
 -- the files hold this area, with these bytes in the file of texts
 pub record Holds (loaded : Loaded) (texts : List ℕ) (files : Files) : Type 0 where
-  pub loads : Loads files loaded
+  pub loads : Loads loaded files
   pub texts_are : files Jdt ≡ texts
 
 -- these are as many bytes as the area has in its file of texts, and where its files are told, they are those of that file

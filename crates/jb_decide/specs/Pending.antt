@@ -14,6 +14,7 @@ use Rattle.jb_model.specs.declared.loaded.LoadedSlot.TheVariants as slot
 use Rattle.jb_model.specs.declared.message.Head.{Head}
 use Rattle.jb_pack.specs.Packed.{kept_slots, new_base, packed, texts_size}
 use Rattle.jb_replies.specs.Index.{IsIndexOf, ReplyIndex}
+use Rattle.jb_step.specs.After.{live_messages}
 use Rattle.jb_step.specs.Relink.{IsPlaced, with_links_of}
 use Rattle.jb_step.specs.declared.neighbours.Neighbour.{Neighbour}
 use Rattle.jb_decide.specs.declared.pending.Pending.{Pending}
@@ -96,3 +97,9 @@ live_after Nothing live = live
 live_after (Counted change counter active) live = active
 live_after (Marked place mark) live = live
 live_after (Packed plan base replies) live = live
+
+-- the change may be done in the area: it has its place there, as many messages are live then as it says, and numbers stay in their range
+pub record MayApply (pending : Pending) (loaded : Loaded) : Type 0 where
+  pub fit : IsFit pending loaded
+  pub live : live_messages (after pending loaded) ≡ live_after pending (live_messages loaded)
+  pub numbers : (after pending loaded).base + length (after pending loaded).slots ≤ 4294967295

@@ -70,18 +70,19 @@ pub fn decide_mark(
 ) -> Decided
     requires kept { IsKeptFor rules.now held.now }
     requires room { HasRoomInAll redo.old }
-    ensures decided { (moment : ℕ) (texts : List ℕ) (contents : Option Files) → AreTexts held.now.loaded texts contents
-        → IsDecided rules.now held.now.loaded texts contents redo.new user.now moment (SetMark number) result }
+    ensures decided { (moment : ℕ) (texts : List ℕ) (contents : Option Files) → AreTexts held.now texts contents
+        → IsDecided rules.now held.now texts contents redo.new user.now moment (SetMark number) result }
     ensures room { HasRoomInAll redo.new }
 {
+    let loaded = held.loaded();
     let user_crc = jam_crc(user.name.as_slice());
-    let place = held.marks.place_of(user_crc, user.id);
-    let present = held.marks.find(user_crc, user.id);
-    match set_mark(&held.loaded, present, rules, user, number) {
+    let place = held.place_of(user_crc, user.id);
+    let present = held.mark_of(user_crc, user.id);
+    match set_mark(loaded, present, rules, user, number) {
         Err(reply) => Decided::unchanged(reply),
         Ok(mark) => {
             clear(redo);
-            put_marked(redo, held.loaded.marks.as_slice(), place, &mark);
+            put_marked(redo, loaded.marks.as_slice(), place, &mark);
             Decided {
                 reply: Reply::Marked {
                     last: mark.last,
@@ -118,15 +119,16 @@ pub fn decide_kill(
 ) -> Decided
     requires kept { IsKeptFor rules.now held.now }
     requires room { HasRoomInAll redo.old }
-    ensures decided { (moment : ℕ) (texts : List ℕ) (contents : Option Files) → AreTexts held.now.loaded texts contents
-        → IsDecided rules.now held.now.loaded texts contents redo.new user.now moment (Kill number) result }
+    ensures decided { (moment : ℕ) (texts : List ℕ) (contents : Option Files) → AreTexts held.now texts contents
+        → IsDecided rules.now held.now texts contents redo.new user.now moment (Kill number) result }
     ensures room { HasRoomInAll redo.new }
 {
-    match kill(&held.loaded, rules, user, number) {
+    let loaded = held.loaded();
+    match kill(loaded, rules, user, number) {
         Err(reply) => Decided::unchanged(reply),
         Ok(killing) => {
-            let counter = held.loaded.counter.wrapping_add(1);
-            let active = held.live - 1;
+            let counter = loaded.counter.wrapping_add(1);
+            let active = held.live() - 1;
             clear(redo);
             put_kill(redo, killing.header_at, killing.attribute);
             put_counts(redo, counter, active);

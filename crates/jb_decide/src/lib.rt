@@ -1,20 +1,23 @@
-//! What each command of an open area comes to: its reply, and its change as a redo.
+//! What an open area keeps in memory, and what each command comes to over it: its reply, and its change as a redo.
 //!
-//! The layer above may rely on this. Over an area as it is kept in memory ([`Held`]), each call answers what the definition of
-//! the command says (`Step` of `jb_model`), and what is pending then ([`Pending`]) is what the command changes: done in the
-//! loaded area it gives the area after the command, and the redo, done in whatever files hold the area, gives files that hold
-//! that area. Nothing is written, and what is kept stays as it is. A letter is right where the disk tells its texts, each other
-//! reply on every disk; so are the files that a pack makes, since it reads the texts that it moves.
+//! The layer above may rely on this. A [`Held`] is an area as it is loaded; the count and the indexes that it has beside that are
+//! its own affair. Over it each call answers what the definition of the command says (`Step` of `jb_model`), and what is pending
+//! then ([`Pending`]) is what the command changes: [`Held::apply`] makes of the area the one after the command, without memory,
+//! and the redo, done in whatever files hold the area, gives files that hold that one. No decision writes or changes what is
+//! kept. A letter is right where the disk tells its texts, each other reply on every disk; so are the files that a pack makes,
+//! since it reads the texts that it moves.
 //!
 //! A redo holds what changed and no more. A kill has 12 bytes of .JHR, a mark 16 of .JLR, a reading 20 of .JHR; a post its
 //! header and subfields, its text, one index record and 20 bytes of .JHR at most beside; a relink 12 bytes for each message whose
 //! links are others, and 8; a pack all of .JHR, .JDX and .JDT as they are then.
 #![tactic(auto)]
 
+mod applying;
 mod decided;
 mod deciding;
 mod error;
 mod held;
+mod indexes;
 mod packing;
 mod pending;
 mod posting;

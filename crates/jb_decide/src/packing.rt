@@ -12,7 +12,7 @@ ghost use Rattle.jb_model.specs.declared.command.Command.TheVariants.{Pack};
 ghost use Rattle.jb_pack.specs.Packed.{new_base, packed};
 ghost use Rattle.jb_replies.specs.Index.{IsIndexOf};
 ghost use Rattle.jb_decide.specs.Decided.{IsDecided, IsKeptFor};
-ghost use Rattle.jb_decide.specs.Errors.{FaultRose};
+ghost use Rattle.jb_decide.specs.Errors.{AreaFaultRose};
 ghost use Rattle.jb_decide.specs.Holds.{AreTexts, Holds};
 
 use crate::AreaError;
@@ -60,30 +60,31 @@ pub fn decide_pack<D: Disk>(
     user: &User,
 ) -> Result<Decided, AreaError>
     requires kept { IsKeptFor rules.now held.now }
-    requires holds { ForSome (D.device disk.old).contents (λ files. Holds held.now.loaded (files texts_file) files) }
-    ensures decided { IfOk result (λ decided. (moment : ℕ) (texts : List ℕ) → AreTexts held.now.loaded texts (D.device disk.old).contents
-        → IsDecided rules.now held.now.loaded texts (D.device disk.old).contents redo.new user.now moment Pack decided) }
+    requires holds { ForSome (D.device disk.old).contents (λ files. Holds held.now (files texts_file) files) }
+    ensures decided { IfOk result (λ decided. (moment : ℕ) (texts : List ℕ) → AreTexts held.now texts (D.device disk.old).contents
+        → IsDecided rules.now held.now texts (D.device disk.old).contents redo.new user.now moment Pack decided) }
     ensures room { KeepsRoom redo.old redo.new }
 
     // The disk is only read.
     ensures reads { OnlyReads (D.device disk.old) (D.device disk.new) }
     ensures quiet { OnOk result ((D.device disk.new).faults ≡ (D.device disk.old).faults) }
     ensures later { (D.device disk.old).faults ≤ (D.device disk.new).faults }
-    ensures cause { IfErr result (FaultRose (D.device disk.old).faults (D.device disk.new).faults) }
+    ensures cause { IfErr result (AreaFaultRose (D.device disk.old).faults (D.device disk.new).faults) }
 {
+    let loaded = held.loaded();
     if let Some(rule) = denied(user, rules) {
         return Ok(Decided::unchanged(Reply::Denied { rule }));
     }
-    let links = relink_plan(alloc, &held.loaded)?;
+    let links = relink_plan(alloc, loaded)?;
     empty(redo);
-    match plan(alloc, disk, &held.loaded, links.as_slice(), redo)? {
+    match plan(alloc, disk, loaded, links.as_slice(), redo)? {
         Packing::TextFull { length } => Ok(Decided::unchanged(Reply::TextFull { length })),
         Packing::Fits {
             base,
             live,
             dropped,
         } => {
-            let replies = replies_after(alloc, &held.loaded, base)?;
+            let replies = replies_after(alloc, loaded, base)?;
             Ok(Decided {
                 reply: Reply::Packed {
                     base,

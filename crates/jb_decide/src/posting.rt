@@ -94,33 +94,18 @@ pub fn decide_post(
     requires kept { IsKeptFor rules.now held.now }
     requires name { length user.now.name ≤ MOST_NAME_BYTES }
     requires address { length rules.now.address ≤ MOST_ADDRESS_BYTES }
-    ensures decided { IfOk result (λ decided. (texts : List ℕ) (contents : Option Files) → AreTexts held.now.loaded texts contents
-        → IsDecided rules.now held.now.loaded texts contents redo.new user.now moment (post_of (draft_of draft.entry)) decided) }
+    ensures decided { IfOk result (λ decided. (texts : List ℕ) (contents : Option Files) → AreTexts held.now texts contents
+        → IsDecided rules.now held.now texts contents redo.new user.now moment (post_of (draft_of draft.entry)) decided) }
     ensures room { KeepsRoom redo.old redo.new }
 {
-    match post(
-        alloc,
-        &held.loaded,
-        &held.replies,
-        rules,
-        user,
-        moment,
-        draft,
-    )? {
+    let loaded = held.loaded();
+    match post(alloc, loaded, held.replies(), rules, user, moment, draft)? {
         Err(reply) => Ok(Decided::unchanged(reply)),
         Ok(posting) => {
-            let counter = held.loaded.counter.wrapping_add(1);
-            let active = held.live + 1;
+            let counter = loaded.counter.wrapping_add(1);
+            let active = held.live() + 1;
             empty(redo);
-            put_posting(
-                alloc,
-                redo,
-                &held.loaded,
-                &posting,
-                draft.text,
-                counter,
-                active,
-            )?;
+            put_posting(alloc, redo, loaded, &posting, draft.text, counter, active)?;
             let size = headed_length(&posting.message.subfields);
             let change = SlotChange::Posted {
                 message: posting.message,

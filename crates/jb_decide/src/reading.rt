@@ -10,7 +10,7 @@ ghost use Rattle.jb_model.specs.declared.command.Command.TheVariants.{Peek, Read
 ghost use Rattle.jb_model.specs.declared.loaded.Loaded.{Loaded};
 ghost use Rattle.jb_model.specs.declared.loaded.LoadedMessage.{LoadedMessage};
 ghost use Rattle.jb_decide.specs.Decided.{IsDecided, IsKeptFor};
-ghost use Rattle.jb_decide.specs.Errors.{FaultRose};
+ghost use Rattle.jb_decide.specs.Errors.{AreaFaultRose};
 ghost use Rattle.jb_decide.specs.Holds.{AreTexts, Holds};
 ghost use Rattle.jb_decide.specs.Links.{HasMessageAt};
 ghost use Rattle.jb_decide.specs.Ready.{HasRoomInAll};
@@ -51,25 +51,27 @@ pub fn decide_read<D: Disk>(
 ) -> Result<Decided, AreaError>
     requires kept { IsKeptFor rules.now held.now }
     requires room { HasRoomInAll redo.old }
-    requires holds { ForSome (D.device disk.old).contents (λ files. Holds held.now.loaded (files texts_file) files) }
-    ensures decided { IfOk result (λ decided. (texts : List ℕ) → AreTexts held.now.loaded texts (D.device disk.old).contents
-        → IsDecided rules.now held.now.loaded texts (D.device disk.old).contents redo.new user.now moment (Read number) decided) }
+    requires holds { ForSome (D.device disk.old).contents (λ files. Holds held.now (files texts_file) files) }
+    ensures decided { IfOk result (λ decided. (texts : List ℕ) → AreTexts held.now texts (D.device disk.old).contents
+        → IsDecided rules.now held.now texts (D.device disk.old).contents redo.new user.now moment (Read number) decided) }
     ensures room { HasRoomInAll redo.new }
 
     // The disk is only read.
     ensures reads { OnlyReads (D.device disk.old) (D.device disk.new) }
     ensures quiet { OnOk result ((D.device disk.new).faults ≡ (D.device disk.old).faults) }
     ensures later { (D.device disk.old).faults ≤ (D.device disk.new).faults }
-    ensures cause { IfErr result (FaultRose (D.device disk.old).faults (D.device disk.new).faults) }
+    ensures cause { IfErr result (AreaFaultRose (D.device disk.old).faults (D.device disk.new).faults) }
 {
-    match read(&held.loaded, rules, user, moment, number) {
+    let loaded = held.loaded();
+    match read(loaded, rules, user, moment, number) {
         Err(reply) => Ok(Decided::unchanged(reply)),
         Ok(reading) => {
-            let message = message_at(&held.loaded, reading.place);
+            let message = message_at(loaded, reading.place);
             let text = read_text(alloc, disk, message)?;
             let shown = letter(alloc, number, reading.head, message, text)?;
-            let counter = held.loaded.counter.wrapping_add(1);
-            put_read(redo, message.header_at, &reading.head, counter, held.live);
+            let counter = loaded.counter.wrapping_add(1);
+            let live = held.live();
+            put_read(redo, message.header_at, &reading.head, counter, live);
             let change = SlotChange::Headed {
                 place: reading.place,
                 head: reading.head,
@@ -79,7 +81,7 @@ pub fn decide_read<D: Disk>(
                 pending: Pending::Counted {
                     change,
                     counter,
-                    active: held.live,
+                    active: live,
                 },
             })
         }
@@ -96,20 +98,21 @@ pub fn decide_peek<D: Disk>(
     number: u32,
 ) -> Result<Decided, AreaError>
     requires kept { IsKeptFor rules.now held.now }
-    requires holds { ForSome (D.device disk.old).contents (λ files. Holds held.now.loaded (files texts_file) files) }
-    ensures decided { IfOk result (λ decided. (moment : ℕ) (redo : Change) (texts : List ℕ) → AreTexts held.now.loaded texts (D.device disk.old).contents
-        → IsDecided rules.now held.now.loaded texts (D.device disk.old).contents redo user.now moment (Peek number) decided) }
+    requires holds { ForSome (D.device disk.old).contents (λ files. Holds held.now (files texts_file) files) }
+    ensures decided { IfOk result (λ decided. (moment : ℕ) (redo : Change) (texts : List ℕ) → AreTexts held.now texts (D.device disk.old).contents
+        → IsDecided rules.now held.now texts (D.device disk.old).contents redo user.now moment (Peek number) decided) }
 
     // The disk is only read.
     ensures reads { OnlyReads (D.device disk.old) (D.device disk.new) }
     ensures quiet { OnOk result ((D.device disk.new).faults ≡ (D.device disk.old).faults) }
     ensures later { (D.device disk.old).faults ≤ (D.device disk.new).faults }
-    ensures cause { IfErr result (FaultRose (D.device disk.old).faults (D.device disk.new).faults) }
+    ensures cause { IfErr result (AreaFaultRose (D.device disk.old).faults (D.device disk.new).faults) }
 {
-    match peek(&held.loaded, rules, user, number) {
+    let loaded = held.loaded();
+    match peek(loaded, rules, user, number) {
         Err(reply) => Ok(Decided::unchanged(reply)),
         Ok(place) => {
-            let message = message_at(&held.loaded, place);
+            let message = message_at(loaded, place);
             let text = read_text(alloc, disk, message)?;
             let shown = letter(alloc, number, message.head, message, text)?;
             Ok(Decided::unchanged(Reply::Text { letter: shown }))

@@ -164,19 +164,20 @@ pub fn decide_relink(
     user: &User,
 ) -> Result<Decided, OutOfMemory>
     requires kept { IsKeptFor rules.now held.now }
-    ensures decided { IfOk result (λ decided. (moment : ℕ) (texts : List ℕ) (contents : Option Files) → AreTexts held.now.loaded texts contents
-        → IsDecided rules.now held.now.loaded texts contents redo.new user.now moment Relink decided) }
+    ensures decided { IfOk result (λ decided. (moment : ℕ) (texts : List ℕ) (contents : Option Files) → AreTexts held.now texts contents
+        → IsDecided rules.now held.now texts contents redo.new user.now moment Relink decided) }
     ensures room { KeepsRoom redo.old redo.new }
 {
-    match relink(alloc, &held.loaded, rules, user)? {
+    let loaded = held.loaded();
+    match relink(alloc, loaded, rules, user)? {
         Err(reply) => Ok(Decided::unchanged(reply)),
         Ok(Relinking { plan, changed }) => {
             if changed == 0 {
                 return Ok(Decided::unchanged(Reply::Relinked { changed }));
             }
-            let counter = held.loaded.counter.wrapping_add(1);
-            let active = held.live;
-            put_relinking(redo, &held.loaded, plan.as_slice(), counter, active)?;
+            let counter = loaded.counter.wrapping_add(1);
+            let active = held.live();
+            put_relinking(redo, loaded, plan.as_slice(), counter, active)?;
             Ok(Decided {
                 reply: Reply::Relinked { changed },
                 pending: Pending::Counted {

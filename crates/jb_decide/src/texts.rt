@@ -6,7 +6,7 @@ ghost use Rattle.jb_disk.specs.Device.{OnlyReads};
 ghost use Rattle.jb_disk.specs.declared.file.FileId.TheVariants.{Jdt as texts_file};
 ghost use Rattle.jb_model.specs.Sound.{IsTextWithin};
 ghost use Rattle.jb_model.specs.State.{text_of};
-ghost use Rattle.jb_decide.specs.Errors.{FaultRose};
+ghost use Rattle.jb_decide.specs.Errors.{AreaFaultRose};
 
 use crate::AreaError;
 use jb_base::Bytes;
@@ -27,7 +27,7 @@ pub(crate) fn read_text<D: Disk>(
     ensures kept { OnlyReads (D.device disk.old) (D.device disk.new) }
     ensures quiet { OnOk result ((D.device disk.new).faults ≡ (D.device disk.old).faults) }
     ensures later { (D.device disk.old).faults ≤ (D.device disk.new).faults }
-    ensures cause { IfErr result (FaultRose (D.device disk.old).faults (D.device disk.new).faults) }
+    ensures cause { IfErr result (AreaFaultRose (D.device disk.old).faults (D.device disk.new).faults) }
 {
     if message.text_len == 0 {
         return Ok(Bytes::new(alloc));

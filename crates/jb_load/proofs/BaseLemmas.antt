@@ -63,7 +63,7 @@ module _ (files : Files) (is : IsEmptyBase files) where
   header_there = ap (λ (l : List ℕ). bytes_at 0 1024 l) is.headers ∙ whole_list 1024 (fixed_header_bytes empty_header) header_size
 
   -- the files hold the empty area
-  empty_loads : Loads files (new_loaded 0)
+  empty_loads : Loads (new_loaded 0) files
   empty_loads = record {
     header = record {
       size = ap (λ (l : List ℕ). length l) header_there ∙ header_size;

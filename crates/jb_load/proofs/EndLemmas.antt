@@ -4,7 +4,7 @@ use Rattle.std.specs.Prelude.{Result, Ok, Err, IfErr, IfOk, IsSome}
 use Rattle.jb_area.specs.declared.area.OpenArea.{OpenArea}
 use Rattle.jb_base.specs.declared.area.AreaRules.{AreaRules}
 use Rattle.jb_base.specs.declared.limits.TheConstants.{MOST_SLOTS}
-use Rattle.jb_decide.specs.Errors.{FaultRose}
+use Rattle.jb_decide.specs.Errors.{AreaFaultRose}
 use Rattle.jb_decide.specs.Holds.{Holds}
 use Rattle.jb_decide.specs.declared.error.AreaError.{AreaError}
 use Rattle.jb_disk.specs.Device.{Device, TellsAlike}
@@ -31,9 +31,9 @@ run_is area counts run same posts reads kills = λ i. record { area = same i; po
 module _ {D : Type 0} (shown : D → Device) where
   -- the summary of an area that rests where a run has come is that of the run
   pub summary_is : (area : OpenArea D) (counts : Counts) (run : LoadRun) (text : List ℕ) → IsAt shown area counts run
-      → ((texts : List ℕ) → text ≡ summary_of (run_at (state_of texts area.held.loaded) counts)) → text ≡ summary_of run
+      → ((texts : List ℕ) → text ≡ summary_of (run_at (state_of texts area.held) counts)) → text ≡ summary_of run
   summary_is area counts run text at is =
-      is at.rests.texts ∙ ap (λ (r : LoadRun). summary_of r) (run_is (state_of at.rests.texts area.held.loaded) counts run at.rests.is at.posts at.reads at.kills)
+      is at.rests.texts ∙ ap (λ (r : LoadRun). summary_of r) (run_is (state_of at.rests.texts area.held) counts run at.rests.is at.posts at.reads at.kills)
 
   -- the files of an area that was filled
   pub filled_loaded : (seed count : ℕ) (text : List ℕ) (area : OpenArea D) → IsFilled shown seed count text area → IsLoaded seed count text (shown area.disk)
@@ -43,7 +43,7 @@ module _ {D : Type 0} (shown : D → Device) where
       record {
         text_is = filled.text_is;
         stands = λ files there. subst (StandsFor MOST_SLOTS files) filled.rests.is
-            (holds_stands area.held.loaded filled.rests.texts files (omega (arith, few, rules)) (filled.rests.rests.kept.settled.rests files there).holds);
+            (holds_stands area.held filled.rests.texts files (omega (arith, few, rules)) (filled.rests.rests.kept.settled.rests files there).holds);
         synced = filled.rests.rests.kept.settled.synced;
       }
 
@@ -55,6 +55,6 @@ module _ {D : Type 0} (shown : D → Device) where
   filled_answer seed count (Err error) before old area after alike rests same filled = tt
 
 -- a fault of a later part is one of the whole
-pub fault_answer : (answer : Result (List ℕ) AreaError) (a b : ℕ) (mid after : Device) → b ≡ a → mid ≡ after → IfErr answer (FaultRose b mid.faults) → IfErr answer (FaultRose a after.faults)
+pub fault_answer : (answer : Result (List ℕ) AreaError) (a b : ℕ) (mid after : Device) → b ≡ a → mid ≡ after → IfErr answer (AreaFaultRose b mid.faults) → IfErr answer (AreaFaultRose a after.faults)
 fault_answer (Ok text) a b mid after quiet same rose = tt
-fault_answer (Err error) a b mid after quiet same rose = fault_later a b after.faults error quiet (subst (λ (d : Device). FaultRose b d.faults error) same rose)
+fault_answer (Err error) a b mid after quiet same rose = fault_later a b after.faults error quiet (subst (λ (d : Device). AreaFaultRose b d.faults error) same rose)

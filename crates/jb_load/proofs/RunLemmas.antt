@@ -6,7 +6,7 @@ use Rattle.std.specs.Prelude.{◌==◌, Ok, Err, IsSome, Result}
 use Rattle.jb_area.specs.Calls.{MeetsCall}
 use Rattle.jb_area.specs.declared.area.OpenArea.{OpenArea}
 use Rattle.jb_base.specs.declared.area.AreaRules.{AreaRules}
-use Rattle.jb_decide.specs.Errors.{FaultRose}
+use Rattle.jb_decide.specs.Errors.{AreaFaultRose}
 use Rattle.jb_decide.specs.declared.error.AreaError.{AreaError}
 use Rattle.jb_disk.specs.Device.{Device, TellsAlike}
 use Rattle.jb_model.specs.Answered.{Answered}
@@ -21,8 +21,8 @@ use Rattle.jb_load.specs.Workload.{LoadRun, asked, behind_step, in_step, kills_i
 use Rattle.jb_load.specs.declared.counts.Counts.{Counts}
 
 -- a fault of a later part is one of the whole
-pub fault_later : (a b c : ℕ) (error : AreaError) → b ≡ a → FaultRose b c error → FaultRose a c error
-fault_later a b c error same rose = subst (λ (n : ℕ). FaultRose n c error) same rose
+pub fault_later : (a b c : ℕ) (error : AreaError) → b ≡ a → AreaFaultRose b c error → AreaFaultRose a c error
+fault_later a b c error same rose = subst (λ (n : ℕ). AreaFaultRose n c error) same rose
 
 -- the run that an answered command leads to
 asked_is : (moment : ℕ) (command : Command) (run : LoadRun) (reply : Reply) (state : AreaState) → Step load_rules run.area loader moment command reply state
@@ -56,9 +56,9 @@ post_is seed i run other =
 -- of a disk that shows itself so
 module _ {D : Type 0} (shown : D → Device) where
   -- the next number of an area is that of the state for which it stands
-  pub next_is : (area : OpenArea D) (state : AreaState) → RestsAs shown area state → area.held.loaded.base + length area.held.loaded.slots ≡ next_number state
+  pub next_is : (area : OpenArea D) (state : AreaState) → RestsAs shown area state → area.held.base + length area.held.slots ≡ next_number state
   next_is area state rests =
-      ap (λ (n : ℕ). area.held.loaded.base + n) (sym (length-map area.held.loaded.slots (slot_state rests.texts)))
+      ap (λ (n : ℕ). area.held.base + n) (sym (length-map area.held.slots (slot_state rests.texts)))
       ∙ ap (λ (s : AreaState). next_number s) rests.is
 
   -- the same commands, otherwise told
@@ -146,7 +146,7 @@ module _ {D : Type 0} (shown : D → Device) where
           let answered = meets.answered at.rests.texts at.rests.rests in
           let after = state_of answered.coming.texts answered.coming.to in
           let one = answered.step (λ letter is. tells) in
-          let two = subst (λ (r : AreaRules). Step r (state_of at.rests.texts old.held.loaded) loader moment command reply after) ready.rules one in
+          let two = subst (λ (r : AreaRules). Step r (state_of at.rests.texts old.held) loader moment command reply after) ready.rules one in
           let three = subst (λ (s : AreaState). Step load_rules s loader moment command reply after) at.rests.is two in
           subst (IsAt shown new now) (sym (asked_is moment command run reply after three)) (record {
             rests = record {

@@ -5,7 +5,7 @@ use Rattle.jb_area.specs.Area.{IsResting}
 use Rattle.jb_area.specs.Calls.{HasRest}
 use Rattle.jb_area.specs.declared.area.OpenArea.{OpenArea}
 use Rattle.jb_base.specs.declared.limits.TheConstants.{MOST_SLOTS}
-use Rattle.jb_decide.specs.Errors.{FaultRose}
+use Rattle.jb_decide.specs.Errors.{AreaFaultRose}
 use Rattle.jb_decide.specs.declared.error.AreaError.{AreaError}
 use Rattle.jb_disk.specs.Device.{Device, TellsAlike}
 use Rattle.jb_disk.specs.Runs.{IsAllSynced}
@@ -29,7 +29,7 @@ module _ {D : Type 0} (shown : D → Device) where
   pub record RestsAs (area : OpenArea D) (state : AreaState) : Type 0 where
     pub texts : List ℕ
     pub rests : IsResting shown area texts
-    pub is : state_of texts area.held.loaded ≡ state
+    pub is : state_of texts area.held ≡ state
 
   -- the area rests where this run has come, and so many answers were counted
   pub record IsAt (area : OpenArea D) (counts : Counts) (run : LoadRun) : Type 0 where
@@ -48,7 +48,7 @@ module _ {D : Type 0} (shown : D → Device) where
     pub ready : OnOk result (IsReady new)
     pub done : OnOk result (IsSome (shown old.disk).contents → (run : LoadRun) → IsAt old was run → IsAt new now (further run))
     pub few : answers_in now ≤ answers_in was + most
-    pub cause : IfErr result (FaultRose (shown old.disk).faults (shown new.disk).faults)
+    pub cause : IfErr result (AreaFaultRose (shown old.disk).faults (shown new.disk).faults)
     pub quiet : OnOk result ((shown new.disk).faults ≡ (shown old.disk).faults)
     pub later : (shown old.disk).faults ≤ (shown new.disk).faults
     pub alike : TellsAlike (shown old.disk) (shown new.disk)

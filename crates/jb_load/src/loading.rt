@@ -2,7 +2,7 @@
 ghost use Rattle.std.specs.Prelude.{◌≡◌, ◌≤◌, IfErr, IfOk, IsSome};
 ghost use Rattle.std.specs.Option.{ForSome};
 ghost use Rattle.jb_area.specs.Area.{device_of};
-ghost use Rattle.jb_decide.specs.Errors.{FaultRose};
+ghost use Rattle.jb_decide.specs.Errors.{AreaFaultRose};
 ghost use Rattle.jb_load.specs.Base.{HaveNoByte};
 ghost use Rattle.jb_load.specs.Runs.{IsFilled, IsLoaded, IsReady, RestsAs};
 ghost use Rattle.jb_load.specs.Summary.{summary_of};
@@ -32,7 +32,7 @@ fn fill<D: Disk>(
     requires count { count ≤ 50_000 }
     ensures filled { IfOk result (λ text. IsSome (device_of D.device area.old).contents → RestsAs D.device area.old empty_area
         → IsFilled D.device seed count text area.new) }
-    ensures cause { IfErr result (FaultRose (device_of D.device area.old).faults (device_of D.device area.new).faults) }
+    ensures cause { IfErr result (AreaFaultRose (device_of D.device area.old).faults (device_of D.device area.new).faults) }
     ensures later { (device_of D.device area.old).faults ≤ (device_of D.device area.new).faults }
 {
     let user = loader(alloc)?;
@@ -48,7 +48,7 @@ pub fn load<D: Disk>(alloc: Global, disk: D, seed: u32, count: u32) -> (D, Resul
     requires count { count ≤ 50_000 }
     requires empty { ForSome (D.device disk).contents HaveNoByte }
     ensures loaded { IfOk result.1 (λ text. IsSome (D.device disk).contents → IsLoaded seed count text (D.device result.0)) }
-    ensures cause { IfErr result.1 (FaultRose (D.device disk).faults (D.device result.0).faults) }
+    ensures cause { IfErr result.1 (AreaFaultRose (D.device disk).faults (D.device result.0).faults) }
     ensures later { (D.device disk).faults ≤ (D.device result.0).faults }
 {
     match make_area(alloc, disk) {

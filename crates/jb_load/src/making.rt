@@ -3,7 +3,7 @@ ghost use Rattle.std.specs.Prelude.{◌≡◌, ◌≤◌, ℕ, List, [], IfErr, 
 ghost use Rattle.std.specs.Option.{ForSome, option_map};
 ghost use Rattle.jb_base.specs.Fault.{Rose};
 ghost use Rattle.jb_change.specs.NewBase.{new_loaded};
-ghost use Rattle.jb_decide.specs.Errors.{FaultRose};
+ghost use Rattle.jb_decide.specs.Errors.{AreaFaultRose};
 ghost use Rattle.jb_decide.specs.declared.error.AreaError.TheVariants.{OutOfMemory as no_memory};
 ghost use Rattle.jb_disk.specs.Device.{TellsAlike};
 ghost use Rattle.jb_disk.specs.Files.{with_file};
@@ -55,7 +55,7 @@ fn make<D: Disk>(disk: &mut D, loaded: &Loaded) -> Result<(), AreaError>
     requires empty { ForSome (D.device disk.old).contents HaveNoByte }
     ensures made { OnOk result (ForSome (D.device disk.new).contents IsEmptyBase) }
     ensures synced { OnOk result (IsAllSynced (D.device disk.new)) }
-    ensures cause { IfErr result (FaultRose (D.device disk.old).faults (D.device disk.new).faults) }
+    ensures cause { IfErr result (AreaFaultRose (D.device disk.old).faults (D.device disk.new).faults) }
     ensures quiet { OnOk result ((D.device disk.new).faults ≡ (D.device disk.old).faults) }
     ensures later { (D.device disk.old).faults ≤ (D.device disk.new).faults }
     ensures alike { TellsAlike (D.device disk.old) (D.device disk.new) }
@@ -92,7 +92,7 @@ pub(crate) fn make_area<D: Disk>(alloc: Global, disk: D) -> Result<OpenArea<D>, 
     requires empty { ForSome (D.device disk).contents HaveNoByte }
     ensures ready { IfOk result (IsReady D.device) }
     ensures empty { IfOk result (λ area. RestsAs D.device area empty_area) }
-    ensures cause { IfErr result (λ back. FaultRose (D.device disk).faults (D.device back.0).faults back.1) }
+    ensures cause { IfErr result (λ back. AreaFaultRose (D.device disk).faults (D.device back.0).faults back.1) }
     ensures quiet { OnOk result ((device_then D.device result).faults ≡ (D.device disk).faults) }
     ensures later { (D.device disk).faults ≤ (device_then D.device result).faults }
     ensures alike { TellsAlike (D.device disk) (device_then D.device result) }

@@ -53,7 +53,7 @@ leaves_only_after P old mid new kept leaves = record {
 
 module _ {D : Type 0} (shown : D → Device) (command : Command) where
   -- an area at rest has no more slots than any may have
-  pub few_resting : (area : OpenArea D) (texts : List ℕ) → IsResting shown area texts → length area.held.loaded.slots ≤ MOST_SLOTS
+  pub few_resting : (area : OpenArea D) (texts : List ℕ) → IsResting shown area texts → length area.held.slots ≤ MOST_SLOTS
   few_resting area texts rests =
       let limit = rests.kept.ruled.few_slots in
       let few = rests.kept.ruled.sound.few_slots in
@@ -61,18 +61,18 @@ module _ {D : Type 0} (shown : D → Device) (command : Command) where
 
   -- a crash now leaves what opens to the area
   left_resting : (area : OpenArea D) (texts : List ℕ) (files : Files) → (shown area.disk).contents ≡ Some files → IsResting shown area texts
-      → LeavesNow (OpensForEither command (state_of texts area.held.loaded)) (shown area.disk).moments
+      → LeavesNow (OpensForEither command (state_of texts area.held)) (shown area.disk).moments
   left_resting area texts files there rests =
-      let opens = rest_opens area.held.loaded texts files (few_resting area texts rests) (rests.kept.settled.rests files there) in
-      leaves_weaken (λ left. left ≡ files) (OpensForEither command (state_of texts area.held.loaded)) (shown area.disk).moments
-      (λ left is. inl (subst (OpensFor (state_of texts area.held.loaded)) (sym is) opens)) (rests.kept.settled.synced files there)
+      let opens = rest_opens area.held texts files (few_resting area texts rests) (rests.kept.settled.rests files there) in
+      leaves_weaken (λ left. left ≡ files) (OpensForEither command (state_of texts area.held)) (shown area.disk).moments
+      (λ left is. inl (subst (OpensFor (state_of texts area.held)) (sym is) opens)) (rests.kept.settled.synced files there)
 
   -- nor is anything else left where only reads follow
   pub left_reading : (area : OpenArea D) (texts : List ℕ) (files : Files) (after : Device) → (shown area.disk).contents ≡ Some files → IsResting shown area texts → OnlyReads (shown area.disk) after
-      → LeavesOnly (shown area.disk) after (OpensForEither command (state_of texts area.held.loaded))
+      → LeavesOnly (shown area.disk) after (OpensForEither command (state_of texts area.held))
   left_reading area texts files after there rests kept = record {
     first = left_resting area texts files there rests;
-    run = runs-refl (OpensForEither command (state_of texts area.held.loaded)) (shown area.disk).moments after.moments kept.moments;
+    run = runs-refl (OpensForEither command (state_of texts area.held)) (shown area.disk).moments after.moments kept.moments;
   }
 
   -- the area to come of a call that is begun has no more slots than any may have
@@ -86,12 +86,12 @@ module _ {D : Type 0} (shown : D → Device) (command : Command) where
 
   -- files between the area and the one to come
   pub either_way : (area : OpenArea D) (texts : List ℕ) (reply : Reply) (coming : Coming) → IsBegun shown area texts reply coming
-      → (answer_to command (state_of texts area.held.loaded)).state ≡ state_of coming.texts coming.to
-      → (files : Files) → OpensToEither area.held.loaded texts coming files → OpensForEither command (state_of texts area.held.loaded) files
+      → (answer_to command (state_of texts area.held)).state ≡ state_of coming.texts coming.to
+      → (files : Files) → OpensToEither area.held texts coming files → OpensForEither command (state_of texts area.held) files
   either_way area texts reply coming begun becomes files opens =
       let limit = begun.kept.ruled.few_slots in
       let few = begun.kept.ruled.sound.few_slots in
       elim opens [
-        | inl from ↦ inl (opens_area area.held.loaded texts files (omega (arith, limit, few)) from)
+        | inl from ↦ inl (opens_area area.held texts files (omega (arith, limit, few)) from)
         | inr to ↦ inr (subst (λ (s : AreaState). OpensFor s files) (sym becomes) (opens_area coming.to coming.texts files (few_coming area texts reply coming begun) to))
       ]

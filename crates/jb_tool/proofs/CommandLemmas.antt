@@ -10,7 +10,7 @@ use Rattle.jb_base.specs.Fault.{Rose}
 use Rattle.jb_base.specs.declared.area.AreaRules.{AreaRules}
 use Rattle.jb_base.specs.declared.limits.TheConstants.{MOST_SLOTS}
 use Rattle.jb_decide.specs.Coming.{Coming}
-use Rattle.jb_decide.specs.Errors.{FaultRose}
+use Rattle.jb_decide.specs.Errors.{AreaFaultRose}
 use Rattle.jb_decide.specs.declared.error.AreaError.{AreaError}
 use Rattle.jb_decide.specs.declared.error.AreaError.TheVariants as failed
 use Rattle.jb_disk.specs.Device.{Device, OnlyReads}
@@ -31,7 +31,7 @@ use Rattle.jb_tool.specs.declared.error.ToolError.{ToolError}
 
 module _ {D : Type 0} (shown : D → Device) (command : Command) (old : OpenArea D) where
   -- why it was not begun
-  stopped_by : (error : AreaError) (new : OpenArea D) → FaultRose (shown old.disk).faults (shown new.disk).faults error → OnlyReads (shown old.disk) (shown new.disk)
+  stopped_by : (error : AreaError) (new : OpenArea D) → AreaFaultRose (shown old.disk).faults (shown new.disk).faults error → OnlyReads (shown old.disk) (shown new.disk)
       → IsStoppedBy shown command old new (of_area error)
   stopped_by failed.StoreFault new rose kept = inl (refl, rose)
   stopped_by failed.OutOfMemory new quiet kept = inr (inl (refl, kept, quiet))
@@ -50,26 +50,26 @@ module _ {D : Type 0} (shown : D → Device) (command : Command) (old : OpenArea
   module _ (mid new : OpenArea D) (rules : old.rules ≡ tool_rules) (begins : BeginsCall shown old mid tool_user 0 command (Ok tt)) where
     -- what the command comes to
     becomes : (texts : List ℕ) (files : Files) → (shown old.disk).contents ≡ Some files → (rests : IsResting shown old texts)
-        → answer_to command (state_of texts old.held.loaded) ≡ record { reply = (begins.begun texts rests).reply; state = state_of (begins.begun texts rests).coming.texts (begins.begun texts rests).coming.to }
+        → answer_to command (state_of texts old.held) ≡ record { reply = (begins.begun texts rests).reply; state = state_of (begins.begun texts rests).coming.texts (begins.begun texts rests).coming.to }
     becomes texts files there rests =
         let begun = begins.begun texts rests in
         let after = state_of begun.coming.texts begun.coming.to in
         let one = begun.step (λ letter is. subst IsSome (sym (begins.reads.contents ∙ there)) refl) in
-        let two = subst (λ (r : AreaRules). Step r (state_of texts mid.held.loaded) tool_user 0 command begun.reply after) (begins.rules ∙ rules) one in
+        let two = subst (λ (r : AreaRules). Step r (state_of texts mid.held) tool_user 0 command begun.reply after) (begins.rules ∙ rules) one in
         subst (λ (l : Loaded). Step tool_rules (state_of texts l) tool_user 0 command begun.reply after) begins.loaded two
 
     -- what a crash leaves until it has ended
     pub ending : ((texts : List ℕ) (decided : Reply) (coming : Coming) → IsBegun shown mid texts decided coming
-        → ForSome (shown mid.disk).contents (λ _. LeavesOnly (shown mid.disk) (shown new.disk) (OpensToEither mid.held.loaded texts coming)))
+        → ForSome (shown mid.disk).contents (λ _. LeavesOnly (shown mid.disk) (shown new.disk) (OpensToEither mid.held texts coming)))
         → (files : Files) → (shown old.disk).contents ≡ Some files → (texts : List ℕ) → IsResting shown old texts
-        → LeavesOnly (shown old.disk) (shown new.disk) (OpensForEither command (state_of texts old.held.loaded))
+        → LeavesOnly (shown old.disk) (shown new.disk) (OpensForEither command (state_of texts old.held))
     ending crash files there texts rests =
         let begun = begins.begun texts rests in
-        let to : (answer_to command (state_of texts mid.held.loaded)).state ≡ state_of begun.coming.texts begun.coming.to =
+        let to : (answer_to command (state_of texts mid.held)).state ≡ state_of begun.coming.texts begun.coming.to =
         ap (λ (l : Loaded). (answer_to command (state_of texts l)).state) begins.loaded ∙ ap (λ (a : Answered). a.state) (becomes texts files there rests) in
         let either = either_way shown command mid texts begun.reply begun.coming begun.begun to in
-        let P : Files → Type 0 = OpensForEither command (state_of texts mid.held.loaded) in
-        let leaves = leaves_only_weaken (OpensToEither mid.held.loaded texts begun.coming) P (shown mid.disk) (shown new.disk) either
+        let P : Files → Type 0 = OpensForEither command (state_of texts mid.held) in
+        let leaves = leaves_only_weaken (OpensToEither mid.held texts begun.coming) P (shown mid.disk) (shown new.disk) either
         (crash texts begun.reply begun.coming begun.begun files (begins.reads.contents ∙ there)) in
         subst (λ (l : Loaded). LeavesOnly (shown old.disk) (shown new.disk) (OpensForEither command (state_of texts l))) begins.loaded
         (leaves_only_after P (shown old.disk) (shown mid.disk) (shown new.disk) begins.reads leaves)
@@ -79,7 +79,7 @@ module _ {D : Type 0} (shown : D → Device) (command : Command) (old : OpenArea
         → ((texts : List ℕ) (decided : Reply) (coming : Coming) → IsBegun shown mid texts decided coming → said ≡ decided)
         → ((texts : List ℕ) (decided : Reply) (coming : Coming) → IsBegun shown mid texts decided coming → (answered ≡ decided) × RestsAt shown new coming.texts coming.to)
         → ((texts : List ℕ) (decided : Reply) (coming : Coming) → IsBegun shown mid texts decided coming
-        → ForSome (shown mid.disk).contents (λ _. LeavesOnly (shown mid.disk) (shown new.disk) (OpensToEither mid.held.loaded texts coming)))
+        → ForSome (shown mid.disk).contents (λ _. LeavesOnly (shown mid.disk) (shown new.disk) (OpensToEither mid.held texts coming)))
         → (shown mid.disk).faults ≤ (shown new.disk).faults
         → DoesCommand shown command old new (Ok text)
     command_done text said answered rest line decided done crash later = record {
@@ -90,7 +90,7 @@ module _ {D : Type 0} (shown : D → Device) (command : Command) (old : OpenArea
       now = λ files there texts rests last last_is.
           let begun = begins.begun texts rests in
           let at = (done texts begun.reply begun.coming begun.begun).1 in
-          let stands = holds_stands new.held.loaded begun.coming.texts last (few_resting shown command new begun.coming.texts at.rests) (at.rests.kept.settled.rests last last_is).holds in
+          let stands = holds_stands new.held begun.coming.texts last (few_resting shown command new begun.coming.texts at.rests) (at.rests.kept.settled.rests last last_is).holds in
           subst (StandsFor MOST_SLOTS last) (ap (λ (l : Loaded). state_of begun.coming.texts l) at.is ∙ ap (λ (a : Answered). a.state) (sym (becomes texts files there rests))) stands;
       synced =
           let begun = begins.begun rest.texts rest.rests in
@@ -103,7 +103,7 @@ module _ {D : Type 0} (shown : D → Device) (command : Command) (old : OpenArea
     -- it was stopped by a fault
     pub command_stopped : Rose (shown mid.disk).faults (shown new.disk).faults
         → ((texts : List ℕ) (decided : Reply) (coming : Coming) → IsBegun shown mid texts decided coming
-        → ForSome (shown mid.disk).contents (λ _. LeavesOnly (shown mid.disk) (shown new.disk) (OpensToEither mid.held.loaded texts coming)))
+        → ForSome (shown mid.disk).contents (λ _. LeavesOnly (shown mid.disk) (shown new.disk) (OpensToEither mid.held texts coming)))
         → (shown mid.disk).faults ≤ (shown new.disk).faults
         → DoesCommand shown command old new (Err (of_area failed.StoreFault))
     command_stopped rose crash later = record {

@@ -16,7 +16,7 @@ use Rattle.jb_disk.specs.declared.file.FileId.TheVariants.{Jhr, Jdt, Jdx, Jlr, J
 use Rattle.jb_journal.specs.Commit.{IsBeforeOrAfter, IsReady, changed, committed}
 use Rattle.jb_journal.specs.Doubt.{IsSettledAt}
 use Rattle.jb_journal.specs.Prepare.{IsPrepared, IsPreparing}
-use Rattle.jb_journal.specs.Recover.{FaultRose, IsGrowthSafe, IsRefusedOver, ReplaysAsAtStart}
+use Rattle.jb_journal.specs.Recover.{JournalFaultRose, IsGrowthSafe, IsRefusedOver, ReplaysAsAtStart}
 use Rattle.jb_journal.specs.declared.error.JournalError.{JournalError}
 use Rattle.jb_journal.specs.declared.error.JournalError.TheVariants.{BadRecord, StoreFault}
 use Rattle.jb_redo.proofs.ApplyLemmas.{turns_from, turns_on}
@@ -171,7 +171,7 @@ module _ (moment : ℕ) (change : Change) (makes : MakesBase moment change) (bef
       }
 
 -- a refusal of recovery
-pub refused_recovery : (before after : Device) (error : JournalError) → ForSome before.contents (IsRefusedOver error after) → FaultRose before.faults after.faults error
+pub refused_recovery : (before after : Device) (error : JournalError) → ForSome before.contents (IsRefusedOver error after) → JournalFaultRose before.faults after.faults error
     → RefusesMaking before after (of_journal error)
 refused_recovery before after (BadRecord at) is rose = is
 refused_recovery before after StoreFault is rose = inr (refl, rose)

@@ -1,7 +1,7 @@
 -- The change that makes a base, and the files beside it.
-use Rattle.std.proofs.Common.{◌≡◌, ◌≢◌, ℕ, ◌<◌, ◌≤◌, [], length, ap, ◌∙◌, arith}
+use Rattle.std.proofs.Common.{◌≡◌, ◌≢◌, ℕ, ◌<◌, ◌≤◌, length, ap, ◌∙◌, arith}
 use Rattle.std.specs.Prelude.{slice_index}
-use Rattle.jb_area.proofs.HoldLemmas.{loads_agree}
+use Rattle.jb_decide.proofs.AgreeLemmas.{loads_agree}
 use Rattle.jb_change.specs.NewBase.{AreEmpty, AreNew, MakesBase, new_loaded}
 use Rattle.jb_disk.specs.Change.{Change}
 use Rattle.jb_disk.specs.Files.{Files, number_of}

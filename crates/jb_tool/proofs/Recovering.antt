@@ -18,7 +18,7 @@ use Rattle.jb_journal.specs.declared.error.JournalError.{JournalError}
 use Rattle.jb_journal.specs.declared.error.JournalError.TheVariants.{BadRecord, StoreFault}
 use Rattle.jb_journal.specs.declared.error.Recovered.{Recovered}
 use Rattle.jb_journal.specs.declared.error.Recovered.TheVariants.{Closed, Replayed}
-use Rattle.jb_journal.specs.Recover.{FaultRose, IsFound, IsGrowthSafe, IsRefusedOver, ReplaysAsAtStart}
+use Rattle.jb_journal.specs.Recover.{JournalFaultRose, IsFound, IsGrowthSafe, IsRefusedOver, ReplaysAsAtStart}
 use Rattle.jb_model.specs.State.{state_of}
 use Rattle.jb_model.specs.declared.loaded.Loaded.{Loaded}
 use Rattle.jb_redo.specs.Reading.{HasRecord}
@@ -74,7 +74,7 @@ pub opens_stands : (files : Files) (loaded : Loaded) → OpensTo MOST_SLOTS file
 opens_stands files loaded opens = record { loaded = loaded; loads = opens.loads; few_slots = opens.few_slots; same = refl }
 
 -- a recovery that is refused
-pub refused : (before after : Device) (error : JournalError) → ForSome before.contents (IsRefusedOver error after) → FaultRose before.faults after.faults error
+pub refused : (before after : Device) (error : JournalError) → ForSome before.contents (IsRefusedOver error after) → JournalFaultRose before.faults after.faults error
     → RefusesReading before after (of_journal error)
 refused before after (BadRecord at) is rose = is
 refused before after StoreFault is rose = record { files = λ other. absurd (other refl); cause = rose }

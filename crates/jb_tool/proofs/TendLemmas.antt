@@ -1,11 +1,11 @@
 -- The opening of a base, and what a tool that tends its area makes of it then.
-use Rattle.std.proofs.Common.{◌≡◌, inl, inr, ℕ, ◌≤◌, List, [], ◌∷◌, refl, sym, ◌∙◌, subst, Some}
+use Rattle.std.proofs.Common.{◌≡◌, inl, inr, ℕ, List, [], ◌∷◌, refl, sym, ◌∙◌, subst, Some}
 use Rattle.std.specs.Prelude.{IsSome, Ok, Err, ◌⊎◌}
 use Rattle.std.specs.Option.{ForSome}
 use Rattle.jb_area.specs.Calls.{HasRest}
 use Rattle.jb_area.specs.Holds.{Opens}
 use Rattle.jb_area.specs.declared.area.OpenArea.{OpenArea}
-use Rattle.jb_area_open.specs.Opening.{FaultRose, IsOpenAt, IsRecovered, KeepsOpening, OpensAsAtStart, Refuses}
+use Rattle.jb_area_open.specs.Opening.{OpeningFaultRose, IsOpenAt, IsRecovered, KeepsOpening, OpensAsAtStart, Refuses}
 use Rattle.jb_area_open.specs.declared.error.OpeningError.{OpeningError}
 use Rattle.jb_area_open.specs.declared.error.OpeningError.TheVariants.{BadJournal as bad_journal, Base}
 use Rattle.jb_base.specs.Fault.{Rose}
@@ -38,7 +38,7 @@ nothing_left command device = λ was there safe. record {
 }
 
 -- a base that is not opened
-pub refused_tends : (command : Command) (before after : Device) (error : OpeningError) → Refuses MOST_SLOTS before after error → FaultRose before.faults after.faults error
+pub refused_tends : (command : Command) (before after : Device) (error : OpeningError) → Refuses MOST_SLOTS before after error → OpeningFaultRose before.faults after.faults error
     → Tends command before after (Err (of_opening error))
 refused_tends command before after (bad_journal at) refuses rose = refuses
 refused_tends command before after (Base error) refuses rose = inr (refuses, rose)
@@ -65,7 +65,7 @@ module _ {D : Type 0} (shown : D → Device) (command : Command) (before : Devic
     (rest : HasRest shown area) where
   -- the area that was opened
   abbrev from : AreaState
-  from = state_of rest.texts area.held.loaded
+  from = state_of rest.texts area.held
 
   -- its files, told
   opened_files : (was : Files) → before.contents ≡ Some was → IsTold (shown area.disk).contents
@@ -78,12 +78,12 @@ module _ {D : Type 0} (shown : D → Device) (command : Command) (before : Devic
       let now = opened_files was there in
       let one = (at.rests.kept.settled.rests now.files now.is).holds.texts_are in
       let other = (rest.rests.kept.settled.rests now.files now.is).holds.texts_are in
-      opens_area area.held.loaded rest.texts was (few_resting shown command area rest.texts rest.rests)
-      (subst (λ (t : List ℕ). Opens area.held.loaded t was) (sym one ∙ other) at.opens)
+      opens_area area.held rest.texts was (few_resting shown command area rest.texts rest.rests)
+      (subst (λ (t : List ℕ). Opens area.held t was) (sym one ∙ other) at.opens)
 
   -- the area for which its files stand
   opened_stands : ForSome (shown area.disk).contents (λ files. StandsFor MOST_SLOTS files from)
-  opened_stands files is = holds_stands area.held.loaded rest.texts files (few_resting shown command area rest.texts rest.rests) (rest.rests.kept.settled.rests files is).holds
+  opened_stands files is = holds_stands area.held rest.texts files (few_resting shown command area rest.texts rest.rests) (rest.rests.kept.settled.rests files is).holds
 
   -- and what a crash leaves since then
   opened_to : (new : OpenArea D) (answer : Answer) → DoesCommand shown command area new answer → (was : Files) → before.contents ≡ Some was
@@ -125,7 +125,7 @@ module _ {D : Type 0} (shown : D → Device) (command : Command) (before : Devic
               opening = shown area.disk;
               opened_to = opened_to new (Err error) changes was there;
               opened = opened_as was there;
-              now = λ last last_is. holds_stands area.held.loaded rest.texts last (few_resting shown command area rest.texts rest.rests)
+              now = λ last last_is. holds_stands area.held rest.texts last (few_resting shown command area rest.texts rest.rests)
                   (rest.rests.kept.settled.rests last (sym kept.contents ∙ last_is)).holds;
               synced = λ last last_is. subst (LeavesNow (λ left. left ≡ last)) (sym kept.moments) (rest.rests.kept.settled.synced last (sym kept.contents ∙ last_is));
             })

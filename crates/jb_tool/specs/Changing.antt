@@ -8,7 +8,6 @@ use Rattle.jb_base.specs.declared.limits.TheConstants.{MOST_SLOTS}
 use Rattle.jb_decide.specs.declared.error.AreaError.{AreaError}
 use Rattle.jb_decide.specs.declared.error.AreaError.TheVariants as failed
 use Rattle.jb_disk.specs.Device.{Device, OnlyReads}
-use Rattle.jb_disk.specs.Files.{Files}
 use Rattle.jb_disk.specs.Runs.{IsAllSynced, LeavesOnly}
 use Rattle.jb_image.specs.Stands.{StandsFor}
 use Rattle.jb_image.specs.declared.error.OpenError.TheVariants as refused
@@ -40,7 +39,7 @@ HasNoLine said error = (error ≡ Open refused.OutOfMemory) ⊎ ((length : ℕ) 
 module _ {D : Type 0} (shown : D → Device) where
   -- this of the area at rest, where the disk tells what it holds
   abbrev pub WhereTold : OpenArea D → (AreaState → Type 0) → Type 0
-  WhereTold area claim = ForSome (shown area.disk).contents (λ files. (texts : List ℕ) → IsResting shown area texts → claim (state_of texts area.held.loaded))
+  WhereTold area claim = ForSome (shown area.disk).contents (λ files. (texts : List ℕ) → IsResting shown area texts → claim (state_of texts area.held))
 
   -- why the command was not done: a fault that the disk counted, or want of memory, which hides none, or texts that are too long, and after these nothing was written
   abbrev pub IsStoppedBy : Command → OpenArea D → OpenArea D → ToolError → Type 0

@@ -1,7 +1,7 @@
 -- What a tool that tends the area answers, and what it makes of the files of a base.
 use Rattle.std.specs.Prelude.{◌≡◌, ◌⊎◌, ℕ, List, [], ◌∷◌, ◌++◌, Result, Ok, Err, codes}
 use Rattle.std.specs.Option.{ForSome}
-use Rattle.jb_area_open.specs.Opening.{FaultRose, IsRecovered, OpensAsAtStart, Refuses}
+use Rattle.jb_area_open.specs.Opening.{OpeningFaultRose, IsRecovered, OpensAsAtStart, Refuses}
 use Rattle.jb_area_open.specs.declared.error.OpeningError.TheVariants.{BadJournal as bad_journal, Base}
 use Rattle.jb_base.specs.declared.area.AreaRules.{AreaRules}
 use Rattle.jb_base.specs.declared.area.Kind.TheVariants.{Local}
@@ -85,7 +85,7 @@ pub record IsTended (command : Command) (answer : Answer) (was : Files) (after :
 abbrev pub IsNotTended : Device → Device → OpenError → Type 0
 IsNotTended before after error =
     ((error ≡ no_memory) × (after ≡ before))
-    ⊎ (Refuses MOST_SLOTS before after (Base error) × FaultRose before.faults after.faults (Base error))
+    ⊎ (Refuses MOST_SLOTS before after (Base error) × OpeningFaultRose before.faults after.faults (Base error))
 
 -- a tool that has this command done
 abbrev pub Tends : Command → Device → Device → Answer → Type 0

@@ -1,4 +1,4 @@
-use Rattle.std.proofs.Common.{◌≡◌, ◌+◌, ◌-◌, ◌≤◌, ap, arith, length, length-drop}
+use Rattle.std.proofs.Common.{◌-◌, ap, arith, length, length-drop}
 use Rattle.jb_link.specs.Slots.{linkables_from}
 use Rattle.jb_model.specs.declared.loaded.Loaded.{Loaded}
 use Rattle.jb_pack.proofs.HeldLemmas.{length-packed}

@@ -11,14 +11,14 @@ use Rattle.jb_decide.proofs.DecidedLemmas.{no_pack, of_letter, same_message, unc
 use Rattle.jb_decide.proofs.reading.decide_peek.Goals as goal
 
 pub returns-in-Err-clause-decided : goal.returns-in-Err-clause-decided
-returns-in-Err-clause-decided g c = λ moment redo texts are.
-    unchanged_decided c.args.rules.now c.args.held.now.loaded texts (g.D.Disk.device c.args.disk.now).contents redo c.args.user.now moment _ c.unchanged.result c.in-Err.reply c.unchanged.ensures.reply c.unchanged.ensures.pending
-    (no_pack c.in-Err.reply c.in-Err.ensures.refused.refusal) (λ told. c.in-Err.ensures.refused.step texts moment)
+returns-in-Err-clause-decided g c = rw (← c.loaded-loaded.ensures) (λ moment redo texts are.
+    unchanged_decided c.args.rules.now c.loaded-loaded.result.now texts (g.D.Disk.device c.args.disk.now).contents redo c.args.user.now moment _ c.unchanged.result c.in-Err.reply c.unchanged.ensures.reply c.unchanged.ensures.pending
+    (no_pack c.in-Err.reply c.in-Err.ensures.refused.refusal) (λ told. c.in-Err.ensures.refused.step texts moment))
 
 pub returns-in_ok-shown-in-Ok-clause-decided : goal.returns-in_ok-shown-in-Ok-clause-decided
-returns-in_ok-shown-in-Ok-clause-decided g c = λ moment redo texts are.
+returns-in_ok-shown-in-Ok-clause-decided g c = rw (← c.loaded-loaded.ensures) (λ moment redo texts are.
     let is = c.in-Ok.ensures.done in
-    let from = c.args.held.now.loaded in
+    let from = c.loaded-loaded.result.now in
     let message : LoadedMessage = c.message_at-message.result.now in
     let same : message ≡ is.message = same_message from c.in-Ok.place message is.message c.message_at-message.ensures is.named.here in
     let letter : Letter = c.in_ok-shown-in-Ok.shown in
@@ -28,4 +28,4 @@ returns-in_ok-shown-in-Ok-clause-decided g c = λ moment redo texts are.
     (sym (of_letter (g.D.Disk.device c.args.disk.now).contents letter _ told (λ files there. c.in_ok-shown-in-Ok.ensures
     ∙ ap (λ (t : List ℕ). letter_of c.args.number (shown message.head message t)) (c.in_ok-text-in-Ok.ensures.found files there ∙ ap (λ (t : List ℕ). text_of t message) (are.told files there))
     ∙ ap (λ (m : LoadedMessage). letter_of c.args.number (with_text texts m)) same)))
-    (is.step texts moment))
+    (is.step texts moment)))

@@ -6,7 +6,7 @@ use Rattle.jb_area.proofs.area.OpenArea.begin_pack.Goals as goal
 pub decide_pack-decided-requires-clause-holds : goal.decide_pack-decided-requires-clause-holds
 decide_pack-decided-requires-clause-holds g c =
     let has = c.requires.rests in
-    holds_own c.args.self.now.held.loaded has.texts (g.D.Disk.device c.args.self.now.disk) has.rests.kept.settled
+    holds_own c.args.self.now.held has.texts (g.D.Disk.device c.args.self.now.disk) has.rests.kept.settled
 
 pub returns-clause-begins : goal.returns-clause-begins
 returns-clause-begins g c = λ moment.

@@ -5,7 +5,7 @@ use Rattle.jb_area.proofs.area.OpenArea.begin_read.Goals as goal
 pub decide_read-decided-requires-clause-holds : goal.decide_read-decided-requires-clause-holds
 decide_read-decided-requires-clause-holds g c =
     let has = c.requires.rests in
-    holds_own c.args.self.now.held.loaded has.texts (g.D.Disk.device c.args.self.now.disk) has.rests.kept.settled
+    holds_own c.args.self.now.held has.texts (g.D.Disk.device c.args.self.now.disk) has.rests.kept.settled
 
 pub returns : goal.returns
 returns g c =

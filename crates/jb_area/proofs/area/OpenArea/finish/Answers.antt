@@ -1,7 +1,7 @@
 use Rattle.std.proofs.Common.{None, Some, refl, sym, ◌∙◌}
 use Rattle.jb_area.proofs.CommitLemmas.{idle_opens}
 use Rattle.jb_area.proofs.DoubtLemmas.{doubt_reads}
-use Rattle.jb_area.proofs.StageLemmas.{between, fits, live, made_change, made_nothing, may_commit, numbered, rests_changed, rests_unchanged, some_change, some_in}
+use Rattle.jb_area.proofs.StageLemmas.{between, made_change, made_nothing, may_apply, may_commit, rests_changed, rests_unchanged, some_change, some_in}
 use Rattle.jb_area.proofs.area.OpenArea.finish.Goals as goal
 
 pub returns-in-Nothing-clause-done : goal.returns-in-Nothing-clause-done
@@ -25,12 +25,12 @@ returns-in-Err-clause-idle g c = λ none.
 
 pub returns-in-Ok-clause-made : goal.returns-in-Ok-clause-made
 returns-in-Ok-clause-made g c =
-    made_change g.D.Disk.device c.args.self.now c.in-Begun.reply c.in-Begun.pending (sym c.replace.ensures.value ∙ c.in-Begun.is) c.commit_change.new.disk c.apply.new.held None c.replace.new.dest c.in_use.result.now
+    made_change g.D.Disk.device c.args.self.now c.in-Begun.reply c.in-Begun.pending (sym c.replace.ensures.value ∙ c.in-Begun.is) c.commit_change.new.disk c.apply.new.self None c.replace.new.dest c.in_use.result.now
     c.in_use.ensures c.in_default-pending.not-Nothing c.in-Ok.ensures.made
 
 pub returns-in-Nothing-clause-crash : goal.returns-in-Nothing-clause-crash
 returns-in-Nothing-clause-crash g c = λ texts decided coming begun was there.
-    idle_opens c.args.self.now.held.loaded texts coming (g.D.Disk.device c.args.self.now.disk) was there begun.kept.settled
+    idle_opens c.args.self.now.held texts coming (g.D.Disk.device c.args.self.now.disk) was there begun.kept.settled
 
 pub commit_change-requires : goal.commit_change-requires
 commit_change-requires g c =
@@ -39,12 +39,12 @@ commit_change-requires g c =
 
 pub returns-in-Ok-clause-done : goal.returns-in-Ok-clause-done
 returns-in-Ok-clause-done g c = λ texts decided coming begun.
-    rests_changed g.D.Disk.device c.args.self.now texts decided coming begun c.in-Begun.reply c.in-Begun.pending c.commit_change.new.disk c.apply.new.held None c.replace.new.dest c.in_use.result.now
-    c.in_use.ensures (sym c.replace.ensures.value ∙ c.in-Begun.is) c.in_default-pending.not-Nothing refl c.replace.ensures.after c.apply.ensures.loaded c.apply.ensures.whole c.in-Ok.ensures.done
+    rests_changed g.D.Disk.device c.args.self.now texts decided coming begun c.in-Begun.reply c.in-Begun.pending c.commit_change.new.disk c.apply.new.self None c.replace.new.dest c.in_use.result.now
+    c.in_use.ensures (sym c.replace.ensures.value ∙ c.in-Begun.is) c.in_default-pending.not-Nothing refl c.replace.ensures.after c.apply.ensures c.in-Ok.ensures.done
 
 pub returns-in-Ok-clause-crash : goal.returns-in-Ok-clause-crash
 returns-in-Ok-clause-crash g c = λ texts decided coming begun was there.
-    c.in-Ok.ensures.crash c.args.self.now.held.loaded texts coming begun.kept.settled
+    c.in-Ok.ensures.crash c.args.self.now.held texts coming begun.kept.settled
     (some_in g.D.Disk.device c.args.self.now texts decided coming begun c.in-Begun.reply c.in-Begun.pending c.in_use.result.now c.in_use.ensures (sym c.replace.ensures.value ∙ c.in-Begun.is) c.in_default-pending.not-Nothing).change was there
 
 pub returns-in-Err-clause-doubt : goal.returns-in-Err-clause-doubt
@@ -58,16 +58,11 @@ returns-in-Err-clause-opens g c = λ texts decided coming begun.
 
 pub returns-in-Err-clause-crash : goal.returns-in-Err-clause-crash
 returns-in-Err-clause-crash g c = λ texts decided coming begun was there.
-    c.in-Err.ensures.crash c.args.self.now.held.loaded texts coming begun.kept.settled
+    c.in-Err.ensures.crash c.args.self.now.held texts coming begun.kept.settled
     (some_in g.D.Disk.device c.args.self.now texts decided coming begun c.in-Begun.reply c.in-Begun.pending c.in_use.result.now c.in_use.ensures (sym c.replace.ensures.value ∙ c.in-Begun.is) c.in_default-pending.not-Nothing).change was there
 
 pub apply-requires : goal.apply-requires
 apply-requires g c =
     let has = c.requires.begun in
     let is = sym c.replace.ensures.value ∙ c.in-Begun.is in
-    record {
-      whole = has.begun.kept.ruled.whole;
-      fit = fits g.D.Disk.device c.args.self.now has.texts has.reply has.coming has.begun c.in-Begun.reply c.in-Begun.pending is c.in_default-pending.not-Nothing;
-      live = live g.D.Disk.device c.args.self.now has.texts has.reply has.coming has.begun c.in-Begun.reply c.in-Begun.pending is c.in_default-pending.not-Nothing;
-      numbers = numbered g.D.Disk.device c.args.self.now has.texts has.reply has.coming has.begun c.in-Begun.reply c.in-Begun.pending is c.in_default-pending.not-Nothing;
-    }
+    record { may = may_apply g.D.Disk.device c.args.self.now has.texts has.reply has.coming has.begun c.in-Begun.reply c.in-Begun.pending is c.in_default-pending.not-Nothing }

@@ -1,14 +1,10 @@
-use Rattle.std.proofs.Common.{ℕ, List, ◌∙◌, ap, refl, subst}
-use Rattle.std.specs.Prelude.{map, []}
-use Rattle.jb_model.specs.Live.{live_count}
-use Rattle.jb_model.specs.State.{slot_state}
-use Rattle.jb_model.specs.declared.loaded.LoadedSlot.{LoadedSlot}
+use Rattle.std.proofs.Common.{ℕ, List, refl, subst}
 use Rattle.jb_area.specs.Holds.{IsAtRest}
 use Rattle.jb_area.proofs.StartLemmas.{some_texts}
 use Rattle.jb_area.proofs.area.OpenArea.from_loaded.Goals as goal
 
 pub returns-clause-rests : goal.returns-clause-rests
-returns-clause-rests g c = λ texts are. record {
+returns-clause-rests g c = rw c.in-Ok.ensures (λ texts are. record {
   stage = refl;
   small = refl;
   kept = record {
@@ -17,7 +13,6 @@ returns-clause-rests g c = λ texts are. record {
       address = c.requires.address;
       sound = c.requires.sound;
       sized = are.sized;
-      whole = record { live = c.count_live-live.ensures ∙ ap (λ (l : List LoadedSlot). live_count (map (slot_state []) l)) c.as_slice.ensures; marks = c.in-Ok.ensures.marks; room = c.in-Ok.ensures.room; replies = c.in-Ok-replies_of.ensures.index; reply_room = c.in-Ok-replies_of.ensures.room };
       room = c.in-Ok-small_redo.ensures;
     };
     settled = record {
@@ -25,7 +20,7 @@ returns-clause-rests g c = λ texts are. record {
       synced = c.requires.synced;
     };
   };
-}
+})
 
 pub returns-clause-rest : goal.returns-clause-rest
 returns-clause-rest g c =

@@ -1,6 +1,6 @@
 use Rattle.std.proofs.Common.{None, Bool, refl, sym, subst, ◌∙◌}
 use Rattle.jb_area.specs.Commits.{IsAnsweredAs}
-use Rattle.jb_area.proofs.DoubtLemmas.{at_doubt, crashes, doubt_reads, falls, fits, idle, live, may_settle, numbered, stands, still, whole_is}
+use Rattle.jb_area.proofs.DoubtLemmas.{at_doubt, crashes, doubt_reads, falls, idle, may_apply, may_settle, stands, still}
 use Rattle.jb_area.proofs.area.OpenArea.reopen.Goals as goal
 
 pub unreachable-requires : goal.unreachable-requires
@@ -21,7 +21,7 @@ settle_change-requires g c =
 pub returns-in-Ok-true-clause-settled : goal.returns-in-Ok-true-clause-settled
 returns-in-Ok-true-clause-settled g c =
     stands g.D.Disk.device c.args.self.now c.in-Doubtful.stopped c.in-Doubtful.pending (sym c.replace.ensures.value ∙ c.in-Doubtful.is) c.in_default-pending.not-Nothing c.in_use.result.now c.in_use.ensures
-    c.settle_change.new.disk c.apply.new.held None c.replace.new.dest refl c.replace.ensures.after c.apply.ensures.loaded c.apply.ensures.whole
+    c.settle_change.new.disk c.apply.new.self None c.replace.new.dest refl c.replace.ensures.after c.apply.ensures
     (λ from texts coming doubt is. subst (λ (b : Bool). IsAnsweredAs b from texts coming (g.D.Disk.device c.settle_change.new.disk)) c.in-Ok-true.field-0-test (c.in-Ok-true.ensures.answer from texts coming doubt is))
 
 pub returns-in-Ok-true-clause-crash : goal.returns-in-Ok-true-clause-crash
@@ -57,9 +57,4 @@ pub apply-requires : goal.apply-requires
 apply-requires g c =
     let has = c.requires.doubt in
     let is = sym c.replace.ensures.value ∙ c.in-Doubtful.is in
-    record {
-      whole = whole_is g.D.Disk.device c.args.self.now c.in-Doubtful.stopped c.in-Doubtful.pending is c.in_default-pending.not-Nothing has.texts has.coming has.doubt;
-      fit = fits g.D.Disk.device c.args.self.now c.in-Doubtful.stopped c.in-Doubtful.pending is c.in_default-pending.not-Nothing has.texts has.coming has.doubt;
-      live = live g.D.Disk.device c.args.self.now c.in-Doubtful.stopped c.in-Doubtful.pending is c.in_default-pending.not-Nothing has.texts has.coming has.doubt;
-      numbers = numbered g.D.Disk.device c.args.self.now c.in-Doubtful.stopped c.in-Doubtful.pending is c.in_default-pending.not-Nothing has.texts has.coming has.doubt;
-    }
+    record { may = may_apply g.D.Disk.device c.args.self.now c.in-Doubtful.stopped c.in-Doubtful.pending is c.in_default-pending.not-Nothing has.texts has.coming has.doubt }

@@ -1,18 +1,18 @@
-//! What was committed is changed in the area as it is loaded, without memory.
+//! What a command changes, done in the area as it is loaded, without memory.
 ghost use Rattle.std.specs.Prelude.{◌≡◌, ◌<◌, ◌≤◌, ◌+◌, All, length};
+ghost use Rattle.jb_marks.specs.Order.{IsOrdered};
 ghost use Rattle.jb_model.specs.Loaded.{with_message_behind};
-ghost use Rattle.jb_decide.specs.Held.{IsKeptWhole};
-ghost use Rattle.jb_decide.specs.Pending.{IsFit, IsLinkFit, IsSlotFit, HasLengths, after, changed_by, headed_at, linked_by, live_after};
-ghost use Rattle.jb_decide.specs.declared.pending.Pending.TheVariants.{Marked, Packed};
+ghost use Rattle.jb_model.specs.Marks.{with_mark};
+ghost use Rattle.jb_decide.specs.Pending.{IsFit, IsLinkFit, IsSlotFit, HasLengths, after, changed_by, headed_at, linked_by};
+ghost use Rattle.jb_decide.specs.declared.pending.Pending.TheVariants.{Marked};
 ghost use Rattle.jb_link.specs.Plan.{loaded_at};
 ghost use Rattle.jb_replies.specs.Index.{IsIndexOf};
-ghost use Rattle.jb_step.specs.After.{live_messages};
 ghost use Rattle.jb_step.specs.Relink.{IsPlaced, with_links_in, with_links_of};
 ghost use Rattle.jb_base.specs.declared.limits.TheConstants.{MOST_MARKS, MOST_SLOTS};
 
-use jb_decide::{Held, Pending, SlotChange};
+use crate::pending::SlotChange;
+use jb_marks::MarkIndex;
 use jb_model::{Head, Links, Loaded, LoadedMessage, LoadedSlot, Mark};
-use jb_pack::pack_loaded;
 use jb_replies::Replies;
 use jb_step::Neighbour;
 
@@ -73,7 +73,7 @@ fn set_plan(loaded: &mut Loaded, plan: &[Links])
 }
 
 /// Changes the slots, and the index of the replies with them.
-fn change_slots(loaded: &mut Loaded, replies: &mut Replies, change: SlotChange)
+pub(crate) fn change_slots(loaded: &mut Loaded, replies: &mut Replies, change: SlotChange)
     requires fit { IsSlotFit change loaded.old }
     requires index { IsIndexOf replies.old loaded.old }
     requires room { length loaded.old.slots + replies.old.room ≡ MOST_SLOTS }
@@ -101,69 +101,27 @@ fn change_slots(loaded: &mut Loaded, replies: &mut Replies, change: SlotChange)
     }
 }
 
-/// Sets the loaded mark at this place; where there is none, puts it behind the others.
-fn set_loaded_mark(loaded: &mut Loaded, place: Option<usize>, mark: Mark)
+/// Sets the loaded mark at this place; where there is none, puts it behind the others, and its place into the index.
+pub(crate) fn set_loaded_mark(
+    loaded: &mut Loaded,
+    index: &mut MarkIndex,
+    place: Option<usize>,
+    mark: Mark,
+)
     requires fit { IsFit (Marked place mark) loaded.old }
-    ensures { loaded.new ≡ after (Marked place mark) loaded.old }
+    requires index { IsOrdered loaded.old.marks index.old.order }
+    requires room { MOST_MARKS ≤ index.old.room }
+    ensures loaded { loaded.new ≡ after (Marked place mark) loaded.old }
+    ensures index { IsOrdered (with_mark mark loaded.old.marks) index.new.order }
+    ensures room { MOST_MARKS ≤ index.new.room }
 {
     match place {
         Some(place) => loaded.marks.set(place, mark),
         None => {
+            index.add(loaded.marks.as_slice(), mark);
             let Ok(()) = loaded.marks.push(mark) else {
                 unreachable!()
             };
         }
-    }
-}
-
-/// Sets the mark at this place; where there is none, puts it behind the others.
-fn set_mark(held: &mut Held, place: Option<usize>, mark: Mark)
-    requires whole { IsKeptWhole held.old }
-    requires fit { IsFit (Marked place mark) held.old.loaded }
-    ensures loaded { held.new.loaded ≡ after (Marked place mark) held.old.loaded }
-    ensures whole { IsKeptWhole held.new }
-{
-    set_loaded_mark(&mut held.loaded, place, mark);
-    held.marks.set(mark);
-}
-
-/// Packs the area with this base and these links, and takes this index of its replies.
-fn pack(held: &mut Held, plan: &[Links], base: u32, replies: Replies)
-    requires whole { IsKeptWhole held.old }
-    requires fit { IsFit (Packed plan.now base replies) held.old.loaded }
-    ensures loaded { held.new.loaded ≡ after (Packed plan.now base replies) held.old.loaded }
-    ensures whole { IsKeptWhole held.new }
-{
-    pack_loaded(&mut held.loaded, plan, base);
-    held.replies = replies;
-}
-
-/// Changes the area as the call that was begun said. Takes no memory.
-pub(crate) fn apply(held: &mut Held, pending: Pending)
-    requires whole { IsKeptWhole held.old }
-    requires fit { IsFit pending held.old.loaded }
-    requires live { live_messages (after pending held.old.loaded) ≡ live_after pending held.old.live }
-    requires numbers { (after pending held.old.loaded).base + length (after pending held.old.loaded).slots ≤ 4_294_967_295 }
-    ensures loaded { held.new.loaded ≡ after pending held.old.loaded }
-    ensures whole { IsKeptWhole held.new }
-{
-    match pending {
-        Pending::Nothing => {}
-        Pending::Counted {
-            change,
-            counter,
-            active,
-        } => {
-            change_slots(&mut held.loaded, &mut held.replies, change);
-            held.loaded.counter = counter;
-            held.loaded.active = active;
-            held.live = active;
-        }
-        Pending::Marked { place, mark } => set_mark(held, place, mark),
-        Pending::Packed {
-            plan,
-            base,
-            replies,
-        } => pack(held, plan.as_slice(), base, replies),
     }
 }

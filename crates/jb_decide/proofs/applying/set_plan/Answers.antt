@@ -5,7 +5,7 @@ use Rattle.jb_model.specs.declared.links.Links.{Links}
 use Rattle.jb_model.specs.declared.loaded.Loaded.{Loaded}
 use Rattle.jb_step.specs.Relink.{IsPlaced, with_links_in}
 use Rattle.jb_decide.proofs.RelinkLemmas.{plan_step, still_placed}
-use Rattle.jb_area.proofs.applying.set_plan.Goals as goal
+use Rattle.jb_decide.proofs.applying.set_plan.Goals as goal
 
 pub set_links_in-requires : goal.set_links_in-requires
 set_links_in-requires c =
