@@ -1,5 +1,5 @@
 -- The texts of an area as they are copied, part by part.
-use Rattle.std.proofs.Common.{◌≡◌, ℕ, zero, suc, ◌+◌, ◌≤◌, List, [], ◌∷◌, ◌++◌, Option, length, take, drop, All, refl, sym, ◌∙◌, ap, arith, append_assoc, length-append}
+use Rattle.std.proofs.Common.{◌≡◌, ◌≢◌, inl, inr, ℕ, zero, suc, ◌+◌, ◌≤◌, List, [], ◌∷◌, ◌++◌, Option, length, min, take, drop, All, refl, sym, ◌∙◌, ap, arith, append_assoc, length-append}
 use Rattle.std.specs.Option.{ForSome}
 use Rattle.std.proofs.lemmas.List.{append-nil, drop-drop}
 use Rattle.std.proofs.lemmas.List.Sums.{sum_by-cons}
@@ -10,16 +10,17 @@ use Rattle.jb_disk.specs.Change.{Change}
 use Rattle.jb_disk.specs.Files.{Files}
 use Rattle.jb_disk.specs.declared.file.FileId.TheVariants.{Jdt}
 use Rattle.jb_image.specs.Places.{bytes_at}
-use Rattle.jb_model.specs.Sound.{IsSlotWithin}
+use Rattle.jb_model.specs.Sound.{IsSlotWithin, IsTextWithin}
 use Rattle.jb_model.specs.State.{text_of}
 use Rattle.jb_model.specs.declared.loaded.Loaded.{Loaded}
 use Rattle.jb_model.specs.declared.loaded.LoadedMessage.{LoadedMessage}
 use Rattle.jb_model.specs.declared.loaded.LoadedSlot.{LoadedSlot}
 use Rattle.jb_model.specs.declared.loaded.LoadedSlot.TheVariants.{Empty, Killed, Live}
-use Rattle.jb_pack.specs.Copying.{IsJoined, IsRun, PutsRun, PutsTexts}
+use Rattle.jb_pack.specs.Copying.{PutsRun, PutsTexts}
 use Rattle.jb_pack.specs.Laid.{Lays, laid}
 use Rattle.jb_pack.specs.Packed.{slot_text_size, texts_in, texts_size}
-use Rattle.jb_pack.specs.declared.texts.Run.{Run}
+use Rattle.jb_pack.specs.Runs.{IsJoined, IsPlaced, IsRun}
+use Rattle.jb_pack.specs.declared.run.Run.{Run}
 use Rattle.jb_pack.proofs.SlotLemmas.{keeps_then, lays_fewer, lays_none, lays_then}
 
 -- nothing has no first bytes
@@ -41,6 +42,26 @@ take-more (suc n) m (byte ∷ bytes) =
 pub bytes-more : (at n m : ℕ) (bytes : List ℕ) → bytes_at at (n + m) bytes ≡ bytes_at at n bytes ++ bytes_at (at + n) m bytes
 bytes-more at n m bytes = take-more n m (drop at bytes) ∙ ap (λ (l : List ℕ). take n (drop at bytes) ++ take m l) (drop-drop n at bytes)
 
+-- the text of a message lies within .JDT, or has no byte
+pub text_placed : (texts_len at len : ℕ) → IsTextWithin texts_len at len → IsPlaced (min texts_len TEXTS_CEILING) (record { at = at; len = len })
+text_placed texts_len at len within = record {
+  inside = elim within.placed [
+    | inl none ↦ inl none
+    | inr there ↦
+        let inside = there.0 in
+        let below = there.1 in
+        inr (omega arith)
+  ];
+  short = within.short;
+}
+
+-- a text that has bytes is a part to read
+pub text_run : (end : ℕ) (run : Run) → run.len ≢ 0 → IsPlaced end run → IsRun end run
+text_run end run some placed = record {
+  inside = elim placed.inside [ inl none ↦ absurd (some none) | inr there ↦ there ];
+  short = placed.short;
+}
+
 module _ (loaded : Loaded) (contents : Option Files) (slots : List LoadedSlot) (start : Change) where
   -- some texts are put, a part is to follow, and these slots are left
   pub record IsCopied (redo : Change) (run : Run) (end count : ℕ) (rest : List LoadedSlot) : Type 0 where
@@ -50,7 +71,7 @@ module _ (loaded : Loaded) (contents : Option Files) (slots : List LoadedSlot) (
     pub size : length done + run.len + texts_size rest ≡ texts_size slots
     pub end_is : end ≡ length (laid redo.pieces Jdt)
     pub done_is : end ≡ length done
-    pub run_is : IsRun loaded.texts_len run
+    pub run_is : IsRun (min loaded.texts_len TEXTS_CEILING) run
     pub within : All (IsSlotWithin loaded.headers_len loaded.texts_len) rest
     pub room : KeepsRoom start redo
 
@@ -64,7 +85,7 @@ module _ (loaded : Loaded) (contents : Option Files) (slots : List LoadedSlot) (
     size = omega arith;
     end_is = sym begin;
     done_is = refl;
-    run_is = record { inside = omega arith; below = omega arith; short = omega arith };
+    run_is = record { inside = omega arith; short = omega arith };
     within = within;
     room = record { for_lengths = omega arith; for_pieces = omega arith; for_bytes = omega arith };
   }
@@ -98,7 +119,7 @@ module _ (loaded : Loaded) (contents : Option Files) (slots : List LoadedSlot) (
 
   -- a text that stands right behind the part makes it longer
   pub copied_joined : (redo : Change) (run more : Run) (end count : ℕ) (message : LoadedMessage) (rest : List LoadedSlot)
-      → IsJoined run message more → IsRun loaded.texts_len more → IsCopied redo run end count (Live message ∷ rest) → IsCopied redo more end (count + 1) rest
+      → IsJoined run (record { at = message.text_at; len = message.text_len }) more → IsRun (min loaded.texts_len TEXTS_CEILING) more → IsCopied redo run end count (Live message ∷ rest) → IsCopied redo more end (count + 1) rest
   copied_joined redo run more end count message rest joined run_is copied = record {
     done = copied.done;
     lays = lays_fewer Jdt count (count + 1) copied.done start redo (omega arith) copied.lays;
@@ -117,7 +138,7 @@ module _ (loaded : Loaded) (contents : Option Files) (slots : List LoadedSlot) (
 
   -- another text begins a part of its own, once the part before it is put
   pub copied_next : (redo redo' : Change) (run : Run) (end next count : ℕ) (message : LoadedMessage) (rest : List LoadedSlot)
-      → PutsRun contents run redo redo' → next ≡ end + run.len → KeepsRoom redo redo' → IsRun loaded.texts_len (record { at = message.text_at; len = message.text_len })
+      → PutsRun contents run redo redo' → next ≡ end + run.len → KeepsRoom redo redo' → IsRun (min loaded.texts_len TEXTS_CEILING) (record { at = message.text_at; len = message.text_len })
       → IsCopied redo run end count (Live message ∷ rest) → IsCopied redo' (record { at = message.text_at; len = message.text_len }) next (count + 1) rest
   copied_next redo redo' run end next count message rest puts next_is keeps run_is copied = record {
     done = copied.done ++ puts.bytes;

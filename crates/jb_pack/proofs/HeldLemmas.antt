@@ -294,7 +294,7 @@ module _ (after : Files) where
         (next_live number header_at text_at place front index message slots laid) k d (omega (arith, low)))
 
 -- files that hold an area have whole subfields
-pub fields_held : (files : Files) (loaded : Loaded) → Loads files loaded → All HasFields loaded.slots
+pub fields_held : (files : Files) (loaded : Loaded) → Loads loaded files → All HasFields loaded.slots
 fields_held files loaded loads k d low = of_slot (slice_index_or loaded.slots k d) (loads.slots k d low)
   where
     of_slot : (slot : LoadedSlot) → HasSlot files (entry_in files k) slot → HasFields slot
@@ -313,7 +313,7 @@ unfolding fixed_header_bytes
 length-fixed loaded = omega arith
 
 -- files that hold an area have a thousand reserved bytes
-reserved_held : (files : Files) (loaded : Loaded) → Loads files loaded → length loaded.reserved ≡ 1000
+reserved_held : (files : Files) (loaded : Loaded) → Loads loaded files → length loaded.reserved ≡ 1000
 unfolding fixed_header_of
 reserved_held files loaded loads =
     let size = loads.header.size in
@@ -321,12 +321,12 @@ reserved_held files loaded loads =
     omega (arith, ap length same, length-drop 24 (bytes_at 0 1024 (files Jhr)))
 
 -- the fixed header after a pack has its 1,024 bytes
-fixed_size_is : (loaded : Loaded) (before : Files) → Loads before loaded → length (fixed_header_bytes (fixed_of (packed loaded))) ≡ 1024
+fixed_size_is : (loaded : Loaded) (before : Files) → Loads loaded before → length (fixed_header_bytes (fixed_of (packed loaded))) ≡ 1024
 fixed_size_is loaded before loads = omega (arith, length-fixed (packed loaded), reserved_held before loaded loads)
 
 -- all kept slots are laid out from the fixed header on
 pub laid_packed : (limit : ℕ) (loaded : Loaded) (before after : Files) → IsSound limit loaded → (packed loaded).texts_len ≤ TEXTS_CEILING
-    → IsReadAgain (packed loaded) → Loads before loaded → ArePacked loaded before after
+    → IsReadAgain (packed loaded) → Loads loaded before → ArePacked loaded before after
     → IsLaid after (linkables_from loaded.base loaded.slots) loaded.headers_len loaded.texts_len (new_base loaded) 1024 0 0 (fixed_header_bytes (fixed_of (packed loaded))) []
     (kept_slots loaded)
 laid_packed limit loaded before after sound fits back loads are =

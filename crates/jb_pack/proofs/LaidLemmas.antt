@@ -18,18 +18,18 @@ use Rattle.jb_disk.specs.declared.piece.Piece.TheVariants.{Bytes, Copy}
 use Rattle.jb_redo.specs.Replay.{span_of, spans_in, writes}
 use Rattle.jb_redo.specs.Record.{length_bytes, piece_bytes, record_bytes, record_end, record_head}
 use Rattle.jb_redo.proofs.SpanLemmas.{spans_in-here, spans_in-other}
-use Rattle.jb_pack.specs.Laid.{IsLaidOut, IsLegalIn, Lays, laid}
+use Rattle.jb_pack.specs.Laid.{IsLaidOut, IsLegalIn, Lays, laid, pieces_into}
 use Rattle.jb_change.specs.Makes.{record_size}
 use Rattle.jb_base.specs.Number.{number_bytes}
 use Rattle.jb_disk.specs.declared.piece.Length.{Length}
 
 -- spans behind others are written last
-patched-append : (first second : List Span) (old : List ℕ) → patched (first ++ second) old ≡ patched second (patched first old)
+pub patched-append : (first second : List Span) (old : List ℕ) → patched (first ++ second) old ≡ patched second (patched first old)
 patched-append [] second old = refl
 patched-append (span ∷ first) second old = patched-append first second (overwritten span.at span.bytes old)
 
 -- a place that the first have
-covered-first : (first second : List Span) (i : ℕ) → IsCovered first i → IsCovered (first ++ second) i
+pub covered-first : (first second : List Span) (i : ℕ) → IsCovered first i → IsCovered (first ++ second) i
 covered-first [] second i none = absurd none
 covered-first (span ∷ first) second i covered = elim covered [
   | inl here ↦ inl here
@@ -37,12 +37,12 @@ covered-first (span ∷ first) second i covered = elim covered [
 ]
 
 -- a place that the second have
-covered-second : (first second : List Span) (i : ℕ) → IsCovered second i → IsCovered (first ++ second) i
+pub covered-second : (first second : List Span) (i : ℕ) → IsCovered second i → IsCovered (first ++ second) i
 covered-second [] second i covered = covered
 covered-second (span ∷ first) second i covered = inr (covered-second first second i covered)
 
 -- the spans of pieces behind others
-spans-append : (files : Files) (first second : List Piece) (file : FileId) → spans_in files (first ++ second) file ≡ spans_in files first file ++ spans_in files second file
+pub spans-append : (files : Files) (first second : List Piece) (file : FileId) → spans_in files (first ++ second) file ≡ spans_in files first file ++ spans_in files second file
 spans-append files first second file =
     ap (map (span_of files)) (filter-append (writes file) first second) ∙ map-append (span_of files) (filter (writes file) first) (filter (writes file) second)
 
@@ -57,11 +57,9 @@ laid-one file other at bytes same =
     let kept : filter (writes other) (Bytes file at bytes ∷ []) ≡ Bytes file at bytes ∷ [] = grind (arith, nat_tests) in
     ap (flat_map bytes_of) kept ∙ append-nil bytes
 
--- and in another
-laid-none : (file other : FileId) (at : ℕ) (bytes : List ℕ) → number_of file ≢ number_of other → laid (Bytes file at bytes ∷ []) other ≡ []
-laid-none file other at bytes apart =
-    let none : filter (writes other) (Bytes file at bytes ∷ []) ≡ [] = grind (arith, nat_tests) in
-    ap (flat_map bytes_of) none
+-- it is written into no other
+into-none : (file other : FileId) (at : ℕ) (bytes : List ℕ) → number_of file ≢ number_of other → pieces_into (Bytes file at bytes ∷ []) other ≡ []
+into-none file other at bytes apart = grind (arith, nat_tests)
 
 -- a write right behind the front of a file makes the front longer
 longer_front : (front bytes old : List ℕ) (at : ℕ) → at ≡ length front → overwritten at bytes (front ++ drop (length front) old) ≡ (front ++ bytes) ++ drop (length (front ++ bytes)) old
@@ -90,12 +88,16 @@ module _ (pieces : List Piece) (file : FileId) (at : ℕ) (bytes : List ℕ) whe
   pub laid-here : laid more file ≡ laid pieces file ++ bytes
   laid-here = laid-append pieces (Bytes file at bytes ∷ []) file ∙ ap (λ (l : List ℕ). laid pieces file ++ l) (laid-one file file at bytes refl)
 
-  -- those of another file
+  -- the pieces of another file
+  pub into-other : (other : FileId) → other ≢ file → pieces_into more other ≡ pieces_into pieces other
+  into-other other apart =
+      filter-append (writes other) pieces (Bytes file at bytes ∷ [])
+      ∙ ap (λ (l : List Piece). pieces_into pieces other ++ l) (into-none file other at bytes (λ same. apart (number-injective other file (sym same))))
+      ∙ append-nil (pieces_into pieces other)
+
+  -- and their bytes
   pub laid-other : (other : FileId) → other ≢ file → laid more other ≡ laid pieces other
-  laid-other other apart =
-      laid-append pieces (Bytes file at bytes ∷ []) other
-      ∙ ap (λ (l : List ℕ). laid pieces other ++ l) (laid-none file other at bytes (λ same. apart (number-injective other file (sym same))))
-      ∙ append-nil (laid pieces other)
+  laid-other other apart = ap (flat_map bytes_of) (into-other other apart)
 
   -- no file has fewer
   laid-longer : (other : FileId) → length (laid pieces other) ≤ length (laid more other)
@@ -204,7 +206,7 @@ pub lays_one : (old new : Change) (file : FileId) (at : ℕ) (bytes : List ℕ) 
 lays_one old new file at bytes lengths_are pieces_are at_is base place short few = record {
   lengths = lengths_are;
   here = ap (λ (l : List Piece). laid l file) pieces_are ∙ laid-here old.pieces file at bytes;
-  others = λ other apart. ap (λ (l : List Piece). laid l other) pieces_are ∙ laid-other old.pieces file at bytes other apart;
+  others = λ other apart. ap (λ (l : List Piece). pieces_into l other) pieces_are ∙ into-other old.pieces file at bytes other apart;
   kept = λ was.
       subst IsLaidOut (sym pieces_are)
       (laid_out old.pieces file at bytes was at_is base place short (subst (λ (l : List Piece). length l < 2 ^ 32) pieces_are few));

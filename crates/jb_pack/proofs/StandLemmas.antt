@@ -70,7 +70,7 @@ module _ (after : Files) (live : List Linkable) (headers_len texts_len : ℕ) wh
 
 -- the messages of an area stand together in its files after a pack
 pub packed_together : (limit : ℕ) (loaded : Loaded) (before after : Files) → IsSound limit loaded → (packed loaded).texts_len ≤ TEXTS_CEILING
-    → IsReadAgain (packed loaded) → Loads before loaded → ArePacked loaded before after → StandTogether after (packed loaded).base 1024 0 (packed loaded).slots
+    → IsReadAgain (packed loaded) → Loads loaded before → ArePacked loaded before after → StandTogether after (packed loaded).base 1024 0 (packed loaded).slots
 packed_together limit loaded before after sound fits back loads are =
     let texts = are.texts in
     laid_together after (linkables_from loaded.base loaded.slots) loaded.headers_len loaded.texts_len (new_base loaded) 1024 0 0

@@ -128,34 +128,45 @@ sum_state f g P texts same (slot ∷ slots) each =
     omega (arith, sum_by-cons f (slot_state texts slot) (map (slot_state texts) slots), sum_by-cons g slot slots)
 
 -- the slots in front of the first live one, dropped
-from_rest : (g : LoadedSlot → ℕ) (number : ℕ) (slot : LoadedSlot) (slots : List LoadedSlot) → g slot ≡ 0
-    → (first : ℕ) → number + 1 ≤ first → sum_by g (drop (first - (number + 1)) slots) ≡ sum_by g slots → sum_by g (drop (first - number) (slot ∷ slots)) ≡ sum_by g (slot ∷ slots)
-from_rest g number slot slots none first above rest =
+from_rest : {X : Type 0} (F : List LoadedSlot → X) (number : ℕ) (slot : LoadedSlot) (slots : List LoadedSlot) → F (slot ∷ slots) ≡ F slots
+    → (first : ℕ) → number + 1 ≤ first → F (drop (first - (number + 1)) slots) ≡ F slots → F (drop (first - number) (slot ∷ slots)) ≡ F (slot ∷ slots)
+from_rest F number slot slots none first above rest =
     let one : first - number ≡ suc (first - (number + 1)) = omega arith in
-    ap (λ n. sum_by g (drop n (slot ∷ slots))) one ∙ rest ∙ omega (arith, sum_by-cons g slot slots)
+    ap (λ n. F (drop n (slot ∷ slots))) one ∙ rest ∙ sym none
 
--- a number that other slots than live ones do not add to: over the slots from the first live one on as over all
-sum_kept : (g : LoadedSlot → ℕ) → g Empty ≡ 0 → ((at : ℕ) → g (Killed at) ≡ 0) → (number last : ℕ) (slots : List LoadedSlot) → last ≡ number + length slots
+-- what no other slots than live ones bear on: of the slots from the first live one on as of all
+same_kept : {X : Type 0} (F : List LoadedSlot → X) → ((slots : List LoadedSlot) → F (Empty ∷ slots) ≡ F slots)
+    → ((at : ℕ) (slots : List LoadedSlot) → F (Killed at ∷ slots) ≡ F slots) → (number last : ℕ) (slots : List LoadedSlot) → last ≡ number + length slots
     → (number ≤ first_number_or last (live_from number (map (slot_state []) slots)))
-    × (sum_by g (drop (first_number_or last (live_from number (map (slot_state []) slots)) - number) slots) ≡ sum_by g slots)
-sum_kept g empty killed number last [] last_is = (omega arith, ap (sum_by g) (drop_all (last - number) [] (omega arith)))
-sum_kept g empty killed number last (Empty ∷ slots) last_is =
-    let rest = sum_kept g empty killed (number + 1) last slots (omega arith) in
+    × (F (drop (first_number_or last (live_from number (map (slot_state []) slots)) - number) slots) ≡ F slots)
+same_kept F empty killed number last [] last_is = (omega arith, ap F (drop_all (last - number) [] (omega arith)))
+same_kept F empty killed number last (Empty ∷ slots) last_is =
+    let rest = same_kept F empty killed (number + 1) last slots (omega arith) in
     let above = rest.0 in
-    (omega arith, from_rest g number Empty slots empty _ above rest.1)
-sum_kept g empty killed number last (Killed at ∷ slots) last_is =
-    let rest = sum_kept g empty killed (number + 1) last slots (omega arith) in
+    (omega arith, from_rest F number Empty slots (empty slots) _ above rest.1)
+same_kept F empty killed number last (Killed at ∷ slots) last_is =
+    let rest = same_kept F empty killed (number + 1) last slots (omega arith) in
     let above = rest.0 in
-    (omega arith, from_rest g number (Killed at) slots (killed at) _ above rest.1)
-sum_kept g empty killed number last (Live message ∷ slots) last_is =
+    (omega arith, from_rest F number (Killed at) slots (killed at slots) _ above rest.1)
+same_kept F empty killed number last (Live message ∷ slots) last_is =
     let none : number - number ≡ 0 = omega arith in
-    (omega arith, ap (λ n. sum_by g (drop n (Live message ∷ slots))) none)
+    (omega arith, ap (λ n. F (drop n (Live message ∷ slots))) none)
 
 -- the same of the slots that a pack keeps
+same_of_kept : {X : Type 0} (F : List LoadedSlot → X) → ((slots : List LoadedSlot) → F (Empty ∷ slots) ≡ F slots)
+    → ((at : ℕ) (slots : List LoadedSlot) → F (Killed at ∷ slots) ≡ F slots) → (loaded : Loaded) → F (kept_slots loaded) ≡ F loaded.slots
+same_of_kept F empty killed loaded =
+    (same_kept F empty killed loaded.base (loaded.base + length (map (slot_state []) loaded.slots)) loaded.slots
+    (omega (arith, length-map loaded.slots (slot_state [])))).1
+
+-- a number that other slots than live ones do not add to
 pub sum_of_kept : (g : LoadedSlot → ℕ) → g Empty ≡ 0 → ((at : ℕ) → g (Killed at) ≡ 0) → (loaded : Loaded) → sum_by g (kept_slots loaded) ≡ sum_by g loaded.slots
 sum_of_kept g empty killed loaded =
-    (sum_kept g empty killed loaded.base (loaded.base + length (map (slot_state []) loaded.slots)) loaded.slots
-    (omega (arith, length-map loaded.slots (slot_state [])))).1
+    same_of_kept (sum_by g) (λ slots. omega (arith, empty, sum_by-cons g Empty slots)) (λ at slots. omega (arith, killed at, sum_by-cons g (Killed at) slots)) loaded
+
+-- the texts of the slots that a pack keeps are all texts
+pub texts_of_kept : (texts : List ℕ) (loaded : Loaded) → packed_texts texts loaded ≡ texts_in texts loaded.slots
+texts_of_kept texts loaded = same_of_kept (texts_in texts) (λ slots. refl) (λ at slots. refl) loaded
 
 -- a text has its length where its slot lies within the files
 text_size_of : (headers_len texts_len : ℕ) (texts : List ℕ) → length texts ≡ texts_len → (slot : LoadedSlot) → IsSlotWithin headers_len texts_len slot

@@ -1,31 +1,17 @@
--- How texts are copied, in parts that are read at once.
-use Rattle.std.specs.Prelude.{◌≡◌, ℕ, ◌+◌, ◌≤◌, List, ◌++◌, length, Option}
+-- How texts are put, in parts that are read at once.
+use Rattle.std.specs.Prelude.{◌≡◌, ℕ, ◌+◌, List, length, Option}
 use Rattle.std.specs.Option.{ForSome}
-use Rattle.jb_base.specs.declared.limits.TheConstants.{MOST_TEXT_BYTES, TEXTS_CEILING}
 use Rattle.jb_base.specs.Fault.{Rose}
 use Rattle.jb_disk.specs.Change.{Change}
 use Rattle.jb_disk.specs.Files.{Files}
 use Rattle.jb_disk.specs.declared.file.FileId.TheVariants.{Jdt}
 use Rattle.jb_image.specs.Places.{bytes_at}
-use Rattle.jb_model.specs.State.{text_of}
-use Rattle.jb_model.specs.declared.loaded.LoadedMessage.{LoadedMessage}
 use Rattle.jb_model.specs.declared.loaded.LoadedSlot.{LoadedSlot}
 use Rattle.jb_pack.specs.Laid.{Lays}
 use Rattle.jb_pack.specs.Packed.{texts_in, texts_size}
 use Rattle.jb_pack.specs.declared.error.PackError.{PackError}
 use Rattle.jb_pack.specs.declared.error.PackError.TheVariants.{OutOfMemory, StoreFault}
-use Rattle.jb_pack.specs.declared.texts.Run.{Run}
-
--- the part lies within .JDT of this length and within its ceiling, and is read at once
-pub record IsRun (texts_len : ℕ) (run : Run) : Type 0 where
-  pub inside : run.at + run.len ≤ texts_len
-  pub below : run.at + run.len ≤ TEXTS_CEILING
-  pub short : run.len ≤ MOST_TEXT_BYTES
-
--- the part, and the text of the message right behind it
-pub record IsJoined (run : Run) (message : LoadedMessage) (more : Run) : Type 0 where
-  pub size : more.len ≡ run.len + message.text_len
-  pub bytes : (texts : List ℕ) → bytes_at more.at more.len texts ≡ bytes_at run.at run.len texts ++ text_of texts message
+use Rattle.jb_pack.specs.declared.run.Run.{Run}
 
 -- so many bytes more of .JDT, those of a part of it where the disk tells them
 pub record PutsRun (contents : Option Files) (run : Run) (old new : Change) : Type 0 where
@@ -42,6 +28,6 @@ pub record PutsTexts (contents : Option Files) (slots : List LoadedSlot) (old ne
   pub told : ForSome contents (λ files. bytes ≡ texts_in (files Jdt) slots)
 
 -- a fault has its cause: the disk's count rose; and want of memory hides none
-abbrev pub FaultRose : ℕ → ℕ → PackError → Type 0
-FaultRose before now StoreFault = Rose before now
-FaultRose before now OutOfMemory = now ≡ before
+abbrev pub PackFaultRose : ℕ → ℕ → PackError → Type 0
+PackFaultRose before now StoreFault = Rose before now
+PackFaultRose before now OutOfMemory = now ≡ before

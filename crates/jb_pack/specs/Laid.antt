@@ -11,9 +11,13 @@ use Rattle.jb_change.specs.Makes.{record_size}
 use Rattle.jb_redo.specs.Replay.{spans_in, writes}
 use Rattle.jb_redo.specs.Rules.{AreLegalBytes}
 
--- the bytes of the pieces that are written into a file, one behind another
+-- the pieces that are written into a file
+abbrev pub pieces_into : List Piece → FileId → List Piece
+pieces_into pieces file = filter (writes file) pieces
+
+-- the bytes that they bring with them, one behind another
 abbrev pub laid : List Piece → FileId → List ℕ
-laid pieces file = flat_map bytes_of (filter (writes file) pieces)
+laid pieces file = flat_map bytes_of (pieces_into pieces file)
 
 -- a piece with its bytes, which may stand in a record where the files have these lengths
 abbrev pub IsLegalIn : (FileId → ℕ) → Piece → Type 0
@@ -32,6 +36,6 @@ pub record IsLaidOut (pieces : List Piece) : Type 0 where
 pub record Lays (file : FileId) (count : ℕ) (bytes : List ℕ) (old new : Change) : Type 0 where
   pub lengths : new.lengths ≡ old.lengths
   pub here : laid new.pieces file ≡ laid old.pieces file ++ bytes
-  pub others : (other : FileId) → other ≢ file → laid new.pieces other ≡ laid old.pieces other
+  pub others : (other : FileId) → other ≢ file → pieces_into new.pieces other ≡ pieces_into old.pieces other
   pub kept : IsLaidOut old.pieces → IsLaidOut new.pieces
   pub size : record_size new ≤ record_size old + 12 * count + length bytes

@@ -1,8 +1,8 @@
 -- What the area after a pack stands for, and what its files hold.
-use Rattle.std.specs.Prelude.{◌≡◌, ℕ, ◌≤◌, List, length}
+use Rattle.std.specs.Prelude.{◌≡◌, ℕ, ◌≤◌, List, length, take}
 use Rattle.jb_base.specs.declared.limits.TheConstants.{TEXTS_CEILING}
 use Rattle.jb_disk.specs.Files.{Files}
-use Rattle.jb_disk.specs.declared.file.FileId.TheVariants.{Jhr, Jdt, Jdx, Jlr}
+use Rattle.jb_disk.specs.declared.file.FileId.TheVariants.{Jhr, Jdt, Jdx, Jlr, Ndt}
 use Rattle.jb_image.specs.Stands.{Loads}
 use Rattle.jb_model.specs.Pack.{packed_state}
 use Rattle.jb_model.specs.Sound.{IsSound}
@@ -10,6 +10,7 @@ use Rattle.jb_model.specs.State.{state_of}
 use Rattle.jb_model.specs.declared.loaded.Loaded.{Loaded}
 use Rattle.jb_pack.specs.Bytes.{IsReadAgain, headers_file, index_file}
 use Rattle.jb_pack.specs.Packed.{packed, packed_texts}
+use Rattle.jb_pack.specs.Shadow.{HasCopies, Shadow}
 
 -- with the texts put together, the loaded area after a pack stands for the packed state
 abbrev pub PacksAsDefined : Type 0
@@ -26,8 +27,13 @@ pub record ArePacked (loaded : Loaded) (before after : Files) : Type 0 where
 -- of files that hold an area, those with the bytes of the area after a pack hold that one, where it fits
 abbrev pub HoldsPacked : Type 0
 HoldsPacked = (limit : ℕ) (loaded : Loaded) (before after : Files) → IsSound limit loaded → (packed loaded).texts_len ≤ TEXTS_CEILING
-    → IsReadAgain (packed loaded) → Loads before loaded → ArePacked loaded before after → Loads after (packed loaded)
+    → IsReadAgain (packed loaded) → Loads loaded before → ArePacked loaded before after → Loads (packed loaded) after
 
 -- a sound area is sound after a pack, where it fits
 abbrev pub PackKeepsSound : Type 0
 PackKeepsSound = (limit : ℕ) (loaded : Loaded) → IsSound limit loaded → (packed loaded).texts_len ≤ TEXTS_CEILING → IsSound limit (packed loaded)
+
+-- what was copied stays so as long as .NDT is as it was and .JDT keeps the bytes that it had
+abbrev pub CopiesStay : Type 0
+CopiesStay = (shadow : Shadow) (before after : Files) → HasCopies shadow before → after Ndt ≡ before Ndt
+    → take (length (before Jdt)) (after Jdt) ≡ before Jdt → HasCopies shadow after

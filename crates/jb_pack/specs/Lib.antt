@@ -1,9 +1,15 @@
+pub mod Advance
 pub mod Bytes
 pub mod Copying
+pub mod Finish
 pub mod Laid
 pub mod Laws
 pub mod Moving
 pub mod Packed
 pub mod Places
 pub mod Plan
+pub mod Reaching
+pub mod Runs
+pub mod Shadow
 pub mod Standing
+pub mod Touching

@@ -1,6 +1,7 @@
 -- The change that packs an area, and what is answered with it.
 use Rattle.std.specs.Prelude.{◌≡◌, ◌≢◌, ℕ, ◌+◌, ◌*◌, ◌≤◌, List, [], ◌∷◌, length, Option, Some, None}
 use Rattle.std.specs.Option.{ForSome}
+use Rattle.jb_base.specs.declared.limits.TheConstants.{TEXTS_CEILING}
 use Rattle.jb_change.specs.Makes.{Brings, record_size}
 use Rattle.jb_disk.specs.Change.{Change, SameLists}
 use Rattle.jb_disk.specs.Files.{Files}
@@ -12,13 +13,15 @@ use Rattle.jb_journal.specs.Commit.{IsWritable}
 use Rattle.jb_model.specs.Pack.{pack_done, pack_refusal}
 use Rattle.jb_model.specs.State.{AreaState}
 use Rattle.jb_model.specs.declared.loaded.Loaded.{Loaded}
+use Rattle.jb_model.specs.declared.loaded.LoadedSlot.{LoadedSlot}
 use Rattle.jb_model.specs.declared.reply.Reply.TheVariants as reply
 use Rattle.jb_pack.specs.Bytes.{IsReadAgain, headers_file, index_file}
-use Rattle.jb_pack.specs.Laid.{IsLaidOut, laid}
-use Rattle.jb_pack.specs.Packed.{kept_slots, packed, packed_texts}
+use Rattle.jb_pack.specs.Laid.{IsLaidOut, laid, pieces_into}
+use Rattle.jb_pack.specs.Packed.{headers_size, kept_slots, killed_slots, live_slots, new_base, packed, packed_texts, texts_size}
 use Rattle.jb_pack.specs.Standing.{StandTogether}
 use Rattle.jb_pack.specs.declared.packing.Packing.{Packing}
 use Rattle.jb_pack.specs.declared.packing.Packing.TheVariants.{Fits, TextFull}
+use Rattle.jb_pack.specs.declared.sizes.Sizes.{Sizes}
 
 -- the lengths of .JHR, .JDT and .JDX with so many bytes of messages' headers and of texts, and so many slots
 abbrev pub lengths_with : ℕ → ℕ → ℕ → List Length
@@ -30,16 +33,34 @@ pub record PutsArea (loaded : Loaded) (old new : Change) : Type 0 where
   pub lengths : new.lengths ≡ old.lengths
   pub headers : laid new.pieces Jhr ≡ headers_file (packed loaded)
   pub index : laid new.pieces Jdx ≡ index_file (packed loaded)
-  pub others : (other : FileId) → other ≢ Jhr → other ≢ Jdx → laid new.pieces other ≡ laid old.pieces other
+  pub others : (other : FileId) → other ≢ Jhr → other ≢ Jdx → pieces_into new.pieces other ≡ pieces_into old.pieces other
   pub kept : IsLaidOut old.pieces → IsLaidOut new.pieces
   pub size : record_size new ≤ record_size old + 12 * (length (kept_slots loaded) + 2) + length (headers_file (packed loaded)) + length (index_file (packed loaded))
+  pub long : length (headers_file (packed loaded)) ≡ (packed loaded).headers_len
+  pub back : IsReadAgain (packed loaded)
+
+-- the slots have so many live and killed messages, and the live ones so many bytes of headers and of texts
+pub record AreSizesOf (slots : List LoadedSlot) (sizes : Sizes) : Type 0 where
+  pub live : sizes.live ≡ live_slots slots
+  pub killed : sizes.killed ≡ killed_slots slots
+  pub headers : sizes.headers ≡ headers_size slots
+  pub texts : sizes.texts ≡ texts_size slots
+
+-- the new lengths are put, and all of .JHR and .JDX after a pack, and nothing else
+pub record PutsBase (loaded : Loaded) (new : Change) : Type 0 where
+  pub lengths : new.lengths ≡ lengths_with (headers_size (kept_slots loaded)) (texts_size (kept_slots loaded)) (length (kept_slots loaded))
+  pub headers : laid new.pieces Jhr ≡ headers_file (packed loaded)
+  pub index : laid new.pieces Jdx ≡ index_file (packed loaded)
+  pub others : (other : FileId) → other ≢ Jhr → other ≢ Jdx → pieces_into new.pieces other ≡ []
+  pub laid_out : IsLaidOut new.pieces
+  pub size : record_size new ≤ 40 + 12 * (length (kept_slots loaded) + 2) + length (headers_file (packed loaded)) + length (index_file (packed loaded))
   pub long : length (headers_file (packed loaded)) ≡ (packed loaded).headers_len
   pub back : IsReadAgain (packed loaded)
 
 -- the files hold the area after a pack, with these texts, headers and index records in the order of the numbers without a
 -- gap, and in each live message's header its number
 pub record StandPacked (loaded : Loaded) (texts : List ℕ) (files : Files) : Type 0 where
-  pub loads : Loads files (packed loaded)
+  pub loads : Loads (packed loaded) files
   pub headers : files Jhr ≡ headers_file (packed loaded)
   pub index : files Jdx ≡ index_file (packed loaded)
   pub texts_are : files Jdt ≡ texts
@@ -48,7 +69,7 @@ pub record StandPacked (loaded : Loaded) (texts : List ℕ) (files : Files) : Ty
 -- the change packs the area, and may be committed; its texts are the packed ones, where the disk tells which there were
 pub record IsPackOf (contents : Option Files) (loaded : Loaded) (change : Change) : Type 0 where
   pub texts : List ℕ
-  pub brings : Brings change (λ files. Loads files loaded) (λ _. StandPacked loaded texts)
+  pub brings : Brings change (Loads loaded) (λ _. StandPacked loaded texts)
   pub writable : IsWritable change
   pub told : ForSome contents (λ files. texts ≡ packed_texts (files Jdt) loaded)
 
@@ -56,6 +77,11 @@ pub record IsPackOf (contents : Option Files) (loaded : Loaded) (change : Change
 abbrev pub AnswersPack : AreaState → Packing → Type 0
 AnswersPack state (Fits base live dropped) = (pack_refusal state ≡ None) × ((pack_done state).reply ≡ reply.Packed base live dropped)
 AnswersPack state (TextFull len) = pack_refusal state ≡ Some (reply.TextFull len)
+
+-- where it fits, the base is that after a pack
+abbrev pub IsPackingOf : Loaded → Packing → Type 0
+IsPackingOf loaded (Fits base live dropped) = (base ≡ new_base loaded) × (texts_size loaded.slots ≤ TEXTS_CEILING)
+IsPackingOf loaded (TextFull len) = Unit {0}
 
 -- where it fits, the change packs the area; where it does not, nothing is put
 abbrev pub PlansPack : Option Files → Loaded → Change → Change → Packing → Type 0

@@ -7,7 +7,8 @@ use jb_disk::DiskFailed;
 use std::alloc::{AllocError, AllocFailed};
 use thiserror::Error;
 
-/// Why [`plan`](crate::plan) makes no change. After either only the redo is another than before, and it is no change then.
+/// Why [`plan`](crate::plan) makes no change, or a [`Packer`](crate::Packer) copies nothing. After either of a plan only the
+/// redo is another than before, and it is no change then; what is left of a packer its calls say.
 #[derive(Clone, Copy, Debug, PartialEq, Eq, Error)]
 pub enum PackError {
     /// The device failed in this call; its count of faults rose.

@@ -1,5 +1,5 @@
 //! What a pack makes of an area as it is loaded.
-ghost use Rattle.jb_pack.specs.Laws.{HoldsPacked, PackKeepsSound, PacksAsDefined};
+ghost use Rattle.jb_pack.specs.Laws.{CopiesStay, HoldsPacked, PackKeepsSound, PacksAsDefined};
 
 /// The area after a pack, as it is loaded, stands for the packed state.
 ///
@@ -20,4 +20,12 @@ pub fn packed_is_held()
 /// It computes nothing: its contract is the law.
 pub fn pack_keeps_sound()
     ensures { PackKeepsSound }
+{}
+
+/// What a packer has copied stays so as long as .NDT is as it was and .JDT keeps the bytes that it had, as it does under
+/// each change of the area but a pack.
+///
+/// It computes nothing: its contract is the law.
+pub fn copies_stay()
+    ensures { CopiesStay }
 {}

@@ -9,9 +9,9 @@ ghost use Rattle.jb_link.specs.Plan.{plan_of};
 ghost use Rattle.jb_link.specs.Slots.{linkables};
 ghost use Rattle.jb_model.specs.Sound.{IsSound};
 ghost use Rattle.jb_model.specs.State.{state_of};
-ghost use Rattle.jb_pack.specs.Copying.{FaultRose};
-ghost use Rattle.jb_pack.specs.Packed.{headers_size, kept_slots, live_slots, new_base, texts_size};
-ghost use Rattle.jb_pack.specs.Plan.{AnswersPack, IsPackOf, PlansPack, lengths_with};
+ghost use Rattle.jb_pack.specs.Copying.{PackFaultRose};
+ghost use Rattle.jb_pack.specs.Packed.{kept_slots, new_base, texts_size};
+ghost use Rattle.jb_pack.specs.Plan.{AnswersPack, AreSizesOf, IsPackOf, IsPackingOf, PlansPack, PutsBase, lengths_with};
 
 use crate::files::put_area;
 use crate::sizes::{Sizes, first_live, sizes_of};
@@ -24,20 +24,21 @@ use jb_record::{FIXED_HEADER_BYTES, INDEX_RECORD_BYTES};
 use std::alloc::Global;
 
 /// Puts the new lengths of .JHR, .JDT and .JDX, and takes the room for all pieces at once: a header each slot at most, a
-/// part of the texts each slot at most, and a few more.
-fn put_lengths(redo: &mut Redo, sizes: Sizes, slots: usize) -> Result<(), OutOfMemory>
+/// part of the texts each slot at most, and a few more. The pieces will hold so many bytes of the texts.
+fn put_lengths(redo: &mut Redo, sizes: Sizes, slots: usize, held: u64) -> Result<(), OutOfMemory>
     requires no_lengths { redo.old.lengths ≡ [] }
     requires no_pieces { redo.old.pieces ≡ [] }
     requires headers { 1024 + sizes.headers ≤ HEADERS_CEILING }
     requires texts { sizes.texts ≤ TEXTS_CEILING }
     requires few { slots ≤ MOST_SLOTS }
+    requires held { held ≤ TEXTS_CEILING }
     ensures lengths { OnOk result (redo.new.lengths ≡ lengths_with sizes.headers sizes.texts slots) }
     ensures pieces { OnOk result (redo.new.pieces ≡ []) }
     ensures kept { KeepsRoom redo.old redo.new }
 {
     let headers = FIXED_HEADER_BYTES as u64 + sizes.headers;
     let index = (slots * INDEX_RECORD_BYTES) as u64;
-    redo.reserve(3, 2 * slots as u32 + 3, headers + sizes.texts + index)?;
+    redo.reserve(3, 2 * slots as u32 + 3, headers + held + index)?;
     redo.put_len(Length {
         file: FileId::Jhr,
         len: headers as u32,
@@ -62,6 +63,52 @@ fn kept_of(loaded: &Loaded, first: usize) -> &[LoadedSlot]
     &loaded.slots.as_slice()[first..]
 }
 
+/// Puts the new lengths, and all of .JHR and .JDX after a pack. The pieces will hold so many bytes of the texts.
+pub(crate) fn put_base(
+    alloc: Global,
+    redo: &mut Redo,
+    loaded: &Loaded,
+    links: &[Links],
+    base: u32,
+    sizes: Sizes,
+    held: u64,
+) -> Result<(), OutOfMemory>
+    requires sound { IsSound MOST_SLOTS loaded.now }
+    requires links { (texts : List ℕ) → links.now ≡ plan_of (linkables texts loaded.now) }
+    requires base { base ≡ new_base loaded.now }
+    requires sizes { AreSizesOf loaded.now.slots sizes }
+    requires fits { texts_size loaded.now.slots ≤ TEXTS_CEILING }
+    requires held { held ≤ TEXTS_CEILING }
+    requires no_lengths { redo.old.lengths ≡ [] }
+    requires no_pieces { redo.old.pieces ≡ [] }
+    ensures puts { OnOk result (PutsBase loaded.now redo.new) }
+    ensures room { KeepsRoom redo.old redo.new }
+{
+    let slots = kept_of(loaded, (base - loaded.base) as usize);
+    put_lengths(redo, sizes, slots.len(), held)?;
+    put_area(alloc, redo, loaded, slots, links, base, sizes.live)?;
+    Ok(())
+}
+
+/// What a pack of an area of these sizes comes to.
+pub(crate) fn packing_of(loaded: &Loaded, sizes: Sizes) -> Packing
+    requires sound { IsSound MOST_SLOTS loaded.now }
+    requires sizes { AreSizesOf loaded.now.slots sizes }
+    ensures answer { (texts : List ℕ) → length texts ≡ loaded.now.texts_len → AnswersPack (state_of texts loaded.now) result }
+    ensures fits { IsPackingOf loaded.now result }
+{
+    if sizes.texts > TEXTS_CEILING {
+        return Packing::TextFull {
+            length: sizes.texts,
+        };
+    }
+    Packing::Fits {
+        base: loaded.base + first_live(loaded.slots.as_slice()) as u32,
+        live: sizes.live,
+        dropped: sizes.killed,
+    }
+}
+
 /// Puts the packed area: the new lengths, .JHR, .JDX and .JDT.
 fn put_pack<D: Disk>(
     alloc: Global,
@@ -76,10 +123,8 @@ fn put_pack<D: Disk>(
     requires sound { IsSound MOST_SLOTS loaded.now }
     requires links { (texts : List ℕ) → links.now ≡ plan_of (linkables texts loaded.now) }
     requires base { base ≡ new_base loaded.now }
-    requires live { sizes.live ≡ live_slots (kept_slots loaded.now) }
-    requires headers { sizes.headers ≡ headers_size (kept_slots loaded.now) }
-    requires texts { sizes.texts ≡ texts_size (kept_slots loaded.now) }
-    requires fits { sizes.texts ≤ TEXTS_CEILING }
+    requires sizes { AreSizesOf loaded.now.slots sizes }
+    requires fits { texts_size loaded.now.slots ≤ TEXTS_CEILING }
     requires no_lengths { redo.old.lengths ≡ [] }
     requires no_pieces { redo.old.pieces ≡ [] }
     ensures packs { OnOk result (IsPackOf (D.device disk.old).contents loaded.now redo.new) }
@@ -89,11 +134,10 @@ fn put_pack<D: Disk>(
     ensures kept { OnlyReads (D.device disk.old) (D.device disk.new) }
     ensures quiet { OnOk result ((D.device disk.new).faults ≡ (D.device disk.old).faults) }
     ensures later { (D.device disk.old).faults ≤ (D.device disk.new).faults }
-    ensures cause { IfErr result (FaultRose (D.device disk.old).faults (D.device disk.new).faults) }
+    ensures cause { IfErr result (PackFaultRose (D.device disk.old).faults (D.device disk.new).faults) }
 {
+    put_base(alloc, redo, loaded, links, base, sizes, sizes.texts)?;
     let slots = kept_of(loaded, (base - loaded.base) as usize);
-    put_lengths(redo, sizes, slots.len())?;
-    put_area(alloc, redo, loaded, slots, links, base, sizes.live)?;
     put_texts(alloc, disk, redo, loaded, slots)?;
     Ok(())
 }
@@ -128,20 +172,13 @@ pub fn plan<D: Disk>(
     ensures kept { OnlyReads (D.device disk.old) (D.device disk.new) }
     ensures quiet { OnOk result ((D.device disk.new).faults ≡ (D.device disk.old).faults) }
     ensures later { (D.device disk.old).faults ≤ (D.device disk.new).faults }
-    ensures cause { IfErr result (FaultRose (D.device disk.old).faults (D.device disk.new).faults) }
+    ensures cause { IfErr result (PackFaultRose (D.device disk.old).faults (D.device disk.new).faults) }
 {
-    let slots = loaded.slots.as_slice();
-    let sizes = sizes_of(slots);
-    if sizes.texts > TEXTS_CEILING {
-        return Ok(Packing::TextFull {
-            length: sizes.texts,
-        });
-    }
-    let base = loaded.base + first_live(slots) as u32;
+    let sizes = sizes_of(loaded.slots.as_slice());
+    let packing = packing_of(loaded, sizes);
+    let Packing::Fits { base, .. } = packing else {
+        return Ok(packing);
+    };
     put_pack(alloc, disk, redo, loaded, links, base, sizes)?;
-    Ok(Packing::Fits {
-        base,
-        live: sizes.live,
-        dropped: sizes.killed,
-    })
+    Ok(packing)
 }

@@ -2,7 +2,8 @@
 ghost use Rattle.std.specs.Prelude.{◌≡◌, ◌+◌, ◌<◌, ◌≤◌, ◌^◌, if◌then◌else◌, length, position};
 ghost use Rattle.std.specs.List.{position_or_len};
 ghost use Rattle.jb_base.specs.declared.limits.TheConstants.{HEADERS_CEILING, MOST_SLOTS};
-ghost use Rattle.jb_pack.specs.Packed.{headers_size, is_killed_slot, is_live_slot, killed_slots, live_slots, slot_header_size, slot_text_size, texts_size};
+ghost use Rattle.jb_pack.specs.Packed.{headers_size, is_killed_slot, is_live_slot, slot_header_size, slot_text_size, texts_size};
+ghost use Rattle.jb_pack.specs.Plan.{AreSizesOf};
 
 use jb_model::LoadedSlot;
 use jb_subfield::headed_length;
@@ -48,10 +49,7 @@ pub(crate) fn sizes_of(slots: &[LoadedSlot]) -> Sizes
     requires few { length slots.now ≤ MOST_SLOTS }
     requires headers { headers_size slots.now ≤ HEADERS_CEILING }
     requires texts { texts_size slots.now < 2 ^ 64 }
-    ensures live { result.live ≡ live_slots slots.now }
-    ensures killed { result.killed ≡ killed_slots slots.now }
-    ensures headers { result.headers ≡ headers_size slots.now }
-    ensures texts { result.texts ≡ texts_size slots.now }
+    ensures { AreSizesOf slots.now result }
 {
     let mut sizes = Sizes {
         live: 0,

@@ -1,56 +1,21 @@
 //! The texts of the live messages, one behind another.
-ghost use Rattle.std.specs.Prelude.{◌≡◌, ◌≢◌, ◌+◌, ◌≤◌, ℕ, All, IfErr, IfNone, IfOk, IfSome, OnOk, length};
+ghost use Rattle.std.specs.Prelude.{◌≡◌, ◌+◌, ◌≤◌, All, IfErr, IfOk, OnOk, length};
 ghost use Rattle.std.specs.Option.{ForSome};
 ghost use Rattle.jb_base.specs.declared.limits.TheConstants.{TEXTS_CEILING};
 ghost use Rattle.jb_change.specs.Changing.{KeepsRoom};
 ghost use Rattle.jb_disk.specs.Device.{OnlyReads};
 ghost use Rattle.jb_disk.specs.declared.file.FileId.TheVariants.{Jdt as texts_file};
-ghost use Rattle.jb_model.specs.Sound.{IsSlotWithin, IsTextWithin};
-ghost use Rattle.jb_pack.specs.Copying.{FaultRose, IsJoined, IsRun, PutsRun, PutsTexts};
+ghost use Rattle.jb_model.specs.Sound.{IsSlotWithin};
+ghost use Rattle.jb_pack.specs.Copying.{PackFaultRose, PutsRun, PutsTexts};
 ghost use Rattle.jb_pack.specs.Laid.{laid};
 ghost use Rattle.jb_pack.specs.Packed.{texts_size};
 
 use crate::PackError;
 use crate::laying::put;
-use jb_base::MOST_TEXT_BYTES;
+use crate::run::{Run, joined};
 use jb_disk::{Disk, FileId, Redo};
-use jb_model::{Loaded, LoadedMessage, LoadedSlot};
+use jb_model::{Loaded, LoadedSlot};
 use std::alloc::Global;
-
-/// A part of .JDT that is read at once: where it begins, and how many bytes it has.
-#[derive(Clone, Copy, Debug)]
-pub(crate) struct Run {
-    at: u32,
-    len: u32,
-}
-
-/// The part with the text of a message behind it, where that text stands right behind it and both are not too long. The
-/// place of an empty text is that of no byte.
-fn joined(run: Run, message: &LoadedMessage) -> Option<Run>
-    requires { run.at + run.len ≤ TEXTS_CEILING }
-    ensures joined { IfSome result (IsJoined run message.now) }
-    ensures run { (texts_len : ℕ) → IsRun texts_len run → IsTextWithin texts_len message.now.text_at message.now.text_len → IfSome result (IsRun texts_len) }
-    ensures other { IfNone result (message.now.text_len ≢ 0) }
-{
-    if message.text_len == 0 {
-        return Some(run);
-    }
-    if run.len == 0 {
-        return Some(Run {
-            at: message.text_at,
-            len: message.text_len,
-        });
-    }
-    if message.text_at != run.at + run.len
-        || message.text_len as u64 + run.len as u64 > MOST_TEXT_BYTES as u64
-    {
-        return None;
-    }
-    Some(Run {
-        at: run.at,
-        len: run.len + message.text_len,
-    })
-}
 
 /// Reads a part of .JDT and puts it behind what the redo writes there, and answers where that ends then.
 fn put_run<D: Disk>(
@@ -73,7 +38,7 @@ fn put_run<D: Disk>(
     ensures kept { OnlyReads (D.device disk.old) (D.device disk.new) }
     ensures quiet { OnOk result ((D.device disk.new).faults ≡ (D.device disk.old).faults) }
     ensures later { (D.device disk.old).faults ≤ (D.device disk.new).faults }
-    ensures cause { IfErr result (FaultRose (D.device disk.old).faults (D.device disk.new).faults) }
+    ensures cause { IfErr result (PackFaultRose (D.device disk.old).faults (D.device disk.new).faults) }
 {
     let mut bytes = vec![in alloc; 0; run.len as usize]?;
     disk.read_at(FileId::Jdt, run.at as u64, bytes.as_mut_slice())?;
@@ -103,7 +68,7 @@ pub(crate) fn put_texts<D: Disk>(
     ensures kept { OnlyReads (D.device disk.old) (D.device disk.new) }
     ensures quiet { OnOk result ((D.device disk.new).faults ≡ (D.device disk.old).faults) }
     ensures later { (D.device disk.old).faults ≤ (D.device disk.new).faults }
-    ensures cause { IfErr result (FaultRose (D.device disk.old).faults (D.device disk.new).faults) }
+    ensures cause { IfErr result (PackFaultRose (D.device disk.old).faults (D.device disk.new).faults) }
 {
     let mut run = Run { at: 0, len: 0 };
     let mut end = 0;
@@ -111,15 +76,16 @@ pub(crate) fn put_texts<D: Disk>(
         let LoadedSlot::Live(message) = slot else {
             continue;
         };
-        if let Some(more) = joined(run, message) {
+        let text = Run {
+            at: message.text_at,
+            len: message.text_len,
+        };
+        if let Some(more) = joined(run, text) {
             run = more;
             continue;
         }
         end = put_run(alloc, disk, redo, run, end)?;
-        run = Run {
-            at: message.text_at,
-            len: message.text_len,
-        };
+        run = text;
     }
     put_run(alloc, disk, redo, run, end)?;
     Ok(())

@@ -1,13 +1,14 @@
-use Rattle.std.proofs.Common.{◌∷◌, ◌+◌, ◌≡◌, ◌∙◌, inl, inr, List, ℕ, drop, subst, ap, arith}
+use Rattle.std.proofs.Common.{◌∷◌, ◌+◌, ◌∙◌, List, ℕ, drop, min, subst, ap}
 use Rattle.std.specs.Prelude.{Option}
 use Rattle.std.proofs.lemmas.List.Elements.{All-head}
+use Rattle.jb_base.specs.declared.limits.TheConstants.{TEXTS_CEILING}
 use Rattle.jb_disk.specs.Files.{Files}
-use Rattle.jb_model.specs.Sound.{IsSlotWithin, IsTextWithin}
+use Rattle.jb_model.specs.Sound.{IsSlotWithin}
 use Rattle.jb_model.specs.declared.loaded.LoadedMessage.{LoadedMessage}
 use Rattle.jb_model.specs.declared.loaded.LoadedSlot.{LoadedSlot}
 use Rattle.jb_model.specs.declared.loaded.LoadedSlot.TheVariants.{Live}
-use Rattle.jb_pack.specs.Copying.{IsRun, PutsRun}
-use Rattle.jb_pack.proofs.CopyLemmas.{IsCopied, copied_joined, copied_next}
+use Rattle.jb_pack.specs.Copying.{PutsRun}
+use Rattle.jb_pack.proofs.CopyLemmas.{IsCopied, copied_joined, copied_next, text_placed, text_run}
 use Rattle.jb_pack.proofs.SlotLemmas.{from_place}
 use Rattle.jb_pack.proofs.texts.put_texts.Goals as goal
 
@@ -24,17 +25,10 @@ loop-slot-preserved-in-Some g c =
     let within = All-head (IsSlotWithin c.args.loaded.now.headers_len c.args.loaded.now.texts_len) (Live message) rest here.within in
     record {
       copied = copied_joined c.args.loaded.now contents c.args.slots.now c.args.redo.now c.loop-slot.redo c.loop-slot.run c.in-Some.more c.loop-slot.end k message rest
-          c.in-Some.ensures.joined (c.in-Some.ensures.run c.args.loaded.now.texts_len here.run_is within.text) here;
+          c.in-Some.ensures.joined (c.in-Some.ensures.run (min c.args.loaded.now.texts_len TEXTS_CEILING) here.run_is (text_placed c.args.loaded.now.texts_len message.text_at message.text_len within.text)) here;
       kept = c.loop-slot.invariant.kept;
       quiet = c.loop-slot.invariant.quiet;
     }
-
--- a text that has bytes is a part to read
-text_run : (texts_len at len : ℕ) → (len ≡ 0 → ⊥) → IsTextWithin texts_len at len → IsRun texts_len (record { at = at; len = len })
-text_run texts_len at len some within = elim within.placed [
-  | inl none ↦ absurd (some none)
-  | inr there ↦ record { inside = there.0; below = there.1; short = within.short }
-]
 
 pub loop-slot-preserved : goal.loop-slot-preserved
 loop-slot-preserved g c =
@@ -52,7 +46,8 @@ loop-slot-preserved g c =
     record {
       copied = copied_next c.args.loaded.now contents c.args.slots.now c.args.redo.now c.loop-slot.redo c.put_run.new.redo c.loop-slot.run c.loop-slot.end c.in_ok-end.end k message rest
           (subst (λ (o : Option Files). PutsRun o c.loop-slot.run c.loop-slot.redo c.put_run.new.redo) kept.contents c.in_ok-end.ensures.puts)
-          c.in_ok-end.ensures.next c.in_ok-end.ensures.room (text_run c.args.loaded.now.texts_len message.text_at message.text_len c.in_default-joined.ensures.other within.text) here;
+          c.in_ok-end.ensures.next c.in_ok-end.ensures.room (text_run (min c.args.loaded.now.texts_len TEXTS_CEILING) (record { at = message.text_at; len = message.text_len }) c.in_default-joined.ensures.other
+          (text_placed c.args.loaded.now.texts_len message.text_at message.text_len within.text)) here;
       kept = record { contents = keeps.contents ∙ kept.contents; moments = keeps.moments ∙ kept.moments };
       quiet = c.in_ok-end.ensures.quiet ∙ c.loop-slot.invariant.quiet;
     }
