@@ -41,6 +41,14 @@ impl<T: Published<O, E> + Drop, O, E> Shown<T, O, E> {
         self.shown.count
     }
 
+    /// What its looks have shown.
+    pub fn seen(&self) -> Front<E>
+        ensures list { list_of result ≡ (account_of self.now).shown }
+        ensures pair { IsIn (account_of self.now).mark result }
+    {
+        self.shown.again()
+    }
+
     /// How often it was not let in, at most the last value of a `u64`.
     pub fn barred(&self) -> u64
         ensures { result ≡ (account_of self.now).barred }

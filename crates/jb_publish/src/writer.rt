@@ -75,6 +75,23 @@ impl<T: Published<O, E> + Absorbs<K> + Drop, K: Drop, O, E> Shower<T, K, O, E> {
         }
     }
 
+    /// Queues a change that may not come back, which no look sees before it is shown. It waits where there is no memory, and so
+    /// never while no more than three changes are queued between two showings: a pair has taken the room for them.
+    pub fn put<R: Wait>(&mut self, rt: &R, change: K)
+        ensures { publication_of self.new ≡ queued_with (publication_of self.old) change }
+    {
+        let backoff = Backoff::new();
+        let mut change = change;
+        for _ in rt.forever() {
+            match self.queue(change) {
+                Ok(()) => return,
+                Err(back) => change = back,
+            }
+            backoff.snooze();
+        }
+        unreachable!()
+    }
+
     /// Shows all changes that are queued, as the list with so many entries that `J` names. It waits for the looks that still
     /// see the copy from before the last showing.
     pub fn show<J: NamesList<E>, R: Wait>(self, rt: &R, count: u64) -> Shower<T, K, O, E>

@@ -1,8 +1,12 @@
+pub mod SettledLemmas
 pub mod HistoryLemmas
 pub mod StandingLemmas
+pub mod PassLemmas
+pub mod IndexLemmas
 pub mod KnowingLemmas
-pub mod SettledLemmas
+pub mod KeepingLemmas
 pub mod CallLemmas
-pub mod LookLemmas
-pub mod ClosingLemmas
+pub mod ChangingLemmas
+pub mod DoingLemmas
 pub mod MakingLemmas
+pub mod ClosingLemmas

@@ -55,10 +55,10 @@ module _ {D : Type 0} (shown : D → Device) where
     leads = λ t. leads t ∙ ap (λ (s : Standing). after_entry opening.rules s entry) (stands.leads t) ∙ sym (standing_after_push opening.rules (first_of opening) history entry);
   }
 
-  -- a call that was answered
+  -- a call that was answered: the area is settled
   pub stands_replied : (old new : OpenArea D) (opening : Opening) (history : List Entry) (node call : ℕ) (user : User) (moment : ℕ) (command : Command) (reply : Reply)
       → StandsSettled shown old opening history → MeetsCall shown old new user moment command (Ok reply) → call ≡ length (calls_of node history) + 1
-      → StandsFor shown new opening (history ++ Called node call user moment command (Replied reply) ∷ [])
+      → StandsSettled shown new opening (history ++ Called node call user moment command (Replied reply) ∷ [])
   stands_replied old new opening history node call user moment command reply (state, stands) meets next =
       let at = stands.at in
       let done = meets.answered at.0 at.1 in
@@ -66,7 +66,7 @@ module _ {D : Type 0} (shown : D → Device) where
       = λ t. stepped opening state (state_of at.0 (loaded_of old)) user moment command reply (state_to done.coming) (rules_of old) stands.rules at.2 (done.step (λ letter text. stands.told ∙ t)) in
       let entry : Entry = Called node call user moment command (Replied reply) in
       let same : last_faults opening.faults (history ++ entry ∷ []) ≡ last_faults opening.faults history = last_same opening.faults history entry refl in (
-        Settled (state_to done.coming),
+        state_to done.coming,
         stands_push old new opening history entry (Settled state) (Settled (state_to done.coming)) stands meets.rules meets.alike next (same ∙ stands.faults ∙ sym meets.quiet) tt
             (λ t. ap (λ (a : Answered). a.reply) (is t)) refl (done.coming.texts, done.rests.rests, ap (state_of done.coming.texts) done.rests.is) (λ t. ap (λ (a : Answered). Settled a.state) (sym (is t))),
       )

@@ -8,14 +8,13 @@ use Rattle.jb_model.specs.declared.entry.Entry.TheVariants.{Called, Reopened}
 use Rattle.jb_model.specs.declared.entry.Outcome.{Outcome}
 use Rattle.jb_model.specs.declared.entry.Outcome.TheVariants.{Replied, InDoubt, NotBegun}
 use Rattle.jb_model.specs.declared.reply.Reply.{Reply}
-use Rattle.jb_turn.specs.Rows.{Begins, row}
-use Rattle.jb_turn.specs.Steps.{given, seen}
-use Rattle.jb_shared.specs.Histories.{IsHistory}
-use Rattle.jb_shared.specs.Passes.{Known}
+use Rattle.jb_turn.specs.Rows.{Begins}
+use Rattle.jb_shared.specs.Histories.{IsHistory, settled_of}
+use Rattle.jb_shared.specs.Passes.{Known, refusing, seen}
 use Rattle.jb_shared.specs.declared.error.SharedError.{SharedError}
-use Rattle.jb_shared.specs.declared.error.SharedError.TheVariants.{StoreFault, RunSpent, OutOfMemory}
+use Rattle.jb_shared.specs.declared.error.SharedError.TheVariants.{StoreFault, Gap, RunSpent, OutOfMemory}
 use Rattle.jb_shared.specs.declared.opening.Opening.{Opening}
-use Rattle.jb_shared.specs.declared.pass.Remark.TheVariants.{Spent}
+use Rattle.jb_shared.specs.declared.refusal.Refusal.TheVariants as refusal
 
 -- the entry of the node's next call
 abbrev pub call_of : Known → User → ℕ → Command → Outcome → Entry
@@ -24,11 +23,11 @@ call_of known user moment command outcome = Called known.node (length known.mine
 -- what is known once a doubt has ended so, where there was one
 abbrev pub ending : Known → Option Bool → Known
 ending known None = known
-ending known (Some stands) = row known.node known.opening (known.front ++ Reopened stands ∷ []) known.mine known.remarks
+ending known (Some stands) = record known { front = known.front ++ Reopened stands ∷ [] }
 
 -- what is known once the node's call is recorded, as the last entry
 abbrev pub recording : Known → Entry → Known
-recording known call = row known.node known.opening (known.front ++ call ∷ []) (known.mine ++ call ∷ []) known.remarks
+recording known call = record known { front = known.front ++ call ∷ []; mine = known.mine ++ call ∷ [] }
 
 -- a call that the device stopped: it was begun, and its change is in doubt; or the doubt before it could not be ended, and it was not begun
 abbrev pub IsStopped : Known → Known → User → ℕ → Command → Type 0
@@ -36,21 +35,26 @@ IsStopped old new user moment command =
     ((ended : Option Bool) × (faults : ℕ) × (new ≡ recording (ending old ended) (call_of old user moment command (InDoubt faults))))
     ⊎ ((faults : ℕ) × (new ≡ recording old (call_of old user moment command (NotBegun faults))))
 
--- what is known before, with the whole history taken, and after, by the answer. An answered call is recorded with its reply, and
--- one that a fault stopped as such; want of memory leaves no entry of the call, and a history that is spent leaves none at all
+-- what is known before, with the whole history taken, and after, by the answer: what looks showed and how often they were not let in
+-- stays. An answered call is recorded with its reply, and one that a fault stopped as such; want of memory leaves no entry of the
+-- call; a pass that was shown more entries than are settled of the history, and a history that is spent, leave none at all
 abbrev pub Answers : Known → Known → User → ℕ → Command → Result Reply SharedError → Type 0
 Answers old new user moment command (Ok reply) = (length old.front < MOST_ENTRIES)
     × ((ended : Option Bool) × (new ≡ recording (ending old ended) (call_of old user moment command (Replied reply))))
 Answers old new user moment command (Err StoreFault) = (length old.front < MOST_ENTRIES) × IsStopped old new user moment command
 Answers old new user moment command (Err OutOfMemory) = (length old.front < MOST_ENTRIES) × ((ended : Option Bool) × (new ≡ ending old ended))
-Answers old new user moment command (Err RunSpent) = (MOST_ENTRIES ≤ length old.front) × (new ≡ given old (Some Spent))
+Answers old new user moment command (Err (Gap shown held)) = (length old.front < MOST_ENTRIES)
+    × ((shown ≡ length old.shown) × (held ≡ length (settled_of old.front)) × (new ≡ refusing old (refusal.Gap shown held)))
+Answers old new user moment command (Err RunSpent) = (MOST_ENTRIES ≤ length old.front) × (new ≡ refusing old refusal.Spent)
 
--- the same of a command that is done at rest
-abbrev pub Runs : Known → Known → User → ℕ → Command → Result Reply SharedError → Type 0
-Runs old new user moment command (Ok reply) = new ≡ recording old (call_of old user moment command (Replied reply))
-Runs old new user moment command (Err StoreFault) = (faults : ℕ) × (new ≡ recording old (call_of old user moment command (InDoubt faults)))
-Runs old new user moment command (Err OutOfMemory) = new ≡ old
-Runs old new user moment command (Err RunSpent) = ⊥
+-- how what was shown stands to what is settled of the history that was taken, by the answer: it is a beginning of that; a gap comes
+-- just where it is not, and then it goes on from all of that; where the history is spent nothing is known of the two
+abbrev pub IsCovered : List Entry → List Entry → Result Reply SharedError → Type 0
+IsCovered shown settled (Ok reply) = Begins shown settled
+IsCovered shown settled (Err StoreFault) = Begins shown settled
+IsCovered shown settled (Err OutOfMemory) = Begins shown settled
+IsCovered shown settled (Err (Gap count held)) = Begins settled shown × (length settled < length shown)
+IsCovered shown settled (Err RunSpent) = Unit {0}
 
 -- a call: it takes the whole history, which goes on from what the pass had seen, and leaves a legal one
 pub record Calls (old new : Known) (user : User) (moment : ℕ) (command : Command) (result : Result Reply SharedError) : Type 0 where
@@ -59,4 +63,5 @@ pub record Calls (old new : Known) (user : User) (moment : ℕ) (command : Comma
   pub taken : List Entry
   pub grows : Begins old.front taken
   pub answers : Answers (seen old taken) new user moment command result
+  pub covered : IsCovered old.shown (settled_of taken) result
   pub history : IsHistory opening new.front

@@ -1,13 +1,12 @@
 -- What closing a shared area shows.
-use Rattle.std.specs.Prelude.{◌≡◌, ℕ, List, [], map, Some}
+use Rattle.std.specs.Prelude.{◌≡◌, ◌⊎◌, ℕ, ◌<◌, ◌≤◌, List, [], map, Some}
 use Rattle.jb_area.specs.declared.area.OpenArea.{OpenArea}
 use Rattle.jb_disk.specs.Device.{Device}
 use Rattle.jb_model.specs.History.{calls_of}
 use Rattle.jb_model.specs.declared.entry.Entry.{Entry}
 use Rattle.jb_turn.specs.Rows.{Begins, Has}
-use Rattle.jb_turn.specs.Whole.{HasNode, IsLowestMissing}
 use Rattle.jb_shared.specs.Histories.{settled_of}
-use Rattle.jb_shared.specs.Passes.{Known, PassView, shown_of}
+use Rattle.jb_shared.specs.Passes.{Known, PassView}
 use Rattle.jb_shared.specs.Standing.{StandsFor}
 use Rattle.jb_shared.specs.declared.error.CloseError.{CloseError}
 use Rattle.jb_shared.specs.declared.error.CloseError.TheVariants.{PassMissing}
@@ -17,13 +16,29 @@ use Rattle.jb_shared.specs.declared.opening.Opening.{Opening}
 abbrev pub known_by : List PassView → List Known
 known_by passes = map (λ pass. pass.known) passes
 
--- what a node knows is of this history: a beginning of it is its front, just its calls there are its own, and what its looks
--- showed is a beginning of all that is settled
+-- the node with this number is among them
+abbrev pub HasNode : List Known → ℕ → Type 0
+HasNode all node = (known : Known) × Has all known × (known.node ≡ node)
+
+-- each node from 1 to this number is among them
+abbrev pub HasAll : List Known → ℕ → Type 0
+HasAll all count = (node : ℕ) → 0 < node → node ≤ count → HasNode all node
+
+-- this is the lowest number up to the other one whose node is not among them
+abbrev pub IsLowestMissing : List Known → ℕ → ℕ → Type 0
+IsLowestMissing all count node = (0 < node) × (node ≤ count) × (HasNode all node → ⊥) × ((lower : ℕ) → 0 < lower → lower < node → HasNode all lower)
+
+-- one of the two lists begins the other
+abbrev pub OneBegins : List Entry → List Entry → Type 0
+OneBegins one other = Begins one other ⊎ Begins other one
+
+-- what a node knows is of this history: a beginning of it is its front, just its calls there are its own, and of what its looks
+-- showed and all that is settled the shorter begins the longer
 pub record IsPartOf (opening : Opening) (history : List Entry) (known : Known) : Type 0 where
   pub from : known.opening ≡ Some opening
   pub front : Begins known.front history
   pub mine : calls_of known.node history ≡ known.mine
-  pub shown : Begins (shown_of known) (settled_of opening history)
+  pub shown : OneBegins known.shown (settled_of history)
 
 -- there is one legal history, for which the area stands: the longest front, of which each pass knows a part; no other node has
 -- a call in it

@@ -1,6 +1,6 @@
--- The history of a shared area: from what it goes on, when it is legal, and where it leads.
-use Rattle.std.specs.Prelude.{Bool, false, List, [], ◌∷◌, IsSome, filter_map, is_some, unwrap_or}
-use Rattle.jb_model.specs.History.{AllowsEach, AreNumbered, Rises, faults_of, settled_prefix, standing_after}
+-- The history of a shared area: from what it goes on, when it is legal, where it leads, and how much of it is settled.
+use Rattle.std.specs.Prelude.{Bool, false, List, [], ◌∷◌, IsSome, filter_map, is_some, unwrap_or, if◌then◌else◌}
+use Rattle.jb_model.specs.History.{AllowsEach, AreNumbered, Rises, faults_of, standing_after}
 use Rattle.jb_model.specs.Standing.{Standing, Settled, InDoubt}
 use Rattle.jb_model.specs.State.{AreaState, state_of}
 use Rattle.jb_model.specs.declared.entry.Entry.{Entry}
@@ -18,14 +18,25 @@ first_of opening = state_of (unwrap_or opening.texts []) opening.loaded
 abbrev pub leads_to : Opening → List Entry → Standing
 leads_to opening history = standing_after opening.rules (first_of opening) history
 
--- its longest prefix after which the area is settled
-abbrev pub settled_of : Opening → List Entry → List Entry
-settled_of opening history = settled_prefix opening.rules (first_of opening) history
+-- the entry is a call that the device stopped
+abbrev pub is_stopped : Entry → Bool
+is_stopped entry = is_some (faults_of entry)
+
+-- an entry before what is settled of those behind it
+abbrev pub settled_with : Entry → List Entry → List Entry
+settled_with entry [] = if is_stopped entry then [] else entry ∷ []
+settled_with entry (next ∷ rest) = entry ∷ next ∷ rest
+
+-- all that is settled: the longest beginning that does not end with a stopped call. Of a legal history, where the disk tells its
+-- files, that is the longest one after which the area is settled
+abbrev pub settled_of : List Entry → List Entry
+settled_of [] = []
+settled_of (entry ∷ rest) = settled_with entry (settled_of rest)
 
 -- behind these entries the last one is a call that the device stopped; behind none, as it is said before them
 abbrev pub stopped_behind : Bool → List Entry → Bool
 stopped_behind before [] = before
-stopped_behind before (entry ∷ history) = stopped_behind (is_some (faults_of entry)) history
+stopped_behind before (entry ∷ history) = stopped_behind (is_stopped entry) history
 
 -- the last entry is a call that the device stopped
 abbrev pub stopped_last : List Entry → Bool

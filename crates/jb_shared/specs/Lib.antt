@@ -1,8 +1,15 @@
 pub mod Histories
 pub mod Standing
+pub mod Shows
 pub mod Passes
 pub mod Inside
+pub mod Begun
+pub mod Keeping
+pub mod Showing
+pub mod InTurn
 pub mod Areas
+pub mod Making
 pub mod Calls
 pub mod Looks
 pub mod Closing
+pub mod Laws

@@ -1,60 +1,71 @@
 -- What a pass knows.
-use Rattle.std.specs.Prelude.{◌≡◌, ℕ, Bool, true, false, List, [], Option, Some, None, filter, filter_map, length, take}
-use Rattle.jb_model.specs.History.{last_told}
+use Rattle.std.specs.Prelude.{◌≡◌, ℕ, ◌+◌, ◌-◌, ◌^◌, List, [], ◌∷◌, ◌++◌, Option, Some, length, min, option_and_then}
+use Rattle.std.specs.Option.{option_map}
+use Rattle.logbook.specs.Pages.{Book}
 use Rattle.jb_model.specs.declared.entry.Entry.{Entry}
-use Rattle.jb_turn.specs.Rows.{Begins}
+use Rattle.jb_publish.specs.Marks.{mark_with}
+use Rattle.jb_publish.specs.declared.known.Mark.{Mark}
+use Rattle.jb_turn.specs.Rows.{row}
 use Rattle.jb_turn.specs.Seats.{TurnId}
 use Rattle.jb_turn.specs.declared.view.Row.{Row}
-use Rattle.jb_shared.specs.Histories.{settled_of}
 use Rattle.jb_shared.specs.declared.opening.Opening.{Opening}
-use Rattle.jb_shared.specs.declared.pass.Remark.{Remark}
-use Rattle.jb_shared.specs.declared.pass.Remark.TheVariants.{Look, Spent}
+use Rattle.jb_shared.specs.declared.refusal.Refusal.{Refusal}
 
--- what is known of a node: its number, the opening, `front`, the beginning of the history that it has seen, `mine`, its calls
--- there, and `remarks`, its refusals and looks
-abbrev pub Known : Type 0
-Known = Row Opening Entry Remark
+-- what is known of a node: its number, how the area stood when it was shared, `front`, the beginning of the history that its calls
+-- have seen, `mine`, its calls there, `refused`, its refusals that leave no entry, in order, `shown`, the entries that its looks have
+-- shown, `looks`, how many entries each look and count showed, in order, and how often a look or a count was not let in
+pub record Known : Type 0 where
+  pub node : ℕ
+  pub opening : Option Opening
+  pub front : List Entry
+  pub mine : List Entry
+  pub refused : List Refusal
+  pub shown : List Entry
+  pub looks : List ℕ
+  pub barred : ℕ
+
+-- which area it is: by its turn, and by the book of what its looks see
+pub record AreaId : Type 0 where
+  pub turn : TurnId
+  pub book : Book
 
 -- a pass: of which area it is, and what its node knows
 pub record PassView : Type 0 where
-  pub area : Option TurnId
+  pub area : Option AreaId
   pub known : Known
 
--- how many entries a look showed
-abbrev pub entries_shown : Remark → Option ℕ
-entries_shown (Look entries) = Some entries
-entries_shown Spent = None
+-- what the pass of a new area knows
+abbrev pub first_known : ℕ → Opening → Known
+first_known node opening = record { node = node; opening = Some opening; front = []; mine = []; refused = []; shown = []; looks = []; barred = 0 }
 
--- the answer was a refusal
-abbrev pub is_refusal : Remark → Bool
-is_refusal (Look entries) = false
-is_refusal Spent = true
+-- what is known once the whole history was taken
+abbrev pub seen : Known → List Entry → Known
+seen known taken = record known { front = taken }
 
--- how many entries each look and count showed, in order
-abbrev pub looks_of : Known → List ℕ
-looks_of known = filter_map entries_shown known.remarks
+-- what is known once a call was refused so
+abbrev pub refusing : Known → Refusal → Known
+refusing known refusal = record known { refused = known.refused ++ refusal ∷ [] }
 
--- the refusals that leave no entry, in order
-abbrev pub refused_of : Known → List Remark
-refused_of known = filter is_refusal known.remarks
+-- what is known once a look showed these entries
+abbrev pub looking : Known → List Entry → Known
+looking known shown = record known { shown = shown; looks = known.looks ++ length shown ∷ [] }
 
--- the entries that its looks have shown
-abbrev pub shown_of : Known → List Entry
-shown_of known = take (last_told 0 (looks_of known)) known.front
+-- what is known once a look was not let in; the count stops at the last value of a `u64`
+abbrev pub turned_away : Known → Known
+turned_away known = record known { barred = min (known.barred + 1) (2 ^ 64 - 1) }
 
--- all that is settled of these entries, where the opening is known
-abbrev pub settled_from : Option Opening → List Entry → List Entry
-settled_from None history = []
-settled_from (Some opening) history = settled_of opening history
+-- the turn that it has a seat of
+abbrev pub turn_in : PassView → Option TurnId
+turn_in pass = option_map (λ area. area.turn) pass.area
 
--- all that is settled of what it has seen
-abbrev pub settled_front : Known → List Entry
-settled_front known = settled_from known.opening known.front
+-- its looks see what has this book
+abbrev pub IsPairOf : PassView → Book → Type 0
+IsPairOf pass book = option_map (λ area. area.book) pass.area ≡ Some book
 
--- its last look has shown all that was settled of some beginning of what it has seen; before the first that is nothing
-pub record HasShown (known : Known) : Type 0 where
-  pub opening : Opening
-  pub from : known.opening ≡ Some opening
-  pub seen : List Entry
-  pub begins : Begins seen known.front
-  pub shown : last_told 0 (looks_of known) ≡ length (settled_of opening seen)
+-- the mark of what its looks see
+abbrev pub mark_in : PassView → Option (Mark Opening)
+mark_in pass = option_and_then (λ area. option_map (mark_with area.book) pass.known.opening) pass.area
+
+-- the row of its seat
+abbrev pub row_in : PassView → Row (Mark Opening) Entry Refusal
+row_in pass = row pass.known.node (mark_in pass) pass.known.front pass.known.mine pass.known.refused

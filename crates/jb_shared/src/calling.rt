@@ -1,18 +1,17 @@
-//! Calls: the turn is taken, a doubt is ended, the command is done, and what came of it is recorded.
+//! Calls: the turn is taken, a doubt is ended, the command is done, and what came of it is recorded and shown.
 ghost use Rattle.std.specs.Prelude.{◌≡◌, ◌<◌, ◌≤◌, Bool, Option, Some, length, IfErr, OnErr, OnOk};
 ghost use Rattle.jb_base.specs.declared.limits.TheConstants.{MOST_ENTRIES, MOST_NAME_BYTES};
-ghost use Rattle.jb_shared.specs.Areas.{IsOf, IsOut};
-ghost use Rattle.jb_shared.specs.Standing.{StandsFor, StandsInDoubt, StandsSettled};
-ghost use Rattle.jb_shared.specs.Calls.{Answers, Calls, IsStopped, Runs, ending};
-ghost use Rattle.jb_turn.specs.Seats.{row_of, Rests};
+ghost use Rattle.jb_turn.specs.Seats.{row_of};
+ghost use Rattle.jb_shared.specs.InTurn.{IsOut, Performs, Runs, Stops, ended};
+ghost use Rattle.jb_shared.specs.Keeping.{IsKept, IsKeptInDoubt, IsKeptSettled};
 
-use crate::noting::{
-    give_plain, give_spent, note_in_doubt, note_not_begun, note_reopened, note_replied,
-};
+use crate::noting::{note_in_doubt, note_not_begun, note_reopened, note_replied};
 use crate::shared::{AreaSeat, AreaTurn};
-use crate::{Pass, SharedArea, SharedError};
-use jb_area::{AreaError, OpenArea};
-use jb_base::{MOST_ENTRIES, User};
+use crate::showing::show;
+use crate::shown::ShownArea;
+use crate::{SharedError, doing};
+use jb_area::AreaError;
+use jb_base::User;
 use jb_disk::Disk;
 use jb_model::{Command, Reply};
 use jb_turn::Held;
@@ -20,154 +19,116 @@ use std::alloc::Global;
 use std::marker::Brand;
 use std::sync::Wait;
 
-/// Ends the doubt of the area, and records how; where the device fails in that, the call is recorded as not begun.
-fn end_doubt<D: Disk>(
+/// Ends the doubt of the area, records how, and shows that; where the device fails in it, the call is recorded as not begun.
+fn end_doubt<D: Disk, R: Wait>(
+    rt: &R,
+    alloc: Global,
     turn: &AreaTurn<D>,
     seat: &mut AreaSeat<D>,
-    held: &mut Held<OpenArea<D>>,
+    mut held: Held<ShownArea<D>>,
     user: &User,
     moment: u32,
     command: &Command,
-) -> Result<(), SharedError>
-    requires out { IsOut (StandsInDoubt D.device) turn.now seat.old held.old × (held.old.count < MOST_ENTRIES) }
-    ensures ok { OnOk result (IsOut (StandsSettled D.device) turn.now seat.new held.new × (held.new.count ≤ MOST_ENTRIES)) }
-    ensures out { OnErr result (IsOut (StandsFor D.device) turn.now seat.new held.new) }
-    ensures ended { OnOk result ((stands : Bool) × (row_of seat.new ≡ ending (row_of seat.old) (Some stands))) }
-    ensures err { IfErr result (λ error. (error ≡ SharedError.StoreFault) × IsStopped (row_of seat.old) (row_of seat.new) user.now moment command.now) }
+) -> (Held<ShownArea<D>>, Result<(), SharedError>)
+    requires out { IsOut (IsKeptInDoubt D.device) turn.now seat.old held × (held.count < MOST_ENTRIES) }
+    ensures ok { OnOk result.1 (IsOut (IsKeptSettled D.device) turn.now seat.new result.0 × (result.0.count ≤ MOST_ENTRIES)) }
+    ensures out { OnErr result.1 (IsOut (IsKept D.device) turn.now seat.new result.0) }
+    ensures ended { OnOk result.1 ((stands : Bool) × (row_of seat.new ≡ ended (row_of seat.old) (Some stands))) }
+    ensures err { IfErr result.1 (λ error. (error ≡ SharedError.StoreFault) × Stops (row_of seat.old) (row_of seat.new) user.now moment command.now) }
 {
-    match held.state.reopen() {
+    match held.state.area.reopen() {
         Ok(stands) => {
-            note_reopened::<D, Brand>(turn, seat, held, stands);
-            Ok(())
+            note_reopened::<D, Brand>(turn, seat, &mut held, stands);
+            (show(rt, alloc, seat, held, stands), Ok(()))
         }
         Err(_stopped) => {
-            note_not_begun::<D, Brand>(turn, seat, held, user, moment, command);
-            Err(SharedError::StoreFault)
+            note_not_begun::<D, Brand>(turn, seat, &mut held, user, moment, command);
+            (held, Err(SharedError::StoreFault))
         }
     }
 }
 
 /// Ends the doubt of the area, where it is in doubt.
-fn settle<D: Disk>(
+fn settle<D: Disk, R: Wait>(
+    rt: &R,
+    alloc: Global,
     turn: &AreaTurn<D>,
     seat: &mut AreaSeat<D>,
-    held: &mut Held<OpenArea<D>>,
+    held: Held<ShownArea<D>>,
     user: &User,
     moment: u32,
     command: &Command,
-) -> Result<(), SharedError>
-    requires out { IsOut (StandsFor D.device) turn.now seat.old held.old × (held.old.count < MOST_ENTRIES) }
-    ensures ok { OnOk result (IsOut (StandsSettled D.device) turn.now seat.new held.new × (held.new.count ≤ MOST_ENTRIES)) }
-    ensures out { OnErr result (IsOut (StandsFor D.device) turn.now seat.new held.new) }
-    ensures ended { OnOk result ((stands : Option Bool) × (row_of seat.new ≡ ending (row_of seat.old) stands)) }
-    ensures err { IfErr result (λ error. (error ≡ SharedError.StoreFault) × IsStopped (row_of seat.old) (row_of seat.new) user.now moment command.now) }
+) -> (Held<ShownArea<D>>, Result<(), SharedError>)
+    requires out { IsOut (IsKept D.device) turn.now seat.old held × (held.count < MOST_ENTRIES) }
+    ensures ok { OnOk result.1 (IsOut (IsKeptSettled D.device) turn.now seat.new result.0 × (result.0.count ≤ MOST_ENTRIES)) }
+    ensures out { OnErr result.1 (IsOut (IsKept D.device) turn.now seat.new result.0) }
+    ensures ended { OnOk result.1 ((stands : Option Bool) × (row_of seat.new ≡ ended (row_of seat.old) stands)) }
+    ensures err { IfErr result.1 (λ error. (error ≡ SharedError.StoreFault) × Stops (row_of seat.old) (row_of seat.new) user.now moment command.now) }
 {
-    if held.state.in_doubt() {
-        end_doubt(turn, seat, held, user, moment, command)
+    if held.state.area.in_doubt() {
+        end_doubt(rt, alloc, turn, seat, held, user, moment, command)
     } else {
-        Ok(())
+        (held, Ok(()))
     }
 }
 
-/// Does the command on the area at rest, and records what came of it; want of memory leaves no entry.
-fn run<D: Disk>(
-    turn: &AreaTurn<D>,
+/// Does the command on the area at rest, records what came of it, and shows what was done; want of memory leaves no entry.
+fn run<D: Disk, R: Wait>(
+    rt: &R,
     alloc: Global,
+    turn: &AreaTurn<D>,
     seat: &mut AreaSeat<D>,
-    held: &mut Held<OpenArea<D>>,
+    held: Held<ShownArea<D>>,
     user: &User,
     moment: u32,
     command: &Command,
-) -> Result<Reply, SharedError>
-    requires out { IsOut (StandsSettled D.device) turn.now seat.old held.old × (held.old.count ≤ MOST_ENTRIES) }
+) -> (Held<ShownArea<D>>, Result<Reply, SharedError>)
+    requires out { IsOut (IsKeptSettled D.device) turn.now seat.old held × (held.count ≤ MOST_ENTRIES) }
     requires name { length user.now.name ≤ MOST_NAME_BYTES }
-    ensures out { IsOut (StandsFor D.device) turn.now seat.new held.new }
-    ensures runs { Runs (row_of seat.old) (row_of seat.new) user.now moment command.now result }
+    ensures out { IsOut (IsKept D.device) turn.now seat.new result.0 }
+    ensures runs { Runs (row_of seat.old) (row_of seat.new) user.now moment command.now result.1 }
 {
-    match held.state.run(alloc, user, moment, command) {
+    let mut held = held;
+    let state = &mut held.state;
+    match doing::run(
+        alloc,
+        &mut state.area,
+        user,
+        moment,
+        command,
+        &mut state.doubted,
+    ) {
         Ok(reply) => {
-            note_replied::<D, Brand>(turn, seat, held, user, moment, command, &reply);
-            Ok(reply)
+            note_replied::<D, Brand>(turn, seat, &mut held, user, moment, command, &reply);
+            (show(rt, alloc, seat, held, true), Ok(reply))
         }
         Err(AreaError::StoreFault) => {
-            note_in_doubt::<D, Brand>(turn, seat, held, user, moment, command);
-            Err(SharedError::StoreFault)
+            note_in_doubt::<D, Brand>(turn, seat, &mut held, user, moment, command);
+            (held, Err(SharedError::StoreFault))
         }
-        Err(AreaError::OutOfMemory) => Err(SharedError::OutOfMemory),
+        Err(AreaError::OutOfMemory) => (held, Err(SharedError::OutOfMemory)),
     }
 }
 
 /// A call while the area is out with the seat.
-fn perform<D: Disk>(
-    turn: &AreaTurn<D>,
+pub(crate) fn perform<D: Disk, R: Wait>(
+    rt: &R,
     alloc: Global,
+    turn: &AreaTurn<D>,
     seat: &mut AreaSeat<D>,
-    held: &mut Held<OpenArea<D>>,
+    held: Held<ShownArea<D>>,
     user: &User,
     moment: u32,
     command: &Command,
-) -> Result<Reply, SharedError>
-    requires out { IsOut (StandsFor D.device) turn.now seat.old held.old × (held.old.count < MOST_ENTRIES) }
+) -> (Held<ShownArea<D>>, Result<Reply, SharedError>)
+    requires out { IsOut (IsKept D.device) turn.now seat.old held × (held.count < MOST_ENTRIES) }
     requires name { length user.now.name ≤ MOST_NAME_BYTES }
-    ensures out { IsOut (StandsFor D.device) turn.now seat.new held.new }
-    ensures answers { Answers (row_of seat.old) (row_of seat.new) user.now moment command.now result }
+    ensures out { IsOut (IsKept D.device) turn.now seat.new result.0 }
+    ensures performs { Performs (row_of seat.old) (row_of seat.new) user.now moment command.now result.1 }
 {
-    match settle(turn, seat, held, user, moment, command) {
-        Ok(()) => run(turn, alloc, seat, held, user, moment, command),
-        Err(error) => Err(error),
-    }
-}
-
-impl<D: Disk> SharedArea<D> {
-    /// A call with a seat that is awake.
-    fn call_in_turn<R: Wait>(
-        &self,
-        rt: &R,
-        alloc: Global,
-        seat: &mut AreaSeat<D>,
-        user: &User,
-        moment: u32,
-        command: &Command,
-    ) -> Result<Reply, SharedError>
-        requires rests { Rests self.now.turn seat.old }
-        requires name { length user.now.name ≤ MOST_NAME_BYTES }
-        ensures rests { Rests self.now.turn seat.new }
-        ensures calls { Calls (row_of seat.old) (row_of seat.new) user.now moment command.now result }
-    {
-        let mut held = self.turn.take(rt, seat);
-        if held.count >= MOST_ENTRIES {
-            give_spent::<D, Brand>(&self.turn, seat, held);
-            return Err(SharedError::RunSpent);
-        }
-        let answer = perform(&self.turn, alloc, seat, &mut held, user, moment, command);
-        give_plain(&self.turn, seat, held);
-        answer
-    }
-
-    /// Asks a command as the next call of the pass's node, at this moment in seconds since 1970. It waits for the turn.
-    ///
-    /// An area in doubt is reopened first. What came of the call is recorded with its reply, or as stopped by the device; a
-    /// call that wants memory leaves no entry of its own, and one of a history that is spent none at all.
-    pub fn call<R: Wait>(
-        &self,
-        rt: &R,
-        alloc: Global,
-        pass: &mut Pass,
-        user: &User,
-        moment: u32,
-        command: &Command,
-    ) -> Result<Reply, SharedError>
-        requires ours { IsOf self.now pass.old }
-        requires name { length user.now.name ≤ MOST_NAME_BYTES }
-        ensures ours { IsOf self.now pass.new }
-        ensures calls { Calls pass.old.known pass.new.known user.now moment command.now result }
-    {
-        let Some(seat) = pass.seat.take() else {
-            unreachable!()
-        };
-        let mut seat = seat.wake();
-        let answer = self.call_in_turn(rt, alloc, &mut seat, user, moment, command);
-        pass.seat = Some(seat.rest());
-        answer
+    let (held, settled) = settle(rt, alloc, turn, seat, held, user, moment, command);
+    match settled {
+        Ok(()) => run(rt, alloc, turn, seat, held, user, moment, command),
+        Err(error) => (held, Err(error)),
     }
 }

@@ -1,20 +1,19 @@
 //! One function for each kind of entry and of remark: a caller picks what is named by these arguments.
-ghost use Rattle.std.specs.Prelude.{◌≡◌, ◌+◌, ◌≤◌, length, Some};
+ghost use Rattle.std.specs.Prelude.{◌≡◌, ◌+◌, ◌≤◌, Some};
 ghost use Rattle.jb_area.specs.Area.{device_of};
 ghost use Rattle.jb_base.specs.declared.limits.TheConstants.{MOST_ENTRIES};
 ghost use Rattle.jb_model.specs.declared.entry.Entry.TheVariants.{Reopened};
 ghost use Rattle.jb_model.specs.declared.entry.Outcome.TheVariants.{InDoubt, NotBegun, Replied};
-ghost use Rattle.jb_shared.specs.Calls.{call_of, ending, recording};
-ghost use Rattle.jb_shared.specs.Passes.{settled_front};
-ghost use Rattle.jb_shared.specs.Standing.{StandsFor};
-ghost use Rattle.jb_shared.specs.declared.pass.Remark.TheVariants.{Look, Spent};
+ghost use Rattle.jb_shared.specs.InTurn.{ended, next_call, recorded};
+ghost use Rattle.jb_shared.specs.Keeping.{IsKept};
+ghost use Rattle.jb_shared.specs.declared.refusal.Refusal.TheVariants.{Gap, Spent};
 ghost use Rattle.jb_turn.specs.Rows.{StandsFrom};
 ghost use Rattle.jb_turn.specs.Seats.{front, opening, row_of, Holds, Rests};
 ghost use Rattle.jb_turn.specs.Steps.{given};
 
-use crate::pass::Remark;
+use crate::refusal::Refusal;
 use crate::shared::{AreaSeat, AreaTurn};
-use jb_area::OpenArea;
+use crate::shown::ShownArea;
 use jb_base::User;
 use jb_disk::Disk;
 use jb_model::{Command, Entry, Reply};
@@ -25,15 +24,15 @@ use std::marker::Brand;
 pub(crate) fn note_replied<D: Disk, J: NamesEntry<Entry>>(
     turn: &AreaTurn<D>,
     seat: &mut AreaSeat<D>,
-    held: &mut Held<OpenArea<D>>,
+    held: &mut Held<ShownArea<D>>,
     user: &User,
     moment: u32,
     command: &Command,
     reply: &Reply,
 )
-    requires entry { J.entry ≡ Some (call_of (row_of seat.old) user.now moment command.now (Replied reply.now)) }
+    requires entry { J.entry ≡ Some (next_call (row_of seat.old) user.now moment command.now (Replied reply.now)) }
     requires seat { Holds turn.now seat.old held.old.count × (held.old.count ≤ MOST_ENTRIES) }
-    ensures row { row_of seat.new ≡ recording (row_of seat.old) (call_of (row_of seat.old) user.now moment command.now (Replied reply.now)) }
+    ensures row { row_of seat.new ≡ recorded (row_of seat.old) (next_call (row_of seat.old) user.now moment command.now (Replied reply.now)) }
     ensures seat { Holds turn.now seat.new held.new.count }
     ensures kept { held.new.state ≡ held.old.state }
 {
@@ -44,14 +43,14 @@ pub(crate) fn note_replied<D: Disk, J: NamesEntry<Entry>>(
 pub(crate) fn note_in_doubt<D: Disk, J: NamesEntry<Entry>>(
     turn: &AreaTurn<D>,
     seat: &mut AreaSeat<D>,
-    held: &mut Held<OpenArea<D>>,
+    held: &mut Held<ShownArea<D>>,
     user: &User,
     moment: u32,
     command: &Command,
 )
-    requires entry { J.entry ≡ Some (call_of (row_of seat.old) user.now moment command.now (InDoubt (device_of D.device held.old.state).faults)) }
+    requires entry { J.entry ≡ Some (next_call (row_of seat.old) user.now moment command.now (InDoubt (device_of D.device held.old.state.area).faults)) }
     requires seat { Holds turn.now seat.old held.old.count × (held.old.count ≤ MOST_ENTRIES) }
-    ensures row { row_of seat.new ≡ recording (row_of seat.old) (call_of (row_of seat.old) user.now moment command.now (InDoubt (device_of D.device held.old.state).faults)) }
+    ensures row { row_of seat.new ≡ recorded (row_of seat.old) (next_call (row_of seat.old) user.now moment command.now (InDoubt (device_of D.device held.old.state.area).faults)) }
     ensures seat { Holds turn.now seat.new held.new.count }
     ensures kept { held.new.state ≡ held.old.state }
 {
@@ -62,14 +61,14 @@ pub(crate) fn note_in_doubt<D: Disk, J: NamesEntry<Entry>>(
 pub(crate) fn note_not_begun<D: Disk, J: NamesEntry<Entry>>(
     turn: &AreaTurn<D>,
     seat: &mut AreaSeat<D>,
-    held: &mut Held<OpenArea<D>>,
+    held: &mut Held<ShownArea<D>>,
     user: &User,
     moment: u32,
     command: &Command,
 )
-    requires entry { J.entry ≡ Some (call_of (row_of seat.old) user.now moment command.now (NotBegun (device_of D.device held.old.state).faults)) }
+    requires entry { J.entry ≡ Some (next_call (row_of seat.old) user.now moment command.now (NotBegun (device_of D.device held.old.state.area).faults)) }
     requires seat { Holds turn.now seat.old held.old.count × (held.old.count ≤ MOST_ENTRIES) }
-    ensures row { row_of seat.new ≡ recording (row_of seat.old) (call_of (row_of seat.old) user.now moment command.now (NotBegun (device_of D.device held.old.state).faults)) }
+    ensures row { row_of seat.new ≡ recorded (row_of seat.old) (next_call (row_of seat.old) user.now moment command.now (NotBegun (device_of D.device held.old.state.area).faults)) }
     ensures seat { Holds turn.now seat.new held.new.count }
     ensures kept { held.new.state ≡ held.old.state }
 {
@@ -80,12 +79,12 @@ pub(crate) fn note_not_begun<D: Disk, J: NamesEntry<Entry>>(
 pub(crate) fn note_reopened<D: Disk, J: NamesEntry<Entry>>(
     turn: &AreaTurn<D>,
     seat: &mut AreaSeat<D>,
-    held: &mut Held<OpenArea<D>>,
+    held: &mut Held<ShownArea<D>>,
     stands: bool,
 )
     requires entry { J.entry ≡ Some (Reopened stands) }
     requires seat { Holds turn.now seat.old held.old.count × (held.old.count ≤ MOST_ENTRIES) }
-    ensures row { row_of seat.new ≡ ending (row_of seat.old) (Some stands) }
+    ensures row { row_of seat.new ≡ ended (row_of seat.old) (Some stands) }
     ensures seat { Holds turn.now seat.new held.new.count }
     ensures kept { held.new.state ≡ held.old.state }
     ensures count { held.new.count ≡ held.old.count + 1 }
@@ -97,10 +96,10 @@ pub(crate) fn note_reopened<D: Disk, J: NamesEntry<Entry>>(
 pub(crate) fn give_plain<D: Disk>(
     turn: &AreaTurn<D>,
     seat: &mut AreaSeat<D>,
-    held: Held<OpenArea<D>>,
+    held: Held<ShownArea<D>>,
 )
     requires seat { Holds turn.now seat.old held.count }
-    requires stands { StandsFrom (StandsFor D.device) (opening seat.old) held.state (front seat.old) }
+    requires stands { StandsFrom (IsKept D.device) (opening seat.old) held.state (front seat.old) }
     ensures rests { Rests turn.now seat.new }
     ensures row { row_of seat.new ≡ row_of seat.old }
 {
@@ -108,31 +107,33 @@ pub(crate) fn give_plain<D: Disk>(
 }
 
 /// Gives the area back, and keeps that a call was refused since the history is spent.
-pub(crate) fn give_spent<D: Disk, J: NamesRemark<Remark>>(
+pub(crate) fn give_spent<D: Disk, J: NamesRemark<Refusal>>(
     turn: &AreaTurn<D>,
     seat: &mut AreaSeat<D>,
-    held: Held<OpenArea<D>>,
+    held: Held<ShownArea<D>>,
 )
     requires remark { J.remark ≡ Some Spent }
     requires seat { Holds turn.now seat.old held.count }
-    requires stands { StandsFrom (StandsFor D.device) (opening seat.old) held.state (front seat.old) }
+    requires stands { StandsFrom (IsKept D.device) (opening seat.old) held.state (front seat.old) }
     ensures rests { Rests turn.now seat.new }
     ensures row { row_of seat.new ≡ given (row_of seat.old) (Some Spent) }
 {
     turn.give::<J>(seat, held);
 }
 
-/// Gives the area back, and keeps that all that is settled of what the seat has seen was shown.
-pub(crate) fn give_shown<D: Disk, J: NamesRemark<Remark>>(
+/// Gives the area back, and keeps that a call was refused since the pass was shown more entries than are settled.
+pub(crate) fn give_gap<D: Disk, J: NamesRemark<Refusal>>(
     turn: &AreaTurn<D>,
     seat: &mut AreaSeat<D>,
-    held: Held<OpenArea<D>>,
+    held: Held<ShownArea<D>>,
+    shown: u64,
+    settled: u64,
 )
-    requires remark { J.remark ≡ Some (Look (length (settled_front (row_of seat.old)))) }
+    requires remark { J.remark ≡ Some (Gap shown settled) }
     requires seat { Holds turn.now seat.old held.count }
-    requires stands { StandsFrom (StandsFor D.device) (opening seat.old) held.state (front seat.old) }
+    requires stands { StandsFrom (IsKept D.device) (opening seat.old) held.state (front seat.old) }
     ensures rests { Rests turn.now seat.new }
-    ensures row { row_of seat.new ≡ given (row_of seat.old) (Some (Look (length (settled_front (row_of seat.old))))) }
+    ensures row { row_of seat.new ≡ given (row_of seat.old) (Some (Gap shown settled)) }
 {
     turn.give::<J>(seat, held);
 }

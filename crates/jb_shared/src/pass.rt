@@ -1,30 +1,22 @@
 //! One node's way into a shared area.
-ghost use Rattle.std.specs.Prelude.{◌≡◌};
 
 use crate::Opening;
+use crate::parts::Parts;
+use crate::refusal::Refusal;
 use crate::shared::AreaSeat;
-use jb_area::OpenArea;
+use crate::shown::ShownArea;
 use jb_disk::Disk;
 use jb_model::Entry;
-use jb_turn::{RestingSeat, Seated};
+use jb_publish::Mark;
+use jb_turn::Seated;
 use std::marker::Model;
-
-/// What a pass was answered that leaves no entry, and what its looks showed. It exists in proofs alone.
-pub enum Remark {
-    /// A look or a count showed so many entries.
-    Look { entries: u64 },
-    /// A call was refused, since the history has as many entries as it may have.
-    Spent,
-}
-
-pub(crate) type AreaRest = RestingSeat<Opening, Entry, Remark>;
 
 /// The pass of one node of a shared area. Its calls are numbered from 1. It does not name the disk, may be sent to a thread
 /// and may be dropped; an area that misses a pass cannot be closed.
 #[derive(Drop)]
 pub struct Pass {
-    /// The seat is away only while a call on the pass is made.
-    pub(crate) seat: Option<AreaRest>,
+    /// They are away only while a call on the pass is made.
+    pub(crate) parts: Option<Parts>,
 }
 
 impl Model for Pass {
@@ -40,24 +32,27 @@ impl Model for Pass {
 }
 
 // Closing takes passes in as they are.
-impl<D: Disk> Seated<OpenArea<D>, Opening, Entry, Remark> for Pass {
+impl<D: Disk> Seated<ShownArea<D>, Mark<Opening>, Entry, Refusal> for Pass {
     ghost use Rattle.std.specs.Prelude.{Some};
+    ghost use Rattle.std.specs.Prelude.{◌≡◌};
+    ghost use Rattle.jb_shared.specs.Passes.{row_in, turn_in};
 
-    ghost rests = { λ pass turn. pass.area ≡ Some turn };
+    ghost rests = { λ pass turn. turn_in pass ≡ Some turn };
 
-    ghost knows = { λ pass. pass.known };
+    ghost knows = { row_in };
 
     fn number(&self) -> u32 {
-        match &self.seat {
-            Some(seat) => seat.node(),
+        match &self.parts {
+            Some(parts) => parts.seat.node(),
             None => unreachable!(),
         }
     }
 
+    #[tactic(auto, using(crate::proofs::PassLemmas::mark_again))]
     fn into_seat(self) -> AreaSeat<D> {
-        let Some(seat) = self.seat else {
+        let Some(parts) = self.parts else {
             unreachable!()
         };
-        seat.wake()
+        parts.seat.wake()
     }
 }

@@ -1,29 +1,33 @@
 //! The shared area.
 
 use crate::Opening;
-use crate::pass::Remark;
-use jb_area::OpenArea;
+use crate::refusal::Refusal;
+use crate::shown::ShownArea;
 use jb_disk::Disk;
 use jb_model::Entry;
+use jb_publish::{Front, Mark};
 use jb_turn::{Kept, Seat, Turn};
 
-// An area stands for what was asked of it and what came of it.
-impl<D: Disk> Kept<Opening, Entry> for OpenArea<D> {
-    ghost use Rattle.jb_shared.specs.Standing.{StandsFor, caller_of, opening_of};
+// What lies behind the turn stands for what was asked and what came of it; the mark of what looks see is where that goes on from.
+impl<D: Disk> Kept<Mark<Opening>, Entry> for ShownArea<D> {
+    ghost use Rattle.jb_shared.specs.Keeping.{IsKept, mark_of};
+    ghost use Rattle.jb_shared.specs.Standing.{caller_of};
 
-    ghost stands = { StandsFor D.device };
+    ghost stands = { IsKept D.device };
 
-    ghost opening = { opening_of D.device };
+    ghost opening = { mark_of D.device };
 
     ghost caller = { caller_of };
 }
 
-pub(crate) type AreaTurn<D> = Turn<OpenArea<D>, Opening, Entry, Remark>;
+pub(crate) type AreaTurn<D> = Turn<ShownArea<D>, Mark<Opening>, Entry, Refusal>;
 
-pub(crate) type AreaSeat<D> = Seat<OpenArea<D>, Opening, Entry, Remark>;
+pub(crate) type AreaSeat<D> = Seat<ShownArea<D>, Mark<Opening>, Entry, Refusal>;
 
-/// An open area behind a turn. It may be lent to any number of threads.
-#[derive(Drop)]
+/// An open area behind a turn, of which looks see an index without it. It may be lent to any number of threads. It is not `Drop`:
+/// end it by `close`.
 pub struct SharedArea<D: Disk> {
     pub(crate) turn: AreaTurn<D>,
+    /// The empty list of what looks see: it tells of which pair a pass is.
+    pub(crate) origin: Front<Entry>,
 }

@@ -1,13 +1,17 @@
-use Rattle.std.proofs.Common.{List, refl, subst, sym}
-use Rattle.jb_shared.specs.Areas.{IsShared}
-use Rattle.jb_shared.specs.Passes.{PassView}
-use Rattle.jb_shared.proofs.MakingLemmas.{shared_made, stands_new}
+use Rattle.std.proofs.Common.{Option, subst}
+use Rattle.jb_publish.specs.Accounts.{IsFresh}
+use Rattle.jb_publish.specs.declared.known.Mark.{Mark}
+use Rattle.jb_shared.specs.declared.opening.Opening.{Opening}
+use Rattle.jb_shared.proofs.MakingLemmas.{kept_new}
 use Rattle.jb_shared.proofs.shared.SharedArea.new.Goals as goal
 
-pub new-requires-clause-stands : goal.new-requires-clause-stands
-new-requires-clause-stands g c = stands_new g.D.Disk.device c.args.area c.requires.rest
+pub turn_with-requires-clause-kept : goal.turn_with-requires-clause-kept
+turn_with-requires-clause-kept g c =
+    let made = c.in-Ok-ends.ensures in
+    (kept_new g.D.Disk.device (record { area = c.args.area; shower = c.in-Ok-ends.shower; doubted = c.none.result }) c.in-Ok-indexes.first c.requires.rest c.in-Ok-indexes.ensures.first made.list made.queued made.value made.opening).0
 
-pub returns-in-Ok-new-clause-ok : goal.returns-in-Ok-new-clause-ok
-returns-in-Ok-new-clause-ok g c =
-    subst (λ (l : List PassView). IsShared g.D.Disk.device c.args.area c.args.nodes (record { turn = c.in-Ok-new.turn }) l) (sym c.admit-passes.ensures)
-    (shared_made g.D.Disk.device c.args.area c.args.nodes c.in-Ok-new.turn (record { turn = c.in-Ok-new.turn }) c.in-Ok-new.seats.items refl c.in-Ok-new.ensures.count.0 c.in-Ok-new.ensures.count.1 c.in-Ok-new.ensures.rests c.in-Ok-new.ensures.fresh)
+pub turn_with-requires-clause-fresh : goal.turn_with-requires-clause-fresh
+turn_with-requires-clause-fresh g c =
+    let made = c.in-Ok-ends.ensures in
+    let kept = kept_new g.D.Disk.device (record { area = c.args.area; shower = c.in-Ok-ends.shower; doubted = c.none.result }) c.in-Ok-indexes.first c.requires.rest c.in-Ok-indexes.ensures.first made.list made.queued made.value made.opening in
+    λ k reader at. subst (λ (m : Option (Mark Opening)). IsFresh m reader) kept.2 (made.fresh k reader at)

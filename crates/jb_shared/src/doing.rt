@@ -1,0 +1,54 @@
+//! A command on the area, with what it changes in the index.
+ghost use Rattle.std.specs.Prelude.{◌≤◌, length, OnErr, OnOk};
+ghost use Rattle.jb_area.specs.Area.{HasBegun};
+ghost use Rattle.jb_area.specs.Calls.{EndsCall, HasRest, MeetsCall};
+ghost use Rattle.jb_base.specs.declared.limits.TheConstants.{MOST_NAME_BYTES};
+ghost use Rattle.jb_shared.specs.Keeping.{Follows, HasChange};
+
+use crate::change::IndexChange;
+use crate::changing::change_of;
+use jb_area::{AreaError, OpenArea};
+use jb_base::User;
+use jb_disk::Disk;
+use jb_model::{Command, Reply};
+use std::alloc::Global;
+
+/// Finishes the call that is begun.
+fn finish<D: Disk>(area: &mut OpenArea<D>) -> Result<Reply, AreaError>
+    requires begun { HasBegun D.device area.old }
+    ensures { EndsCall D.device area.old area.new result }
+{
+    match area.finish() {
+        Ok(reply) => Ok(reply),
+        Err(_stopped) => Err(AreaError::StoreFault),
+    }
+}
+
+/// Does a command on the area at rest. `change` is then what it has changed in the index, or, where the device stopped it, what it
+/// changes if its change stands. It is made before the change is committed, so that want of memory leaves the area as it was.
+pub(crate) fn run<D: Disk>(
+    alloc: Global,
+    area: &mut OpenArea<D>,
+    user: &User,
+    moment: u32,
+    command: &Command,
+    change: &mut IndexChange,
+) -> Result<Reply, AreaError>
+    requires rests { HasRest D.device area.old }
+    requires name { length user.now.name ≤ MOST_NAME_BYTES }
+    ensures meets { MeetsCall D.device area.old area.new user.now moment command.now result }
+    ensures done { OnOk result (Follows D.device area.old user.now moment command.now change.new.op) }
+    ensures doubted { OnErr result (HasChange D.device area.new → Follows D.device area.old user.now moment command.now change.new.op) }
+{
+    match area.begin(alloc, user, moment, command) {
+        Ok(()) => {
+            let Ok(made) = change_of(alloc, area, user, moment, command) else {
+                area.abandon();
+                return Err(AreaError::OutOfMemory);
+            };
+            *change = made;
+            finish(area)
+        }
+        Err(error) => Err(error),
+    }
+}
