@@ -7,16 +7,16 @@ use Rattle.jb_conf.specs.declared.board.BoardArea.{BoardArea}
 use Rattle.jb_disk.specs.Device.{Device}
 use Rattle.jb_host.specs.Desk.{Desk}
 use Rattle.jb_model.specs.declared.entry.Entry.{Entry}
-use Rattle.jb_shared.specs.Passes.{Known, PassView}
+use Rattle.jb_shared.specs.Passes.{Known, PassView, first_known}
 use Rattle.jb_shared.specs.declared.opening.Opening.{Opening}
 use Rattle.jb_areas.specs.All.{Abandons, ClosesAll, OpenAs}
-use Rattle.jb_areas.specs.Lives.{Ends, KeepsArea, Leaves, OpensAs, first_known}
+use Rattle.jb_areas.specs.Lives.{Ends, KeepsArea, Leaves, GoesOnFrom}
 use Rattle.jb_areas.proofs.EndLemmas.{known_here}
 use Rattle.jb_areas.proofs.WholeLemmas.{nobody}
 
 -- what is closed with no call is left as it was opened
 keeps_area : (by : AreaRules) (before after : Device) (opening : Opening) (row : List PassView) (is_doubtful : Bool)
-    → OpensAs by before opening → ((n : ℕ) → n < length row → (slice_index_or row n nobody).known ≡ first_known (n + 1) opening) → Ends row is_doubtful after → KeepsArea by before after
+    → GoesOnFrom by before opening → ((n : ℕ) → n < length row → (slice_index_or row n nobody).known ≡ first_known (n + 1) opening) → Ends row is_doubtful after → KeepsArea by before after
 keeps_area by before after opening row is_doubtful opens fresh ends =
     let longest = ends.longest in
     let place = known_here row longest.0 longest.1 in
@@ -26,7 +26,7 @@ keeps_area by before after opening row is_doubtful opens fresh ends =
     let settled : Leaves ends.opening [] is_doubtful after = subst (λ (h : List Entry). Leaves ends.opening h is_doubtful after) nothing ends.leaves in
     record {
       opening = ends.opening;
-      opens = subst (OpensAs by before) same opens;
+      opens = subst (GoesOnFrom by before) same opens;
       leaves = subst (λ (b : Bool). Leaves ends.opening [] b after) settled.stopped settled;
     }
 

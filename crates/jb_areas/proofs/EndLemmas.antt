@@ -8,8 +8,7 @@ use Rattle.jb_conf.specs.declared.board.BoardArea.{BoardArea}
 use Rattle.jb_disk.specs.Device.{Device}
 use Rattle.jb_host.specs.Desk.{Desk, TakesBack}
 use Rattle.jb_turn.specs.Rows.{Has}
-use Rattle.jb_turn.specs.Whole.{HasAll}
-use Rattle.jb_shared.specs.Closing.{known_by}
+use Rattle.jb_shared.specs.Closing.{HasAll, known_by}
 use Rattle.jb_shared.specs.Passes.{Known, PassView}
 use Rattle.jb_shared.specs.declared.shared.SharedArea.{SharedArea}
 use Rattle.jb_areas.specs.All.{ClosesLast}

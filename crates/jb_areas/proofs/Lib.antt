@@ -3,6 +3,7 @@ pub mod RowLemmas
 pub mod DeskLemmas
 pub mod WholeLemmas
 pub mod OpenLemmas
+pub mod StoppedLemmas
 pub mod LifeLemmas
 pub mod EndLemmas
 pub mod CloseLemmas

@@ -17,19 +17,18 @@ use Rattle.jb_host.specs.Desk.{Desk, GivesDisk, TakesBack}
 use Rattle.jb_model.specs.History.{last_faults}
 use Rattle.jb_model.specs.Standing.{InDoubt, Settled, Standing, is_settled}
 use Rattle.jb_model.specs.declared.loaded.Loaded.{Loaded}
-use Rattle.jb_turn.specs.Whole.{HasAll}
-use Rattle.jb_shared.specs.Closing.{Closes, IsMissing, known_by}
+use Rattle.jb_shared.specs.Closing.{Closes, HasAll, IsMissing, known_by}
 use Rattle.jb_shared.specs.Histories.{stopped_last}
 use Rattle.jb_shared.specs.Passes.{PassView}
 use Rattle.jb_shared.specs.Standing.{IsAt, opening_of}
 use Rattle.jb_shared.specs.declared.error.CloseError.{CloseError}
 use Rattle.jb_shared.specs.declared.error.CloseError.TheVariants.{PassMissing}
 use Rattle.jb_shared.specs.declared.shared.SharedArea.{SharedArea}
-use Rattle.jb_shared.proofs.HistoryLemmas.{stopped_rose}
 use Rattle.jb_areas.specs.Errors.{RefusesArea}
-use Rattle.jb_areas.specs.Lives.{Ends, HoldsAt, OpensAs, OpensOver, SharesArea}
+use Rattle.jb_areas.specs.Lives.{Ends, HoldsAt, GoesOnFrom, OpensOver, SharesArea}
 use Rattle.jb_areas.specs.declared.error.AreasError.TheVariants.{OutOfMemory}
 use Rattle.jb_areas.proofs.OpenLemmas.{OpensOne}
+use Rattle.jb_areas.proofs.StoppedLemmas.{stopped_rose}
 use Rattle.jb_areas.proofs.WholeLemmas.{nobody}
 
 -- texts are told where the files are
@@ -54,11 +53,11 @@ takes_back_at dir name dir' name' device old new same_dir same_name back =
 
 -- no pass is missing where all are there
 pub none_missing : (passes : List PassView) (count : ℕ) (error : CloseError) → HasAll (known_by passes) count → IsMissing passes count error → ⊥
-none_missing passes count (PassMissing node) all missing = let has = all node missing.0 missing.1 in missing.2 has.0 has.1 has.2
+none_missing passes count (PassMissing node) all missing = missing.2 (all node missing.0 missing.1)
 
 module _ {D : Type 0} (shown : D → Device) where
   -- what an area goes on from is how it stands as it is shared
-  opens_as : (by : AreaRules) (before : Device) (opened : OpenArea D) → OpensOver shown by before opened → OpensAs by before (opening_of shown opened)
+  opens_as : (by : AreaRules) (before : Device) (opened : OpenArea D) → OpensOver shown by before opened → GoesOnFrom by before (opening_of shown opened)
   opens_as by before opened over = record {
     rules = over.rules;
     few = subst (λ (r : AreaRules). length (loaded_of opened).slots ≤ r.slots) over.rules over.rest.rests.kept.ruled.sound.few_slots;
@@ -78,7 +77,7 @@ module _ {D : Type 0} (shown : D → Device) where
     gives = shares.gives;
     opens = opens_as area.rules shares.before shares.opened shares.opens;
     fresh = λ n here.
-        ap (λ (p : PassView). p.known) (shares.shares.fresh n (slice_index_or row n nobody) (slice_get-get_or row n nobody (omega (arith, here, shares.shares.count))));
+        shares.shares.fresh n (slice_index_or row n nobody) (slice_get-get_or row n nobody (omega (arith, here, shares.shares.count)));
     count = shares.shares.count;
     ours = shares.shares.ours;
     all = shares.shares.seats;

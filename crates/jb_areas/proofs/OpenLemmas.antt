@@ -7,11 +7,11 @@ use Rattle.jb_conf.specs.declared.board.BoardArea.{BoardArea}
 use Rattle.jb_disk.specs.Device.{Device}
 use Rattle.jb_host.specs.Desk.{Desk, GivesDisk}
 use Rattle.jb_shared.specs.Areas.{IsOf, passes_of}
-use Rattle.jb_shared.specs.Passes.{Known, PassView}
+use Rattle.jb_shared.specs.Passes.{Known, PassView, first_known}
 use Rattle.jb_shared.specs.declared.opening.Opening.{Opening}
 use Rattle.jb_shared.specs.declared.shared.SharedArea.{SharedArea}
 use Rattle.jb_areas.specs.All.{AreLive, AreWhole, OpenAs, OpensAll}
-use Rattle.jb_areas.specs.Lives.{HasLive, OpensAs, first_known}
+use Rattle.jb_areas.specs.Lives.{HasLive, GoesOnFrom}
 use Rattle.jb_areas.specs.Rows.{IsDealt, lists_of}
 use Rattle.jb_areas.specs.declared.opening.SharedAreas.{SharedAreas}
 use Rattle.jb_areas.proofs.DeskLemmas.{hands_out_more, hands_out_none}
@@ -30,11 +30,11 @@ open_none nodes = record {
 -- one area more is open
 open_more : (areas : List BoardArea) (befores : List Device) (openings : List Opening) (fewer : List (List PassView)) (area : BoardArea) (before : Device) (opening : Opening)
     (row : List PassView) (more : List (List PassView)) → length befores ≡ length areas → ((n : ℕ) → n < length fewer → length (slice_index_or fewer n []) ≡ length areas)
-    → OpensAs area.rules before opening → ((n : ℕ) → n < length fewer → (slice_index_or row n nobody).known ≡ first_known (n + 1) opening) → IsDealt fewer row more
+    → GoesOnFrom area.rules before opening → ((n : ℕ) → n < length fewer → (slice_index_or row n nobody).known ≡ first_known (n + 1) opening) → IsDealt fewer row more
     → OpenAs areas befores openings fewer → OpenAs (areas ++ area ∷ []) (befores ++ before ∷ []) (openings ++ opening ∷ []) more
 open_more areas befores openings fewer area before opening row more same_befores same_passes opens fresh dealt open_as = record {
   count = length_push openings opening ∙ ap (λ (n : ℕ). n + 1) open_as.count ∙ sym (length_push areas area);
-  opens = each_last (λ (a : BoardArea) (d : Device) (o : Opening). OpensAs a.rules d o) areas area befores before openings opening same_befores open_as.count open_as.opens opens;
+  opens = each_last (λ (a : BoardArea) (d : Device) (o : Opening). GoesOnFrom a.rules d o) areas area befores before openings opening same_befores open_as.count open_as.opens opens;
   fresh = λ n k p o here within.
       let low : n < length fewer = omega (arith, here, dealt.lists) in
       let passes : List PassView = slice_index_or fewer n [] in
@@ -74,7 +74,7 @@ module _ {D : Type 0} where
 
   -- one area more is open and shared
   pub opens_more : (areas : List BoardArea) (nodes : ℕ) (area : BoardArea) (before : Device) (opening : Opening) (row : List PassView) (old mid new : Desk) (fewer more : SharedAreas D)
-      → GivesDisk area.dir area.base before mid new → OpensAs area.rules before opening → ((n : ℕ) → n < nodes → (slice_index_or row n nobody).known ≡ first_known (n + 1) opening)
+      → GivesDisk area.dir area.base before mid new → GoesOnFrom area.rules before opening → ((n : ℕ) → n < nodes → (slice_index_or row n nobody).known ≡ first_known (n + 1) opening)
       → IsDealt (lists_of fewer.nodes.items) row (lists_of more.nodes.items) → AreWhole more nodes (length areas + 1)
       → CountsOne opening fewer more → OpensAll areas nodes old mid fewer → OpensAll (areas ++ area ∷ []) nodes old new more
   opens_more areas nodes area before opening row old mid new fewer more gives opens fresh dealt whole counts all =
@@ -92,7 +92,7 @@ module _ {D : Type 0} where
   -- the same at a place of the list
   pub opens_at : (areas : List BoardArea) (nodes k : ℕ) (area : BoardArea) (before : Device) (opening : Opening) (row : List PassView) (old mid new : Desk) (fewer more : SharedAreas D)
       → k < length areas → area ≡ slice_index_or areas k area
-      → GivesDisk area.dir area.base before mid new → OpensAs area.rules before opening → ((n : ℕ) → n < nodes → (slice_index_or row n nobody).known ≡ first_known (n + 1) opening)
+      → GivesDisk area.dir area.base before mid new → GoesOnFrom area.rules before opening → ((n : ℕ) → n < nodes → (slice_index_or row n nobody).known ≡ first_known (n + 1) opening)
       → IsDealt (lists_of fewer.nodes.items) row (lists_of more.nodes.items) → AreWhole more nodes (k + 1)
       → CountsOne opening fewer more → OpensAll (take k areas) nodes old mid fewer → OpensAll (take (k + 1) areas) nodes old new more
   opens_at areas nodes k area before opening row old mid new fewer more within here gives opens fresh dealt whole counts all =
@@ -112,7 +112,7 @@ module _ {D : Type 0} where
     pub before : Device
     pub opening : Opening
     pub gives : GivesDisk area.dir area.base before old new
-    pub opens : OpensAs area.rules before opening
+    pub opens : GoesOnFrom area.rules before opening
     pub fresh : (n : ℕ) → n < nodes → (slice_index_or row n nobody).known ≡ first_known (n + 1) opening
     pub count : length row ≡ nodes
     pub ours : All (IsOf one) row

@@ -7,7 +7,6 @@ use Rattle.std.proofs.lemmas.List.Elements.{All-push}
 use Rattle.jb_shared.specs.Areas.{IsOf, passes_of}
 use Rattle.jb_shared.specs.Passes.{PassView}
 use Rattle.jb_shared.specs.declared.shared.SharedArea.{SharedArea}
-use Rattle.jb_turn.specs.Rows.{row}
 use Rattle.jb_areas.specs.All.{AreWhole, passes_at}
 use Rattle.jb_areas.specs.Rows.{AreRoomy, HaveRoom, IsDealt, lists_of}
 use Rattle.jb_areas.specs.declared.opening.SharedAreas.{SharedAreas}
@@ -16,7 +15,7 @@ use Rattle.jb_areas.proofs.RowLemmas.{dealt_length, length-lists_of, list_at}
 
 -- a pass of no area
 abbrev pub nobody : PassView
-nobody = record { area = None; known = row 0 None [] [] [] }
+nobody = record { area = None; known = record { node = 0; opening = None; front = []; mine = []; refused = []; shown = []; looks = []; barred = 0 } }
 
 -- the pass is of this node, counted from 0
 abbrev pub IsAt : ℕ → PassView → Type 0

@@ -6,11 +6,11 @@ use Rattle.jb_conf.specs.declared.board.BoardArea.{BoardArea}
 use Rattle.jb_disk.specs.Device.{Device}
 use Rattle.jb_host.specs.Desk.{Desk, TakesBack}
 use Rattle.jb_shared.specs.Areas.{IsOf, passes_of}
-use Rattle.jb_shared.specs.Passes.{PassView}
+use Rattle.jb_shared.specs.Passes.{PassView, first_known}
 use Rattle.jb_shared.specs.declared.opening.Opening.{Opening}
 use Rattle.jb_areas.specs.Desks.{HandsOut, PutsBack}
 use Rattle.jb_areas.specs.Errors.{AsksNothing, RefusesArea}
-use Rattle.jb_areas.specs.Lives.{Ends, HasLive, KeepsArea, OpensAs, first_known}
+use Rattle.jb_areas.specs.Lives.{Ends, HasLive, KeepsArea, GoesOnFrom}
 use Rattle.jb_areas.specs.Rows.{HaveRoom, IsColumn, IsDealt, lists_of}
 use Rattle.jb_areas.specs.declared.error.AreasError.{AreasError}
 use Rattle.jb_areas.specs.declared.opening.SharedAreas.{SharedAreas}
@@ -51,7 +51,7 @@ module _ {D : Type 0} where
 pub record OpenAs (areas : List BoardArea) (befores : List Device) (openings : List Opening) (nodes : List (List PassView)) : Type 0 where
   pub count : length openings ≡ length areas
   pub opens : (k : ℕ) (area : BoardArea) (device : Device) (opening : Opening) → k < length areas
-      → OpensAs (slice_index_or areas k area).rules (slice_index_or befores k device) (slice_index_or openings k opening)
+      → GoesOnFrom (slice_index_or areas k area).rules (slice_index_or befores k device) (slice_index_or openings k opening)
   pub fresh : (n k : ℕ) (pass : PassView) (opening : Opening) → n < length nodes → k < length areas
       → (slice_index_or (slice_index_or nodes n []) k pass).known ≡ first_known (n + 1) (slice_index_or openings k opening)
 

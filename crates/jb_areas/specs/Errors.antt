@@ -1,6 +1,6 @@
 -- Why an area of a board is not opened, and what is left then.
 use Rattle.std.specs.Prelude.{◌≡◌, ◌⊎◌, ℕ, ◌≤◌}
-use Rattle.jb_area_open.specs.Opening.{FaultRose, KeepsOpening, OpensFirmly, Refuses}
+use Rattle.jb_area_open.specs.Opening.{OpeningFaultRose, KeepsOpening, OpensFirmly, Refuses}
 use Rattle.jb_area_open.specs.declared.error.OpeningError.{OpeningError}
 use Rattle.jb_area_open.specs.declared.error.OpeningError.TheVariants.{BadJournal, Base}
 use Rattle.jb_conf.specs.declared.board.BoardArea.{BoardArea}
@@ -28,7 +28,7 @@ pub record RefusesDisk (place slots : ℕ) (before after : Device) (error : Area
   pub why : OpeningError
   pub is : error ≡ of_opening place why
   pub refuses : Refuses slots before after why
-  pub cause : FaultRose before.faults after.faults why
+  pub cause : OpeningFaultRose before.faults after.faults why
   pub crash : KeepsOpening before after
   pub firm : OpensFirmly before after
   pub later : before.faults ≤ after.faults

@@ -20,10 +20,9 @@ use Rattle.jb_model.specs.Standing.{Standing, Settled, InDoubt, StandsWithin, is
 use Rattle.jb_model.specs.State.{state_of}
 use Rattle.jb_model.specs.declared.entry.Entry.{Entry}
 use Rattle.jb_model.specs.declared.loaded.Loaded.{Loaded}
-use Rattle.jb_turn.specs.Rows.{Has, row}
-use Rattle.jb_turn.specs.Whole.{HasNode}
+use Rattle.jb_turn.specs.Rows.{Has}
 use Rattle.jb_shared.specs.Areas.{IsShared}
-use Rattle.jb_shared.specs.Closing.{IsPartOf, known_by}
+use Rattle.jb_shared.specs.Closing.{HasNode, IsPartOf, known_by}
 use Rattle.jb_shared.specs.Histories.{IsHistory, Tells, leads_to, stopped_last}
 use Rattle.jb_shared.specs.Passes.{Known, PassView}
 use Rattle.jb_shared.specs.Standing.{doubt_between}
@@ -32,7 +31,7 @@ use Rattle.jb_shared.specs.declared.shared.SharedArea.{SharedArea}
 
 -- what an area goes on from is just what its files open to, by the rules of the board, with no more slots than they allow; the opening
 -- raised no count of faults
-pub record OpensAs (by : AreaRules) (before : Device) (opening : Opening) : Type 0 where
+pub record GoesOnFrom (by : AreaRules) (before : Device) (opening : Opening) : Type 0 where
   pub rules : opening.rules ≡ by
   pub few : length opening.loaded.slots ≤ by.slots
   pub faults : opening.faults ≡ before.faults
@@ -87,7 +86,7 @@ pub record Leaves (opening : Opening) (entries : List Entry) (is_doubtful : Bool
 -- an area was opened and closed again with no call: its disk is left settled at just what its files opened to
 pub record KeepsArea (by : AreaRules) (before after : Device) : Type 0 where
   pub opening : Opening
-  pub opens : OpensAs by before opening
+  pub opens : GoesOnFrom by before opening
   pub leaves : Leaves opening [] false after
 
 -- an area is closed with these passes: there is one history, the longest front, of which each knows a part and in which no other node
@@ -99,7 +98,3 @@ pub record Ends (passes : List PassView) (is_doubtful : Bool) (after : Device) :
   pub each : (known : Known) → Has (known_by passes) known → IsPartOf opening history known
   pub others : (node : ℕ) → (HasNode (known_by passes) node → ⊥) → calls_of node history ≡ []
   pub longest : (known : Known) × Has (known_by passes) known × (known.front ≡ history)
-
--- what this node knows of an area that is just shared: it has seen nothing
-abbrev pub first_known : ℕ → Opening → Known
-first_known node opening = row node (Some opening) [] [] []

@@ -8,16 +8,17 @@ ghost use Rattle.jb_areas.specs.Errors.{RefusesArea};
 use crate::AreasError;
 use crate::closing::abandon_areas;
 use crate::dealing::{deal, roomy_lists};
-use crate::sharing::share;
+use crate::sharing::{Shared, share};
 use jb_base::OutOfMemory;
 use jb_conf::BoardArea;
 use jb_disk::Disk;
 use jb_host::Host;
 use jb_shared::{Pass, SharedArea};
 use std::alloc::Global;
+use std::sync::Wait;
 
-/// Areas that are shared among several nodes, in order, and the passes of each node.
-#[derive(Drop)]
+/// Areas that are shared among several nodes, in order, and the passes of each node. It is not `Drop`: end it by `close_areas` or
+/// `abandon_areas`.
 pub struct SharedAreas<D: Disk> {
     pub areas: Vec<SharedArea<D>>,
     /// For each node, from 1 on, its passes: one of each area, in order.
@@ -25,11 +26,11 @@ pub struct SharedAreas<D: Disk> {
     /// For each area how many of its messages were live as it was opened.
     pub live: Vec<usize>,
     /// For each area room for its passes, so that it can be closed without memory.
-    pub(crate) rooms: Vec<Vec<Pass>>,
+    pub rooms: Vec<Vec<Pass>>,
 }
 
 /// Room for so many areas and their passes for so many nodes.
-fn with_room<D: Disk + Drop>(
+fn with_room<D: Disk>(
     alloc: Global,
     count: usize,
     nodes: u32,
@@ -38,10 +39,10 @@ fn with_room<D: Disk + Drop>(
     ensures none { IfOk result (λ shared. AreWhole shared nodes 0) }
     ensures uncounted { IfOk result (λ shared. shared.live.items ≡ []) }
 {
-    let areas = Vec::with_capacity(alloc, count)?;
     let nodes = roomy_lists(alloc, nodes as usize, count)?;
     let live = Vec::with_capacity(alloc, count)?;
     let rooms = Vec::with_capacity(alloc, count)?;
+    let areas = Vec::with_capacity(alloc, count)?;
     Ok(SharedAreas {
         areas,
         nodes,
@@ -51,7 +52,8 @@ fn with_room<D: Disk + Drop>(
 }
 
 /// Opens and shares the next area.
-fn open_next<H: Host>(
+fn open_next<R: Wait, H: Host>(
+    rt: &R,
     alloc: Global,
     host: &mut H,
     areas: &[BoardArea],
@@ -72,16 +74,22 @@ fn open_next<H: Host>(
         × ((area : BoardArea) → RefusesArea (length shared.old.areas.items + 1) (slice_index_or areas.now (length shared.old.areas.items) area) (H.desk host.old) (H.desk host.new) error)) }
 {
     let k = shared.areas.len();
-    let mut opened = share(alloc, host, &areas[k], k as u32 + 1, nodes)?;
-    deal(&mut shared.nodes, &mut opened.passes);
-    shared.areas.push_reserved(opened.area);
-    shared.rooms.push_reserved(opened.passes);
-    shared.live.push_reserved(opened.live);
+    let opened = share(rt, alloc, host, &areas[k], k as u32 + 1, nodes)?;
+    let Shared {
+        area,
+        mut passes,
+        live,
+    } = opened;
+    deal(&mut shared.nodes, &mut passes);
+    shared.areas.push_reserved(area);
+    shared.rooms.push_reserved(passes);
+    shared.live.push_reserved(live);
     Ok(())
 }
 
 /// Opens and shares the areas that are left.
-fn open_rest<H: Host>(
+fn open_rest<R: Wait, H: Host>(
+    rt: &R,
     alloc: Global,
     host: &mut H,
     areas: &[BoardArea],
@@ -97,14 +105,15 @@ fn open_rest<H: Host>(
     ensures err { IfErr result (StopsAt areas.now nodes (H.desk host.old) (H.desk host.new) shared.new) }
 {
     while shared.areas.len() < areas.len() {
-        open_next(alloc, host, areas, shared, nodes)?;
+        open_next(rt, alloc, host, areas, shared, nodes)?;
     }
     Ok(())
 }
 
 /// Opens the areas of a board and shares each among so many nodes, from 1 to 33, in order. Each change that a journal holds is done
 /// as its area is opened. At the first area that is refused those before it are closed, and the disks are back.
-pub fn open_areas<H: Host>(
+pub fn open_areas<R: Wait, H: Host>(
+    rt: &R,
     alloc: Global,
     host: &mut H,
     areas: &[BoardArea],
@@ -116,10 +125,10 @@ pub fn open_areas<H: Host>(
     ensures err { IfErr result (RefusesAll areas.now (H.desk host.old) (H.desk host.new)) }
 {
     let mut shared = with_room(alloc, areas.len(), nodes)?;
-    match open_rest(alloc, host, areas, &mut shared, nodes) {
+    match open_rest(rt, alloc, host, areas, &mut shared, nodes) {
         Ok(()) => Ok(shared),
         Err(error) => {
-            abandon_areas(host, areas, shared);
+            abandon_areas(rt, host, areas, shared);
             Err(error)
         }
     }

@@ -7,8 +7,7 @@ ghost use Rattle.jb_host.specs.Desk.{GivesDisk, TakesBack, handed_out};
 ghost use Rattle.jb_model.specs.Live.{live_count};
 ghost use Rattle.jb_model.specs.State.{slot_state};
 ghost use Rattle.jb_shared.specs.Areas.{IsOf, passes_of};
-ghost use Rattle.jb_shared.specs.Closing.{known_by};
-ghost use Rattle.jb_turn.specs.Whole.{HasAll};
+ghost use Rattle.jb_shared.specs.Closing.{known_by, HasAll};
 ghost use Rattle.jb_areas.specs.Errors.{RefusesArea};
 ghost use Rattle.jb_areas.specs.Lives.{Ends, OpensOver, SharesArea};
 
@@ -23,9 +22,9 @@ use jb_host::Host;
 use jb_model::LoadedSlot;
 use jb_shared::{Pass, SharedArea};
 use std::alloc::Global;
+use std::sync::Wait;
 
 /// An area that is open and shared.
-#[derive(Drop)]
 pub(crate) struct Shared<D: Disk> {
     pub area: SharedArea<D>,
     /// One of each node, from 1 on.
@@ -71,7 +70,8 @@ fn open_disk<H: Host>(
 
 /// Opens the area at this place of the board, counted from 1, and shares it among so many nodes; where that is refused its disk
 /// is back.
-pub(crate) fn share<H: Host>(
+pub(crate) fn share<R: Wait, H: Host>(
+    rt: &R,
     alloc: Global,
     host: &mut H,
     area: &BoardArea,
@@ -87,7 +87,7 @@ pub(crate) fn share<H: Host>(
     let rules = area.rules.copy(alloc)?;
     let opened = open_disk(alloc, host, area, place, rules)?;
     let live = count_live(opened.loaded().slots.as_slice());
-    match SharedArea::new(alloc, opened, nodes) {
+    match SharedArea::new(rt, alloc, opened, nodes) {
         Ok((area, passes)) => Ok(Shared { area, passes, live }),
         Err(opened) => {
             host.put_back(area.dir.as_str(), area.base.as_str(), opened.close());
@@ -97,7 +97,8 @@ pub(crate) fn share<H: Host>(
 }
 
 /// Closes an area with all its passes and puts its disk back. Says whether the area is in doubt.
-pub(crate) fn end<H: Host>(
+pub(crate) fn end<R: Wait, H: Host>(
+    rt: &R,
     host: &mut H,
     area: &BoardArea,
     shared: SharedArea<H::Disk>,
@@ -107,10 +108,12 @@ pub(crate) fn end<H: Host>(
     requires all { HasAll (known_by passes.items) (passes_of shared) }
     ensures { (after : Device) × TakesBack area.now.dir area.now.base after (H.desk host.old) (H.desk host.new) × Ends passes.items result after }
 {
-    let Ok(opened) = shared.close(passes) else {
-        unreachable!()
-    };
-    let is_doubtful = opened.in_doubt();
-    host.put_back(area.dir.as_str(), area.base.as_str(), opened.close());
-    is_doubtful
+    match shared.close(rt, passes) {
+        Ok(opened) => {
+            let is_doubtful = opened.in_doubt();
+            host.put_back(area.dir.as_str(), area.base.as_str(), opened.close());
+            is_doubtful
+        }
+        Err(_kept) => unreachable!(),
+    }
 }

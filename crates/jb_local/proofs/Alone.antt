@@ -8,9 +8,10 @@ use Rattle.jb_areas.specs.Rows.{IsColumn}
 use Rattle.jb_disk.specs.Device.{Device}
 use Rattle.jb_model.specs.History.{calls_of}
 use Rattle.jb_model.specs.declared.entry.Entry.{Entry}
+use Rattle.jb_shared.specs.Closing.{OneBegins}
 use Rattle.jb_shared.specs.Histories.{settled_of}
-use Rattle.jb_shared.specs.Passes.{Known, PassView, shown_of}
-use Rattle.jb_turn.specs.Rows.{Begins, Has}
+use Rattle.jb_shared.specs.Passes.{Known, PassView}
+use Rattle.jb_turn.specs.Rows.{Has}
 use Rattle.jb_local.specs.Alone.{EndEach, EndsAlone}
 
 -- the only one is it
@@ -30,7 +31,7 @@ ends_alone pass is_doubtful after ends =
       mine = ap (calls_of pass.known.node) same ∙ part.mine;
       others = λ node other.
           ap (calls_of node) same ∙ ends.others node (λ has. other (sym has.2 ∙ ap (λ (k : Known). k.node) (sym (has_one pass.known has.0 has.1))));
-      shown = subst (λ (h : List Entry). Begins (shown_of pass.known) (settled_of ends.opening h)) (sym same) part.shown;
+      shown = subst (λ (h : List Entry). OneBegins pass.known.shown (settled_of h)) (sym same) part.shown;
     }
 
 -- a column of one list is its element

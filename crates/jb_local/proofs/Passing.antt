@@ -16,13 +16,12 @@ use Rattle.jb_session.specs.Served.{Served}
 use Rattle.jb_session.specs.declared.end.SessionEnd.{SessionEnd}
 use Rattle.jb_shared.specs.Calls.{Calls, IsStopped, ending, recording}
 use Rattle.jb_shared.specs.Looks.{Looks}
-use Rattle.jb_shared.specs.Passes.{Known, PassView}
+use Rattle.jb_shared.specs.Passes.{Known, PassView, seen, turned_away}
 use Rattle.jb_shared.specs.declared.error.SharedError.{SharedError}
-use Rattle.jb_shared.specs.declared.error.SharedError.TheVariants.{StoreFault, RunSpent, OutOfMemory}
+use Rattle.jb_shared.specs.declared.error.SharedError.TheVariants.{StoreFault, Gap, RunSpent, OutOfMemory}
 use Rattle.jb_talk.specs.declared.request.Act.{Act}
 use Rattle.jb_talk.specs.declared.request.Act.TheVariants.{Ask, Look, Count}
 use Rattle.jb_talk.specs.declared.request.Request.{Request}
-use Rattle.jb_turn.specs.Steps.{seen}
 
 -- the pass is still of this node, and goes on from this opening
 pub record KeepsStart (old new : Known) : Type 0 where
@@ -56,12 +55,19 @@ pub called : (old new : Known) (user : User) (moment : ℕ) (command : Command) 
 called old new user moment command (Ok reply) c = of_seen old new c.taken (records (seen old c.taken) new c.answers.1.0 _ c.answers.1.1)
 called old new user moment command (Err StoreFault) c = of_seen old new c.taken (stopped (seen old c.taken) new user moment command c.answers.1)
 called old new user moment command (Err OutOfMemory) c = of_seen old new c.taken (ends (seen old c.taken) new c.answers.1.0 c.answers.1.1)
+called old new user moment command (Err (Gap shown held)) c =
+    let is = c.answers.1.2 in
+    record { node = ap (λ (k : Known). k.node) is; opening = ap (λ (k : Known). k.opening) is }
 called old new user moment command (Err RunSpent) c =
     let is = c.answers.1 in
     record { node = ap (λ (k : Known). k.node) is; opening = ap (λ (k : Known). k.opening) is }
 
 looked : (old new : Known) → Looks old new → KeepsStart old new
-looked old new l = record { node = l.same.0; opening = l.from.1 ∙ sym l.from.0 }
+looked old new l = record { node = ap (λ (k : Known). k.node) l.same; opening = ap (λ (k : Known). k.opening) l.same }
+
+-- a look that is not let in keeps both
+barred : (old new : Known) → new ≡ turned_away old → KeepsStart old new
+barred old new is = record { node = ap (λ (k : Known). k.node) is; opening = ap (λ (k : Known). k.opening) is }
 
 some_of : {A : Type 0} (xs : List A) (n : ℕ) → n < length xs → A
 some_of [] n within = absurd (omega (arith, within))
@@ -71,9 +77,12 @@ module _ (reading : Option ℕ) where
   answered : (user : User) (act : Act) (old new : Known) (what : Given) → Gives reading user act old new what → KeepsStart old new
   answered user (Ask command) old new (given.Reply reply) g = called old new user g.0 command (Ok reply) g.2
   answered user (Ask command) old new (given.Fault fault.StoreFault) g = called old new user g.0 command (Err StoreFault) g.2
+  answered user (Ask command) old new (given.Fault (fault.Gap shown held)) g = called old new user g.0 command (Err (Gap shown held)) g.2
   answered user (Ask command) old new (given.Fault fault.RunSpent) g = called old new user g.0 command (Err RunSpent) g.2
   answered user (Look question) old new (given.Answer answer) g = looked old new g.0
+  answered user (Look question) old new (given.Fault fault.Barred) g = barred old new g
   answered user Count old new (given.Count unread) g = looked old new g.0
+  answered user Count old new (given.Fault fault.Barred) g = barred old new g
   answered user act old new what g = absurd g
 
   wanted : (user : User) (act : Act) (old new : Known) → Wants reading user act old new → KeepsStart old new

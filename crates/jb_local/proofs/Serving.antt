@@ -9,10 +9,11 @@ use Rattle.std.proofs.lemmas.List.{length-set, with_items_is}
 use Rattle.jb_areas.specs.All.{AreWhole, ClosesAll, OpenAs, OpensAll, any, passes_at}
 use Rattle.jb_areas.specs.Desks.{Stand, asked_for, with_each, without}
 use Rattle.jb_areas.specs.declared.opening.SharedAreas.{SharedAreas}
-use Rattle.jb_areas.specs.Lives.{OpensAs}
+use Rattle.jb_areas.specs.Lives.{GoesOnFrom}
 use Rattle.jb_areas.specs.Rows.{lists_of}
 use Rattle.jb_areas.proofs.Callers.{only_list, still_whole}
 use Rattle.jb_areas.proofs.RowLemmas.{length-lists_of, list_at}
+use Rattle.jb_areas.proofs.WholeLemmas.{nobody}
 use Rattle.jb_base.specs.Fault.{Rose}
 use Rattle.jb_base.specs.declared.area.AreaRules.{AreaRules}
 use Rattle.jb_conf.specs.declared.board.Board.{Board}
@@ -28,7 +29,6 @@ use Rattle.jb_shared.specs.Areas.{IsOf}
 use Rattle.jb_shared.specs.Passes.{Known, PassView}
 use Rattle.jb_shared.specs.declared.opening.Opening.{Opening}
 use Rattle.jb_shared.specs.declared.shared.SharedArea.{SharedArea}
-use Rattle.jb_turn.specs.Rows.{row}
 use Rattle.jb_local.specs.Alone.{EndEach, EndsAlone}
 use Rattle.jb_local.specs.Local.{HasBoard, OneFailed, ServesOne}
 use Rattle.jb_local.proofs.Alone.{end_each}
@@ -59,7 +59,7 @@ faults_of None = 0
 faults_of (Some opening) = opening.faults
 
 -- an area that is in doubt when it is closed has a disk that failed since it was opened
-area_failed : (by : AreaRules) (known : Known) (opening : Opening) (before after : Device) (is_doubtful : Bool) → OpensAs by before opening
+area_failed : (by : AreaRules) (known : Known) (opening : Opening) (before after : Device) (is_doubtful : Bool) → GoesOnFrom by before opening
     → known.opening ≡ Some opening → EndsAlone known is_doubtful after → is_doubtful ≡ true → Rose before.faults after.faults
 area_failed by known opening before after is_doubtful opened from ended doubtful =
     let same : ended.opening.faults ≡ before.faults = ap faults_of (sym ended.from ∙ from) ∙ opened.faults in
@@ -79,7 +79,7 @@ one_failed areas befores afters openings from to doubts opens count went_on ends
     let within : one.0 < length areas = omega (arith, one.1, ends.count, count) in
     let inside : one.0 < length to = omega (arith, within, count) in
     let area = some_area areas one.0 within in
-    let pass : PassView = record { area = None; known = row 1 None [] [] [] } in (
+    let pass : PassView = nobody in (
       one.0,
       within,
       λ before after.

@@ -66,9 +66,9 @@ pub fn local<R: Wait, H: Host>(
     ensures { RunsLocal path.now (H.desk host.old) (H.desk host.new) result }
 {
     let board = board_at(alloc, host, path)?;
-    let mut shared = open_areas(alloc, host, board.areas.as_slice(), 1)?;
+    let mut shared = open_areas(rt, alloc, host, board.areas.as_slice(), 1)?;
     let session = serve(rt, alloc, host, &board, &mut shared);
-    let is_doubtful = close_areas(host, board.areas.as_slice(), shared);
+    let is_doubtful = close_areas(rt, host, board.areas.as_slice(), shared);
     Ok(LocalEnd {
         session,
         is_doubtful,

@@ -1,11 +1,12 @@
 -- What is left of the areas when all have worked: each goes on from its opening to one history of all of its nodes.
 use Rattle.std.specs.declared.alloc.Global.{Global}
 use Rattle.std.proofs.Common.{Vec, ◌≡◌, ℕ, zero, suc, ◌+◌, ◌<◌, ◌≤◌, Bool, true, List, [], ◌∷◌, length, refl, sym, ap, subst, ◌∙◌, arith}
-use Rattle.std.specs.Prelude.{Option, Some, None, slice_index_or}
+use Rattle.std.specs.Prelude.{Option, Some, slice_index_or}
 use Rattle.jb_areas.proofs.Callers.{still_whole}
 use Rattle.jb_areas.proofs.RowLemmas.{length-lists_of}
+use Rattle.jb_areas.proofs.WholeLemmas.{nobody}
 use Rattle.jb_areas.specs.All.{AreOpenable, AreWhole, EndsAt, OpenAs, any, passes_at}
-use Rattle.jb_areas.specs.Lives.{Ends, OpensAs}
+use Rattle.jb_areas.specs.Lives.{Ends, GoesOnFrom}
 use Rattle.jb_areas.specs.Rows.{IsColumn, lists_of}
 use Rattle.jb_areas.specs.declared.opening.SharedAreas.{SharedAreas}
 use Rattle.jb_base.specs.Fault.{Rose}
@@ -21,16 +22,12 @@ use Rattle.jb_shared.specs.Closing.{known_by}
 use Rattle.jb_shared.specs.Passes.{Known, PassView}
 use Rattle.jb_shared.specs.declared.opening.Opening.{Opening}
 use Rattle.jb_shared.specs.declared.shared.SharedArea.{SharedArea}
-use Rattle.jb_turn.specs.Rows.{Has, row}
+use Rattle.jb_turn.specs.Rows.{Has}
 use Rattle.jb_nodes.specs.Nodes.{EndAll, EndsFrom}
 use Rattle.jb_nodes.specs.Workers.{Rows}
 use Rattle.jb_nodes.specs.Working.{AreAllOf}
 use Rattle.jb_nodes.proofs.Lists.{one_of}
 use Rattle.jb_nodes.proofs.Starts.{KeepStarts}
-
--- a pass of no area, and an opening of none
-abbrev nobody : PassView
-nobody = record { area = None; known = row 0 None [] [] [] }
 
 -- all still are of their nodes and go on from their openings
 abbrev pub AllKeepStarts : Rows → Rows → Type 0

@@ -15,7 +15,6 @@ use Rattle.jb_server.specs.Tallies.{no_tally}
 use Rattle.jb_server.specs.declared.tally.Tally.{Tally}
 use Rattle.jb_session.specs.Exchanges.{Asks}
 use Rattle.jb_shared.specs.Passes.{Known, PassView}
-use Rattle.jb_turn.specs.Rows.{row}
 use Rattle.jb_nodes.specs.Workers.{Rows, packer}
 use Rattle.jb_nodes.specs.Working.{WorkAll}
 

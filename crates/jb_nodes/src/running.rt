@@ -110,7 +110,7 @@ where
             };
             tell_open(host, board, shared.live.as_slice());
             let door_failed = work(rt, alloc, host, board, &mut shared, crew);
-            let is_doubtful = close_areas(host, board.areas.as_slice(), shared);
+            let is_doubtful = close_areas(rt, host, board.areas.as_slice(), shared);
             host.note("closed");
             Ok(NodesEnd {
                 is_doubtful,
@@ -119,7 +119,7 @@ where
         }
         Err(error) => {
             part_nodes(host, &mut shared.nodes, workers);
-            abandon_areas(host, board.areas.as_slice(), shared);
+            abandon_areas(rt, host, board.areas.as_slice(), shared);
             Err(error)
         }
     }
@@ -147,6 +147,6 @@ where
     let Ok(room) = room_for(alloc, board.nodes) else {
         return Err(RunError::OutOfMemory);
     };
-    let shared = open_areas(alloc, host, board.areas.as_slice(), board.nodes + 1)?;
+    let shared = open_areas(rt, alloc, host, board.areas.as_slice(), board.nodes + 1)?;
     Ok(serve_areas(rt, alloc, host, &board, calls, room, shared)?)
 }

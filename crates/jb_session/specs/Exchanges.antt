@@ -13,9 +13,9 @@ use Rattle.jb_model.specs.declared.reply.Reply.{Reply}
 use Rattle.jb_shared.specs.Areas.{IsOf}
 use Rattle.jb_shared.specs.Calls.{Calls}
 use Rattle.jb_shared.specs.Looks.{Looks, OfShown}
-use Rattle.jb_shared.specs.Passes.{Known, PassView}
+use Rattle.jb_shared.specs.Passes.{Known, PassView, turned_away}
 use Rattle.jb_shared.specs.declared.error.SharedError.{SharedError}
-use Rattle.jb_shared.specs.declared.error.SharedError.TheVariants.{StoreFault, RunSpent, OutOfMemory}
+use Rattle.jb_shared.specs.declared.error.SharedError.TheVariants.{StoreFault, Gap, RunSpent, OutOfMemory}
 use Rattle.jb_shared.specs.declared.shared.SharedArea.{SharedArea}
 use Rattle.jb_talk.specs.declared.request.Act.{Act}
 use Rattle.jb_talk.specs.declared.request.Act.TheVariants.{Ask, Look, Count}
@@ -45,13 +45,17 @@ module _ (reading : Option ℕ) where
   abbrev pub Asks : User → Command → Known → Known → Result Reply SharedError → Type 0
   Asks user command old new result = (moment : ℕ) × ForSome reading (λ shown. moment ≡ shown) × Calls old new user moment command result
 
-  -- how a pass answers an act of the user: a call with its reply or the fault that stopped it, a look and a count by what they show
+  -- how a pass answers an act of the user: a call with its reply or the fault that stopped it, a look and a count by what they show,
+  -- or that they were not let in
   abbrev pub Gives : User → Act → Known → Known → Given → Type 0
   Gives user (Ask command) old new (given.Reply reply) = Asks user command old new (Ok reply)
   Gives user (Ask command) old new (given.Fault fault.StoreFault) = Asks user command old new (Err StoreFault)
+  Gives user (Ask command) old new (given.Fault (fault.Gap shown held)) = Asks user command old new (Err (Gap shown held))
   Gives user (Ask command) old new (given.Fault fault.RunSpent) = Asks user command old new (Err RunSpent)
   Gives user (Look question) old new (given.Answer answer) = Looks old new × OfShown new (λ index. answer ≡ answer_to index user question)
+  Gives user (Look question) old new (given.Fault fault.Barred) = new ≡ turned_away old
   Gives user Count old new (given.Count unread) = Looks old new × OfShown new (λ index. unread ≡ length (unread_to index user))
+  Gives user Count old new (given.Fault fault.Barred) = new ≡ turned_away old
   Gives user act old new what = ⊥
 
   -- how a pass stands where memory was wanting for the answer

@@ -39,15 +39,16 @@ fn call<R: Wait, D: Disk, C: Clock>(
     match area.call(rt, alloc, pass, user, moment, command) {
         Ok(reply) => Ok(Given::Reply(reply)),
         Err(SharedError::StoreFault) => Ok(Given::Fault(SharedFault::StoreFault)),
+        Err(SharedError::Gap { shown, held }) => {
+            Ok(Given::Fault(SharedFault::Gap { shown, held }))
+        }
         Err(SharedError::RunSpent) => Ok(Given::Fault(SharedFault::RunSpent)),
         Err(SharedError::OutOfMemory) => Err(OutOfMemory),
     }
 }
 
-/// Asks a question.
-fn look<R: Wait, D: Disk>(
-    rt: &R,
-    alloc: Global,
+/// Asks a question. It waits for nobody.
+fn look<D: Disk>(
     area: &SharedArea<D>,
     pass: &mut Pass,
     user: &User,
@@ -58,20 +59,20 @@ fn look<R: Wait, D: Disk>(
     ensures ok { (reading : Option ℕ) → IfOk result (λ given. Gives reading user.now (Act.Look question.now) pass.old.known pass.new.known given) }
     ensures err { (reading : Option ℕ) → OnErr result (Wants reading user.now (Act.Look question.now) pass.old.known pass.new.known) }
 {
-    match area.look(rt, alloc, pass, user, question) {
+    match area.look(pass, user, question) {
         Ok(answer) => Ok(Given::Answer(answer)),
         Err(LookError::Barred) => Ok(Given::Fault(SharedFault::Barred)),
         Err(LookError::OutOfMemory) => Err(OutOfMemory),
     }
 }
 
-/// Counts what is unread.
-fn count<R: Wait, D: Disk>(rt: &R, area: &SharedArea<D>, pass: &mut Pass, user: &User) -> Given
+/// Counts what is unread. It waits for nobody.
+fn count<D: Disk>(area: &SharedArea<D>, pass: &mut Pass, user: &User) -> Given
     requires ours { IsOf area.now pass.old }
     ensures ours { IsOf area.now pass.new }
     ensures ok { (reading : Option ℕ) → Gives reading user.now Act.Count pass.old.known pass.new.known result }
 {
-    match area.unread_count(rt, pass, user) {
+    match area.unread_count(pass, user) {
         Ok(unread) => Given::Count(unread),
         Err(Barred) => Given::Fault(SharedFault::Barred),
     }
@@ -96,8 +97,8 @@ fn act<R: Wait, D: Disk, C: Clock>(
 {
     match act {
         Act::Ask(command) => call(rt, alloc, area, pass, clock, user, command),
-        Act::Look(question) => look(rt, alloc, area, pass, user, question),
-        Act::Count => Ok(count(rt, area, pass, user)),
+        Act::Look(question) => look(area, pass, user, question),
+        Act::Count => Ok(count(area, pass, user)),
     }
 }
 
