@@ -19,6 +19,8 @@ pub(crate) enum Act {
     Read,
     /// The node's mark is set to its own number.
     Mark,
+    /// The area is packed.
+    Pack,
 }
 
 /// A look that is measured.
@@ -52,6 +54,7 @@ impl Display for Deed {
             Deed::Call(Act::Post) => write!(f, "post"),
             Deed::Call(Act::Read) => write!(f, "read"),
             Deed::Call(Act::Mark) => write!(f, "mark"),
+            Deed::Call(Act::Pack) => write!(f, "pack"),
             Deed::Look(Sight::Figures) => write!(f, "figures"),
             Deed::Look(Sight::List) => write!(f, "list"),
         }
@@ -87,6 +90,7 @@ pub(crate) fn command(alloc: Global, act: Act, number: u32) -> Result<Command, O
         Act::Post => post(alloc, 0),
         Act::Read => Ok(Command::Read { number }),
         Act::Mark => Ok(Command::SetMark { number }),
+        Act::Pack => Ok(Command::Pack),
     }
 }
 
@@ -94,6 +98,6 @@ pub(crate) fn command(alloc: Global, act: Act, number: u32) -> Result<Command, O
 pub(crate) fn is_done(reply: &Reply) -> bool {
     matches!(
         reply,
-        Reply::Posted { .. } | Reply::Text { .. } | Reply::Marked { .. }
+        Reply::Posted { .. } | Reply::Text { .. } | Reply::Marked { .. } | Reply::Packed { .. }
     )
 }

@@ -42,7 +42,7 @@ impl From<SharedError> for Unmeasured {
     fn from(error: SharedError) -> Unmeasured {
         match error {
             SharedError::StoreFault => Unmeasured::Failed,
-            SharedError::RunSpent => Unmeasured::Refused,
+            SharedError::Gap { .. } | SharedError::RunSpent => Unmeasured::Refused,
             SharedError::OutOfMemory => Unmeasured::OutOfMemory,
         }
     }

@@ -3,7 +3,8 @@
 //!
 //! `bench_shared measure CALLS LOOKS MESSAGES DIR`: each of 32 nodes makes so many calls of each kind, in an area over memory and,
 //! where a folder is named, in one over real files `shared.*` there; and so many looks of each kind at an area of so many messages. It
-//! prints a line for each figure. With `rehearse` in place of `measure` the lines have no figures, so that each run prints the same.
+//! prints a line for each figure. `bench_shared looks ROUNDS MESSAGES DIR`: one node posts so often, and packs an area of so many
+//! messages, while 1, 8 and 32 others look. With `rehearse` in place of `measure` the lines have no figures, so that each run prints the same.
 #![tactic(auto)]
 
 mod area;
@@ -14,6 +15,7 @@ mod indexing;
 mod looks;
 mod nodes;
 mod took;
+mod watching;
 
 use crate::error::Unmeasured;
 use crate::nodes::Plan;
@@ -27,7 +29,7 @@ use std::thread::Threads;
 use std::{env, fs, io};
 
 const USAGE: &str =
-    "usage: bench_shared measure CALLS LOOKS MESSAGES [DIR] (by each of 32 nodes 1 to 400 calls of each kind and 1 to 100 looks of each; 1 to 60000 messages; a folder that is there)";
+    "usage: bench_shared measure CALLS LOOKS MESSAGES [DIR] (by each of 32 nodes 1 to 400 calls of each kind and 1 to 100 looks of each; 1 to 60000 messages; a folder that is there), or bench_shared looks ROUNDS MESSAGES [DIR] (1 to 400 posts by one node while others look)";
 
 const MOST_CALLS: u32 = 400;
 
@@ -55,12 +57,33 @@ fn number_of(word: &str, most: u32) -> Option<u32> {
     }
 }
 
-/// What a run is for, by its word.
-fn mode_of(word: &str) -> Option<Mode> {
-    match word {
-        "measure" => Some(Mode::Measure),
-        "rehearse" => Some(Mode::Rehearse),
-        _ => None,
+/// What a run is for.
+#[derive(Clone, Copy)]
+enum Task {
+    /// Calls and looks of all nodes.
+    Measure,
+    /// Looks while one node posts or packs.
+    Looks,
+    /// All, without figures.
+    Rehearse,
+}
+
+impl Task {
+    /// What a run is for, by its word.
+    fn of(word: &str) -> Option<Task> {
+        match word {
+            "measure" => Some(Task::Measure),
+            "looks" => Some(Task::Looks),
+            "rehearse" => Some(Task::Rehearse),
+            _ => None,
+        }
+    }
+
+    fn mode(self) -> Mode {
+        match self {
+            Task::Measure | Task::Looks => Mode::Measure,
+            Task::Rehearse => Mode::Rehearse,
+        }
     }
 }
 
@@ -81,6 +104,35 @@ fn measure<R: Threads + Wait + Clock + Print + Sync, D: Disk + Drop + Send + Syn
     looks::measure(rt, alloc, looks, messages)
 }
 
+/// All that the task names.
+fn run<R: Threads + Wait + Clock + Print + Sync, D: Disk + Drop + Send + Sync>(
+    rt: &R,
+    alloc: Global,
+    task: Task,
+    disk: Option<D>,
+    calls: u32,
+    looks: u32,
+    messages: u32,
+) -> Result<(), Unmeasured> {
+    let mode = task.mode();
+    let calls = Plan {
+        mode,
+        rounds: calls,
+    };
+    let looks = Plan {
+        mode,
+        rounds: looks,
+    };
+    match task {
+        Task::Measure => measure(rt, alloc, disk, calls, looks, messages),
+        Task::Looks => watching::measure(rt, alloc, disk, calls, messages),
+        Task::Rehearse => {
+            measure(rt, alloc, disk, calls, looks, messages)?;
+            watching::measure::<R, D>(rt, alloc, None, calls, messages)
+        }
+    }
+}
+
 /// Empty files in this folder, where one is named.
 fn files(
     rt: HostRuntime,
@@ -96,30 +148,26 @@ fn files(
 
 fn main(rt: HostRuntime) -> io::Result<()> {
     let mut words = env::args(&rt)?.skip(1);
-    let mode = words.next().and_then(|word| mode_of(word.as_str()));
+    let task = words.next().and_then(|word| Task::of(word.as_str()));
     let calls = words
         .next()
         .and_then(|word| number_of(word.as_str(), MOST_CALLS));
-    let looks = words
-        .next()
-        .and_then(|word| number_of(word.as_str(), MOST_LOOKS));
+    let looks = if matches!(task, Some(Task::Looks)) {
+        Some(1)
+    } else {
+        words
+            .next()
+            .and_then(|word| number_of(word.as_str(), MOST_LOOKS))
+    };
     let messages = words
         .next()
         .and_then(|word| number_of(word.as_str(), MOST_MESSAGES));
-    let (Some(mode), Some(calls), Some(looks), Some(messages)) = (mode, calls, looks, messages)
+    let (Some(task), Some(calls), Some(looks), Some(messages)) = (task, calls, looks, messages)
     else {
         return println!(rt; "{USAGE}");
     };
-    let calls = Plan {
-        mode,
-        rounds: calls,
-    };
-    let looks = Plan {
-        mode,
-        rounds: looks,
-    };
     let measured = match files(rt, words.next()) {
-        Ok(disk) => measure(&rt, rt.alloc(), disk, calls, looks, messages),
+        Ok(disk) => run(&rt, rt.alloc(), task, disk, calls, looks, messages),
         Err(unmeasured) => Err(unmeasured),
     };
     match measured {

@@ -58,8 +58,8 @@ impl Crew {
     }
 }
 
-// So many calls.
-fn call_often<R: Wait, D: Disk>(
+/// So many calls.
+pub(crate) fn call_often<R: Wait, D: Disk>(
     rt: &R,
     alloc: Global,
     area: &SharedArea<D>,
@@ -82,9 +82,7 @@ fn call_often<R: Wait, D: Disk>(
 }
 
 // So many looks.
-fn look_often<R: Wait, D: Disk>(
-    rt: &R,
-    alloc: Global,
+fn look_often<D: Disk>(
     area: &SharedArea<D>,
     pass: &mut Pass,
     user: &User,
@@ -95,7 +93,7 @@ fn look_often<R: Wait, D: Disk>(
     ensures { IsOf area.now pass.new }
 {
     for _ in 0..rounds {
-        let _answer = area.look(rt, alloc, pass, user, question)?;
+        let _answer = area.look(pass, user, question)?;
     }
     Ok(())
 }
@@ -119,7 +117,7 @@ fn follow<R: Wait, D: Disk>(
             let command = command(alloc, act, node)?;
             call_often(rt, alloc, area, pass, &user, &command, rounds)
         }
-        Deed::Look(sight) => look_often(rt, alloc, area, pass, &user, &sight.question(), rounds),
+        Deed::Look(sight) => look_often(area, pass, &user, &sight.question(), rounds),
     }
 }
 
@@ -226,6 +224,19 @@ fn hold_all<R: Threads + Wait + Clock + Print + Sync, D: Disk + Send + Sync>(
     Ok(())
 }
 
+/// Ends the sharing. All passes are there: an area that missed one would be held for ever.
+pub(crate) fn end<R: Wait, D: Disk + Drop>(rt: &R, area: SharedArea<D>, passes: Vec<Pass>)
+    requires { All (IsOf area) passes.items }
+{
+    match area.close(rt, passes) {
+        Ok(_area) => {}
+        Err(_kept) => {
+            for _ in rt.forever() {}
+            unreachable!()
+        }
+    }
+}
+
 /// Shares this area among the nodes; a line for each contest and number of threads.
 pub(crate) fn share<R: Threads + Wait + Clock + Print + Sync, D: Disk + Drop + Send + Sync>(
     rt: &R,
@@ -237,16 +248,11 @@ pub(crate) fn share<R: Threads + Wait + Clock + Print + Sync, D: Disk + Drop + S
 ) -> Result<(), Unmeasured>
     requires { HasRest D.device area }
 {
-    match SharedArea::new(alloc, area, NODES) {
-        Ok((area, mut passes)) => hold_all(
-            rt,
-            alloc,
-            &area,
-            passes.as_mut_slice(),
-            plan,
-            place,
-            contests,
-        ),
-        Err(_area) => Err(Unmeasured::OutOfMemory),
-    }
+    let Ok((area, mut passes)) = SharedArea::new(rt, alloc, area, NODES) else {
+        return Err(Unmeasured::OutOfMemory);
+    };
+    let nodes = passes.as_mut_slice();
+    let held = hold_all(rt, alloc, &area, nodes, plan, place, contests);
+    end(rt, area, passes);
+    held
 }

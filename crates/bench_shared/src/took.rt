@@ -30,6 +30,19 @@ impl Took {
         })
     }
 
+    /// As long, for so many times.
+    pub(crate) fn of(self, times: u32) -> Took {
+        Took {
+            times,
+            seconds: self.seconds,
+        }
+    }
+
+    /// How often in a second.
+    fn rate(self) -> f64 {
+        f64::from(self.times) / self.seconds
+    }
+
     /// The microseconds of one time.
     fn each(self) -> f64 {
         self.seconds * 1e6 / f64::from(self.times)
@@ -48,6 +61,38 @@ pub(crate) fn print_took<R: Print>(
     let ratio = each / other;
     match mode {
         Mode::Measure => println!(rt; "{name}: {each:.2} us, {ratio:.2} times {other:.2} us"),
+        Mode::Rehearse => println!(rt; "{name}: done"),
+    }
+}
+
+/// One line: how often in a second something was done, and how many times as often as its rival.
+pub(crate) fn print_rate<R: Print>(
+    rt: &R,
+    mode: Mode,
+    name: &str,
+    took: Took,
+    rival: Took,
+) -> io::Result<()> {
+    let (rate, other) = (took.rate(), rival.rate());
+    let ratio = rate / other;
+    match mode {
+        Mode::Measure => println!(rt; "{name}: {rate:.2} a second, {ratio:.2} times {other:.2}"),
+        Mode::Rehearse => println!(rt; "{name}: done"),
+    }
+}
+
+/// One line: how often in a second something was done, and how long the longest took.
+pub(crate) fn print_longest<R: Print>(
+    rt: &R,
+    mode: Mode,
+    name: &str,
+    took: Took,
+    longest: f64,
+) -> io::Result<()> {
+    let rate = took.rate();
+    let longest = longest * 1e6;
+    match mode {
+        Mode::Measure => println!(rt; "{name}: {rate:.0} a second, the longest {longest:.0} us"),
         Mode::Rehearse => println!(rt; "{name}: done"),
     }
 }

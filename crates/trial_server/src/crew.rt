@@ -19,11 +19,16 @@ use std::sync::Wait;
 use std::thread::Threads;
 use trial_rows::RowError;
 
-/// The one area, and the workers that serve it: the packer, and the nodes, the last one first.
-#[derive(Drop)]
+/// The one area, and the workers that serve it: the packer, and the nodes, the last one first. It is not `Drop`: end it by `part`.
 pub(crate) struct Crew<R> {
     areas: Vec<SharedArea<MemDisk>>,
     workers: Vec<Worker<R, MemBell, MemClock>>,
+}
+
+// Areas of which passes were lost, for want of memory, can be closed no more: they are held for ever.
+fn hold<T: Wait>(rt: &T, _areas: Vec<SharedArea<MemDisk>>) -> RowError {
+    for _ in rt.forever() {}
+    unreachable!()
 }
 
 // As whom areas are packed.
@@ -66,7 +71,8 @@ fn packer_at<R>(user: User, bell: MemBell, passes: Vec<Pass>) -> Worker<R, MemBe
 
 impl<R: Keeps + Drop> Crew<R> {
     /// The workers over an area that is open for as many nodes as there are doors, and for the packer.
-    pub(crate) fn new(
+    pub(crate) fn new<T: Wait>(
+        rt: &T,
         alloc: Global,
         begun: Open,
         mut doors: Vec<R>,
@@ -80,14 +86,21 @@ impl<R: Keeps + Drop> Crew<R> {
         let Open { areas, mut nodes } = begun;
         let mut workers = Vec::new(alloc);
         let Some(passes) = nodes.pop() else {
-            return Err(RowError::Unknown(0));
+            return Err(hold(rt, areas));
         };
-        workers.push(packer_at(packer(alloc)?, bell, passes))?;
+        let Ok(user) = packer(alloc) else {
+            return Err(hold(rt, areas));
+        };
+        let Ok(()) = workers.push(packer_at(user, bell, passes)) else {
+            return Err(hold(rt, areas));
+        };
         while let Some(passes) = nodes.pop() {
             let Some(door) = doors.pop() else {
-                return Err(RowError::Unknown(0));
+                return Err(hold(rt, areas));
             };
-            workers.push(node_at(nodes.len() as u32 + 1, door, passes))?;
+            let Ok(()) = workers.push(node_at(nodes.len() as u32 + 1, door, passes)) else {
+                return Err(hold(rt, areas));
+            };
         }
         Ok(Crew { areas, workers })
     }
@@ -113,7 +126,7 @@ impl<R: Keeps + Drop> Crew<R> {
     }
 
     /// What they have done, and the disk of the area, which is closed with the passes of all.
-    pub(crate) fn part(self, alloc: Global) -> Result<Ended, RowError>
+    pub(crate) fn part<T: Wait>(self, rt: &T, alloc: Global) -> Result<Ended, RowError>
         requires one { length self.areas.items ≡ 1 }
         requires ours { All (IsAtWork self.areas.items) self.workers.items }
     {
@@ -127,21 +140,29 @@ impl<R: Keeps + Drop> Crew<R> {
         };
         let mut passes = Vec::new(alloc);
         while let Some(worker) = workers.pop() {
-            let mut row = done.note(alloc, worker)?;
-            passes.append(&mut row)?;
+            let Ok(mut row) = done.note(alloc, worker) else {
+                return Err(hold(rt, areas));
+            };
+            let Ok(()) = passes.append(&mut row) else {
+                return Err(hold(rt, areas));
+            };
         }
         let Some(area) = areas.pop() else {
-            return Err(RowError::Unknown(0));
+            unreachable!()
         };
-        let Ok(opened) = area.close(passes) else {
-            return Err(RowError::Unknown(0));
-        };
-        Ok(Ended {
-            nodes: done.nodes,
-            packs: done.packs,
-            is_doubtful: opened.in_doubt(),
-            disk: opened.close(),
-        })
+        areas.destroy_empty();
+        match area.close(rt, passes) {
+            Ok(opened) => Ok(Ended {
+                nodes: done.nodes,
+                packs: done.packs,
+                is_doubtful: opened.in_doubt(),
+                disk: opened.close(),
+            }),
+            Err(_kept) => {
+                for _ in rt.forever() {}
+                unreachable!()
+            }
+        }
     }
 }
 

@@ -20,8 +20,7 @@ use trial_rows::RowError;
 /// How many nodes there are at most.
 const MOST_NODES: usize = 32;
 
-/// The one area of a board, open, and the passes of each node.
-#[derive(Drop)]
+/// The one area of a board, open, and the passes of each node. It is not `Drop`: a crew ends it.
 pub(crate) struct Open {
     pub areas: Vec<SharedArea<MemDisk>>,
     pub nodes: Vec<Vec<Pass>>,
@@ -49,7 +48,13 @@ pub(crate) fn board_of(alloc: Global, settings: &[u8]) -> Result<Board, RowError
 }
 
 // Opens the area over this disk, for so many nodes.
-fn opened(alloc: Global, board: &Board, disk: MemDisk, nodes: u32) -> Result<Open, RowError>
+fn opened<T: Wait>(
+    rt: &T,
+    alloc: Global,
+    board: &Board,
+    disk: MemDisk,
+    nodes: u32,
+) -> Result<Open, RowError>
     requires range { IsInRange board.now }
     requires one { length board.now.areas ≡ 1 }
     requires nodes { (0 < nodes) × (nodes ≤ 33) }
@@ -61,9 +66,14 @@ fn opened(alloc: Global, board: &Board, disk: MemDisk, nodes: u32) -> Result<Ope
     let console = MemLink::new(alloc, Bytes::new(alloc), Vec::new(alloc));
     let mut host = MemHost::new(alloc, console, MOMENT, Vec::new(alloc));
     host.add_disk(areas[0].dir.as_str(), areas[0].base.as_str(), disk)?;
-    match open_areas(alloc, &mut host, areas, nodes) {
+    match open_areas(rt, alloc, &mut host, areas, nodes) {
         Ok(shared) => {
-            let SharedAreas { areas, nodes, .. } = shared;
+            let SharedAreas {
+                areas,
+                nodes,
+                live: _,
+                rooms: _,
+            } = shared;
             Ok(Open { areas, nodes })
         }
         Err(_) => Err(RowError::Unknown(0)),
@@ -86,8 +96,8 @@ where
     if doors.len() > MOST_NODES {
         return Err(RowError::Unknown(0));
     }
-    let open = opened(alloc, &board, disk, doors.len() as u32 + 1)?;
-    let mut crew = Crew::new(alloc, open, doors, bell)?;
+    let open = opened(rt, alloc, &board, disk, doors.len() as u32 + 1)?;
+    let mut crew = Crew::new(rt, alloc, open, doors, bell)?;
     crew.work(rt, alloc, &board);
-    crew.part(alloc)
+    crew.part(rt, alloc)
 }

@@ -1,10 +1,12 @@
 //! Tries the shared area by rows of words: nodes call, look, count and close in one thread, in the order that the rows name;
-//! and thirty-three nodes do so in threads of their own, and what they were answered is replayed on the plain, slow program.
+//! and thirty-three nodes do so in threads of their own, and what they were answered is replayed on the plain, slow program; and one
+//! node posts, kills and packs while eight others look.
 #![tactic(auto)]
 
 mod agenda;
 mod asking;
 mod base;
+mod lookers;
 mod nodes;
 mod noted;
 mod replay;
@@ -12,6 +14,7 @@ mod rows;
 mod same;
 mod shared;
 mod showing;
+mod witness;
 
 use crate::base::BaseDisk;
 use crate::rows::{Trial, answer};
@@ -56,7 +59,11 @@ fn run<D: BaseDisk, R: Threads + Wait + Sync + Input + Print>(
 
 fn main(rt: HostRuntime) -> io::Result<()> {
     match Trial::<MemDisk>::new(rt.alloc()) {
-        Ok(mut trial) => run(&rt, rt.alloc(), &mut trial),
+        Ok(mut trial) => {
+            let ran = run(&rt, rt.alloc(), &mut trial);
+            trial.end(&rt);
+            ran
+        }
         Err(_) => println!(rt; "out of memory"),
     }
 }

@@ -18,18 +18,12 @@ use trial_rows::RowError;
 const MOST_THREADS: usize = 33;
 
 // A look at the figures and a count.
-fn seen<D: Disk, R: Wait>(
-    rt: &R,
-    alloc: Global,
-    area: &SharedArea<D>,
-    pass: &mut Pass,
-    caller: &Caller,
-) -> Result<Told, RowError>
+fn seen<D: Disk>(area: &SharedArea<D>, pass: &mut Pass, caller: &Caller) -> Result<Told, RowError>
     requires { IsOf area.now pass.old }
     ensures { IsOf area.now pass.new }
 {
-    let answer = area.look(rt, alloc, pass, &caller.user, &Question::Figures);
-    let count = area.unread_count(rt, pass, &caller.user);
+    let answer = area.look(pass, &caller.user, &Question::Figures);
+    let count = area.unread_count(pass, &caller.user);
     match (answer, count) {
         (Ok(Answer::Figures(figures)), Ok(unread)) => Ok(Told::Saw { figures, unread }),
         _ => Err(RowError::OutOfMemory),
@@ -50,7 +44,7 @@ fn done<D: Disk, R: Wait>(
 {
     let caller = caller_at(alloc, node)?;
     let Deed::Asked { act, number } = deed else {
-        return seen(rt, alloc, area, pass, &caller);
+        return seen(area, pass, &caller);
     };
     let command = command_of(alloc, &caller.user, act, number)?;
     match area.call(rt, alloc, pass, &caller.user, MOMENT, &command) {

@@ -4,19 +4,21 @@ ghost use Rattle.jb_area.specs.Calls.{HasRest};
 
 use crate::asking::{Caller, act_of, caller_named, command_of};
 use crate::base::{BaseDisk, empty, open};
+use crate::lookers::{LOOKERS, Watch};
 use crate::noted::{NODES, Noted, Plan};
 use crate::replay::{replays, stopped_among};
-use crate::shared::{Ask, Shared};
+use crate::shared::{Ask, Refusal, Shared};
+use crate::witness::{Witness, verdict};
 use jb_area::OpenArea;
 use jb_base::OutOfMemory;
 use jb_model::Question;
 use std::alloc::Global;
+use std::mem;
 use std::sync::{Mutex, Wait};
 use std::thread::Threads;
 use trial_rows::{Row, RowError};
 
-/// A base, and the area that is shared, opened from it.
-#[derive(Drop)]
+/// A base, and the area that is shared, opened from it. It is not `Drop`: end it by `end`.
 pub(crate) struct Trial<D: BaseDisk> {
     base: D,
     shared: Option<Shared<D>>,
@@ -100,16 +102,22 @@ fn compared<D: BaseDisk>(alloc: Global, noted: &[Noted], disk: &D) -> Result<Str
 }
 
 // Closes the area behind a plan, whose log is in the order in which it was noted.
-fn closed<D: BaseDisk>(
+fn closed<D: BaseDisk, R: Wait>(
+    rt: &R,
     alloc: Global,
     shared: Shared<D>,
     log: Mutex<Vec<Noted>>,
 ) -> Result<String, RowError> {
-    let mut noted = log.into_inner();
-    noted.as_mut_slice().sort_by_key(alloc, |one| one.order)?;
-    match shared.close(u32::MAX) {
-        Ok(Ok(area)) => compared(alloc, noted.as_slice(), &area.close()),
-        _ => Err(RowError::OutOfMemory),
+    match shared.close(rt, u32::MAX) {
+        Ok(area) => {
+            let mut noted = log.into_inner();
+            noted.as_mut_slice().sort_by_key(alloc, |one| one.order)?;
+            compared(alloc, noted.as_slice(), &area.close())
+        }
+        Err((shared, _refusal)) => {
+            shared.end(rt);
+            Err(RowError::OutOfMemory)
+        }
     }
 }
 
@@ -122,12 +130,12 @@ fn run_plan<D: BaseDisk, R: Threads + Wait + Sync>(
 ) -> Result<String, RowError>
     requires rest { HasRest D.device area }
 {
-    let Ok(mut shared) = Shared::new(alloc, area, NODES) else {
+    let Ok(mut shared) = Shared::new(rt, alloc, area, NODES) else {
         return Err(RowError::OutOfMemory);
     };
     let log = Mutex::new(Vec::new(alloc));
     shared.follow(rt, alloc, &log, plan);
-    closed(alloc, shared, log)
+    closed(rt, alloc, shared, log)
 }
 
 // The plan of a row.
@@ -153,6 +161,59 @@ fn planned<D: BaseDisk, R: Threads + Wait + Sync>(
     run_plan(rt, alloc, area, plan)
 }
 
+// Closes the area behind a watch, and opens what its disk holds.
+fn closed_watch<D: BaseDisk, R: Wait>(
+    rt: &R,
+    alloc: Global,
+    shared: Shared<D>,
+    witnesses: &[Witness],
+    looks: u32,
+) -> Result<String, RowError> {
+    match shared.close(rt, u32::MAX) {
+        Ok(area) => {
+            let area = open(alloc, &area.close(), &[])?;
+            verdict(alloc, witnesses, area.loaded(), looks)
+        }
+        Err((shared, _refusal)) => {
+            shared.end(rt);
+            Err(RowError::OutOfMemory)
+        }
+    }
+}
+
+// One node posts to the area, and the others look.
+fn run_watch<D: BaseDisk, R: Threads + Wait + Sync>(
+    rt: &R,
+    alloc: Global,
+    area: OpenArea<D>,
+    plan: Watch,
+) -> Result<String, RowError>
+    requires rest { HasRest D.device area }
+{
+    let Ok(mut shared) = Shared::new(rt, alloc, area, LOOKERS) else {
+        return Err(RowError::OutOfMemory);
+    };
+    let log = Mutex::new(Vec::new(alloc));
+    shared.take_part(rt, alloc, &log, plan);
+    let witnesses = log.into_inner();
+    closed_watch(rt, alloc, shared, witnesses.as_slice(), plan.looks)
+}
+
+// `lookers POSTS LOOKS FAILING..`
+fn watched<D: BaseDisk, R: Threads + Wait + Sync>(
+    rt: &R,
+    alloc: Global,
+    row: &Row,
+) -> Result<String, RowError> {
+    let plan = Watch {
+        posts: row.u32(1)?,
+        looks: row.u32(2)?,
+    };
+    let base: D = empty(alloc)?;
+    let area = opened(alloc, &base, row, 3)?;
+    run_watch(rt, alloc, area, plan)
+}
+
 impl<D: BaseDisk> Trial<D> {
     /// An empty base, and no area that is shared.
     pub(crate) fn new(alloc: Global) -> Result<Trial<D>, OutOfMemory> {
@@ -162,20 +223,27 @@ impl<D: BaseDisk> Trial<D> {
         })
     }
 
+    // This is what is shared now; what was before is ended.
+    fn set_shared<R: Wait>(&mut self, rt: &R, shared: Option<Shared<D>>) {
+        if let Some(before) = mem::replace(&mut self.shared, shared) {
+            before.end(rt);
+        }
+    }
+
     /// `base`: an empty base, with no area shared.
-    fn set_base(&mut self, alloc: Global) -> Result<String, RowError> {
+    fn set_base<R: Wait>(&mut self, rt: &R, alloc: Global) -> Result<String, RowError> {
         self.base = empty(alloc)?;
-        self.shared = None;
+        self.set_shared(rt, None);
         said(alloc, "base")
     }
 
     /// `share NODES FAILING..`: opens the area of the base and shares it, on a disk that fails these of its calls from then on.
-    fn share(&mut self, alloc: Global, row: &Row) -> Result<String, RowError> {
+    fn share<R: Wait>(&mut self, rt: &R, alloc: Global, row: &Row) -> Result<String, RowError> {
         let nodes = nodes_in(row)?;
         let area = opened(alloc, &self.base, row, 2)?;
-        match Shared::new(alloc, area, nodes) {
+        match Shared::new(rt, alloc, area, nodes) {
             Ok(shared) => {
-                self.shared = Some(shared);
+                self.set_shared(rt, Some(shared));
                 said(alloc, "shared")
             }
             Err(_) => Err(RowError::OutOfMemory),
@@ -205,16 +273,27 @@ impl<D: BaseDisk> Trial<D> {
     }
 
     /// Closes the area with the passes of the nodes below this one. The base is then what its disk holds.
-    fn close(&mut self, alloc: Global, below: u32) -> Result<String, RowError> {
+    fn close<R: Wait>(&mut self, rt: &R, alloc: Global, below: u32) -> Result<String, RowError> {
         let Some(shared) = self.shared.take() else {
             return said(alloc, "no area is shared");
         };
-        match shared.close(below)? {
+        match shared.close(rt, below) {
             Ok(area) => self.keep(alloc, area),
-            Err((shared, error)) => {
-                self.shared = Some(shared);
-                Ok(format!(in alloc; "{error:?}")?)
+            Err((shared, refusal)) => {
+                self.set_shared(rt, Some(shared));
+                match refusal {
+                    Refusal::Missing(error) => Ok(format!(in alloc; "{error:?}")?),
+                    Refusal::OutOfMemory => Err(RowError::OutOfMemory),
+                }
             }
+        }
+    }
+
+    /// Ends what is shared.
+    pub(crate) fn end<R: Wait>(self, rt: &R) {
+        let Trial { base: _, shared } = self;
+        if let Some(shared) = shared {
+            shared.end(rt);
         }
     }
 }
@@ -227,11 +306,12 @@ pub(crate) fn answer<D: BaseDisk, R: Threads + Wait + Sync>(
     row: &Row,
 ) -> Result<String, RowError> {
     match row.word(0)? {
-        "base" => trial.set_base(alloc),
-        "share" => trial.share(alloc, row),
-        "close" => trial.close(alloc, u32::MAX),
-        "close-below" => trial.close(alloc, row.u32(1)?),
+        "base" => trial.set_base(rt, alloc),
+        "share" => trial.share(rt, alloc, row),
+        "close" => trial.close(rt, alloc, u32::MAX),
+        "close-below" => trial.close(rt, alloc, row.u32(1)?),
         "drawn" | "crowd" => planned::<D, R>(rt, alloc, row),
+        "lookers" => watched::<D, R>(rt, alloc, row),
         _ => trial.ask(rt, alloc, row),
     }
 }

@@ -4,9 +4,11 @@ ghost use Rattle.jb_area.specs.Calls.{HasRest};
 ghost use Rattle.jb_shared.specs.Areas.{IsOf};
 
 use crate::asking::{Caller, MOMENT};
+use crate::lookers::{Watch, watch_all};
 use crate::nodes::follow_all;
 use crate::noted::{Noted, Plan};
 use crate::showing::{answer_words, reply_words};
+use crate::witness::Witness;
 use jb_area::OpenArea;
 use jb_disk::Disk;
 use jb_model::{Command, Question};
@@ -25,8 +27,16 @@ pub(crate) enum Ask {
     Count,
 }
 
-/// A shared area and the passes of its nodes, in their order. Contracts see nothing of it.
-#[derive(Drop)]
+/// Why a shared area is not closed.
+#[derive(Clone, Copy)]
+pub(crate) enum Refusal {
+    /// A pass is missing.
+    Missing(CloseError),
+    /// There was no memory to take passes away.
+    OutOfMemory,
+}
+
+/// A shared area and the passes of its nodes, in their order. Contracts see nothing of it. It is not `Drop`: end it by `end`.
 pub(crate) struct Shared<D: Disk> {
     area: SharedArea<D>,
     passes: Vec<Pass>,
@@ -63,13 +73,13 @@ fn told<D: Disk, R: Wait>(
             }
         }
         Ask::Look(question) => {
-            match area.look(rt, alloc, pass, &caller.user, question) {
+            match area.look(pass, &caller.user, question) {
                 Ok(answer) => answer_words(alloc, &answer),
                 Err(error) => Ok(format!(in alloc; "{error:?}")?),
             }
         }
         Ask::Count => {
-            match area.unread_count(rt, pass, &caller.user) {
+            match area.unread_count(pass, &caller.user) {
                 Ok(count) => Ok(format!(in alloc; "{count} unread")?),
                 Err(error) => Ok(format!(in alloc; "{error:?}")?),
             }
@@ -89,7 +99,8 @@ fn place_of(node: u32, count: usize) -> Result<usize, RowError>
 
 impl<D: Disk + Drop> Shared<D> {
     /// Shares an area at rest among so many nodes.
-    pub(crate) fn new(
+    pub(crate) fn new<R: Wait>(
+        rt: &R,
         alloc: Global,
         area: OpenArea<D>,
         nodes: u32,
@@ -97,7 +108,7 @@ impl<D: Disk + Drop> Shared<D> {
         requires rest { HasRest D.device area }
         requires nodes { (0 < nodes) × (nodes ≤ 33) }
     {
-        let (area, passes) = SharedArea::new(alloc, area, nodes)?;
+        let (area, passes) = SharedArea::new(rt, alloc, area, nodes)?;
         Ok(Shared { area, passes })
     }
 
@@ -128,19 +139,51 @@ impl<D: Disk + Drop> Shared<D> {
         follow_all(rt, alloc, &self.area, self.passes.as_mut_slice(), log, plan);
     }
 
+    /// The first node posts and the others look, each in a thread of its own.
+    pub(crate) fn take_part<R: Threads + Wait + Sync>(
+        &mut self,
+        rt: &R,
+        alloc: Global,
+        log: &Mutex<Vec<Witness>>,
+        plan: Watch,
+    )
+    where
+        D: Send + Sync,
+    {
+        watch_all(rt, alloc, &self.area, self.passes.as_mut_slice(), log, plan);
+    }
+
     /// Closes the area with the passes of the nodes below this one. Where that is refused, all passes are kept.
-    pub(crate) fn close(
+    pub(crate) fn close<R: Wait>(
         self,
+        rt: &R,
         below: u32,
-    ) -> Result<Result<OpenArea<D>, (Shared<D>, CloseError)>, RowError> {
+    ) -> Result<OpenArea<D>, (Shared<D>, Refusal)> {
         let Shared { area, mut passes } = self;
         let place = (below as usize).saturating_sub(1).min(passes.len());
-        let mut kept = passes.split_off(place)?;
-        match area.close(passes) {
-            Ok(area) => Ok(Ok(area)),
+        let Ok(mut kept) = passes.split_off(place) else {
+            return Err((Shared { area, passes }, Refusal::OutOfMemory));
+        };
+        match area.close(rt, passes) {
+            Ok(area) => Ok(area),
             Err((area, mut passes, error)) => {
-                passes.append(&mut kept)?;
-                Ok(Err((Shared { area, passes }, error)))
+                let refusal = match passes.append(&mut kept) {
+                    Ok(()) => Refusal::Missing(error),
+                    Err(_) => Refusal::OutOfMemory,
+                };
+                Err((Shared { area, passes }, refusal))
+            }
+        }
+    }
+
+    /// Ends the sharing. An area of which a pass was lost, for want of memory, can be closed no more: it is held for ever.
+    pub(crate) fn end<R: Wait>(self, rt: &R) {
+        let Shared { area, passes } = self;
+        match area.close(rt, passes) {
+            Ok(_area) => {}
+            Err(_kept) => {
+                for _ in rt.forever() {}
+                unreachable!()
             }
         }
     }

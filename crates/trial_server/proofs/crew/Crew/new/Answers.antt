@@ -14,7 +14,7 @@ loop-passes-init g c =
     record {
       few = omega (arith, c.requires.few, ap length c.in-Some.ensures.items, length_push c.pop.new.self.items c.in-Some.passes);
       left = taken.0;
-      made = All-same (IsAtWork areas) c.push.new.self.items _ (c.in_ok-push.ensures.items ∙ ap (λ before. before ++ c.packer_at.result ∷ []) c.new-workers.ensures.items)
+      made = All-same (IsAtWork areas) c.push.new.self.items _ (c.in-Ok-push.ensures.items ∙ ap (λ before. before ++ c.packer_at.result ∷ []) c.new-workers.ensures.items)
           (All-push (IsAtWork areas) [] c.packer_at.result (All-nil (IsAtWork areas)) (c.packer_at.ensures areas taken.1));
     }
 
@@ -29,6 +29,6 @@ loop-passes-preserved g c =
     record {
       few = omega (arith, at.invariant.few, ap length c.in-Some-pop.ensures.items, length_push fewer passes);
       left = taken.0;
-      made = All-same (IsAtWork areas) c.push-in-Some-pop.new.self.items _ c.in_ok-push-2.ensures.items
+      made = All-same (IsAtWork areas) c.push-in-Some-pop.new.self.items _ c.in-Ok-push-2.ensures.items
           (All-push (IsAtWork areas) at.workers.items c.node_at.result at.invariant.made (c.node_at.ensures areas taken.1));
     }

@@ -12,13 +12,13 @@ pub loop-worker-preserved : goal.loop-worker-preserved
 loop-worker-preserved g c =
     let areas = c.args.self.areas.items in
     let at = c.loop-worker in
-    let row = c.in_ok-row.row.items in
+    let row = c.in-Ok.row.items in
     let parted = All-pop (IsAtWork areas) at.workers.items c.pop.new.self.items (Some c.in-Some.worker) c.in-Some.ensures.items at.invariant.left in
-    let ours = c.in_ok-row.ensures areas parted.1 in
+    let ours = c.in-Ok.ensures areas parted.1 in
     record {
       left = parted.0;
       back = λ area is.
-          All-same (IsOf area) c.append.new.self.items _ c.in_ok-append.ensures.items
+          All-same (IsOf area) c.append.new.self.items _ c.in-Ok-append.ensures.items
           (All-append (IsOf area) at.passes.items row (at.invariant.back area is) (all_of_one area row (subst (λ all. AreOf all row) is ours)));
     }
 
