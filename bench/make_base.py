@@ -26,7 +26,8 @@ def answered(n):
     return max(1, n - 1 - n * 7 % 100) if n > 1 and n % 3 == 0 else 0
 
 
-def write(folder, name, count, is_used):
+def write(folder, name, count, is_used, times=1):
+    """The files of the base; each text is so many times as long."""
     names = [b"Ada Lovelace", b"Grace Hopper", b"Edsger Dijkstra", b"Barbara Liskov", b"Tony Hoare"]
     headers = [b"JAM\0" + struct.pack("<5I", 1_000_000_000, count, count, 0xFFFFFFFF, 1) + bytes(1000)]
     texts, index, at, text_at = [], [], 1024, 0
@@ -38,7 +39,7 @@ def write(folder, name, count, is_used):
                            subfield(5, reply_id) if reply_id else b"", subfield(6, b"Message %d of the base" % n)])
         reply_crc = jam_crc(reply_id) if reply_id else 0xFFFFFFFF
         attribute = 0x80800001 if is_used and n % 10 == 0 else 0x00800001
-        text = (b"The text of message %d. " % n * 10)[:120 + n % 100]
+        text = (b"The text of message %d. " % n * 10 * times)[:(120 + n % 100) * times]
         head = b"JAM\0" + struct.pack("<HHIIIIIIIIIIIIIIIII", 1, 0, len(fields), 0, jam_crc(msgid), reply_crc, 0, 0, 0,
                                       1_000_000_000 + n, 0, 0, n, attribute, 0, text_at, len(text), 0xFFFFFFFF, 0)
         headers.append(head + fields)

@@ -62,11 +62,11 @@ OPENING = 60
 class Server:
     """A run of `serve` over fresh bases, and the processor time that it has spent."""
 
-    def __init__(self, program, folder, before=(), large=0):
+    def __init__(self, program, folder, before=(), large=0, times=1):
         shutil.rmtree(f"{folder}/areas", ignore_errors=True)
         os.mkdir(f"{folder}/areas")
         make_base.write(f"{folder}/areas", "general", 60, False)
-        make_base.write(f"{folder}/areas", "large", large, True)
+        make_base.write(f"{folder}/areas", "large", large, True, times)
         with socket.socket() as held:
             held.bind(("127.0.0.1", 0))
             self.port = held.getsockname()[1]

@@ -65,7 +65,7 @@ PROGRAMS = {
     "trial_bases": Rows(anew=("new",), faults=r"StoreFault|the disk failed|no answer to '(plan|post)\b.*': word 0 is not known"),
     "trial_terminal": Rows(),
     "trial_areas": Rows(("try", "stops", "parts", "behind", "opening", "drawn"), ("base", "files"), ("ask", "call"), r"Stopped|(Base\()?StoreFault"),
-    "trial_shared": Rows(("drawn", "crowd", "lookers"), ("base",), (), "StoreFault|no answer to 'share .*': word 0 is not known"),
+    "trial_shared": Rows(("drawn", "crowd", "packers", "lookers", "between"), ("base",), (), "StoreFault|no answer to 'share .*': word 0 is not known"),
 }
 
 

@@ -38,6 +38,8 @@ POST_CALLS = ("jnl len 1, jnl write 1, jnl sync 3, gate opened 1, gate closed 1,
               "jdt sync 1, jdx len 1, jdx write 1, jdx sync 1")
 ANSWER_CALLS = POST_CALLS.replace("jhr write 2", "jhr write 3")
 PACK_CALLS = POST_CALLS.replace("jhr write 2", "jhr write 1")
+# what a pack copies before its commit, into a file that it makes
+COPIES = "ndt len, folder sync, ndt sync, ndt len, ndt write, ndt sync, "
 RECOVERY_CALLS = "jhr len 1, jhr write 2, jdt len 1, jdt write 1, jdx len 1, jdx write 1, jhr sync 1, jdt sync 1, jdx sync 1, jlr sync 1, " \
                  "gate closed 1, jnl sync 1"
 LOCAL, LIST, PACK = ("local", "board.toml"), ("list", "areas", "general"), ("pack", "areas", "general")
@@ -166,7 +168,9 @@ def try_calls(trial):
     trial.is_so("what a recovery leaves", trial.files(), done)
     printed, status, trace = trial.traced(PACK)
     trial.is_so("a pack: how it ends", (printed, status), (b"Packed: base 1, live 2, dropped 0.\n", 0))
-    trial.follows("a pack", words_of(trace).removeprefix(OPENING).removesuffix("printed, "), COMMIT, PACK_CALLS)
+    calls = words_of(trace).removeprefix(OPENING).removesuffix("printed, ")
+    trial.is_so("a pack: what it copies first", calls[:len(COPIES)], COPIES)
+    trial.follows("a pack", calls[len(COPIES):], COMMIT, PACK_CALLS)
 
 
 def try_stops(trial, what, words, typed, printed_after):

@@ -3,9 +3,9 @@ ghost use Rattle.std.specs.Prelude.{◌≤◌, IfOk, OnOk, length};
 ghost use Rattle.jb_area.specs.Calls.{HasRest};
 ghost use Rattle.jb_base.specs.declared.limits.TheConstants.{MOST_ADDRESS_BYTES, MOST_SLOTS};
 
-use crate::asking::{Act, Deed, MOMENT, command, is_done, post, user};
+use crate::asking::{Ask, Deed, MOMENT, asked, is_done, post, user};
 use crate::error::Unmeasured;
-use crate::nodes::{Contest, NODES};
+use crate::nodes::{BY_THREADS, Contest, NODES};
 use crate::took::Took;
 use jb_area::{AreaError, OpenArea};
 use jb_area_open::open_area;
@@ -49,12 +49,10 @@ fn rules(alloc: Global) -> Result<AreaRules, OutOfMemory>
     })
 }
 
-/// The area of a new base on a disk with empty files.
-fn open<D: Disk + Drop>(alloc: Global, disk: D) -> Result<OpenArea<D>, Unmeasured>
+/// The area on this disk.
+pub(crate) fn open<D: Disk + Drop>(alloc: Global, disk: D) -> Result<OpenArea<D>, Unmeasured>
     ensures { IfOk result (HasRest D.device) }
 {
-    let mut disk = disk;
-    make(&mut disk)?;
     let rules = rules(alloc)?;
     match open_area(alloc, disk, rules) {
         Ok(area) => Ok(area),
@@ -81,45 +79,39 @@ fn run_one<D: Disk>(
     }
 }
 
-/// Posts a message in reply to this number or to 0, and sets the mark of a user of this number.
+/// Posts a message with so long a text in reply to this number or to 0, and sets the mark of a user of this number.
 fn put_message<D: Disk>(
     alloc: Global,
     area: &mut OpenArea<D>,
     reply_to: u32,
     number: u32,
+    len: usize,
 ) -> Result<(), Unmeasured>
     requires { HasRest D.device area.old }
     ensures { OnOk result (HasRest D.device area.new) }
 {
     let user = user(alloc, number)?;
-    let post = post(alloc, reply_to)?;
-    run_one(alloc, area, &user, &post)?;
-    let mark = command(alloc, Act::Mark, number)?;
-    run_one(alloc, area, &user, &mark)
+    run_one(alloc, area, &user, &post(alloc, reply_to, len)?)?;
+    run_one(alloc, area, &user, &Command::SetMark { number })
 }
 
-/// Puts in so many messages, of which every third answers the one before, and as many marks.
-fn fill<D: Disk>(alloc: Global, area: &mut OpenArea<D>, messages: u32) -> Result<(), Unmeasured>
-    requires { HasRest D.device area.old }
-    ensures { OnOk result (HasRest D.device area.new) }
-{
-    for place in 0..messages {
-        let reply_to = if place % 3 == 2 { place } else { 0 };
-        put_message(alloc, area, reply_to, place.saturating_add(1))?;
-    }
-    Ok(())
-}
-
-/// The area of a new base with so many messages, on a disk with empty files.
+/// The area of a new base with so many messages with so long a text, of which every third answers the one before, and as many
+/// marks, on a disk with empty files.
 pub(crate) fn filled<D: Disk + Drop>(
     alloc: Global,
     disk: D,
     messages: u32,
+    len: usize,
 ) -> Result<OpenArea<D>, Unmeasured>
     ensures { IfOk result (HasRest D.device) }
 {
+    let mut disk = disk;
+    make(&mut disk)?;
     let mut area = open(alloc, disk)?;
-    fill(alloc, &mut area, messages)?;
+    for place in 0..messages {
+        let reply_to = if place % 3 == 2 { place } else { 0 };
+        put_message(alloc, &mut area, reply_to, place.saturating_add(1), len)?;
+    }
     Ok(area)
 }
 
@@ -127,7 +119,7 @@ pub(crate) fn filled<D: Disk + Drop>(
 fn call_often<D: Disk>(
     alloc: Global,
     area: &mut OpenArea<D>,
-    act: Act,
+    deed: Deed,
     node: u32,
     rounds: u32,
 ) -> Result<(), Unmeasured>
@@ -135,45 +127,35 @@ fn call_often<D: Disk>(
     ensures { OnOk result (HasRest D.device area.new) }
 {
     let user = user(alloc, node)?;
-    let command = command(alloc, act, node)?;
+    let Ask::Call(command) = asked(alloc, deed, node)? else {
+        return Ok(());
+    };
     for _ in 0..rounds {
         run_one(alloc, area, &user, &command)?;
     }
     Ok(())
 }
 
-/// The calls of all nodes, one node after another.
-fn call_all<D: Disk>(
-    alloc: Global,
-    area: &mut OpenArea<D>,
-    act: Act,
-    rounds: u32,
-) -> Result<(), Unmeasured>
-    requires { HasRest D.device area.old }
-    ensures { OnOk result (HasRest D.device area.new) }
-{
-    for node in 0..NODES {
-        call_often(alloc, area, act, node + 1, rounds)?;
-    }
-    Ok(())
-}
-
-/// Calls of all nodes, as long as they take by one thread, where nothing is shared.
+/// Calls of all nodes in threads, as long as they take by one thread, one node after another, where nothing is shared.
 pub(crate) fn time_calls<R: Clock, D: Disk>(
     rt: &R,
     alloc: Global,
     area: &mut OpenArea<D>,
-    act: Act,
+    deed: Deed,
     rounds: u32,
 ) -> Result<Contest, Unmeasured>
     requires { HasRest D.device area.old }
     ensures { OnOk result (HasRest D.device area.new) }
 {
     let start = Instant::now(rt)?;
-    call_all(alloc, area, act, rounds)?;
+    for node in 0..NODES {
+        call_often(alloc, area, deed, node + 1, rounds)?;
+    }
     let rival = Took::since(rt, start, rounds.saturating_mul(NODES))?;
     Ok(Contest {
-        deed: Deed::Call(act),
-        rival,
+        deed,
+        rounds,
+        crews: BY_THREADS,
+        rival: Some(rival),
     })
 }

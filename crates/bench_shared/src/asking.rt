@@ -10,9 +10,9 @@ use std::fmt::Display;
 /// The moment of every call, in seconds since 1970.
 pub(crate) const MOMENT: u32 = 1_000_000_000;
 
-/// A call that is measured.
+/// What a node does again and again.
 #[derive(Clone, Copy)]
-pub(crate) enum Act {
+pub(crate) enum Deed {
     /// A post of 500 bytes.
     Post,
     /// A reading of the message with the node's number.
@@ -21,44 +21,30 @@ pub(crate) enum Act {
     Mark,
     /// The area is packed.
     Pack,
-}
-
-/// A look that is measured.
-#[derive(Clone, Copy)]
-pub(crate) enum Sight {
-    /// The figures.
+    /// A look at the figures.
     Figures,
-    /// The first twenty messages.
+    /// A look at the first twenty messages.
     List,
-}
-
-impl Sight {
-    pub(crate) fn question(self) -> Question {
-        match self {
-            Sight::Figures => Question::Figures,
-            Sight::List => Question::List { from: 1, most: 20 },
-        }
-    }
-}
-
-/// What a node does again and again.
-#[derive(Clone, Copy)]
-pub(crate) enum Deed {
-    Call(Act),
-    Look(Sight),
 }
 
 impl Display for Deed {
     fn fmt<W: fmt::Write>(&self, f: &mut fmt::Formatter<W>) -> fmt::Result {
         match self {
-            Deed::Call(Act::Post) => write!(f, "post"),
-            Deed::Call(Act::Read) => write!(f, "read"),
-            Deed::Call(Act::Mark) => write!(f, "mark"),
-            Deed::Call(Act::Pack) => write!(f, "pack"),
-            Deed::Look(Sight::Figures) => write!(f, "figures"),
-            Deed::Look(Sight::List) => write!(f, "list"),
+            Deed::Post => write!(f, "post"),
+            Deed::Read => write!(f, "read"),
+            Deed::Mark => write!(f, "mark"),
+            Deed::Pack => write!(f, "pack"),
+            Deed::Figures => write!(f, "figures"),
+            Deed::List => write!(f, "list"),
         }
     }
+}
+
+/// A deed as it is asked.
+#[derive(Drop)]
+pub(crate) enum Ask {
+    Call(Command),
+    Look(Question),
 }
 
 /// The user with this number, a sysop.
@@ -73,24 +59,26 @@ pub(crate) fn user(alloc: Global, id: u32) -> Result<User, OutOfMemory>
     })
 }
 
-/// A post of 500 bytes in reply to this number or to 0.
-pub(crate) fn post(alloc: Global, reply_to: u32) -> Result<Command, OutOfMemory> {
+/// A post with so long a text, in reply to this number or to 0.
+pub(crate) fn post(alloc: Global, reply_to: u32, len: usize) -> Result<Command, OutOfMemory> {
     Ok(Command::Post {
         to: Name::copy(alloc, b"Hello")?,
         subject: Bytes::copy(alloc, b"abc")?,
-        text: Bytes::copy(alloc, &[b'b'; 500])?,
+        text: Bytes::from(vec![in alloc; b'b'; len]?),
         reply_to,
         private: false,
     })
 }
 
-/// The command of the act, about this number.
-pub(crate) fn command(alloc: Global, act: Act, number: u32) -> Result<Command, OutOfMemory> {
-    match act {
-        Act::Post => post(alloc, 0),
-        Act::Read => Ok(Command::Read { number }),
-        Act::Mark => Ok(Command::SetMark { number }),
-        Act::Pack => Ok(Command::Pack),
+/// How the node with this number asks it.
+pub(crate) fn asked(alloc: Global, deed: Deed, number: u32) -> Result<Ask, OutOfMemory> {
+    match deed {
+        Deed::Post => Ok(Ask::Call(post(alloc, 0, 500)?)),
+        Deed::Read => Ok(Ask::Call(Command::Read { number })),
+        Deed::Mark => Ok(Ask::Call(Command::SetMark { number })),
+        Deed::Pack => Ok(Ask::Call(Command::Pack)),
+        Deed::Figures => Ok(Ask::Look(Question::Figures)),
+        Deed::List => Ok(Ask::Look(Question::List { from: 1, most: 20 })),
     }
 }
 

@@ -1,146 +1,183 @@
-//! Nodes that do the same again and again, in as many threads as are asked for.
+//! Nodes that do the same again and again, in as many threads as are asked for, and nodes that do so while another one is at work.
 ghost use Rattle.std.specs.Prelude.{◌<◌, ◌≤◌, All, length};
 ghost use Rattle.jb_area.specs.Calls.{HasRest};
 ghost use Rattle.jb_shared.specs.Areas.{IsOf};
 
-use crate::asking::{Act, Deed, MOMENT, command, is_done, user};
+use crate::asking::{Ask, Deed, MOMENT, asked, is_done, user};
 use crate::error::Unmeasured;
-use crate::took::{Mode, Took, print_took};
+use crate::took::{Mode, Took, print_beside, print_took};
 use jb_area::OpenArea;
 use jb_base::User;
 use jb_disk::Disk;
-use jb_model::{Command, Question};
 use jb_shared::{Pass, SharedArea};
 use std::alloc::Global;
+use std::fmt::Display;
 use std::rt::Clock;
-use std::sync::Wait;
-use std::sync::atomic::{AtomicU32, Ordering};
-use std::thread;
+use std::sync::atomic::{AtomicBool, Ordering};
+use std::sync::{Mutex, Wait};
 use std::thread::Threads;
 use std::time::Instant;
+use std::{fmt, thread};
 
-/// The nodes that share an area.
+/// The nodes that share an area where all do the same. One more shares it where the first is at work and others do something beside.
 pub(crate) const NODES: u32 = 32;
 
-/// How often each node does its deed, and what for.
+/// Which nodes do it.
 #[derive(Clone, Copy)]
-pub(crate) struct Plan {
-    pub mode: Mode,
-    pub rounds: u32,
+pub(crate) enum Crew {
+    /// All of them, spread over so many threads.
+    Threads(usize),
+    /// The first one. So many others do that until it has ended, each in a thread of its own.
+    Beside(Deed, usize),
 }
 
-/// A deed of all nodes, and how long its rival takes, where nothing is shared.
-#[derive(Clone, Copy)]
-pub(crate) struct Contest {
-    pub deed: Deed,
-    pub rival: Took,
-}
+/// All nodes, by ever more threads.
+pub(crate) const BY_THREADS: [Crew; 4] = [
+    Crew::Threads(1),
+    Crew::Threads(2),
+    Crew::Threads(8),
+    Crew::Threads(32),
+];
 
-/// How many threads the nodes are spread over.
-#[derive(Clone, Copy)]
-enum Crew {
-    One,
-    Two,
-    Eight,
-    Each,
-}
-
-impl Crew {
-    fn threads(self) -> usize
-        ensures { 0 < result }
-    {
+impl Display for Crew {
+    fn fmt<W: fmt::Write>(&self, f: &mut fmt::Formatter<W>) -> fmt::Result {
         match self {
-            Crew::One => 1,
-            Crew::Two => 2,
-            Crew::Eight => 8,
-            Crew::Each => 32,
+            Crew::Threads(threads) => write!(f, "threads {threads}"),
+            Crew::Beside(_, others) => write!(f, "beside {others}"),
         }
     }
 }
 
-/// So many calls.
-pub(crate) fn call_often<R: Wait, D: Disk>(
+/// A deed that each node does so often, by one crew after another, and how long its rival takes; where there is none it is the first
+/// crew's.
+#[derive(Clone, Copy)]
+pub(crate) struct Contest {
+    pub deed: Deed,
+    pub rounds: u32,
+    pub crews: [Crew; 4],
+    pub rival: Option<Took>,
+}
+
+// Does it once.
+fn do_once<R: Wait, D: Disk>(
     rt: &R,
     alloc: Global,
     area: &SharedArea<D>,
     pass: &mut Pass,
     user: &User,
-    command: &Command,
-    rounds: u32,
+    ask: &Ask,
 ) -> Result<(), Unmeasured>
     requires ours { IsOf area.now pass.old }
     requires name { length user.now.name ≤ 36 }
     ensures { IsOf area.now pass.new }
 {
-    for _ in 0..rounds {
-        let reply = area.call(rt, alloc, pass, user, MOMENT, command)?;
-        if !is_done(&reply) {
-            return Err(Unmeasured::Refused);
+    match ask {
+        Ask::Call(command) => {
+            let reply = area.call(rt, alloc, pass, user, MOMENT, command)?;
+            if !is_done(&reply) {
+                return Err(Unmeasured::Refused);
+            }
+        }
+        Ask::Look(question) => {
+            let _answer = area.look(pass, user, question)?;
         }
     }
     Ok(())
 }
 
-// So many looks.
-fn look_often<D: Disk>(
-    area: &SharedArea<D>,
-    pass: &mut Pass,
-    user: &User,
-    question: &Question,
-    rounds: u32,
-) -> Result<(), Unmeasured>
-    requires { IsOf area.now pass.old }
-    ensures { IsOf area.now pass.new }
-{
-    for _ in 0..rounds {
-        let _answer = area.look(pass, user, question)?;
-    }
-    Ok(())
-}
-
-// What the node with this number does.
-fn follow<R: Wait, D: Disk>(
+// Does it so often.
+fn do_often<R: Wait, D: Disk>(
     rt: &R,
     alloc: Global,
     area: &SharedArea<D>,
     pass: &mut Pass,
-    node: u32,
-    deed: Deed,
+    user: &User,
+    ask: &Ask,
     rounds: u32,
-) -> Result<(), Unmeasured>
+) -> Result<Took, Unmeasured>
+    requires ours { IsOf area.now pass.old }
+    requires name { length user.now.name ≤ 36 }
+    ensures { IsOf area.now pass.new }
+{
+    for _ in 0..rounds {
+        do_once(rt, alloc, area, pass, user, ask)?;
+    }
+    Ok(Took::none())
+}
+
+// Does it until the first node has ended, with the clock read twice each time.
+fn do_beside<R: Wait + Clock, D: Disk>(
+    rt: &R,
+    alloc: Global,
+    area: &SharedArea<D>,
+    pass: &mut Pass,
+    user: &User,
+    ask: &Ask,
+    ended: &AtomicBool,
+) -> Result<Took, Unmeasured>
+    requires ours { IsOf area.now pass.old }
+    requires name { length user.now.name ≤ 36 }
+    ensures { IsOf area.now pass.new }
+{
+    let mut took = Took::none();
+    for _ in 0..u32::MAX {
+        if ended.load(Ordering::SeqCst) {
+            break;
+        }
+        let start = Instant::now(rt)?;
+        do_once(rt, alloc, area, pass, user, ask)?;
+        took = took.with(Took::since(rt, start, 1)?);
+    }
+    Ok(took)
+}
+
+// What the node at this place among the passes does.
+fn follow<R: Wait + Clock, D: Disk>(
+    rt: &R,
+    alloc: Global,
+    area: &SharedArea<D>,
+    pass: &mut Pass,
+    place: usize,
+    contest: &Contest,
+    crew: Crew,
+    ended: &AtomicBool,
+) -> Result<Took, Unmeasured>
     requires { IsOf area.now pass.old }
     ensures { IsOf area.now pass.new }
 {
+    let node = u32::try_from(place).unwrap_or(0).saturating_add(1);
     let user = user(alloc, node)?;
-    match deed {
-        Deed::Call(act) => {
-            let command = command(alloc, act, node)?;
-            call_often(rt, alloc, area, pass, &user, &command, rounds)
+    match crew {
+        Crew::Beside(_, others) if place > others => Ok(Took::none()),
+        Crew::Beside(deed, _) if place > 0 => {
+            let ask = asked(alloc, deed, node)?;
+            do_beside(rt, alloc, area, pass, &user, &ask, ended)
         }
-        Deed::Look(sight) => look_often(area, pass, &user, &sight.question(), rounds),
+        _ => {
+            let ask = asked(alloc, contest.deed, node)?;
+            do_often(rt, alloc, area, pass, &user, &ask, contest.rounds)
+        }
     }
 }
 
-// The node at this place among the passes.
-fn node_at(place: usize) -> u32 {
-    u32::try_from(place).unwrap_or(0).saturating_add(1)
-}
-
-// All nodes, in at most so many threads; each that is done is counted.
-fn follow_all<R: Threads + Wait + Sync, D: Disk + Send + Sync>(
+// All nodes. One that cannot go on leaves nothing in the log.
+fn follow_all<R: Threads + Wait + Clock + Sync, D: Disk + Send + Sync>(
     rt: &R,
     alloc: Global,
     area: &SharedArea<D>,
     passes: &mut [Pass],
-    threads: usize,
-    deed: Deed,
-    rounds: u32,
-    done: &AtomicU32,
+    contest: &Contest,
+    crew: Crew,
+    log: &Mutex<Vec<Took>>,
 )
-    requires threads { 0 < threads }
-    requires ours { All (IsOf area.now) passes.old }
+    requires { All (IsOf area.now) passes.old }
     ensures { All (IsOf area.now) passes.new }
 {
+    let threads = match crew {
+        Crew::Threads(threads) => threads.max(1),
+        Crew::Beside(..) => passes.len().max(1),
+    };
+    let ended = AtomicBool::new(false);
     thread::for_each_mut(
         rt,
         passes,
@@ -149,58 +186,72 @@ fn follow_all<R: Threads + Wait + Sync, D: Disk + Send + Sync>(
             requires { IsOf area.now pass.now }
             ensures { IsOf area.entry.now pass.exit.now }
         {
-            let node = node_at(place);
-            if follow(rt, alloc, area, pass, node, deed, rounds).is_ok() {
-                done.fetch_add(1, Ordering::SeqCst);
+            let took = follow(rt, alloc, area, pass, place, contest, crew, &ended);
+            if place == 0 {
+                ended.store(true, Ordering::SeqCst);
+            }
+            if let Ok(took) = took {
+                let _noted = log.lock(rt).push(took);
             }
         },
     );
 }
 
-// How long all nodes take in at most so many threads.
-fn time_threads<R: Threads + Wait + Clock + Sync, D: Disk + Send + Sync>(
+// How long the deed takes by this crew, and what the others do meanwhile.
+fn time<R: Threads + Wait + Clock + Sync, D: Disk + Send + Sync>(
     rt: &R,
     alloc: Global,
     area: &SharedArea<D>,
     passes: &mut [Pass],
-    threads: usize,
-    deed: Deed,
-    rounds: u32,
-) -> Result<Took, Unmeasured>
-    requires threads { 0 < threads }
-    requires ours { All (IsOf area.now) passes.old }
+    contest: &Contest,
+    crew: Crew,
+) -> Result<(Took, Took), Unmeasured>
+    requires { All (IsOf area.now) passes.old }
     ensures { All (IsOf area.now) passes.new }
 {
-    let done = AtomicU32::new(0);
+    let times = match crew {
+        Crew::Threads(_) => contest.rounds.saturating_mul(NODES),
+        Crew::Beside(..) => contest.rounds,
+    };
+    let log = Mutex::new(Vec::new(alloc));
     let start = Instant::now(rt)?;
-    follow_all(rt, alloc, area, passes, threads, deed, rounds, &done);
-    let took = Took::since(rt, start, rounds.saturating_mul(NODES))?;
-    if done.load(Ordering::SeqCst) == NODES {
-        Ok(took)
-    } else {
-        Err(Unmeasured::Refused)
+    follow_all(rt, alloc, area, passes, contest, crew, &log);
+    let took = Took::since(rt, start, times)?;
+    let log = log.into_inner();
+    if log.len() != passes.len() {
+        return Err(Unmeasured::Refused);
     }
+    let beside = log.iter().fold(Took::none(), |all, one| all.with(*one));
+    Ok((took, beside))
 }
 
-// A line for each number of threads: the deed of all nodes against its rival.
+// A line for each crew, and one for what others do beside it.
 fn hold<R: Threads + Wait + Clock + Print + Sync, D: Disk + Send + Sync>(
     rt: &R,
     alloc: Global,
     area: &SharedArea<D>,
     passes: &mut [Pass],
-    plan: Plan,
-    place: &str,
-    against: &Contest,
+    mode: Mode,
+    name: &str,
+    contest: &Contest,
 ) -> Result<(), Unmeasured>
     requires { All (IsOf area.now) passes.old }
     ensures { All (IsOf area.now) passes.new }
 {
-    let Contest { deed, rival } = *against;
-    for crew in [Crew::One, Crew::Two, Crew::Eight, Crew::Each] {
-        let threads = crew.threads();
-        let took = time_threads(rt, alloc, area, passes, threads, deed, plan.rounds)?;
-        let name = format!(in alloc; "{place}, {deed}, threads {threads}")?;
-        print_took(rt, plan.mode, name.as_str(), took, rival)?;
+    let deed = contest.deed;
+    let mut rival = contest.rival;
+    for crew in contest.crews {
+        let (took, beside) = time(rt, alloc, area, passes, contest, crew)?;
+        let other = rival.unwrap_or(took);
+        rival = Some(other);
+        let line = format!(in alloc; "{name}, {deed}, {crew}")?;
+        print_took(rt, mode, line.as_str(), took, other)?;
+        if let Crew::Beside(deed, others) = crew
+            && others > 0
+        {
+            let line = format!(in alloc; "{name}, each {deed} of {others} beside it")?;
+            print_beside(rt, mode, line.as_str(), beside, took)?;
+        }
     }
     Ok(())
 }
@@ -211,48 +262,50 @@ fn hold_all<R: Threads + Wait + Clock + Print + Sync, D: Disk + Send + Sync>(
     alloc: Global,
     area: &SharedArea<D>,
     passes: &mut [Pass],
-    plan: Plan,
-    place: &str,
+    mode: Mode,
+    name: &str,
     contests: &[Contest],
 ) -> Result<(), Unmeasured>
     requires { All (IsOf area.now) passes.old }
     ensures { All (IsOf area.now) passes.new }
 {
     for one in contests {
-        hold(rt, alloc, area, passes, plan, place, one)?;
+        hold(rt, alloc, area, passes, mode, name, one)?;
     }
     Ok(())
 }
 
-/// Ends the sharing. All passes are there: an area that missed one would be held for ever.
-pub(crate) fn end<R: Wait, D: Disk + Drop>(rt: &R, area: SharedArea<D>, passes: Vec<Pass>)
-    requires { All (IsOf area) passes.items }
+/// Shares this area among so many nodes; lines for each contest. All passes are there at the end: an area that missed one would
+/// be held for ever.
+pub(crate) fn share<R: Threads + Wait + Clock + Print + Sync, D: Disk + Drop + Send + Sync>(
+    rt: &R,
+    alloc: Global,
+    area: OpenArea<D>,
+    nodes: u32,
+    mode: Mode,
+    name: &str,
+    contests: &[Contest],
+) -> Result<(), Unmeasured>
+    requires rest { HasRest D.device area }
+    requires nodes { (0 < nodes) × (nodes ≤ 33) }
 {
+    let Ok((area, mut passes)) = SharedArea::new(rt, alloc, area, nodes) else {
+        return Err(Unmeasured::OutOfMemory);
+    };
+    let held = hold_all(
+        rt,
+        alloc,
+        &area,
+        passes.as_mut_slice(),
+        mode,
+        name,
+        contests,
+    );
     match area.close(rt, passes) {
-        Ok(_area) => {}
+        Ok(_area) => held,
         Err(_kept) => {
             for _ in rt.forever() {}
             unreachable!()
         }
     }
-}
-
-/// Shares this area among the nodes; a line for each contest and number of threads.
-pub(crate) fn share<R: Threads + Wait + Clock + Print + Sync, D: Disk + Drop + Send + Sync>(
-    rt: &R,
-    alloc: Global,
-    area: OpenArea<D>,
-    plan: Plan,
-    place: &str,
-    contests: &[Contest],
-) -> Result<(), Unmeasured>
-    requires { HasRest D.device area }
-{
-    let Ok((area, mut passes)) = SharedArea::new(rt, alloc, area, NODES) else {
-        return Err(Unmeasured::OutOfMemory);
-    };
-    let nodes = passes.as_mut_slice();
-    let held = hold_all(rt, alloc, &area, nodes, plan, place, contests);
-    end(rt, area, passes);
-    held
 }

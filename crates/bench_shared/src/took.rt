@@ -13,34 +13,42 @@ pub(crate) enum Mode {
     Rehearse,
 }
 
-/// Something was done so often, in so many seconds.
+/// Something was done so often, in so many seconds, of which the longest took so many.
 #[derive(Clone, Copy)]
 pub(crate) struct Took {
     times: u32,
     seconds: f64,
+    longest: f64,
 }
 
 impl Took {
-    /// So many times, from then until now.
-    pub(crate) fn since<R: Clock>(rt: &R, start: Instant, times: u32) -> io::Result<Took> {
-        let time = start.elapsed(rt)?;
-        Ok(Took {
-            times,
-            seconds: time.as_secs_f64(),
-        })
-    }
-
-    /// As long, for so many times.
-    pub(crate) fn of(self, times: u32) -> Took {
+    /// Not once.
+    pub(crate) fn none() -> Took {
         Took {
-            times,
-            seconds: self.seconds,
+            times: 0,
+            seconds: 0.0,
+            longest: 0.0,
         }
     }
 
-    /// How often in a second.
-    fn rate(self) -> f64 {
-        f64::from(self.times) / self.seconds
+    /// So many times, from then until now.
+    pub(crate) fn since<R: Clock>(rt: &R, start: Instant, times: u32) -> io::Result<Took> {
+        let time = start.elapsed(rt)?;
+        let seconds = time.as_secs_f64();
+        Ok(Took {
+            times,
+            seconds,
+            longest: seconds,
+        })
+    }
+
+    /// Both, as one thread does them one after the other.
+    pub(crate) fn with(self, other: Took) -> Took {
+        Took {
+            times: self.times.saturating_add(other.times),
+            seconds: self.seconds + other.seconds,
+            longest: self.longest.max(other.longest),
+        }
     }
 
     /// The microseconds of one time.
@@ -49,7 +57,7 @@ impl Took {
     }
 }
 
-/// One line: what took so long, and how many times as long as its rival.
+/// One line: what took so long each time, and how many times as long as its rival.
 pub(crate) fn print_took<R: Print>(
     rt: &R,
     mode: Mode,
@@ -65,34 +73,20 @@ pub(crate) fn print_took<R: Print>(
     }
 }
 
-/// One line: how often in a second something was done, and how many times as often as its rival.
-pub(crate) fn print_rate<R: Print>(
+/// One line: how often something was done while another thing took so long, and the mean and the longest wait.
+pub(crate) fn print_beside<R: Print>(
     rt: &R,
     mode: Mode,
     name: &str,
     took: Took,
-    rival: Took,
+    while_it: Took,
 ) -> io::Result<()> {
-    let (rate, other) = (took.rate(), rival.rate());
-    let ratio = rate / other;
+    let rate = f64::from(took.times) / while_it.seconds;
+    let (each, longest) = (took.each(), took.longest * 1e6);
     match mode {
-        Mode::Measure => println!(rt; "{name}: {rate:.2} a second, {ratio:.2} times {other:.2}"),
-        Mode::Rehearse => println!(rt; "{name}: done"),
-    }
-}
-
-/// One line: how often in a second something was done, and how long the longest took.
-pub(crate) fn print_longest<R: Print>(
-    rt: &R,
-    mode: Mode,
-    name: &str,
-    took: Took,
-    longest: f64,
-) -> io::Result<()> {
-    let rate = took.rate();
-    let longest = longest * 1e6;
-    match mode {
-        Mode::Measure => println!(rt; "{name}: {rate:.0} a second, the longest {longest:.0} us"),
+        Mode::Measure => {
+            println!(rt; "{name}: {rate:.0} a second, {each:.2} us, the longest {longest:.0} us")
+        }
         Mode::Rehearse => println!(rt; "{name}: done"),
     }
 }

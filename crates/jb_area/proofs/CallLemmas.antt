@@ -1,7 +1,7 @@
 -- A call that was decided is begun, and then it ends.
-use Rattle.std.proofs.Common.{◌≡◌, ℕ, ◌≤◌, Bool, List, Result, Ok, Err, IfErr, IsOk, OnErr, OnOk, Some, ap, refl, sym, ◌∙◌, subst, arith}
+use Rattle.std.proofs.Common.{◌≡◌, inl, ℕ, ◌≤◌, Bool, List, Option, Result, Ok, Err, IfErr, IsOk, OnErr, OnOk, Some, ap, refl, sym, ◌∙◌, subst, arith}
 use Rattle.std.specs.Option.{ForSome}
-use Rattle.std.specs.Prelude.{is_some}
+use Rattle.std.specs.Prelude.{IsSome, is_some}
 use Rattle.jb_base.specs.Fault.{Rose}
 use Rattle.jb_base.specs.declared.area.AreaRules.{AreaRules}
 use Rattle.jb_base.specs.declared.user.User.{User}
@@ -14,8 +14,10 @@ use Rattle.jb_decide.specs.declared.error.AreaError.TheVariants.{StoreFault}
 use Rattle.jb_disk.specs.Device.{Device, OnlyReads}
 use Rattle.jb_disk.specs.Files.{Files, number_of}
 use Rattle.jb_disk.specs.declared.file.FileId.TheVariants.{Jdt, Jhr}
-use Rattle.jb_disk.specs.Images.{Images}
-use Rattle.jb_disk.specs.Runs.{LeavesNow, LeavesOnly, Runs}
+use Rattle.jb_disk.specs.Runs.{LeavesOnly}
+use Rattle.jb_disk.proofs.RunLemmas.{runs-then}
+use Rattle.jb_pack.specs.Touching.{AgreeButShadow, TouchesShadow}
+use Rattle.jb_redo.proofs.ApplyLemmas.{turns_on}
 use Rattle.jb_model.specs.State.{state_of}
 use Rattle.jb_model.specs.Step.{Step}
 use Rattle.jb_model.specs.declared.command.Command.{Command}
@@ -23,18 +25,22 @@ use Rattle.jb_model.specs.declared.command.Command.TheVariants.{Post}
 use Rattle.jb_model.specs.declared.loaded.Loaded.{Loaded}
 use Rattle.jb_model.specs.declared.reply.Reply.{Reply}
 use Rattle.jb_area.specs.Area.{files_after, HasBegun, HasMade, HasNoChange, IsDoubtful, IsResting, RestsAt}
-use Rattle.jb_area.specs.Calls.{BeginsCall, EndsCall, FailsWith, HasAnswered, HasStoppedIn, IsBegunFor, MeetsCall}
-use Rattle.jb_area.specs.Holds.{OpensToEither}
+use Rattle.jb_area.specs.Calls.{BeginsCall, EndsCall, FailsWith, HasAnswered, HasStoppedIn, IsBegunFor, MeetsCall, OnlyReadsOrCopies}
+use Rattle.jb_area.specs.Holds.{Opens, OpensToEither}
 use Rattle.jb_area.specs.declared.area.OpenArea.{OpenArea}
-use Rattle.jb_area.proofs.Outcomes.{if_ok_then2, on_ok_then}
+use Rattle.jb_area.proofs.CommitLemmas.{only_weaken}
+use Rattle.jb_area.proofs.CopyingLemmas.{alike_by, crash_by, reads_by, settled_copying, touches_by}
+use Rattle.jb_area.proofs.Outcomes.{err_gives, if_ok_then2, ok_gives, on_ok_then}
+use Rattle.jb_area.proofs.PackedLemmas.{on_either}
 use Rattle.jb_area.proofs.StartLemmas.{err_not_ok, fails_with}
 
--- what a crash leaves, from a device that was at most read since
-only_from : (P : Files → Type 0) (old mid new : Device) → OnlyReads old mid → LeavesOnly mid new P → LeavesOnly old new P
-only_from P old mid new same only = record {
-  first = subst (LeavesNow P) same.moments only.first;
-  run = subst (λ (m : List Images). Runs P m new.moments) same.moments only.run;
-}
+-- what a crash leaves, one after another
+only_then : (P : Files → Type 0) (old mid new : Device) → LeavesOnly old mid P → LeavesOnly mid new P → LeavesOnly old new P
+only_then P old mid new one two = record { first = one.first; run = runs-then P old.moments mid.moments new.moments one.run two.run }
+
+-- what is told where a disk goes on telling
+some_alike : (old new : Option Files) → is_some new ≡ is_some old → IsSome old → IsSome new
+some_alike old new alike told = alike ∙ told
 
 -- the same post, from the same parts
 pub same_post : (to its_to subject its_subject text its_text : List ℕ) (reply_to : ℕ) (private : Bool) → to ≡ its_to → subject ≡ its_subject → text ≡ its_text
@@ -42,14 +48,6 @@ pub same_post : (to its_to subject its_subject text its_text : List ℕ) (reply_
 same_post to its_to subject its_subject text its_text reply_to private one two three =
     ap (λ (t : List ℕ). Post t subject text reply_to private) one ∙ ap (λ (s : List ℕ). Post its_to s text reply_to private) two
     ∙ ap (λ (t : List ℕ). Post its_to its_subject t reply_to private) three
-
--- a claim on what was done, where it was done
-ok_gives : {T E : Type 0} (result : Result T E) (value : T) (P : Type 0) → result ≡ Ok value → OnOk result P → P
-ok_gives {T} {E} result value P ok claim = subst (λ (r : Result T E). OnOk r P) ok claim
-
--- a claim on a refusal, where it is this one
-err_gives : {T E : Type 0} (result : Result T E) (error : E) (P : E → Type 0) → result ≡ Err error → IfErr result P → P error
-err_gives {T} {E} result error P refused claim = subst (λ (r : Result T E). IfErr r P) refused claim
 
 -- a fault that is the only error has its cause
 fault_rose : {T : Type 0} (result : Result T AreaError) (before mid now : ℕ) → before ≤ mid → IfErr result (λ error. error ≡ StoreFault) → OnErr result (Rose mid now) → IfErr result (AreaFaultRose before now)
@@ -72,21 +70,30 @@ fails_so (Ok value) P Q fault doubt then = tt
 fails_so (Err error) P Q fault doubt then = subst Q (sym fault) (then doubt)
 
 module _ {D : Type 0} (shown : D → Device) (old mid new : OpenArea D) (texts : List ℕ) (user : User) (moment : ℕ) (command : Command)
-    (same : OnlyReads (shown old.disk) (shown mid.disk)) (loaded : mid.held ≡ old.held) (rules : mid.rules ≡ old.rules) (begun : IsBegunFor shown mid texts user moment command) where
+    (reads : OnlyReadsOrCopies command (shown old.disk) (shown mid.disk)) (idle : HasNoChange mid → OnlyReads (shown old.disk) (shown mid.disk)) (resting : IsResting shown old texts)
+    (loaded : mid.held ≡ old.held) (rules : mid.rules ≡ old.rules) (begun : IsBegunFor shown mid texts user moment command) where
+  -- but for .NDT the device is as it was
+  touches : TouchesShadow (shown old.disk) (shown mid.disk)
+  touches = touches_by command (shown old.disk) (shown mid.disk) reads
+
+  -- it tells as it did
+  told_mid : IsTold begun.reply (shown old.disk).contents → IsTold begun.reply (shown mid.disk).contents
+  told_mid told letter is = some_alike (shown old.disk).contents (shown mid.disk).contents (alike_by (shown old.disk) (shown mid.disk) touches) (told letter is)
+
   -- the step, as it was before the call
   step_before : IsTold begun.reply (shown old.disk).contents
       → Step old.rules (state_of texts old.held) user moment command begun.reply (state_of begun.coming.texts begun.coming.to)
   step_before told =
       subst (λ (r : AreaRules). Step r (state_of texts old.held) user moment command begun.reply (state_of begun.coming.texts begun.coming.to)) rules
       (subst (λ (l : Loaded). Step mid.rules (state_of texts l) user moment command begun.reply (state_of begun.coming.texts begun.coming.to)) loaded
-      (begun.step (subst (IsTold begun.reply) (sym same.contents) told)))
+      (begun.step (told_mid told)))
 
   -- a call that changes nothing has no change, and leaves the device
   idle_before : (HasNoChange mid → shown new.disk ≡ shown mid.disk) → ChangesNothing command begun.reply
       → OnlyReads (shown old.disk) (shown new.disk) × (begun.coming ≡ record { to = old.held; texts = texts })
   idle_before left nothing =
       let none = begun.idle nothing in (
-        subst (OnlyReads (shown old.disk)) (sym (left none.0)) same,
+        subst (OnlyReads (shown old.disk)) (sym (left none.0)) (idle none.0),
         none.1 ∙ ap (λ (l : Loaded). record { to = l; texts = texts }) loaded,
       )
 
@@ -94,25 +101,31 @@ module _ {D : Type 0} (shown : D → Device) (old mid new : OpenArea D) (texts :
   crash_before : ForSome (shown mid.disk).contents (λ files. LeavesOnly (shown mid.disk) (shown new.disk) (OpensToEither mid.held texts begun.coming))
       → ForSome (shown old.disk).contents (λ files. LeavesOnly (shown old.disk) (shown new.disk) (OpensToEither old.held texts begun.coming))
   crash_before crash = λ files there.
-      subst (λ (l : Loaded). LeavesOnly (shown old.disk) (shown new.disk) (OpensToEither l texts begun.coming)) loaded
-      (only_from (OpensToEither mid.held texts begun.coming) (shown old.disk) (shown mid.disk) (shown new.disk) same (crash files (same.contents ∙ there)))
+      let mid_there = turns_on AgreeButShadow (shown old.disk).contents (shown mid.disk).contents files touches.others there in
+      let first : LeavesOnly (shown old.disk) (shown mid.disk) (OpensToEither old.held texts begun.coming) =
+      only_weaken (Opens old.held texts) (OpensToEither old.held texts begun.coming) (shown old.disk) (shown mid.disk) (λ left opens. inl opens)
+      (crash_by old.held texts (shown old.disk) (shown mid.disk) touches (settled_copying old.held texts (shown old.disk) resting.kept.settled) files there) in
+      only_then (OpensToEither old.held texts begun.coming) (shown old.disk) (shown mid.disk) (shown new.disk) first
+      (subst (λ (l : Loaded). LeavesOnly (shown mid.disk) (shown new.disk) (OpensToEither l texts begun.coming)) loaded (crash mid_there.0 mid_there.1))
 
   -- what becomes of the headers
   headers_then : HasMade shown mid new → IsNoPack command → ForSome (shown old.disk).contents (λ was. ForSome (shown new.disk).contents (λ now.
       KeepsHeaders begun.reply old.held begun.coming.to was now))
   headers_then made in_place was there now here =
-      let there_too = same.contents ∙ there in
+      let there_too = (reads_by command (shown old.disk) (shown mid.disk) in_place reads).contents ∙ there in
       headers_agree begun.reply old.held begun.coming.to was now (files_after mid was) (made was there_too now here Jhr (λ is. let number = ap number_of is in omega (arith, number)))
-      (subst (λ (l : Loaded). KeepsHeaders begun.reply l begun.coming.to was (files_after mid was)) loaded (begun.headers in_place was (begun.begun.kept.settled.rests was there_too).holds))
+      (subst (λ (l : Loaded). KeepsHeaders begun.reply l begun.coming.to was (files_after mid was)) loaded (begun.headers in_place was (record { holds = (begun.begun.kept.settled.rests was there_too).holds; has = begun.begun.kept.copies was there_too })))
 
   -- and of those of a pack
   packs_then : HasMade shown mid new → ForSome (shown old.disk).contents (λ was. ForSome (shown new.disk).contents (λ now. PacksHeaders begun.reply begun.coming.to now))
-  packs_then made was there now here =
-      let there_too = same.contents ∙ there in
-      let agrees = made was there_too now here in
+  packs_then made start start_there now here =
+      let mid_there = turns_on AgreeButShadow (shown old.disk).contents (shown mid.disk).contents start touches.others start_there in
+      let was : Files = mid_there.0 in
+      let there = mid_there.1 in
+      let agrees = made was there now here in
       packs_agree begun.reply begun.coming.to now (files_after mid was)
       (agrees Jhr (λ is. let number = ap number_of is in omega (arith, number))) (agrees Jdt (λ is. let number = ap number_of is in omega (arith, number)))
-      (begun.packs was (begun.begun.kept.settled.rests was there_too).holds)
+      (begun.packs was (record { holds = (begun.begun.kept.settled.rests was there).holds; has = begun.begun.kept.copies was there }))
 
   -- finished
   answered_by : (reply : Reply) → (reply ≡ begun.reply) × RestsAt shown new begun.coming.texts begun.coming.to → HasMade shown mid new
@@ -160,15 +173,18 @@ module _ {D : Type 0} (shown : D → Device) where
       record {
         answered = if_ok_then2 result _ _ _ ends.done ends.made (λ reply done made texts resting.
             let is = ok_gives began value _ ok begins.begun texts resting in
-            answered_by shown old mid new texts user moment command begins.reads begins.loaded begins.rules is reply (done texts is.reply is.coming is.begun) made (λ none. (ends.idle none).1) (ends.crash texts is.reply is.coming is.begun));
+            answered_by shown old mid new texts user moment command begins.reads (ok_gives began value _ ok begins.idle) resting begins.loaded begins.rules is reply (done texts is.reply is.coming is.begun) made (λ none. (ends.idle none).1) (ends.crash texts is.reply is.coming is.begun));
         failed = fails_so result _ (λ error. (texts : List ℕ) → IsResting shown old texts → FailsWith shown error old new texts user moment command) ends.fault (stopped_some result _ _ _ (on_err_both result _ _ ends.doubt (on_err_both result _ _ ends.opens ends.loaded)) ends.idle) (λ stopped texts resting.
             let is = ok_gives began value _ ok begins.begun texts resting in
-            stopped_by shown old mid new texts user moment command begins.reads begins.loaded begins.rules is (stopped.0.0 texts is.reply is.coming is.begun) (stopped.0.1.0 texts is.reply is.coming is.begun) stopped.0.1.1 stopped.1 (ends.crash texts is.reply is.coming is.begun));
+            stopped_by shown old mid new texts user moment command begins.reads (ok_gives began value _ ok begins.idle) resting begins.loaded begins.rules is (stopped.0.0 texts is.reply is.coming is.begun) (stopped.0.1.0 texts is.reply is.coming is.begun) stopped.0.1.1 stopped.1 (ends.crash texts is.reply is.coming is.begun));
         cause = fault_rose result _ _ _ begins.later ends.fault ends.cause;
         quiet = on_ok_then result _ _ ends.quiet (λ quiet. quiet ∙ ok_gives began value _ ok begins.quiet);
-        alike = ends.alike ∙ ap is_some begins.reads.contents;
+        alike = ends.alike ∙ alike_by (shown old.disk) (shown mid.disk) (touches_by command (shown old.disk) (shown mid.disk) begins.reads);
         later = omega (arith, earlier, later);
         rules = ends.rules ∙ begins.rules;
+        copies = λ in_place. on_either result _ _ (new.packer ≡ old.packer) ends.copies ends.kept
+            (λ done. done ∙ ok_gives began value _ ok begins.kind in_place ∙ begins.copies in_place) (λ kept. kept ∙ begins.copies in_place);
+        packed = ends.packed;
       }
 
   -- a call that is not begun
@@ -179,7 +195,9 @@ module _ {D : Type 0} (shown : D → Device) where
     failed = λ texts resting. fails_with shown error old new texts user moment command begins.reads begins.loaded resting (err_gives began error _ refused begins.failed texts resting);
     cause = err_gives began error _ refused begins.cause;
     quiet = tt;
-    alike = ap is_some begins.reads.contents;
+    alike = alike_by (shown old.disk) (shown new.disk) (touches_by command (shown old.disk) (shown new.disk) begins.reads);
     later = begins.later;
     rules = begins.rules;
+    copies = begins.copies;
+    packed = tt;
   }

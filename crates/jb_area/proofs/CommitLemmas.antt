@@ -13,10 +13,12 @@ use Rattle.jb_journal.specs.Doubt.{DoubtReplays, HasStopped, IsInDoubt, IsSettle
 use Rattle.jb_journal.specs.declared.stopped.Stopped.{Stopped}
 use Rattle.jb_journal.specs.declared.stopped.Stopped.TheVariants.{Early, Late}
 use Rattle.jb_model.specs.declared.loaded.Loaded.{Loaded}
+use Rattle.jb_pack.specs.Shadow.{Shadow}
 use Rattle.jb_decide.specs.Coming.{BringsComing, Coming, IsChange}
-use Rattle.jb_area.specs.Commits.{IsAnsweredAs, IsSettledAs, IsStopped, IsStoppedAs}
+use Rattle.jb_decide.specs.Holds.{HasAll}
+use Rattle.jb_area.specs.Commits.{HasRecordOf, IsAnsweredAs, IsSettledAs, IsSettledWith, IsStopped, IsStoppedAs}
 use Rattle.jb_area.specs.Holds.{IsAtRest, Opens, OpensToEither}
-use Rattle.jb_area.proofs.HoldLemmas.{committed-agrees, opens_either, opens_to, ready, rest_opens, rests_committed, rests_settled}
+use Rattle.jb_area.proofs.HoldLemmas.{committed-agrees, opens_either, opens_to, ready, rest_opens, rests_committed, rests_settled, size-committed}
 
 -- a value is not none
 some-none : {A : Type 0} (a : A) → Some a ≡ None → ⊥
@@ -40,7 +42,7 @@ leaves_weaken P Q then [] leaves = tt
 leaves_weaken P Q then (now ∷ earlier) leaves = λ files image. then files (leaves files image)
 
 -- and so what it leaves at any moment
-only_weaken : (P Q : Files → Type 0) (old new : Device) → ((files : Files) → P files → Q files) → LeavesOnly old new P → LeavesOnly old new Q
+pub only_weaken : (P Q : Files → Type 0) (old new : Device) → ((files : Files) → P files → Q files) → LeavesOnly old new P → LeavesOnly old new Q
 only_weaken P Q old new then only = record {
   first = leaves_weaken P Q then old.moments only.first;
   run = runs-weaken P Q then old.moments new.moments only.run;
@@ -48,14 +50,14 @@ only_weaken P Q old new then only = record {
 
 module _ (change : Change) where
   -- over files at rest the change may be committed
-  pub ready_as : (from : Loaded) (texts : List ℕ) (coming : Coming) (device : Device) → IsSettledAs from texts device → IsChange device.contents change from texts coming
+  pub ready_as : (from : Loaded) (texts : List ℕ) (copies : Option Shadow) (coming : Coming) (device : Device) → IsSettledWith from texts copies device → IsChange device.contents change from texts copies coming
       → ForSome device.contents (IsReady change)
-  ready_as from texts coming device settled is files there = ready change from texts coming files (is.brings files there) (settled.rests files there)
+  ready_as from texts copies coming device settled is files there = ready change from texts copies coming files (is.brings files there) (settled.settled.rests files there) (settled.has files there)
 
   -- a commit that is done leaves the area that was to come
-  pub done_as : (old new : Device) (from : Loaded) (texts : List ℕ) (coming : Coming) → new.contents ≡ option_map (committed change) old.contents → IsAllSynced new
-      → IsSettledAs from texts old → IsChange old.contents change from texts coming → IsSettledAs coming.to coming.texts new
-  done_as old new from texts coming done synced settled is = record { rests = rests; synced = synced }
+  pub done_as : (old new : Device) (from : Loaded) (texts : List ℕ) (copies : Option Shadow) (coming : Coming) → new.contents ≡ option_map (committed change) old.contents → IsAllSynced new
+      → IsSettledWith from texts copies old → IsChange old.contents change from texts copies coming → IsSettledAs coming.to coming.texts new
+  done_as old new from texts copies coming done synced settled is = record { rests = rests; synced = synced }
     where
       rests : ForSome new.contents (IsAtRest coming.to coming.texts)
       rests files there = by_contents old.contents refl
@@ -64,7 +66,7 @@ module _ (change : Change) where
           by_contents None none = absurd (some-none files (sym there ∙ done ∙ ap (option_map (committed change)) none))
           by_contents (Some was) some =
               subst (IsAtRest coming.to coming.texts) (some-same _ _ (sym (done ∙ ap (option_map (committed change)) some) ∙ there))
-              (rests_committed change from texts coming was (is.brings was some) (settled.rests was some))
+              (rests_committed change from texts copies coming was (is.brings was some) (settled.settled.rests was some) (settled.has was some))
 
   -- and the files with the change done, but for the journal
   pub made_as : (old new : Device) → new.contents ≡ option_map (committed change) old.contents
@@ -72,53 +74,64 @@ module _ (change : Change) where
   made_as old new done was there now here =
       subst (λ (f : Files). AgreeButJournal f (changed change was)) (some-same _ _ (sym (done ∙ ap (option_map (committed change)) there) ∙ here)) (committed-agrees change was)
 
+  -- whose journal has its head and the record
+  pub size_as : (old new : Device) (from : Loaded) (texts : List ℕ) (copies : Option Shadow) → new.contents ≡ option_map (committed change) old.contents → IsSettledWith from texts copies old
+      → ForSome new.contents (HasRecordOf change)
+  size_as old new from texts copies done settled files there = by_contents old.contents refl
+    where
+      by_contents : (o : Option Files) → old.contents ≡ o → HasRecordOf change files
+      by_contents None none = absurd (some-none files (sym there ∙ done ∙ ap (option_map (committed change)) none))
+      by_contents (Some was) some =
+          subst (HasRecordOf change) (some-same _ _ (sym (done ∙ ap (option_map (committed change)) some) ∙ there))
+          (size-committed change was (settled.settled.rests was some).long)
+
   -- one that is stopped leaves it in doubt
-  pub stopped_as : (stopped : Stopped) (old new : Device) (from : Loaded) (texts : List ℕ) → (old.contents ≡ None → new.contents ≡ None)
-      → ForSome old.contents (λ start. Shows (IsInDoubt stopped change start) new) → IsSettledAs from texts old → IsStoppedAs stopped change from texts new
-  stopped_as stopped old new from texts silent doubt settled =
-      told_before old new silent (IsStopped stopped change from texts new) (λ was some. record { start = was; rests = settled.rests was some; shows = doubt was some })
+  pub stopped_as : (stopped : Stopped) (old new : Device) (from : Loaded) (texts : List ℕ) (copies : Option Shadow) → (old.contents ≡ None → new.contents ≡ None)
+      → ForSome old.contents (λ start. Shows (IsInDoubt stopped change start) new) → IsSettledWith from texts copies old → IsStoppedAs stopped change from texts copies new
+  stopped_as stopped old new from texts copies silent doubt settled =
+      told_before old new silent (IsStopped stopped change from texts copies new) (λ was some. record { start = was; rests = settled.settled.rests was some; has = settled.has was some; shows = doubt was some })
 
   -- what a crash meanwhile leaves opens to one of the two
-  pub crash_as : (old new : Device) (from : Loaded) (texts : List ℕ) (coming : Coming) (start : Files) → IsAtRest from texts start → BringsComing change from texts coming
+  pub crash_as : (old new : Device) (from : Loaded) (texts : List ℕ) (copies : Option Shadow) (coming : Coming) (start : Files) → IsAtRest from texts start → HasAll copies start → BringsComing change from texts copies coming
       → LeavesOnly old new (IsBeforeOrAfter change start) → LeavesOnly old new (OpensToEither from texts coming)
-  crash_as old new from texts coming start rests is =
+  crash_as old new from texts copies coming start rests has is =
       only_weaken (IsBeforeOrAfter change start) (OpensToEither from texts coming) old new
-      (λ files either. opens_either change from texts coming start files is rests.holds either)
+      (λ files either. opens_either change from texts copies coming start files is (record { holds = rests.holds; has = has }) either)
 
   -- what is in doubt may be settled
-  pub has_stopped : (stopped : Stopped) (device : Device) (from : Loaded) (texts : List ℕ) (coming : Coming) → IsStopped stopped change from texts device → BringsComing change from texts coming
+  pub has_stopped : (stopped : Stopped) (device : Device) (from : Loaded) (texts : List ℕ) (copies : Option Shadow) (coming : Coming) → IsStopped stopped change from texts copies device → BringsComing change from texts copies coming
       → HasStopped stopped change device
-  has_stopped stopped device from texts coming doubt is = record {
+  has_stopped stopped device from texts copies coming doubt is = record {
     start = doubt.start;
-    ready = ready change from texts coming doubt.start is doubt.rests;
+    ready = ready change from texts copies coming doubt.start is doubt.rests doubt.has;
     shows = doubt.shows;
   }
 
   -- each file that the doubt may leave opens to one of the two
-  pub doubt_opens : (stopped : Stopped) (from : Loaded) (texts : List ℕ) (coming : Coming) (start files : Files) → IsAtRest from texts start → BringsComing change from texts coming
+  pub doubt_opens : (stopped : Stopped) (from : Loaded) (texts : List ℕ) (copies : Option Shadow) (coming : Coming) (start files : Files) → IsAtRest from texts start → HasAll copies start → BringsComing change from texts copies coming
       → DoubtReplays stopped change start files → OpensToEither from texts coming files
-  doubt_opens Early from texts coming start files rests is replays = opens_either change from texts coming start files is rests.holds replays
-  doubt_opens Late from texts coming start files rests is replays =
-      inr (opens_to (changed change start) files coming.to coming.texts (is.made start rests.holds) replays)
+  doubt_opens Early from texts copies coming start files rests has is replays = opens_either change from texts copies coming start files is (record { holds = rests.holds; has = has }) replays
+  doubt_opens Late from texts copies coming start files rests has is replays =
+      inr (opens_to (changed change start) files coming.to coming.texts (is.made start (record { holds = rests.holds; has = has })) replays)
 
   -- what is read then opens to one of the two
-  pub stopped_opens : (stopped : Stopped) (device : Device) (from : Loaded) (texts : List ℕ) (coming : Coming) → IsStoppedAs stopped change from texts device → IsChange device.contents change from texts coming
+  pub stopped_opens : (stopped : Stopped) (device : Device) (from : Loaded) (texts : List ℕ) (copies : Option Shadow) (coming : Coming) → IsStoppedAs stopped change from texts copies device → IsChange device.contents change from texts copies coming
       → ForSome device.contents (OpensToEither from texts coming)
-  stopped_opens stopped device from texts coming doubt is files there =
+  stopped_opens stopped device from texts copies coming doubt is files there =
       let in_doubt = doubt files there in
       let brings = is.brings files there in
-      let may = ready change from texts coming in_doubt.start brings in_doubt.rests in
-      doubt_opens stopped from texts coming in_doubt.start files in_doubt.rests brings (doubt_replays change in_doubt.start may stopped files (in_doubt.shows.read files there))
+      let may = ready change from texts copies coming in_doubt.start brings in_doubt.rests in_doubt.has in
+      doubt_opens stopped from texts copies coming in_doubt.start files in_doubt.rests in_doubt.has brings (doubt_replays change in_doubt.start may stopped files (in_doubt.shows.read files there))
 
   -- settled as it is answered
-  answered_rests : (stands : Bool) (from : Loaded) (texts : List ℕ) (coming : Coming) (start : Files) (device : Device) → IsAtRest from texts start → BringsComing change from texts coming
+  answered_rests : (stands : Bool) (from : Loaded) (texts : List ℕ) (copies : Option Shadow) (coming : Coming) (start : Files) (device : Device) → IsAtRest from texts start → HasAll copies start → BringsComing change from texts copies coming
       → ForSome device.contents (IsSettledAt (answered stands change start)) → IsAllSynced device → IsAnsweredAs stands from texts coming device
-  answered_rests true from texts coming start device rests is settled synced = record {
+  answered_rests true from texts copies coming start device rests has is settled synced = record {
     rests = λ files there. rests_settled (changed change start) files coming.to coming.texts
-        (is.made start rests.holds) (settled files there);
+        (is.made start (record { holds = rests.holds; has = has })) (settled files there);
     synced = synced;
   }
-  answered_rests false from texts coming start device rests is settled synced = record {
+  answered_rests false from texts copies coming start device rests has is settled synced = record {
     rests = λ files there. rests_settled start files from texts rests.holds (settled files there);
     synced = synced;
   }
@@ -129,37 +142,37 @@ module _ (change : Change) where
   silent_answer false from texts coming device none = record { rests = λ files there. absurd (some-none files (sym there ∙ none)); synced = λ files there. absurd (some-none files (sym there ∙ none)) }
 
   -- what a settling leaves
-  pub answer_as : (stands : Bool) (stopped : Stopped) (old new : Device) (from : Loaded) (texts : List ℕ) (coming : Coming) → (old.contents ≡ None → new.contents ≡ None)
+  pub answer_as : (stands : Bool) (stopped : Stopped) (old new : Device) (from : Loaded) (texts : List ℕ) (copies : Option Shadow) (coming : Coming) → (old.contents ≡ None → new.contents ≡ None)
       → ((start : Files) → IsReady change start → Shows (IsInDoubt stopped change start) old → Shows (IsSettledAt (answered stands change start)) new)
       → ((start : Files) → IsReady change start → Shows (IsInDoubt stopped change start) old → IsAllSynced new)
-      → IsStoppedAs stopped change from texts old → IsChange old.contents change from texts coming → IsAnsweredAs stands from texts coming new
-  answer_as stands stopped old new from texts coming silent answer durable doubt is = by_contents old.contents refl
+      → IsStoppedAs stopped change from texts copies old → IsChange old.contents change from texts copies coming → IsAnsweredAs stands from texts coming new
+  answer_as stands stopped old new from texts copies coming silent answer durable doubt is = by_contents old.contents refl
     where
       by_contents : (o : Option Files) → old.contents ≡ o → IsAnsweredAs stands from texts coming new
       by_contents None none = silent_answer stands from texts coming new (silent none)
       by_contents (Some was) some =
           let in_doubt = doubt was some in
-          let may = ready change from texts coming in_doubt.start (is.brings was some) in_doubt.rests in
-          answered_rests stands from texts coming in_doubt.start new in_doubt.rests (is.brings was some) (answer in_doubt.start may in_doubt.shows).read (durable in_doubt.start may in_doubt.shows)
+          let may = ready change from texts copies coming in_doubt.start (is.brings was some) in_doubt.rests in_doubt.has in
+          answered_rests stands from texts copies coming in_doubt.start new in_doubt.rests in_doubt.has (is.brings was some) (answer in_doubt.start may in_doubt.shows).read (durable in_doubt.start may in_doubt.shows)
 
   -- and a settling that is stopped
-  pub again_as : (stopped again : Stopped) (old new : Device) (from : Loaded) (texts : List ℕ) (coming : Coming) → (old.contents ≡ None → new.contents ≡ None)
+  pub again_as : (stopped again : Stopped) (old new : Device) (from : Loaded) (texts : List ℕ) (copies : Option Shadow) (coming : Coming) → (old.contents ≡ None → new.contents ≡ None)
       → ((start : Files) → IsReady change start → Shows (IsInDoubt stopped change start) old → Shows (IsInDoubt again change start) new)
-      → IsStoppedAs stopped change from texts old → IsChange old.contents change from texts coming → IsStoppedAs again change from texts new
-  again_as stopped again old new from texts coming silent still doubt is =
-      told_before old new silent (IsStopped again change from texts new) (λ was some.
+      → IsStoppedAs stopped change from texts copies old → IsChange old.contents change from texts copies coming → IsStoppedAs again change from texts copies new
+  again_as stopped again old new from texts copies coming silent still doubt is =
+      told_before old new silent (IsStopped again change from texts copies new) (λ was some.
       let in_doubt = doubt was some in
-      let may = ready change from texts coming in_doubt.start (is.brings was some) in_doubt.rests in
-      record { start = in_doubt.start; rests = in_doubt.rests; shows = still in_doubt.start may in_doubt.shows })
+      let may = ready change from texts copies coming in_doubt.start (is.brings was some) in_doubt.rests in_doubt.has in
+      record { start = in_doubt.start; rests = in_doubt.rests; has = in_doubt.has; shows = still in_doubt.start may in_doubt.shows })
 
   -- what a crash during a settling leaves
-  pub settling_as : (stopped : Stopped) (old new : Device) (from : Loaded) (texts : List ℕ) (coming : Coming) → IsStopped stopped change from texts old → BringsComing change from texts coming
+  pub settling_as : (stopped : Stopped) (old new : Device) (from : Loaded) (texts : List ℕ) (copies : Option Shadow) (coming : Coming) → IsStopped stopped change from texts copies old → BringsComing change from texts copies coming
       → ((start : Files) → IsReady change start → Shows (IsInDoubt stopped change start) old → LeavesOnly old new (DoubtReplays stopped change start))
       → LeavesOnly old new (OpensToEither from texts coming)
-  settling_as stopped old new from texts coming doubt is crash =
+  settling_as stopped old new from texts copies coming doubt is crash =
       only_weaken (DoubtReplays stopped change doubt.start) (OpensToEither from texts coming) old new
-      (λ files replays. doubt_opens stopped from texts coming doubt.start files doubt.rests is replays)
-      (crash doubt.start (ready change from texts coming doubt.start is doubt.rests) doubt.shows)
+      (λ files replays. doubt_opens stopped from texts copies coming doubt.start files doubt.rests doubt.has is replays)
+      (crash doubt.start (ready change from texts copies coming doubt.start is doubt.rests doubt.has) doubt.shows)
 
 -- a crash of a settled area leaves what opens to it
 pub settled_opens : (loaded : Loaded) (texts : List ℕ) (device : Device) (was : Files) → device.contents ≡ Some was → IsSettledAs loaded texts device

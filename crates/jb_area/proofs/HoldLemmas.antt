@@ -1,5 +1,5 @@
 -- From what the journal promises of files to what it means for the area.
-use Rattle.std.proofs.Common.{◌≡◌, ◌≢◌, inl, inr, ℕ, ◌<◌, ◌≤◌, List, [], ◌∷◌, length, take, ap, refl, ◌∙◌, arith, length-append, length-take}
+use Rattle.std.proofs.Common.{◌≡◌, ◌≢◌, inl, inr, ℕ, ◌<◌, ◌≤◌, List, [], ◌∷◌, length, take, Option, ap, refl, ◌∙◌, arith, length-append, length-take}
 use Rattle.std.proofs.lemmas.List.{places}
 use Rattle.std.specs.Prelude.{slice_index}
 use Rattle.jb_disk.specs.Change.{Change}
@@ -10,10 +10,12 @@ use Rattle.jb_journal.specs.Commit.{AgreeButJournal, IsReady, ReplaysTo, IsBefor
 use Rattle.jb_journal.specs.Doubt.{IsSettledAt}
 use Rattle.jb_disk.specs.FileLaws.{with_file-here, with_file-other, length-overwritten}
 use Rattle.jb_model.specs.declared.loaded.Loaded.{Loaded}
+use Rattle.jb_pack.specs.Shadow.{Shadow}
 use Rattle.jb_redo.specs.Record.{record_bytes}
 use Rattle.jb_decide.specs.Coming.{BringsComing, Coming}
-use Rattle.jb_decide.specs.Holds.{Holds}
+use Rattle.jb_decide.specs.Holds.{HasAll, Holds, HoldsWith}
 use Rattle.jb_decide.proofs.AgreeLemmas.{loads_agree}
+use Rattle.jb_area.specs.Commits.{HasRecordOf}
 use Rattle.jb_area.specs.Holds.{IsAtRest, Opens, OpensToEither}
 
 -- a file with another number is another file
@@ -38,17 +40,18 @@ opens_to base files loaded texts holds to = record {
 }
 
 -- each file that a commit of the change may leave opens to one of the two
-pub opens_either : (change : Change) (from : Loaded) (texts : List ℕ) (coming : Coming) (start files : Files) → BringsComing change from texts coming → Holds from texts start
+pub opens_either : (change : Change) (from : Loaded) (texts : List ℕ) (copies : Option Shadow) (coming : Coming) (start files : Files) → BringsComing change from texts copies coming → HoldsWith from texts copies start
     → IsBeforeOrAfter change start files → OpensToEither from texts coming files
-opens_either change from texts coming start files brings holds (inl before) = inl (opens_to start files from texts holds before)
-opens_either change from texts coming start files brings holds (inr after) =
+opens_either change from texts copies coming start files brings holds (inl before) = inl (opens_to start files from texts holds.holds before)
+opens_either change from texts copies coming start files brings holds (inr after) =
     inr (opens_to (changed change start) files coming.to coming.texts (brings.made start holds) after)
 
 -- the change may be committed over files at rest
-pub ready : (change : Change) (from : Loaded) (texts : List ℕ) (coming : Coming) (files : Files) → BringsComing change from texts coming → IsAtRest from texts files → IsReady change files
-ready change from texts coming files brings rest = record {
-  legal = brings.legal files rest.holds;
-  grown = brings.grown files rest.holds;
+pub ready : (change : Change) (from : Loaded) (texts : List ℕ) (copies : Option Shadow) (coming : Coming) (files : Files) → BringsComing change from texts copies coming → IsAtRest from texts files → HasAll copies files
+    → IsReady change files
+ready change from texts copies coming files brings rest has = record {
+  legal = brings.legal files (record { holds = rest.holds; has = has });
+  grown = brings.grown files (record { holds = rest.holds; has = has });
   long = rest.long;
   shut = rest.shut;
 }
@@ -85,6 +88,19 @@ module _ (change : Change) (start : Files) where
   pub length-committed : 16 ≤ length (start Jnl) → 16 ≤ length (committed change start Jnl)
   length-committed has = let long = length-journal has in omega (arith, ap length committed-jnl, length-overwritten 0 (0 ∷ []) (journal_of change start) (omega (arith, long)))
 
+  -- which is that of its head and of the record
+  pub size-committed : 16 ≤ length (start Jnl) → HasRecordOf change (committed change start)
+  size-committed has =
+      let long = length-journal has in
+      let head : length (take 16 (start Jnl)) ≡ 16 = omega (arith, length-take 16 (start Jnl)) in
+      omega (
+        arith,
+        head,
+        ap length committed-jnl,
+        length-append (take 16 (start Jnl)) (record_bytes change.lengths change.pieces),
+        length-overwritten 0 (0 ∷ []) (journal_of change start) (omega (arith, long)),
+      )
+
   -- its gate
   pub gate-committed : 16 ≤ length (start Jnl) → slice_index (committed change start Jnl) 0 ≡ 0
   gate-committed has = let long = length-journal has in
@@ -96,10 +112,10 @@ module _ (change : Change) (start : Files) where
       ∙ with_file-other Jnl file (journal_of change start) (changed change start) ne
 
 -- after a commit the files are at rest with the change done
-pub rests_committed : (change : Change) (from : Loaded) (texts : List ℕ) (coming : Coming) (files : Files) → BringsComing change from texts coming → IsAtRest from texts files
+pub rests_committed : (change : Change) (from : Loaded) (texts : List ℕ) (copies : Option Shadow) (coming : Coming) (files : Files) → BringsComing change from texts copies coming → IsAtRest from texts files → HasAll copies files
     → IsAtRest coming.to coming.texts (committed change files)
-rests_committed change from texts coming files brings rest = record {
-  holds = holds_agree (committed change files) (changed change files) coming.to coming.texts (committed-agrees change files) (brings.made files rest.holds);
+rests_committed change from texts copies coming files brings rest has = record {
+  holds = holds_agree (committed change files) (changed change files) coming.to coming.texts (committed-agrees change files) (brings.made files (record { holds = rest.holds; has = has }));
   long = length-committed change files rest.long;
   shut = λ one. let zero = gate-committed change files rest.long in omega (arith, zero, one);
 }

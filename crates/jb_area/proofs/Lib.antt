@@ -1,7 +1,12 @@
+pub mod BegunLemmas
 pub mod CallLemmas
 mod CommitLemmas
+mod CopyingLemmas
 mod DoubtLemmas
 mod HoldLemmas
+mod MeasureLemmas
 mod Outcomes
+mod PackedLemmas
 mod StageLemmas
 mod StartLemmas
+mod StepLemmas

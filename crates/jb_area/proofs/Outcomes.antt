@@ -1,5 +1,13 @@
 -- A claim on an answer, from other claims on it.
-use Rattle.std.proofs.Common.{Result, Ok, Err, IfOk, IfErr, OnOk}
+use Rattle.std.proofs.Common.{◌≡◌, Result, Ok, Err, IfOk, IfErr, OnOk, subst}
+
+-- a claim on what was done, where it was done
+pub ok_gives : {T E : Type 0} (result : Result T E) (value : T) (P : Type 0) → result ≡ Ok value → OnOk result P → P
+ok_gives {T} {E} result value P ok claim = subst (λ (r : Result T E). OnOk r P) ok claim
+
+-- a claim on a refusal, where it is this one
+pub err_gives : {T E : Type 0} (result : Result T E) (error : E) (P : E → Type 0) → result ≡ Err error → IfErr result P → P error
+err_gives {T} {E} result error P refused claim = subst (λ (r : Result T E). IfErr r P) refused claim
 
 module _ {T E : Type 0} where
   -- of a refusal

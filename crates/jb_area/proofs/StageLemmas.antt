@@ -1,5 +1,5 @@
 -- What is on its way in an open area, from its stage.
-use Rattle.std.proofs.Common.{◌≡◌, ◌≢◌, ◌⊎◌, inl, inr, ℕ, List, Option, None, ap, sym, refl, ◌∙◌, subst}
+use Rattle.std.proofs.Common.{◌≡◌, ◌≢◌, ◌⊎◌, inl, inr, ℕ, List, Option, None, ap, sym, refl, ◌∙◌, subst, arith}
 use Rattle.jb_disk.specs.Device.{Device, TellsAlike}
 use Rattle.jb_disk.specs.Change.{Change}
 use Rattle.jb_disk.proofs.RunLemmas.{stays_silent}
@@ -7,16 +7,22 @@ use Rattle.jb_model.specs.Sound.{IsSound}
 use Rattle.jb_model.specs.declared.loaded.Loaded.{Loaded}
 use Rattle.jb_model.specs.declared.reply.Reply.{Reply}
 use Rattle.jb_journal.specs.declared.stopped.Stopped.{Stopped}
+use Rattle.jb_pack.specs.Shadow.{Shadow}
 use Rattle.jb_decide.specs.Coming.{BringsComing, Coming, IsChange}
 use Rattle.std.specs.Option.{ForSome}
 use Rattle.jb_disk.specs.Files.{Files}
 use Rattle.jb_journal.specs.Commit.{AgreeButJournal, changed}
 use Rattle.jb_decide.specs.Decided.{IsNoChange, IsPending, made}
-use Rattle.jb_area.specs.Area.{done_in, redo_in, redo_of, HasMade, HasNoChange, IsBegun, IsBetween, RestsAt}
-use Rattle.jb_area.specs.Commits.{IsSettledAs, IsStoppedAs, MayCommit}
-use Rattle.jb_decide.specs.Pending.{MayApply, after}
+use Rattle.jb_decide.specs.Holds.{HasAll}
+use Rattle.jb_decide.specs.Packs.{IsPacked}
+use Rattle.jb_area.specs.Area.{copied_after, done_in, kept_in, redo_in, redo_of, HasMade, HasNoChange, IsBegun, IsBetween, RestsAt}
+use Rattle.jb_area.specs.Commits.{HasRecordOf, IsSettledAs, IsSettledWith, IsStoppedAs, MayCommit}
+use Rattle.jb_area.specs.Holds.{HasShortJournal}
+use Rattle.jb_decide.specs.Pending.{IsPacking, MayApply, after}
 use Rattle.jb_area.specs.declared.area.OpenArea.{OpenArea}
 use Rattle.jb_area.proofs.CommitLemmas.{some-same, told_before}
+use Rattle.jb_area.proofs.CopyingLemmas.{after_has}
+use Rattle.jb_area.proofs.PackedLemmas.{short_record}
 use Rattle.jb_decide.specs.declared.pending.Pending.{Pending}
 use Rattle.jb_decide.specs.declared.pending.Pending.TheVariants.{Nothing, Counted, Marked, Packed}
 use Rattle.jb_area.specs.declared.stage.Stage.{Stage}
@@ -33,31 +39,37 @@ same_pending one other first second is = cc
 pub some_change : {D : Type 0} (area : OpenArea D) (reply : Reply) (pending : Pending) → area.stage ≡ Begun reply pending → pending ≢ Nothing → HasNoChange area → ⊥
 some_change area reply pending is some idle = some (same_pending reply idle.reply pending Nothing (sym is ∙ idle.stage))
 
+-- the copies that are kept once a call is done, by what is pending
+pub kept_by : (stage : Stage) (reply : Reply) (pending : Pending) (copies : Option Shadow) → stage ≡ Begun reply pending → kept_in stage copies ≡ copied_after pending copies
+kept_by stage reply pending copies is = ap (λ (s : Stage). kept_in s copies) is
+
 -- nothing changes where nothing is pending
-pub none_pending : (limit : ℕ) (contents : Option Files) (redo : Change) (pending : Pending) (from : Loaded) (texts : List ℕ) (coming : Coming) → pending ≡ Nothing
-    → IsNoChange pending from texts coming ⊎ IsPending limit contents redo pending from texts coming → coming ≡ record { to = from; texts = texts }
-none_pending limit contents redo pending from texts coming none (inl nothing) = nothing.same
-none_pending limit contents redo pending from texts coming none (inr change) = absurd (change.some none)
+pub none_pending : (limit : ℕ) (contents : Option Files) (copies : Option Shadow) (redo : Change) (pending : Pending) (from : Loaded) (texts : List ℕ) (coming : Coming) → pending ≡ Nothing
+    → IsNoChange pending from texts coming ⊎ IsPending limit contents copies redo pending from texts coming → coming ≡ record { to = from; texts = texts }
+none_pending limit contents copies redo pending from texts coming none (inl nothing) = nothing.same
+none_pending limit contents copies redo pending from texts coming none (inr change) = absurd (change.some none)
 
 -- something changes where something is pending
-pub some_pending : (limit : ℕ) (contents : Option Files) (redo : Change) (pending : Pending) (from : Loaded) (texts : List ℕ) (coming : Coming) → pending ≢ Nothing
-    → IsNoChange pending from texts coming ⊎ IsPending limit contents redo pending from texts coming → IsPending limit contents redo pending from texts coming
-some_pending limit contents redo pending from texts coming some (inl nothing) = absurd (some nothing.none)
-some_pending limit contents redo pending from texts coming some (inr change) = change
+pub some_pending : (limit : ℕ) (contents : Option Files) (copies : Option Shadow) (redo : Change) (pending : Pending) (from : Loaded) (texts : List ℕ) (coming : Coming) → pending ≢ Nothing
+    → IsNoChange pending from texts coming ⊎ IsPending limit contents copies redo pending from texts coming → IsPending limit contents copies redo pending from texts coming
+some_pending limit contents copies redo pending from texts coming some (inl nothing) = absurd (some nothing.none)
+some_pending limit contents copies redo pending from texts coming some (inr change) = change
 
 -- what is pending is so when a disk was tried that does not begin to tell
-pub pending_later : (limit : ℕ) (old new : Device) (redo : Change) (pending : Pending) (from : Loaded) (texts : List ℕ) (coming : Coming) → TellsAlike old new
-    → IsPending limit old.contents redo pending from texts coming → IsPending limit new.contents redo pending from texts coming
-pending_later limit old new redo pending from texts coming alike is = record {
+pub pending_later : (limit : ℕ) (old new : Device) (copies : Option Shadow) (redo : Change) (pending : Pending) (from : Loaded) (texts : List ℕ) (coming : Coming) → TellsAlike old new
+    → IsPending limit old.contents copies redo pending from texts coming → IsPending limit new.contents copies redo pending from texts coming
+pending_later limit old new copies redo pending from texts coming alike is = record {
   some = is.some;
   becomes = is.becomes;
   change = record {
-    brings = told_before old new (stays_silent old.contents new.contents alike) (BringsComing redo from texts coming) is.change.brings;
+    brings = told_before old new (stays_silent old.contents new.contents alike) (BringsComing redo from texts copies coming) is.change.brings;
     writable = is.change.writable;
   };
   may = is.may;
   sound = is.sound;
   sized = is.sized;
+  grows = is.grows;
+  short = is.short;
 }
 
 -- what is pending is done in the files
@@ -75,10 +87,10 @@ module _ {D : Type 0} (shown : D → Device) (area : OpenArea D) (reply : Reply)
       ∙ sym (ap (λ (s : Stage). done_in s (redo_of area) was file) is ∙ ap (λ (p : Pending). made p (redo_of area) was file) none)
 
   -- and one with a change does it
-  pub made_change : (disk : D) (held : Loaded) (large : Option Change) (stage : Stage) (redo : Change) → redo ≡ redo_of area → pending ≢ Nothing
+  pub made_change : (disk : D) (held : Loaded) (large : Option Change) (packer : Option Shadow) (stage : Stage) (redo : Change) → redo ≡ redo_of area → pending ≢ Nothing
       → ForSome (shown area.disk).contents (λ was. ForSome (shown disk).contents (λ now. AgreeButJournal now (changed redo was)))
-      → HasMade shown area (record area { disk = disk; held = held; large = large; stage = stage })
-  made_change disk held large stage redo used some agree was there now here = λ file ne.
+      → HasMade shown area (record area { disk = disk; held = held; large = large; packer = packer; stage = stage })
+  made_change disk held large packer stage redo used some agree was there now here = λ file ne.
       agree was there now here file ne ∙ ap (λ (r : Change). changed r was file) used
       ∙ sym (ap (λ (s : Stage). done_in s (redo_of area) was file) is ∙ ap (λ (f : Files). f file) (some_made pending (redo_of area) was some))
 
@@ -95,19 +107,23 @@ module _ {D : Type 0} (shown : D → Device) where
 
     -- where nothing is pending
     pub none_is : (reply : Reply) (pending : Pending) → area.stage ≡ Begun reply pending → pending ≡ Nothing → coming ≡ record { to = area.held; texts = texts }
-    none_is reply pending is none = none_pending area.rules.slots (shown area.disk).contents (redo_of area) begun.pending area.held texts coming (pending_is reply pending is ∙ none) begun.change
+    none_is reply pending is none = none_pending area.rules.slots (shown area.disk).contents area.packer (redo_of area) begun.pending area.held texts coming (pending_is reply pending is ∙ none) begun.change
 
     -- where something is pending
-    pub some_is : (reply : Reply) (pending : Pending) → area.stage ≡ Begun reply pending → pending ≢ Nothing → IsPending area.rules.slots (shown area.disk).contents (redo_of area) pending area.held texts coming
+    pub some_is : (reply : Reply) (pending : Pending) → area.stage ≡ Begun reply pending → pending ≢ Nothing → IsPending area.rules.slots (shown area.disk).contents area.packer (redo_of area) pending area.held texts coming
     some_is reply pending is some =
-        subst (λ (p : Pending). IsPending area.rules.slots (shown area.disk).contents (redo_of area) p area.held texts coming) (pending_is reply pending is)
-        (some_pending area.rules.slots (shown area.disk).contents (redo_of area) begun.pending area.held texts coming (λ none. some (sym (pending_is reply pending is) ∙ none)) begun.change)
+        subst (λ (p : Pending). IsPending area.rules.slots (shown area.disk).contents area.packer (redo_of area) p area.held texts coming) (pending_is reply pending is)
+        (some_pending area.rules.slots (shown area.disk).contents area.packer (redo_of area) begun.pending area.held texts coming (λ none. some (sym (pending_is reply pending is) ∙ none)) begun.change)
 
     -- the same, of the redo that is in use
     pub some_in : (reply : Reply) (pending : Pending) (redo : Change) → redo ≡ redo_of area → area.stage ≡ Begun reply pending → pending ≢ Nothing
-        → IsPending area.rules.slots (shown area.disk).contents redo pending area.held texts coming
+        → IsPending area.rules.slots (shown area.disk).contents area.packer redo pending area.held texts coming
     some_in reply pending redo used is some =
-        subst (λ (r : Change). IsPending area.rules.slots (shown area.disk).contents r pending area.held texts coming) (sym used) (some_is reply pending is some)
+        subst (λ (r : Change). IsPending area.rules.slots (shown area.disk).contents area.packer r pending area.held texts coming) (sym used) (some_is reply pending is some)
+
+    -- where a pack is answered one is pending
+    pub packing_is : (reply : Reply) (pending : Pending) → area.stage ≡ Begun reply pending → IsPacked reply → IsPacking pending
+    packing_is reply pending is packed = subst IsPacking (pending_is reply pending is) (begun.packing (subst IsPacked (reply_is reply pending is) packed))
 
     -- a call without a change is finished
     pub rests_unchanged : (reply : Reply) (pending : Pending) (large : Option Change) (stage : Stage) → area.stage ≡ Begun reply pending → pending ≡ Nothing → large ≡ None → stage ≡ Resting
@@ -116,18 +132,24 @@ module _ {D : Type 0} (shown : D → Device) where
         let same = none_is reply pending is none in (
           reply_is reply pending is,
           subst (λ (c : Coming). RestsAt shown (record area { large = large; stage = stage }) c.texts c.to) (sym same)
-              (record { rests = record { stage = resting; small = small; kept = record { ruled = record { few_slots = begun.kept.ruled.few_slots; address = begun.kept.ruled.address; sound = begun.kept.ruled.sound; sized = begun.kept.ruled.sized; room = begun.kept.ruled.room }; settled = begun.kept.settled } }; is = refl }),
+              (record { rests = record { stage = resting; small = small; kept = record { ruled = record { few_slots = begun.kept.ruled.few_slots; address = begun.kept.ruled.address; sound = begun.kept.ruled.sound; sized = begun.kept.ruled.sized; room = begun.kept.ruled.room }; settled = begun.kept.settled; copies = begun.kept.copies } }; is = refl }),
         )
 
+    -- what holds before a commit
+    pub settled_with : IsSettledWith area.held texts area.packer (shown area.disk)
+    settled_with = record { settled = begun.kept.settled; has = begun.kept.copies }
+
     -- and a call with one
-    pub rests_changed : (reply : Reply) (pending : Pending) (disk : D) (held : Loaded) (large : Option Change) (stage : Stage) (redo : Change) → redo ≡ redo_of area → area.stage ≡ Begun reply pending → pending ≢ Nothing
-        → large ≡ None → stage ≡ Resting
-        → held ≡ after pending area.held
-        → ((from : Loaded) (texts : List ℕ) (coming : Coming) → IsSettledAs from texts (shown area.disk) → IsChange (shown area.disk).contents redo from texts coming → IsSettledAs coming.to coming.texts (shown disk))
-        → (reply ≡ decided) × RestsAt shown (record area { disk = disk; held = held; large = large; stage = stage }) coming.texts coming.to
-    rests_changed reply pending disk held large stage redo used is some small resting applied done =
+    pub rests_changed : (reply : Reply) (pending : Pending) (disk : D) (held : Loaded) (large : Option Change) (packer : Option Shadow) (stage : Stage) (redo : Change) → redo ≡ redo_of area → area.stage ≡ Begun reply pending → pending ≢ Nothing
+        → large ≡ None → packer ≡ copied_after pending area.packer → stage ≡ Resting
+        → held ≡ after pending area.held → TellsAlike (shown area.disk) (shown disk)
+        → ForSome (shown area.disk).contents (λ was. ForSome (shown disk).contents (λ now. AgreeButJournal now (changed redo was)))
+        → ((from : Loaded) (texts : List ℕ) (copies : Option Shadow) (coming : Coming) → IsSettledWith from texts copies (shown area.disk) → IsChange (shown area.disk).contents redo from texts copies coming → IsSettledAs coming.to coming.texts (shown disk))
+        → (reply ≡ decided) × RestsAt shown (record area { disk = disk; held = held; large = large; packer = packer; stage = stage }) coming.texts coming.to
+    rests_changed reply pending disk held large packer stage redo used is some small copied resting applied alike made done =
         let change = some_in reply pending redo used is some in
-        let to : coming.to ≡ held = change.becomes ∙ sym applied in (
+        let to : coming.to ≡ held = change.becomes ∙ sym applied in
+        let settled : IsSettledAs coming.to coming.texts (shown disk) = done area.held texts area.packer coming settled_with change.change in (
           reply_is reply pending is,
           record {
             rests = record {
@@ -135,17 +157,36 @@ module _ {D : Type 0} (shown : D → Device) where
               small = small;
               kept = record {
                 ruled = record { few_slots = begun.kept.ruled.few_slots; address = begun.kept.ruled.address; sound = subst (IsSound area.rules.slots) to change.sound; sized = change.sized ∙ ap (λ (l : Loaded). l.texts_len) to; room = begun.kept.ruled.room };
-                settled = subst (λ (l : Loaded). IsSettledAs l coming.texts (shown disk)) to (done area.held texts coming begun.kept.settled change.change);
+                settled = subst (λ (l : Loaded). IsSettledAs l coming.texts (shown disk)) to settled;
+                copies = λ now here.
+                    told_before (shown area.disk) (shown disk) (stays_silent (shown area.disk).contents (shown disk).contents alike) (HasAll packer now) (λ was there.
+                    subst (λ (c : Option Shadow). HasAll c now) (sym copied)
+                    (after_has pending redo area.held texts area.packer coming was now change.grows (change.change.brings was there)
+                    (begun.kept.settled.rests was there).holds (begun.kept.copies was there) (settled.rests now here).holds (made was there now here))) now here;
               };
             };
             is = sym to;
           },
         )
 
+    -- after a pack the journal is short
+    pub short_after : (reply : Reply) (pending : Pending) (disk : D) (redo : Change) → redo ≡ redo_of area → area.stage ≡ Begun reply pending → pending ≢ Nothing → IsPacking pending
+        → ((from : Loaded) (texts : List ℕ) (copies : Option Shadow) (coming : Coming) → IsSettledWith from texts copies (shown area.disk) → IsChange (shown area.disk).contents redo from texts copies coming → IsSettledAs coming.to coming.texts (shown disk))
+        → ForSome (shown disk).contents (HasRecordOf redo) → ForSome (shown disk).contents HasShortJournal
+    short_after reply pending disk redo used is some packing done size files there =
+        let change = some_in reply pending redo used is some in
+        let settled : IsSettledAs coming.to coming.texts (shown disk) = done area.held texts area.packer coming settled_with change.change in
+        let loads = (settled.rests files there).holds.loads in
+        let record_is = short_record pending redo coming.to packing change.short in
+        let journal = size files there in
+        let headers = loads.headers_len in
+        let index = loads.index in
+        omega (arith, record_is, journal, headers, index)
+
     -- a call that was stopped is in doubt
     pub between : (reply : Reply) (pending : Pending) (disk : D) (large : Option Change) (redo : Change) (stopped : Stopped) → redo ≡ redo_of area → redo ≡ redo_in large area.redo → area.stage ≡ Begun reply pending
         → pending ≢ Nothing → TellsAlike (shown area.disk) (shown disk)
-        → ((from : Loaded) (texts : List ℕ) (coming : Coming) → IsSettledAs from texts (shown area.disk) → IsChange (shown area.disk).contents redo from texts coming → IsStoppedAs stopped redo from texts (shown disk))
+        → ((from : Loaded) (texts : List ℕ) (copies : Option Shadow) (coming : Coming) → IsSettledWith from texts copies (shown area.disk) → IsChange (shown area.disk).contents redo from texts copies coming → IsStoppedAs stopped redo from texts copies (shown disk))
         → IsBetween shown (record area { disk = disk; large = large; stage = Doubtful stopped pending }) texts coming
     between reply pending disk large redo stopped used kept is some alike doubt =
         let change = some_in reply pending redo used is some in
@@ -154,14 +195,14 @@ module _ {D : Type 0} (shown : D → Device) where
           pending = pending;
           stage = refl;
           ruled = record { few_slots = begun.kept.ruled.few_slots; address = begun.kept.ruled.address; sound = begun.kept.ruled.sound; sized = begun.kept.ruled.sized; room = begun.kept.ruled.room };
-          change = subst (λ (r : Change). IsPending area.rules.slots (shown disk).contents r pending area.held texts coming) kept
-              (pending_later area.rules.slots (shown area.disk) (shown disk) redo pending area.held texts coming alike change);
-          doubt = subst (λ (r : Change). IsStoppedAs stopped r area.held texts (shown disk)) kept (doubt area.held texts coming begun.kept.settled change.change);
+          change = subst (λ (r : Change). IsPending area.rules.slots (shown disk).contents area.packer r pending area.held texts coming) kept
+              (pending_later area.rules.slots (shown area.disk) (shown disk) area.packer redo pending area.held texts coming alike change);
+          doubt = subst (λ (r : Change). IsStoppedAs stopped r area.held texts area.packer (shown disk)) kept (doubt area.held texts area.packer coming settled_with change.change);
         }
 
     -- the change may be committed
     pub may_commit : (reply : Reply) (pending : Pending) (redo : Change) → redo ≡ redo_of area → area.stage ≡ Begun reply pending → pending ≢ Nothing → MayCommit redo (shown area.disk)
-    may_commit reply pending redo used is some = record { from = area.held; texts = texts; coming = coming; settled = begun.kept.settled; change = (some_in reply pending redo used is some).change }
+    may_commit reply pending redo used is some = record { from = area.held; texts = texts; copies = area.packer; coming = coming; settled = settled_with; change = (some_in reply pending redo used is some).change }
 
     -- it may be done in what is loaded
     pub may_apply : (reply : Reply) (pending : Pending) → area.stage ≡ Begun reply pending → pending ≢ Nothing → MayApply pending area.held

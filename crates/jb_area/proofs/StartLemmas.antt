@@ -1,12 +1,17 @@
 -- What the beginning of a call leaves.
-use Rattle.std.proofs.Common.{◌≡◌, ◌⊎◌, ℕ, ◌≤◌, List, Option, None, Some, Result, Ok, Err, IfOk, IfErr, OnOk, IsOk, ap, sym, refl, ◌∙◌, subst, arith}
+use Rattle.std.proofs.Common.{◌≡◌, ◌⊎◌, inl, ℕ, ◌≤◌, List, Option, None, Some, Result, Ok, Err, IfOk, IfErr, OnOk, IsOk, ap, sym, refl, ◌∙◌, subst, arith}
 use Rattle.std.specs.Option.{ForSome}
 use Rattle.std.specs.Prelude.{replicate}
 use Rattle.std.proofs.lemmas.List.{length-replicate}
 use Rattle.jb_base.specs.declared.area.AreaRules.{AreaRules}
 use Rattle.jb_base.specs.declared.user.User.{User}
+use Rattle.jb_pack.specs.Shadow.{Shadow}
+use Rattle.jb_pack.proofs.TouchLemmas.{touches-read}
+use Rattle.jb_pack.specs.Touching.{TouchesShadow}
+use Rattle.jb_disk.proofs.RunLemmas.{reads_alike}
+use Rattle.jb_decide.proofs.CopiesLemmas.{with_copies}
 use Rattle.jb_decide.specs.Coming.{Coming}
-use Rattle.jb_decide.specs.Decided.{IsDecided, IsNoChange, IsPending, IsTold}
+use Rattle.jb_decide.specs.Decided.{IsDecided, IsNoChange, IsNoPack, IsPending, IsTold}
 use Rattle.jb_decide.specs.Errors.{AreaFaultRose}
 use Rattle.jb_decide.specs.Holds.{AreTexts, Holds}
 use Rattle.jb_decide.specs.Ready.{HasRoomInAll}
@@ -20,19 +25,20 @@ use Rattle.jb_disk.specs.Device.{Device, OnlyReads}
 use Rattle.jb_disk.specs.Files.{Files}
 use Rattle.jb_disk.specs.Runs.{LeavesNow}
 use Rattle.jb_disk.specs.declared.file.FileId.TheVariants.{Jdt}
-use Rattle.jb_disk.proofs.RunLemmas.{runs-refl}
 use Rattle.jb_journal.specs.declared.stopped.Stopped.TheVariants.{Early}
 use Rattle.jb_model.specs.declared.command.Command.{Command}
 use Rattle.jb_model.specs.declared.loaded.Loaded.{Loaded}
-use Rattle.jb_area.specs.Area.{redo_in, IsKept, IsResting, IsUnchanged, RestsAt}
-use Rattle.jb_area.specs.Calls.{AnswersAs, BeginsCall, FailsWith, HasStoppedIn, IsBegunFor, IsNotBegun, StartsAs, large_after}
+use Rattle.jb_area.specs.Area.{copies_after, kept_in, redo_in, HasNoChange, IsDoubtful, IsKept, IsResting, RestsAt}
+use Rattle.jb_area.specs.Calls.{AnswersAs, BeginsCall, BeginsReading, FailsWith, HasRest, HasStoppedIn, IsBegunFor, IsNotBegun, OnlyReadsOrCopies, StartsAs, large_after}
 use Rattle.jb_area.specs.Commits.{IsSettledAs}
 use Rattle.jb_area.specs.Holds.{IsAtRest, Opens}
 use Rattle.jb_area.specs.declared.area.OpenArea.{OpenArea}
 use Rattle.jb_area.specs.declared.stage.Stage.{Stage}
 use Rattle.jb_area.specs.declared.stage.Stage.TheVariants.{Resting, Begun, Doubtful}
-use Rattle.jb_area.proofs.CommitLemmas.{settled_opens}
-use Rattle.jb_area.proofs.HoldLemmas.{rest_opens}
+use Rattle.jb_area.proofs.Outcomes.{if_ok_then}
+use Rattle.jb_area.proofs.CopyingLemmas.{by_reads, crash_by, settled_copying, touches_by}
+use Rattle.jb_area.proofs.DoubtLemmas.{doubt_reads}
+use Rattle.jb_area.proofs.PackedLemmas.{copies_stay}
 
 -- an area at rest holds what is loaded, by the texts of its own file
 pub holds_own : (loaded : Loaded) (texts : List ℕ) (device : Device) → IsSettledAs loaded texts device → ForSome device.contents (λ files. Holds loaded (files Jdt) files)
@@ -68,6 +74,11 @@ settled_read loaded texts old new same settled = record {
 pub same_faults : (device : Device) → device.faults ≤ device.faults
 same_faults device = omega arith
 
+-- what is so is so where all was done
+pub ok_always : {T E : Type 0} (result : Result T E) (P : Type 0) → P → OnOk result P
+ok_always (Ok value) P is = is
+ok_always (Err error) P is = tt
+
 -- a count that stays is as it was
 pub ok_same : {T E : Type 0} (result : Result T E) (count : ℕ) → OnOk result (count ≡ count)
 ok_same (Ok value) count = refl
@@ -98,42 +109,65 @@ module _ {D : Type 0} (shown : D → Device) where
     told = λ files there. (resting.kept.settled.rests files there).holds.texts_are;
   }
 
+  -- a call that is begun and only reads
+  pub begins_call : (old new : OpenArea D) (user : User) (moment : ℕ) (command : Command) (result : Result (Unit {0}) AreaError) → BeginsReading shown old new user moment command result → BeginsCall shown old new user moment command result
+  begins_call old new user moment command result begins = record {
+    begun = begins.begun;
+    failed = begins.failed;
+    cause = begins.cause;
+    quiet = begins.quiet;
+    reads = by_reads command (shown old.disk) (shown new.disk) begins.reads;
+    idle = ok_always result (HasNoChange new → OnlyReads (shown old.disk) (shown new.disk)) (λ none. begins.reads);
+    crash = λ texts resting. crash_by old.held texts (shown old.disk) (shown new.disk) (touches-read (shown old.disk) (shown new.disk) begins.reads)
+        (settled_copying old.held texts (shown old.disk) resting.kept.settled);
+    alike = reads_alike (shown old.disk) (shown new.disk) begins.reads;
+    later = begins.later;
+    loaded = begins.loaded;
+    rules = begins.rules;
+    copies = λ in_place. begins.copies;
+    kind = begins.kind;
+  }
+
   -- an area, from its parts
-  rebuilt : (P : OpenArea D → Type 0) (new : OpenArea D) (disk : D) (rules : AreaRules) (held : Loaded) (redo : Change) (large : Option Change) (stage : Stage) → new.disk ≡ disk → new.rules ≡ rules
-      → new.held ≡ held → new.redo ≡ redo → new.large ≡ large → new.stage ≡ stage → P (record { disk = disk; rules = rules; held = held; redo = redo; large = large; stage = stage }) → P new
-  rebuilt P new disk rules held redo large stage is_disk is_rules is_held is_redo is_large is_stage p =
-      subst (λ (s : Stage). P (record { disk = new.disk; rules = new.rules; held = new.held; redo = new.redo; large = new.large; stage = s })) (sym is_stage)
-      (subst (λ (l : Option Change). P (record { disk = new.disk; rules = new.rules; held = new.held; redo = new.redo; large = l; stage = stage })) (sym is_large)
-      (subst (λ (r : Change). P (record { disk = new.disk; rules = new.rules; held = new.held; redo = r; large = large; stage = stage })) (sym is_redo)
-      (subst (λ (h : Loaded). P (record { disk = new.disk; rules = new.rules; held = h; redo = redo; large = large; stage = stage })) (sym is_held)
-      (subst (λ (u : AreaRules). P (record { disk = new.disk; rules = u; held = held; redo = redo; large = large; stage = stage })) (sym is_rules)
-      (subst (λ (d : D). P (record { disk = d; rules = rules; held = held; redo = redo; large = large; stage = stage })) (sym is_disk) p)))))
+  rebuilt : (P : OpenArea D → Type 0) (new : OpenArea D) (disk : D) (rules : AreaRules) (held : Loaded) (redo : Change) (large : Option Change) (packer : Option Shadow) (stage : Stage) → new.disk ≡ disk → new.rules ≡ rules
+      → new.held ≡ held → new.redo ≡ redo → new.large ≡ large → new.packer ≡ packer → new.stage ≡ stage
+      → P (record { disk = disk; rules = rules; held = held; redo = redo; large = large; packer = packer; stage = stage }) → P new
+  rebuilt P new disk rules held redo large packer stage is_disk is_rules is_held is_redo is_large is_packer is_stage p =
+      subst (λ (s : Stage). P (record { disk = new.disk; rules = new.rules; held = new.held; redo = new.redo; large = new.large; packer = new.packer; stage = s })) (sym is_stage)
+      (subst (λ (k : Option Shadow). P (record { disk = new.disk; rules = new.rules; held = new.held; redo = new.redo; large = new.large; packer = k; stage = stage })) (sym is_packer)
+      (subst (λ (l : Option Change). P (record { disk = new.disk; rules = new.rules; held = new.held; redo = new.redo; large = l; packer = packer; stage = stage })) (sym is_large)
+      (subst (λ (r : Change). P (record { disk = new.disk; rules = new.rules; held = new.held; redo = r; large = large; packer = packer; stage = stage })) (sym is_redo)
+      (subst (λ (h : Loaded). P (record { disk = new.disk; rules = new.rules; held = h; redo = redo; large = large; packer = packer; stage = stage })) (sym is_held)
+      (subst (λ (u : AreaRules). P (record { disk = new.disk; rules = u; held = held; redo = redo; large = large; packer = packer; stage = stage })) (sym is_rules)
+      (subst (λ (d : D). P (record { disk = d; rules = rules; held = held; redo = redo; large = large; packer = packer; stage = stage })) (sym is_disk) p))))))
 
   module _ (area new : OpenArea D) (disk : D) (redo : Change) (given : Option Change) (is_disk : new.disk ≡ disk) (is_rules : new.rules ≡ area.rules) (is_held : new.held ≡ area.held) (is_redo : new.redo ≡ redo)
+      (is_packer : new.packer ≡ area.packer)
       (reads : OnlyReads (shown area.disk) (shown disk)) (room : HasRoomInAll redo) where
     -- what is kept stays so
     kept_read : (large : Option Change) (stage : Stage) (texts : List ℕ) → IsKept shown area texts
-        → IsKept shown (record { disk = disk; rules = area.rules; held = area.held; redo = redo; large = large; stage = stage }) texts
+        → IsKept shown (record { disk = disk; rules = area.rules; held = area.held; redo = redo; large = large; packer = area.packer; stage = stage }) texts
     kept_read large stage texts kept = record {
       ruled = record { few_slots = kept.ruled.few_slots; address = kept.ruled.address; sound = kept.ruled.sound; sized = kept.ruled.sized; room = room };
       settled = settled_read area.held texts (shown area.disk) (shown disk) reads kept.settled;
+      copies = λ files there. kept.copies files (sym reads.contents ∙ there);
     }
 
     -- what is pending, by what a disk tells
     abbrev Changes : Pending → List ℕ → Coming → Option Files → Type 0
-    Changes pending texts coming contents = IsNoChange pending area.held texts coming ⊎ IsPending area.rules.slots contents (redo_in given redo) pending area.held texts coming
+    Changes pending texts coming contents = IsNoChange pending area.held texts coming ⊎ IsPending area.rules.slots contents area.packer (redo_in given redo) pending area.held texts coming
 
     -- begun
     starts : (decided : Result Decided AreaError) (result : Result (Unit {0}) AreaError) (user : User) (moment : ℕ) (command : Command) → StartsAs decided area.stage new.stage → new.large ≡ large_after decided given area.large → AnswersAs decided result
-        → IfOk decided (λ one. (texts : List ℕ) → AreTexts area.held texts (shown area.disk).contents → IsDecided area.rules area.held texts (shown area.disk).contents (redo_in given redo) user moment command one)
+        → IfOk decided (λ one. (texts : List ℕ) → AreTexts area.held texts (shown area.disk).contents → IsDecided area.rules area.held texts (shown area.disk).contents area.packer (redo_in given redo) user moment command one)
         → OnOk result ((texts : List ℕ) → IsResting shown area texts → IsBegunFor shown new texts user moment command)
     starts (Ok decided) (Ok done) user moment command stage is_large answer is = λ texts resting.
         let decides = is texts (texts_own area texts resting) in
-        rebuilt (λ (a : OpenArea D). IsBegunFor shown a texts user moment command) new disk area.rules area.held redo given (Begun decided.reply decided.pending) is_disk is_rules is_held is_redo is_large stage
+        rebuilt (λ (a : OpenArea D). IsBegunFor shown a texts user moment command) new disk area.rules area.held redo given area.packer (Begun decided.reply decided.pending) is_disk is_rules is_held is_redo is_large is_packer stage
         (record {
           reply = decided.reply;
           coming = decides.coming;
-          begun = record { pending = decided.pending; stage = refl; kept = kept_read given (Begun decided.reply decided.pending) texts resting.kept; change = subst (Changes decided.pending texts decides.coming) (sym reads.contents) decides.change };
+          begun = record { pending = decided.pending; stage = refl; kept = kept_read given (Begun decided.reply decided.pending) texts resting.kept; change = subst (Changes decided.pending texts decides.coming) (sym reads.contents) decides.change; packing = decides.packing };
           step = λ told. decides.step (subst (λ (o : Option Files). IsTold decided.reply o) reads.contents told);
           idle = λ nothing. let none = decides.idle nothing in (record { reply = decided.reply; stage = ap (λ (p : Pending). Begun decided.reply p) none.none }, none.same);
           headers = decides.headers;
@@ -143,16 +177,25 @@ module _ {D : Type 0} (shown : D → Device) where
     starts (Err error) (Ok done) user moment command stage is_large answer is = absurd (ok_not_err (Ok done) done error refl answer)
     starts (Err error) (Err other) user moment command stage is_large answer is = tt
 
+    -- and but for a pack the copies stay when it is done
+    stays : (decided : Result Decided AreaError) (result : Result (Unit {0}) AreaError) (user : User) (moment : ℕ) (command : Command) → StartsAs decided area.stage new.stage → AnswersAs decided result
+        → IfOk decided (λ one. (texts : List ℕ) → AreTexts area.held texts (shown area.disk).contents → IsDecided area.rules area.held texts (shown area.disk).contents area.packer (redo_in given redo) user moment command one)
+        → HasRest shown area → OnOk result (IsNoPack command → copies_after new ≡ new.packer)
+    stays (Ok decided) (Ok done) user moment command stage answer is has = λ in_place.
+        ap (λ (s : Stage). kept_in s new.packer) stage ∙ copies_stay decided.pending new.packer ((is has.texts (texts_own area has.texts has.rests)).kind in_place)
+    stays decided (Err error) user moment command stage answer is has = tt
+    stays (Err error) (Ok done) user moment command stage answer is has = absurd (ok_not_err (Ok done) done error refl answer)
+
     -- or not
     starts_not : (decided : Result Decided AreaError) (result : Result (Unit {0}) AreaError) → StartsAs decided area.stage new.stage → new.large ≡ large_after decided given area.large → AnswersAs decided result
         → IfErr result (λ error. (texts : List ℕ) → IsResting shown area texts → IsNotBegun shown error area new texts)
     starts_not decided (Ok done) stage is_large answer = tt
     starts_not (Ok decided) (Err error) stage is_large answer = let refused : Result (Unit {0}) AreaError = Err error in absurd (err_not_ok refused error refl answer)
     starts_not (Err StoreFault) (Err StoreFault) stage is_large answer = λ texts resting.
-        rebuilt (λ (a : OpenArea D). IsUnchanged shown a texts) new disk area.rules area.held redo area.large (Doubtful Early Nothing) is_disk is_rules is_held is_redo is_large stage
-        (record { stopped = Early; stage = refl; kept = kept_read area.large (Doubtful Early Nothing) texts resting.kept })
+        rebuilt (λ (a : OpenArea D). IsDoubtful shown a texts None) new disk area.rules area.held redo area.large area.packer (Doubtful Early Nothing) is_disk is_rules is_held is_redo is_large is_packer stage
+        (inl (record { stopped = Early; stage = refl; kept = kept_read area.large (Doubtful Early Nothing) texts resting.kept }))
     starts_not (Err OutOfMemory) (Err OutOfMemory) stage is_large answer = λ texts resting.
-        rebuilt (λ (a : OpenArea D). RestsAt shown a texts area.held) new disk area.rules area.held redo area.large Resting is_disk is_rules is_held is_redo is_large (stage ∙ resting.stage)
+        rebuilt (λ (a : OpenArea D). RestsAt shown a texts area.held) new disk area.rules area.held redo area.large area.packer Resting is_disk is_rules is_held is_redo is_large is_packer (stage ∙ resting.stage)
         (record { rests = record { stage = refl; small = resting.small; kept = kept_read area.large Resting texts resting.kept }; is = refl })
     starts_not (Err StoreFault) (Err OutOfMemory) stage is_large answer = absurd (two_causes (sym (same_error (Err OutOfMemory) OutOfMemory StoreFault refl answer)))
     starts_not (Err OutOfMemory) (Err StoreFault) stage is_large answer = absurd (two_causes (same_error (Err StoreFault) StoreFault OutOfMemory refl answer))
@@ -173,11 +216,11 @@ module _ {D : Type 0} (shown : D → Device) where
     same_quiet (Err error) (Ok done) answer quiet = absurd (ok_not_err (Ok done) done error refl answer)
 
     -- a call is begun, or not
-    pub begins : (decided : Result Decided AreaError) (result : Result (Unit {0}) AreaError) (user : User) (moment : ℕ) (command : Command) → StartsAs decided area.stage new.stage → new.large ≡ large_after decided given area.large → AnswersAs decided result
-        → IfOk decided (λ one. (texts : List ℕ) → AreTexts area.held texts (shown area.disk).contents → IsDecided area.rules area.held texts (shown area.disk).contents (redo_in given redo) user moment command one)
-        → IfErr decided (AreaFaultRose (shown area.disk).faults (shown disk).faults) → OnOk decided ((shown disk).faults ≡ (shown area.disk).faults) → (shown area.disk).faults ≤ (shown disk).faults
-        → BeginsCall shown area new user moment command result
-    begins decided result user moment command stage is_large answer is cause quiet later = record {
+    pub begins_with : (decided : Result Decided AreaError) (result : Result (Unit {0}) AreaError) (user : User) (moment : ℕ) (command : Command) → StartsAs decided area.stage new.stage → new.large ≡ large_after decided given area.large → AnswersAs decided result
+        → IfOk decided (λ one. (texts : List ℕ) → AreTexts area.held texts (shown area.disk).contents → IsDecided area.rules area.held texts (shown area.disk).contents area.packer (redo_in given redo) user moment command one)
+        → IfErr decided (AreaFaultRose (shown area.disk).faults (shown disk).faults) → OnOk decided ((shown disk).faults ≡ (shown area.disk).faults) → (shown area.disk).faults ≤ (shown disk).faults → HasRest shown area
+        → BeginsReading shown area new user moment command result
+    begins_with decided result user moment command stage is_large answer is cause quiet later has = record {
       begun = starts decided result user moment command stage is_large answer is;
       failed = starts_not decided result stage is_large answer;
       cause = subst (λ (d : D). IfErr result (AreaFaultRose (shown area.disk).faults (shown d).faults)) (sym is_disk) (same_cause decided result answer cause);
@@ -186,25 +229,34 @@ module _ {D : Type 0} (shown : D → Device) where
       later = subst (λ (d : D). (shown area.disk).faults ≤ (shown d).faults) (sym is_disk) later;
       loaded = is_held;
       rules = is_rules;
+      copies = is_packer;
+      kind = stays decided result user moment command stage answer is has;
     }
 
+    -- the same, of what is decided over any copies
+    pub begins : (decided : Result Decided AreaError) (result : Result (Unit {0}) AreaError) (user : User) (moment : ℕ) (command : Command) → StartsAs decided area.stage new.stage → new.large ≡ large_after decided given area.large → AnswersAs decided result
+        → IfOk decided (λ one. (texts : List ℕ) → AreTexts area.held texts (shown area.disk).contents → IsDecided area.rules area.held texts (shown area.disk).contents None (redo_in given redo) user moment command one)
+        → IfErr decided (AreaFaultRose (shown area.disk).faults (shown disk).faults) → OnOk decided ((shown disk).faults ≡ (shown area.disk).faults) → (shown area.disk).faults ≤ (shown disk).faults → HasRest shown area
+        → BeginsCall shown area new user moment command result
+    begins decided result user moment command stage is_large answer is cause quiet later has =
+        begins_call area new user moment command result (begins_with decided result user moment command stage is_large answer
+        (if_ok_then decided _ _ is (λ one is texts are. with_copies area.rules area.held texts (shown area.disk).contents area.packer (redo_in given redo) user moment command one (is texts are))) cause quiet later has)
+
   -- a call that changed nothing was stopped
-  pub stopped_unchanged : (old new : OpenArea D) (texts : List ℕ) (user : User) (moment : ℕ) (command : Command) → OnlyReads (shown old.disk) (shown new.disk) → new.held ≡ old.held → IsResting shown old texts
-      → IsUnchanged shown new texts → HasStoppedIn shown old new texts user moment command
-  stopped_unchanged old new texts user moment command same loaded resting unchanged = record {
+  pub stopped_unchanged : (old new : OpenArea D) (texts : List ℕ) (user : User) (moment : ℕ) (command : Command) → TouchesShadow (shown old.disk) (shown new.disk) → new.held ≡ old.held → IsResting shown old texts
+      → IsDoubtful shown new texts None → HasStoppedIn shown old new texts user moment command
+  stopped_unchanged old new texts user moment command touches loaded resting doubt = record {
     coming = None;
     change = tt;
-    doubt = unchanged;
-    opens = λ files there. subst (λ (l : Loaded). Opens l texts files) loaded (rest_opens new.held texts files (unchanged.kept.settled.rests files there));
+    doubt = doubt;
+    opens = λ files there. subst (λ (l : Loaded). Opens l texts files) loaded (doubt_reads shown new texts None doubt files there);
     loaded = loaded;
-    crash = λ files there. record {
-      first = settled_opens old.held texts (shown old.disk) files there resting.kept.settled;
-      run = runs-refl (Opens old.held texts) _ _ same.moments;
-    };
+    crash = crash_by old.held texts (shown old.disk) (shown new.disk) touches (settled_copying old.held texts (shown old.disk) resting.kept.settled);
   }
 
   -- why a call was not begun, as what it leaves
-  pub fails_with : (error : AreaError) (old new : OpenArea D) (texts : List ℕ) (user : User) (moment : ℕ) (command : Command) → OnlyReads (shown old.disk) (shown new.disk) → new.held ≡ old.held → IsResting shown old texts
+  pub fails_with : (error : AreaError) (old new : OpenArea D) (texts : List ℕ) (user : User) (moment : ℕ) (command : Command) → OnlyReadsOrCopies command (shown old.disk) (shown new.disk) → new.held ≡ old.held → IsResting shown old texts
       → IsNotBegun shown error old new texts → FailsWith shown error old new texts user moment command
-  fails_with StoreFault old new texts user moment command same loaded resting not = stopped_unchanged old new texts user moment command same loaded resting not
-  fails_with OutOfMemory old new texts user moment command same loaded resting not = (not, same)
+  fails_with StoreFault old new texts user moment command reads loaded resting not =
+      stopped_unchanged old new texts user moment command (touches_by command (shown old.disk) (shown new.disk) reads) loaded resting not
+  fails_with OutOfMemory old new texts user moment command reads loaded resting not = (not, reads)

@@ -5,9 +5,12 @@ use Rattle.jb_base.specs.declared.area.AreaRules.{AreaRules}
 use Rattle.jb_base.specs.declared.limits.TheConstants.{MOST_ADDRESS_BYTES, MOST_SLOTS}
 use Rattle.jb_decide.specs.Coming.{Coming}
 use Rattle.jb_decide.specs.Decided.{IsNoChange, IsPending, made}
+use Rattle.jb_decide.specs.Holds.{HasAll}
+use Rattle.jb_decide.specs.Packs.{IsPacked}
+use Rattle.jb_decide.specs.Pending.{IsPacking}
 use Rattle.jb_decide.specs.Ready.{HasRoomInAll}
 use Rattle.jb_decide.specs.declared.pending.Pending.{Pending}
-use Rattle.jb_decide.specs.declared.pending.Pending.TheVariants.{Nothing}
+use Rattle.jb_decide.specs.declared.pending.Pending.TheVariants.{Nothing, Counted, Marked, Packed}
 use Rattle.jb_disk.specs.Change.{Change}
 use Rattle.jb_disk.specs.Device.{Device}
 use Rattle.jb_disk.specs.Files.{Files}
@@ -16,22 +19,38 @@ use Rattle.jb_journal.specs.declared.stopped.Stopped.{Stopped}
 use Rattle.jb_model.specs.Sound.{IsSound}
 use Rattle.jb_model.specs.declared.loaded.Loaded.{Loaded}
 use Rattle.jb_model.specs.declared.reply.Reply.{Reply}
-use Rattle.jb_area.specs.Commits.{IsSettledAs, IsStoppedAs}
-use Rattle.jb_area.specs.Holds.{Opens, OpensToEither}
+use Rattle.jb_pack.specs.Shadow.{Shadow}
+use Rattle.jb_area.specs.Commits.{IsCopyingAs, IsSettledAs, IsStoppedAs}
+use Rattle.jb_area.specs.Holds.{HasShortJournal, Opens, OpensToEither}
 use Rattle.jb_area.specs.declared.area.OpenArea.{OpenArea}
 use Rattle.jb_area.specs.declared.stage.Stage.{Stage}
-use Rattle.jb_area.specs.declared.stage.Stage.TheVariants.{Resting, Begun, Doubtful}
+use Rattle.jb_area.specs.declared.stage.Stage.TheVariants.{Resting, Begun, Doubtful, Copying}
 
 -- these files with the change of a call that is begun done in them
 abbrev pub done_in : Stage → Change → Files → Files
 done_in Resting redo files = files
 done_in (Begun reply pending) redo files = made pending redo files
 done_in (Doubtful stopped pending) redo files = files
+done_in Copying redo files = files
 
 -- the redo of a call: one of its own, or the small one
 abbrev pub redo_in : Option Change → Change → Change
 redo_in None small = small
 redo_in (Some large) small = large
+
+-- the copies of texts that are kept once this is done: after a pack none are of use
+abbrev pub copied_after : Pending → Option Shadow → Option Shadow
+copied_after Nothing copies = copies
+copied_after (Counted change counter active) copies = copies
+copied_after (Marked place mark) copies = copies
+copied_after (Packed plan base replies) copies = None
+
+-- the same, once the call is done that is begun
+abbrev pub kept_in : Stage → Option Shadow → Option Shadow
+kept_in Resting copies = copies
+kept_in (Begun reply pending) copies = copied_after pending copies
+kept_in (Doubtful stopped pending) copies = copies
+kept_in Copying copies = copies
 
 module _ {D : Type 0} where
   -- the area as it is loaded; while a call is begun or in doubt, as it was before that call
@@ -49,6 +68,14 @@ module _ {D : Type 0} where
   -- the redo of the call that is begun or in doubt
   abbrev pub redo_of : OpenArea D → Change
   redo_of area = redo_in area.large area.redo
+
+  -- what is copied of its texts for a pack, where something is
+  abbrev pub copied_of : OpenArea D → Option Shadow
+  copied_of area = area.packer
+
+  -- what the area keeps of it once what is begun is done
+  abbrev pub copies_after : OpenArea D → Option Shadow
+  copies_after area = kept_in area.stage area.packer
 
   -- these files with what is begun in the area done in them
   abbrev pub files_after : OpenArea D → Files → Files
@@ -73,10 +100,11 @@ module _ {D : Type 0} (shown : D → Device) where
   abbrev pub device_of : OpenArea D → Device
   device_of area = shown area.disk
 
-  -- the files hold what is loaded, with these texts; nothing is on its way, and a crash now leaves them so
+  -- the files hold what is loaded, with these texts, and what is copied of them; nothing is on its way, and a crash now leaves them so
   pub record IsKept (area : OpenArea D) (texts : List ℕ) : Type 0 where
     pub ruled : IsSoundFor area texts
     pub settled : IsSettledAs area.held texts (shown area.disk)
+    pub copies : ForSome (shown area.disk).contents (HasAll area.packer)
 
   -- no call is begun, no redo is kept but the small one, and the area is settled
   pub record IsResting (area : OpenArea D) (texts : List ℕ) : Type 0 where
@@ -84,16 +112,22 @@ module _ {D : Type 0} (shown : D → Device) where
     pub small : area.large ≡ None
     pub kept : IsKept area texts
 
-  -- a call is begun that will be answered so, and this is to come of it
+  -- a call is begun that will be answered so, and this is to come of it; it packs the area where the answer says so
   pub record IsBegun (area : OpenArea D) (texts : List ℕ) (reply : Reply) (coming : Coming) : Type 0 where
     pub pending : Pending
     pub stage : area.stage ≡ Begun reply pending
     pub kept : IsKept area texts
-    pub change : IsNoChange pending area.held texts coming ⊎ IsPending area.rules.slots (shown area.disk).contents (redo_of area) pending area.held texts coming
+    pub change : IsNoChange pending area.held texts coming ⊎ IsPending area.rules.slots (shown area.disk).contents area.packer (redo_of area) pending area.held texts coming
+    pub packing : IsPacked reply → IsPacking pending
 
   -- the files are those that they were with what was begun done in them, but for the journal
   abbrev pub HasMade : OpenArea D → OpenArea D → Type 0
   HasMade old new = ForSome (shown old.disk).contents (λ was. ForSome (shown new.disk).contents (λ now. AgreeButJournal now (files_after old was)))
+
+  -- the area was packed just now: no copies are kept, and the journal is short
+  pub record HasPacked (area : OpenArea D) : Type 0 where
+    pub dropped : area.packer ≡ None
+    pub short : ForSome (shown area.disk).contents HasShortJournal
 
   -- the files are between the area as it is loaded and the one to come
   pub record IsBetween (area : OpenArea D) (texts : List ℕ) (coming : Coming) : Type 0 where
@@ -101,8 +135,8 @@ module _ {D : Type 0} (shown : D → Device) where
     pub pending : Pending
     pub stage : area.stage ≡ Doubtful stopped pending
     pub ruled : IsSoundFor area texts
-    pub change : IsPending area.rules.slots (shown area.disk).contents (redo_of area) pending area.held texts coming
-    pub doubt : IsStoppedAs stopped (redo_of area) area.held texts (shown area.disk)
+    pub change : IsPending area.rules.slots (shown area.disk).contents area.packer (redo_of area) pending area.held texts coming
+    pub doubt : IsStoppedAs stopped (redo_of area) area.held texts area.packer (shown area.disk)
 
   -- a call was stopped that had changed nothing
   pub record IsUnchanged (area : OpenArea D) (texts : List ℕ) : Type 0 where
@@ -110,9 +144,15 @@ module _ {D : Type 0} (shown : D → Device) where
     pub stage : area.stage ≡ Doubtful stopped Nothing
     pub kept : IsKept area texts
 
+  -- a copying of texts was stopped: .NDT may hold anything, and a crash may leave anything of it; all else is as before
+  pub record IsHalfCopied (area : OpenArea D) (texts : List ℕ) : Type 0 where
+    pub stage : area.stage ≡ Copying
+    pub ruled : IsSoundFor area texts
+    pub copying : IsCopyingAs area.held texts (shown area.disk)
+
   -- a call was stopped: with this change, which may stand or not, or without one
   abbrev pub IsDoubtful : OpenArea D → List ℕ → Option Coming → Type 0
-  IsDoubtful area texts None = IsUnchanged area texts
+  IsDoubtful area texts None = IsUnchanged area texts ⊎ IsHalfCopied area texts
   IsDoubtful area texts (Some coming) = IsBetween area texts coming
 
   -- a call is begun

@@ -1,5 +1,5 @@
 -- What the calls of an open area do.
-use Rattle.std.specs.Prelude.{◌≡◌, ℕ, ◌≤◌, List, Option, Some, None, Result, Ok, Err, IsOk, IfErr, IfOk, OnErr, OnOk}
+use Rattle.std.specs.Prelude.{◌≡◌, ℕ, ◌≤◌, Bool, List, Option, Some, None, Result, Ok, Err, IsOk, IfErr, IfOk, OnErr, OnOk}
 use Rattle.std.specs.Option.{ForSome}
 use Rattle.jb_base.specs.Fault.{Rose}
 use Rattle.jb_base.specs.declared.user.User.{User}
@@ -7,7 +7,8 @@ use Rattle.jb_decide.specs.Coming.{Coming}
 use Rattle.jb_decide.specs.Decided.{ChangesNothing, IsNoPack, IsTold}
 use Rattle.jb_decide.specs.Errors.{AreaFaultRose}
 use Rattle.jb_decide.specs.Headers.{KeepsHeaders, PacksHeaders}
-use Rattle.jb_decide.specs.Holds.{Holds}
+use Rattle.jb_decide.specs.Holds.{HoldsWith}
+use Rattle.jb_decide.specs.Packs.{IsPacked}
 use Rattle.jb_decide.specs.declared.decided.Decided.{Decided}
 use Rattle.jb_decide.specs.declared.error.AreaError.{AreaError}
 use Rattle.jb_decide.specs.declared.error.AreaError.TheVariants.{StoreFault, OutOfMemory}
@@ -20,12 +21,24 @@ use Rattle.jb_journal.specs.declared.stopped.Stopped.TheVariants.{Early}
 use Rattle.jb_model.specs.State.{state_of}
 use Rattle.jb_model.specs.Step.{Step}
 use Rattle.jb_model.specs.declared.command.Command.{Command}
+use Rattle.jb_model.specs.declared.command.Command.TheVariants.{Post, Read, Peek, Kill, SetMark, Pack, Relink}
 use Rattle.jb_model.specs.declared.reply.Reply.{Reply}
-use Rattle.jb_area.specs.Area.{files_after, small_redo_of, DoubtOpens, HasMade, HasNoChange, IsBegun, IsDoubtful, IsResting, IsUnchanged, RestsAt}
-use Rattle.jb_area.specs.Holds.{OpensToEither}
+use Rattle.jb_pack.specs.Touching.{TouchesShadow}
+use Rattle.jb_area.specs.Area.{copies_after, files_after, small_redo_of, DoubtOpens, HasMade, HasNoChange, HasPacked, IsBegun, IsDoubtful, IsResting, RestsAt}
+use Rattle.jb_area.specs.Holds.{Opens, OpensToEither}
 use Rattle.jb_area.specs.declared.area.OpenArea.{OpenArea}
 use Rattle.jb_area.specs.declared.stage.Stage.{Stage}
 use Rattle.jb_area.specs.declared.stage.Stage.TheVariants.{Begun, Doubtful}
+
+-- a command only reads the device until its change is committed, but for a pack, which copies texts into .NDT first
+abbrev pub OnlyReadsOrCopies : Command → Device → Device → Type 0
+OnlyReadsOrCopies (Post to subject text reply_to private) old new = OnlyReads old new
+OnlyReadsOrCopies (Read number) old new = OnlyReads old new
+OnlyReadsOrCopies (Peek number) old new = OnlyReads old new
+OnlyReadsOrCopies (Kill number) old new = OnlyReads old new
+OnlyReadsOrCopies (SetMark number) old new = OnlyReads old new
+OnlyReadsOrCopies Relink old new = OnlyReads old new
+OnlyReadsOrCopies Pack old new = TouchesShadow old new
 
 -- of a disk that shows itself so
 module _ {D : Type 0} (shown : D → Device) where
@@ -44,10 +57,10 @@ module _ {D : Type 0} (shown : D → Device) where
     -- a refusal, a look, and a relink that finds no wrong link have no change
     pub idle : ChangesNothing command reply → HasNoChange area × (coming ≡ record { to = area.held; texts = texts })
     -- but for a pack, each header stays in its place in whatever files hold the area
-    pub headers : IsNoPack command → (files : Files) → Holds area.held texts files
+    pub headers : IsNoPack command → (files : Files) → HoldsWith area.held texts area.packer files
         → KeepsHeaders reply area.held coming.to files (files_after area files)
     -- and a pack that is done puts all of them one behind another
-    pub packs : (files : Files) → Holds area.held texts files → PacksHeaders reply coming.to (files_after area files)
+    pub packs : (files : Files) → HoldsWith area.held texts area.packer files → PacksHeaders reply coming.to (files_after area files)
 
   -- the command was answered so, and is done; a crash meanwhile leaves the area before it or after it
   pub record HasAnswered (old new : OpenArea D) (texts : List ℕ) (user : User) (moment : ℕ) (command : Command) (reply : Reply) : Type 0 where
@@ -81,15 +94,16 @@ module _ {D : Type 0} (shown : D → Device) where
     pub crash : ForSome (shown old.disk).contents (λ files.
         LeavesOnly (shown old.disk) (shown new.disk) (DoubtOpens old.held texts coming))
 
-  -- why a call was not begun: a fault, and then the area is in doubt without a change; or want of memory, and then nothing is otherwise
+  -- why a call was not begun: a fault, and then the area is in doubt without a change; or want of memory, and then it is at rest as before
   abbrev pub IsNotBegun : AreaError → OpenArea D → OpenArea D → List ℕ → Type 0
-  IsNotBegun StoreFault old new texts = IsUnchanged shown new texts
+  IsNotBegun StoreFault old new texts = IsDoubtful shown new texts None
   IsNotBegun OutOfMemory old new texts = RestsAt shown new texts old.held
 
-  -- what a call that was not done leaves: after a fault a doubt, after want of memory all as it was, and the device was only read
+  -- what a call that was not done leaves: after a fault a doubt, after want of memory all as it was, and the device was only read,
+  -- but for the copies of a pack
   abbrev pub FailsWith : AreaError → OpenArea D → OpenArea D → List ℕ → User → ℕ → Command → Type 0
   FailsWith StoreFault old new texts user moment command = HasStoppedIn old new texts user moment command
-  FailsWith OutOfMemory old new texts user moment command = RestsAt shown new texts old.held × OnlyReads (shown old.disk) (shown new.disk)
+  FailsWith OutOfMemory old new texts user moment command = RestsAt shown new texts old.held × OnlyReadsOrCopies command (shown old.disk) (shown new.disk)
 
   -- a call at rest: it is answered and done, or fails and leaves what its error says; a fault has its cause, and no other answer hides one; the disk tells as before, and the rules stay
   pub record MeetsCall (old new : OpenArea D) (user : User) (moment : ℕ) (command : Command) (result : Result Reply AreaError) : Type 0 where
@@ -100,9 +114,12 @@ module _ {D : Type 0} (shown : D → Device) where
     pub later : (shown old.disk).faults ≤ (shown new.disk).faults
     pub alike : TellsAlike (shown old.disk) (shown new.disk)
     pub rules : new.rules ≡ old.rules
+    -- whatever is answered, each command but a pack keeps what is copied of the texts, and a pack that was done drops it
+    pub copies : IsNoPack command → new.packer ≡ old.packer
+    pub packed : IfOk result (λ reply. IsPacked reply → HasPacked shown new)
 
-  -- a call at rest is begun, or not; its files are only read, and the area is loaded as before
-  pub record BeginsCall (old new : OpenArea D) (user : User) (moment : ℕ) (command : Command) (result : Result (Unit {0}) AreaError) : Type 0 where
+  -- a call at rest is begun, or not; its files are only read, and the area is loaded as before, with what is copied of its texts
+  pub record BeginsReading (old new : OpenArea D) (user : User) (moment : ℕ) (command : Command) (result : Result (Unit {0}) AreaError) : Type 0 where
     pub begun : OnOk result ((texts : List ℕ) → IsResting shown old texts → IsBegunFor new texts user moment command)
     pub failed : IfErr result (λ error. (texts : List ℕ) → IsResting shown old texts → IsNotBegun error old new texts)
     pub cause : IfErr result (AreaFaultRose (shown old.disk).faults (shown new.disk).faults)
@@ -111,6 +128,45 @@ module _ {D : Type 0} (shown : D → Device) where
     pub later : (shown old.disk).faults ≤ (shown new.disk).faults
     pub loaded : new.held ≡ old.held
     pub rules : new.rules ≡ old.rules
+    pub copies : new.packer ≡ old.packer
+    -- and but for a pack they stay when it is done
+    pub kind : OnOk result (IsNoPack command → copies_after new ≡ new.packer)
+
+  -- a call at rest is begun, or not; its files are only read, but for the copies of a pack that is not refused, and the area is loaded as before
+  pub record BeginsCall (old new : OpenArea D) (user : User) (moment : ℕ) (command : Command) (result : Result (Unit {0}) AreaError) : Type 0 where
+    pub begun : OnOk result ((texts : List ℕ) → IsResting shown old texts → IsBegunFor new texts user moment command)
+    pub failed : IfErr result (λ error. (texts : List ℕ) → IsResting shown old texts → IsNotBegun error old new texts)
+    pub cause : IfErr result (AreaFaultRose (shown old.disk).faults (shown new.disk).faults)
+    pub quiet : OnOk result ((shown new.disk).faults ≡ (shown old.disk).faults)
+    pub reads : OnlyReadsOrCopies command (shown old.disk) (shown new.disk)
+    -- and where the call has no change, it was only read
+    pub idle : OnOk result (HasNoChange new → OnlyReads (shown old.disk) (shown new.disk))
+    -- a crash meanwhile leaves the area before it
+    pub crash : (texts : List ℕ) → IsResting shown old texts
+        → ForSome (shown old.disk).contents (λ files. LeavesOnly (shown old.disk) (shown new.disk) (Opens old.held texts))
+    pub alike : TellsAlike (shown old.disk) (shown new.disk)
+    pub later : (shown old.disk).faults ≤ (shown new.disk).faults
+    pub loaded : new.held ≡ old.held
+    pub rules : new.rules ≡ old.rules
+    -- each command but a pack keeps what is copied of the texts, also when it is done
+    pub copies : IsNoPack command → new.packer ≡ old.packer
+    pub kind : OnOk result (IsNoPack command → copies_after new ≡ new.packer)
+
+  -- a step of a pack: the area is at rest as before, or not, as its error says; but for .NDT all is as before, also after a crash at any moment
+  pub record StepsPack (old new : OpenArea D) (result : Result Bool AreaError) : Type 0 where
+    pub done : OnOk result ((texts : List ℕ) → IsResting shown old texts → RestsAt shown new texts old.held)
+    pub failed : IfErr result (λ error. (texts : List ℕ) → IsResting shown old texts → IsNotBegun error old new texts)
+    pub opens : (texts : List ℕ) → IsResting shown old texts → ForSome (shown new.disk).contents (Opens old.held texts)
+    pub crash : (texts : List ℕ) → IsResting shown old texts
+        → ForSome (shown old.disk).contents (λ files. LeavesOnly (shown old.disk) (shown new.disk) (Opens old.held texts))
+    pub touches : TouchesShadow (shown old.disk) (shown new.disk)
+    pub cause : IfErr result (AreaFaultRose (shown old.disk).faults (shown new.disk).faults)
+    pub quiet : OnOk result ((shown new.disk).faults ≡ (shown old.disk).faults)
+    pub later : (shown old.disk).faults ≤ (shown new.disk).faults
+    pub alike : TellsAlike (shown old.disk) (shown new.disk)
+    pub loaded : new.held ≡ old.held
+    pub rules : new.rules ≡ old.rules
+    pub room : small_redo_of new ≡ small_redo_of old
 
   -- a call that is begun ends: done, with the reply and the area that were to come, or stopped by a fault, and then its change is in doubt
   pub record EndsCall (old new : OpenArea D) (result : Result Reply AreaError) : Type 0 where
@@ -133,6 +189,10 @@ module _ {D : Type 0} (shown : D → Device) where
         → ForSome (shown old.disk).contents (λ files. LeavesOnly (shown old.disk) (shown new.disk) (OpensToEither old.held texts coming))
     pub room : small_redo_of new ≡ small_redo_of old
     pub rules : new.rules ≡ old.rules
+    -- what is copied of the texts stays, but where a pack was done
+    pub copies : OnOk result (new.packer ≡ copies_after old)
+    pub kept : OnErr result (new.packer ≡ old.packer)
+    pub packed : IfOk result (λ reply. IsPacked reply → HasPacked shown new)
 
 -- the stage that a decision leads to
 abbrev pub StartsAs : Result Decided AreaError → Stage → Stage → Type 0

@@ -1,14 +1,19 @@
--- A change that is committed over the files of an area, and one that was stopped.
-use Rattle.std.specs.Prelude.{ℕ, Bool, true, false, List}
+-- A change that is committed over the files of an area, and one that was stopped; and a copying of its texts that was stopped.
+use Rattle.std.specs.Prelude.{◌≡◌, ℕ, ◌+◌, Bool, true, false, List, Option, length}
 use Rattle.std.specs.Option.{ForSome}
 use Rattle.jb_decide.specs.Coming.{Coming, IsChange}
+use Rattle.jb_decide.specs.Holds.{HasAll}
 use Rattle.jb_disk.specs.Change.{Change}
 use Rattle.jb_disk.specs.Device.{Device}
 use Rattle.jb_disk.specs.Files.{Files}
-use Rattle.jb_disk.specs.Runs.{IsAllSynced, Shows}
+use Rattle.jb_disk.specs.Runs.{IsAllSynced, LeavesNow, Shows}
+use Rattle.jb_disk.specs.declared.file.FileId.TheVariants.{Jnl}
 use Rattle.jb_journal.specs.Doubt.{IsInDoubt}
 use Rattle.jb_journal.specs.declared.stopped.Stopped.{Stopped}
 use Rattle.jb_model.specs.declared.loaded.Loaded.{Loaded}
+use Rattle.jb_pack.specs.Shadow.{Shadow}
+use Rattle.jb_pack.specs.Touching.{AgreeButShadow}
+use Rattle.jb_redo.specs.Record.{record_bytes}
 use Rattle.jb_area.specs.Holds.{IsAtRest}
 
 -- the files hold this area and these texts, nothing is on its way, and a crash now leaves them so
@@ -16,15 +21,25 @@ pub record IsSettledAs (loaded : Loaded) (texts : List ℕ) (device : Device) : 
   pub rests : ForSome device.contents (IsAtRest loaded texts)
   pub synced : IsAllSynced device
 
--- a commit of this redo over files that held this area was stopped here
-pub record IsStopped (stopped : Stopped) (redo : Change) (from : Loaded) (texts : List ℕ) (device : Device) : Type 0 where
+-- and they have these copies of the texts
+pub record IsSettledWith (loaded : Loaded) (texts : List ℕ) (copies : Option Shadow) (device : Device) : Type 0 where
+  pub settled : IsSettledAs loaded texts device
+  pub has : ForSome device.contents (HasAll copies)
+
+-- the journal is its head and the record of this redo, and no longer
+abbrev pub HasRecordOf : Change → Files → Type 0
+HasRecordOf redo files = length (files Jnl) ≡ 16 + length (record_bytes redo.lengths redo.pieces)
+
+-- a commit of this redo over files that held this area, and these copies of its texts, was stopped here
+pub record IsStopped (stopped : Stopped) (redo : Change) (from : Loaded) (texts : List ℕ) (copies : Option Shadow) (device : Device) : Type 0 where
   pub start : Files
   pub rests : IsAtRest from texts start
+  pub has : HasAll copies start
   pub shows : Shows (IsInDoubt stopped redo start) device
 
 -- the same, where the disk tells
-abbrev pub IsStoppedAs : Stopped → Change → Loaded → List ℕ → Device → Type 0
-IsStoppedAs stopped redo from texts device = ForSome device.contents (λ files. IsStopped stopped redo from texts device)
+abbrev pub IsStoppedAs : Stopped → Change → Loaded → List ℕ → Option Shadow → Device → Type 0
+IsStoppedAs stopped redo from texts copies device = ForSome device.contents (λ files. IsStopped stopped redo from texts copies device)
 
 -- settled as the answer says: with the change, or without it
 abbrev pub IsAnsweredAs : Bool → Loaded → List ℕ → Coming → Device → Type 0
@@ -35,14 +50,25 @@ IsAnsweredAs true from texts coming device = IsSettledAs coming.to coming.texts 
 pub record MayCommit (redo : Change) (device : Device) : Type 0 where
   pub from : Loaded
   pub texts : List ℕ
+  pub copies : Option Shadow
   pub coming : Coming
-  pub settled : IsSettledAs from texts device
-  pub change : IsChange device.contents redo from texts coming
+  pub settled : IsSettledWith from texts copies device
+  pub change : IsChange device.contents redo from texts copies coming
 
 -- a commit of it may be settled
 pub record MaySettle (stopped : Stopped) (redo : Change) (device : Device) : Type 0 where
   pub from : Loaded
   pub texts : List ℕ
+  pub copies : Option Shadow
   pub coming : Coming
-  pub doubt : IsStoppedAs stopped redo from texts device
-  pub change : IsChange device.contents redo from texts coming
+  pub doubt : IsStoppedAs stopped redo from texts copies device
+  pub change : IsChange device.contents redo from texts copies coming
+
+-- but for .NDT nothing is unsynced
+abbrev pub IsSyncedButShadow : Device → Type 0
+IsSyncedButShadow device = ForSome device.contents (λ files. LeavesNow (AgreeButShadow files) device.moments)
+
+-- the files hold this area and these texts, and nothing is on its way but a copying of texts into .NDT
+pub record IsCopyingAs (loaded : Loaded) (texts : List ℕ) (device : Device) : Type 0 where
+  pub rests : ForSome device.contents (IsAtRest loaded texts)
+  pub synced : IsSyncedButShadow device

@@ -1,9 +1,9 @@
 -- What the files of an open area are at rest, and to what they open after a crash.
-use Rattle.std.specs.Prelude.{◌≢◌, ◌⊎◌, ℕ, ◌≤◌, List, length, slice_index}
+use Rattle.std.specs.Prelude.{◌≢◌, ◌⊎◌, ℕ, ◌+◌, ◌*◌, ◌≤◌, List, length, slice_index}
 use Rattle.jb_decide.specs.Coming.{Coming}
 use Rattle.jb_decide.specs.Holds.{Holds}
 use Rattle.jb_disk.specs.Files.{Files}
-use Rattle.jb_disk.specs.declared.file.FileId.TheVariants.{Jnl}
+use Rattle.jb_disk.specs.declared.file.FileId.TheVariants.{Jhr, Jdx, Jlr, Jnl}
 use Rattle.jb_model.specs.declared.loaded.Loaded.{Loaded}
 use Rattle.jb_redo.specs.Replay.{Replays}
 
@@ -12,6 +12,10 @@ pub record IsAtRest (loaded : Loaded) (texts : List ℕ) (files : Files) : Type 
   pub holds : Holds loaded texts files
   pub long : 16 ≤ length (files Jnl)
   pub shut : slice_index (files Jnl) 0 ≢ 1
+
+-- however long the texts are, the journal is short beside the headers, the index and the marks
+abbrev pub HasShortJournal : Files → Type 0
+HasShortJournal files = length (files Jnl) ≤ 4096 + 3 * (length (files Jhr) + length (files Jdx) + length (files Jlr))
 
 -- as they are opened, what the journal holds done once more, they hold this area
 pub record Opens (loaded : Loaded) (texts : List ℕ) (files : Files) : Type 0 where

@@ -1,12 +1,14 @@
 //! The open area, and what becomes of a call that is begun.
 
 use crate::committing::{commit_change, in_use, settle_change};
+use crate::copying::{kept_after, sync_copies};
 use crate::stage::Stage;
 use jb_base::AreaRules;
 use jb_decide::{Held, Pending};
 use jb_disk::{Disk, Redo};
 use jb_journal::Stopped;
 use jb_model::{Loaded, Reply};
+use jb_pack::Packer;
 use std::mem;
 
 /// An area whose files are open for changes.
@@ -19,11 +21,13 @@ pub struct OpenArea<D: Disk> {
     pub(crate) redo: Redo,
     /// The change of the post, the relink or the pack that is begun or in doubt.
     pub(crate) large: Option<Redo>,
+    /// What is copied of the texts for a pack.
+    pub(crate) packer: Option<Packer>,
     pub(crate) stage: Stage,
 }
 
 impl<D: Disk> OpenArea<D> {
-    ghost use Rattle.std.specs.Prelude.{◌≡◌, ◌≤◌, List, ℕ, Option, Some, IfOk, IfErr, IsOk, IsTrue, OnOk, OnErr, false};
+    ghost use Rattle.std.specs.Prelude.{◌≡◌, ◌≤◌, List, ℕ, Option, None, Some, IfOk, IfErr, IsOk, IsTrue, OnOk, OnErr, false};
     ghost use Rattle.std.specs.Option.{ForSome};
     ghost use Rattle.jb_base.specs.Fault.{Rose};
     ghost use Rattle.jb_disk.specs.Device.{Device, TellsAlike};
@@ -31,7 +35,8 @@ impl<D: Disk> OpenArea<D> {
     ghost use Rattle.jb_model.specs.declared.reply.Reply.{Reply};
     ghost use Rattle.jb_area.specs.Holds.{OpensToEither};
     ghost use Rattle.jb_decide.specs.Coming.{Coming};
-    ghost use Rattle.jb_area.specs.Area.{device_of, loaded_of, rules_of, small_redo_of, DoubtOpens, HasBegun, HasDoubt, HasMade, HasNoChange, IsBegun, IsDoubtful, IsResting, RestsAt, SettlesAt};
+    ghost use Rattle.jb_decide.specs.Packs.{IsPacked};
+    ghost use Rattle.jb_area.specs.Area.{copied_of, copies_after, device_of, loaded_of, rules_of, small_redo_of, DoubtOpens, HasBegun, HasDoubt, HasMade, HasNoChange, HasPacked, IsBegun, IsDoubtful, IsResting, RestsAt, SettlesAt};
 
     /// The area without its texts; while a call is begun or in doubt, as it was before that call.
     pub fn loaded(&self) -> &Loaded
@@ -48,8 +53,8 @@ impl<D: Disk> OpenArea<D> {
     }
 
     /// Commits the change of the call that is begun, and answers the reply that [`coming`](OpenArea::coming) lends. Takes
-    /// no memory, and gives back what the call took for its change. Where it is stopped by a fault of the device, the area is
-    /// in doubt, and keeps the change until that is settled.
+    /// no memory, and gives back what the call took for its change, and after a pack the copies of the texts. Where it is
+    /// stopped by a fault of the device, the area is in doubt, and keeps the change until that is settled.
     pub fn finish(&mut self) -> Result<Reply, Stopped>
         requires begun { HasBegun D.device self.old }
 
@@ -58,6 +63,11 @@ impl<D: Disk> OpenArea<D> {
             → (reply ≡ decided) × RestsAt D.device self.new coming.texts coming.to) }
         ensures made { OnOk result (HasMade D.device self.old self.new) }
         ensures idle { HasNoChange self.old → IsOk result × (device_of D.device self.new ≡ device_of D.device self.old) }
+
+        // What is copied of the texts stays, but where a pack was done; then .JNL is short, however long the texts are.
+        ensures copies { OnOk result (copied_of self.new ≡ copies_after self.old) }
+        ensures kept { OnErr result (copied_of self.new ≡ copied_of self.old) }
+        ensures packed { IfOk result (λ reply. IsPacked reply → HasPacked D.device self.new) }
 
         // Stopped: only by a fault, and with a change that may stand or not.
         ensures doubt { OnErr result ((texts : List ℕ) (decided : Reply) (coming : Coming) → IsBegun D.device self.old texts decided coming
@@ -86,6 +96,7 @@ impl<D: Disk> OpenArea<D> {
         match commit_change(&mut self.disk, in_use(&self.large, &self.redo)) {
             Ok(()) => {
                 self.large = None;
+                self.packer = kept_after(&pending, mem::replace(&mut self.packer, None));
                 self.held.apply(pending);
                 Ok(reply)
             }
@@ -113,6 +124,7 @@ impl<D: Disk> OpenArea<D> {
         ensures rests { (texts : List ℕ) (decided : Reply) (coming : Coming) → IsBegun D.device self.old texts decided coming
             → RestsAt D.device self.new texts (loaded_of self.old) }
         ensures device { device_of D.device self.new ≡ device_of D.device self.old }
+        ensures copies { copied_of self.new ≡ copied_of self.old }
         ensures rules { rules_of self.new ≡ rules_of self.old }
         ensures room { small_redo_of self.new ≡ small_redo_of self.old }
     {
@@ -129,17 +141,19 @@ impl<D: Disk> OpenArea<D> {
         ensures rests { (texts : List ℕ) → IsResting D.device self.now texts → result ≡ false }
         ensures begun { HasBegun D.device self.now → result ≡ false }
     {
-        matches!(self.stage, Stage::Doubtful { .. })
+        matches!(self.stage, Stage::Doubtful { .. } | Stage::Copying)
     }
 
     /// Settles the call that was stopped, and answers whether its change stands; a call that had no change answers false.
-    /// Takes no memory, and gives back what the call took for its change. Where it is stopped again, the area stays in doubt.
+    /// Takes no memory, and gives back what the call took for its change, and what was copied of the texts. After a copying of
+    /// texts it syncs .NDT alone. Where it is stopped again, the area stays in doubt.
     pub fn reopen(&mut self) -> Result<bool, Stopped>
         requires doubt { HasDoubt D.device self.old }
 
         // Settled as it answers.
         ensures settled { IfOk result (λ stands. (texts : List ℕ) (coming : Option Coming) → IsDoubtful D.device self.old texts coming
             → SettlesAt D.device stands (loaded_of self.old) texts coming self.new) }
+        ensures dropped { OnOk result (copied_of self.new ≡ None) }
 
         // Stopped: only by a fault, and in doubt as before.
         ensures still { OnErr result ((texts : List ℕ) (coming : Option Coming) → IsDoubtful D.device self.old texts coming
@@ -158,22 +172,37 @@ impl<D: Disk> OpenArea<D> {
         ensures rules { rules_of self.new ≡ rules_of self.old }
         ensures room { small_redo_of self.new ≡ small_redo_of self.old }
     {
+        if let Stage::Copying = self.stage {
+            return match sync_copies(&mut self.disk) {
+                Ok(()) => {
+                    self.large = None;
+                    self.packer = None;
+                    self.stage = Stage::Resting;
+                    let stands = false;
+                    Ok(stands)
+                }
+                Err(stopped) => Err(stopped),
+            };
+        }
         let Stage::Doubtful { stopped, pending } = mem::replace(&mut self.stage, Stage::Resting)
         else {
             unreachable!()
         };
         if let Pending::Nothing = pending {
             self.large = None;
+            self.packer = None;
             return Ok(false);
         }
         match settle_change(&mut self.disk, in_use(&self.large, &self.redo), stopped) {
             Ok(true) => {
                 self.large = None;
+                self.packer = None;
                 self.held.apply(pending);
                 Ok(true)
             }
             Ok(false) => {
                 self.large = None;
+                self.packer = None;
                 Ok(false)
             }
             Err(stopped) => {
@@ -193,6 +222,7 @@ impl<D: Disk> OpenArea<D> {
             held: _,
             redo: _,
             large: _,
+            packer: _,
             stage: _,
         } = self;
         disk

@@ -2,24 +2,31 @@
 ghost use Rattle.std.specs.Prelude.{◌≡◌, ◌≤◌, ℕ, length, IfErr, Ok};
 
 use crate::OpenArea;
+use crate::copying::copy_some;
 use crate::stage::Stage;
-use jb_base::{OutOfMemory, User};
+use jb_base::{MOST_TEXT_BYTES, OutOfMemory, User};
 use jb_decide::{
     AreaError, Decided, Pending, decide_kill, decide_mark, decide_pack, decide_peek, decide_post,
-    decide_read, decide_relink,
+    decide_read, decide_relink, refuse_pack,
 };
 use jb_disk::{Disk, Redo};
 use jb_journal::Stopped;
 use jb_model::Reply;
+use jb_pack::PackError;
 use jb_step::Draft;
 use std::alloc::Global;
 
 impl<D: Disk> OpenArea<D> {
-    ghost use Rattle.jb_base.specs.declared.limits.TheConstants.{MOST_NAME_BYTES};
+    ghost use Rattle.std.specs.Prelude.{List, IfOk, OnOk, true, false};
+    ghost use Rattle.jb_base.specs.declared.limits.TheConstants.{MOST_NAME_BYTES, MOST_TEXT_BYTES, TEXTS_CEILING};
+    ghost use Rattle.jb_base.specs.declared.user.User.{User};
+    ghost use Rattle.jb_decide.specs.Packs.{MayPack, is_pack_refused};
     ghost use Rattle.jb_model.specs.declared.command.Command.TheVariants.{Kill, Pack, Peek, Read, Relink, SetMark};
     ghost use Rattle.jb_step.specs.Draft.{draft_of, post_of};
-    ghost use Rattle.jb_area.specs.Area.{HasBegun, small_redo_of};
-    ghost use Rattle.jb_area.specs.Calls.{AnswersAs, BeginsCall, EndsCall, HasRest, MeetsCall, StartsAs, large_after};
+    ghost use Rattle.jb_pack.specs.Packed.{texts_size};
+    ghost use Rattle.jb_area.specs.Area.{HasBegun, HasNoChange, IsResting, copied_of, loaded_of, rules_of, small_redo_of};
+    ghost use Rattle.jb_area.specs.Calls.{AnswersAs, BeginsCall, BeginsReading, EndsCall, HasRest, MeetsCall, StartsAs, StepsPack, large_after};
+    ghost use Rattle.jb_area.specs.Copying.{AreAllCopied, HasCopiedSome};
 
     /// Begins a kill of the message with this number. It makes no device call, and takes no memory.
     pub(crate) fn begin_kill(&mut self, user: &User, number: u32)
@@ -77,6 +84,7 @@ impl<D: Disk> OpenArea<D> {
         ensures disk { self.new.disk ≡ self.old.disk }
         ensures rules { self.new.rules ≡ self.old.rules }
         ensures held { self.new.held ≡ self.old.held }
+        ensures packer { self.new.packer ≡ self.old.packer }
         ensures redo { self.new.redo ≡ self.old.redo }
         ensures large { self.new.large ≡ large_after decided large self.old.large }
     {
@@ -240,27 +248,119 @@ impl<D: Disk> OpenArea<D> {
         }
     }
 
-    /// Begins a pack.
+    /// Copies some of the texts that are left for a pack. Answers whether a text is left. After a fault of the device the area
+    /// is in doubt without a change.
+    fn copy(&mut self, alloc: Global, budget: u32) -> Result<bool, AreaError>
+        requires rests { HasRest D.device self.old }
+        requires fits { texts_size (loaded_of self.old).slots ≤ TEXTS_CEILING }
+        ensures steps { StepsPack D.device self.old self.new result }
+        ensures copied { IfOk result (HasCopiedSome budget (loaded_of self.old).slots (copied_of self.old) (copied_of self.new)) }
+    {
+        match copy_some(
+            alloc,
+            &mut self.disk,
+            &mut self.packer,
+            self.held.loaded(),
+            budget,
+        ) {
+            Ok(more) => Ok(more),
+            Err(PackError::StoreFault) => {
+                self.stage = Stage::Copying;
+                Err(AreaError::StoreFault)
+            }
+            Err(PackError::OutOfMemory) => Err(AreaError::OutOfMemory),
+        }
+    }
+
+    /// A step of a pack: copies some of the texts into .NDT, whole ones in the order of their numbers, as long as together they
+    /// have no more bytes than the budget, and syncs .NDT. Answers whether a text is left. Where a pack would be refused it
+    /// answers false and changes nothing.
+    ///
+    /// Between two steps the area may be changed by any calls; those who pack it share the copies. A pack that comes then
+    /// copies what is left, so a crash or a fault costs no more than the copies. It takes memory for a part of the texts,
+    /// 1,048,576 bytes, which it gives back, and 12 bytes a slot, which go with the pack.
+    pub fn pack_some(&mut self, alloc: Global, user: &User, budget: u32) -> Result<bool, AreaError>
+        requires rests { HasRest D.device self.old }
+        requires budget { MOST_TEXT_BYTES ≤ budget }
+        ensures steps { StepsPack D.device self.old self.new result }
+
+        // Where a pack would be refused nothing is done.
+        ensures refused { (texts : List ℕ) → IsResting D.device self.old texts → is_pack_refused (rules_of self.old) texts (loaded_of self.old) user.now ≡ true
+            → (result ≡ Ok false) × (self.new ≡ self.old) }
+
+        // Else texts are copied.
+        ensures copied { IfOk result (λ more. (texts : List ℕ) → IsResting D.device self.old texts → is_pack_refused (rules_of self.old) texts (loaded_of self.old) user.now ≡ false
+            → HasCopiedSome budget (loaded_of self.old).slots (copied_of self.old) (copied_of self.new) more) }
+    {
+        match refuse_pack(&self.held, &self.rules, user) {
+            Some(_reply) => Ok(false),
+            None => self.copy(alloc, budget),
+        }
+    }
+
+    /// Copies all texts that are left, in parts. Each part has one text at least, and .NDT begins anew once at most, so this ends.
+    fn copy_all(&mut self, alloc: Global) -> Result<bool, AreaError>
+        requires rests { HasRest D.device self.old }
+        requires fits { texts_size (loaded_of self.old).slots ≤ TEXTS_CEILING }
+        ensures steps { StepsPack D.device self.old self.new result }
+        ensures all { OnOk result (AreAllCopied (loaded_of self.new).slots (copied_of self.new)) }
+    {
+        let mut more = true;
+        while more {
+            match self.copy(alloc, MOST_TEXT_BYTES) {
+                Ok(left) => more = left,
+                Err(error) => return Err(error),
+            }
+        }
+        Ok(more)
+    }
+
+    /// Begins a pack of which each text is copied.
+    fn begin_copied(&mut self, alloc: Global) -> Result<(), AreaError>
+        requires rests { HasRest D.device self.old }
+        requires all { AreAllCopied (loaded_of self.old).slots (copied_of self.old) }
+        ensures begins { (user : User) (moment : ℕ) → MayPack (rules_of self.old) (loaded_of self.old) user
+            → BeginsReading D.device self.old self.new user moment Pack result }
+        ensures changes { OnOk result (texts_size (loaded_of self.old).slots ≤ TEXTS_CEILING → HasNoChange self.new → ⊥) }
+        ensures room { small_redo_of self.new ≡ small_redo_of self.old }
+    {
+        let mut large = Redo::new(alloc);
+        let Some(packer) = &self.packer else {
+            unreachable!()
+        };
+        let decided = match decide_pack(alloc, &self.disk, &self.held, packer, &mut large) {
+            Ok(decided) => Ok(decided),
+            Err(OutOfMemory) => Err(AreaError::OutOfMemory),
+        };
+        self.start(decided, Some(large))
+    }
+
+    /// Begins a pack: copies the texts that are left, and takes all else that it needs.
     pub(crate) fn begin_pack(&mut self, alloc: Global, user: &User) -> Result<(), AreaError>
         requires rests { HasRest D.device self.old }
         ensures begins { (moment : ℕ) → BeginsCall D.device self.old self.new user.now moment Pack result }
         ensures room { small_redo_of self.new ≡ small_redo_of self.old }
     {
-        let mut large = Redo::new(alloc);
-        let decided = decide_pack(
-            alloc,
-            &mut self.disk,
-            &self.held,
-            &self.rules,
-            &mut large,
-            user,
-        );
-        self.start(decided, Some(large))
+        match refuse_pack(&self.held, &self.rules, user) {
+            Some(reply) => {
+                self.stage = Stage::Begun {
+                    reply,
+                    pending: Pending::Nothing,
+                };
+                Ok(())
+            }
+            None => match self.copy_all(alloc) {
+                Ok(_none) => self.begin_copied(alloc),
+                Err(error) => Err(error),
+            },
+        }
     }
 
     /// Packs the area: killed messages are dropped, the numbers below the lowest live one are cut off, and headers, index and
-    /// texts are written anew without a gap, with the reply links computed anew. Every live message keeps its number. The memory
-    /// that it takes, that of the new files, goes with it.
+    /// texts are written anew without a gap, with the reply links computed anew. Every live message keeps its number. The texts
+    /// that [`pack_some`](OpenArea::pack_some) left are copied into .NDT first, in parts of 1,048,576 bytes, so .JNL is short
+    /// however long they are. The memory that it takes, that of the new headers and index, of one part and of the copies, goes
+    /// with it.
     pub fn pack(&mut self, alloc: Global, user: &User) -> Result<Reply, AreaError>
         requires rests { HasRest D.device self.old }
         ensures meets { (moment : ℕ) → MeetsCall D.device self.old self.new user.now moment Pack result }

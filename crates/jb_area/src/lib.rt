@@ -13,14 +13,17 @@
 //!
 //! No call writes more than what changed. A kill writes 12 bytes of .JHR, a mark 16 of .JLR, a reading 20 of .JHR after one
 //! read of .JDT; a post its header and subfields, its text, one index record and 20 bytes of .JHR at most beside; a relink
-//! 12 bytes for each message whose links are others. A pack reads the texts of the live messages and writes all of .JHR,
-//! .JDX and .JDT as they are then. None of them grows with the area but these two. Each is one commit of `jb_journal`.
+//! 12 bytes for each message whose links are others. A pack writes all of .JHR, .JDX and .JDT as they are then, after it has
+//! copied the texts of the live messages into .NDT that are not there yet. None of them grows with the area but these two. Each is
+//! one commit of `jb_journal`. [`OpenArea::pack_some`] copies some of the texts before, between the calls of others, and commits
+//! nothing.
 #![tactic(auto)]
 
 mod area;
 mod calls;
 mod commands;
 mod committing;
+mod copying;
 mod opening;
 mod stage;
 

@@ -65,6 +65,7 @@ impl<D: Disk> OpenArea<D> {
             held,
             redo,
             large: None,
+            packer: None,
             stage: Stage::Resting,
         })
     }

@@ -13,4 +13,6 @@ pub(crate) enum Stage {
     Begun { reply: Reply, pending: Pending },
     /// A call was stopped by a fault of the device; where it had a change, its commit was stopped there.
     Doubtful { stopped: Stopped, pending: Pending },
+    /// A copying of texts was stopped by a fault, and .NDT may be unsynced.
+    Copying,
 }

@@ -1,23 +1,34 @@
 -- What a change makes of an area, as what it brings.
-use Rattle.std.proofs.Common.{ℕ, List, [], ◌++◌, ap, ◌∙◌, subst}
-use Rattle.std.proofs.lemmas.List.{append-nil}
+use Rattle.std.proofs.Common.{◌≡◌, ℕ, List, [], ◌++◌, length, take, Option, ap, ◌∙◌, subst, arith}
+use Rattle.std.proofs.lemmas.List.{append-nil, take_all, take-append-le}
 use Rattle.jb_change.specs.Makes.{Makes}
 use Rattle.jb_disk.specs.Change.{Change}
 use Rattle.jb_model.specs.declared.loaded.Loaded.{Loaded}
+use Rattle.jb_pack.specs.Shadow.{Shadow}
 use Rattle.jb_decide.specs.Coming.{BringsComing}
 
 -- with these bytes behind the texts
-pub brings : (change : Change) (from to : Loaded) (texts text : List ℕ) → Makes change from to text → BringsComing change from texts (record { to = to; texts = texts ++ text })
-brings change from to texts text makes = record {
-  legal = λ files holds. makes.legal files holds.loads;
-  grown = λ files holds. makes.grown files holds.loads;
-  made = λ files holds. record {
-    loads = (makes.made files holds.loads).loads;
-    texts_are = (makes.made files holds.loads).texts ∙ ap (λ (t : List ℕ). t ++ text) holds.texts_are;
+pub brings : (change : Change) (from to : Loaded) (texts text : List ℕ) (copies : Option Shadow) → Makes change from to text
+    → BringsComing change from texts copies (record { to = to; texts = texts ++ text })
+brings change from to texts text copies makes = record {
+  legal = λ files has. makes.legal files has.holds.loads;
+  grown = λ files has. makes.grown files has.holds.loads;
+  made = λ files has. record {
+    loads = (makes.made files has.holds.loads).loads;
+    texts_are = (makes.made files has.holds.loads).texts ∙ ap (λ (t : List ℕ). t ++ text) has.holds.texts_are;
   };
 }
 
 -- with the texts as they are
-pub brings_same : (change : Change) (from to : Loaded) (texts : List ℕ) → Makes change from to [] → BringsComing change from texts (record { to = to; texts = texts })
-brings_same change from to texts makes =
-    subst (λ (after : List ℕ). BringsComing change from texts (record { to = to; texts = after })) (append-nil texts) (brings change from to texts [] makes)
+pub brings_same : (change : Change) (from to : Loaded) (texts : List ℕ) (copies : Option Shadow) → Makes change from to []
+    → BringsComing change from texts copies (record { to = to; texts = texts })
+brings_same change from to texts copies makes =
+    subst (λ (after : List ℕ). BringsComing change from texts copies (record { to = to; texts = after })) (append-nil texts) (brings change from to texts [] copies makes)
+
+-- texts that stay begin with themselves
+pub keeps_same : (texts : List ℕ) → take (length texts) texts ≡ texts
+keeps_same texts = take_all (length texts) texts (omega arith)
+
+-- and so do texts with others behind them
+pub keeps_more : (texts text : List ℕ) → take (length texts) (texts ++ text) ≡ texts
+keeps_more texts text = take-append-le (length texts) texts text (omega arith) ∙ keeps_same texts

@@ -51,8 +51,9 @@ use Rattle.jb_step.specs.declared.kills.Killing.{Killing}
 use Rattle.jb_decide.specs.Decided.{ChangesNothing, IsDecided, IsLook, IsTold, made}
 use Rattle.jb_decide.specs.Headers.{KeepsHeaders, PacksHeaders, Updates}
 use Rattle.jb_decide.proofs.HeaderLemmas.{keeps_all, keeps_headers}
-use Rattle.jb_decide.proofs.BringLemmas.{brings_same}
-use Rattle.jb_decide.specs.Pending.{IsFit, MayApply, after, headed_at, live_after}
+use Rattle.jb_decide.proofs.BringLemmas.{brings_same, keeps_same}
+use Rattle.jb_decide.specs.Packs.{IsPacked}
+use Rattle.jb_decide.specs.Pending.{IsFit, IsPacking, MayApply, after, headed_at, live_after}
 use Rattle.jb_decide.specs.declared.decided.Decided.{Decided}
 use Rattle.jb_decide.specs.declared.pending.Pending.{Pending}
 use Rattle.jb_decide.specs.declared.pending.Pending.TheVariants.{Nothing, Counted, Marked}
@@ -75,23 +76,31 @@ no_lengths_legal lengths none = subst AreLegalLengths (sym none) (record { few =
 pub small_writable : (change : Change) → change.lengths ≡ [] → 16 + record_size change ≤ JOURNAL_CEILING → IsWritable change
 small_writable change none small = record { lengths_are = no_lengths_legal change.lengths none; short = small }
 
--- a refusal is no answer of a pack that was done
-pub no_pack : (answer : Reply) → is_refusal answer ≡ true → (to : Loaded) (files : Files) → PacksHeaders answer to files
-no_pack (reply.Packed base live dropped) refusal to files = absurd (false≢true refusal)
-no_pack (reply.Posted number) refusal to files = tt
-no_pack (reply.Text letter) refusal to files = tt
-no_pack (reply.Killed number) refusal to files = tt
-no_pack (reply.Marked last high) refusal to files = tt
-no_pack (reply.Relinked changed) refusal to files = tt
-no_pack (reply.Denied rule) refusal to files = tt
-no_pack (reply.NoMessage number) refusal to files = tt
-no_pack (reply.TooLong field len) refusal to files = tt
-no_pack (reply.EmptyName field) refusal to files = tt
-no_pack (reply.SlotsFull slots) refusal to files = tt
-no_pack (reply.HeadersFull len) refusal to files = tt
-no_pack (reply.TextFull len) refusal to files = tt
-no_pack (reply.NumbersSpent next) refusal to files = tt
-no_pack (reply.MarksFull marks) refusal to files = tt
+-- an answer that differs from each of a pack that was done is none
+pub not_packed : (answer : Reply) → ((base live dropped : ℕ) → answer ≡ reply.Packed base live dropped → ⊥) → IsPacked answer → ⊥
+not_packed answer other packed = other packed.base packed.live packed.dropped packed.is
+
+-- nor is a refusal one
+pub no_pack : (answer : Reply) → is_refusal answer ≡ true → IsPacked answer → ⊥
+no_pack answer refusal packed = false≢true (sym (ap is_refusal packed.is) ∙ refusal)
+
+-- no other answer says how headers stand
+none_packed : (answer : Reply) → (IsPacked answer → ⊥) → (to : Loaded) (files : Files) → PacksHeaders answer to files
+none_packed (reply.Packed base live dropped) other to files = absurd (other (record { base = base; live = live; dropped = dropped; is = refl }))
+none_packed (reply.Posted number) other to files = tt
+none_packed (reply.Text letter) other to files = tt
+none_packed (reply.Killed number) other to files = tt
+none_packed (reply.Marked last high) other to files = tt
+none_packed (reply.Relinked changed) other to files = tt
+none_packed (reply.Denied rule) other to files = tt
+none_packed (reply.NoMessage number) other to files = tt
+none_packed (reply.TooLong field len) other to files = tt
+none_packed (reply.EmptyName field) other to files = tt
+none_packed (reply.SlotsFull slots) other to files = tt
+none_packed (reply.HeadersFull len) other to files = tt
+none_packed (reply.TextFull len) other to files = tt
+none_packed (reply.NumbersSpent next) other to files = tt
+none_packed (reply.MarksFull marks) other to files = tt
 
 -- a command that is answered, does not look, and is no relink that finds no wrong link changes something
 pub something : (command : Command) (answer : Reply) → is_refusal answer ≡ false → (IsLook command → ⊥) → (answer ≡ reply.Relinked 0 → ⊥) → ChangesNothing command answer → ⊥
@@ -102,17 +111,19 @@ something command answer done acts links (inr (inr none)) = links none
 -- a reply that leaves the area as it is
 pub unchanged_decided : (rules : AreaRules) (from : Loaded) (texts : List ℕ) (contents : Option Files) (redo : Change) (user : User) (moment : ℕ) (command : Command) (decided : Decided) (answer : Reply)
     → decided.reply ≡ answer → decided.pending ≡ Nothing
-    → ((to : Loaded) (files : Files) → PacksHeaders answer to files)
+    → (IsPacked answer → ⊥)
     → (IsTold answer contents → Step rules (state_of texts from) user moment command answer (state_of texts from))
-    → IsDecided rules from texts contents redo user moment command decided
-unchanged_decided rules from texts contents redo user moment command decided answer reply none packs step = record {
+    → IsDecided rules from texts contents None redo user moment command decided
+unchanged_decided rules from texts contents redo user moment command decided answer reply none other step = record {
   coming = record { to = from; texts = texts };
   change = inl (record { none = none; same = refl });
   step = λ told. subst (λ (r : Reply). Step rules (state_of texts from) user moment command r (state_of texts from)) (sym reply)
       (step (subst (λ (r : Reply). IsTold r contents) reply told));
   idle = λ nothing. record { none = none; same = refl };
   headers = λ same files holds. subst (λ (p : Pending). KeepsHeaders decided.reply from from files (made p redo files)) (sym none) (keeps_all decided.reply from files);
-  packs = λ files holds. subst (λ (r : Reply). PacksHeaders r from (made decided.pending redo files)) (sym reply) (packs from (made decided.pending redo files));
+  kind = λ no packing. subst IsPacking none packing;
+  packing = λ packed. absurd (other (subst IsPacked reply packed));
+  packs = λ files holds. subst (λ (r : Reply). PacksHeaders r from (made decided.pending redo files)) (sym reply) (none_packed answer other from (made decided.pending redo files));
 }
 
 -- what holds where files are told holds of a letter that is told
@@ -141,7 +152,7 @@ pub kill_decided : (rules : AreaRules) (from : Loaded) (texts : List ℕ) (conte
     → ((place : ℕ) (message : LoadedMessage) → IsMessageAt from place message → message.header_at ≡ killing.header_at
     → Updates redo from (with_counts counter active (with_killed_at place message from)) [])
     → IsWritable redo
-    → IsDecided rules from texts contents redo user moment (Kill number) (record { reply = reply.Killed number; pending = Counted (slots.Killed killing.place killing.header_at) counter active })
+    → IsDecided rules from texts contents None redo user moment (Kill number) (record { reply = reply.Killed number; pending = Counted (slots.Killed killing.place killing.header_at) counter active })
 kill_decided rules from texts contents redo user moment number counter active killing is before sized counted live makes writable =
     let to = after_kill killing.place is.message from in
     let same : with_counts counter active (with_killed_at killing.place is.message from) ≡ to =
@@ -156,18 +167,22 @@ kill_decided rules from texts contents redo user moment number counter active ki
         some = counted_some (slots.Killed killing.place killing.header_at) counter active;
         becomes = becomes;
         change = record {
-          brings = λ files there. brings_same redo from to texts updates.makes;
+          brings = λ files there. brings_same redo from to texts None updates.makes;
           writable = writable;
         };
         may = may_apply (Counted (slots.Killed killing.place killing.header_at) counter active) from to rules.slots becomes
             (slice_get_within from.slots killing.place _ is.named.here) (is.sound before) (omega (arith, fewer, live));
         sound = is.sound before;
         sized = sized;
+        grows = keeps_same texts;
+        short = tt;
       });
       step = λ told. is.step texts moment;
       idle = λ nothing. absurd (something (Kill number) (reply.Killed number) refl (λ look. look) (λ links. cc) nothing);
+      kind = λ no packing. packing;
+      packing = λ packed. absurd (not_packed (reply.Killed number) (λ base live dropped is. cc) packed);
       packs = λ files holds. tt;
-      headers = λ same files holds. keeps_headers (reply.Killed number) redo from to [] updates (length-set from.slots killing.place _) files holds.loads;
+      headers = λ same files holds. keeps_headers (reply.Killed number) redo from to [] updates (length-set from.slots killing.place _) files holds.holds.loads;
     }
 
 -- a mark is to be set
@@ -196,7 +211,7 @@ room_is user mark marks crc id room =
 pub mark_decided : (rules : AreaRules) (from : Loaded) (texts : List ℕ) (contents : Option Files) (redo : Change) (user : User) (moment number : ℕ) (mark : Mark) (place : Option ℕ) → IsMarking rules from user number mark
     → IsSound rules.slots from → length texts ≡ from.texts_len → IsPlaceOf mark.user_crc mark.user_id from.marks place
     → Updates redo from (with_marks (with_mark mark from.marks) from) [] → IsWritable redo
-    → IsDecided rules from texts contents redo user moment (SetMark number) (record { reply = reply.Marked mark.last mark.high; pending = Marked place mark })
+    → IsDecided rules from texts contents None redo user moment (SetMark number) (record { reply = reply.Marked mark.last mark.high; pending = Marked place mark })
 mark_decided rules from texts contents redo user moment number mark place is before sized placed makes writable =
     let to = with_marks (with_mark mark from.marks) from in
     let room = room_is user mark from.marks is.user_crc is.user_id is.room in
@@ -205,15 +220,19 @@ mark_decided rules from texts contents redo user moment number mark place is bef
       change = inr (record {
         some = marked_some place mark;
         becomes = refl;
-        change = record { brings = λ files there. brings_same redo from to texts makes.makes; writable = writable };
+        change = record { brings = λ files there. brings_same redo from to texts None makes.makes; writable = writable };
         may = may_apply (Marked place mark) from to rules.slots refl (placed, mark_room mark.user_crc mark.user_id from.marks place placed room) (is.sound before) refl;
         sound = is.sound before;
         sized = sized;
+        grows = keeps_same texts;
+        short = tt;
       });
       step = λ told. is.step texts moment;
       idle = λ nothing. absurd (something (SetMark number) (reply.Marked mark.last mark.high) refl (λ look. look) (λ links. cc) nothing);
+      kind = λ no packing. packing;
+      packing = λ packed. absurd (not_packed (reply.Marked mark.last mark.high) (λ base live dropped is. cc) packed);
       packs = λ files holds. tt;
-      headers = λ same files holds. keeps_headers (reply.Marked mark.last mark.high) redo from to [] makes refl files holds.loads;
+      headers = λ same files holds. keeps_headers (reply.Marked mark.last mark.high) redo from to [] makes refl files holds.holds.loads;
     }
 
 -- the slot at a place, from the message that stands there
@@ -254,7 +273,7 @@ pub read_decided : (rules : AreaRules) (from : Loaded) (texts : List ℕ) (conte
     → ForSome contents (λ files. letter ≡ letter_of number (with_text texts (step_head reading.head is.message)))
     → Updates redo from (with_counts counter active (with_head_at reading.place reading.head is.message from)) []
     → IsWritable redo
-    → IsDecided rules from texts contents redo user moment (Read number) (record { reply = reply.Text letter; pending = Counted (slots.Headed reading.place reading.head) counter active })
+    → IsDecided rules from texts contents None redo user moment (Read number) (record { reply = reply.Text letter; pending = Counted (slots.Headed reading.place reading.head) counter active })
 read_decided rules from texts contents redo user moment number counter active reading letter is before sized counted live shown makes writable =
     let to = after_reading reading.place reading.head is.message from in
     let same : with_counts counter active (with_head_at reading.place reading.head is.message from) ≡ to =
@@ -268,18 +287,22 @@ read_decided rules from texts contents redo user moment number counter active re
       change = inr (record {
         some = counted_some (slots.Headed reading.place reading.head) counter active;
         becomes = becomes;
-        change = record { brings = λ files there. brings_same redo from to texts updates.makes; writable = writable };
+        change = record { brings = λ files there. brings_same redo from to texts None updates.makes; writable = writable };
         may = may_apply (Counted (slots.Headed reading.place reading.head) counter active) from to rules.slots becomes
             (record { message = is.message; here = is.named.here; reply_to = ap (λ (h : Head). h.reply_to) is.head ∙ reading_keeps_parent user moment is.message })
             (is.sound before) (as_many ∙ sym live);
         sound = is.sound before;
         sized = sized;
+        grows = keeps_same texts;
+        short = tt;
       });
       step = λ told. subst (λ (l : Letter). Step rules (state_of texts from) user moment (Read number) (reply.Text l) (state_of texts to))
           (sym (of_letter contents letter _ told shown)) (is.step texts);
       idle = λ nothing. absurd (something (Read number) (reply.Text letter) refl (λ look. look) (λ links. cc) nothing);
+      kind = λ no packing. packing;
+      packing = λ packed. absurd (not_packed (reply.Text letter) (λ base live dropped is. cc) packed);
       packs = λ files holds. tt;
-      headers = λ same files holds. keeps_headers (reply.Text letter) redo from to [] updates (length-set from.slots reading.place _) files holds.loads;
+      headers = λ same files holds. keeps_headers (reply.Text letter) redo from to [] updates (length-set from.slots reading.place _) files holds.holds.loads;
     }
 
 -- a reading changes three fields alone

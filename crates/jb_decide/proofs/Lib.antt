@@ -1,5 +1,6 @@
 pub mod AgreeLemmas
 pub mod BringLemmas
+pub mod CopiesLemmas
 pub mod DecidedLemmas
 mod HeaderLemmas
 mod IndexLemmas

@@ -28,16 +28,18 @@ use Rattle.jb_model.specs.declared.loaded.LoadedSlot.{LoadedSlot}
 use Rattle.jb_model.specs.declared.loaded.LoadedSlot.TheVariants.{Empty, Killed, Live}
 use Rattle.jb_model.specs.declared.reply.Reply.{Reply}
 use Rattle.jb_model.specs.declared.reply.Reply.TheVariants as reply
-use Rattle.jb_pack.proofs.PlanLemmas.{refused_full}
+use Rattle.jb_pack.proofs.PlanLemmas.{not_refused, refused_full}
 use Rattle.jb_pack.proofs.SoundLemmas.{packed_sound}
 use Rattle.jb_pack.proofs.StateLemmas.{base_packed, kept_within, length-text, live_of_state, state_packed, sum_of_kept}
 use Rattle.jb_pack.specs.Packed.{is_live_slot, kept_slots, moved, new_base, packed, packed_from, packed_texts, slot_text_size, texts_in, texts_size}
-use Rattle.jb_pack.specs.Plan.{AnswersPack, IsPackOf}
+use Rattle.jb_pack.specs.Finish.{HoldsWithCopies, IsPackOfCopies}
+use Rattle.jb_pack.specs.Plan.{AnswersPack}
+use Rattle.jb_pack.specs.Shadow.{Shadow}
 use Rattle.jb_pack.specs.declared.packing.Packing.TheVariants.{Fits, TextFull}
 use Rattle.jb_replies.specs.Index.{IsIndexOf, ReplyIndex}
 use Rattle.jb_step.specs.After.{live_messages}
 use Rattle.jb_decide.specs.Decided.{IsDecided}
-use Rattle.jb_decide.specs.Holds.{AreTexts}
+use Rattle.jb_decide.specs.Holds.{HoldsWith}
 use Rattle.jb_decide.proofs.DecidedLemmas.{may_apply, something}
 use Rattle.jb_decide.specs.declared.pending.Pending.TheVariants.{Nothing, Packed}
 
@@ -121,7 +123,7 @@ base_answered loaded texts base live dropped answer = same (sym answer.1) ∙ ba
     same is = cc
 
 -- something changes
-packed_some : (plan : List Links) (base : ℕ) (replies : ReplyIndex) → Packed plan base replies ≢ Nothing
+pub packed_some : (plan : List Links) (base : ℕ) (replies : ReplyIndex) → Packed plan base replies ≢ Nothing
 packed_some plan base replies is = cc
 
 -- the sysop is answered as a pack of the state says
@@ -138,22 +140,32 @@ full_step rules state user len allowed full =
     ap (λ (r : Option Rule). unless_denied state r (unless_refused state (pack_refusal state) (pack_done state))) allowed
     ∙ ap (λ (r : Option Reply). unless_refused state r (pack_done state)) full
 
+-- but not where they fit
+pub not_full : (limit : ℕ) (loaded : Loaded) (texts : List ℕ) (len : ℕ) → IsSound limit loaded → length texts ≡ loaded.texts_len → texts_size loaded.slots ≤ TEXTS_CEILING
+    → AnswersPack (state_of texts loaded) (TextFull len) → ⊥
+not_full limit loaded texts len sound size fits full = none_some (reply.TextFull len) (sym (not_refused limit loaded sound texts size fits) ∙ full)
+  where
+    none_some : (answer : Reply) → None ≡ Some answer → ⊥
+    none_some answer is = cc
+
 -- a user who may not
 pub denied_step : (rules : AreaRules) (state : AreaState) (user : User) (rule : Rule) → first_refusal user rules Tending None ≡ Some rule
     → pack_step rules state user ≡ refused state (reply.Denied rule)
 denied_step rules state user rule denied =
     ap (λ (r : Option Rule). unless_denied state r (unless_refused state (pack_refusal state) (pack_done state))) denied
 
--- a pack
-pub pack_decided : (rules : AreaRules) (from : Loaded) (texts : List ℕ) (contents : Option Files) (redo : Change) (user : User) (moment base live dropped : ℕ) (plan : List Links) (replies : ReplyIndex)
-    → first_refusal user rules Tending None ≡ None → IsSound rules.slots from → rules.slots ≤ MOST_SLOTS → AreTexts from texts contents
-    → AnswersPack (state_of texts from) (Fits base live dropped) → IsPackOf contents from redo → plan ≡ plan_of (linkables_from from.base from.slots)
+-- a pack, out of the copies of all texts
+pub pack_decided : (rules : AreaRules) (from : Loaded) (texts : List ℕ) (contents : Option Files) (shadow : Shadow) (redo : Change) (user : User) (moment base live dropped : ℕ) (plan : List Links) (replies : ReplyIndex)
+    → first_refusal user rules Tending None ≡ None → IsSound rules.slots from → rules.slots ≤ MOST_SLOTS → length texts ≡ from.texts_len
+    → AnswersPack (state_of texts from) (Fits base live dropped) → IsPackOfCopies from shadow redo → plan ≡ plan_of (linkables_from from.base from.slots)
     → IsIndexOf replies (packed from) → length (packed from).slots + replies.room ≡ MOST_SLOTS
-    → IsDecided rules from texts contents redo user moment Pack (record { reply = reply.Packed base live dropped; pending = Packed plan base replies })
-pack_decided rules from texts contents redo user moment base live dropped plan replies allowed sound few are answer is links index room =
+    → IsDecided rules from texts contents (Some shadow) redo user moment Pack (record { reply = reply.Packed base live dropped; pending = Packed plan base replies })
+pack_decided rules from texts contents shadow redo user moment base live dropped plan replies allowed sound few size answer is links index room =
     let state : AreaState = state_of texts from in
-    let fits : texts_size (kept_slots from) ≤ TEXTS_CEILING = fits_when rules.slots from texts sound are.sized answer.0 in
+    let fits : texts_size (kept_slots from) ≤ TEXTS_CEILING = fits_when rules.slots from texts sound size answer.0 in
     let brings = is.brings in
+    let both : (files : Files) → HoldsWith from texts (Some shadow) files → HoldsWithCopies from shadow files =
+    λ files has. record { loads = has.holds.loads; has = has.has } in
     record {
       coming = record { to = packed from; texts = packed_texts texts from };
       change = inr (record {
@@ -161,11 +173,11 @@ pack_decided rules from texts contents redo user moment base live dropped plan r
         becomes = refl;
         change = record {
           brings = λ own told. record {
-            legal = λ files holds. brings.legal files holds.loads;
-            grown = λ files holds. brings.grown files holds.loads;
-            made = λ files holds. record {
-              loads = (brings.made files holds.loads).loads;
-              texts_are = (brings.made files holds.loads).texts_are ∙ is.told own told ∙ ap (λ (t : List ℕ). packed_texts t from) (are.told own told);
+            legal = λ files has. brings.legal files (both files has);
+            grown = λ files has. brings.grown files (both files has);
+            made = λ files has. record {
+              loads = (brings.made files (both files has)).loads;
+              texts_are = (brings.made files (both files has)).texts_are ∙ ap (λ (t : List ℕ). packed_texts t from) has.holds.texts_are;
             };
           };
           writable = is.writable;
@@ -181,11 +193,15 @@ pack_decided rules from texts contents redo user moment base live dropped plan r
             })
             (packed_sound rules.slots from sound fits) (live_stays from);
         sound = packed_sound rules.slots from sound fits;
-        sized = length-texts from.headers_len from.texts_len texts (kept_slots from) are.sized (kept_within rules.slots texts from sound are.sized);
+        sized = length-texts from.headers_len from.texts_len texts (kept_slots from) size (kept_within rules.slots texts from sound size);
+        grows = tt;
+        short = is.short;
       });
       step = λ told. step_of rules state user _ allowed answer.0
-          ((λ i. record { reply = answer.1 i; state = packed_state state }) ∙ ap (λ (s : AreaState). record { reply = reply.Packed base live dropped; state = s }) (sym (state_packed rules.slots texts from sound are.sized)));
+          ((λ i. record { reply = answer.1 i; state = packed_state state }) ∙ ap (λ (s : AreaState). record { reply = reply.Packed base live dropped; state = s }) (sym (state_packed rules.slots texts from sound size)));
       idle = λ nothing. absurd (something Pack (reply.Packed base live dropped) refl (λ look. look) (λ links. cc) nothing);
-      headers = λ none files holds. absurd none;
-      packs = λ files holds. (brings.made files holds.loads).together;
+      kind = λ none packing. none;
+      packing = λ packed. tt;
+      headers = λ none files has. absurd none;
+      packs = λ files has. (brings.made files (both files has)).together;
     }

@@ -28,8 +28,8 @@ use Rattle.jb_step.specs.Neighbour.{IsLinkedBy, IsRelinkOf}
 use Rattle.jb_step.specs.Post.{IsPosting}
 use Rattle.jb_step.specs.declared.neighbours.Neighbour.{Neighbour}
 use Rattle.jb_step.specs.declared.posts.Posting.{Posting}
-use Rattle.jb_decide.proofs.BringLemmas.{brings}
-use Rattle.jb_decide.proofs.DecidedLemmas.{counted_some, headed_is, may_apply, something}
+use Rattle.jb_decide.proofs.BringLemmas.{brings, keeps_more}
+use Rattle.jb_decide.proofs.DecidedLemmas.{counted_some, headed_is, may_apply, not_packed, something}
 use Rattle.jb_decide.specs.Decided.{IsDecided}
 use Rattle.jb_decide.specs.Headers.{StandsBehind, Updates}
 use Rattle.jb_decide.proofs.HeaderLemmas.{last_message}
@@ -122,7 +122,7 @@ pub post_decided : (rules : AreaRules) (from : Loaded) (texts : List ℕ) (conte
     → length texts ≡ from.texts_len
     → Updates redo from (with_counts counter active (with_message_behind posting.message (linked_by posting.neighbour from))) draft.text
     → HasNextNumber redo from posting.message → IsWritable redo
-    → IsDecided rules from texts contents redo user moment (post_of draft) (record { reply = reply.Posted posting.number; pending = Counted (slots.Posted posting.message size posting.neighbour) counter active })
+    → IsDecided rules from texts contents None redo user moment (post_of draft) (record { reply = reply.Posted posting.number; pending = Counted (slots.Posted posting.message size posting.neighbour) counter active })
 post_decided rules from texts contents redo user moment counter active size draft posting is before few name address counted live sized as_long makes numbered writable =
     let to : Loaded = after_post posting.message is.linked in
     let same : with_counts counter active (with_message_behind posting.message (linked_by posting.neighbour from)) ≡ to =
@@ -139,7 +139,7 @@ post_decided rules from texts contents redo user moment counter active size draf
       change = inr (record {
         some = counted_some (slots.Posted posting.message size posting.neighbour) counter active;
         becomes = sym same;
-        change = record { brings = λ files there. brings redo from to texts draft.text updates.makes; writable = writable };
+        change = record { brings = λ files there. brings redo from to texts draft.text None updates.makes; writable = writable };
         may = may_apply (Counted (slots.Posted posting.message size posting.neighbour) counter active) from to rules.slots (sym same) (
           link_fit posting.neighbour from is.linked is.written,
           omega (arith, slot, few),
@@ -152,14 +152,18 @@ post_decided rules from texts contents redo user moment counter active size draf
             (is.sound before name address) (is.live ∙ sym live);
         sound = is.sound before name address;
         sized = omega (arith, length-append texts draft.text, as_long, linked, text_len);
+        grows = keeps_more texts draft.text;
+        short = tt;
       });
       step = λ told. is.step before texts as_long;
       idle = λ nothing. absurd (something (post_of draft) (reply.Posted posting.number) refl (λ look. look) (λ links. cc) nothing);
+      kind = λ no packing. packing;
+      packing = λ packed. absurd (not_packed (reply.Posted posting.number) (λ base live dropped is. cc) packed);
       packs = λ files holds. tt;
       headers = λ same files holds. record {
         places = updates.places;
-        numbers = updates.numbers files holds.loads;
-        behind = λ place message past here. stands from posting is.linked redo files message is.number is.header_at is.text_at numbered holds.loads
+        numbers = updates.numbers files holds.holds.loads;
+        behind = λ place message past here. stands from posting is.linked redo files message is.number is.header_at is.text_at numbered holds.holds.loads
             (last_message is.linked.slots place posting.message message (omega (arith, past, as_many)) here);
       };
     }

@@ -28,8 +28,8 @@ use Rattle.jb_step.proofs.NeighbourLemmas.{named_at_place}
 use Rattle.jb_step.specs.After.{live_messages, next_counter}
 use Rattle.jb_step.specs.Relink.{IsPlaced, IsRelinking, after_relink, with_links_in, with_links_of}
 use Rattle.jb_step.specs.declared.relinks.Relinking.{Relinking}
-use Rattle.jb_decide.proofs.BringLemmas.{brings_same}
-use Rattle.jb_decide.proofs.DecidedLemmas.{counted_some, may_apply, something, within_is}
+use Rattle.jb_decide.proofs.BringLemmas.{brings_same, keeps_same}
+use Rattle.jb_decide.proofs.DecidedLemmas.{counted_some, may_apply, not_packed, something, within_is}
 use Rattle.jb_decide.specs.Decided.{IsDecided}
 use Rattle.jb_decide.specs.Headers.{Updates}
 use Rattle.jb_decide.specs.Links.{HasNearHeaders}
@@ -225,7 +225,7 @@ pub relink_decided : (rules : AreaRules) (from : Loaded) (texts : List ℕ) (con
     → IsRelinking rules from user relinking → IsSound rules.slots from → length texts ≡ from.texts_len → relinking.changed ≢ 0
     → counter ≡ next_counter from → active ≡ live_messages from
     → Updates redo from (with_counts counter active (with_links_of relinking.plan from)) [] → IsWritable redo
-    → IsDecided rules from texts contents redo user moment Relink (record { reply = reply.Relinked relinking.changed; pending = Counted (slots.Relinked relinking.plan) counter active })
+    → IsDecided rules from texts contents None redo user moment Relink (record { reply = reply.Relinked relinking.changed; pending = Counted (slots.Relinked relinking.plan) counter active })
 relink_decided rules from texts contents redo user moment counter active relinking is before sized some counted live makes writable =
     let to : Loaded = after_relink relinking.plan relinking.changed from in
     let linked : Loaded = with_links_of relinking.plan from in
@@ -238,7 +238,7 @@ relink_decided rules from texts contents redo user moment counter active relinki
       change = inr (record {
         some = counted_some (slots.Relinked relinking.plan) counter active;
         becomes = sym same;
-        change = record { brings = λ files there. brings_same redo from to texts updates.makes; writable = writable };
+        change = record { brings = λ files there. brings_same redo from to texts None updates.makes; writable = writable };
         may = may_apply (Counted (slots.Relinked relinking.plan) counter active) from to rules.slots (sym same)
             (record {
               placed = is.placed;
@@ -247,12 +247,16 @@ relink_decided rules from texts contents redo user moment counter active relinki
             (is.sound before) (is.live ∙ sym live);
         sound = is.sound before;
         sized = sized ∙ sym (texts_of relinking.plan from) ∙ ap (λ (l : Loaded). l.texts_len) same;
+        grows = keeps_same texts;
+        short = tt;
       });
       step = λ told. is.step texts moment;
       idle = λ nothing. absurd (something Relink (reply.Relinked relinking.changed) refl (λ look. look) (λ none. some (same_count relinking.changed 0 none)) nothing);
+      kind = λ no packing. packing;
+      packing = λ packed. absurd (not_packed (reply.Relinked relinking.changed) (λ base live dropped is. cc) packed);
       packs = λ files holds. tt;
       headers = λ same_places files holds. keeps_headers (reply.Relinked relinking.changed) redo from to [] updates
-          (ap (λ (l : Loaded). length l.slots) (sym same) ∙ length_of relinking.plan from) files holds.loads;
+          (ap (λ (l : Loaded). length l.slots) (sym same) ∙ length_of relinking.plan from) files holds.holds.loads;
     }
 
 -- links leave the marks

@@ -6,18 +6,19 @@ use Rattle.jb_disk.specs.Change.{Change}
 use Rattle.jb_disk.specs.Files.{Files}
 use Rattle.jb_journal.specs.Commit.{IsWritable}
 use Rattle.jb_model.specs.declared.loaded.Loaded.{Loaded}
-use Rattle.jb_decide.specs.Holds.{Holds}
+use Rattle.jb_pack.specs.Shadow.{Shadow}
+use Rattle.jb_decide.specs.Holds.{Holds, HoldsWith}
 
 -- an area to come: as it is loaded, and with all its texts
 pub record Coming : Type 0 where
   pub to : Loaded
   pub texts : List ℕ
 
--- of whatever files hold the area with these texts, the change makes files that hold what is to come
-abbrev pub BringsComing : Change → Loaded → List ℕ → Coming → Type 0
-BringsComing change from texts coming = Brings change (Holds from texts) (λ _. Holds coming.to coming.texts)
+-- of whatever files hold the area with these texts and these copies of them, the change makes files that hold what is to come
+abbrev pub BringsComing : Change → Loaded → List ℕ → Option Shadow → Coming → Type 0
+BringsComing change from texts copies coming = Brings change (HoldsWith from texts copies) (λ _. Holds coming.to coming.texts)
 
 -- where the disk tells its files, this redo brings what is to come; on each disk it can be committed
-pub record IsChange (contents : Option Files) (redo : Change) (from : Loaded) (texts : List ℕ) (coming : Coming) : Type 0 where
-  pub brings : ForSome contents (λ files. BringsComing redo from texts coming)
+pub record IsChange (contents : Option Files) (redo : Change) (from : Loaded) (texts : List ℕ) (copies : Option Shadow) (coming : Coming) : Type 0 where
+  pub brings : ForSome contents (λ files. BringsComing redo from texts copies coming)
   pub writable : IsWritable redo

@@ -1,10 +1,11 @@
--- What files hold of an area.
-use Rattle.std.specs.Prelude.{◌≡◌, ℕ, List, Option, length}
+-- What files hold of an area, and of the copies of its texts.
+use Rattle.std.specs.Prelude.{◌≡◌, ℕ, List, Option, None, Some, length}
 use Rattle.std.specs.Option.{ForSome}
 use Rattle.jb_disk.specs.Files.{Files}
 use Rattle.jb_disk.specs.declared.file.FileId.TheVariants.{Jdt}
 use Rattle.jb_image.specs.Stands.{Loads}
 use Rattle.jb_model.specs.declared.loaded.Loaded.{Loaded}
+use Rattle.jb_pack.specs.Shadow.{HasCopies, Shadow}
 
 -- the files hold this area, with these bytes in the file of texts
 pub record Holds (loaded : Loaded) (texts : List ℕ) (files : Files) : Type 0 where
@@ -15,3 +16,13 @@ pub record Holds (loaded : Loaded) (texts : List ℕ) (files : Files) : Type 0 w
 pub record AreTexts (loaded : Loaded) (texts : List ℕ) (contents : Option Files) : Type 0 where
   pub sized : length texts ≡ loaded.texts_len
   pub told : ForSome contents (λ files. files Jdt ≡ texts)
+
+-- what was copied of the texts stands in .NDT, where something was
+abbrev pub HasAll : Option Shadow → Files → Type 0
+HasAll None files = Unit {0}
+HasAll (Some shadow) files = HasCopies shadow files
+
+-- the files hold this area with these texts, and these copies of them
+pub record HoldsWith (loaded : Loaded) (texts : List ℕ) (copies : Option Shadow) (files : Files) : Type 0 where
+  pub holds : Holds loaded texts files
+  pub has : HasAll copies files

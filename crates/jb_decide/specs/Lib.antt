@@ -5,5 +5,6 @@ pub mod Headers
 pub mod Held
 pub mod Holds
 pub mod Links
+pub mod Packs
 pub mod Pending
 pub mod Ready

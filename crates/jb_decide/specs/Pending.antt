@@ -45,6 +45,13 @@ after (Counted change counter active) loaded = with_counts counter active (chang
 after (Marked place mark) loaded = with_marks (with_mark mark loaded.marks) loaded
 after (Packed plan base replies) loaded = packed loaded
 
+-- the change is that the area is packed
+abbrev pub IsPacking : Pending → Type 0
+IsPacking Nothing = ⊥
+IsPacking (Counted change counter active) = ⊥
+IsPacking (Marked place mark) = ⊥
+IsPacking (Packed plan base replies) = Unit {0}
+
 -- the files stay short enough with the message behind
 pub record HasLengths (message : LoadedMessage) (size : ℕ) (loaded : Loaded) : Type 0 where
   pub sized : size ≡ header_size message

@@ -71,7 +71,7 @@ pub fn decide_mark(
     requires kept { IsKeptFor rules.now held.now }
     requires room { HasRoomInAll redo.old }
     ensures decided { (moment : ℕ) (texts : List ℕ) (contents : Option Files) → AreTexts held.now texts contents
-        → IsDecided rules.now held.now texts contents redo.new user.now moment (SetMark number) result }
+        → IsDecided rules.now held.now texts contents None redo.new user.now moment (SetMark number) result }
     ensures room { HasRoomInAll redo.new }
 {
     let loaded = held.loaded();
@@ -120,7 +120,7 @@ pub fn decide_kill(
     requires kept { IsKeptFor rules.now held.now }
     requires room { HasRoomInAll redo.old }
     ensures decided { (moment : ℕ) (texts : List ℕ) (contents : Option Files) → AreTexts held.now texts contents
-        → IsDecided rules.now held.now texts contents redo.new user.now moment (Kill number) result }
+        → IsDecided rules.now held.now texts contents None redo.new user.now moment (Kill number) result }
     ensures room { HasRoomInAll redo.new }
 {
     let loaded = held.loaded();

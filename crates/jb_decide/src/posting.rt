@@ -1,5 +1,5 @@
 //! A message is posted.
-ghost use Rattle.std.specs.Prelude.{◌≡◌, ◌≤◌, ◌+◌, ◌∷◌, ℕ, [], List, Option, IfOk, OnOk, length};
+ghost use Rattle.std.specs.Prelude.{◌≡◌, ◌≤◌, ◌+◌, ◌∷◌, ℕ, [], List, Option, IfOk, OnOk, length, None};
 ghost use Rattle.jb_change.specs.Post.{HasNextNumber, IsNext};
 ghost use Rattle.jb_base.specs.declared.limits.TheConstants.{MOST_ADDRESS_BYTES, MOST_NAME_BYTES};
 ghost use Rattle.jb_change.specs.Changing.{KeepsRoom};
@@ -95,7 +95,7 @@ pub fn decide_post(
     requires name { length user.now.name ≤ MOST_NAME_BYTES }
     requires address { length rules.now.address ≤ MOST_ADDRESS_BYTES }
     ensures decided { IfOk result (λ decided. (texts : List ℕ) (contents : Option Files) → AreTexts held.now texts contents
-        → IsDecided rules.now held.now texts contents redo.new user.now moment (post_of (draft_of draft.entry)) decided) }
+        → IsDecided rules.now held.now texts contents None redo.new user.now moment (post_of (draft_of draft.entry)) decided) }
     ensures room { KeepsRoom redo.old redo.new }
 {
     let loaded = held.loaded();

@@ -1,5 +1,5 @@
 //! A message is read, or looked at.
-ghost use Rattle.std.specs.Prelude.{◌≡◌, ◌≤◌, ℕ, [], List, IfErr, IfOk, length, OnOk};
+ghost use Rattle.std.specs.Prelude.{◌≡◌, ◌≤◌, ℕ, [], List, IfErr, IfOk, length, OnOk, None};
 ghost use Rattle.std.specs.Option.{ForSome};
 ghost use Rattle.jb_base.specs.declared.attribute.TheConstants.{DELETED};
 ghost use Rattle.jb_disk.specs.Change.{Change};
@@ -53,7 +53,7 @@ pub fn decide_read<D: Disk>(
     requires room { HasRoomInAll redo.old }
     requires holds { ForSome (D.device disk.old).contents (λ files. Holds held.now (files texts_file) files) }
     ensures decided { IfOk result (λ decided. (texts : List ℕ) → AreTexts held.now texts (D.device disk.old).contents
-        → IsDecided rules.now held.now texts (D.device disk.old).contents redo.new user.now moment (Read number) decided) }
+        → IsDecided rules.now held.now texts (D.device disk.old).contents None redo.new user.now moment (Read number) decided) }
     ensures room { HasRoomInAll redo.new }
 
     // The disk is only read.
@@ -100,7 +100,7 @@ pub fn decide_peek<D: Disk>(
     requires kept { IsKeptFor rules.now held.now }
     requires holds { ForSome (D.device disk.old).contents (λ files. Holds held.now (files texts_file) files) }
     ensures decided { IfOk result (λ decided. (moment : ℕ) (redo : Change) (texts : List ℕ) → AreTexts held.now texts (D.device disk.old).contents
-        → IsDecided rules.now held.now texts (D.device disk.old).contents redo user.now moment (Peek number) decided) }
+        → IsDecided rules.now held.now texts (D.device disk.old).contents None redo user.now moment (Peek number) decided) }
 
     // The disk is only read.
     ensures reads { OnlyReads (D.device disk.old) (D.device disk.new) }

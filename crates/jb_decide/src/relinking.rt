@@ -1,5 +1,5 @@
 //! The reply links of an area are computed anew.
-ghost use Rattle.std.specs.Prelude.{◌≡◌, ◌≤◌, ◌+◌, ◌*◌, ◌∷◌, ◌++◌, ℕ, [], not, All, List, Option, IfOk, OnOk, length};
+ghost use Rattle.std.specs.Prelude.{◌≡◌, ◌≤◌, ◌+◌, ◌*◌, ◌∷◌, ◌++◌, ℕ, [], not, All, List, Option, IfOk, OnOk, length, None};
 ghost use Rattle.jb_base.specs.declared.limits.TheConstants.{MOST_SLOTS};
 ghost use Rattle.jb_change.specs.Changing.{KeepsRoom};
 ghost use Rattle.jb_change.specs.Makes.{record_size};
@@ -165,7 +165,7 @@ pub fn decide_relink(
 ) -> Result<Decided, OutOfMemory>
     requires kept { IsKeptFor rules.now held.now }
     ensures decided { IfOk result (λ decided. (moment : ℕ) (texts : List ℕ) (contents : Option Files) → AreTexts held.now texts contents
-        → IsDecided rules.now held.now texts contents redo.new user.now moment Relink decided) }
+        → IsDecided rules.now held.now texts contents None redo.new user.now moment Relink decided) }
     ensures room { KeepsRoom redo.old redo.new }
 {
     let loaded = held.loaded();

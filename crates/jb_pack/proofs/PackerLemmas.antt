@@ -85,7 +85,7 @@ resized_has n m len copies resized o is has = λ files there.
     }
 
 -- what is left then
-left_then : (count : ℕ) (slots : List LoadedSlot) (old new : Shadow) → CopiesFirst count slots old new → left new slots ≡ sum (drop count (lefts old.texts slots))
+pub left_then : (count : ℕ) (slots : List LoadedSlot) (old new : Shadow) → CopiesFirst count slots old new → left new slots ≡ sum (drop count (lefts old.texts slots))
 left_then count slots old new copies =
     let zeros = sum_by-replicate (λ (n : ℕ). n) count 0 in
     omega (arith, ap sum copies.left, sum_by-append (λ (n : ℕ). n) (replicate count 0) (drop count (lefts old.texts slots)))

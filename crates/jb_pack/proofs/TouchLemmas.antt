@@ -86,7 +86,7 @@ touches-sync old new result tells_old tells_new syncs = record {
 }
 
 -- a disk goes on telling
-turns-alike : (P : Files → Files → Type 0) (old new : Option Files) → Turns P old new → is_some new ≡ is_some old
+pub turns-alike : (P : Files → Files → Type 0) (old new : Option Files) → Turns P old new → is_some new ≡ is_some old
 turns-alike P None None turns = refl
 turns-alike P None (Some now) turns = absurd turns
 turns-alike P (Some was) None turns = absurd turns
@@ -127,12 +127,12 @@ only_told o files P is here = λ other there.
     subst P same here
 
 -- a weaker property
-leaves_map : (P Q : Files → Type 0) (moments : List Images) → ((files : Files) → P files → Q files) → LeavesNow P moments → LeavesNow Q moments
+pub leaves_map : (P Q : Files → Type 0) (moments : List Images) → ((files : Files) → P files → Q files) → LeavesNow P moments → LeavesNow Q moments
 leaves_map P Q [] weaker all = tt
 leaves_map P Q (now ∷ earlier) weaker all = λ files image. weaker files (all files image)
 
 -- from two
-leaves_both : (P Q R : Files → Type 0) (moments : List Images) → ((files : Files) → P files → Q files → R files) → LeavesNow P moments → LeavesNow Q moments → LeavesNow R moments
+pub leaves_both : (P Q R : Files → Type 0) (moments : List Images) → ((files : Files) → P files → Q files → R files) → LeavesNow P moments → LeavesNow Q moments → LeavesNow R moments
 leaves_both P Q R [] both p q = tt
 leaves_both P Q R (now ∷ earlier) both p q = λ files image. both files (p files image) (q files image)
 

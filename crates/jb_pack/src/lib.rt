@@ -36,4 +36,4 @@ pub use laws::{copies_stay, pack_keeps_sound, packed_is_held, packs_as_defined};
 pub use moving::pack_loaded;
 pub use packer::Packer;
 pub use packing::Packing;
-pub use planning::plan;
+pub use planning::{pack_comes_to, plan};

@@ -109,6 +109,15 @@ pub(crate) fn packing_of(loaded: &Loaded, sizes: Sizes) -> Packing
     }
 }
 
+/// What a pack of the area comes to, whoever asks for it. Linear in the slots; it takes no memory and calls no device.
+pub fn pack_comes_to(loaded: &Loaded) -> Packing
+    requires sound { IsSound MOST_SLOTS loaded.now }
+    ensures answer { (texts : List ℕ) → length texts ≡ loaded.now.texts_len → AnswersPack (state_of texts loaded.now) result }
+    ensures fits { IsPackingOf loaded.now result }
+{
+    packing_of(loaded, sizes_of(loaded.slots.as_slice()))
+}
+
 /// Puts the packed area: the new lengths, .JHR, .JDX and .JDT.
 fn put_pack<D: Disk>(
     alloc: Global,

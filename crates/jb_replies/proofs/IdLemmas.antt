@@ -3,7 +3,6 @@ use Rattle.std.proofs.Common.{◌≡◌, ◌<◌, ◌≤◌, ◌+◌, ◌-◌, i
 use Rattle.std.specs.Borrow.{Bor}
 use Rattle.jb_link.specs.Ids.{lent}
 use Rattle.std.specs.Prelude.{Contains, Option, Some, None, IsSome, is_some, insert, remove, option_and_then, unwrap_or}
-use Rattle.std.specs.Cmp.Lexicographic.{slice_cmp, nat_list_cmp_total}
 use Rattle.std.specs.List.Sorted.{IsPermutation, IsSortedBy}
 use Rattle.std.specs.Ordering.{is_lt, nat_cmp, ordering_then}
 use Rattle.std.specs.declared.cmp.Ordering.{Ordering}
@@ -21,11 +20,11 @@ use Rattle.jb_model.specs.declared.loaded.Loaded.{Loaded}
 use Rattle.jb_model.specs.declared.loaded.LoadedMessage.{LoadedMessage}
 use Rattle.jb_replies.proofs.AreaLemmas.{named_is_in}
 use Rattle.jb_replies.proofs.MemberLemmas.{HasNoTwice, inserted_cases, inserted_new, inserted_old, permuted_apart, removed_gone, removed_old, removed_rest, rising_apart}
-use Rattle.jb_replies.proofs.OrderLemmas.{id_order_total, same_ids, same_numbers}
+use Rattle.jb_replies.proofs.OrderLemmas.{hash_order_total, id_order_total, same_ids, same_numbers}
 use Rattle.jb_replies.proofs.RisingLemmas.{found_at_split, inserted_rises, rises_from_sorted}
 use Rattle.jb_replies.proofs.SearchLemmas.{first_among, last_among}
 use Rattle.jb_replies.specs.Ids.{AreIdsBelow, IsIdList, IsIdListBut, id_at, id_place}
-use Rattle.jb_replies.specs.Order.{IsSplitAt, id_order}
+use Rattle.jb_replies.specs.Order.{IsSplitAt, hash_order, id_order}
 
 -- an id that is there and has these bytes
 pub has_bytes : (id : List ℕ) (found : Option (List ℕ)) → is_id id found ≡ true → found ≡ Some id
@@ -67,7 +66,7 @@ pub first_with : (kind : ℕ) (loaded : Loaded) (id : List ℕ) (numbers : List 
     → IsSplitAt id_order (id_place kind loaded) numbers (id, 0) at → id_at kind loaded other ≡ Some id → IsFirstWith kind loaded id numbers at other
 first_with kind loaded id numbers at other list split is =
     let here : Contains numbers other = (list.listed other).1 (known (id_at kind loaded other) id is) in
-    let first = first_among nat_list_cmp_total same_ids (id_place kind loaded) numbers id at other list.rising split here (ap (λ found. unwrap_or found []) is) in
+    let first = first_among hash_order_total same_ids (id_place kind loaded) numbers id at other list.rising split here (ap (λ found. unwrap_or found []) is) in
     let some : IsSome (id_at kind loaded (get_or numbers at other)) = (list.listed (get_or numbers at other)).0 (Contains-get_or numbers at other first.0) in
     record {
       within = first.0;
@@ -88,7 +87,7 @@ last_with kind loaded id numbers top at other list split high is =
     let some : IsSome (id_at kind loaded other) = known (id_at kind loaded other) id is in
     let here : Contains numbers other = (list.listed other).1 some in
     let below = id_is_in kind loaded other some in
-    let last = last_among nat_list_cmp_total same_ids (id_place kind loaded) numbers id top at other list.rising split here (ap (λ found. unwrap_or found []) is) (omega arith) in
+    let last = last_among hash_order_total same_ids (id_place kind loaded) numbers id top at other list.rising split here (ap (λ found. unwrap_or found []) is) (omega arith) in
     let inside : at - 1 < length numbers = omega (arith, last.0, split.within) in
     let there : IsSome (id_at kind loaded (get_or numbers (at - 1) other)) = (list.listed (get_or numbers (at - 1) other)).0 (Contains-get_or numbers (at - 1) other inside) in
     record {
@@ -99,7 +98,7 @@ last_with kind loaded id numbers top at other list split high is =
 
 -- places that are alike are of one number
 same_place : (kind : ℕ) (loaded : Loaded) (one other : ℕ) → id_order (id_place kind loaded one) (id_place kind loaded other) ≡ Equal → one ≡ other
-same_place kind loaded one other h = by (slice_cmp nat_cmp (id_place kind loaded one).0 (id_place kind loaded other).0) h
+same_place kind loaded one other h = by (hash_order (id_place kind loaded one).0 (id_place kind loaded other).0) h
   where
     by : (r : Ordering) → ordering_then r (nat_cmp one other) ≡ Equal → one ≡ other
     by Less e = cc

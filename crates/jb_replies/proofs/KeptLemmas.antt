@@ -242,10 +242,10 @@ last_pair pairs kept top at other rising split below here =
       from = λ d. subst (λ (p : ℕ × ℕ). other ≤ p.1) (sym (get_or_default pairs (at - 1) d (kept, other) inside)) last.1.1;
     }
 
--- what is not some pair is none
-pub not_some : (found : Option (ℕ × ℕ)) → ((pair : ℕ × ℕ) → found ≡ Some pair → ⊥) → found ≡ None
+-- what is not some is none
+pub not_some : {X : Type 0} (found : Option X) → ((x : X) → found ≡ Some x → ⊥) → found ≡ None
 not_some None h = refl
-not_some (Some pair) h = absurd (h pair refl)
+not_some (Some x) h = absurd (h x refl)
 
 -- two pairs are one where their parts are
 pub pairs_alike : (one other : ℕ × ℕ) → ((one.0 == other.0) && (one.1 == other.1)) ≡ true → one ≡ other

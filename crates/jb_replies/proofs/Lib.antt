@@ -4,6 +4,7 @@ pub mod MemberLemmas
 pub mod SearchLemmas
 pub mod AreaLemmas
 pub mod IdLemmas
+pub mod HashLemmas
 pub mod KeptLemmas
 pub mod IndexLemmas
 pub mod ParentLemmas

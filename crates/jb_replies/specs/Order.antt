@@ -4,10 +4,23 @@ use Rattle.std.specs.Cmp.Lexicographic.{slice_cmp}
 use Rattle.std.specs.declared.cmp.Ordering.{Ordering}
 use Rattle.std.specs.declared.cmp.Ordering.TheVariants.{Less}
 use Rattle.std.specs.Ordering.{is_lt, nat_cmp, ordering_then}
+use Rattle.jb_link.specs.Ids.{hash_of}
 
--- first by the bytes of the id, then by the number
+-- by the hash of the bytes, then by the bytes
+abbrev pub hash_order : List ℕ → List ℕ → Ordering
+hash_order one other = ordering_then (nat_cmp (hash_of one) (hash_of other)) (slice_cmp nat_cmp one other)
+
+-- first by the id, then by the number
 abbrev pub id_order : List ℕ × ℕ → List ℕ × ℕ → Ordering
-id_order one other = ordering_then (slice_cmp nat_cmp one.0 other.0) (nat_cmp one.1 other.1)
+id_order one other = ordering_then (hash_order one.0 other.0) (nat_cmp one.1 other.1)
+
+-- the order of ids of one hash: first by the bytes, then by the number
+abbrev pub bytes_order : List ℕ × ℕ → List ℕ × ℕ → Ordering
+bytes_order one other = ordering_then (slice_cmp nat_cmp one.0 other.0) (nat_cmp one.1 other.1)
+
+-- the same order where the hash stands before each id
+abbrev pub hashed_order : ℕ × (List ℕ × ℕ) → ℕ × (List ℕ × ℕ) → Ordering
+hashed_order one other = ordering_then (nat_cmp one.0 other.0) (bytes_order one.1 other.1)
 
 -- first by the first number, then by the second
 abbrev pub pair_order : ℕ × ℕ → ℕ × ℕ → Ordering

@@ -6,14 +6,16 @@
 //! [`Replies::posted`] and [`Replies::killed`], which take no memory; a reading, a mark and a relink leave it as it is.
 //!
 //! Cost, in an area of n messages: [`Replies::of`] makes n log n comparisons, and takes 4 bytes for each MSGID, 4 for
-//! each REPLYID and 8 for each kept number. [`Replies::parent`] makes one search at most, the other calls three, of
-//! log n comparisons each. Ids are compared by their bytes and never by their CRCs, so a base in which all ids have one
-//! CRC costs no more. The lists stand in pieces (`jb_tiered`), so that [`Replies::posted`] and [`Replies::killed`] cost
-//! about the same in each area: besides the searches they move up to 256 elements within one piece of each list, and one
-//! element for each 512 that stand behind the place.
+//! each REPLYID and 8 for each kept number. [`Replies::parent`] makes one search at most, the other calls three, of log
+//! n comparisons each. Ids are compared by a hash of their bytes, and by the bytes where two hashes are the same; never
+//! by their CRCs, so a base in which all ids have one CRC costs no more. The lists stand in pieces (`jb_tiered`), so
+//! that [`Replies::posted`] and [`Replies::killed`] cost about the same in each area: besides the searches they move up
+//! to 256 elements within one piece of each list, and one element for each 512 that stand behind the place.
 #![tactic(auto)]
 
+mod copies;
 mod found;
+mod hashed;
 mod ids;
 mod kept;
 mod laws;

@@ -12,8 +12,9 @@ ghost use Rattle.jb_replies.specs.Index.{HasSameLists, IsIndexOf};
 ghost use Rattle.jb_replies.specs.Laws.{IsIndexAfterKill, IsIndexBefore};
 ghost use Rattle.jb_replies.specs.Replied.{IsLastReply};
 
+use crate::copies::copied;
 use crate::found::{id_at, message_at};
-use crate::{ids, kept};
+use crate::{hashed, ids, kept};
 use jb_base::{MSGID, OutOfMemory, REPLYID};
 use jb_link::Spliced;
 use jb_model::Loaded;
@@ -49,14 +50,31 @@ impl Replies {
         ensures index { IfOk result (λ replies. IsIndexOf replies loaded.now) }
         ensures room { IfOk result (λ replies. replies.room ≡ 0) }
     {
-        let ids = ids::ordered(alloc, loaded, MSGID)?;
-        let answers = ids::ordered(alloc, loaded, REPLYID)?;
+        let ids = hashed::ordered(alloc, loaded, MSGID)?;
+        let answers = hashed::ordered(alloc, loaded, REPLYID)?;
         let kept = kept::ordered(alloc, loaded)?;
         Ok(Replies {
             ids,
             answers,
             kept,
             room: 0,
+        })
+    }
+
+    /// An index with the same lists, so of each area of which this is one, and room for so many messages more. Its cost is
+    /// that of a copy: nothing is sorted.
+    pub fn copied(&self, alloc: Global, more: u32) -> Result<Replies, OutOfMemory>
+        ensures lists { IfOk result (λ copy. HasSameLists self.now copy) }
+        ensures room { IfOk result (λ copy. copy.room ≡ more) }
+    {
+        let ids = copied(alloc, &self.ids, more)?;
+        let answers = copied(alloc, &self.answers, more)?;
+        let kept = copied(alloc, &self.kept, more)?;
+        Ok(Replies {
+            ids,
+            answers,
+            kept,
+            room: more,
         })
     }
 

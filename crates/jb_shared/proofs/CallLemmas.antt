@@ -40,7 +40,7 @@ keeps_on : (old mid new : SeatRow) → Keeps old mid → Keeps mid new → Keeps
 keeps_on old mid new one other = record { mark = other.mark ∙ one.mark; front = begins_on old.front mid.front new.front one.front other.front }
 
 -- what is equal to what keeps it
-keeps_as : (old new new' : SeatRow) → new' ≡ new → Keeps old new → Keeps old new'
+pub keeps_as : (old new new' : SeatRow) → new' ≡ new → Keeps old new → Keeps old new'
 keeps_as old new new' same keeps = subst (λ (k : SeatRow). Keeps old k) (sym same) keeps
 
 -- the end of a doubt
@@ -62,6 +62,16 @@ performs_keep old new user moment command (Err StoreFault) (inr (faults, is)) = 
 performs_keep old new user moment command (Err OutOfMemory) (stands, is) = keeps_as old _ new is (keeps_ended old stands)
 performs_keep old new user moment command (Err (Gap shown held)) none = absurd none
 performs_keep old new user moment command (Err RunSpent) none = absurd none
+
+-- a reader that was told with the seat was told no more than is settled of what the seat has seen later
+pub still_told : (old new : SeatRow) (account : Account Opening Entry) → Keeps old new → IsToldOf old account → (account.mark ≡ new.opening) × Begins account.told (settled_of new.front)
+still_told old new account keeps told =
+    (told.0 ∙ sym keeps.mark, subst (λ (l : List Entry). Begins l (settled_of new.front)) (sym told.1) (settled_begins old.front new.front keeps.front))
+
+-- and so it was as the seat took the turn
+pub told_taking : (old new : SeatRow) (account : Account Opening Entry) (front : List Entry) → IsToldOf old account → new ≡ took_in old front → Begins old.front front
+    → (account.mark ≡ new.opening) × Begins account.told (settled_of new.front)
+told_taking old new account front told took grows = still_told old new account (keeps_as old (took_in old front) new took (record { mark = refl; front = grows })) told
 
 -- the number of the next call is the same once a doubt has ended
 next_ended : (old : SeatRow) (stands : Option Bool) (user : User) (moment : ℕ) (command : Command) (outcome : Outcome) → next_call (ended old stands) user moment command outcome ≡ next_call old user moment command outcome
@@ -191,19 +201,19 @@ module _ {D : Type 0} (shown : D → Device) where
         history = subst (λ (l : List Entry). IsHistory first.0.opening l) (sym (ap (λ (k : SeatRow). k.front) is)) (legal taken state first.0 first.1 stands);
       }
 
-  -- a reader may be told all that is shown, in a turn that was taken
-  pub may_inform : (old taken : SeatRow) (account : Account Opening Entry) (state : ShownArea D) → account.mark ≡ old.opening → account.told ≡ settled_of old.front → taken.opening ≡ old.opening → Begins old.front taken.front
-      → StandsFrom (IsKept shown) taken.opening state taken.front → (account.mark ≡ (publication_of state.shower).mark) × (length account.told ≤ length (publication_of state.shower).list)
-  may_inform old taken account state mark told same grows stands =
-      let fit = fits shown taken.opening state taken.front stands in
-      let longer = begins_length (settled_of old.front) (settled_of taken.front) (settled_begins old.front taken.front grows) in (
-        mark ∙ sym same ∙ sym fit.0,
-        subst (λ (l : List Entry). length account.told ≤ length l) (sym fit.1) (subst (λ (l : List Entry). length l ≤ length (settled_of taken.front)) (sym told) longer),
-      )
+  -- what looks see of the area is of the pair of a reader that is told with the seat
+  pub same_pair : (known : SeatRow) (account : Account Opening Entry) (state : ShownArea D) → account.mark ≡ known.opening → StandsFrom (IsKept shown) known.opening state known.front
+      → account.mark ≡ (publication_of state.shower).mark
+  same_pair known account state mark stands = mark ∙ sym (fits shown known.opening state known.front stands).0
 
-  -- and then it was
-  pub is_informed : (old taken : SeatRow) (account account' : Account Opening Entry) (state : ShownArea D) → account.mark ≡ old.opening → taken.opening ≡ old.opening
-      → StandsFrom (IsKept shown) taken.opening state taken.front → account' ≡ told_with account (publication_of state.shower).list → IsToldOf taken account'
-  is_informed old taken account account' state mark same stands is =
-      let fit = fits shown taken.opening state taken.front stands in
-      (ap (λ (a : Account Opening Entry). a.mark) is ∙ mark ∙ sym same, ap (λ (a : Account Opening Entry). a.told) is ∙ fit.1)
+  -- a reader that was told no more may learn all that is shown
+  pub may_inform : (known : SeatRow) (account : Account Opening Entry) (state : ShownArea D) → Begins account.told (settled_of known.front) → StandsFrom (IsKept shown) known.opening state known.front
+      → length account.told ≤ length (publication_of state.shower).list
+  may_inform known account state told stands =
+      subst (λ (l : List Entry). length account.told ≤ length l) (sym (fits shown known.opening state known.front stands).1) (begins_length account.told (settled_of known.front) told)
+
+  -- and then it was told that
+  pub is_informed : (known : SeatRow) (account account' : Account Opening Entry) (state : ShownArea D) → account.mark ≡ known.opening → StandsFrom (IsKept shown) known.opening state known.front
+      → account' ≡ told_with account (publication_of state.shower).list → IsToldOf known account'
+  is_informed known account account' state mark stands is =
+      (ap (λ (a : Account Opening Entry). a.mark) is ∙ mark, ap (λ (a : Account Opening Entry). a.told) is ∙ (fits shown known.opening state known.front stands).1)

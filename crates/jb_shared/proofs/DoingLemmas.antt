@@ -1,14 +1,14 @@
 -- A command that is begun, and finished or abandoned.
 use Rattle.std.proofs.Common.{◌≡◌, ◌≤◌, ℕ, List, Ok, Err, sym, ◌∙◌, ap, subst}
 use Rattle.std.specs.Prelude.{is_some}
-use Rattle.jb_area.specs.Area.{IsBegun, IsResting, RestsAt, device_of, loaded_of, rules_of}
-use Rattle.jb_area.specs.Calls.{BeginsCall, MeetsCall}
+use Rattle.jb_area.specs.Area.{IsBegun, IsResting, RestsAt, copied_of, device_of, loaded_of, rules_of}
+use Rattle.jb_area.specs.Calls.{BeginsCall, MeetsCall, OnlyReadsOrCopies}
 use Rattle.jb_area.specs.declared.area.OpenArea.{OpenArea}
 use Rattle.jb_base.specs.declared.area.AreaRules.{AreaRules}
 use Rattle.jb_base.specs.declared.user.User.{User}
 use Rattle.jb_decide.specs.Coming.{Coming}
 use Rattle.jb_decide.specs.declared.error.AreaError.TheVariants as area
-use Rattle.jb_disk.specs.Device.{Device, OnlyReads}
+use Rattle.jb_disk.specs.Device.{Device}
 use Rattle.jb_index.specs.Edit.{absorbed}
 use Rattle.jb_index.specs.Index.{index_of}
 use Rattle.jb_index.specs.declared.op.OpEdit.{OpEdit}
@@ -27,28 +27,29 @@ module _ {D : Type 0} (shown : D → Device) where
       → Follows shown old user moment command edits
   follows_begun old mid user moment command value edits begins followed = λ texts resting told.
       let P : AreaRules → Loaded → Type 0 = λ rules loaded. absorbed (index_of rules (state_of texts loaded)) edits ≡ index_of rules (step rules (state_of texts loaded) user moment command).state in
-      let contents = begins.reads.contents in
       subst (λ (rules : AreaRules). P rules (loaded_of old)) begins.rules
-      (subst (P (rules_of mid)) begins.loaded (followed texts (begins.begun texts resting) (ap is_some contents ∙ told)))
+      (subst (P (rules_of mid)) begins.loaded (followed texts (begins.begun texts resting) (begins.alike ∙ told)))
 
   -- a call that is abandoned wanted memory, and has left all as it was
   pub meets_abandoned : (old mid new : OpenArea D) (user : User) (moment : ℕ) (command : Command) (value : Unit {0}) → BeginsCall shown old mid user moment command (Ok value)
       → ((texts : List ℕ) (decided : Reply) (coming : Coming) → IsBegun shown mid texts decided coming → RestsAt shown new texts (loaded_of mid)) → device_of shown new ≡ device_of shown mid → rules_of new ≡ rules_of mid
-      → MeetsCall shown old new user moment command (Err area.OutOfMemory)
-  meets_abandoned old mid new user moment command value begins rests device rules =
+      → copied_of new ≡ copied_of mid → MeetsCall shown old new user moment command (Err area.OutOfMemory)
+  meets_abandoned old mid new user moment command value begins rests device rules copied =
       let faults : (device_of shown new).faults ≡ (device_of shown old).faults = ap (λ (d : Device). d.faults) device ∙ begins.quiet in
       record {
         answered = tt;
         failed = λ texts resting.
             let begun = begins.begun texts resting in (
               subst (λ (l : Loaded). RestsAt shown new texts l) begins.loaded (rests texts begun.reply begun.coming begun.begun),
-              subst (λ (d : Device). OnlyReads (device_of shown old) d) (sym device) begins.reads,
+              subst (λ (d : Device). OnlyReadsOrCopies command (device_of shown old) d) (sym device) begins.reads,
             );
         cause = faults;
         quiet = tt;
-        alike = ap (λ (d : Device). is_some d.contents) device ∙ ap is_some begins.reads.contents;
+        alike = ap (λ (d : Device). is_some d.contents) device ∙ begins.alike;
         later = subst (λ (d : Device). (device_of shown old).faults ≤ d.faults) (sym device) begins.later;
         rules = rules ∙ begins.rules;
+        copies = λ kind. copied ∙ begins.copies kind;
+        packed = tt;
       }
 
   -- and leaves no change in doubt

@@ -1,7 +1,7 @@
 -- What looks see, with one entry more.
-use Rattle.std.proofs.Common.{◌≡◌, ℕ, Bool, true, false, cond, List, [], ◌∷◌, ◌++◌, Option, Some, None, refl, sym, ◌∙◌, ap, subst}
+use Rattle.std.proofs.Common.{◌≡◌, inl, inr, ℕ, Bool, true, false, cond, List, [], ◌∷◌, ◌++◌, Option, Some, None, refl, sym, ◌∙◌, ap, subst}
 use Rattle.std.specs.Prelude.{IsSome, unwrap_or}
-use Rattle.jb_area.specs.Area.{IsDoubtful, IsUnchanged, SettlesAt, device_of, loaded_of, rules_of}
+use Rattle.jb_area.specs.Area.{IsDoubtful, SettlesAt, device_of, loaded_of, rules_of}
 use Rattle.jb_area.specs.declared.area.OpenArea.{OpenArea}
 use Rattle.jb_area.specs.declared.stage.Stage.{Stage}
 use Rattle.jb_area.specs.declared.stage.Stage.TheVariants.{Doubtful, Resting}
@@ -58,8 +58,10 @@ module _ {D : Type 0} (shown : D → Device) where
       let is : None ≡ Some doubt.pending = ap pending_of (sym rests ∙ doubt.stage) in absurd (cc (is))
 
   -- nor has one that was stopped without a change
-  pub unchanged_no_change : (area : OpenArea D) (texts : List ℕ) → IsUnchanged shown area texts → HasChange shown area → ⊥
-  unchanged_no_change area texts none (texts', coming, doubt) =
+  pub unchanged_no_change : (area : OpenArea D) (texts : List ℕ) → IsDoubtful shown area texts None → HasChange shown area → ⊥
+  unchanged_no_change area texts (inr half) (texts', coming, doubt) =
+      let is : None ≡ Some doubt.pending = ap pending_of (sym half.stage ∙ doubt.stage) in absurd (cc (is))
+  unchanged_no_change area texts (inl none) (texts', coming, doubt) =
       let is : Some Nothing ≡ Some doubt.pending = ap pending_of (sym none.stage ∙ doubt.stage) in
       doubt.change.some (ap (λ (o : Option Pending). unwrap_or o Nothing) (sym is))
 

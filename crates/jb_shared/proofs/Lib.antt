@@ -8,5 +8,6 @@ pub mod KeepingLemmas
 pub mod CallLemmas
 pub mod ChangingLemmas
 pub mod DoingLemmas
+pub mod SteppingLemmas
 pub mod MakingLemmas
 pub mod ClosingLemmas

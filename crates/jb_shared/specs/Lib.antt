@@ -10,6 +10,7 @@ pub mod InTurn
 pub mod Areas
 pub mod Making
 pub mod Calls
+pub mod Stepping
 pub mod Looks
 pub mod Closing
 pub mod Laws

@@ -10,7 +10,7 @@ pub enum SharedError {
     Gap { shown: u64, held: u64 },
     /// The history has as many entries as it may have. Nothing was done.
     RunSpent,
-    /// The allocator gave no memory. The area is as it was, but that a doubt may have been ended.
+    /// The allocator gave no memory. The area is as it was, but that a doubt may have been ended, and texts copied for a pack.
     OutOfMemory,
 }
 

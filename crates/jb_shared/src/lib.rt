@@ -2,7 +2,8 @@
 //! wait for nobody.
 //!
 //! The layer above may rely on this. [`SharedArea::new`] puts an open area behind a turn and makes a [`Pass`] for each node.
-//! [`SharedArea::call`] waits for the turn, asks a command and records what came of it. [`SharedArea::look`] and
+//! [`SharedArea::call`] waits for the turn, asks a command and records what came of it; a pack takes some turns before, in each of which
+//! it copies a part of the texts, and the calls of others go in between. [`SharedArea::look`] and
 //! [`SharedArea::unread_count`] take no turn: they see an index in two copies, of which each call that is done shows one anew, and so
 //! all that is settled of the history that the node has seen, or more. [`SharedArea::close`] takes all passes and
 //! gives the area back, with one history of which each pass has seen a beginning. What the disk holds is said where it tells
@@ -15,6 +16,7 @@ mod change;
 mod changing;
 mod closing;
 mod doing;
+mod entering;
 mod error;
 mod laws;
 mod looking;
@@ -28,6 +30,7 @@ mod refusal;
 mod shared;
 mod showing;
 mod shown;
+mod stepping;
 
 pub use error::{CloseError, SharedError};
 pub use laws::settled_is_longest;

@@ -1,16 +1,16 @@
 -- An area at rest and a command of a tool: what the files open to meanwhile.
-use Rattle.std.proofs.Common.{◌≡◌, inl, inr, ℕ, ◌≤◌, List, [], ◌∷◌, length, ap, refl, sym, subst, arith, Some}
+use Rattle.std.proofs.Common.{◌≡◌, inl, inr, ℕ, ◌≤◌, List, [], ◌∷◌, length, ap, refl, sym, subst, arith}
 use Rattle.jb_area.specs.Area.{IsBegun, IsResting}
 use Rattle.jb_area.specs.Holds.{IsAtRest, Opens, OpensToEither}
 use Rattle.jb_area.specs.declared.area.OpenArea.{OpenArea}
 use Rattle.jb_base.specs.declared.limits.TheConstants.{MOST_SLOTS}
 use Rattle.jb_decide.specs.Coming.{Coming}
 use Rattle.jb_decide.specs.Holds.{Holds}
-use Rattle.jb_disk.proofs.RunLemmas.{runs-refl, runs-weaken}
-use Rattle.jb_disk.specs.Device.{Device, OnlyReads}
+use Rattle.jb_disk.proofs.RunLemmas.{runs-weaken}
+use Rattle.jb_disk.specs.Device.{Device}
 use Rattle.jb_disk.specs.Files.{Files}
 use Rattle.jb_disk.specs.Images.{Images}
-use Rattle.jb_disk.specs.Runs.{LeavesNow, LeavesOnly, Runs}
+use Rattle.jb_disk.specs.Runs.{LeavesNow, LeavesOnly}
 use Rattle.jb_image.specs.Stands.{StandsFor}
 use Rattle.jb_model.specs.State.{AreaState, state_of}
 use Rattle.jb_model.specs.declared.command.Command.{Command}
@@ -44,13 +44,6 @@ leaves_only_weaken P Q old new weaker leaves = record {
   run = runs-weaken P Q weaker old.moments new.moments leaves.run;
 }
 
--- reads before leave no more
-pub leaves_only_after : (P : Files → Type 0) (old mid new : Device) → OnlyReads old mid → LeavesOnly mid new P → LeavesOnly old new P
-leaves_only_after P old mid new kept leaves = record {
-  first = subst (LeavesNow P) kept.moments leaves.first;
-  run = subst (λ (m : List Images). Runs P m new.moments) kept.moments leaves.run;
-}
-
 module _ {D : Type 0} (shown : D → Device) (command : Command) where
   -- an area at rest has no more slots than any may have
   pub few_resting : (area : OpenArea D) (texts : List ℕ) → IsResting shown area texts → length area.held.slots ≤ MOST_SLOTS
@@ -58,22 +51,6 @@ module _ {D : Type 0} (shown : D → Device) (command : Command) where
       let limit = rests.kept.ruled.few_slots in
       let few = rests.kept.ruled.sound.few_slots in
       omega (arith, limit, few)
-
-  -- a crash now leaves what opens to the area
-  left_resting : (area : OpenArea D) (texts : List ℕ) (files : Files) → (shown area.disk).contents ≡ Some files → IsResting shown area texts
-      → LeavesNow (OpensForEither command (state_of texts area.held)) (shown area.disk).moments
-  left_resting area texts files there rests =
-      let opens = rest_opens area.held texts files (few_resting area texts rests) (rests.kept.settled.rests files there) in
-      leaves_weaken (λ left. left ≡ files) (OpensForEither command (state_of texts area.held)) (shown area.disk).moments
-      (λ left is. inl (subst (OpensFor (state_of texts area.held)) (sym is) opens)) (rests.kept.settled.synced files there)
-
-  -- nor is anything else left where only reads follow
-  pub left_reading : (area : OpenArea D) (texts : List ℕ) (files : Files) (after : Device) → (shown area.disk).contents ≡ Some files → IsResting shown area texts → OnlyReads (shown area.disk) after
-      → LeavesOnly (shown area.disk) after (OpensForEither command (state_of texts area.held))
-  left_reading area texts files after there rests kept = record {
-    first = left_resting area texts files there rests;
-    run = runs-refl (OpensForEither command (state_of texts area.held)) (shown area.disk).moments after.moments kept.moments;
-  }
 
   -- the area to come of a call that is begun has no more slots than any may have
   few_coming : (area : OpenArea D) (texts : List ℕ) (reply : Reply) (coming : Coming) → IsBegun shown area texts reply coming → length coming.to.slots ≤ MOST_SLOTS

@@ -1,40 +1,58 @@
 -- A command of a tool over an open area: begun, and then done, stopped or dropped.
-use Rattle.std.proofs.Common.{◌≡◌, inl, inr, ℕ, ◌≤◌, List, ap, refl, sym, ◌∙◌, subst, arith, Some}
-use Rattle.std.specs.Prelude.{IsSome, Ok, Err}
+use Rattle.std.proofs.Common.{◌≡◌, inl, inr, ℕ, ◌≤◌, List, Option, None, Result, ap, refl, sym, ◌∙◌, subst, arith, Some}
+use Rattle.std.proofs.lemmas.Bool.{false≢true}
+use Rattle.std.specs.Prelude.{IsSome, Ok, Err, is_some}
 use Rattle.std.specs.Option.{ForSome}
 use Rattle.jb_area.specs.Area.{IsBegun, IsResting, RestsAt}
-use Rattle.jb_area.specs.Calls.{BeginsCall, HasRest}
-use Rattle.jb_area.specs.Holds.{OpensToEither}
+use Rattle.jb_area.specs.Calls.{BeginsCall, HasRest, OnlyReadsOrCopies}
+use Rattle.jb_area.specs.Holds.{Opens, OpensToEither}
 use Rattle.jb_area.specs.declared.area.OpenArea.{OpenArea}
 use Rattle.jb_base.specs.Fault.{Rose}
 use Rattle.jb_base.specs.declared.area.AreaRules.{AreaRules}
 use Rattle.jb_base.specs.declared.limits.TheConstants.{MOST_SLOTS}
 use Rattle.jb_decide.specs.Coming.{Coming}
-use Rattle.jb_decide.specs.Errors.{AreaFaultRose}
 use Rattle.jb_decide.specs.declared.error.AreaError.{AreaError}
 use Rattle.jb_decide.specs.declared.error.AreaError.TheVariants as failed
 use Rattle.jb_disk.specs.Device.{Device, OnlyReads}
 use Rattle.jb_disk.specs.Files.{Files}
-use Rattle.jb_disk.specs.Runs.{LeavesOnly}
+use Rattle.jb_disk.proofs.RunLemmas.{runs-then}
+use Rattle.jb_disk.specs.Runs.{IsAllSynced, LeavesOnly}
 use Rattle.jb_image.specs.Stands.{StandsFor}
 use Rattle.jb_model.specs.Answered.{Answered}
+use Rattle.jb_model.specs.Standing.{is_refusal}
 use Rattle.jb_model.specs.State.{state_of}
 use Rattle.jb_model.specs.Step.{Step}
 use Rattle.jb_model.specs.declared.command.Command.{Command}
 use Rattle.jb_model.specs.declared.loaded.Loaded.{Loaded}
 use Rattle.jb_model.specs.declared.reply.Reply.{Reply}
-use Rattle.jb_tool.proofs.ChangingLemmas.{either_way, few_resting, holds_stands, leaves_only_after, leaves_only_weaken, left_reading}
+use Rattle.jb_tool.proofs.ChangingLemmas.{either_way, few_resting, holds_stands, leaves_only_weaken, opens_area}
 use Rattle.jb_tool.proofs.Recovering.{rose_later}
 use Rattle.jb_tool.specs.Changing.{DoesCommand, HasNoLine, IsStoppedBy, of_area}
 use Rattle.jb_tool.specs.Tending.{OpensForEither, answer_to, tool_answer, tool_rules, tool_user}
 use Rattle.jb_tool.specs.declared.error.ToolError.{ToolError}
 
+-- a disk that tells its files goes on telling them
+told_alike : (old new : Option Files) (files : Files) → is_some new ≡ is_some old → old ≡ Some files → (now : Files) × (new ≡ Some now)
+told_alike old (Some now) files alike there = (now, refl)
+told_alike old None files alike there = absurd (false≢true (alike ∙ ap is_some there))
+
+-- what a crash leaves, one after another
+leaves_only_then : (P : Files → Type 0) (old mid new : Device) → LeavesOnly old mid P → LeavesOnly mid new P → LeavesOnly old new P
+leaves_only_then P old mid new one two = record { first = one.first; run = runs-then P old.moments mid.moments new.moments one.run two.run }
+
 module _ {D : Type 0} (shown : D → Device) (command : Command) (old : OpenArea D) where
+  -- a crash until it is begun leaves what opens to the area
+  left_begun : (new : OpenArea D) (result : Result (Unit {0}) AreaError) → BeginsCall shown old new tool_user 0 command result → (files : Files) → (shown old.disk).contents ≡ Some files
+      → (texts : List ℕ) → IsResting shown old texts → LeavesOnly (shown old.disk) (shown new.disk) (OpensForEither command (state_of texts old.held))
+  left_begun new result begins files there texts rests =
+      leaves_only_weaken (Opens old.held texts) (OpensForEither command (state_of texts old.held)) (shown old.disk) (shown new.disk)
+      (λ left opens. inl (opens_area old.held texts left (few_resting shown command old texts rests) opens)) (begins.crash texts rests files there)
+
   -- why it was not begun
-  stopped_by : (error : AreaError) (new : OpenArea D) → AreaFaultRose (shown old.disk).faults (shown new.disk).faults error → OnlyReads (shown old.disk) (shown new.disk)
-      → IsStoppedBy shown command old new (of_area error)
-  stopped_by failed.StoreFault new rose kept = inl (refl, rose)
-  stopped_by failed.OutOfMemory new quiet kept = inr (inl (refl, kept, quiet))
+  stopped_by : (error : AreaError) (new : OpenArea D) → BeginsCall shown old new tool_user 0 command (Err error) → IsStoppedBy shown command old new (of_area error)
+  stopped_by failed.StoreFault new begins = inl (refl, begins.cause)
+  stopped_by failed.OutOfMemory new begins =
+      inr (inl (refl, record { reads = begins.reads; synced = λ texts rests. (begins.failed texts rests).rests.kept.settled.synced }, begins.cause))
 
   -- it was not begun
   pub not_begun : (new : OpenArea D) (error : AreaError) → BeginsCall shown old new tool_user 0 command (Err error) → DoesCommand shown command old new (Err (of_area error))
@@ -42,8 +60,8 @@ module _ {D : Type 0} (shown : D → Device) (command : Command) (old : OpenArea
     answered = tt;
     now = tt;
     synced = tt;
-    failed = stopped_by error new begins.cause begins.reads;
-    crash = λ files there texts rests. left_reading shown command old texts files (shown new.disk) there rests begins.reads;
+    failed = stopped_by error new begins;
+    crash = left_begun new (Err error) begins;
     later = begins.later;
   }
 
@@ -54,7 +72,7 @@ module _ {D : Type 0} (shown : D → Device) (command : Command) (old : OpenArea
     becomes texts files there rests =
         let begun = begins.begun texts rests in
         let after = state_of begun.coming.texts begun.coming.to in
-        let one = begun.step (λ letter is. subst IsSome (sym (begins.reads.contents ∙ there)) refl) in
+        let one = begun.step (λ letter is. let mid_there = told_alike (shown old.disk).contents (shown mid.disk).contents files begins.alike there in subst IsSome (sym mid_there.1) refl) in
         let two = subst (λ (r : AreaRules). Step r (state_of texts mid.held) tool_user 0 command begun.reply after) (begins.rules ∙ rules) one in
         subst (λ (l : Loaded). Step tool_rules (state_of texts l) tool_user 0 command begun.reply after) begins.loaded two
 
@@ -70,9 +88,9 @@ module _ {D : Type 0} (shown : D → Device) (command : Command) (old : OpenArea
         let either = either_way shown command mid texts begun.reply begun.coming begun.begun to in
         let P : Files → Type 0 = OpensForEither command (state_of texts mid.held) in
         let leaves = leaves_only_weaken (OpensToEither mid.held texts begun.coming) P (shown mid.disk) (shown new.disk) either
-        (crash texts begun.reply begun.coming begun.begun files (begins.reads.contents ∙ there)) in
-        subst (λ (l : Loaded). LeavesOnly (shown old.disk) (shown new.disk) (OpensForEither command (state_of texts l))) begins.loaded
-        (leaves_only_after P (shown old.disk) (shown mid.disk) (shown new.disk) begins.reads leaves)
+        (let mid_there = told_alike (shown old.disk).contents (shown mid.disk).contents files begins.alike there in crash texts begun.reply begun.coming begun.begun mid_there.0 mid_there.1) in
+        leaves_only_then (OpensForEither command (state_of texts old.held)) (shown old.disk) (shown mid.disk) (shown new.disk) (left_begun mid (Ok tt) begins files there texts rests)
+        (subst (λ (l : Loaded). LeavesOnly (shown mid.disk) (shown new.disk) (OpensForEither command (state_of texts l))) begins.loaded leaves)
 
     -- it was done, and its line printed
     pub command_done : (text : List ℕ) (said answered : Reply) → HasRest shown old → tool_answer said ≡ Ok text
@@ -116,27 +134,35 @@ module _ {D : Type 0} (shown : D → Device) (command : Command) (old : OpenArea
     }
 
     -- it was dropped, for want of memory or since the texts are too long
-    pub command_dropped : (said : Reply) (error : ToolError) → HasNoLine said error
+    pub command_dropped : (said : Reply) (error : ToolError) → HasRest shown old → HasNoLine said error
         → ((texts : List ℕ) (decided : Reply) (coming : Coming) → IsBegun shown mid texts decided coming → said ≡ decided)
         → shown new.disk ≡ shown mid.disk → DoesCommand shown command old new (Err error)
-    command_dropped said error none decided same =
-        let kept : OnlyReads (shown old.disk) (shown new.disk) = subst (OnlyReads (shown old.disk)) (sym same) begins.reads in
+    command_dropped said error rest none decided same =
+        let was = begins.begun rest.texts rest.rests in
         record {
           answered = tt;
           now = tt;
           synced = tt;
           failed = elim none [
-            | inl memory ↦ inr (inl (memory, kept, ap (λ (d : Device). d.faults) same ∙ begins.quiet))
+            | inl memory ↦ inr (inl (
+              memory,
+              record {
+                reads = subst (λ (d : Device). OnlyReadsOrCopies command (shown old.disk) d) (sym same) begins.reads;
+                synced = λ texts rests. subst IsAllSynced (sym same) (begins.begun texts rests).begun.kept.settled.synced;
+              },
+              ap (λ (d : Device). d.faults) same ∙ begins.quiet,
+            ))
             | inr full ↦ inr (inr (
               full.0,
               full.1,
-              kept,
+              subst (OnlyReads (shown old.disk)) (sym same)
+                  (begins.idle (was.idle (inl (ap is_refusal (sym (decided rest.texts was.reply was.coming was.begun) ∙ full.2)))).0),
               λ files there texts rests.
                   let begun = begins.begun texts rests in
                   ap (λ (a : Answered). tool_answer a.reply) (becomes texts files there rests)
                   ∙ ap (λ (r : Reply). tool_answer r) (sym (decided texts begun.reply begun.coming begun.begun) ∙ full.2),
             ))
           ];
-          crash = λ files there texts rests. left_reading shown command old texts files (shown new.disk) there rests kept;
+          crash = λ files there texts rests. subst (λ (d : Device). LeavesOnly (shown old.disk) d (OpensForEither command (state_of texts old.held))) (sym same) (left_begun mid (Ok tt) begins files there texts rests);
           later = subst (λ (d : Device). (shown old.disk).faults ≤ d.faults) (sym same) begins.later;
         }

@@ -1,6 +1,6 @@
 -- The opening of a base, and what a tool that tends its area makes of it then.
 use Rattle.std.proofs.Common.{◌≡◌, inl, inr, ℕ, List, [], ◌∷◌, refl, sym, ◌∙◌, subst, Some}
-use Rattle.std.specs.Prelude.{IsSome, Ok, Err, ◌⊎◌}
+use Rattle.std.specs.Prelude.{Ok, Err, ◌⊎◌}
 use Rattle.std.specs.Option.{ForSome}
 use Rattle.jb_area.specs.Calls.{HasRest}
 use Rattle.jb_area.specs.Holds.{Opens}
@@ -11,7 +11,7 @@ use Rattle.jb_area_open.specs.declared.error.OpeningError.TheVariants.{BadJourna
 use Rattle.jb_base.specs.Fault.{Rose}
 use Rattle.jb_base.specs.declared.limits.TheConstants.{MOST_SLOTS}
 use Rattle.jb_disk.proofs.RunLemmas.{runs-refl, runs-then, runs-weaken}
-use Rattle.jb_disk.specs.Device.{Device, OnlyReads}
+use Rattle.jb_disk.specs.Device.{Device}
 use Rattle.jb_disk.specs.Files.{Files}
 use Rattle.jb_disk.specs.Images.{Images}
 use Rattle.jb_disk.specs.Runs.{LeavesNow}
@@ -41,23 +41,13 @@ nothing_left command device = λ was there safe. record {
 pub refused_tends : (command : Command) (before after : Device) (error : OpeningError) → Refuses MOST_SLOTS before after error → OpeningFaultRose before.faults after.faults error
     → Tends command before after (Err (of_opening error))
 refused_tends command before after (bad_journal at) refuses rose = refuses
-refused_tends command before after (Base error) refuses rose = inr (refuses, rose)
+refused_tends command before after (Base error) refuses rose = inr (inl (refuses, rose))
 
 -- and what a crash leaves then
 pub refused_left : (command : Command) (before after : Device) → KeepsOpening before after → KeepsOrTends command before after
 refused_left command before after keeps = λ was there safe.
     leaves_only_weaken (OpensAsAtStart before.moments) (λ files. OpensAsAtStart before.moments files ⊎ IsOldOrNew command was files) before after
     (λ files opens. inl opens) (keeps was there safe)
-
--- reads leave a base recovered
-recovered_read : (was : Files) (mid after : Device) → OnlyReads mid after → IsRecovered was mid → IsRecovered was after
-recovered_read was mid after kept is = record {
-  record_found = is.record_found;
-  replayed = λ safe now now_is. is.replayed safe now (sym kept.contents ∙ now_is);
-  told = subst IsSome (sym kept.contents) is.told;
-  shut = λ now now_is. is.shut now (sym kept.contents ∙ now_is);
-  synced = λ now now_is. subst (LeavesNow (λ left. left ≡ now)) (sym kept.moments) (is.synced now (sym kept.contents ∙ now_is));
-}
 
 module _ {D : Type 0} (shown : D → Device) (command : Command) (before : Device) (area : OpenArea D)
     (recovered : ForSome before.contents (λ was. IsRecovered was (shown area.disk)))
@@ -110,10 +100,14 @@ module _ {D : Type 0} (shown : D → Device) (command : Command) (before : Devic
         }
     tends_opened (Err error) changes = elim changes.failed [
       | inl fault ↦ subst (λ (e : ToolError). Tends command before (shown new.disk) (Err e)) (sym fault.0)
-          (inr (λ other. absurd (other refl), subst (λ (n : ℕ). Rose n (shown new.disk).faults) quiet fault.1))
+          (inr (inl (λ other. absurd (other refl), subst (λ (n : ℕ). Rose n (shown new.disk).faults) quiet fault.1)))
       | inr unchanged ↦ elim unchanged [
         | inl memory ↦ subst (λ (e : ToolError). Tends command before (shown new.disk) (Err e)) (sym memory.0)
-            (inr (λ other. record { recovered = λ was there. recovered_read was (shown area.disk) (shown new.disk) memory.1 (recovered was there); refused = λ files is. tt }, memory.2 ∙ quiet))
+            (inr (inr (
+              refl,
+              λ was there. record { opening = shown area.disk; recovered = recovered was there; reads = memory.1.reads; synced = memory.1.synced rest.texts rest.rests },
+              memory.2 ∙ quiet,
+            )))
         | inr full ↦ subst (λ (e : ToolError). Tends command before (shown new.disk) (Err e)) (sym full.1) (λ was there.
             let now = opened_files was there in
             let kept = full.2 in

@@ -2,6 +2,7 @@
 use Rattle.std.specs.Prelude.{◌≡◌, ◌⊎◌, ℕ, ◌≤◌, List, Ok, Err, IfErr, IfOk, OnOk}
 use Rattle.std.specs.Option.{ForSome}
 use Rattle.jb_area.specs.Area.{IsResting}
+use Rattle.jb_area.specs.Calls.{OnlyReadsOrCopies}
 use Rattle.jb_area.specs.declared.area.OpenArea.{OpenArea}
 use Rattle.jb_base.specs.Fault.{Rose}
 use Rattle.jb_base.specs.declared.limits.TheConstants.{MOST_SLOTS}
@@ -41,11 +42,17 @@ module _ {D : Type 0} (shown : D → Device) where
   abbrev pub WhereTold : OpenArea D → (AreaState → Type 0) → Type 0
   WhereTold area claim = ForSome (shown area.disk).contents (λ files. (texts : List ℕ) → IsResting shown area texts → claim (state_of texts area.held))
 
-  -- why the command was not done: a fault that the disk counted, or want of memory, which hides none, or texts that are too long, and after these nothing was written
+  -- nothing was written but copies of texts, of a pack, and all is synced as it was
+  pub record IsLeft (command : Command) (old new : OpenArea D) : Type 0 where
+    pub reads : OnlyReadsOrCopies command (shown old.disk) (shown new.disk)
+    pub synced : (texts : List ℕ) → IsResting shown old texts → IsAllSynced (shown new.disk)
+
+  -- why the command was not done: a fault that the disk counted, or want of memory, which hides none, or texts that are too long, and after these nothing was written,
+  -- but for the copies of a pack that wants memory
   abbrev pub IsStoppedBy : Command → OpenArea D → OpenArea D → ToolError → Type 0
   IsStoppedBy command old new error =
       ((error ≡ Open refused.StoreFault) × Rose (shown old.disk).faults (shown new.disk).faults)
-      ⊎ (((error ≡ Open refused.OutOfMemory) × OnlyReads (shown old.disk) (shown new.disk) × ((shown new.disk).faults ≡ (shown old.disk).faults))
+      ⊎ (((error ≡ Open refused.OutOfMemory) × IsLeft command old new × ((shown new.disk).faults ≡ (shown old.disk).faults))
       ⊎ ((length : ℕ) × (error ≡ TextFull length) × OnlyReads (shown old.disk) (shown new.disk)
       × WhereTold old (λ area. tool_answer (answer_to command area).reply ≡ Err (TextFull length))))
 

@@ -1,6 +1,7 @@
 -- What a tool that tends the area answers, and what it makes of the files of a base.
 use Rattle.std.specs.Prelude.{◌≡◌, ◌⊎◌, ℕ, List, [], ◌∷◌, ◌++◌, Result, Ok, Err, codes}
 use Rattle.std.specs.Option.{ForSome}
+use Rattle.jb_area.specs.Calls.{OnlyReadsOrCopies}
 use Rattle.jb_area_open.specs.Opening.{OpeningFaultRose, IsRecovered, OpensAsAtStart, Refuses}
 use Rattle.jb_area_open.specs.declared.error.OpeningError.TheVariants.{BadJournal as bad_journal, Base}
 use Rattle.jb_base.specs.declared.area.AreaRules.{AreaRules}
@@ -81,18 +82,27 @@ pub record IsTended (command : Command) (answer : Answer) (was : Files) (after :
   pub now : ForSome after.contents (λ files. StandsFor MOST_SLOTS files new)
   pub synced : IsAllSynced after
 
--- the area is not tended: there was no memory, and nothing was done; or the base is not opened, or not changed after that, for this, and a fault has its cause
-abbrev pub IsNotTended : Device → Device → OpenError → Type 0
-IsNotTended before after error =
+-- the base was recovered, and after that nothing was written but copies of texts, of a pack, which are synced
+pub record IsLeftRecovered (command : Command) (was : Files) (after : Device) : Type 0 where
+  pub opening : Device
+  pub recovered : IsRecovered was opening
+  pub reads : OnlyReadsOrCopies command opening after
+  pub synced : IsAllSynced after
+
+-- the area is not tended: there was no memory, and nothing was done; or the base is not opened, or not changed after that, for this, and a fault has its cause; or there
+-- was no memory once it was opened
+abbrev pub IsNotTended : Command → Device → Device → OpenError → Type 0
+IsNotTended command before after error =
     ((error ≡ no_memory) × (after ≡ before))
-    ⊎ (Refuses MOST_SLOTS before after (Base error) × OpeningFaultRose before.faults after.faults (Base error))
+    ⊎ ((Refuses MOST_SLOTS before after (Base error) × OpeningFaultRose before.faults after.faults (Base error))
+    ⊎ ((error ≡ no_memory) × ForSome before.contents (λ was. IsLeftRecovered command was after) × (after.faults ≡ before.faults)))
 
 -- a tool that has this command done
 abbrev pub Tends : Command → Device → Device → Answer → Type 0
 Tends command before after (Ok text) = ForSome before.contents (λ was. IsTended command (Ok text) was after)
 Tends command before after (Err (TextFull length)) = ForSome before.contents (λ was. IsTended command (Err (TextFull length)) was after)
 Tends command before after (Err (BadJournal at)) = Refuses MOST_SLOTS before after (bad_journal at)
-Tends command before after (Err (Open error)) = IsNotTended before after error
+Tends command before after (Err (Open error)) = IsNotTended command before after error
 Tends command before after (Err AlreadyThere) = ⊥
 
 -- the base opened to an area, and these files open to it or to the one that the command makes of it

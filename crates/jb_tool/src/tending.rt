@@ -68,7 +68,8 @@ fn of_area(error: AreaError) -> ToolError
     }
 }
 
-/// Has a command done in an open area, and gives the line of the reply, which is made before anything is written.
+/// Has a command done in an open area, and gives the line of the reply, which is made before anything is written but the copies
+/// of a pack in .NDT.
 fn tend_area<D: Disk>(
     alloc: Global,
     area: &mut OpenArea<D>,
@@ -131,7 +132,8 @@ pub fn relink<D: Disk>(alloc: Global, disk: D) -> (D, Result<Bytes, ToolError>)
 
 /// Drops the killed messages of the base on a disk, once the change is done that waits in its journal, and writes its files anew
 /// without gaps; each message keeps its number. Says the base number then, how many messages are live, and how many were
-/// dropped. Refused as `TextFull` where the live texts have more bytes than .JDT may have; then all is as it was.
+/// dropped. Refused as `TextFull` where the live texts have more bytes than .JDT may have; then all is as it was. Where it wants
+/// memory, .NDT alone may be another one.
 pub fn pack<D: Disk>(alloc: Global, disk: D) -> (D, Result<Bytes, ToolError>)
     ensures answer { Tends packing (D.device disk) (D.device result.0) result.1 }
     ensures crash { KeepsOrTends packing (D.device disk) (D.device result.0) }

@@ -1,7 +1,7 @@
 -- What a call leaves, from the contract that it meets.
-use Rattle.std.specs.Prelude.{◌≡◌, ℕ, List, None, Some, Result, Ok, Err, IfOk, OnErr}
+use Rattle.std.specs.Prelude.{◌≡◌, ℕ, Bool, List, None, Some, Result, Ok, Err, IfOk, OnErr}
 use Rattle.jb_area.specs.Area.{HasBegun, HasDoubt, IsBegun, IsDoubtful, RestsAt}
-use Rattle.jb_area.specs.Calls.{BeginsCall, HasRest, MeetsCall}
+use Rattle.jb_area.specs.Calls.{BeginsCall, HasRest, MeetsCall, StepsPack}
 use Rattle.jb_area.specs.declared.area.OpenArea.{OpenArea}
 use Rattle.jb_base.specs.declared.user.User.{User}
 use Rattle.jb_decide.specs.declared.error.AreaError.{AreaError}
@@ -24,6 +24,13 @@ leaves shown old new user moment command (Err StoreFault) has meets =
     record { texts = has.texts; coming = stopped.coming; doubt = stopped.doubt }
 leaves shown old new user moment command (Err OutOfMemory) has meets =
     record { texts = has.texts; rests = (meets.failed has.texts has.rests).0.rests }
+
+-- a step of a pack
+pub leaves_copied : {D : Type 0} (shown : D → Device) (old new : OpenArea D) (result : Result Bool AreaError)
+    → HasRest shown old → StepsPack shown old new result → Leaves shown new result
+leaves_copied shown old new (Ok more) has steps = record { texts = has.texts; rests = (steps.done has.texts has.rests).rests }
+leaves_copied shown old new (Err StoreFault) has steps = record { texts = has.texts; coming = None; doubt = steps.failed has.texts has.rests }
+leaves_copied shown old new (Err OutOfMemory) has steps = record { texts = has.texts; rests = (steps.failed has.texts has.rests).rests }
 
 -- a call that is begun
 pub leaves_begun : {D : Type 0} (shown : D → Device) (old new : OpenArea D) (user : User) (moment : ℕ) (command : Command) (result : Result (Unit {0}) AreaError)

@@ -10,19 +10,22 @@ use Rattle.jb_journal.specs.declared.stopped.Stopped.{Stopped}
 use Rattle.jb_model.specs.declared.reply.Reply.{Reply}
 
 module _ {D : Type 0} (shown : D → Device) where
-  -- an area in doubt behind a fault, and else at rest
-  abbrev pub Leaves : OpenArea D → Result Reply AreaError → Type 0
-  Leaves area (Ok reply) = HasRest shown area
-  Leaves area (Err StoreFault) = HasDoubt shown area
-  Leaves area (Err OutOfMemory) = HasRest shown area
+  -- a call that was not done leaves an area in doubt behind a fault, and at rest without memory
+  abbrev pub LeavesFailed : OpenArea D → AreaError → Type 0
+  LeavesFailed area StoreFault = HasDoubt shown area
+  LeavesFailed area OutOfMemory = HasRest shown area
 
-  -- an area with the call begun, in doubt behind a fault, and at rest without memory
+  -- one that was done leaves an area at rest
+  abbrev pub Leaves : {A : Type 0} → OpenArea D → Result A AreaError → Type 0
+  Leaves area (Ok done) = HasRest shown area
+  Leaves area (Err error) = LeavesFailed area error
+
+  -- one that was begun leaves an area with the call begun
   abbrev pub LeavesBegun : OpenArea D → Result (Unit {0}) AreaError → Type 0
   LeavesBegun area (Ok _) = HasBegun shown area
-  LeavesBegun area (Err StoreFault) = HasDoubt shown area
-  LeavesBegun area (Err OutOfMemory) = HasRest shown area
+  LeavesBegun area (Err error) = LeavesFailed area error
 
-  -- an area at rest behind a reply, and else in doubt
+  -- one that is finished leaves an area at rest behind a reply, and else in doubt
   abbrev pub LeavesEnded : OpenArea D → Result Reply Stopped → Type 0
   LeavesEnded area (Ok reply) = HasRest shown area
   LeavesEnded area (Err stopped) = HasDoubt shown area

@@ -2,14 +2,16 @@
 ghost use Rattle.jb_area.specs.Area.{HasDoubt};
 ghost use Rattle.jb_area.specs.Calls.{HasRest};
 ghost use Rattle.jb_disk.specs.Silent.{silent_device};
+ghost use Rattle.trial_areas.specs.Leaves.{LeavesFailed};
 
-use crate::calling::{abandon, begin, call, finish, reopen, run};
+use crate::calling::{abandon, ask, begin, copy, finish, reopen};
 use crate::quiet::Quiet;
 use crate::showing::{memory_words, reply_words, words};
 use jb_area::{AreaError, OpenArea};
 use jb_area_open::{OpeningError, open_area};
 use jb_base::{
-    AreaRules, Bytes, Kind, MOST_ADDRESS_BYTES, MOST_NAME_BYTES, MOST_SLOTS, OutOfMemory,
+    AreaRules, Bytes, Kind, MOST_ADDRESS_BYTES, MOST_NAME_BYTES, MOST_SLOTS, MOST_TEXT_BYTES,
+    OutOfMemory, User,
 };
 use jb_model::{Asked, Loaded, Reply};
 use std::alloc::Global;
@@ -72,6 +74,8 @@ impl Model for Doubtful {
 pub(crate) enum Outcome {
     Opened,
     Replied(Reply),
+    /// Texts were copied for a pack, and whether one is left.
+    Copied(bool),
     Begun,
     Abandoned,
     Stands,
@@ -125,6 +129,16 @@ fn in_doubt(area: OpenArea<Quiet>) -> Area
     }
 }
 
+// An area whose call was not done.
+fn not_done(area: OpenArea<Quiet>, error: AreaError) -> Area
+    requires { LeavesFailed silent_device area error }
+{
+    match error {
+        AreaError::StoreFault => in_doubt(area),
+        AreaError::OutOfMemory => at_rest(area, Outcome::NoMemory),
+    }
+}
+
 // An area that is not asked in its stage.
 fn not_asked(stage: Stage) -> Area {
     Area {
@@ -161,29 +175,15 @@ fn opened(alloc: Global, disk: Quiet, rules: AreaRules) -> Result<Area, RowError
 }
 
 impl Resting {
-    // The command by the call of all.
-    fn run(self, alloc: Global, asked: &Asked) -> Area {
+    // A command, by the call of all commands or by that of its own.
+    fn ask(self, alloc: Global, asked: &Asked, own: bool) -> Area {
         let mut area = self.area;
         if asked.user.name.as_slice().len() > MOST_NAME_BYTES {
             return at_rest(area, Outcome::NotAsked);
         }
-        match run(alloc, &mut area, asked) {
+        match ask(alloc, &mut area, asked, own) {
             Ok(reply) => at_rest(area, Outcome::Replied(reply)),
-            Err(AreaError::StoreFault) => in_doubt(area),
-            Err(AreaError::OutOfMemory) => at_rest(area, Outcome::NoMemory),
-        }
-    }
-
-    // The command by the call of its own.
-    fn call(self, alloc: Global, asked: &Asked) -> Area {
-        let mut area = self.area;
-        if asked.user.name.as_slice().len() > MOST_NAME_BYTES {
-            return at_rest(area, Outcome::NotAsked);
-        }
-        match call(alloc, &mut area, asked) {
-            Ok(reply) => at_rest(area, Outcome::Replied(reply)),
-            Err(AreaError::StoreFault) => in_doubt(area),
-            Err(AreaError::OutOfMemory) => at_rest(area, Outcome::NoMemory),
+            Err(error) => not_done(area, error),
         }
     }
 
@@ -198,8 +198,19 @@ impl Resting {
                 stage: Stage::Begun(Begun { area }),
                 outcome: Outcome::Begun,
             },
-            Err(AreaError::StoreFault) => in_doubt(area),
-            Err(AreaError::OutOfMemory) => at_rest(area, Outcome::NoMemory),
+            Err(error) => not_done(area, error),
+        }
+    }
+
+    // A step of a pack.
+    fn copy(self, alloc: Global, user: &User, budget: u32) -> Area {
+        let mut area = self.area;
+        if budget < MOST_TEXT_BYTES {
+            return at_rest(area, Outcome::NotAsked);
+        }
+        match copy(alloc, &mut area, user, budget) {
+            Ok(more) => at_rest(area, Outcome::Copied(more)),
+            Err(error) => not_done(area, error),
         }
     }
 }
@@ -245,49 +256,42 @@ impl Area {
         opened(alloc, disk, rules_of(alloc, slots)?)
     }
 
-    /// The command from its beginning to its end.
-    pub(crate) fn run(self, alloc: Global, asked: &Asked) -> Area {
+    // Its stage.
+    fn stage(self) -> Stage {
         let Area {
             stage,
             outcome: _outcome,
         } = self;
-        match stage {
-            Stage::Resting(area) => area.run(alloc, asked),
+        stage
+    }
+
+    /// A command, by the call of all commands or by that of its own.
+    pub(crate) fn ask(self, alloc: Global, asked: &Asked, own: bool) -> Area {
+        match self.stage() {
+            Stage::Resting(area) => area.ask(alloc, asked, own),
             stage => not_asked(stage),
         }
     }
 
-    /// The same, by the call of the command's own.
-    pub(crate) fn call(self, alloc: Global, asked: &Asked) -> Area {
-        let Area {
-            stage,
-            outcome: _outcome,
-        } = self;
-        match stage {
-            Stage::Resting(area) => area.call(alloc, asked),
-            stage => not_asked(stage),
-        }
-    }
-
-    /// Begins the command.
+    /// Begins a command.
     pub(crate) fn begin(self, alloc: Global, asked: &Asked) -> Area {
-        let Area {
-            stage,
-            outcome: _outcome,
-        } = self;
-        match stage {
+        match self.stage() {
             Stage::Resting(area) => area.begin(alloc, asked),
+            stage => not_asked(stage),
+        }
+    }
+
+    /// A step of a pack, that copies so many bytes at most.
+    pub(crate) fn copy(self, alloc: Global, user: &User, budget: u32) -> Area {
+        match self.stage() {
+            Stage::Resting(area) => area.copy(alloc, user, budget),
             stage => not_asked(stage),
         }
     }
 
     /// Finishes the call that is begun.
     pub(crate) fn finish(self) -> Area {
-        let Area {
-            stage,
-            outcome: _outcome,
-        } = self;
-        match stage {
+        match self.stage() {
             Stage::Begun(area) => area.finish(),
             stage => not_asked(stage),
         }
@@ -295,11 +299,7 @@ impl Area {
 
     /// Drops the call that is begun.
     pub(crate) fn abandon(self) -> Area {
-        let Area {
-            stage,
-            outcome: _outcome,
-        } = self;
-        match stage {
+        match self.stage() {
             Stage::Begun(area) => area.abandon(),
             stage => not_asked(stage),
         }
@@ -307,11 +307,7 @@ impl Area {
 
     /// Settles the call that was stopped.
     pub(crate) fn reopen(self) -> Area {
-        let Area {
-            stage,
-            outcome: _outcome,
-        } = self;
-        match stage {
+        match self.stage() {
             Stage::Doubtful(area) => area.reopen(),
             stage => not_asked(stage),
         }
@@ -331,6 +327,7 @@ impl Area {
     pub(crate) fn words(&self, alloc: Global) -> Result<String, RowError> {
         match &self.outcome {
             Outcome::Replied(reply) => reply_words(alloc, reply),
+            Outcome::Copied(more) => Ok(format!(in alloc; "{more}")?),
             other => Ok(format!(in alloc; "{other:?}")?),
         }
     }
@@ -390,11 +387,7 @@ impl Area {
 
     /// The disk.
     pub(crate) fn close(self) -> Quiet {
-        let Area {
-            stage,
-            outcome: _outcome,
-        } = self;
-        match stage {
+        match self.stage() {
             Stage::Resting(area) => area.area.close(),
             Stage::Begun(area) => area.area.close(),
             Stage::Doubtful(area) => area.area.close(),

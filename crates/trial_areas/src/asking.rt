@@ -1,5 +1,6 @@
 //! Who asks, and what, in the words of a row.
 
+use crate::area::Area;
 use jb_base::{Bytes, Name, OutOfMemory, User};
 use jb_model::{Asked, Command};
 use std::alloc::Global;
@@ -8,13 +9,30 @@ use trial_rows::{Row, RowError};
 /// The moment of every call, in seconds since 1970.
 const MOMENT: u32 = 1_000_000_000;
 
-/// The user of this name: `Test` may post, `Hello` is one level below the sysop, `Sysop` tends the area, `Guest` is one level
-/// below those who read, `Reader` one below those who post.
+/// What is asked of an area: a command, or a step of a pack, that copies so many bytes at most.
+#[derive(Debug, Drop)]
+pub(crate) enum Act {
+    Command(Asked),
+    Copy { user: User, budget: u32 },
+}
+
+/// How a command is asked: by the call of all commands, by that of its own, begun alone, or in two parts.
+#[derive(Clone, Copy, Debug)]
+pub(crate) enum Way {
+    All,
+    Own,
+    Begun,
+    Parts,
+}
+
+/// The user of this name: `Test` may post, `Hello` is one level below those who tend the area, `Sysop` and `Cosysop`, `Guest` is
+/// one level below those who read, `Reader` one below those who post.
 pub(crate) fn user_of(alloc: Global, name: &str) -> Result<User, RowError> {
     let (id, level) = match name {
         "Test" => (7, 20),
         "Hello" => (8, 199),
         "Sysop" => (1, 200),
+        "Cosysop" => (2, 200),
         "Guest" => (9, 9),
         "Reader" => (10, 19),
         _ => return Err(RowError::Unknown(0)),
@@ -28,6 +46,17 @@ fn letters(alloc: Global, count: u32) -> Result<Bytes, OutOfMemory> {
     Ok(Bytes::from(vec![in alloc; b'a'; count as usize]?))
 }
 
+// A public post.
+fn public_post(to: Name, subject: Bytes, text: Bytes, reply_to: u32) -> Command {
+    Command::Post {
+        to,
+        subject,
+        text,
+        reply_to,
+        private: false,
+    }
+}
+
 /// A public post whose name, subject and text have so many bytes.
 pub(crate) fn sized_post(
     alloc: Global,
@@ -37,13 +66,10 @@ pub(crate) fn sized_post(
     reply_to: u32,
 ) -> Result<Command, OutOfMemory> {
     let to = letters(alloc, to)?;
-    Ok(Command::Post {
-        to: Name::copy(alloc, to.as_slice())?,
-        subject: letters(alloc, subject)?,
-        text: letters(alloc, text)?,
-        reply_to,
-        private: false,
-    })
+    let to = Name::copy(alloc, to.as_slice())?;
+    let subject = letters(alloc, subject)?;
+    let text = letters(alloc, text)?;
+    Ok(public_post(to, subject, text, reply_to))
 }
 
 // A post with the name, subject and text of these places.
@@ -52,13 +78,7 @@ fn post_in(alloc: Global, row: &Row, place: usize) -> Result<Command, RowError> 
     let subject = row.bytes(alloc, place.saturating_add(1))?;
     let text = row.bytes(alloc, place.saturating_add(2))?;
     let reply_to = row.u32(place.saturating_add(3))?;
-    Ok(Command::Post {
-        to,
-        subject,
-        text,
-        reply_to,
-        private: false,
-    })
+    Ok(public_post(to, subject, text, reply_to))
 }
 
 // A post whose sizes stand at these places.
@@ -120,21 +140,49 @@ pub(crate) fn asked_by(user: User, command: Command) -> Asked {
     }
 }
 
-/// What is asked from this place on: the name of the user, and a command.
-pub(crate) fn asked_in(alloc: Global, row: &Row, place: usize) -> Result<Asked, RowError> {
+// What is asked from this place on: the name of the user, and a command or a step of a pack.
+fn act_in(alloc: Global, row: &Row, place: usize) -> Result<Act, RowError> {
     let user = user_of(alloc, row.word(place)?)?;
-    let command = command_in(alloc, row, place.saturating_add(1))?;
-    Ok(asked_by(user, command))
+    let next = place.saturating_add(1);
+    if row.word(next)? == "copy" {
+        let budget = row.u32(next.saturating_add(1))?;
+        return Ok(Act::Copy { user, budget });
+    }
+    let command = command_in(alloc, row, next)?;
+    Ok(Act::Command(asked_by(user, command)))
 }
 
 /// All that is asked in a row from its second word on, with `;` between two.
-pub(crate) fn all_in(alloc: Global, row: &Row) -> Result<Vec<Asked>, RowError> {
+pub(crate) fn all_in(alloc: Global, row: &Row) -> Result<Vec<Act>, RowError> {
     let mut all = Vec::new(alloc);
-    all.push(asked_in(alloc, row, 1)?)?;
+    all.push(act_in(alloc, row, 1)?)?;
     for place in 1..row.len() {
         if row.word(place)? == ";" {
-            all.push(asked_in(alloc, row, place.saturating_add(1))?)?;
+            all.push(act_in(alloc, row, place.saturating_add(1))?)?;
         }
     }
     Ok(all)
+}
+
+// A command in two parts; where its beginning is stopped, that alone.
+fn in_parts(alloc: Global, area: Area, asked: &Asked) -> Area {
+    let area = area.begin(alloc, asked);
+    if area.is_stopped() {
+        return area;
+    }
+    area.finish()
+}
+
+/// Asks this of the area. A step of a pack has one way alone.
+pub(crate) fn ask(alloc: Global, area: Area, act: &Act, way: Way) -> Area {
+    let asked = match act {
+        Act::Copy { user, budget } => return area.copy(alloc, user, *budget),
+        Act::Command(asked) => asked,
+    };
+    match way {
+        Way::All => area.ask(alloc, asked, false),
+        Way::Own => area.ask(alloc, asked, true),
+        Way::Begun => area.begin(alloc, asked),
+        Way::Parts => in_parts(alloc, area, asked),
+    }
 }

@@ -6,6 +6,7 @@ use jb_base::{Bytes, OutOfMemory};
 use jb_disk::{FileId, MemDisk};
 use std::alloc::Global;
 use std::array;
+use std::fmt::Write;
 use trial_rows::{Row, RowError, hexed};
 
 /// The files of a base, the most slots that its area may have, and dead bytes.
@@ -148,6 +149,17 @@ impl Base {
         }
     }
 
+    /// `runs FILE`: each run of equal bytes, by their number and the byte.
+    pub(crate) fn runs(&self, alloc: Global, row: &Row) -> Result<String, RowError> {
+        let mut text = String::from_str(alloc, "runs")?;
+        for run in self.files.file(file_in(row, 1)?).chunk_by(|a, b| a == b) {
+            if let Some(byte) = run.first() {
+                write!(text, " {}*{byte}", run.len())?;
+            }
+        }
+        Ok(text)
+    }
+
     /// A disk with the files, that fails the calls with these numbers.
     pub(crate) fn disk(&self, alloc: Global, failing: &[u64]) -> Result<Quiet, RowError> {
         let files = copies(alloc, &self.files)?;
@@ -174,9 +186,9 @@ impl Base {
         Ok(self.opened(alloc)?.calls())
     }
 
-    /// Whether the disk holds the files of the base.
-    pub(crate) fn is_in(&self, disk: &Quiet) -> bool {
-        (0..6).all(|number| disk.file(file_of(number)) == self.files.file(file_of(number)))
+    /// Whether the disk holds as many of the first files of the base; the sixth is .NDT.
+    pub(crate) fn is_in(&self, disk: &Quiet, files: usize) -> bool {
+        (0..files).all(|number| disk.file(file_of(number)) == self.files.file(file_of(number)))
     }
 
     /// Takes the files that the disk holds.
@@ -203,6 +215,13 @@ pub(crate) fn stand(alloc: Global, area: Area) -> Result<(Quiet, String), RowErr
     Ok((disk, words))
 }
 
+/// What stands in an area, and what it answered last.
+pub(crate) fn came_of(alloc: Global, area: Area) -> Result<(String, String), RowError> {
+    let reply = area.words(alloc);
+    let (_disk, stood) = stand(alloc, area)?;
+    Ok((stood, reply?))
+}
+
 impl Base {
     /// What stands in the area of the disk.
     pub(crate) fn stand_on(&self, alloc: Global, disk: Quiet) -> Result<String, RowError> {
@@ -217,14 +236,6 @@ impl Base {
             return Ok(false);
         }
         Ok(self.stand_on(alloc, disk)?.as_str() == wanted)
-    }
-
-    /// What is loaded when the disk is opened.
-    pub(crate) fn memory_on(&self, alloc: Global, disk: Quiet) -> Result<String, RowError> {
-        let area = self.over(alloc, disk)?;
-        let memory = area.memory(alloc);
-        let _disk = area.close();
-        memory
     }
 
     /// Whether this was answered last in the area, and this stands in it then.

@@ -2,38 +2,31 @@
 ghost use Rattle.std.specs.Prelude.{◌≤◌, OnErr, OnOk, length};
 ghost use Rattle.jb_area.specs.Area.{HasBegun, HasDoubt};
 ghost use Rattle.jb_area.specs.Calls.{HasRest};
+ghost use Rattle.jb_base.specs.declared.limits.TheConstants.{MOST_TEXT_BYTES};
 ghost use Rattle.trial_areas.specs.Leaves.{Leaves, LeavesBegun, LeavesEnded};
 
 use jb_area::{AreaError, OpenArea};
+use jb_base::User;
 use jb_disk::Disk;
 use jb_journal::Stopped;
 use jb_model::{Asked, Command, Reply};
 use jb_step::Draft;
 use std::alloc::Global;
 
-/// A command by the call of all commands.
-pub(crate) fn run<D: Disk>(
+/// A command, by the call of all commands or by that of its own.
+pub(crate) fn ask<D: Disk>(
     alloc: Global,
     area: &mut OpenArea<D>,
     asked: &Asked,
+    own: bool,
 ) -> Result<Reply, AreaError>
     requires rests { HasRest D.device area.old }
     requires name { length asked.now.user.name ≤ 36 }
     ensures { Leaves D.device area.new result }
 {
-    area.run(alloc, &asked.user, asked.moment, &asked.command)
-}
-
-/// A command by the call of its own.
-pub(crate) fn call<D: Disk>(
-    alloc: Global,
-    area: &mut OpenArea<D>,
-    asked: &Asked,
-) -> Result<Reply, AreaError>
-    requires rests { HasRest D.device area.old }
-    requires name { length asked.now.user.name ≤ 36 }
-    ensures { Leaves D.device area.new result }
-{
+    if !own {
+        return area.run(alloc, &asked.user, asked.moment, &asked.command);
+    }
     match &asked.command {
         Command::Post {
             to,
@@ -71,6 +64,20 @@ pub(crate) fn begin<D: Disk>(
     ensures { LeavesBegun D.device area.new result }
 {
     area.begin(alloc, &asked.user, asked.moment, &asked.command)
+}
+
+/// A step of a pack, that copies so many bytes at most.
+pub(crate) fn copy<D: Disk>(
+    alloc: Global,
+    area: &mut OpenArea<D>,
+    user: &User,
+    budget: u32,
+) -> Result<bool, AreaError>
+    requires rests { HasRest D.device area.old }
+    requires budget { MOST_TEXT_BYTES ≤ budget }
+    ensures { Leaves D.device area.new result }
+{
+    area.pack_some(alloc, user, budget)
 }
 
 /// Finishes a call that was begun.

@@ -6,7 +6,7 @@ use crate::base::{Base, stand};
 use crate::plain::{loaded_words, plain_words};
 use crate::quiet::Quiet;
 use crate::showing::{reply_words, words};
-use jb_base::Bytes;
+use jb_base::MOST_TEXT_BYTES;
 use jb_disk::FileId;
 use jb_model::{Area, Asked, Command, Marks, Reply, Slots};
 use jb_plain::{Replies, may_run, run_slow};
@@ -107,17 +107,22 @@ fn is_reply(alloc: Global, area: &Open, reply: &Reply) -> Result<bool, RowError>
     Ok(area.words(alloc)?.as_str() == wanted.as_str())
 }
 
-// How many of these are answered so in the open area.
+// How many of these are answered so in the open area. Before some of them their users copy texts for a pack, as drawn by lot; of that
+// the plain program knows nothing.
 fn ask_all(
     alloc: Global,
     area: Open,
+    lot: &mut Lot,
     list: &[Asked],
     replies: &[Reply],
 ) -> Result<(Open, u32), RowError> {
     let mut area = area;
     let mut count = 0_u32;
     for (asked, reply) in list.iter().zip(replies) {
-        area = area.run(alloc, asked);
+        if lot.draw(4) == 0 {
+            area = area.copy(alloc, &asked.user, MOST_TEXT_BYTES);
+        }
+        area = area.ask(alloc, asked, false);
         match is_reply(alloc, &area, reply) {
             Ok(true) => count = count.saturating_add(1),
             Ok(false) => {}
@@ -138,15 +143,6 @@ fn words_in(alloc: Global, area: &Open, texts: &[u8]) -> Result<String, RowError
     }
 }
 
-// The area of the disk in the words of the plain one.
-fn words_on(alloc: Global, base: &Base, disk: Quiet) -> Result<String, RowError> {
-    let texts = Bytes::copy(alloc, disk.file(FileId::Jdt))?;
-    let area = base.over(alloc, disk)?;
-    let words = words_in(alloc, &area, texts.as_slice());
-    let _disk = area.close();
-    words
-}
-
 // Whether the disk opens to the plain area, and to what stood in the area.
 fn is_plain(
     alloc: Global,
@@ -155,12 +151,11 @@ fn is_plain(
     plain: &Area,
     stood: &str,
 ) -> Result<bool, RowError> {
-    let again = base.stand_on(alloc, disk.copied()?)?;
-    if again.as_str() != stood {
-        return Ok(false);
-    }
-    let came = words_on(alloc, base, disk.copied()?)?;
-    Ok(plain_words(alloc, plain)?.as_str() == came.as_str())
+    let area = base.over(alloc, disk.copied()?)?;
+    let came = words_in(alloc, &area, disk.file(FileId::Jdt));
+    let (_disk, again) = stand(alloc, area)?;
+    let is_plain = plain_words(alloc, plain)?.as_str() == came?.as_str();
+    Ok(is_plain && again.as_str() == stood)
 }
 
 // The number that the next message gets.
@@ -169,22 +164,6 @@ fn next_of(plain: &Area) -> u32 {
     plain
         .base
         .saturating_add(u32::try_from(slots).unwrap_or(u32::MAX))
-}
-
-// A round in the open area over the disk: the disk then, and how many replies are the same, or none where the area is not.
-fn ask_open(
-    alloc: Global,
-    base: &Base,
-    disk: Quiet,
-    list: &[Asked],
-    plain: &Area,
-    replies: &[Reply],
-) -> Result<(Quiet, u32), RowError> {
-    let area = base.over(alloc, disk)?;
-    let (area, count) = ask_all(alloc, area, list, replies)?;
-    let (disk, stood) = stand(alloc, area)?;
-    let is_so = is_plain(alloc, base, &disk, plain, stood.as_str())?;
-    Ok((disk, if is_so { count } else { 0 }))
 }
 
 /// What was drawn and asked so far: the plain area, the disk of the open one, and how many replies were the same.
@@ -206,13 +185,16 @@ fn next_round(alloc: Global, base: &Base, race: Race) -> Result<Race, RowError> 
     } = race;
     let list = lot.round(alloc, plain.base, next_of(&plain))?;
     let (plain, replies) = run_plain(alloc, plain, list.as_slice())?;
-    let replies = replies.as_slice();
-    let (disk, same) = ask_open(alloc, base, disk, list.as_slice(), &plain, replies)?;
+    let area = base.over(alloc, disk)?;
+    let (area, same) = ask_all(alloc, area, &mut lot, list.as_slice(), replies.as_slice())?;
+    let (disk, stood) = stand(alloc, area)?;
+    let is_so = is_plain(alloc, base, &disk, &plain, stood.as_str())?;
+    let more = if is_so { same } else { 0 };
     Ok(Race {
         lot,
         plain,
         disk,
-        count: count.saturating_add(same),
+        count: count.saturating_add(more),
     })
 }
 

@@ -17,18 +17,12 @@ pub(crate) fn told(alloc: Global, base: &Base, area: &Area) -> Result<String, Ro
     let Some((error, disk)) = area.refusal() else {
         return Err(RowError::Unknown(0));
     };
-    let files = if base.is_in(disk) {
+    let files = if base.is_in(disk, 6) {
         "as they were"
     } else {
         "other ones"
     };
     Ok(format!(in alloc; "{error:?}, files {files}")?)
-}
-
-// Whether the disk opens to what this opening comes to.
-fn opens_to(alloc: Global, base: &Base, disk: Quiet, wanted: &str) -> Result<bool, RowError> {
-    let memory = base.memory_on(alloc, disk)?;
-    Ok(memory.as_str() == wanted)
 }
 
 // Whether the opening was refused for a fault.
@@ -43,7 +37,7 @@ fn is_fault(area: &Area) -> bool {
 fn faults(alloc: Global, base: &Base, call: u64, wanted: &str) -> Result<bool, RowError> {
     let area = base.open(alloc, &[call])?;
     let is_told = is_fault(&area);
-    let opens = opens_to(alloc, base, area.close(), wanted)?;
+    let opens = base.stand_on(alloc, area.close())?.as_str() == wanted;
     Ok(is_told && opens)
 }
 
@@ -63,7 +57,7 @@ fn images(alloc: Global, base: &Base, disk: &Quiet, wanted: &str) -> Result<u64,
     let mut count = 0_u64;
     for image in 0..disk.calls().saturating_add(1).saturating_mul(4) {
         let left = disk.crashed(image / 4, (image % 4) as u8)?;
-        if opens_to(alloc, base, left, wanted)? {
+        if base.stand_on(alloc, left)?.as_str() == wanted {
             count = count.saturating_add(1);
         }
     }
@@ -73,10 +67,10 @@ fn images(alloc: Global, base: &Base, disk: &Quiet, wanted: &str) -> Result<u64,
 /// `opening`: how many device calls the opening makes; how many of them are told as a fault where they fail, and leave what opens to
 /// the same; and how many images of crashes, four of each moment, open to the same.
 pub(crate) fn opening(alloc: Global, base: &Base) -> Result<String, RowError> {
-    let memory = base.memory_on(alloc, base.disk(alloc, &[])?)?;
+    let stood = base.stand_on(alloc, base.disk(alloc, &[])?)?;
     let disk = base.opened(alloc)?;
-    let faults = faults_in(alloc, base, disk.calls(), memory.as_str())?;
-    let images = images(alloc, base, &disk, memory.as_str())?;
+    let faults = faults_in(alloc, base, disk.calls(), stood.as_str())?;
+    let images = images(alloc, base, &disk, stood.as_str())?;
     let calls = disk.calls();
     Ok(format!(in alloc; "{calls} calls, {faults} faults, {images} images")?)
 }

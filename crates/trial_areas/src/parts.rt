@@ -1,43 +1,40 @@
 //! Calls in two parts: begun, with the reply that is coming, and finished, abandoned or stopped.
 
 use crate::area::Area;
-use crate::base::{Base, stand};
+use crate::asking::{Act, Way, ask};
+use crate::base::{Base, came_of, stand};
 use crate::showing::words;
-use crate::stops::{Case, asked_in};
-use jb_model::Asked;
+use crate::stops::{Case, Scene};
 use std::alloc::Global;
 use trial_rows::RowError;
 
-// The area of the base with the command begun.
-fn begun(alloc: Global, base: &Base, asked: &Asked) -> Result<Area, RowError> {
-    Ok(base.open(alloc, &[])?.begin(alloc, asked))
+// The area with the command begun.
+fn begun(alloc: Global, scene: Scene<'_>) -> Result<Area, RowError> {
+    let way = Way::Begun;
+    Scene { way, ..scene }.asked(alloc, &[])
 }
 
 // Whether the call in one piece is answered so too, and leaves the same.
 fn is_as_whole(alloc: Global, case: &Case<'_>) -> Result<bool, RowError> {
-    let (after, reply) = asked_in(alloc, case.base, case.asked, false)?;
+    let way = Way::All;
+    let area = Scene { way, ..case.scene }.asked(alloc, &[])?;
+    let (after, reply) = came_of(alloc, area)?;
     Ok(case.after.as_str() == after.as_str() && case.reply.as_str() == reply.as_str())
-}
-
-// The reply that is coming.
-fn coming_of(alloc: Global, base: &Base, asked: &Asked) -> Result<String, RowError> {
-    let area = begun(alloc, base, asked)?;
-    let coming = area.coming(alloc);
-    let _disk = area.close();
-    coming
 }
 
 // Whether the reply that is coming is the one that comes.
 fn is_coming(alloc: Global, case: &Case<'_>) -> Result<bool, RowError> {
-    let coming = coming_of(alloc, case.base, case.asked)?;
-    Ok(coming.as_str() == case.reply.as_str())
+    let area = begun(alloc, case.scene)?;
+    let coming = area.coming(alloc);
+    let _disk = area.close();
+    Ok(coming?.as_str() == case.reply.as_str())
 }
 
-// How many device calls the beginning makes, where the call abandoned then leaves all as it was.
+// How many device calls the beginning makes, where the call abandoned then leaves all as it was, but for the copies of a pack.
 fn reads(alloc: Global, case: &Case<'_>) -> Result<Option<u64>, RowError> {
-    let area = begun(alloc, case.base, case.asked)?.abandon();
+    let area = begun(alloc, case.scene)?.abandon();
     let (disk, came) = stand(alloc, area)?;
-    if !case.base.is_in(&disk) || came.as_str() != case.before.as_str() {
+    if !case.scene.base.is_in(&disk, 5) || came.as_str() != case.before.as_str() {
         return Ok(None);
     }
     Ok(Some(disk.calls().saturating_sub(case.opening)))
@@ -53,8 +50,8 @@ fn told(alloc: Global, case: &Case<'_>, reads: u64) -> Result<String, RowError> 
 
 /// `parts USER COMMAND`: the reply; how many device calls the beginning makes and how many the finishing; what a crash at each moment
 /// leaves; and what becomes of the command when it is stopped at each.
-pub(crate) fn parts(alloc: Global, base: &Base, asked: &Asked) -> Result<String, RowError> {
-    let case = Case::new(alloc, base, asked, true)?;
+pub(crate) fn parts(alloc: Global, base: &Base, all: &[Act]) -> Result<String, RowError> {
+    let case = Case::new(alloc, base, all, Way::Parts)?;
     if !is_as_whole(alloc, &case)? || !is_coming(alloc, &case)? {
         return words(alloc, "otherwise than in one piece");
     }
@@ -65,20 +62,22 @@ pub(crate) fn parts(alloc: Global, base: &Base, asked: &Asked) -> Result<String,
 }
 
 // Whether what is asked behind a call that was begun and abandoned is answered as without it, and leaves the same.
-fn is_alone(alloc: Global, base: &Base, dropped: &Asked, asked: &Asked) -> Result<bool, RowError> {
-    let (after, reply) = asked_in(alloc, base, asked, false)?;
-    let area = begun(alloc, base, dropped)?.abandon().run(alloc, asked);
+fn is_alone(alloc: Global, base: &Base, dropped: &Act, act: &Act) -> Result<bool, RowError> {
+    let alone = ask(alloc, base.open(alloc, &[])?, act, Way::All);
+    let (after, reply) = came_of(alloc, alone)?;
+    let area = ask(alloc, base.open(alloc, &[])?, dropped, Way::Begun).abandon();
+    let area = ask(alloc, area, act, Way::All);
     base.answers(alloc, area, reply.as_str(), after.as_str())
 }
 
 /// `behind USER COMMAND ; ..`: how many of these are answered as ever behind the first, which is begun and abandoned.
-pub(crate) fn behind(alloc: Global, base: &Base, all: &[Asked]) -> Result<String, RowError> {
+pub(crate) fn behind(alloc: Global, base: &Base, all: &[Act]) -> Result<String, RowError> {
     let mut count = 0_u32;
     let Some(first) = all.first() else {
         return Err(RowError::Missing(1));
     };
-    for asked in all {
-        if is_alone(alloc, base, first, asked)? {
+    for act in all {
+        if is_alone(alloc, base, first, act)? {
             count = count.saturating_add(1);
         }
     }

@@ -1,51 +1,49 @@
 //! Commands that are stopped at each of their device calls, with what a crash then leaves and what reopening finds.
 
 use crate::area::{Area, Outcome};
-use crate::base::{Base, stand};
+use crate::asking::{Act, Way, ask};
+use crate::base::{Base, came_of, stand};
 use crate::quiet::Quiet;
-use jb_model::Asked;
 use std::alloc::Global;
 use trial_rows::RowError;
 
 /// More than the device calls of any command.
 const MOST_CALLS: u64 = 500;
 
-/// A command that is asked in a base, in one piece or in two parts: how many device calls come before it, what stands before it
-/// and behind it, and its reply.
+/// What is asked in a copy of a base: what comes before it, by the call of all commands, and then the act itself and its way.
+#[derive(Clone, Copy)]
+pub(crate) struct Scene<'a> {
+    pub base: &'a Base,
+    pub first: &'a [Act],
+    pub act: &'a Act,
+    pub way: Way,
+}
+
+impl<'a> Scene<'a> {
+    // The area before the act, on a disk that fails the calls with these numbers.
+    fn reached(self, alloc: Global, failing: &[u64]) -> Result<Area, RowError> {
+        let mut area = self.base.open(alloc, failing)?;
+        for act in self.first {
+            area = ask(alloc, area, act, Way::All);
+        }
+        Ok(area)
+    }
+
+    /// The area behind the act.
+    pub(crate) fn asked(self, alloc: Global, failing: &[u64]) -> Result<Area, RowError> {
+        let area = self.reached(alloc, failing)?;
+        Ok(ask(alloc, area, self.act, self.way))
+    }
+}
+
+/// A scene with what it comes to: how many device calls come before the act, what stands before it and behind it, and its reply.
 #[derive(Drop)]
 pub(crate) struct Case<'a> {
-    pub base: &'a Base,
-    pub asked: &'a Asked,
-    pub parts: bool,
+    pub scene: Scene<'a>,
     pub opening: u64,
     pub before: String,
     pub after: String,
     pub reply: String,
-}
-
-// What is asked of the area, in one piece or in two parts.
-fn ask(alloc: Global, area: Area, asked: &Asked, parts: bool) -> Area {
-    if !parts {
-        return area.run(alloc, asked);
-    }
-    let area = area.begin(alloc, asked);
-    if area.is_stopped() {
-        return area;
-    }
-    area.finish()
-}
-
-/// What a command in a base, in one piece or in two parts, leaves and is answered.
-pub(crate) fn asked_in(
-    alloc: Global,
-    base: &Base,
-    asked: &Asked,
-    parts: bool,
-) -> Result<(String, String), RowError> {
-    let area = ask(alloc, base.open(alloc, &[])?, asked, parts);
-    let reply = area.words(alloc);
-    let (_disk, after) = stand(alloc, area)?;
-    Ok((after, reply?))
 }
 
 // The area, where it is in doubt.
@@ -57,78 +55,70 @@ fn if_stopped(area: Area) -> Option<Area> {
     None
 }
 
-// What the four picks of a crash open as.
-#[derive(Clone, Copy)]
-struct Tally {
-    before: u32,
-    after: u32,
-}
-
-impl Tally {
-    // All as before the command, all as behind it, some so and some so, or one otherwise.
-    fn letter(self) -> char {
-        match (self.before, self.after) {
-            (4, _) => 'b',
-            (_, 4) => 'a',
-            (before, after) => {
-                if before.saturating_add(after) == 4 {
-                    'e'
-                } else {
-                    'x'
-                }
-            }
-        }
+// The letter of two images: theirs, or that they differ, or that one is wrong.
+fn both(one: char, other: char) -> char {
+    if one == other {
+        one
+    } else if one == 'x' || other == 'x' {
+        'x'
+    } else {
+        'e'
     }
 }
 
 impl<'a> Case<'a> {
-    /// The command in this base.
+    /// The last of these in this base, behind the others.
     pub(crate) fn new(
         alloc: Global,
         base: &'a Base,
-        asked: &'a Asked,
-        parts: bool,
+        all: &'a [Act],
+        way: Way,
     ) -> Result<Case<'a>, RowError> {
-        let (after, reply) = asked_in(alloc, base, asked, parts)?;
-        let before = base.stand_on(alloc, base.disk(alloc, &[])?)?;
-        Ok(Case {
+        let Some((act, first)) = all.split_last() else {
+            return Err(RowError::Missing(1));
+        };
+        let scene = Scene {
             base,
-            asked,
-            parts,
-            opening: base.opening_calls(alloc)?,
+            first,
+            act,
+            way,
+        };
+        let (disk, before) = stand(alloc, scene.reached(alloc, &[])?)?;
+        let (after, reply) = came_of(alloc, scene.asked(alloc, &[])?)?;
+        Ok(Case {
+            scene,
+            opening: disk.calls(),
             before,
             after,
             reply,
         })
     }
 
-    // Counts what a disk opens as.
-    fn count(&self, alloc: Global, disk: Quiet, tally: &mut Tally) -> Result<(), RowError> {
-        let came = self.base.stand_on(alloc, disk)?;
+    // Whether a disk opens as before the command, as behind it, or otherwise.
+    fn letter(&self, alloc: Global, disk: Quiet) -> Result<char, RowError> {
+        let came = self.scene.base.stand_on(alloc, disk)?;
         if came.as_str() == self.before.as_str() {
-            tally.before = tally.before.saturating_add(1);
-        } else if came.as_str() == self.after.as_str() {
-            tally.after = tally.after.saturating_add(1);
+            return Ok('b');
         }
-        Ok(())
+        Ok(if came.as_str() == self.after.as_str() {
+            'a'
+        } else {
+            'x'
+        })
     }
 
     // What the four picks of a crash after so many calls open as.
     fn left(&self, alloc: Global, disk: &Quiet, calls: u64) -> Result<char, RowError> {
-        let mut tally = Tally {
-            before: 0,
-            after: 0,
-        };
-        for pick in 0..4 {
-            self.count(alloc, disk.crashed(calls, pick)?, &mut tally)?;
+        let mut all = self.letter(alloc, disk.crashed(calls, 0)?)?;
+        for pick in 1..4 {
+            all = both(all, self.letter(alloc, disk.crashed(calls, pick)?)?);
         }
-        Ok(tally.letter())
+        Ok(all)
     }
 
     /// The disk of the command that nothing stops.
     pub(crate) fn done(&self, alloc: Global) -> Result<Quiet, RowError> {
-        let area = self.base.open(alloc, &[])?;
-        Ok(ask(alloc, area, self.asked, self.parts).close())
+        Ok(self.scene.asked(alloc, &[])?.close())
     }
 
     // What a crash at each moment of the command leaves, a letter each.
@@ -144,12 +134,7 @@ impl<'a> Case<'a> {
     // The area in doubt when the first of these calls fails in the command, and the second, where there is one, in the reopening;
     // nothing where such a call does not come.
     fn stopped(&self, alloc: Global, failing: &[u64]) -> Result<Option<Area>, RowError> {
-        let area = ask(
-            alloc,
-            self.base.open(alloc, failing)?,
-            self.asked,
-            self.parts,
-        );
+        let area = self.scene.asked(alloc, failing)?;
         if failing.len() < 2 || !area.is_stopped() {
             return Ok(if_stopped(area));
         }
@@ -170,7 +155,7 @@ impl<'a> Case<'a> {
             Outcome::Falls => ('f', self.before.as_str()),
             _ => ('x', ""),
         };
-        let is_so = self.base.stands(alloc, area, wanted)?;
+        let is_so = self.scene.base.stands(alloc, area, wanted)?;
         Ok(if is_so { letter } else { 'x' })
     }
 
@@ -181,8 +166,9 @@ impl<'a> Case<'a> {
             let _disk = area.close();
             return Ok(true);
         }
-        let area = ask(alloc, area, self.asked, self.parts);
-        self.base
+        let area = ask(alloc, area, self.scene.act, self.scene.way);
+        self.scene
+            .base
             .answers(alloc, area, self.reply.as_str(), self.after.as_str())
     }
 
@@ -215,7 +201,7 @@ impl<'a> Case<'a> {
     // The same when, for a command in one piece, the reopening is stopped too, at each of its calls: the letter, or that one was
     // wrong.
     fn settled_again(&self, alloc: Global, call: u64, letter: char) -> Result<char, RowError> {
-        if self.parts {
+        if let Way::Parts = self.scene.way {
             return Ok(letter);
         }
         for more in 1..MOST_CALLS {
@@ -256,9 +242,9 @@ impl<'a> Case<'a> {
     }
 }
 
-/// `stops USER COMMAND`: how many device calls the command makes; what a crash at each moment of it leaves; and what becomes of it
-/// when it is stopped at each.
-pub(crate) fn stops(alloc: Global, base: &Base, asked: &Asked) -> Result<String, RowError> {
-    let (calls, fate) = Case::new(alloc, base, asked, false)?.fate(alloc)?;
+/// `stops USER COMMAND ; ..`: how many device calls the last command makes behind the others; what a crash at each moment of it
+/// leaves; and what becomes of it when it is stopped at each.
+pub(crate) fn stops(alloc: Global, base: &Base, all: &[Act]) -> Result<String, RowError> {
+    let (calls, fate) = Case::new(alloc, base, all, Way::All)?.fate(alloc)?;
     Ok(format!(in alloc; "{calls} calls, {fate}")?)
 }

@@ -1,7 +1,7 @@
 //! The rows.
 
 use crate::area::Area;
-use crate::asking::{all_in, asked_in};
+use crate::asking::{Act, Way, all_in, ask};
 use crate::base::Base;
 use crate::drawn::drawn;
 use crate::opening::{opening, told};
@@ -9,7 +9,6 @@ use crate::parts::{behind, parts};
 use crate::showing::{links_words, words};
 use crate::stops::{Case, stops};
 use jb_base::OutOfMemory;
-use jb_model::Asked;
 use std::alloc::Global;
 use std::mem;
 use trial_rows::{Answers, Row, RowError};
@@ -30,36 +29,26 @@ fn numbers_in(alloc: Global, row: &Row, by: u64) -> Result<Vec<u64>, RowError> {
     Ok(numbers)
 }
 
-// Puts a reply behind the others.
-fn put_reply(text: &mut String, reply: &str) -> Result<(), RowError> {
+// Puts what came of the area behind the other replies.
+fn put_words(alloc: Global, area: &Area, text: &mut String) -> Result<(), RowError> {
     if !text.is_empty() {
         text.push_str("; ")?;
     }
-    text.push_str(reply)?;
+    text.push_str(area.words(alloc)?.as_str())?;
     Ok(())
 }
 
-// Puts what came of the area behind the other replies.
-fn put_words(alloc: Global, area: &Area, text: &mut String) -> Result<(), RowError> {
-    let words = area.words(alloc)?;
-    put_reply(text, words.as_str())
-}
-
-// Asks all of these one after another, each by the call of its own or by that of all; the replies go into the text.
+// Asks all of these one after another; the replies go into the text.
 fn ask_all(
     alloc: Global,
     area: Area,
-    all: &[Asked],
-    own: bool,
+    all: &[Act],
+    way: Way,
     text: &mut String,
 ) -> Result<Area, RowError> {
     let mut area = area;
-    for asked in all {
-        area = if own {
-            area.call(alloc, asked)
-        } else {
-            area.run(alloc, asked)
-        };
+    for act in all {
+        area = ask(alloc, area, act, way);
         if let Err(error) = put_words(alloc, &area, text) {
             let _disk = area.close();
             return Err(error);
@@ -69,11 +58,11 @@ fn ask_all(
 }
 
 // `try USER COMMAND`: the reply, how many device calls were made, and whether area and files are as they were.
-fn tried(alloc: Global, base: &Base, asked: &Asked) -> Result<String, RowError> {
-    let case = Case::new(alloc, base, asked, false)?;
+fn tried(alloc: Global, base: &Base, all: &[Act]) -> Result<String, RowError> {
+    let case = Case::new(alloc, base, all, Way::All)?;
     let disk = case.done(alloc)?;
     let calls = disk.calls().saturating_sub(case.opening);
-    let is_same = base.is_in(&disk) && case.before.as_str() == case.after.as_str();
+    let is_same = base.is_in(&disk, 6) && case.before.as_str() == case.after.as_str();
     let stays = if is_same { "as it was" } else { "changed" };
     let reply = case.reply.as_str();
     Ok(format!(in alloc; "{reply}, {calls} calls, {stays}")?)
@@ -119,13 +108,6 @@ impl Trial {
         }
     }
 
-    // Keeps what a row has made of the area, and tells what came of it.
-    fn keep(&mut self, alloc: Global, area: Area) -> Result<String, RowError> {
-        let words = area.words(alloc);
-        self.put(area);
-        words
-    }
-
     // `open CALL..` and `start CALL..`: opens the area, on a disk that fails these calls, counted from the first or once it is open.
     fn open(&mut self, alloc: Global, row: &Row, by: u64) -> Result<String, RowError> {
         let failing = numbers_in(alloc, row, by)?;
@@ -135,11 +117,11 @@ impl Trial {
         text
     }
 
-    // `ask USER COMMAND ; ..` and `call USER COMMAND ; ..`.
-    fn ask(&mut self, alloc: Global, row: &Row, own: bool) -> Result<String, RowError> {
+    // `ask USER COMMAND ; ..`, `call USER COMMAND ; ..` and `begin USER COMMAND`.
+    fn ask(&mut self, alloc: Global, row: &Row, way: Way) -> Result<String, RowError> {
         let all = all_in(alloc, row)?;
         let mut text = String::new(alloc);
-        let area = ask_all(alloc, self.take()?, all.as_slice(), own, &mut text)?;
+        let area = ask_all(alloc, self.take()?, all.as_slice(), way, &mut text)?;
         self.put(area);
         Ok(text)
     }
@@ -162,26 +144,29 @@ impl Trial {
         words(alloc, row.word(0)?)
     }
 
+    // A row about what is asked in copies of the base.
+    fn in_copies(&self, alloc: Global, row: &Row) -> Result<String, RowError> {
+        let all = all_in(alloc, row)?;
+        let all = all.as_slice();
+        match row.word(0)? {
+            "try" => tried(alloc, &self.base, all),
+            "stops" => stops(alloc, &self.base, all),
+            "parts" => parts(alloc, &self.base, all),
+            _ => behind(alloc, &self.base, all),
+        }
+    }
+
     // A row about the base.
     fn about_base(&self, alloc: Global, row: &Row) -> Result<String, RowError> {
         match row.word(0)? {
             "length" => self.base.length(alloc, row),
             "bytes" => self.base.bytes(alloc, row),
-            "try" => tried(alloc, &self.base, &asked_in(alloc, row, 1)?),
-            "stops" => stops(alloc, &self.base, &asked_in(alloc, row, 1)?),
-            "parts" => parts(alloc, &self.base, &asked_in(alloc, row, 1)?),
-            "behind" => behind(alloc, &self.base, all_in(alloc, row)?.as_slice()),
+            "runs" => self.base.runs(alloc, row),
+            "try" | "stops" | "parts" | "behind" => self.in_copies(alloc, row),
             "opening" => opening(alloc, &self.base),
             "drawn" => drawn(alloc, row.u32(1)?, row.u32(2)?),
             _ => Err(RowError::Unknown(0)),
         }
-    }
-
-    // `begin USER COMMAND`.
-    fn begin(&mut self, alloc: Global, row: &Row) -> Result<String, RowError> {
-        let asked = asked_in(alloc, row, 1)?;
-        let area = self.take()?.begin(alloc, &asked);
-        self.keep(alloc, area)
     }
 
     // A row that ends a call.
@@ -193,7 +178,9 @@ impl Trial {
             "reopen" => area.reopen(),
             _ => area.abandon(),
         };
-        self.keep(alloc, area)
+        let words = area.words(alloc);
+        self.put(area);
+        words
     }
 
     // The links of the area.
@@ -215,9 +202,9 @@ impl Answers for Trial {
                 let calls = self.base.opening_calls(alloc)?;
                 self.open(alloc, row, calls)
             }
-            "ask" => self.ask(alloc, row, false),
-            "call" => self.ask(alloc, row, true),
-            "begin" => self.begin(alloc, row),
+            "ask" => self.ask(alloc, row, Way::All),
+            "call" => self.ask(alloc, row, Way::Own),
+            "begin" => self.ask(alloc, row, Way::Begun),
             "finish" | "abandon" | "reopen" => self.end(alloc, row),
             "coming" => self.area()?.coming(alloc),
             "doubt" => self.area()?.doubt(alloc),

@@ -4,49 +4,55 @@ use crate::asking::Act;
 use crate::noted::{Deed, Noted, Plan, Told};
 use jb_model::Reply;
 
-/// What a node has done of its plan. `last` is the number of its last post and `before` that of the one before, 0 for none, where
-/// the history is told by these.
+/// What a node has done of its plan. `last` is the number of its last post and `before` that of the one before, 0 for none; `next`
+/// is the next number that it was shown last.
 #[derive(Drop)]
-pub(crate) struct Agenda {
-    pub node: u32,
-    plan: Plan,
+pub(crate) struct Agenda<'a> {
+    node: u32,
+    plan: Plan<'a>,
     lot: u64,
     done: u32,
     last: u32,
     before: u32,
+    next: u32,
 }
 
-impl Agenda {
+impl<'a> Agenda<'a> {
     /// Nothing is done yet.
-    pub(crate) fn new(plan: Plan, node: u32) -> Agenda {
+    pub(crate) fn new(plan: Plan<'a>, node: u32) -> Agenda<'a> {
         let seed = match plan {
-            Plan::Drawn { seed, .. } => seed,
-            Plan::Crowd { .. } => 0,
+            Plan::Drawn(seed, _) => u64::from(seed),
+            _ => 0,
         };
-        let lot = u64::from(seed)
-            .wrapping_mul(64)
-            .wrapping_add(u64::from(node));
         Agenda {
             node,
             plan,
-            lot,
+            lot: seed.wrapping_mul(64).wrapping_add(u64::from(node)),
             done: 0,
             last: 0,
             before: 0,
+            next: 0,
         }
     }
 
     /// How many deeds there are.
     pub(crate) fn deeds(&self) -> u32 {
         match self.plan {
-            Plan::Drawn { deeds, .. } => deeds.saturating_add(1),
-            Plan::Crowd { posts } => posts.saturating_mul(5).saturating_add(1),
+            Plan::Drawn(_, deeds) => deeds.saturating_add(1),
+            Plan::Crowd(posts, _) => posts.saturating_mul(5).saturating_add(1),
+            Plan::Watch(posts, _) if self.node == 1 => {
+                let calls = posts.saturating_add(posts / 4).saturating_add(posts / 16);
+                calls.saturating_mul(2)
+            }
+            Plan::Watch(_, looks) => looks.saturating_add(looks / 8),
+            Plan::Between(_) => 1,
         }
     }
 
     /// Whether the log is locked while the deed that came last is done.
     pub(crate) fn is_in_order(&self) -> bool {
-        self.done == 1 || matches!(self.plan, Plan::Drawn { .. })
+        let is_first = self.done == 1;
+        matches!(self.plan, Plan::Drawn(..)) || (is_first && matches!(self.plan, Plan::Crowd(..)))
     }
 
     // A number below this one, which is not 0, by a linear congruential generator.
@@ -62,56 +68,89 @@ impl Agenda {
     fn drawn(&mut self) -> Deed {
         let number = self.draw(24);
         let reply_to = if number < 8 { number } else { 0 };
-        let (act, number) = match self.draw(22) {
-            0..=6 => (Act::Post, reply_to),
-            7 => (Act::Private, reply_to),
-            8 | 9 => (Act::Read, number),
-            10 => (Act::Peek, number),
-            11..=13 => (Act::Kill, number),
-            14 | 15 => (Act::Mark, number),
-            16 => (Act::Relink, number),
-            17 => (Act::Pack, number),
-            _ => return Deed::Looked,
-        };
-        Deed::Asked { act, number }
+        match self.draw(22) {
+            0..=6 => Deed::Asked(Act::Post, reply_to),
+            7 => Deed::Asked(Act::Private, reply_to),
+            8 | 9 => Deed::Asked(Act::Read, number),
+            10 => Deed::Asked(Act::Peek, number),
+            11..=13 => Deed::Asked(Act::Kill, number),
+            14 | 15 => Deed::Asked(Act::Mark, number),
+            16 => Deed::Asked(Act::Relink, number),
+            17 => Deed::Asked(Act::Pack, number),
+            _ => Deed::Looked,
+        }
     }
 
-    // A post in reply to the last one, which is then read and marked; the one before it is shown and killed.
-    fn crowded(&self) -> Deed {
-        let (act, number) = match self.done % 5 {
-            1 => (Act::Post, self.last),
-            2 => (Act::Read, self.last),
-            3 => (Act::Mark, self.last),
-            4 => (Act::Peek, self.before),
-            _ => (Act::Kill, self.before),
-        };
-        Deed::Asked { act, number }
+    // A post in reply to the last one, which is then read and marked; the one before it is shown, and killed where none packs.
+    fn crowded(&self, packs: bool) -> Deed {
+        match self.done % 5 {
+            1 => Deed::Asked(Act::Post, self.last),
+            2 => Deed::Asked(Act::Read, self.last),
+            3 => Deed::Asked(Act::Mark, self.last),
+            4 => Deed::Asked(Act::Peek, self.before),
+            _ if packs => Deed::Asked(Act::Pack, 0),
+            _ => Deed::Asked(Act::Kill, self.before),
+        }
+    }
+
+    // A look behind each call. Behind every fourth post the last one is killed, and behind every sixteenth all is packed.
+    fn posted(&self) -> Deed {
+        match self.done / 2 % 21 {
+            _ if self.done % 2 == 1 => Deed::Looked,
+            4 | 9 | 14 | 19 => Deed::Asked(Act::Kill, self.last),
+            20 => Deed::Asked(Act::Pack, 0),
+            _ => Deed::Asked(Act::Post, 0),
+        }
     }
 
     /// What is done next.
     pub(crate) fn next(&mut self) -> Deed {
         let deed = match self.plan {
-            _ if self.done == 0 => Deed::Asked {
-                act: Act::Mark,
-                number: 0,
-            },
-            Plan::Drawn { .. } => self.drawn(),
-            Plan::Crowd { .. } => self.crowded(),
+            Plan::Drawn(..) if self.done > 0 => self.drawn(),
+            Plan::Crowd(_, packs) if self.done > 0 => self.crowded(packs),
+            Plan::Drawn(..) | Plan::Crowd(..) => Deed::Asked(Act::Mark, 0),
+            Plan::Watch(..) if self.node == 1 => self.posted(),
+            // before every eighth look the mark is set to the last number that was shown
+            Plan::Watch(..) if self.done % 9 == 7 => {
+                Deed::Asked(Act::Mark, self.next.saturating_sub(1))
+            }
+            Plan::Watch(..) => Deed::Looked,
+            Plan::Between(_) if self.node == 1 => Deed::Asked(Act::Pack, 0),
+            Plan::Between(meeting) => {
+                meeting.come();
+                Deed::Asked(Act::Post, 0)
+            }
         };
         self.done = self.done.saturating_add(1);
         deed
     }
 
+    // Where a deed stands in the order of what was noted. A crowd's stand behind the node's last post, which has its number; a pack
+    // that left so many messages stands behind all that stand behind the post of that number. Drawn ones are noted in order.
+    fn order(&self, told: &Told) -> u64 {
+        match (self.plan, told) {
+            (Plan::Crowd(..), Told::Replied(Reply::Packed { live, .. })) => u64::from(*live) * 2
+                + 1,
+            (Plan::Crowd(..), _) => u64::from(self.last) * 2,
+            (Plan::Between(_), _) => u64::from(self.node),
+            _ => 0,
+        }
+    }
+
     /// What is noted of a deed.
     pub(crate) fn noted(&mut self, deed: Deed, told: Told) -> Noted {
-        if let (Plan::Crowd { .. }, Told::Replied(Reply::Posted { number })) = (self.plan, &told) {
-            self.before = self.last;
-            self.last = *number;
+        match &told {
+            Told::Replied(Reply::Posted { number }) => {
+                self.before = self.last;
+                self.last = *number;
+            }
+            Told::Saw { figures, .. } => self.next = figures.next,
+            _ => {}
         }
         Noted {
             node: self.node,
             deed,
-            order: self.last,
+            order: self.order(&told),
             told,
         }
     }

@@ -10,7 +10,7 @@ use trial_rows::RowError;
 /// The moment of every call, in seconds since 1970.
 pub(crate) const MOMENT: u32 = 1_000_000_000;
 
-/// What is done about the message of a number.
+/// What is done about the message of a number; a pack and a relink are of all messages, with any number.
 #[derive(Clone, Copy)]
 pub(crate) enum Act {
     /// A post to Hello, in reply to the number or to 0.
@@ -21,9 +21,7 @@ pub(crate) enum Act {
     Peek,
     Kill,
     Mark,
-    /// Of all messages, with any number.
     Pack,
-    /// Of all messages, with any number.
     Relink,
 }
 
@@ -61,13 +59,8 @@ pub(crate) fn caller_named(alloc: Global, name: &[u8], level: u8) -> Result<Call
 }
 
 // A post about `abc`, whose text is the name of who posts.
-fn post(
-    alloc: Global,
-    from: &User,
-    to: &[u8],
-    reply_to: u32,
-    private: bool,
-) -> Result<Command, OutOfMemory> {
+fn post(alloc: Global, from: &User, reply_to: u32, private: bool) -> Result<Command, OutOfMemory> {
+    let to = if private { b"Sysop" } else { b"Hello" };
     Ok(Command::Post {
         to: Name::copy(alloc, to)?,
         subject: Bytes::copy(alloc, b"abc")?,
@@ -85,8 +78,8 @@ pub(crate) fn command_of(
     number: u32,
 ) -> Result<Command, OutOfMemory> {
     match act {
-        Act::Post => post(alloc, user, b"Hello", number, false),
-        Act::Private => post(alloc, user, b"Sysop", number, true),
+        Act::Post => post(alloc, user, number, false),
+        Act::Private => post(alloc, user, number, true),
         Act::Read => Ok(Command::Read { number }),
         Act::Peek => Ok(Command::Peek { number }),
         Act::Kill => Ok(Command::Kill { number }),

@@ -1,6 +1,7 @@
 //! The files of a base, and the area that they hold.
 ghost use Rattle.std.specs.Prelude.{IfOk};
 ghost use Rattle.jb_area.specs.Calls.{HasRest};
+ghost use Rattle.jb_disk.specs.Memory.{device_of};
 
 use jb_area::OpenArea;
 use jb_area_open::open_area;
@@ -8,6 +9,9 @@ use jb_base::{AreaRules, Bytes, Kind, MOST_ADDRESS_BYTES, MOST_SLOTS, OutOfMemor
 use jb_disk::{Disk, FileId, MemDisk};
 use std::alloc::Global;
 use trial_rows::RowError;
+
+/// Where a header has the place and the length of its text.
+const TEXT_AT: usize = 60;
 
 /// A local area, read from level 10 on, posted in from 20 on, and tended from 200 on.
 pub(crate) fn rules(alloc: Global) -> Result<AreaRules, OutOfMemory> {
@@ -20,32 +24,6 @@ pub(crate) fn rules(alloc: Global) -> Result<AreaRules, OutOfMemory> {
         sysop: 200,
         slots: 65_000,
     })
-}
-
-/// A disk of which bases are made.
-pub(crate) trait BaseDisk: Disk + Drop + Send + Sync {
-    /// These files, on a disk that fails these of its calls.
-    fn with(alloc: Global, files: [Bytes; 6], failing: Vec<u64>) -> Result<Self, OutOfMemory>;
-
-    /// What a file holds.
-    fn bytes(&self, file: FileId) -> &[u8];
-
-    /// How many calls have been made.
-    fn made(&self) -> u64;
-}
-
-impl BaseDisk for MemDisk {
-    fn with(alloc: Global, files: [Bytes; 6], failing: Vec<u64>) -> Result<MemDisk, OutOfMemory> {
-        MemDisk::new(alloc, files, failing)
-    }
-
-    fn bytes(&self, file: FileId) -> &[u8] {
-        self.file(file)
-    }
-
-    fn made(&self) -> u64 {
-        self.calls()
-    }
 }
 
 // Six files of no bytes.
@@ -62,7 +40,7 @@ fn none(alloc: Global) -> [Bytes; 6] {
 
 /// A base from number 1 on without a message: .JHR has its fixed header alone, which says when it was made, that no password is
 /// asked, and where the numbers begin.
-pub(crate) fn empty<D: BaseDisk>(alloc: Global) -> Result<D, OutOfMemory> {
+pub(crate) fn empty(alloc: Global) -> Result<MemDisk, OutOfMemory> {
     let mut headers = Bytes::copy(
         alloc,
         b"JAM\0\x00\xCA\x9A\x3B\0\0\0\0\0\0\0\0\xFF\xFF\xFF\xFF\x01\0\0\0",
@@ -70,28 +48,76 @@ pub(crate) fn empty<D: BaseDisk>(alloc: Global) -> Result<D, OutOfMemory> {
     headers.append(&[0; 1_000])?;
     let mut files = none(alloc);
     files[0] = headers;
-    D::with(alloc, files, Vec::new(alloc))
+    MemDisk::new(alloc, files, Vec::new(alloc))
 }
 
 // Puts what the files of the base hold behind what stands in these.
-fn fill<D: BaseDisk>(files: &mut [Bytes; 6], base: &D) -> Result<(), OutOfMemory> {
-    files[0].append(base.bytes(FileId::Jhr))?;
-    files[1].append(base.bytes(FileId::Jdt))?;
-    files[2].append(base.bytes(FileId::Jdx))?;
-    files[3].append(base.bytes(FileId::Jlr))?;
-    files[4].append(base.bytes(FileId::Jnl))?;
-    files[5].append(base.bytes(FileId::Ndt))
+fn fill(files: &mut [Bytes; 6], base: &MemDisk) -> Result<(), OutOfMemory> {
+    files[0].append(base.file(FileId::Jhr))?;
+    files[1].append(base.file(FileId::Jdt))?;
+    files[2].append(base.file(FileId::Jdx))?;
+    files[3].append(base.file(FileId::Jlr))?;
+    files[4].append(base.file(FileId::Jnl))?;
+    files[5].append(base.file(FileId::Ndt))
 }
 
-// The files of the base on a disk of their own, which fails these of its calls.
-fn copied<D: BaseDisk>(alloc: Global, base: &D, failing: Vec<u64>) -> Result<D, OutOfMemory> {
+// Writes where the text of the header at this place begins, and how long it is.
+fn put_text(headers: &mut [u8], header_at: u32, text_at: u32, text_len: u32) {
+    let at = header_at as usize + TEXT_AT;
+    let (place, len) = (text_at.to_le_bytes(), text_len.to_le_bytes());
+    for (byte, new) in headers.iter_mut().skip(at).zip(place.iter().chain(&len)) {
+        *byte = *new;
+    }
+}
+
+// The place that is in the last four bytes of an index record.
+fn place_in(record: &[u8]) -> u32 {
+    record.iter().rev().take(4).fold(0_u32, |place, byte| {
+        place.wrapping_mul(256).wrapping_add(u32::from(*byte))
+    })
+}
+
+// A text of so many bytes for each header that this index names, which is told there.
+fn texts_for(
+    alloc: Global,
+    index: &[u8],
+    headers: &mut [u8],
+    len: u32,
+) -> Result<Vec<u8>, OutOfMemory> {
+    let (mut texts, mut text_at) = (Vec::new(alloc), 0_u32);
+    for (record, letter) in index.chunks(8).zip(b'a'..=b'z') {
+        put_text(headers, place_in(record), text_at, len);
+        text_at = text_at.saturating_add(len);
+        texts.resize(text_at as usize, letter)?;
+    }
+    Ok(texts)
+}
+
+/// The base with a text of so many bytes in each message: `a` again and again in that of the first, `b` in the next, and so on.
+pub(crate) fn lengthened(alloc: Global, base: &MemDisk, len: u32) -> Result<MemDisk, OutOfMemory> {
+    let mut headers = base.file(FileId::Jhr).to_vec(alloc)?;
+    let index = base.file(FileId::Jdx);
+    let texts = texts_for(alloc, index, headers.as_mut_slice(), len)?;
     let mut files = none(alloc);
     fill(&mut files, base)?;
-    D::with(alloc, files, failing)
+    files[0] = Bytes::from(headers);
+    files[1] = Bytes::from(texts);
+    MemDisk::new(alloc, files, Vec::new(alloc))
 }
 
-// Opens the area on this disk.
-fn open_on<D: BaseDisk>(alloc: Global, disk: D) -> Result<OpenArea<D>, RowError>
+/// The files of the base on a disk of their own, which fails these of its calls.
+pub(crate) fn copied(
+    alloc: Global,
+    base: &MemDisk,
+    failing: Vec<u64>,
+) -> Result<MemDisk, OutOfMemory> {
+    let mut files = none(alloc);
+    fill(&mut files, base)?;
+    MemDisk::new(alloc, files, failing)
+}
+
+/// Opens the area on this disk.
+pub(crate) fn open_on<D: Disk + Drop>(alloc: Global, disk: D) -> Result<OpenArea<D>, RowError>
     ensures { IfOk result (HasRest D.device) }
 {
     let rules = rules(alloc)?;
@@ -105,16 +131,16 @@ fn open_on<D: BaseDisk>(alloc: Global, disk: D) -> Result<OpenArea<D>, RowError>
 }
 
 /// Opens the area of the base, on a disk that fails these of its calls, counted from 1 once the area is open.
-pub(crate) fn open<D: BaseDisk>(
+pub(crate) fn open(
     alloc: Global,
-    base: &D,
+    base: &MemDisk,
     failing: &[u64],
-) -> Result<OpenArea<D>, RowError>
-    ensures { IfOk result (HasRest D.device) }
+) -> Result<OpenArea<MemDisk>, RowError>
+    ensures { IfOk result (HasRest device_of) }
 {
     let calls = open_on(alloc, copied(alloc, base, Vec::new(alloc))?)?
         .close()
-        .made();
+        .calls();
     let mut raised = Vec::new(alloc);
     for number in failing {
         raised.push(number.saturating_add(calls))?;

@@ -1,12 +1,12 @@
 //! Tries the shared area by rows of words: nodes call, look, count and close in one thread, in the order that the rows name;
 //! and thirty-three nodes do so in threads of their own, and what they were answered is replayed on the plain, slow program; and one
-//! node posts, kills and packs while eight others look.
+//! node posts, kills and packs while eight others look; and one packs long texts while another posts.
 #![tactic(auto)]
 
 mod agenda;
 mod asking;
 mod base;
-mod lookers;
+mod held;
 mod nodes;
 mod noted;
 mod replay;
@@ -16,9 +16,7 @@ mod shared;
 mod showing;
 mod witness;
 
-use crate::base::BaseDisk;
-use crate::rows::{Trial, answer};
-use jb_disk::MemDisk;
+use crate::rows::Trial;
 use std::alloc::Global;
 use std::io;
 use std::sync::Wait;
@@ -26,21 +24,20 @@ use std::thread::Threads;
 use trial_rows::{Row, RowError};
 
 // The line that is written for this one.
-fn answered<D: BaseDisk, R: Threads + Wait + Sync>(
-    rt: &R,
+fn answered<R: Threads + Wait + Sync>(
     alloc: Global,
-    trial: &mut Trial<D>,
+    trial: &mut Trial<R>,
     line: &str,
 ) -> Result<String, RowError> {
     let row = Row::of(alloc, line)?;
-    answer(rt, alloc, trial, &row)
+    trial.answer(alloc, &row)
 }
 
 // The rows of trial_rows, in a loop of its own: what answers them here starts threads and waits for them.
-fn run<D: BaseDisk, R: Threads + Wait + Sync + Input + Print>(
+fn run<R: Threads + Wait + Sync + Input + Print>(
     rt: &R,
     alloc: Global,
-    trial: &mut Trial<D>,
+    trial: &mut Trial<R>,
 ) -> io::Result<()> {
     for line in rt.lines(alloc) {
         let line = line?;
@@ -49,7 +46,7 @@ fn run<D: BaseDisk, R: Threads + Wait + Sync + Input + Print>(
             println!(rt; "{line}")?;
             continue;
         }
-        match answered(rt, alloc, trial, line) {
+        match answered(alloc, trial, line) {
             Ok(text) => println!(rt; "{text}")?,
             Err(error) => println!(rt; "no answer to '{line}': {error}")?,
         }
@@ -58,12 +55,10 @@ fn run<D: BaseDisk, R: Threads + Wait + Sync + Input + Print>(
 }
 
 fn main(rt: HostRuntime) -> io::Result<()> {
-    match Trial::<MemDisk>::new(rt.alloc()) {
-        Ok(mut trial) => {
-            let ran = run(&rt, rt.alloc(), &mut trial);
-            trial.end(&rt);
-            ran
-        }
-        Err(_) => println!(rt; "out of memory"),
-    }
+    let Ok(mut trial) = Trial::new(&rt, rt.alloc()) else {
+        return println!(rt; "out of memory");
+    };
+    let ran = run(&rt, rt.alloc(), &mut trial);
+    trial.end();
+    ran
 }

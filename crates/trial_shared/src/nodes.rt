@@ -4,7 +4,7 @@ ghost use Rattle.jb_shared.specs.Areas.{IsOf};
 
 use crate::agenda::Agenda;
 use crate::asking::{Caller, MOMENT, command_of};
-use crate::noted::{Deed, Noted, Plan, Told, caller_at};
+use crate::noted::{Deed, NODES, Noted, Plan, Told, caller_at};
 use jb_disk::Disk;
 use jb_model::{Answer, Question};
 use jb_shared::{Pass, SharedArea, SharedError};
@@ -14,18 +14,15 @@ use std::thread;
 use std::thread::Threads;
 use trial_rows::RowError;
 
-/// How many threads there are at most.
-const MOST_THREADS: usize = 33;
-
-// A look at the figures and a count.
+// A count and a look at the figures.
 fn seen<D: Disk>(area: &SharedArea<D>, pass: &mut Pass, caller: &Caller) -> Result<Told, RowError>
     requires { IsOf area.now pass.old }
     ensures { IsOf area.now pass.new }
 {
-    let answer = area.look(pass, &caller.user, &Question::Figures);
     let count = area.unread_count(pass, &caller.user);
-    match (answer, count) {
-        (Ok(Answer::Figures(figures)), Ok(unread)) => Ok(Told::Saw { figures, unread }),
+    let answer = area.look(pass, &caller.user, &Question::Figures);
+    match (count, answer) {
+        (Ok(unread), Ok(Answer::Figures(figures))) => Ok(Told::Saw { figures, unread }),
         _ => Err(RowError::OutOfMemory),
     }
 }
@@ -43,7 +40,7 @@ fn done<D: Disk, R: Wait>(
     ensures { IsOf area.now pass.new }
 {
     let caller = caller_at(alloc, node)?;
-    let Deed::Asked { act, number } = deed else {
+    let Deed::Asked(act, number) = deed else {
         return seen(area, pass, &caller);
     };
     let command = command_of(alloc, &caller.user, act, number)?;
@@ -54,52 +51,33 @@ fn done<D: Disk, R: Wait>(
     }
 }
 
-// Does what comes next, and notes it.
-fn go_on<D: Disk, R: Wait>(
-    rt: &R,
-    alloc: Global,
-    area: &SharedArea<D>,
-    pass: &mut Pass,
-    log: &Mutex<Vec<Noted>>,
-    agenda: &mut Agenda,
-) -> Result<(), RowError>
-    requires { IsOf area.now pass.old }
-    ensures { IsOf area.now pass.new }
-{
-    let deed = agenda.next();
-    if agenda.is_in_order() {
-        let mut log = log.lock(rt);
-        let told = done(rt, alloc, area, pass, agenda.node, deed)?;
-        log.push(agenda.noted(deed, told))?;
-    } else {
-        let told = done(rt, alloc, area, pass, agenda.node, deed)?;
-        log.lock(rt).push(agenda.noted(deed, told))?;
-    }
-    Ok(())
-}
-
-// All that the node does. Without memory it stops, and what it would have noted is missing.
+// All that the node at this place among the passes does, and notes. Without memory it stops, and what it would have noted is missing.
 fn follow<D: Disk, R: Wait>(
     rt: &R,
     alloc: Global,
     area: &SharedArea<D>,
     pass: &mut Pass,
     log: &Mutex<Vec<Noted>>,
-    agenda: Agenda,
+    plan: Plan,
+    place: usize,
 ) -> Result<(), RowError>
     requires { IsOf area.now pass.old }
     ensures { IsOf area.now pass.new }
 {
-    let mut agenda = agenda;
+    let node = u32::try_from(place).unwrap_or(0).saturating_add(1);
+    let mut agenda = Agenda::new(plan, node);
     for _ in 0..agenda.deeds() {
-        go_on(rt, alloc, area, pass, log, &mut agenda)?;
+        let deed = agenda.next();
+        if agenda.is_in_order() {
+            let mut log = log.lock(rt);
+            let told = done(rt, alloc, area, pass, node, deed)?;
+            log.push(agenda.noted(deed, told))?;
+        } else {
+            let told = done(rt, alloc, area, pass, node, deed)?;
+            log.lock(rt).push(agenda.noted(deed, told))?;
+        }
     }
     Ok(())
-}
-
-// The node at this place among the passes.
-fn node_at(place: usize) -> u32 {
-    u32::try_from(place).unwrap_or(0).saturating_add(1)
 }
 
 /// Each node follows the plan, in a thread of its own.
@@ -117,13 +95,12 @@ pub(crate) fn follow_all<D: Disk + Send + Sync, R: Threads + Wait + Sync>(
     thread::for_each_mut(
         rt,
         passes,
-        MOST_THREADS,
+        NODES as usize,
         &|place: usize, pass: &mut Pass|
             requires { IsOf area.now pass.now }
             ensures { IsOf area.entry.now pass.exit.now }
         {
-            let agenda = Agenda::new(plan, node_at(place));
-            let _done = follow(rt, alloc, area, pass, log, agenda);
+            let _done = follow(rt, alloc, area, pass, log, plan, place);
         },
     );
 }

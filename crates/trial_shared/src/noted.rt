@@ -1,47 +1,67 @@
 //! What the nodes of a trial do in their threads, and what they note of it.
+ghost use Rattle.std.specs.Prelude.{◌<◌, ◌≤◌};
 
 use crate::asking::{Act, Caller, caller_named};
+use crate::held::Meeting;
 use jb_model::{Figures, Reply};
 use std::alloc::Global;
 use trial_rows::RowError;
 
-/// The nodes that follow a plan.
+/// As many nodes as there may be.
 pub(crate) const NODES: u32 = 33;
 
-/// What each node does in its thread. First it sets its mark to 0, while the log is locked.
+/// What each node does in its thread.
 #[derive(Clone, Copy)]
-pub(crate) enum Plan {
-    /// So many deeds, drawn by lot from this seed. Each is made while the log is locked, so that the log has them in
-    /// the order of the history.
-    Drawn { seed: u32, deeds: u32 },
-    /// So many posts, each with four calls about the node's own messages behind it. Nothing is locked while a call is made.
-    Crowd { posts: u32 },
+pub(crate) enum Plan<'a> {
+    /// By this seed, so many: it sets its mark to 0, and then does so many deeds, drawn by lot from the seed. Each is made while the
+    /// log is locked, so that the log has them in the order of the history.
+    Drawn(u32, u32),
+    /// So many posts: it sets its mark to 0 while the log is locked, and then posts so often, with four calls behind each post: three
+    /// about its own messages and a kill of one, or a pack in place of the kill. Nothing is locked while these are made.
+    Crowd(u32, bool),
+    /// So many posts and looks: the first node posts so often, kills and packs, the others look so often. Nothing is locked meanwhile.
+    Watch(u32, u32),
+    /// The first node packs, and the other posts as soon as the first text is to be copied.
+    Between(&'a Meeting),
 }
 
-/// A call about a number, or a look at the figures and a count.
+impl<'a> Plan<'a> {
+    /// How many nodes follow it.
+    pub(crate) fn nodes(self) -> u32
+        ensures { (0 < result) × (result ≤ 33) }
+    {
+        match self {
+            Plan::Drawn(..) | Plan::Crowd(..) => NODES,
+            Plan::Watch(..) => 9,
+            Plan::Between(_) => 2,
+        }
+    }
+}
+
+/// A call about a number, or a count and a look at the figures.
 #[derive(Clone, Copy)]
 pub(crate) enum Deed {
-    Asked { act: Act, number: u32 },
+    Asked(Act, u32),
     Looked,
 }
 
 /// What came of it.
-#[derive(Drop)]
+#[derive(Debug, Drop)]
 pub(crate) enum Told {
     /// The call was answered.
     Replied(Reply),
     /// The device stopped the call.
     Stopped,
-    /// The look and the count were answered.
+    /// The count and then the look were answered.
     Saw { figures: Figures, unread: u32 },
 }
 
-/// What a node did and what came of it. The order is the number of the node's last post, where the history is told by these.
+/// What a node did and what came of it. What was noted is to be put in this order.
 #[derive(Drop)]
 pub(crate) struct Noted {
     pub node: u32,
     pub deed: Deed,
-    pub order: u32,
+    pub order: u64,
     pub told: Told,
 }
 

@@ -1,12 +1,12 @@
 //! What was noted is asked of the plain program again.
 
 use crate::asking::{Act, MOMENT, command_of};
-use crate::base::{BaseDisk, open, rules};
+use crate::base::{open, rules};
 use crate::noted::{Deed, Noted, Told, caller_at};
 use crate::same::same_area;
 use jb_base::AreaRules;
-use jb_disk::FileId;
-use jb_model::{Area, Asked, Figures, Marks, Slots};
+use jb_disk::{FileId, MemDisk};
+use jb_model::{Area, Asked, Figures, Loaded, Marks, Slots};
 use jb_plain::{may_run, run_slow};
 use std::alloc::Global;
 use std::mem;
@@ -73,12 +73,12 @@ impl Again {
             (Told::Saw { figures, unread }, _) => {
                 Ok(self.shows(figures) && figures.unread == *unread)
             }
-            (Told::Replied(reply), Deed::Asked { act, number }) => {
+            (Told::Replied(reply), Deed::Asked(act, number)) => {
                 self.doubt = false;
                 let answer = self.ask(alloc, one.node, act, number)?;
                 Ok(answer.as_str() == format!(in alloc; "[{reply:?}]")?.as_str())
             }
-            (Told::Stopped, Deed::Asked { act, number }) => {
+            (Told::Stopped, Deed::Asked(act, number)) => {
                 self.doubt = true;
                 let stands = self.standing & 1 == 1;
                 self.standing >>= 1;
@@ -108,22 +108,28 @@ fn replayed(alloc: Global, noted: &[Noted], standing: u32) -> Result<Option<Area
     Ok(Some(again.area))
 }
 
-/// Whether the plain program, asked the same one after another, answers the same and comes to the area of the base. A call that
-/// the device stopped may stand or not.
-pub(crate) fn replays<D: BaseDisk>(
+// Whether it all agrees and comes to this area with these texts, where some of the stopped calls stand.
+fn comes_to(
     alloc: Global,
     noted: &[Noted],
-    base: &D,
+    loaded: &Loaded,
+    texts: &[u8],
 ) -> Result<bool, RowError> {
-    let base = open(alloc, base, &[])?.close();
-    let found = open(alloc, &base, &[])?;
     let stopped = stopped_among(noted).min(MOST_STOPPED);
     for standing in 0..1_u32 << stopped {
         if let Some(area) = replayed(alloc, noted, standing)?
-            && same_area(&area, found.loaded(), base.bytes(FileId::Jdt))
+            && same_area(&area, loaded, texts)
         {
             return Ok(true);
         }
     }
     Ok(false)
+}
+
+/// Whether the plain program, asked the same one after another, answers the same and comes to the area of the base. A call that
+/// the device stopped may stand or not.
+pub(crate) fn replays(alloc: Global, noted: &[Noted], base: &MemDisk) -> Result<bool, RowError> {
+    let base = open(alloc, base, &[])?.close();
+    let found = open(alloc, &base, &[])?;
+    comes_to(alloc, noted, found.loaded(), base.file(FileId::Jdt))
 }

@@ -3,45 +3,38 @@ ghost use Rattle.std.specs.Prelude.{◌<◌, ◌≤◌, IfOk};
 ghost use Rattle.jb_area.specs.Calls.{HasRest};
 
 use crate::asking::{Caller, act_of, caller_named, command_of};
-use crate::base::{BaseDisk, empty, open};
-use crate::lookers::{LOOKERS, Watch};
+use crate::base::{copied, empty, lengthened, open, open_on};
+use crate::held::{HeldDisk, Meeting};
 use crate::noted::{NODES, Noted, Plan};
 use crate::replay::{replays, stopped_among};
-use crate::shared::{Ask, Refusal, Shared};
-use crate::witness::{Witness, verdict};
+use crate::shared::{Ask, Shared};
+use crate::witness::verdict;
 use jb_area::OpenArea;
 use jb_base::OutOfMemory;
+use jb_disk::{Disk, MemDisk};
 use jb_model::Question;
 use std::alloc::Global;
+use std::fmt::Write;
 use std::mem;
 use std::sync::{Mutex, Wait};
 use std::thread::Threads;
 use trial_rows::{Row, RowError};
 
 /// A base, and the area that is shared, opened from it. It is not `Drop`: end it by `end`.
-pub(crate) struct Trial<D: BaseDisk> {
-    base: D,
-    shared: Option<Shared<D>>,
-}
-
-// The numbers from this place of a row on.
-fn numbers_from(alloc: Global, row: &Row, place: usize) -> Result<Vec<u64>, RowError> {
-    let mut numbers = Vec::new(alloc);
-    for at in place..row.len() {
-        numbers.push(row.number(at)?)?;
-    }
-    Ok(numbers)
+pub(crate) struct Trial<'a, R: Threads + Wait + Sync> {
+    rt: &'a R,
+    base: MemDisk,
+    shared: Option<Shared<MemDisk>>,
 }
 
 // From 1 to 33 nodes.
 fn nodes_in(row: &Row) -> Result<u32, RowError>
     ensures { IfOk result (λ nodes. (0 < nodes) × (nodes ≤ 33)) }
 {
-    let nodes = row.u32(1)?;
-    if nodes == 0 || nodes > NODES {
-        return Err(RowError::Unknown(1));
+    match row.u32(1)? {
+        nodes @ 1..=NODES => Ok(nodes),
+        _ => Err(RowError::Unknown(1)),
     }
-    Ok(nodes)
 }
 
 // The user of a row.
@@ -72,107 +65,44 @@ fn ask_in(alloc: Global, row: &Row, caller: &Caller) -> Result<Ask, RowError> {
     Ok(Ask::Look(question))
 }
 
-// Opens the area of the base, on a disk that fails these of its calls: the numbers from this place of the row on.
-fn opened<D: BaseDisk>(
-    alloc: Global,
-    base: &D,
-    row: &Row,
-    place: usize,
-) -> Result<OpenArea<D>, RowError>
-    ensures { IfOk result (HasRest D.device) }
-{
-    let failing = numbers_from(alloc, row, place)?;
-    open(alloc, base, failing.as_slice())
+// The calls of a disk that are to fail: the numbers from this place of the row on.
+fn failing_in(alloc: Global, row: &Row, place: usize) -> Result<Vec<u64>, RowError> {
+    let mut failing = Vec::new(alloc);
+    for at in place..row.len() {
+        failing.push(row.number(at)?)?;
+    }
+    Ok(failing)
 }
 
-// A word as a line.
-fn said(alloc: Global, word: &str) -> Result<String, RowError> {
-    Ok(String::from_str(alloc, word)?)
-}
-
-// How much was done, how much of it the device stopped, and whether the plain program does the same.
-fn compared<D: BaseDisk>(alloc: Global, noted: &[Noted], disk: &D) -> Result<String, RowError> {
-    let (done, stopped) = (noted.len(), stopped_among(noted));
-    let same = if replays(alloc, noted, disk)? {
-        "the plain program answers the same"
-    } else {
-        "the plain program answers otherwise"
-    };
-    Ok(format!(in alloc; "{done} done, {stopped} stopped: {same}")?)
-}
-
-// Closes the area behind a plan, whose log is in the order in which it was noted.
-fn closed<D: BaseDisk, R: Wait>(
-    rt: &R,
-    alloc: Global,
-    shared: Shared<D>,
-    log: Mutex<Vec<Noted>>,
-) -> Result<String, RowError> {
-    match shared.close(rt, u32::MAX) {
-        Ok(area) => {
-            let mut noted = log.into_inner();
-            noted.as_mut_slice().sort_by_key(alloc, |one| one.order)?;
-            compared(alloc, noted.as_slice(), &area.close())
-        }
-        Err((shared, _refusal)) => {
-            shared.end(rt);
-            Err(RowError::OutOfMemory)
-        }
+// The plan of a row.
+fn plan_in<'a>(row: &Row) -> Result<Plan<'a>, RowError> {
+    let first = row.u32(1)?;
+    match row.word(0)? {
+        "drawn" => Ok(Plan::Drawn(first, row.u32(2)?)),
+        "lookers" => Ok(Plan::Watch(first, row.u32(2)?)),
+        word => Ok(Plan::Crowd(first, word == "packers")),
     }
 }
 
-// Thirty-three nodes follow the plan on an empty base, on a disk that fails the calls of the row from this place on.
-fn run_plan<D: BaseDisk, R: Threads + Wait + Sync>(
+// The nodes follow the plan. What they noted, in order, and the disk behind it.
+fn followed<D: Disk + Drop + Send + Sync, R: Threads + Wait + Sync>(
     rt: &R,
     alloc: Global,
     area: OpenArea<D>,
     plan: Plan,
-) -> Result<String, RowError>
+) -> Result<(Vec<Noted>, D), RowError>
     requires rest { HasRest D.device area }
 {
-    let Ok(mut shared) = Shared::new(rt, alloc, area, NODES) else {
+    let Ok(mut shared) = Shared::new(rt, alloc, area, plan.nodes()) else {
         return Err(RowError::OutOfMemory);
     };
     let log = Mutex::new(Vec::new(alloc));
     shared.follow(rt, alloc, &log, plan);
-    closed(rt, alloc, shared, log)
-}
-
-// The plan of a row.
-fn plan_in(row: &Row) -> Result<Plan, RowError> {
-    if row.word(0)? == "crowd" {
-        return Ok(Plan::Crowd { posts: row.u32(1)? });
-    }
-    Ok(Plan::Drawn {
-        seed: row.u32(1)?,
-        deeds: row.u32(2)?,
-    })
-}
-
-// `drawn SEED DEEDS FAILING..` and `crowd POSTS`.
-fn planned<D: BaseDisk, R: Threads + Wait + Sync>(
-    rt: &R,
-    alloc: Global,
-    row: &Row,
-) -> Result<String, RowError> {
-    let plan = plan_in(row)?;
-    let base: D = empty(alloc)?;
-    let area = opened(alloc, &base, row, 3)?;
-    run_plan(rt, alloc, area, plan)
-}
-
-// Closes the area behind a watch, and opens what its disk holds.
-fn closed_watch<D: BaseDisk, R: Wait>(
-    rt: &R,
-    alloc: Global,
-    shared: Shared<D>,
-    witnesses: &[Witness],
-    looks: u32,
-) -> Result<String, RowError> {
     match shared.close(rt, u32::MAX) {
         Ok(area) => {
-            let area = open(alloc, &area.close(), &[])?;
-            verdict(alloc, witnesses, area.loaded(), looks)
+            let mut noted = log.into_inner();
+            noted.as_mut_slice().sort_by_key(alloc, |one| one.order)?;
+            Ok((noted, area.close()))
         }
         Err((shared, _refusal)) => {
             shared.end(rt);
@@ -181,137 +111,137 @@ fn closed_watch<D: BaseDisk, R: Wait>(
     }
 }
 
-// One node posts to the area, and the others look.
-fn run_watch<D: BaseDisk, R: Threads + Wait + Sync>(
-    rt: &R,
-    alloc: Global,
-    area: OpenArea<D>,
-    plan: Watch,
-) -> Result<String, RowError>
-    requires rest { HasRest D.device area }
-{
-    let Ok(mut shared) = Shared::new(rt, alloc, area, LOOKERS) else {
-        return Err(RowError::OutOfMemory);
-    };
-    let log = Mutex::new(Vec::new(alloc));
-    shared.take_part(rt, alloc, &log, plan);
-    let witnesses = log.into_inner();
-    closed_watch(rt, alloc, shared, witnesses.as_slice(), plan.looks)
+// How much was done, how much of it the device stopped, and whether the plain program does the same.
+fn compared(alloc: Global, noted: &[Noted], disk: &MemDisk) -> Result<String, RowError> {
+    let (done, stopped) = (noted.len(), stopped_among(noted));
+    let is_same = replays(alloc, noted, disk)?;
+    let same = if is_same { "the same" } else { "otherwise" };
+    Ok(format!(in alloc; "{done} done, {stopped} stopped: the plain program answers {same}")?)
 }
 
-// `lookers POSTS LOOKS FAILING..`
-fn watched<D: BaseDisk, R: Threads + Wait + Sync>(
-    rt: &R,
-    alloc: Global,
-    row: &Row,
-) -> Result<String, RowError> {
-    let plan = Watch {
-        posts: row.u32(1)?,
-        looks: row.u32(2)?,
-    };
-    let base: D = empty(alloc)?;
-    let area = opened(alloc, &base, row, 3)?;
-    run_watch(rt, alloc, area, plan)
-}
-
-impl<D: BaseDisk> Trial<D> {
+impl<'a, R: Threads + Wait + Sync> Trial<'a, R> {
     /// An empty base, and no area that is shared.
-    pub(crate) fn new(alloc: Global) -> Result<Trial<D>, OutOfMemory> {
+    pub(crate) fn new(rt: &'a R, alloc: Global) -> Result<Trial<'a, R>, OutOfMemory> {
         Ok(Trial {
+            rt,
             base: empty(alloc)?,
             shared: None,
         })
     }
 
     // This is what is shared now; what was before is ended.
-    fn set_shared<R: Wait>(&mut self, rt: &R, shared: Option<Shared<D>>) {
+    fn set_shared(&mut self, shared: Option<Shared<MemDisk>>) {
         if let Some(before) = mem::replace(&mut self.shared, shared) {
-            before.end(rt);
+            before.end(self.rt);
         }
     }
 
-    /// `base`: an empty base, with no area shared.
-    fn set_base<R: Wait>(&mut self, rt: &R, alloc: Global) -> Result<String, RowError> {
-        self.base = empty(alloc)?;
-        self.set_shared(rt, None);
-        said(alloc, "base")
+    // This is the base now, and no area is shared.
+    fn set_base(&mut self, alloc: Global, base: MemDisk, word: &str) -> Result<String, RowError> {
+        self.base = base;
+        self.set_shared(None);
+        Ok(String::from_str(alloc, word)?)
     }
 
-    /// `share NODES FAILING..`: opens the area of the base and shares it, on a disk that fails these of its calls from then on.
-    fn share<R: Wait>(&mut self, rt: &R, alloc: Global, row: &Row) -> Result<String, RowError> {
+    // `share NODES FAILING..`: opens the area of the base and shares it, on a disk that fails these of its calls from then on.
+    fn share(&mut self, alloc: Global, row: &Row) -> Result<String, RowError> {
         let nodes = nodes_in(row)?;
-        let area = opened(alloc, &self.base, row, 2)?;
-        match Shared::new(rt, alloc, area, nodes) {
-            Ok(shared) => {
-                self.set_shared(rt, Some(shared));
-                said(alloc, "shared")
-            }
-            Err(_) => Err(RowError::OutOfMemory),
-        }
+        let failing = failing_in(alloc, row, 2)?;
+        let area = open(alloc, &self.base, failing.as_slice())?;
+        let Ok(shared) = Shared::new(self.rt, alloc, area, nodes) else {
+            return Err(RowError::OutOfMemory);
+        };
+        self.set_shared(Some(shared));
+        Ok(String::from_str(alloc, "shared")?)
     }
 
-    /// `call NODE NAME LEVEL ACT NUMBER`, and the looks and counts: what the node is answered.
-    fn ask<R: Wait>(&mut self, rt: &R, alloc: Global, row: &Row) -> Result<String, RowError> {
+    // `call NODE NAME LEVEL ACT NUMBER`, and the looks and counts: what the node is answered.
+    fn ask(&mut self, alloc: Global, row: &Row) -> Result<String, RowError> {
         let caller = caller_in(alloc, row)?;
         let ask = ask_in(alloc, row, &caller)?;
         match &mut self.shared {
-            Some(shared) => shared.ask(rt, alloc, row.u32(1)?, &caller, &ask),
-            None => said(alloc, "no area is shared"),
+            Some(shared) => shared.ask(self.rt, alloc, row.u32(1)?, &caller, &ask),
+            None => Ok(String::from_str(alloc, "no area is shared")?),
         }
     }
 
-    // Keeps the files of an area that was closed, and says how it stands.
-    fn keep(&mut self, alloc: Global, area: OpenArea<D>) -> Result<String, RowError> {
-        let live = area.loaded().active;
-        let stands = if area.in_doubt() {
-            "in doubt"
-        } else {
-            "at rest"
-        };
-        self.base = area.close();
-        Ok(format!(in alloc; "{stands}, {live} live")?)
+    // `drawn SEED DEEDS FAILING..`, `crowd POSTS`, `packers POSTS` and `lookers POSTS LOOKS FAILING..`: nodes follow the plan on an
+    // empty base, on a disk that fails these of its calls.
+    fn follow(&self, alloc: Global, row: &Row) -> Result<String, RowError> {
+        let plan = plan_in(row)?;
+        let failing = failing_in(alloc, row, 3)?;
+        let area = open(alloc, &empty(alloc)?, failing.as_slice())?;
+        let (noted, disk) = followed(self.rt, alloc, area, plan)?;
+        match plan {
+            Plan::Watch(..) => {
+                let area = open(alloc, &disk, &[])?;
+                verdict(alloc, noted.as_slice(), plan.nodes(), area.loaded())
+            }
+            _ => compared(alloc, noted.as_slice(), &disk),
+        }
     }
 
-    /// Closes the area with the passes of the nodes below this one. The base is then what its disk holds.
-    fn close<R: Wait>(&mut self, rt: &R, alloc: Global, below: u32) -> Result<String, RowError> {
+    // `between`: one node packs the area of the base, and another posts as soon as the first text is to be copied.
+    fn pack_held(&mut self, alloc: Global) -> Result<String, RowError> {
+        let meeting = Meeting::new();
+        let disk = HeldDisk::new(copied(alloc, &self.base, Vec::new(alloc))?, &meeting);
+        let area = open_on(alloc, disk)?;
+        let (noted, held) = followed(self.rt, alloc, area, Plan::Between(&meeting))?;
+        let mut text = String::new(alloc);
+        for one in &noted {
+            write!(text, "{:?}; ", one.told)?;
+        }
+        write!(text, "a record between two copies: {}", held.is_between)?;
+        self.base = held.disk;
+        Ok(text)
+    }
+
+    // Closes the area with the passes of the nodes below this one. The base is then what its disk holds.
+    fn close(&mut self, alloc: Global, below: u32) -> Result<String, RowError> {
         let Some(shared) = self.shared.take() else {
-            return said(alloc, "no area is shared");
+            return Ok(String::from_str(alloc, "no area is shared")?);
         };
-        match shared.close(rt, below) {
-            Ok(area) => self.keep(alloc, area),
+        match shared.close(self.rt, below) {
+            Ok(area) => {
+                let (live, is_doubtful) = (area.loaded().active, area.in_doubt());
+                let stands = if is_doubtful { "in doubt" } else { "at rest" };
+                self.base = area.close();
+                Ok(format!(in alloc; "{stands}, {live} live")?)
+            }
             Err((shared, refusal)) => {
-                self.set_shared(rt, Some(shared));
-                match refusal {
-                    Refusal::Missing(error) => Ok(format!(in alloc; "{error:?}")?),
-                    Refusal::OutOfMemory => Err(RowError::OutOfMemory),
-                }
+                self.set_shared(Some(shared));
+                let missing = refusal.ok_or(RowError::OutOfMemory)?;
+                Ok(format!(in alloc; "{missing:?}")?)
             }
         }
     }
 
     /// Ends what is shared.
-    pub(crate) fn end<R: Wait>(self, rt: &R) {
-        let Trial { base: _, shared } = self;
+    pub(crate) fn end(self) {
+        let Trial {
+            rt,
+            base: _,
+            shared,
+        } = self;
         if let Some(shared) = shared {
             shared.end(rt);
         }
     }
-}
 
-/// The line that is written for this row.
-pub(crate) fn answer<D: BaseDisk, R: Threads + Wait + Sync>(
-    rt: &R,
-    alloc: Global,
-    trial: &mut Trial<D>,
-    row: &Row,
-) -> Result<String, RowError> {
-    match row.word(0)? {
-        "base" => trial.set_base(rt, alloc),
-        "share" => trial.share(rt, alloc, row),
-        "close" => trial.close(rt, alloc, u32::MAX),
-        "close-below" => trial.close(rt, alloc, row.u32(1)?),
-        "drawn" | "crowd" => planned::<D, R>(rt, alloc, row),
-        "lookers" => watched::<D, R>(rt, alloc, row),
-        _ => trial.ask(rt, alloc, row),
+    /// The line that is written for this row.
+    pub(crate) fn answer(&mut self, alloc: Global, row: &Row) -> Result<String, RowError> {
+        match row.word(0)? {
+            "base" => self.set_base(alloc, empty(alloc)?, "base"),
+            "long" => {
+                let base = lengthened(alloc, &self.base, row.u32(1)?)?;
+                self.set_base(alloc, base, "long")
+            }
+            "share" => self.share(alloc, row),
+            "close" => self.close(alloc, u32::MAX),
+            "close-below" => self.close(alloc, row.u32(1)?),
+            "drawn" | "crowd" | "packers" | "lookers" => self.follow(alloc, row),
+            "between" => self.pack_held(alloc),
+            _ => self.ask(alloc, row),
+        }
     }
 }

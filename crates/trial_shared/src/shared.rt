@@ -4,11 +4,9 @@ ghost use Rattle.jb_area.specs.Calls.{HasRest};
 ghost use Rattle.jb_shared.specs.Areas.{IsOf};
 
 use crate::asking::{Caller, MOMENT};
-use crate::lookers::{Watch, watch_all};
 use crate::nodes::follow_all;
 use crate::noted::{Noted, Plan};
 use crate::showing::{answer_words, reply_words};
-use crate::witness::Witness;
 use jb_area::OpenArea;
 use jb_disk::Disk;
 use jb_model::{Command, Question};
@@ -25,15 +23,6 @@ pub(crate) enum Ask {
     Call(Command),
     Look(Question),
     Count,
-}
-
-/// Why a shared area is not closed.
-#[derive(Clone, Copy)]
-pub(crate) enum Refusal {
-    /// A pass is missing.
-    Missing(CloseError),
-    /// There was no memory to take passes away.
-    OutOfMemory,
 }
 
 /// A shared area and the passes of its nodes, in their order. Contracts see nothing of it. It is not `Drop`: end it by `end`.
@@ -66,24 +55,18 @@ fn told<D: Disk, R: Wait>(
     ensures { IsOf area.now pass.new }
 {
     match ask {
-        Ask::Call(command) => {
-            match area.call(rt, alloc, pass, &caller.user, MOMENT, command) {
-                Ok(reply) => reply_words(alloc, &reply),
-                Err(error) => Ok(format!(in alloc; "{error:?}")?),
-            }
-        }
-        Ask::Look(question) => {
-            match area.look(pass, &caller.user, question) {
-                Ok(answer) => answer_words(alloc, &answer),
-                Err(error) => Ok(format!(in alloc; "{error:?}")?),
-            }
-        }
-        Ask::Count => {
-            match area.unread_count(pass, &caller.user) {
-                Ok(count) => Ok(format!(in alloc; "{count} unread")?),
-                Err(error) => Ok(format!(in alloc; "{error:?}")?),
-            }
-        }
+        Ask::Call(command) => match area.call(rt, alloc, pass, &caller.user, MOMENT, command) {
+            Ok(reply) => reply_words(alloc, &reply),
+            Err(error) => Ok(format!(in alloc; "{error:?}")?),
+        },
+        Ask::Look(question) => match area.look(pass, &caller.user, question) {
+            Ok(answer) => answer_words(alloc, &answer),
+            Err(error) => Ok(format!(in alloc; "{error:?}")?),
+        },
+        Ask::Count => match area.unread_count(pass, &caller.user) {
+            Ok(count) => Ok(format!(in alloc; "{count} unread")?),
+            Err(error) => Ok(format!(in alloc; "{error:?}")?),
+        },
     }
 }
 
@@ -139,38 +122,22 @@ impl<D: Disk + Drop> Shared<D> {
         follow_all(rt, alloc, &self.area, self.passes.as_mut_slice(), log, plan);
     }
 
-    /// The first node posts and the others look, each in a thread of its own.
-    pub(crate) fn take_part<R: Threads + Wait + Sync>(
-        &mut self,
-        rt: &R,
-        alloc: Global,
-        log: &Mutex<Vec<Witness>>,
-        plan: Watch,
-    )
-    where
-        D: Send + Sync,
-    {
-        watch_all(rt, alloc, &self.area, self.passes.as_mut_slice(), log, plan);
-    }
-
-    /// Closes the area with the passes of the nodes below this one. Where that is refused, all passes are kept.
+    /// Closes the area with the passes of the nodes below this one. Where that is refused, all passes are kept, but for want of memory,
+    /// for which no error is told.
     pub(crate) fn close<R: Wait>(
         self,
         rt: &R,
         below: u32,
-    ) -> Result<OpenArea<D>, (Shared<D>, Refusal)> {
+    ) -> Result<OpenArea<D>, (Shared<D>, Option<CloseError>)> {
         let Shared { area, mut passes } = self;
         let place = (below as usize).saturating_sub(1).min(passes.len());
         let Ok(mut kept) = passes.split_off(place) else {
-            return Err((Shared { area, passes }, Refusal::OutOfMemory));
+            return Err((Shared { area, passes }, None));
         };
         match area.close(rt, passes) {
             Ok(area) => Ok(area),
             Err((area, mut passes, error)) => {
-                let refusal = match passes.append(&mut kept) {
-                    Ok(()) => Refusal::Missing(error),
-                    Err(_) => Refusal::OutOfMemory,
-                };
+                let refusal = passes.append(&mut kept).ok().map(|()| error);
                 Err((Shared { area, passes }, refusal))
             }
         }

@@ -5,6 +5,16 @@ use std::alloc::Global;
 use std::fmt::Write;
 use trial_rows::{RowError, shown};
 
+// A text; of many bytes that are all the same how many they are, and one of them.
+fn text_words(alloc: Global, text: &[u8]) -> Result<String, RowError> {
+    match text.first() {
+        Some(first) if text.len() > 100 && text.iter().all(|byte| byte == first) => {
+            Ok(format!(in alloc; "{}*{}", text.len(), char::from(*first))?)
+        }
+        _ => shown(alloc, text),
+    }
+}
+
 // A letter: number, names, subject and text, MSGID and REPLYID, date, attribute in hex, and the links.
 fn letter_words(alloc: Global, letter: &Letter) -> Result<String, RowError> {
     let mut text = format!(in alloc; "Text {}", letter.number)?;
@@ -16,7 +26,7 @@ fn letter_words(alloc: Global, letter: &Letter) -> Result<String, RowError> {
         letter.msgid.as_slice(),
         letter.reply.as_slice(),
     ] {
-        let part = shown(alloc, part)?;
+        let part = text_words(alloc, part)?;
         write!(text, " {part}")?;
     }
     write!(

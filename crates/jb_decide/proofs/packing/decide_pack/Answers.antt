@@ -1,23 +1,25 @@
 use Rattle.std.proofs.Common.{◌∙◌, ℕ, List, [], subst, sym}
+use Rattle.std.specs.Option.{ForSome}
 use Rattle.std.specs.Prelude.{replicate}
 use Rattle.std.proofs.lemmas.List.{length-replicate}
+use Rattle.jb_image.specs.Stands.{Loads}
 use Rattle.jb_model.specs.State.{state_of}
 use Rattle.jb_model.specs.declared.loaded.Loaded.{Loaded}
-use Rattle.jb_model.specs.declared.reply.Reply.TheVariants.{Denied, TextFull}
-use Rattle.jb_pack.specs.Plan.{AnswersPack, PlansPack}
+use Rattle.jb_model.specs.declared.reply.Reply.TheVariants.{TextFull}
+use Rattle.jb_pack.specs.Finish.{FinishesPack}
+use Rattle.jb_pack.specs.Plan.{AnswersPack}
 use Rattle.jb_pack.specs.declared.packing.Packing.{Packing}
-use Rattle.jb_decide.proofs.DecidedLemmas.{unchanged_decided}
-use Rattle.jb_decide.proofs.PackLemmas.{base_answered, denied_step, full_step, pack_decided}
+use Rattle.jb_replies.specs.Index.{IsIndexOf}
+use Rattle.jb_decide.proofs.CopiesLemmas.{with_copies}
+use Rattle.jb_decide.proofs.DecidedLemmas.{not_packed, unchanged_decided}
+use Rattle.jb_decide.proofs.PackLemmas.{base_answered, full_step, not_full, pack_decided, packed_some}
 use Rattle.jb_decide.proofs.packing.decide_pack.Goals as goal
 
-pub returns-in-Some-clause-decided : goal.returns-in-Some-clause-decided
-returns-in-Some-clause-decided g c = rw (← c.loaded-loaded.ensures) (λ moment texts are.
-    unchanged_decided c.args.rules.now c.loaded-loaded.result.now texts (g.D.Disk.device c.args.disk.now).contents c.args.redo.now c.args.user.now moment _ c.unchanged.result (Denied c.in-Some.rule)
-    c.unchanged.ensures.reply c.unchanged.ensures.pending (λ to files. tt)
-    (λ told. denied_step c.args.rules.now (state_of texts c.loaded-loaded.result.now) c.args.user.now c.in-Some.rule (sym c.denied.ensures ∙ c.in-Some.is)))
+pub finish-requires-clause-links : goal.finish-requires-clause-links
+finish-requires-clause-links g c = λ texts. c.as_slice.ensures ∙ c.in_ok-links.ensures texts
 
-pub plan-requires-clause-links : goal.plan-requires-clause-links
-plan-requires-clause-links g c = λ texts. c.as_slice.ensures ∙ c.in_ok-links.ensures texts
+pub replies_after-requires-clause-index : goal.replies_after-requires-clause-index
+replies_after-requires-clause-index g c = subst (IsIndexOf c.replies.result.now) (sym c.loaded-loaded.ensures) c.replies.ensures
 
 pub replies_after-requires-clause-base : goal.replies_after-requires-clause-base
 replies_after-requires-clause-base g c =
@@ -27,21 +29,35 @@ replies_after-requires-clause-base g c =
     (subst (AnswersPack (state_of texts loaded)) c.in-Fits.is (c.in_ok-length.ensures.answer texts (length-replicate loaded.texts_len 0)))
 
 pub returns-in-TextFull-clause-decided : goal.returns-in-TextFull-clause-decided
-returns-in-TextFull-clause-decided g c = rw (← c.loaded-loaded.ensures) (λ moment texts are.
+returns-in-TextFull-clause-decided g c = rw (← c.loaded-loaded.ensures) (λ rules user moment texts contents kept may are.
     let loaded : Loaded = c.loaded-loaded.result.now in
-    unchanged_decided c.args.rules.now loaded texts (g.D.Disk.device c.args.disk.now).contents c.plan.new.redo c.args.user.now moment _ c.unchanged-in-TextFull.result (TextFull c.in-TextFull.length)
-    c.unchanged-in-TextFull.ensures.reply c.unchanged-in-TextFull.ensures.pending (λ to files. tt)
-    (λ told. full_step c.args.rules.now (state_of texts loaded) c.args.user.now c.in-TextFull.length (sym c.denied.ensures ∙ c.in_default.is)
-    (subst (AnswersPack (state_of texts loaded)) c.in-TextFull.is (c.in_ok-length.ensures.answer texts are.sized))))
+    with_copies rules loaded texts contents _ c.finish.new.redo user moment _ c.unchanged.result
+    (unchanged_decided rules loaded texts contents c.finish.new.redo user moment _ c.unchanged.result (TextFull c.in-TextFull.length)
+    c.unchanged.ensures.reply c.unchanged.ensures.pending (not_packed (TextFull c.in-TextFull.length) (λ base live dropped is. cc))
+    (λ told. full_step rules (state_of texts loaded) user c.in-TextFull.length may.allowed
+    (subst (AnswersPack (state_of texts loaded)) c.in-TextFull.is (c.in_ok-length.ensures.answer texts are.sized)))))
 
 pub returns-in_ok-replies-in-Fits-clause-decided : goal.returns-in_ok-replies-in-Fits-clause-decided
-returns-in_ok-replies-in-Fits-clause-decided g c =
-    let kept = rw (← c.loaded-loaded.ensures) at c.requires.kept in
-    rw (← c.loaded-loaded.ensures) (λ moment texts are.
+returns-in_ok-replies-in-Fits-clause-decided g c = rw (← c.loaded-loaded.ensures) (λ rules user moment texts contents kept may are.
     let loaded : Loaded = c.loaded-loaded.result.now in
-    let contents = (g.D.Disk.device c.args.disk.now).contents in
-    pack_decided c.args.rules.now loaded texts contents c.plan.new.redo c.args.user.now moment c.in-Fits.base c.in-Fits.live c.in-Fits.dropped c.in_ok-links.links c.in_ok-replies-in-Fits.replies
-    (sym c.denied.ensures ∙ c.in_default.is) kept.sound kept.few_slots are
+    pack_decided rules loaded texts contents c.args.packer.now c.finish.new.redo user moment c.in-Fits.base c.in-Fits.live c.in-Fits.dropped c.in_ok-links.links c.in_ok-replies-in-Fits.replies
+    may.allowed kept.sound kept.few_slots are.sized
     (subst (AnswersPack (state_of texts loaded)) c.in-Fits.is (c.in_ok-length.ensures.answer texts are.sized))
-    (subst (λ (p : Packing). PlansPack contents loaded c.empty.new.redo c.plan.new.redo p) c.in-Fits.is c.in_ok-length.ensures.plans)
+    (subst (λ (p : Packing). FinishesPack c.args.packer.now loaded c.empty.new.redo c.finish.new.redo p) c.in-Fits.is c.in_ok-length.ensures.finishes)
     (c.in_ok-links.ensures []) c.in_ok-replies-in-Fits.ensures.index c.in_ok-replies-in-Fits.ensures.room)
+
+pub returns-in-TextFull-clause-changes : goal.returns-in-TextFull-clause-changes
+returns-in-TextFull-clause-changes g c =
+    let sound = rw (← c.loaded-loaded.ensures) at c.requires.sound in
+    rw (← c.loaded-loaded.ensures) (λ fits.
+    let loaded : Loaded = c.loaded-loaded.result.now in
+    let texts : List ℕ = replicate loaded.texts_len 0 in
+    absurd (not_full 65000 loaded texts c.in-TextFull.length sound (length-replicate loaded.texts_len 0) fits
+    (subst (AnswersPack (state_of texts loaded)) c.in-TextFull.is (c.in_ok-length.ensures.answer texts (length-replicate loaded.texts_len 0)))))
+
+pub returns-in_ok-replies-in-Fits-clause-changes : goal.returns-in_ok-replies-in-Fits-clause-changes
+returns-in_ok-replies-in-Fits-clause-changes g c = λ fits. packed_some c.in_ok-links.links c.in-Fits.base c.in_ok-replies-in-Fits.replies
+
+pub finish-requires-clause-holds : goal.finish-requires-clause-holds
+finish-requires-clause-holds g c =
+    subst (λ (l : Loaded). ForSome (g.D.Disk.device c.args.disk.now).contents (Loads l)) (sym c.loaded-loaded.ensures) c.requires.holds

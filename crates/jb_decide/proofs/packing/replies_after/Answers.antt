@@ -1,9 +1,13 @@
-use Rattle.std.proofs.Common.{◌-◌, ap, arith, length, length-drop}
+use Rattle.std.proofs.Common.{◌≡◌, ◌+◌, ◌-◌, ap, arith, length, length-drop}
+use Rattle.std.proofs.lemmas.Result.{IfOk-weaker}
+use Rattle.jb_base.specs.declared.limits.TheConstants.{MOST_SLOTS}
 use Rattle.jb_link.specs.Slots.{linkables_from}
 use Rattle.jb_model.specs.declared.loaded.Loaded.{Loaded}
 use Rattle.jb_pack.proofs.HeldLemmas.{length-packed}
 use Rattle.jb_pack.proofs.PlanLemmas.{base_within}
 use Rattle.jb_pack.specs.Packed.{kept_slots, new_base, packed}
+use Rattle.jb_replies.specs.Index.{HasSameLists, IsIndexOf, ReplyIndex}
+use Rattle.jb_decide.proofs.IndexLemmas.{same_lists}
 use Rattle.jb_decide.proofs.PackIndexLemmas.{packed_index}
 use Rattle.jb_decide.proofs.packing.replies_after.Goals as goal
 
@@ -21,7 +25,8 @@ overflow_sub-kept-2 c =
 
 pub returns-clause-index : goal.returns-clause-index
 returns-clause-index c =
-    c.reserve.ensures.index (packed c.args.loaded.now) (packed_index c.args.loaded.now c.in_ok-replies.replies c.requires.sound.base c.in_ok-replies.ensures.index)
+    IfOk-weaker c.copied.result (λ (copy : ReplyIndex). HasSameLists c.args.replies.now copy) (λ (copy : ReplyIndex). IsIndexOf copy (packed c.args.loaded.now))
+    (λ copy same. packed_index c.args.loaded.now copy c.requires.sound.base (same_lists c.args.replies.now copy c.args.loaded.now same c.requires.index)) c.copied.ensures.lists
 
 pub returns-clause-room : goal.returns-clause-room
 returns-clause-room c =
@@ -31,4 +36,5 @@ returns-clause-room c =
     let below = within.1 in
     let many = length-packed (linkables_from loaded.base loaded.slots) (new_base loaded) 1024 0 (kept_slots loaded) in
     let left = length-drop (new_base loaded - loaded.base) loaded.slots in
-    omega (arith, above, below, many, left, c.requires.base, c.requires.sound.few_slots, ap length c.as_slice.ensures, c.in_ok-replies.ensures.room, c.in_ok-reserve.ensures.ok)
+    IfOk-weaker c.copied.result (λ (copy : ReplyIndex). copy.room ≡ _) (λ (copy : ReplyIndex). length (packed loaded).slots + copy.room ≡ MOST_SLOTS)
+    (λ copy room. omega (arith, above, below, many, left, c.requires.base, c.requires.sound.few_slots, ap length c.as_slice.ensures, room)) c.copied.ensures.room

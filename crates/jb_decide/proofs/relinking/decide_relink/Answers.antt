@@ -9,7 +9,7 @@ use Rattle.jb_model.specs.Step.{Step}
 use Rattle.jb_model.specs.declared.command.Command.TheVariants.{Relink}
 use Rattle.jb_model.specs.declared.loaded.Loaded.{Loaded}
 use Rattle.jb_model.specs.declared.reply.Reply.TheVariants.{Relinked}
-use Rattle.jb_decide.proofs.DecidedLemmas.{no_pack, unchanged_decided}
+use Rattle.jb_decide.proofs.DecidedLemmas.{no_pack, not_packed, unchanged_decided}
 use Rattle.jb_decide.proofs.RelinkLemmas.{near_headers, not_relinked, relink_decided}
 use Rattle.jb_decide.proofs.relinking.decide_relink.Goals as goal
 
@@ -24,7 +24,7 @@ returns-then-changed-eq0-clause-decided c = rw (← c.loaded-loaded.ensures) (λ
     let from : Loaded = c.loaded-loaded.result.now in
     unchanged_decided c.args.rules.now from texts contents c.args.redo.now c.args.user.now moment _ c.unchanged-then-changed-eq0.result _
     c.unchanged-then-changed-eq0.ensures.reply c.unchanged-then-changed-eq0.ensures.pending
-    (λ to files. tt) (λ told. subst (λ (l : Loaded). Step c.args.rules.now (state_of texts from) c.args.user.now moment Relink (Relinked c.in-Ok.field-0.changed) (state_of texts l))
+    (not_packed (Relinked c.in-Ok.field-0.changed) (λ base live dropped is. cc)) (λ told. subst (λ (l : Loaded). Step c.args.rules.now (state_of texts from) c.args.user.now moment Relink (Relinked c.in-Ok.field-0.changed) (state_of texts l))
     (not_relinked c.args.rules.now from c.args.user.now _ is c.if-changed-eq0.true) (is.step texts moment)))
 
 pub put_relinking-requires-clause-near : goal.put_relinking-requires-clause-near

@@ -32,4 +32,4 @@ returns-in-Err-reply_line g c =
     let shown = g.D.Disk.device in
     let begins = subst (λ (u : User). BeginsCall shown c.args.area.now c.begin.new.self u 0 c.args.command.now (Ok tt)) c.requires.user c.in-Ok.ensures.begins in
     command_dropped shown c.args.command.now c.args.area.now c.begin.new.self c.abandon.new.self c.requires.rules begins c.coming.result.now c.in-Err-reply_line.error
-    c.in-Err-reply_line.ensures.none c.coming.ensures c.abandon.ensures.device
+    c.requires.rests c.in-Err-reply_line.ensures.none c.coming.ensures c.abandon.ensures.device

@@ -9,6 +9,6 @@ returns g c = λ moment.
     let has = c.requires.rests in
     let area = c.args.self.now in
     let decided : Decided = c.decide_mark-decided.result in
-    begins g.D.Disk.device area (record area { redo = c.decide_mark-decided.new.redo; stage = Begun decided.reply decided.pending }) area.disk c.decide_mark-decided.new.redo None refl refl refl refl
+    begins g.D.Disk.device area (record area { redo = c.decide_mark-decided.new.redo; stage = Begun decided.reply decided.pending }) area.disk c.decide_mark-decided.new.redo None refl refl refl refl refl
     (reads_itself (g.D.Disk.device area.disk)) c.decide_mark-decided.ensures.room (Ok decided) (Ok tt) c.args.user.now moment _ refl has.rests.small refl
-    (λ texts are. c.decide_mark-decided.ensures.decided moment texts (g.D.Disk.device area.disk).contents are) tt refl (same_faults (g.D.Disk.device area.disk))
+    (λ texts are. c.decide_mark-decided.ensures.decided moment texts (g.D.Disk.device area.disk).contents are) tt refl (same_faults (g.D.Disk.device area.disk)) has

@@ -1,4 +1,4 @@
-use Rattle.std.proofs.Common.{IfOk, IfErr, List, ℕ, Result, Some, refl, subst, sym}
+use Rattle.std.proofs.Common.{IfOk, IfErr, List, ℕ, None, Result, Some, refl, subst, sym}
 use Rattle.jb_model.specs.declared.command.Command.TheVariants.{Relink}
 use Rattle.jb_decide.specs.Decided.{IsDecided}
 use Rattle.jb_decide.specs.Errors.{AreaFaultRose}
@@ -15,7 +15,7 @@ returns-clause-begins g c = λ moment.
     let area = c.args.self.now in
     let device = g.D.Disk.device area.disk in
     let Is : Decided → Type 0 =
-    λ one. (texts : List ℕ) → AreTexts area.held texts device.contents → IsDecided area.rules area.held texts device.contents c.decide_relink.new.redo c.args.user.now moment Relink one in
+    λ one. (texts : List ℕ) → AreTexts area.held texts device.contents → IsDecided area.rules area.held texts device.contents None c.decide_relink.new.redo c.args.user.now moment Relink one in
     let is : IfOk c.match-decide_relink.decided Is = elim c.match-decide_relink.branch [
       | in-Ok w ↦ subst (λ (r : Result Decided AreaError). IfOk r Is) (sym w.decided-is) (λ texts are. w.in-Ok.ensures.decided moment texts device.contents are)
       | in-Err w ↦ subst (λ (r : Result Decided AreaError). IfOk r Is) (sym w.decided-is) tt
@@ -24,5 +24,5 @@ returns-clause-begins g c = λ moment.
       | in-Ok w ↦ subst (λ (r : Result Decided AreaError). IfErr r (AreaFaultRose device.faults device.faults)) (sym w.decided-is) tt
       | in-Err w ↦ subst (λ (r : Result Decided AreaError). IfErr r (AreaFaultRose device.faults device.faults)) (sym w.decided-is) refl
     ] in
-    begins g.D.Disk.device area c.start.new.self area.disk area.redo (Some c.decide_relink.new.redo) c.start.ensures.disk c.start.ensures.rules c.start.ensures.held c.start.ensures.redo
-    (reads_itself device) has.rests.kept.ruled.room c.match-decide_relink.decided c.start.result c.args.user.now moment _ c.start.ensures.stage c.start.ensures.large c.start.ensures.answer is cause (ok_same c.match-decide_relink.decided device.faults) (same_faults device)
+    begins g.D.Disk.device area c.start.new.self area.disk area.redo (Some c.decide_relink.new.redo) c.start.ensures.disk c.start.ensures.rules c.start.ensures.held c.start.ensures.redo c.start.ensures.packer
+    (reads_itself device) has.rests.kept.ruled.room c.match-decide_relink.decided c.start.result c.args.user.now moment _ c.start.ensures.stage c.start.ensures.large c.start.ensures.answer is cause (ok_same c.match-decide_relink.decided device.faults) (same_faults device) has

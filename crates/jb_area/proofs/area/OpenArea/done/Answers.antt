@@ -18,6 +18,9 @@ returns-in-Ok g c = record {
   crash = c.finish.ensures.crash;
   room = c.finish.ensures.room;
   rules = c.finish.ensures.rules;
+  copies = c.in-Ok.ensures.copies;
+  kept = tt;
+  packed = c.in-Ok.ensures.packed;
 }
 
 pub returns-in-Err : goal.returns-in-Err
@@ -36,4 +39,7 @@ returns-in-Err g c = record {
   crash = c.finish.ensures.crash;
   room = c.finish.ensures.room;
   rules = c.finish.ensures.rules;
+  copies = tt;
+  kept = c.in-Err.ensures.kept;
+  packed = tt;
 }

@@ -1,7 +1,11 @@
-use Rattle.std.proofs.Common.{None, Some, refl, sym, ◌∙◌}
+use Rattle.std.proofs.Common.{None, Some, ap, refl, subst, sym, ◌∙◌}
+use Rattle.jb_decide.specs.Pending.{IsPacking}
+use Rattle.jb_decide.specs.declared.pending.Pending.{Pending}
+use Rattle.jb_area.specs.Area.{copied_after}
 use Rattle.jb_area.proofs.CommitLemmas.{idle_opens}
 use Rattle.jb_area.proofs.DoubtLemmas.{doubt_reads}
-use Rattle.jb_area.proofs.StageLemmas.{between, made_change, made_nothing, may_apply, may_commit, rests_changed, rests_unchanged, some_change, some_in}
+use Rattle.jb_area.proofs.PackedLemmas.{copies_drop}
+use Rattle.jb_area.proofs.StageLemmas.{between, kept_by, made_change, made_nothing, may_apply, may_commit, packing_is, rests_changed, rests_unchanged, settled_with, short_after, some_change, some_in}
 use Rattle.jb_area.proofs.area.OpenArea.finish.Goals as goal
 
 pub returns-in-Nothing-clause-done : goal.returns-in-Nothing-clause-done
@@ -15,6 +19,33 @@ returns-in-Nothing-clause-made g c =
 pub returns-in-Nothing-clause-idle : goal.returns-in-Nothing-clause-idle
 returns-in-Nothing-clause-idle g c = λ none. (refl, refl)
 
+pub returns-in-Nothing-clause-copies : goal.returns-in-Nothing-clause-copies
+returns-in-Nothing-clause-copies g c =
+    let area = c.args.self.now in
+    sym (kept_by area.stage c.in-Begun.reply c.in-Begun.pending area.packer (sym c.replace.ensures.value ∙ c.in-Begun.is) ∙ ap (λ (p : Pending). copied_after p area.packer) c.in-Nothing.is)
+
+pub returns-in-Nothing-clause-packed : goal.returns-in-Nothing-clause-packed
+returns-in-Nothing-clause-packed g c = λ packed.
+    let has = c.requires.begun in
+    absurd (subst IsPacking c.in-Nothing.is (packing_is g.D.Disk.device c.args.self.now has.texts has.reply has.coming has.begun c.in-Begun.reply c.in-Begun.pending (sym c.replace.ensures.value ∙ c.in-Begun.is) packed))
+
+pub returns-in-Ok-clause-copies : goal.returns-in-Ok-clause-copies
+returns-in-Ok-clause-copies g c =
+    let area = c.args.self.now in
+    c.kept_after.ensures ∙ ap (copied_after c.in-Begun.pending) c.replace-in-Ok.ensures.value
+    ∙ sym (kept_by area.stage c.in-Begun.reply c.in-Begun.pending area.packer (sym c.replace.ensures.value ∙ c.in-Begun.is))
+
+pub returns-in-Ok-clause-packed : goal.returns-in-Ok-clause-packed
+returns-in-Ok-clause-packed g c = λ packed.
+    let has = c.requires.begun in
+    let is = sym c.replace.ensures.value ∙ c.in-Begun.is in
+    let packing = packing_is g.D.Disk.device c.args.self.now has.texts has.reply has.coming has.begun c.in-Begun.reply c.in-Begun.pending is packed in
+    record {
+      dropped = c.kept_after.ensures ∙ copies_drop c.in-Begun.pending c.replace-in-Ok.result packing;
+      short = short_after g.D.Disk.device c.args.self.now has.texts has.reply has.coming has.begun c.in-Begun.reply c.in-Begun.pending c.commit_change.new.disk c.in_use.result.now
+          c.in_use.ensures is c.in_default-pending.not-Nothing packing c.in-Ok.ensures.done c.in-Ok.ensures.size;
+    }
+
 pub returns-in-Ok-clause-idle : goal.returns-in-Ok-clause-idle
 returns-in-Ok-clause-idle g c = λ none.
     absurd (some_change c.args.self.now c.in-Begun.reply c.in-Begun.pending (sym c.replace.ensures.value ∙ c.in-Begun.is) c.in_default-pending.not-Nothing none)
@@ -25,7 +56,7 @@ returns-in-Err-clause-idle g c = λ none.
 
 pub returns-in-Ok-clause-made : goal.returns-in-Ok-clause-made
 returns-in-Ok-clause-made g c =
-    made_change g.D.Disk.device c.args.self.now c.in-Begun.reply c.in-Begun.pending (sym c.replace.ensures.value ∙ c.in-Begun.is) c.commit_change.new.disk c.apply.new.self None c.replace.new.dest c.in_use.result.now
+    made_change g.D.Disk.device c.args.self.now c.in-Begun.reply c.in-Begun.pending (sym c.replace.ensures.value ∙ c.in-Begun.is) c.commit_change.new.disk c.apply.new.self None c.kept_after.result c.replace.new.dest c.in_use.result.now
     c.in_use.ensures c.in_default-pending.not-Nothing c.in-Ok.ensures.made
 
 pub returns-in-Nothing-clause-crash : goal.returns-in-Nothing-clause-crash
@@ -39,12 +70,13 @@ commit_change-requires g c =
 
 pub returns-in-Ok-clause-done : goal.returns-in-Ok-clause-done
 returns-in-Ok-clause-done g c = λ texts decided coming begun.
-    rests_changed g.D.Disk.device c.args.self.now texts decided coming begun c.in-Begun.reply c.in-Begun.pending c.commit_change.new.disk c.apply.new.self None c.replace.new.dest c.in_use.result.now
-    c.in_use.ensures (sym c.replace.ensures.value ∙ c.in-Begun.is) c.in_default-pending.not-Nothing refl c.replace.ensures.after c.apply.ensures c.in-Ok.ensures.done
+    rests_changed g.D.Disk.device c.args.self.now texts decided coming begun c.in-Begun.reply c.in-Begun.pending c.commit_change.new.disk c.apply.new.self None c.kept_after.result c.replace.new.dest c.in_use.result.now
+    c.in_use.ensures (sym c.replace.ensures.value ∙ c.in-Begun.is) c.in_default-pending.not-Nothing refl (c.kept_after.ensures ∙ ap (copied_after c.in-Begun.pending) c.replace-in-Ok.ensures.value) c.replace.ensures.after c.apply.ensures
+    c.commit_change.ensures.alike c.in-Ok.ensures.made c.in-Ok.ensures.done
 
 pub returns-in-Ok-clause-crash : goal.returns-in-Ok-clause-crash
 returns-in-Ok-clause-crash g c = λ texts decided coming begun was there.
-    c.in-Ok.ensures.crash c.args.self.now.held texts coming begun.kept.settled
+    c.in-Ok.ensures.crash c.args.self.now.held texts c.args.self.now.packer coming (settled_with g.D.Disk.device c.args.self.now texts decided coming begun)
     (some_in g.D.Disk.device c.args.self.now texts decided coming begun c.in-Begun.reply c.in-Begun.pending c.in_use.result.now c.in_use.ensures (sym c.replace.ensures.value ∙ c.in-Begun.is) c.in_default-pending.not-Nothing).change was there
 
 pub returns-in-Err-clause-doubt : goal.returns-in-Err-clause-doubt
@@ -58,7 +90,7 @@ returns-in-Err-clause-opens g c = λ texts decided coming begun.
 
 pub returns-in-Err-clause-crash : goal.returns-in-Err-clause-crash
 returns-in-Err-clause-crash g c = λ texts decided coming begun was there.
-    c.in-Err.ensures.crash c.args.self.now.held texts coming begun.kept.settled
+    c.in-Err.ensures.crash c.args.self.now.held texts c.args.self.now.packer coming (settled_with g.D.Disk.device c.args.self.now texts decided coming begun)
     (some_in g.D.Disk.device c.args.self.now texts decided coming begun c.in-Begun.reply c.in-Begun.pending c.in_use.result.now c.in_use.ensures (sym c.replace.ensures.value ∙ c.in-Begun.is) c.in_default-pending.not-Nothing).change was there
 
 pub apply-requires : goal.apply-requires

@@ -19,6 +19,7 @@ returns-clause-rests g c = rw c.in-Ok.ensures (λ texts are. record {
       rests = λ files there. subst (λ (t : List ℕ). IsAtRest c.args.loaded t files) (are.told files there) (c.requires.rests files there);
       synced = c.requires.synced;
     };
+    copies = λ files there. tt;
   };
 })
 

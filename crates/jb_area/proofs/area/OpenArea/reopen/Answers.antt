@@ -1,13 +1,39 @@
-use Rattle.std.proofs.Common.{None, Bool, refl, sym, subst, ◌∙◌}
+use Rattle.std.proofs.Common.{None, Bool, inl, inr, refl, sym, subst, ◌∙◌}
+use Rattle.jb_area.specs.declared.stage.Stage.TheVariants.{Resting}
 use Rattle.jb_area.specs.Commits.{IsAnsweredAs}
-use Rattle.jb_area.proofs.DoubtLemmas.{at_doubt, crashes, doubt_reads, falls, idle, may_apply, may_settle, stands, still}
+use Rattle.jb_area.proofs.DoubtLemmas.{at_doubt, copying_crashes, copying_settles, copying_still, crashes, doubt_reads, drops, falls, idle, may_apply, may_settle, stands, still}
 use Rattle.jb_area.proofs.area.OpenArea.reopen.Goals as goal
 
 pub unreachable-requires : goal.unreachable-requires
 unreachable-requires g c =
     let has = c.requires.doubt in
-    let at = at_doubt g.D.Disk.device c.args.self.now has.texts has.coming has.doubt in
-    c.in_default.not-Doubtful at.0 at.1 (c.replace.ensures.value ∙ at.2)
+    elim (at_doubt g.D.Disk.device c.args.self.now has.texts has.coming has.doubt) [
+      | inl at ↦ c.in_default-replace.not-Doubtful at.0 at.1 (c.replace.ensures.value ∙ at.2)
+      | inr copying ↦ c.in_default.not-Copying copying
+    ]
+
+pub returns-in-Ok-clause-settled : goal.returns-in-Ok-clause-settled
+returns-in-Ok-clause-settled g c =
+    copying_settles g.D.Disk.device c.args.self.now c.in-Copying.is c.sync_copies.new.disk None None Resting refl refl refl c.in-Ok.ensures.settled
+
+pub returns-in-Ok-clause-crash : goal.returns-in-Ok-clause-crash
+returns-in-Ok-clause-crash g c =
+    copying_crashes g.D.Disk.device c.args.self.now c.in-Copying.is (g.D.Disk.device c.sync_copies.new.disk) c.sync_copies.ensures.crash
+
+pub returns-in-Err-clause-still : goal.returns-in-Err-clause-still
+returns-in-Err-clause-still g c =
+    copying_still g.D.Disk.device c.args.self.now c.in-Copying.is c.sync_copies.new.disk c.in-Err.ensures.still
+
+pub returns-in-Err-clause-opens : goal.returns-in-Err-clause-opens
+returns-in-Err-clause-opens g c = λ texts coming doubt. doubt_reads g.D.Disk.device _ texts coming (returns-in-Err-clause-still g c texts coming doubt)
+
+pub returns-in-Err-clause-crash : goal.returns-in-Err-clause-crash
+returns-in-Err-clause-crash g c =
+    copying_crashes g.D.Disk.device c.args.self.now c.in-Copying.is (g.D.Disk.device c.sync_copies.new.disk) c.sync_copies.ensures.crash
+
+pub returns-in-Nothing-clause-settled : goal.returns-in-Nothing-clause-settled
+returns-in-Nothing-clause-settled g c =
+    drops g.D.Disk.device c.args.self.now c.in-Doubtful.stopped c.in-Doubtful.pending (sym c.replace.ensures.value ∙ c.in-Doubtful.is) c.in-Nothing.is None None c.replace.new.dest refl refl c.replace.ensures.after
 
 pub returns-in-Nothing-clause-crash : goal.returns-in-Nothing-clause-crash
 returns-in-Nothing-clause-crash g c =
@@ -21,8 +47,8 @@ settle_change-requires g c =
 pub returns-in-Ok-true-clause-settled : goal.returns-in-Ok-true-clause-settled
 returns-in-Ok-true-clause-settled g c =
     stands g.D.Disk.device c.args.self.now c.in-Doubtful.stopped c.in-Doubtful.pending (sym c.replace.ensures.value ∙ c.in-Doubtful.is) c.in_default-pending.not-Nothing c.in_use.result.now c.in_use.ensures
-    c.settle_change.new.disk c.apply.new.self None c.replace.new.dest refl c.replace.ensures.after c.apply.ensures
-    (λ from texts coming doubt is. subst (λ (b : Bool). IsAnsweredAs b from texts coming (g.D.Disk.device c.settle_change.new.disk)) c.in-Ok-true.field-0-test (c.in-Ok-true.ensures.answer from texts coming doubt is))
+    c.settle_change.new.disk c.apply.new.self None None c.replace.new.dest refl refl c.replace.ensures.after c.apply.ensures
+    (λ from texts copies coming doubt is. subst (λ (b : Bool). IsAnsweredAs b from texts coming (g.D.Disk.device c.settle_change.new.disk)) c.in-Ok-true.field-0-test (c.in-Ok-true.ensures.answer from texts copies coming doubt is))
 
 pub returns-in-Ok-true-clause-crash : goal.returns-in-Ok-true-clause-crash
 returns-in-Ok-true-clause-crash g c =
@@ -32,24 +58,24 @@ returns-in-Ok-true-clause-crash g c =
 pub returns-in-Ok-false-clause-settled : goal.returns-in-Ok-false-clause-settled
 returns-in-Ok-false-clause-settled g c =
     falls g.D.Disk.device c.args.self.now c.in-Doubtful.stopped c.in-Doubtful.pending (sym c.replace.ensures.value ∙ c.in-Doubtful.is) c.in_default-pending.not-Nothing c.in_use.result.now c.in_use.ensures
-    c.settle_change.new.disk None c.replace.new.dest refl c.replace.ensures.after
-    (λ from texts coming doubt is. subst (λ (b : Bool). IsAnsweredAs b from texts coming (g.D.Disk.device c.settle_change.new.disk)) c.in-Ok-false.field-0-test (c.in-Ok-false.ensures.answer from texts coming doubt is))
+    c.settle_change.new.disk None None c.replace.new.dest refl refl c.replace.ensures.after
+    (λ from texts copies coming doubt is. subst (λ (b : Bool). IsAnsweredAs b from texts coming (g.D.Disk.device c.settle_change.new.disk)) c.in-Ok-false.field-0-test (c.in-Ok-false.ensures.answer from texts copies coming doubt is))
 
 pub returns-in-Ok-false-clause-crash : goal.returns-in-Ok-false-clause-crash
 returns-in-Ok-false-clause-crash g c =
     crashes g.D.Disk.device c.args.self.now c.in-Doubtful.stopped c.in-Doubtful.pending (sym c.replace.ensures.value ∙ c.in-Doubtful.is) c.in_default-pending.not-Nothing c.in_use.result.now c.in_use.ensures
     (g.D.Disk.device c.settle_change.new.disk) c.settle_change.ensures.crash
 
-pub returns-in-Err-clause-still : goal.returns-in-Err-clause-still
-returns-in-Err-clause-still g c =
+pub returns-in-Err-settle_change-clause-still : goal.returns-in-Err-settle_change-clause-still
+returns-in-Err-settle_change-clause-still g c =
     still g.D.Disk.device c.args.self.now c.in-Doubtful.stopped c.in-Doubtful.pending (sym c.replace.ensures.value ∙ c.in-Doubtful.is) c.in_default-pending.not-Nothing c.in_use.result.now c.in_use.ensures
-    c.settle_change.new.disk c.args.self.now.large c.in-Err.stopped c.in_use.ensures c.settle_change.ensures.alike c.in-Err.ensures.still
+    c.settle_change.new.disk c.args.self.now.large c.in-Err-settle_change.stopped c.in_use.ensures c.settle_change.ensures.alike c.in-Err-settle_change.ensures.still
 
-pub returns-in-Err-clause-opens : goal.returns-in-Err-clause-opens
-returns-in-Err-clause-opens g c = λ texts coming doubt. doubt_reads g.D.Disk.device _ texts coming (returns-in-Err-clause-still g c texts coming doubt)
+pub returns-in-Err-settle_change-clause-opens : goal.returns-in-Err-settle_change-clause-opens
+returns-in-Err-settle_change-clause-opens g c = λ texts coming doubt. doubt_reads g.D.Disk.device _ texts coming (returns-in-Err-settle_change-clause-still g c texts coming doubt)
 
-pub returns-in-Err-clause-crash : goal.returns-in-Err-clause-crash
-returns-in-Err-clause-crash g c =
+pub returns-in-Err-settle_change-clause-crash : goal.returns-in-Err-settle_change-clause-crash
+returns-in-Err-settle_change-clause-crash g c =
     crashes g.D.Disk.device c.args.self.now c.in-Doubtful.stopped c.in-Doubtful.pending (sym c.replace.ensures.value ∙ c.in-Doubtful.is) c.in_default-pending.not-Nothing c.in_use.result.now c.in_use.ensures
     (g.D.Disk.device c.settle_change.new.disk) c.settle_change.ensures.crash
 

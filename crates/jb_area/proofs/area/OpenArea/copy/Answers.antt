@@ -1,0 +1,56 @@
+use Rattle.std.proofs.Common.{◌≡◌, ◌≤◌, ◌∙◌, Err, Option, ap, length, subst, sym}
+use Rattle.std.specs.Option.{ForSome}
+use Rattle.jb_base.specs.declared.limits.TheConstants.{MOST_SLOTS, TEXTS_CEILING}
+use Rattle.jb_disk.specs.declared.file.FileId.TheVariants.{Jdt}
+use Rattle.jb_model.specs.Sound.{IsSound}
+use Rattle.jb_model.specs.declared.loaded.Loaded.{Loaded}
+use Rattle.jb_pack.specs.Copying.{PackFaultRose}
+use Rattle.jb_pack.specs.Packed.{texts_size}
+use Rattle.jb_pack.specs.declared.error.PackError.{PackError}
+use Rattle.jb_pack.specs.declared.error.PackError.TheVariants as pack_error
+use Rattle.jb_decide.proofs.PackLemmas.{sound_under}
+use Rattle.jb_area.specs.Copying.{HasCopiedSome}
+use Rattle.jb_area.proofs.Outcomes.{err_gives}
+use Rattle.jb_area.proofs.StepLemmas.{steps_done, steps_stopped, steps_wanting, unless_memory, unless_ok}
+use Rattle.jb_area.proofs.area.OpenArea.copy.Goals as goal
+
+pub copy_some-requires-clause-sound : goal.copy_some-requires-clause-sound
+copy_some-requires-clause-sound g c =
+    let has = c.requires.rests in
+    subst (IsSound MOST_SLOTS) (sym c.loaded.ensures) (sound_under c.args.self.now.rules.slots 65000 c.args.self.now.held has.rests.kept.ruled.few_slots has.rests.kept.ruled.sound)
+
+pub copy_some-requires-clause-told : goal.copy_some-requires-clause-told
+copy_some-requires-clause-told g c =
+    let has = c.requires.rests in
+    subst (λ (l : Loaded). ForSome (g.D.Disk.device c.args.self.now.disk).contents (λ files. length (files Jdt) ≡ l.texts_len)) (sym c.loaded.ensures)
+    (λ files there. sym (has.rests.kept.settled.rests files there).holds.loads.texts_len)
+
+pub copy_some-requires-clause-fits : goal.copy_some-requires-clause-fits
+copy_some-requires-clause-fits g c = subst (λ (l : Loaded). texts_size l.slots ≤ TEXTS_CEILING) (sym c.loaded.ensures) c.requires.fits
+
+pub copy_some-requires-clause-has : goal.copy_some-requires-clause-has
+copy_some-requires-clause-has g c = let has = c.requires.rests in has.rests.kept.copies
+
+pub returns-in-Ok-clause-steps : goal.returns-in-Ok-clause-steps
+returns-in-Ok-clause-steps g c =
+    steps_done g.D.Disk.device c.args.self.now c.copy_some.new.disk c.copy_some.new.kept c.copy_some.ensures.touches _
+    (unless_ok c.copy_some.result _ _ c.in-Ok.is c.copy_some.ensures.durable) (unless_ok c.copy_some.result _ _ c.in-Ok.is c.copy_some.ensures.has) c.in-Ok.ensures.quiet c.copy_some.ensures.later
+
+pub returns-in-Ok-clause-copied : goal.returns-in-Ok-clause-copied
+returns-in-Ok-clause-copied g c =
+    subst (λ (l : Loaded). HasCopiedSome c.args.budget l.slots c.args.self.now.packer c.copy_some.new.kept c.in-Ok.more) c.loaded.ensures c.in-Ok.ensures.copied
+
+pub returns-in-Err-StoreFault-clause-steps : goal.returns-in-Err-StoreFault-clause-steps
+returns-in-Err-StoreFault-clause-steps g c =
+    let is = c.in-Err-StoreFault.is ∙ ap (λ (e : PackError). Err e) c.in-Err-StoreFault.field-0-is in
+    steps_stopped g.D.Disk.device c.args.self.now c.copy_some.new.disk c.copy_some.new.kept c.copy_some.ensures.touches
+    (err_gives c.copy_some.result pack_error.StoreFault (PackFaultRose (g.D.Disk.device c.args.self.now.disk).faults (g.D.Disk.device c.copy_some.new.disk).faults) is c.copy_some.ensures.cause)
+    c.copy_some.ensures.later
+
+pub returns-in-Err-OutOfMemory-clause-steps : goal.returns-in-Err-OutOfMemory-clause-steps
+returns-in-Err-OutOfMemory-clause-steps g c =
+    let is = c.in-Err-OutOfMemory.is ∙ ap (λ (e : PackError). Err e) c.in-Err-OutOfMemory.field-0-is in
+    steps_wanting g.D.Disk.device c.args.self.now c.copy_some.new.disk c.copy_some.new.kept c.copy_some.ensures.touches
+    (unless_memory c.copy_some.result _ is c.copy_some.ensures.durable) (unless_memory c.copy_some.result _ is c.copy_some.ensures.has)
+    (err_gives c.copy_some.result pack_error.OutOfMemory (PackFaultRose (g.D.Disk.device c.args.self.now.disk).faults (g.D.Disk.device c.copy_some.new.disk).faults) is c.copy_some.ensures.cause)
+    c.copy_some.ensures.later

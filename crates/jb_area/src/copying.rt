@@ -1,0 +1,133 @@
+//! Texts are copied into .NDT, for a pack that comes later.
+ghost use Rattle.std.specs.Prelude.{◌≡◌, ◌≤◌, ℕ, List, Option, Some, IfErr, IfOk, OnErr, OnOk, length};
+ghost use Rattle.std.specs.Option.{ForSome};
+ghost use Rattle.jb_base.specs.Fault.{Rose};
+ghost use Rattle.jb_base.specs.declared.limits.TheConstants.{MOST_SLOTS, TEXTS_CEILING};
+ghost use Rattle.jb_disk.specs.Device.{TellsAlike};
+ghost use Rattle.jb_disk.specs.Runs.{IsAllSynced, LeavesOnly};
+ghost use Rattle.jb_disk.specs.declared.file.FileId.TheVariants.{Jdt as texts_file};
+ghost use Rattle.jb_model.specs.Sound.{IsSound};
+ghost use Rattle.jb_model.specs.declared.loaded.Loaded.{Loaded};
+ghost use Rattle.jb_pack.specs.Copying.{PackFaultRose};
+ghost use Rattle.jb_pack.specs.Packed.{texts_size};
+ghost use Rattle.jb_pack.specs.Shadow.{HasCopies};
+ghost use Rattle.jb_pack.specs.Touching.{IsUntouched, TouchesShadow};
+ghost use Rattle.jb_decide.specs.Holds.{HasAll};
+ghost use Rattle.jb_area.specs.Area.{copied_after};
+ghost use Rattle.jb_area.specs.Commits.{IsCopyingAs, IsSettledAs};
+ghost use Rattle.jb_area.specs.Copying.{HasCopiedSome, UnlessFault, begun_of};
+ghost use Rattle.jb_area.specs.Holds.{Opens};
+
+use jb_decide::Pending;
+use jb_disk::{Disk, DiskFailed, FileId};
+use jb_journal::Stopped;
+use jb_model::Loaded;
+use jb_pack::{PackError, Packer};
+use std::alloc::Global;
+use std::mem;
+
+/// The packer that was kept; where there was none, a new one, with an empty .NDT.
+fn begun<D: Disk>(
+    alloc: Global,
+    disk: &mut D,
+    kept: Option<Packer>,
+    loaded: &Loaded,
+) -> Result<Packer, PackError>
+    requires has { ForSome (D.device disk.old).contents (HasAll kept) }
+    ensures begun { IfOk result (λ packer. packer ≡ begun_of kept) }
+    ensures has { IfOk result (λ packer. ForSome (D.device disk.new).contents (HasCopies packer)) }
+    ensures durable { OnOk result (IsAllSynced (D.device disk.old) → IsAllSynced (D.device disk.new)) }
+    ensures kept { TouchesShadow (D.device disk.old) (D.device disk.new) }
+    ensures unchanged { IfErr result (IsUntouched (D.device disk.old) (D.device disk.new)) }
+    ensures quiet { OnOk result ((D.device disk.new).faults ≡ (D.device disk.old).faults) }
+    ensures later { (D.device disk.old).faults ≤ (D.device disk.new).faults }
+    ensures cause { IfErr result (PackFaultRose (D.device disk.old).faults (D.device disk.new).faults) }
+{
+    match kept {
+        Some(packer) => Ok(packer),
+        None => Packer::begin(alloc, disk, loaded),
+    }
+}
+
+/// Copies some of the texts that are left with this packer, which is kept then. Answers whether a text is left.
+fn copy_with<D: Disk>(
+    alloc: Global,
+    disk: &mut D,
+    packer: Packer,
+    kept: &mut Option<Packer>,
+    loaded: &Loaded,
+    budget: u32,
+) -> Result<bool, PackError>
+    requires sound { IsSound MOST_SLOTS loaded.now }
+    requires told { ForSome (D.device disk.old).contents (λ files. length (files texts_file) ≡ loaded.now.texts_len) }
+    requires fits { texts_size loaded.now.slots ≤ TEXTS_CEILING }
+    requires has { ForSome (D.device disk.old).contents (HasCopies packer) }
+    ensures copied { IfOk result (HasCopiedSome budget loaded.now.slots (Some packer) kept.new) }
+    ensures has { UnlessFault result (ForSome (D.device disk.new).contents (HasAll kept.new)) }
+    ensures durable { UnlessFault result (IsAllSynced (D.device disk.old) → IsAllSynced (D.device disk.new)) }
+    ensures touches { TouchesShadow (D.device disk.old) (D.device disk.new) }
+    ensures quiet { OnOk result ((D.device disk.new).faults ≡ (D.device disk.old).faults) }
+    ensures later { (D.device disk.old).faults ≤ (D.device disk.new).faults }
+    ensures cause { IfErr result (PackFaultRose (D.device disk.old).faults (D.device disk.new).faults) }
+{
+    let mut packer = packer;
+    let more = packer.some(alloc, disk, loaded, budget);
+    *kept = Some(packer);
+    more
+}
+
+/// Copies some of the texts that are left, with the packer that is kept or with a new one, which is kept then. Answers whether
+/// a text is left.
+pub(crate) fn copy_some<D: Disk>(
+    alloc: Global,
+    disk: &mut D,
+    kept: &mut Option<Packer>,
+    loaded: &Loaded,
+    budget: u32,
+) -> Result<bool, PackError>
+    requires sound { IsSound MOST_SLOTS loaded.now }
+    requires told { ForSome (D.device disk.old).contents (λ files. length (files texts_file) ≡ loaded.now.texts_len) }
+    requires fits { texts_size loaded.now.slots ≤ TEXTS_CEILING }
+    requires has { ForSome (D.device disk.old).contents (HasAll kept.old) }
+    ensures copied { IfOk result (HasCopiedSome budget loaded.now.slots kept.old kept.new) }
+
+    // But after a fault the files have what is copied, and are synced if they were so.
+    ensures has { UnlessFault result (ForSome (D.device disk.new).contents (HasAll kept.new)) }
+    ensures durable { UnlessFault result (IsAllSynced (D.device disk.old) → IsAllSynced (D.device disk.new)) }
+    ensures touches { TouchesShadow (D.device disk.old) (D.device disk.new) }
+    ensures quiet { OnOk result ((D.device disk.new).faults ≡ (D.device disk.old).faults) }
+    ensures later { (D.device disk.old).faults ≤ (D.device disk.new).faults }
+    ensures cause { IfErr result (PackFaultRose (D.device disk.old).faults (D.device disk.new).faults) }
+{
+    match begun(alloc, disk, mem::replace(kept, None), loaded) {
+        Ok(packer) => copy_with(alloc, disk, packer, kept, loaded, budget),
+        Err(error) => Err(error),
+    }
+}
+
+/// Syncs .NDT, after a copying was stopped.
+pub(crate) fn sync_copies<D: Disk>(disk: &mut D) -> Result<(), Stopped>
+    ensures settled { OnOk result ((loaded : Loaded) (texts : List ℕ) → IsCopyingAs loaded texts (D.device disk.old) → IsSettledAs loaded texts (D.device disk.new)) }
+    ensures still { OnErr result ((loaded : Loaded) (texts : List ℕ) → IsCopyingAs loaded texts (D.device disk.old) → IsCopyingAs loaded texts (D.device disk.new)) }
+    ensures crash { (loaded : Loaded) (texts : List ℕ) → IsCopyingAs loaded texts (D.device disk.old)
+        → ForSome (D.device disk.old).contents (λ _. LeavesOnly (D.device disk.old) (D.device disk.new) (Opens loaded texts)) }
+    ensures cause { OnErr result (Rose (D.device disk.old).faults (D.device disk.new).faults) }
+    ensures quiet { OnOk result ((D.device disk.new).faults ≡ (D.device disk.old).faults) }
+    ensures later { (D.device disk.old).faults ≤ (D.device disk.new).faults }
+    ensures alike { TellsAlike (D.device disk.old) (D.device disk.new) }
+{
+    match disk.sync(FileId::Ndt) {
+        Ok(()) => Ok(()),
+        Err(DiskFailed) => Err(Stopped::Early),
+    }
+}
+
+/// The packer that is kept once what is pending is done: after a pack none, since its copies are of no use then.
+pub(crate) fn kept_after(pending: &Pending, kept: Option<Packer>) -> Option<Packer>
+    ensures { result ≡ copied_after pending.now kept }
+{
+    match pending {
+        Pending::Packed { .. } => None,
+        Pending::Nothing | Pending::Counted { .. } | Pending::Marked { .. } => kept,
+    }
+}

@@ -1,0 +1,80 @@
+use Rattle.std.proofs.Common.{◌+◌, length, Bool, Result, Ok, Err, refl, sym, ◌∙◌, ap, subst}
+use Rattle.jb_area.specs.Area.{device_of, loaded_of, rules_of}
+use Rattle.jb_area.specs.Calls.{StepsPack}
+use Rattle.jb_decide.specs.Packs.{is_pack_refused}
+use Rattle.jb_decide.specs.declared.error.AreaError.{AreaError}
+use Rattle.jb_decide.specs.declared.error.AreaError.TheVariants as failing
+use Rattle.jb_model.specs.declared.command.Command.TheVariants.{Pack}
+use Rattle.jb_model.specs.declared.entry.Outcome.TheVariants.{InDoubt}
+use Rattle.jb_turn.specs.Seats.{row_of}
+use Rattle.jb_shared.specs.InTurn.{next_call, recorded}
+use Rattle.jb_shared.specs.Keeping.{IsKept, IsKeptSettled}
+use Rattle.jb_shared.specs.Stepping.{CopiesOnePart}
+use Rattle.jb_shared.proofs.KeepingLemmas.{kept_stopped, out_rests}
+use Rattle.jb_shared.proofs.KnowingLemmas.{knows_at, knows_called, knows_still}
+use Rattle.jb_shared.proofs.SteppingLemmas.{copies_by, kept_step, kept_without, meets_step, none_more, step_no_change}
+use Rattle.jb_shared.proofs.stepping.copy_part.Goals as goal
+
+pub pack_some-requires-clause-rests : goal.pack_some-requires-clause-rests
+pack_some-requires-clause-rests g c = out_rests g.D.Disk.device c.args.held.state (row_of c.args.seat.now) c.requires.out.0.knows
+
+pub returns-in-Ok-clause-out : goal.returns-in-Ok-clause-out
+returns-in-Ok-clause-out g c =
+    let shown = g.D.Disk.device in
+    let known = row_of c.args.seat.now in
+    let old = c.args.held.state in
+    let steps : StepsPack shown old.area c.pack_some.new.self (Ok c.in-Ok.more) = subst (λ (r : Result Bool AreaError). StepsPack shown old.area c.pack_some.new.self r) c.in-Ok.is c.pack_some.ensures.steps in
+    record {
+      holds = c.requires.out.0.holds;
+      knows =
+          knows_still (IsKeptSettled shown) (IsKept shown) old (record { area = c.pack_some.new.self; shower = old.shower; doubted = old.doubted }) known c.requires.out.0.knows
+          (λ first was. kept_step shown old (record { area = c.pack_some.new.self; shower = old.shower; doubted = old.doubted }) c.pack_some.new.self first known.front c.args.user.now c.args.moment c.in-Ok.more was steps refl);
+    }
+
+pub returns-in-Ok-clause-copied : goal.returns-in-Ok-clause-copied
+returns-in-Ok-clause-copied g c =
+    let old = c.args.held.state.area in
+    let new = c.pack_some.new.self in
+    let rest = out_rests g.D.Disk.device c.args.held.state (row_of c.args.seat.now) c.requires.out.0.knows in
+    let more = c.in-Ok.more in
+    subst (CopiesOnePart old new) (sym c.bytes_where_left-left.ensures)
+    (copies_by old new more (is_pack_refused (rules_of old) rest.texts (loaded_of old) c.args.user.now)
+    (λ is. let none = c.pack_some.ensures.refused rest.texts rest.rests is in (none_more c.pack_some.result more c.in-Ok.is none.0, none.1))
+    (λ is. c.in-Ok.ensures.copied rest.texts rest.rests is))
+
+pub returns-in-Err-StoreFault-clause-out : goal.returns-in-Err-StoreFault-clause-out
+returns-in-Err-StoreFault-clause-out g c =
+    let shown = g.D.Disk.device in
+    let known = row_of c.args.seat.now in
+    let knows = c.requires.out.0.knows in
+    let old = c.args.held.state in
+    let area = c.pack_some.new.self in
+    let faults = (device_of shown area).faults in
+    let rest = out_rests shown old known knows in
+    let steps : StepsPack shown old.area area (Err failing.StoreFault)
+    = subst (λ (r : Result Bool AreaError). StepsPack shown old.area area r) (c.in-Err-StoreFault.is ∙ ap (λ (e : AreaError). Err e) c.in-Err-StoreFault.field-0-is) c.pack_some.ensures.steps in
+    let meets = meets_step shown old.area area c.args.user.now c.args.moment failing.StoreFault steps in
+    record {
+      holds = c.note_in_doubt.ensures.seat;
+      knows =
+          knows_at (IsKeptSettled shown) (IsKept shown) c.note_in_doubt.new.held.state c.note_in_doubt.new.held.state (recorded known (next_call known c.args.user.now c.args.moment Pack (InDoubt faults)))
+          (row_of c.note_in_doubt.new.seat) refl c.note_in_doubt.ensures.row
+          (knows_called (IsKeptSettled shown) (IsKept shown) old c.note_in_doubt.new.held.state known c.args.user.now c.args.moment Pack (InDoubt faults) knows
+          (λ first next was. kept_stopped shown old c.note_in_doubt.new.held.state area old.doubted first known.front known.node (length known.mine + 1) c.args.user.now c.args.moment Pack was meets
+          (λ change. absurd (step_no_change shown old.area area rest.texts rest.rests steps change)) next c.note_in_doubt.ensures.kept));
+    }
+
+pub returns-in-Err-OutOfMemory-clause-out : goal.returns-in-Err-OutOfMemory-clause-out
+returns-in-Err-OutOfMemory-clause-out g c =
+    let shown = g.D.Disk.device in
+    let known = row_of c.args.seat.now in
+    let old = c.args.held.state in
+    let area = c.pack_some.new.self in
+    let steps : StepsPack shown old.area area (Err failing.OutOfMemory)
+    = subst (λ (r : Result Bool AreaError). StepsPack shown old.area area r) (c.in-Err-OutOfMemory.is ∙ ap (λ (e : AreaError). Err e) c.in-Err-OutOfMemory.field-0-is) c.pack_some.ensures.steps in
+    record {
+      holds = c.requires.out.0.holds;
+      knows =
+          knows_still (IsKeptSettled shown) (IsKept shown) old (record { area = area; shower = old.shower; doubted = old.doubted }) known c.requires.out.0.knows
+          (λ first was. kept_without shown old (record { area = area; shower = old.shower; doubted = old.doubted }) area first known.front c.args.user.now c.args.moment was steps refl);
+    }

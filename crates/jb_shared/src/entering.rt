@@ -1,0 +1,87 @@
+//! A pass takes the turn, and gives it back.
+ghost use Rattle.std.specs.Prelude.{◌≡◌, List};
+ghost use Rattle.jb_model.specs.declared.entry.Entry.{Entry};
+ghost use Rattle.jb_publish.specs.Accounts.{account_of, told_with};
+ghost use Rattle.jb_turn.specs.Rows.{Begins, StandsFrom};
+ghost use Rattle.jb_turn.specs.Seats.{front, id_of, opening, resting_row, resting_turn, row_of, Holds};
+ghost use Rattle.jb_turn.specs.Steps.{seen};
+ghost use Rattle.jb_shared.specs.Histories.{settled_of};
+ghost use Rattle.jb_shared.specs.InTurn.{IsOut, IsToldOf};
+ghost use Rattle.jb_shared.specs.Keeping.{IsKept};
+
+use crate::SharedArea;
+use crate::noting::give_plain;
+use crate::parts::Parts;
+use crate::published::IndexReader;
+use crate::shared::{AreaSeat, AreaTurn};
+use crate::showing::inform;
+use crate::shown::ShownArea;
+use jb_disk::Disk;
+use jb_turn::Held;
+use std::sync::Wait;
+
+/// The parts of a pass whose turn has come, with the area that is out with its seat.
+pub(crate) struct Entered<D: Disk> {
+    pub(crate) seat: AreaSeat<D>,
+    pub(crate) held: Held<ShownArea<D>>,
+    pub(crate) reader: IndexReader,
+}
+
+impl<D: Disk> SharedArea<D> {
+    /// Waits for the turn and takes it. The end that looks learns all that is shown.
+    pub(crate) fn enter<R: Wait>(&self, rt: &R, parts: Parts) -> Entered<D>
+        requires ours { resting_turn parts.seat ≡ id_of self.now.turn }
+
+        // The area is out with the seat, which has seen more of the history.
+        ensures out { IsOut (IsKept D.device) self.now.turn result.seat result.held }
+        ensures took { row_of result.seat ≡ seen (resting_row parts.seat) (front result.seat) }
+        ensures grows { Begins (resting_row parts.seat).front (front result.seat) }
+
+        // The end that looks was told all that is settled of it, and all else of it stays.
+        ensures told { IsToldOf (row_of result.seat) (account_of result.reader) }
+        ensures account { (list : List Entry) × (account_of result.reader ≡ told_with (account_of parts.reader) list) }
+    {
+        let Parts { seat, mut reader } = parts;
+        let mut seat: AreaSeat<D> = seat.wake();
+        let held = self.turn.take(rt, &mut seat);
+        inform(&held.state.shower, &mut reader);
+        Entered { seat, held, reader }
+    }
+}
+
+/// Gives the area back.
+fn end_plain<D: Disk>(
+    turn: &AreaTurn<D>,
+    mut seat: AreaSeat<D>,
+    held: Held<ShownArea<D>>,
+    reader: IndexReader,
+) -> Parts
+    requires seat { Holds turn.now seat held.count }
+    requires stands { StandsFrom (IsKept D.device) (opening seat) held.state (front seat) }
+    requires told { IsToldOf (row_of seat) (account_of reader) }
+    ensures here { resting_turn result.seat ≡ id_of turn.now }
+    ensures row { resting_row result.seat ≡ row_of seat }
+    ensures account { account_of result.reader ≡ account_of reader }
+{
+    give_plain(turn, &mut seat, held);
+    let seat = seat.rest();
+    Parts { seat, reader }
+}
+
+/// Gives the area back, once the end that looks has learned all that is shown.
+pub(crate) fn leave<D: Disk>(
+    turn: &AreaTurn<D>,
+    seat: AreaSeat<D>,
+    held: Held<ShownArea<D>>,
+    mut reader: IndexReader,
+) -> Parts
+    requires out { IsOut (IsKept D.device) turn.now seat held }
+    requires mark { (account_of reader).mark ≡ opening seat }
+    requires told { Begins (account_of reader).told (settled_of (front seat)) }
+    ensures here { resting_turn result.seat ≡ id_of turn.now }
+    ensures row { resting_row result.seat ≡ row_of seat }
+    ensures account { (list : List Entry) × (account_of result.reader ≡ told_with (account_of reader) list) }
+{
+    inform(&held.state.shower, &mut reader);
+    end_plain(turn, seat, held, reader)
+}

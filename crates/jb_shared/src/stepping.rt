@@ -1,0 +1,192 @@
+//! A pack by steps: its texts are copied in turns of their own, and the calls of others go in between.
+ghost use Rattle.std.specs.Prelude.{◌≡◌, ◌<◌, ◌≤◌, ◌+◌, ◌*◌, ◌/◌, IfOk, IsTrue, is_some, length};
+ghost use mathlib.Core.List.{IsPrefix};
+ghost use Rattle.jb_area.specs.Area.{HasDoubt};
+ghost use Rattle.jb_area.specs.Calls.{HasRest};
+ghost use Rattle.jb_base.specs.declared.limits.TheConstants.{MOST_ENTRIES, MOST_TEXT_BYTES};
+ghost use Rattle.jb_publish.specs.Accounts.{account_of};
+ghost use Rattle.jb_publish.specs.Publications.{publication_of};
+ghost use Rattle.jb_turn.specs.Seats.{id_of, resting_row, resting_turn, row_of};
+ghost use Rattle.jb_shared.specs.InTurn.{IsOut};
+ghost use Rattle.jb_shared.specs.Inside.{known_in};
+ghost use Rattle.jb_shared.specs.Keeping.{IsKept, IsKeptSettled};
+ghost use Rattle.jb_shared.specs.Stepping.{CopiesOnePart, RunsStep, StepsAs};
+
+use crate::entering::{Entered, leave};
+use crate::noting::note_in_doubt;
+use crate::parts::Parts;
+use crate::published::IndexReader;
+use crate::shared::{AreaSeat, AreaTurn};
+use crate::shown::ShownArea;
+use crate::{SharedArea, SharedError};
+use jb_area::{AreaError, OpenArea};
+use jb_base::{MOST_ENTRIES, MOST_TEXT_BYTES, User};
+use jb_disk::Disk;
+use jb_model::{Command, LoadedSlot};
+use jb_turn::Held;
+use std::alloc::Global;
+use std::marker::Brand;
+use std::sync::Wait;
+
+/// How many bytes the texts of the live messages have. The sum stops at the last value of a `u64`, which no area comes near.
+fn text_bytes(slots: &[LoadedSlot]) -> u64 {
+    let mut bytes: u64 = 0;
+    for slot in slots {
+        if let LoadedSlot::Live(message) = slot {
+            bytes = bytes.saturating_add(message.text_len as u64);
+        }
+    }
+    bytes
+}
+
+/// How many bytes the texts of the area have, where one of them is left to copy.
+fn bytes_where_left<D: Disk>(area: &OpenArea<D>, more: bool) -> Option<u64>
+    ensures { is_some result ≡ more }
+{
+    if more {
+        Some(text_bytes(area.loaded().slots.as_slice()))
+    } else {
+        None
+    }
+}
+
+/// In how many turns texts of so many bytes are copied where nobody posts meanwhile. Two turns copy more than 1,048,576 bytes together,
+/// since the second begins with the text that had no place in the first.
+fn most_turns(bytes: u64) -> u64
+    ensures { result ≡ 2 * (bytes / MOST_TEXT_BYTES) + 2 }
+{
+    2 * (bytes / MOST_TEXT_BYTES as u64) + 2
+}
+
+/// Whether texts may be copied in this turn. Where the history is spent, the area in doubt or the pass was shown more than is
+/// settled, the call itself says so.
+fn may_step<D: Disk>(held: &Held<ShownArea<D>>, reader: &IndexReader) -> bool
+    requires mark { (account_of reader.now).mark ≡ (publication_of held.now.state.shower).mark }
+    ensures room { IsTrue result → held.now.count < MOST_ENTRIES }
+    ensures settled { IsTrue result → HasDoubt D.device held.now.state.area → ⊥ }
+    ensures covers { IsTrue result → IsPrefix (account_of reader.now).shown (publication_of held.now.state.shower).list }
+
+    // Where none of these bars it, it may.
+    ensures may { held.now.count < MOST_ENTRIES → HasRest D.device held.now.state.area
+        → length (account_of reader.now).shown ≤ length (publication_of held.now.state.shower).list → IsTrue result }
+{
+    if held.count >= MOST_ENTRIES {
+        return false;
+    }
+    if held.state.area.in_doubt() {
+        return false;
+    }
+    held.state.shower.covers(reader)
+}
+
+/// Copies a part of the texts of the area at rest, 1,048,576 bytes at most, and answers whether one is left, with the bytes of all.
+/// Where the device fails, the pack is recorded as stopped; want of memory leaves no entry.
+fn copy_part<D: Disk>(
+    alloc: Global,
+    turn: &AreaTurn<D>,
+    seat: &mut AreaSeat<D>,
+    held: Held<ShownArea<D>>,
+    user: &User,
+    moment: u32,
+) -> (Held<ShownArea<D>>, Result<Option<u64>, SharedError>)
+    requires out { IsOut (IsKeptSettled D.device) turn.now seat.old held × (held.count < MOST_ENTRIES) }
+    ensures out { IsOut (IsKept D.device) turn.now seat.new result.0 }
+    ensures steps { RunsStep (row_of seat.old) (row_of seat.new) user.now moment result.1 }
+    ensures copied { IfOk result.1 (λ left. CopiesOnePart held.state.area result.0.state.area (is_some left)) }
+{
+    let mut held = held;
+    match held.state.area.pack_some(alloc, user, MOST_TEXT_BYTES) {
+        Ok(more) => {
+            let left = bytes_where_left(&held.state.area, more);
+            (held, Ok(left))
+        }
+        Err(AreaError::StoreFault) => {
+            let pack = Command::Pack;
+            note_in_doubt::<D, Brand>(turn, seat, &mut held, user, moment, &pack);
+            (held, Err(SharedError::StoreFault))
+        }
+        Err(AreaError::OutOfMemory) => (held, Err(SharedError::OutOfMemory)),
+    }
+}
+
+impl<D: Disk> SharedArea<D> {
+    /// One step of a pack, in a turn of its own. It answers whether there is another one, with the bytes of all texts.
+    fn step<R: Wait>(
+        &self,
+        rt: &R,
+        alloc: Global,
+        parts: Parts,
+        user: &User,
+        moment: u32,
+    ) -> (Parts, Result<Option<u64>, SharedError>)
+        requires ours { resting_turn parts.seat ≡ id_of self.now.turn }
+        ensures ours { resting_turn result.0.seat ≡ id_of self.now.turn }
+        ensures mark { (resting_row result.0.seat).opening ≡ (resting_row parts.seat).opening }
+        ensures steps { StepsAs (known_in parts) (known_in result.0) user.now moment result.1 }
+    {
+        let Entered {
+            mut seat,
+            held,
+            reader,
+        } = self.enter(rt, parts);
+        if !may_step(&held, &reader) {
+            return (leave(&self.turn, seat, held, reader), Ok(None));
+        }
+        let (held, left) = copy_part(alloc, &self.turn, &mut seat, held, user, moment);
+        (leave(&self.turn, seat, held, reader), left)
+    }
+
+    /// The steps of a pack behind the first one, so many at most.
+    fn step_on<R: Wait>(
+        &self,
+        rt: &R,
+        alloc: Global,
+        parts: Parts,
+        user: &User,
+        moment: u32,
+        most: u64,
+    ) -> (Parts, Result<(), SharedError>)
+        requires ours { resting_turn parts.seat ≡ id_of self.now.turn }
+        ensures ours { resting_turn result.0.seat ≡ id_of self.now.turn }
+        ensures mark { (resting_row result.0.seat).opening ≡ (resting_row parts.seat).opening }
+        ensures steps { StepsAs (known_in parts) (known_in result.0) user.now moment result.1 }
+    {
+        let mut parts = parts;
+        for _ in 0..most {
+            let (next, left) = self.step(rt, alloc, parts, user, moment);
+            parts = next;
+            match left {
+                Ok(Some(_bytes)) => {}
+                Ok(None) => return (parts, Ok(())),
+                Err(error) => return (parts, Err(error)),
+            }
+        }
+        (parts, Ok(()))
+    }
+
+    /// The steps of a pack, each in a turn of its own, until no text is left, or none may be copied, or so many turns were taken
+    /// as the texts at the first of them may want. `Ok` leaves the pack itself to be done.
+    pub(crate) fn copy_by_steps<R: Wait>(
+        &self,
+        rt: &R,
+        alloc: Global,
+        parts: Parts,
+        user: &User,
+        moment: u32,
+    ) -> (Parts, Result<(), SharedError>)
+        requires ours { resting_turn parts.seat ≡ id_of self.now.turn }
+        ensures ours { resting_turn result.0.seat ≡ id_of self.now.turn }
+        ensures mark { (resting_row result.0.seat).opening ≡ (resting_row parts.seat).opening }
+        ensures steps { StepsAs (known_in parts) (known_in result.0) user.now moment result.1 }
+    {
+        let (parts, left) = self.step(rt, alloc, parts, user, moment);
+        match left {
+            Ok(Some(bytes)) => {
+                let most = most_turns(bytes) - 1;
+                self.step_on(rt, alloc, parts, user, moment, most)
+            }
+            Ok(None) => (parts, Ok(())),
+            Err(error) => (parts, Err(error)),
+        }
+    }
+}
