@@ -1,13 +1,13 @@
 #!/usr/bin/env python3
 """Measures the built program against CrashMail II (Debian's package `crashmail`), which tosses packets into JAM bases, where both do the same work:
-posting so many messages, linking them, and packing the base.
+posting so many messages, and linking them.
 
 usage: crashmail.py PROGRAM [DIR]
 
 Each message has a MSGID and a text of 497 bytes; of those that CrashMail tosses, all from one packet, every third answers another. The board's are
-typed by one caller at the console, who waits for no answer. CrashMail links as it tosses, so its linking is what that takes longer. Every tenth message of
-what CrashMail wrote is then killed, and packed by either. CrashMail syncs nothing, and a run of it that is stopped leaves what it leaves. The files
-lie in DIR, or where temporary files do.
+typed by one caller at the console, who waits for no answer. CrashMail links as it tosses, so its linking is what that takes longer; the board links what CrashMail
+tossed without it. How many replies are linked then is told of both. CrashMail syncs nothing, and a run of it that is stopped leaves what it
+leaves. The files lie in DIR, or where temporary files do.
 """
 import hashlib
 import os
@@ -18,7 +18,7 @@ import sys
 import tempfile
 import time
 
-COUNTS, RUNS = (1_000, 3_000), 3
+COUNTS, RUNS = (500, 1_000, 2_000), 3
 NODE = "2:200/207.6"
 PREFS = """SYSOP "Sysop"
 LOGFILE "{folder}/log"
@@ -52,7 +52,6 @@ level = 255
 digest = "{digest}"
 """
 TEXT = b"x" * 70
-FILES = ("jhr", "jdt", "jdx", "jlr")
 
 
 def answered(n):
@@ -106,16 +105,11 @@ def posts(program, folder, count):
     return timed([program, "local", "board.toml"], folder, input=typed(count))
 
 
-def kills(folder):
-    """Kills every tenth message in the files."""
-    with open(f"{folder}/areas/general.jdx", "rb") as file:
-        places = [at for _, at in struct.iter_unpack("<II", file.read())]
-    with open(f"{folder}/areas/general.jhr", "r+b") as file:
-        for at in places[9::10]:
-            file.seek(at + 52)
-            attribute = struct.unpack("<I", file.read(4))[0]
-            file.seek(at + 52)
-            file.write(struct.pack("<I", attribute | 0x80000000))
+def linked(folder):
+    """How many messages of the base name one that they answer."""
+    with open(f"{folder}/areas/general.jdx", "rb") as index, open(f"{folder}/areas/general.jhr", "rb") as headers:
+        places, data = [at for _, at in struct.iter_unpack("<II", index.read())], headers.read()
+    return sum(struct.unpack_from("<I", data, at + 24)[0] != 0 for at in places)
 
 
 def on_copy(folder, words):
@@ -129,17 +123,14 @@ def on_copy(folder, words):
 def measure(program, folder, count):
     posted = min(posts(program, folder, count) for _ in range(RUNS))
     plain = min(tosses(folder, count, False) for _ in range(RUNS))
-    # this takes the square of the messages in CrashMail
-    linked = tosses(folder, count, True)
-    tosses(folder, count, False)
-    kills(folder)
     shutil.rmtree(f"{folder}/kept", ignore_errors=True)
     shutil.copytree(f"{folder}/areas", f"{folder}/kept")
     relinked = min(on_copy(folder, [program, "relink", "areas", "general"]) for _ in range(RUNS))
-    packed = min(on_copy(folder, [program, "pack", "areas", "general"]) for _ in range(RUNS))
-    maintained = min(on_copy(folder, ["crashmaint", "SETTINGS", f"{folder}/prefs", "PACK"]) for _ in range(RUNS))
-    for what, ours, theirs in (("post", posted, plain), ("link", relinked, linked - plain), ("pack", packed, maintained)):
-        print(f"{count} messages, {what}: {ours * 1e3:.0f} ms, CrashMail {theirs * 1e3:.0f} ms", flush=True)
+    ours = linked(folder)
+    # this takes more than the square of the messages in CrashMail
+    both = tosses(folder, count, True)
+    print(f"{count} messages: posted in {posted * 1e3:.0f} ms, by CrashMail in {plain * 1e3:.0f} ms; linked in {relinked * 1e3:.0f} ms, {ours} replies, "
+          f"by CrashMail in {(both - plain) * 1e3:.0f} ms, {linked(folder)}", flush=True)
 
 
 def main(program, above=None):

@@ -14,7 +14,8 @@ import sys
 import time
 
 top, work = sys.argv[1:]
-program = f"{top}/crates/board/out/board"
+with open(f"{top}/crates/board/out/board.serves") as file:
+    program = f"{top}/{file.read().strip()}"
 files = [f"{work}/big.{extension}" for extension in ("JHR", "JDT", "JDX", "JLR")]
 
 

@@ -53,10 +53,11 @@ LOST = re.compile(r"no answer to '.*': word 0 is not known|no area is shared|not
 
 class Rows:
     """A program of trials: rows that are not asked, since they compare or count runs of their own; rows that begin anew, behind which nothing is left
-    of those before; rows that ask several things, some of which may be done; and what may be answered where a disk in memory finds none."""
+    of those before; rows that ask several things, some of which may be done; what may be answered where a disk in memory finds none; and rows
+    that are not asked, with all behind them up to one that begins anew, since they change what it stands on."""
 
-    def __init__(self, skipped=(), anew=(), several=(), faults=None):
-        self.skipped, self.anew, self.several, self.faults = skipped, anew, several, faults and re.compile(faults)
+    def __init__(self, skipped=(), anew=(), several=(), faults=None, ending=()):
+        self.skipped, self.anew, self.several, self.faults, self.ending = skipped, anew, several, faults and re.compile(faults), ending
 
 
 PROGRAMS = {
@@ -65,7 +66,7 @@ PROGRAMS = {
     "trial_bases": Rows(anew=("new",), faults=r"StoreFault|the disk failed|no answer to '(plan|post)\b.*': word 0 is not known"),
     "trial_terminal": Rows(),
     "trial_areas": Rows(("try", "stops", "parts", "behind", "opening", "drawn"), ("base", "files"), ("ask", "call"), r"Stopped|(Base\()?StoreFault"),
-    "trial_shared": Rows(("drawn", "crowd", "packers", "lookers", "between"), ("base",), (), "StoreFault|no answer to 'share .*': word 0 is not known"),
+    "trial_shared": Rows(("drawn", "crowd", "packers", "lookers"), ("base",), (), "StoreFault|no answer to 'share .*': word 0 is not known", ("between",)),
 }
 
 
@@ -130,8 +131,12 @@ def asked_of(name):
     """The rows that are asked, and their answers."""
     with open(f"{TOP}/crates/{name}/stdin") as rows, open(f"{TOP}/crates/{name}/stdout") as answers:
         pairs = list(zip(rows.read().split("\n"), answers.read().split("\n")))
-    skipped = PROGRAMS[name].skipped
-    kept = [(row, answer) for row, answer in pairs if row and not row.startswith("#") and row.split()[0] not in skipped]
+    of, kept, is_asked = PROGRAMS[name], [], True
+    for row, answer in pairs:
+        word = row.split()[0] if row else "#"
+        is_asked = word in of.anew or is_asked and word not in of.ending
+        if is_asked and not word.startswith("#") and word not in of.skipped:
+            kept.append((row, answer))
     return [row for row, _ in kept], [answer for _, answer in kept]
 
 

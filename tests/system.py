@@ -45,7 +45,7 @@ RECOVERY_CALLS = "jhr len 1, jhr write 2, jdt len 1, jdt write 1, jdx len 1, jdx
 LOCAL, LIST, PACK = ("local", "board.toml"), ("list", "areas", "general"), ("pack", "areas", "general")
 POSTED = ("Test", "abc", "1", "p", "Hello", "more", "n", "a line")
 ANSWERED = ("Hello", "test", "1", "1", "r", "a line")
-PROMPT, ASKED = b"[general] ", b"Text, . ends, ! cancels\r\n"
+PROMPT, ASKED, FAULT = b"[general] ", b"Text, . ends, ! cancels\r\n", b"Store fault"
 MOST_TEXTS, MOST_TEXT = 67_108_864, 1_048_576
 # the least that a pipe holds
 PIPE_BYTES = 4096
@@ -137,6 +137,9 @@ def asks(child, typed, end):
         return b""
     found, limit = b"", time.monotonic() + GUARD
     while not found.endswith(end):
+        if FAULT in found:
+            # what was asked for need not come then
+            limit = min(limit, time.monotonic() + 1)
         ready, _, _ = select.select([child.stdout], [], [], max(0, limit - time.monotonic()))
         more = os.read(child.stdout.fileno(), 65536) if ready else b""
         if not more:
