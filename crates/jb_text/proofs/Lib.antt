@@ -2,3 +2,4 @@ pub mod DateLemmas
 mod Growing
 pub mod LetterLemmas
 mod Rows
+mod ShownLemmas

@@ -5,12 +5,13 @@
 //! CR LF (RFC 854, "The NVT printer and keyboard"). Names, subjects and texts come from others: a control character in them
 //! (a byte below 32, or 127) is shown as `?`, all other bytes as they are. The byte 255 is not doubled here: what sends the
 //! text to a terminal does that. [`start`] and [`letter`] give whole lines with their ends, the others one line without
-//! its end; [`append_line_end`] puts one behind it. [`append_listing`] puts the line of [`listing`] behind others. Each call takes a time and memory that grow as the bytes it is given and
-//! gives.
+//! its end; [`append_line_end`] puts one behind it. [`append_listing`] puts the line of [`listing`] behind others. Each call
+//! takes a time and memory that grow as the bytes it is given and gives.
 #![tactic(auto)]
 
 mod answers;
 mod dates;
+mod draft;
 mod letters;
 mod lines;
 mod standing;

@@ -1,12 +1,18 @@
 //! The lines of a session, but for messages, replies and faults.
-ghost use Rattle.std.specs.Prelude.{◌≡◌, ◌++◌, IfOk, OnOk};
+ghost use Rattle.std.specs.Prelude.{◌≡◌, ◌+◌, ◌≤◌, ◌++◌, length, IfOk, OnOk, IsTrue};
 ghost use Rattle.jb_text.specs.Fixed.{fixed_text};
 ghost use Rattle.jb_text.specs.Lines.{area_line_text, figures_text, listing_text, prompt_text, replying_text, start_text, welcome_text};
 
 use crate::Fixed;
+use crate::draft::{DRAFT_BYTES, Draft};
 use crate::writing::{append_left, append_line_end, append_number, append_right, append_shown};
+use itoa::Buffer;
 use jb_base::{Bytes, OutOfMemory};
 use std::alloc::Global;
+
+/// How many bytes the fields of a message have at most, where its line in a list is drafted: a number has ten digits at most, and
+/// seven bytes part it and the fields.
+const DRAFTED_FIELDS: usize = DRAFT_BYTES - 17;
 
 /// The bytes of a fixed text.
 fn bytes_of(text: Fixed) -> &'static [u8]
@@ -108,8 +114,44 @@ pub fn replying(alloc: Global, from: &[u8], subject: &[u8]) -> Result<Bytes, Out
     Ok(text)
 }
 
-/// Puts a message in a list behind a text: its number right in 8 places, sender, receiver and subject.
-pub fn append_listing(
+/// Whether the fields of a message are short enough for its line to be drafted.
+fn are_short(from: &[u8], to: &[u8], subject: &[u8]) -> bool
+    ensures { IsTrue result → length from.now + length to.now + length subject.now ≤ 111 }
+{
+    from.len()
+        .saturating_add(to.len())
+        .saturating_add(subject.len())
+        <= DRAFTED_FIELDS
+}
+
+/// Puts a message in a list, whose fields are short, behind a text: drafted, and then at once.
+fn append_drafted(
+    text: &mut Bytes,
+    number: u32,
+    from: &[u8],
+    to: &[u8],
+    subject: &[u8],
+) -> Result<(), OutOfMemory>
+    requires { length from.now + length to.now + length subject.now ≤ 111 }
+    ensures { OnOk result (text.new ≡ text.old ++ listing_text number from.now to.now subject.now) }
+{
+    let mut digits = Buffer::new();
+    let figure = digits.format(number).as_bytes();
+    let mut line = Draft::spaces(8usize.saturating_sub(figure.len()));
+    line.put(figure);
+    line.put(b"  ");
+    line.put(from);
+    line.put(b" > ");
+    line.put(to);
+    line.put(b"  ");
+    line.put(subject);
+    line.show();
+    text.append(line.as_slice())?;
+    Ok(())
+}
+
+/// Puts a message in a list behind a text, part by part.
+fn append_parts(
     text: &mut Bytes,
     number: u32,
     from: &[u8],
@@ -126,6 +168,22 @@ pub fn append_listing(
     text.append(b"  ")?;
     append_shown(text, subject)?;
     Ok(())
+}
+
+/// Puts a message in a list behind a text: its number right in 8 places, sender, receiver and subject.
+pub fn append_listing(
+    text: &mut Bytes,
+    number: u32,
+    from: &[u8],
+    to: &[u8],
+    subject: &[u8],
+) -> Result<(), OutOfMemory>
+    ensures { OnOk result (text.new ≡ text.old ++ listing_text number from.now to.now subject.now) }
+{
+    if are_short(from, to, subject) {
+        return append_drafted(text, number, from, to, subject);
+    }
+    append_parts(text, number, from, to, subject)
 }
 
 /// A message in a list: its number right in 8 places, sender, receiver and subject.

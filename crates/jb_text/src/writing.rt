@@ -7,6 +7,9 @@ ghost use Rattle.jb_text.specs.Shown.{shown, shown_byte};
 use itoa::Buffer;
 use jb_base::{Bytes, OutOfMemory};
 
+/// As many spaces as most columns want.
+const SPACES: [u8; 32] = [b' '; 32];
+
 /// A byte as it is shown: `?` in place of a control character.
 pub fn show(byte: u8) -> u8
     ensures { result ≡ shown_byte byte }
@@ -18,12 +21,12 @@ pub fn show(byte: u8) -> u8
 fn are_plain(bytes: &[u8]) -> bool
     ensures { IsTrue result → shown bytes.now ≡ bytes.now }
 {
+    // No early end: so a compiler looks at many bytes at once.
+    let mut any = false;
     for byte in bytes {
-        if show(*byte) != *byte {
-            return false;
-        }
+        any |= show(*byte) != *byte;
     }
-    true
+    !any
 }
 
 /// Puts bytes behind a text as they are shown.
@@ -43,9 +46,12 @@ pub fn append_shown(text: &mut Bytes, bytes: &[u8]) -> Result<(), OutOfMemory>
 pub fn append_spaces(text: &mut Bytes, count: usize) -> Result<(), OutOfMemory>
     ensures { OnOk result (text.new ≡ text.old ++ replicate count 32) }
 {
-    for _place in 0..count {
-        text.append(b" ")?;
+    let mut left = count;
+    for _piece in 0..count / SPACES.len() {
+        text.append(&SPACES)?;
+        left -= SPACES.len();
     }
+    text.append(&SPACES[..left])?;
     Ok(())
 }
 
