@@ -7,8 +7,8 @@ usage: server.py PROGRAM [DIR]
 Each caller is a process of its own. One, then eight, then 32 of them ask at once and again as soon as they are answered: for a list of twenty
 of an area of 60 messages, for one of these messages, which is then counted as read, and for a post of 497 bytes. Then 32 are logged in and type
 nothing; and where strace is there, posts go to a disk each of whose syncs takes 5 ms, so that nearly all callers wait for the turn of the
-area. At last one types keys while another packs an area of 60,000 messages again and again. The files lie in DIR, or where temporary
-files do.
+area. Then one posts again and again while none, one, eight and 31 others list, and one types keys as fast as they are sent. At last one types keys
+while another packs an area of 60,000 messages again and again. The files lie in DIR, or where temporary files do.
 """
 import atexit
 import hashlib
@@ -195,6 +195,55 @@ def measure_calls(program, folder, what, act, before=(), seconds=SECONDS):
     tell(what, figures)
 
 
+def posts_on(caller, seconds):
+    """Posts again and again for so long, and gives how long each post took."""
+    took, end = [], time.perf_counter() + seconds
+    while (begun := time.perf_counter()) < end:
+        posts(caller)
+        took.append(time.perf_counter() - begun)
+    return took
+
+
+def measure_beside(program, folder):
+    """Posts of one caller while others list the same area without a pause."""
+    alone, parts = 0, []
+    for count in (0, 1, 8, max(COUNTS) - 1):
+        server = Server(program, folder)
+        poster = server.caller(max(COUNTS))
+        child = beside(lambda count=count, server=server: measure_to(f"{folder}/lists", server, count)) if count else 0
+        took = posts_on(poster, SECONDS)
+        middle = statistics.median(took)
+        alone = alone or middle
+        line = f"{count}: {middle * 1e6:.0f} us ({middle / alone:.2f}), the slowest {max(took) * 1e3:.1f} ms"
+        if child:
+            ended([child])
+            with open(f"{folder}/lists") as file:
+                rate, slowest, _ = json.load(file)
+            line += f", lists {rate:.0f} a second, the slowest {slowest * 1e3:.1f} ms"
+        parts.append(line)
+        server.ends()
+    print(f"a post while others list the same area: beside {'; beside '.join(parts)}", flush=True)
+
+
+def measure_to(path, server, count):
+    with open(path, "w") as file:
+        json.dump(measure(server, count, lists), file)
+
+
+def measure_keys(program, folder, pairs=200_000):
+    """One caller types a key and takes it back, as fast as the server takes them."""
+    server = Server(program, folder)
+    typist = server.caller(1, b"general", PLAIN)
+    spent, begun = server.spent(), time.perf_counter()
+    child = beside(lambda: typist.types(b"z\x08" * pairs))
+    for _ in range(pairs):
+        typist.reads(b"z\x08 \x08")
+    ended([child])
+    took, spent = time.perf_counter() - begun, server.spent() - spent
+    server.ends()
+    print(f"{2 * pairs} keys of one caller, as fast as they are sent: {2 * pairs / took:.0f} a second, {spent / (2 * pairs) * 1e9:.0f} ns of processor time each", flush=True)
+
+
 def measure_silence(program, folder):
     server = Server(program, folder)
     callers = [server.caller(n) for n in range(1, max(COUNTS) + 1)]
@@ -245,6 +294,8 @@ def main(program, above=None):
         measure_calls(program, folder, "reads", reads)
         measure_calls(program, folder, "posts of 497 bytes", posts)
         measure_silence(program, folder)
+        measure_beside(program, folder)
+        measure_keys(program, folder)
         if shutil.which("strace"):
             slow = ("strace", "-f", "--seccomp-bpf", "-e", "trace=fsync", "-e", f"inject=fsync:delay_exit={DELAY}", "-o", os.devnull)
             measure_calls(program, folder, f"posts where each sync takes {DELAY // 1000} ms more", posts, slow, 3 * SECONDS)

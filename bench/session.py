@@ -5,7 +5,7 @@ the same calls on bare files.
 usage: session.py PROGRAM [DIR]
 
 The base has 60 messages. In each of fifteen turns a caller asks for a list of twenty a thousand times, a caller asks for none, and `cat` gives
-out what the first was sent; the figures are the least processor times. Then a caller posts two hundred times a text of 497 bytes in one session,
+out what the first was sent; the figures are the least processor times. The same with readings of a message of 16,000 bytes. Then a caller posts two hundred times a text of 497 bytes in one session,
 each time when the answer to the last post is there, and the same writes, changes of length and syncs that one post makes are made as often
 to bare files in the same folder: the figures are the times of one, the least of five turns. Which calls they are is seen by strace, where that is
 there. The files lie in DIR, or where temporary files do.
@@ -21,7 +21,7 @@ import time
 
 import make_base
 
-LISTS, POSTS, TEXT_LINES = 1000, 200, 7
+LOOKS, POSTS, TEXT_LINES = 1000, 200, 7
 SETTINGS = """name = "Bench"
 address = "2:5020/1042"
 [[area]]
@@ -43,11 +43,11 @@ def typed(words):
     return "".join(word + "\r\n" for word in words).encode()
 
 
-def has_base(folder):
-    """The settings, and a fresh base written through to the disk."""
+def has_base(folder, times=1):
+    """The settings, and a fresh base, whose texts are so many times as long, written through to the disk."""
     shutil.rmtree(f"{folder}/areas", ignore_errors=True)
     os.mkdir(f"{folder}/areas")
-    make_base.write(f"{folder}/areas", "general", 60, False)
+    make_base.write(f"{folder}/areas", "general", 60, False, times)
     with open(f"{folder}/board.toml", "w") as file:
         file.write(SETTINGS.format(hashlib.sha256(b"word").hexdigest()))
     os.sync()
@@ -63,23 +63,23 @@ def spent(words, folder, given, to):
     return usage.ru_utime + usage.ru_stime
 
 
-def measure_lists(program, folder):
-    has_base(folder)
-    for name, count in (("lists", LISTS), ("none", 0)):
-        with open(f"{folder}/{name}", "wb") as file:
-            file.write(typed(ENTER + ["L"] * count + ["Q"]))
+def measure_looks(program, folder, name, word, times):
+    has_base(folder, times)
+    for file_name, count in (("looks", LOOKS), ("none", 0)):
+        with open(f"{folder}/{file_name}", "wb") as file:
+            file.write(typed(ENTER + [word] * count + ["Q"]))
     session, sent = [program, "local", "board.toml"], f"{folder}/sent"
-    spent(session, folder, f"{folder}/lists", sent)
-    runs = {"lists": (session, f"{folder}/lists"), "none": (session, f"{folder}/none"), "cat": (["cat", sent], os.devnull)}
-    times = {name: [] for name in runs}
+    spent(session, folder, f"{folder}/looks", sent)
+    runs = {"looks": (session, f"{folder}/looks"), "none": (session, f"{folder}/none"), "cat": (["cat", sent], os.devnull)}
+    least = {run: [] for run in runs}
     for _ in range(15):
-        for name, (words, given) in runs.items():
-            times[name].append(spent(words, folder, given, os.devnull))
-    lists, none, cat = (min(times[name]) for name in ("lists", "none", "cat"))
+        for run, (words, given) in runs.items():
+            least[run].append(spent(words, folder, given, os.devnull))
+    looks, none, cat = (min(least[run]) for run in ("looks", "none", "cat"))
     length = os.path.getsize(sent)
-    print(f"{LISTS} lists: {length} bytes sent in {lists * 1000:.1f} ms, {length / lists / 1e6:.1f} MB/s; "
-          f"{none * 1000:.1f} ms of them without a list; {(lists - none) / length * 1e9:.1f} ns a byte of the lists; "
-          f"cat {cat * 1000:.1f} ms, the session {lists / cat:.1f} times that", flush=True)
+    print(f"{LOOKS} {name}: {length} bytes sent in {looks * 1000:.1f} ms, {length / looks / 1e6:.1f} MB/s; "
+          f"{none * 1000:.1f} ms of them without; {(looks - none) / length * 1e9:.1f} ns a byte; "
+          f"cat {cat * 1000:.1f} ms, the session {looks / cat:.1f} times that", flush=True)
 
 
 class Caller:
@@ -189,7 +189,8 @@ def measure_posts(program, folder):
 def main(program, above=None):
     folder = tempfile.mkdtemp(dir=above)
     try:
-        measure_lists(os.path.realpath(program), folder)
+        measure_looks(os.path.realpath(program), folder, "lists of twenty", "L", 1)
+        measure_looks(os.path.realpath(program), folder, "readings of 16,000 bytes", "40", 100)
         measure_posts(os.path.realpath(program), folder)
     finally:
         shutil.rmtree(folder)

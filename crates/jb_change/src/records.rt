@@ -63,8 +63,30 @@ fn header_of(
     }
 }
 
-/// The header of a message and the subfields behind it, as they stand in .JHR: with this number, these fields, and its text
-/// at this place.
+/// Writes the header of a message and the subfields behind it, as they stand in .JHR, in place of what the bytes were: with
+/// this number, these fields, and its text at this place. It takes memory only where theirs is too little.
+pub fn write_message(
+    into: &mut Vec<u8>,
+    message: &LoadedMessage,
+    head: &Head,
+    number: u32,
+    text_at: u32,
+) -> Result<(), OutOfMemory>
+    requires { length (subfield_bytes message.now.subfields) ≤ MOST_SUBFIELD_BYTES }
+    ensures exact { OnOk result (into.new.items ≡ message_bytes number (with_fields head.now text_at message.now)) }
+    ensures size { OnOk result (length into.new.items ≡ header_size message.now) }
+    ensures back { OnOk result (IsHeaderReadAgain number (with_fields head.now text_at message.now)) }
+    ensures fit { OnOk result (All IsSubfield message.now.subfields) }
+{
+    let subfields = message.subfields.as_bytes();
+    let header = header_of(message, head, number, text_at, subfields.len() as u32);
+    into.clear();
+    into.extend_from_slice(&encode_message(&header))?;
+    into.extend_from_slice(subfields)?;
+    Ok(())
+}
+
+/// The header of a message and the subfields behind it, as [`write_message`] writes them.
 pub fn message_bytes(
     alloc: Global,
     message: &LoadedMessage,
@@ -78,11 +100,9 @@ pub fn message_bytes(
     ensures back { OnOk result (IsHeaderReadAgain number (with_fields head.now text_at message.now)) }
     ensures fit { OnOk result (All IsSubfield message.now.subfields) }
 {
-    let subfields = message.subfields.as_bytes();
-    let header = header_of(message, head, number, text_at, subfields.len() as u32);
-    let mut bytes = Bytes::copy(alloc, &encode_message(&header))?;
-    bytes.append(subfields)?;
-    Ok(bytes)
+    let mut bytes = Vec::new(alloc);
+    write_message(&mut bytes, message, head, number, text_at)?;
+    Ok(Bytes::from(bytes))
 }
 
 /// The index record of a message for the receiver with this CRC, whose header stands at this place.

@@ -31,6 +31,7 @@ fn is_signed(bytes: &[u8]) -> bool
 }
 
 /// The message header that an index record names, or what is wrong with it, by a window on .JHR.
+#[inline(always)]
 fn read_header<D: Disk>(
     disk: &mut D,
     window: &mut Window,
@@ -75,6 +76,7 @@ fn are_subfields_within(headers_len: u64, at: u32, subfields: u32) -> bool
 
 /// The slot that an index record names, or what is wrong with its header, as far as that is seen without the subfields.
 /// At most one device read.
+#[inline(always)]
 pub(crate) fn see_slot<D: Disk>(
     disk: &mut D,
     window: &mut Window,

@@ -26,6 +26,7 @@ use jb_subfield::SubfieldError;
 use std::alloc::Global;
 
 /// The subfields that stand at a place of .JHR in so many bytes, or the place of the first that is cut off.
+#[inline(always)]
 fn read_subfields<D: Disk>(
     alloc: Global,
     disk: &mut D,
@@ -80,6 +81,7 @@ fn head_of(header: &MessageHeader) -> Head
 }
 
 /// The live message whose header was read, with its subfields, or what is wrong with it.
+#[inline(always)]
 fn load_message<D: Disk>(
     alloc: Global,
     disk: &mut D,
@@ -131,6 +133,7 @@ fn load_message<D: Disk>(
 
 /// The slot whose header was read, or what is wrong with its subfields or the place of its text. At most one device
 /// read.
+#[inline(always)]
 pub(crate) fn load_slot<D: Disk>(
     alloc: Global,
     disk: &mut D,

@@ -83,6 +83,7 @@ impl Window {
     }
 
     /// Reads these bytes of the file. After a fault it holds none.
+    #[inline(never)]
     fn fill<D: Disk>(&mut self, disk: &mut D, range: Range) -> Result<(), ReadError>
         requires inside { range.at + range.len ≤ self.old.file_len }
         requires on { IsWindowOn self.old.file self.old.file_len (D.device disk.old).contents self.old }
@@ -108,6 +109,8 @@ impl Window {
     }
 
     /// Moves the window, where it must, so that it holds so many bytes of its file from a place on. At most one device read.
+    /// It is put into each loop of looks, since nearly each finds what it asks for.
+    #[inline(always)]
     pub(crate) fn reach<D: Disk>(
         &mut self,
         disk: &mut D,

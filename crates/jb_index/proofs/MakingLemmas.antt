@@ -1,7 +1,6 @@
 -- The summaries of slots that are loaded.
 use Rattle.std.proofs.Common.{◌≡◌, ℕ, zero, suc, ◌+◌, ◌<◌, ◌≤◌, ◌==◌, Bool, true, false, cond, List, [], ◌∷◌, ◌++◌, Option, Some, filter, find, map, length, take, get_or, slice_get, length-append, length-take, append-nil, refl, sym, ◌∙◌, ap, subst, arith}
-use Rattle.std.specs.Prelude.{unwrap_or, All, insert}
-use Rattle.std.proofs.lemmas.List.Edits.{insert_end}
+use Rattle.std.specs.Prelude.{unwrap_or, All}
 use Rattle.std.proofs.lemmas.List.Elements.{All-get_or, filter-append}
 use Rattle.jb_base.specs.declared.limits.TheConstants.{MOST_SUBFIELD_BYTES}
 use Rattle.jb_index.specs.Making.{HasFewBytes}
@@ -130,15 +129,14 @@ parent_within base k slots slot message parents before at within read is are lis
 pub listed_one : (base k : ℕ) (slots : List LoadedSlot) (slot : LoadedSlot) (message : LoadedMessage) (parents : List ℕ) (old new : List Summary) (at parent : ℕ) (one : Summary)
     → k < length slots → slot ≡ get_or slots k slot → slot ≡ Live message → parents ≡ map (parent_of (linkables_from base slots)) (linkables_from base slots)
     → old ≡ listed_from (linkables_from base slots) base (take k slots) → at ≡ length old → parent ≡ get_or parents at parent
-    → one ≡ summary_with (base + k) message.head message.subfields parent → new ≡ insert old at one
+    → one ≡ summary_with (base + k) message.head message.subfields parent → new ≡ old ++ one ∷ []
     → new ≡ listed_from (linkables_from base slots) base (take (k + 1) slots)
 listed_one base k slots slot message parents old new at parent one within read is are listed counted taken summed put =
     let here : Live message ≡ get_or slots k (Live message) = subst (λ (s : LoadedSlot). s ≡ get_or slots k s) is read in
     let count : at ≡ length (linkables_from base (take k slots)) = counted ∙ ap length listed ∙ listed_length (linkables_from base slots) base (take k slots) in
     let its : parent ≡ parent_at (linkables_from base slots) (base + k) =
     taken ∙ get_or_from_slice_get parents at (parent_at (linkables_from base slots) (base + k)) parent (ap (slice_get parents) count ∙ parent_stands base k slots message parents within here are) in
-    put ∙ ap (λ n. insert old n one) counted ∙ insert_end old one
-    ∙ ap (λ l. l ++ one ∷ []) listed
+    put ∙ ap (λ l. l ++ one ∷ []) listed
     ∙ ap (λ s. listed_from (linkables_from base slots) base (take k slots) ++ s ∷ []) (summed ∙ ap (summary_with (base + k) message.head message.subfields) its)
     ∙ sym (listed_more (linkables_from base slots) base k slots (Live message) within here)
 

@@ -85,6 +85,6 @@ pub(crate) fn refill(summaries: &mut Tiered<Summary>, from: &Tiered<Summary>)
 {
     clear(summaries);
     for place in 0..from.len() {
-        summaries.insert(place, from[place]);
+        summaries.push(from[place]);
     }
 }

@@ -85,6 +85,21 @@ impl Index {
         })
     }
 
+    /// The same index once more, with as much room. Its cost is that of a copy of memory.
+    pub fn copied(&self, alloc: Global) -> Result<Index, OutOfMemory>
+        ensures { IfOk result (λ copy. copy ≡ self.now) }
+    {
+        let more = self.rules.slots as usize - self.summaries.len();
+        Ok(Index {
+            summaries: self.summaries.copied(alloc, more)?,
+            marks: roomy_marks(alloc, self.marks.as_slice())?,
+            base: self.base,
+            next: self.next,
+            rules: self.rules.copy(alloc)?,
+            alloc,
+        })
+    }
+
     /// Does what an op says, edit by edit. It takes no memory and nothing in it fails: an edit that does not fit the room
     /// changes nothing, and one of an area's own changes always fits.
     pub fn absorb(&mut self, op: &Op)

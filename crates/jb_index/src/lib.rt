@@ -15,7 +15,8 @@
 //!
 //! The summaries stand in pieces (`jb_tiered`), so that a change of one message copies none of the others.
 //!
-//! Cost, in an area of n messages: [`Index::of`] takes one step a message, and sorts the marks. [`Index::listed`],
+//! Cost, in an area of n messages: [`Index::of`] takes one step a message, and sorts the marks; [`Index::copied`] copies
+//! memory. [`Index::listed`],
 //! [`Index::unread`] and [`Index::received`] make one search of log n steps for the first number, and then look at each
 //! message until they have enough; [`Index::figures`] and [`Index::unread_count`] look once at each. A thread is
 //! found by one walk from the lowest number to the highest, in which each parent is looked up by one search, and takes 4

@@ -59,7 +59,7 @@ pub(crate) fn summaries_of(
             let at = list.len();
             let one = summary(base + place as u32, message, parents[at]);
             list.reserve(1)?;
-            list.insert(at, one);
+            list.push(one);
         }
     }
     Ok(list)

@@ -178,6 +178,7 @@ module _ (loaded : Loaded) (initial : Device) (start : List CopiedText) (len : �
     pub size : length copies ≡ length loaded.slots
     pub next_is : next ≡ len + sum (take k first)
     pub end_is : end + run.len ≡ next
+    pub begun : len ≤ end
     pub run_is : IsRun (min loaded.texts_len TEXTS_CEILING) run
     pub below : All IsBelowCeiling copies
     pub has : ForSome now.contents (HasPending loaded copies run end)
@@ -196,6 +197,7 @@ module _ (loaded : Loaded) (initial : Device) (start : List CopiedText) (len : �
     size = size;
     next_is = omega arith;
     end_is = omega arith;
+    begun = omega arith;
     run_is = record { inside = omega arith; short = omega arith };
     below = below;
     has = λ files there. record {
@@ -220,6 +222,7 @@ module _ (loaded : Loaded) (initial : Device) (start : List CopiedText) (len : �
         size = copying.size;
         next_is = omega (arith, sum_by_more (λ (n : ℕ). n) first k 0 within);
         end_is = copying.end_is;
+        begun = copying.begun;
         run_is = copying.run_is;
         below = copying.below;
         has = copying.has;
@@ -305,6 +308,7 @@ module _ (loaded : Loaded) (initial : Device) (start : List CopiedText) (len : �
           size = length-set copies k (copy_at next message) ∙ copying.size;
           next_is = next_then;
           end_is = omega arith;
+          begun = copying.begun;
           run_is = more_is;
           below = below_then;
           has = λ files there. record {
@@ -326,11 +330,13 @@ module _ (loaded : Loaded) (initial : Device) (start : List CopiedText) (len : �
     copying_next then end' appends end_then touches same run_is =
         let end_is = copying.end_is in
         let inside = run_is.inside in
+        let begun = copying.begun in
         record {
           left = left_then;
           size = length-set copies k (copy_at next message) ∙ copying.size;
           next_is = next_then;
           end_is = omega arith;
+          begun = omega arith;
           run_is = run_is;
           below = below_then;
           has = λ files there.

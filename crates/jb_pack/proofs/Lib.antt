@@ -8,6 +8,7 @@ mod MoveLemmas
 pub mod PackerLemmas
 pub mod PlanLemmas
 mod PuttingLemmas
+pub mod RestLemmas
 pub mod ShadowLemmas
 mod SlotLemmas
 pub mod SoundLemmas

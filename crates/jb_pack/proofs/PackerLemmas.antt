@@ -137,7 +137,7 @@ other_stop budget count slots old Budget stops low = inr stops
 other_stop budget count slots old Ceiling stops low = absurd (low refl stops)
 
 -- it goes on
-goes_on : (budget : ℕ) (slots : List LoadedSlot) (old new : Shadow) (reach : Reach) → IsReach budget slots old reach → (reach.stop ≡ Ceiling → ⊥)
+pub goes_on : (budget : ℕ) (slots : List LoadedSlot) (old new : Shadow) (reach : Reach) → IsReach budget slots old reach → (reach.stop ≡ Ceiling → ⊥)
     → CopiesFirst reach.slots slots old new → CopiesWithin budget slots old new
 goes_on budget slots old new reach is low copies =
     within_reach budget slots old new reach is (other_stop budget reach.slots slots old reach.stop is.stops (λ same stops. low same)) copies

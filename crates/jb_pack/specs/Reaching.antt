@@ -20,6 +20,16 @@ leaves_more End = false
 leaves_more Budget = true
 leaves_more Ceiling = true
 
+-- so many bytes are copied at most: those that are reached, or where .NDT is emptied before, those of the budget
+abbrev pub most_for : Stop → ℕ → ℕ → ℕ
+most_for End budget bytes = bytes
+most_for Budget budget bytes = bytes
+most_for Ceiling budget bytes = budget
+
+-- so it is where a step begins with this
+abbrev pub most_of : ℕ → Reach → ℕ
+most_of budget reach = most_for reach.stop budget reach.bytes
+
 -- the texts that are left of the first slots fit the budget and .NDT
 pub record IsReach (budget : ℕ) (slots : List LoadedSlot) (shadow : Shadow) (reach : Reach) : Type 0 where
   pub behind : reach.behind ≡ shadow.len

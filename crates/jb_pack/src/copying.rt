@@ -1,5 +1,5 @@
 //! The texts that are left are copied into .NDT.
-ghost use Rattle.std.specs.Prelude.{◌≡◌, ◌+◌, ◌≤◌, All, IfOk, length};
+ghost use Rattle.std.specs.Prelude.{◌≡◌, ◌+◌, ◌≤◌, All, IfOk, length, min};
 ghost use Rattle.std.specs.Option.{ForSome};
 ghost use Rattle.jb_base.specs.declared.limits.TheConstants.{MOST_TEXT_BYTES, SHADOW_CEILING};
 ghost use Rattle.jb_disk.specs.Device.{FailsBy};
@@ -32,7 +32,8 @@ pub(crate) fn copy_texts<D: Disk>(
     requires each { All IsBelowCeiling copies.old }
     requires some { reach.slots ≤ length loaded.now.slots }
     requires room { reach.behind + left_first reach.slots (record { texts = copies.old; len = reach.behind }) loaded.now.slots ≤ SHADOW_CEILING }
-    requires buffer { MOST_TEXT_BYTES ≤ length buffer.old }
+    requires buffer { min MOST_TEXT_BYTES reach.bytes ≤ length buffer.old }
+    requires bytes { reach.bytes ≡ left_first reach.slots (record { texts = copies.old; len = reach.behind }) loaded.now.slots }
 
     // What is copied then.
     ensures copies { IfOk result (λ end. CopiesFirst reach.slots loaded.now.slots (record { texts = copies.old; len = reach.behind })

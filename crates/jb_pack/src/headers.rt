@@ -13,10 +13,9 @@ ghost use Rattle.jb_pack.specs.Places.{IsBehind};
 use crate::laying::put;
 use crate::place::{Place, behind};
 use jb_base::OutOfMemory;
-use jb_change::message_bytes;
+use jb_change::write_message;
 use jb_disk::{FileId, Redo};
 use jb_model::{Head, Links, LoadedMessage};
-use std::alloc::Global;
 
 /// The header's fields with these links.
 pub(crate) fn linked(head: Head, links: &Links) -> Head
@@ -30,11 +29,11 @@ pub(crate) fn linked(head: Head, links: &Links) -> Head
     }
 }
 
-/// Puts the header and the subfields of a live message, with these links, at its place into .JHR, and answers the place of
-/// the next one.
+/// Puts the header and the subfields of a live message, with these links, at its place into .JHR, through the buffer, and
+/// answers the place of the next one.
 pub(crate) fn put_message(
-    alloc: Global,
     redo: &mut Redo,
+    buffer: &mut Vec<u8>,
     message: &LoadedMessage,
     links: &Links,
     place: Place,
@@ -51,7 +50,7 @@ pub(crate) fn put_message(
     ensures kept { KeepsRoom redo.old redo.new }
 {
     let head = linked(message.head, links);
-    let bytes = message_bytes(alloc, message, &head, place.number, place.text_at)?;
-    put(redo, FileId::Jhr, place.header_at, bytes.as_slice())?;
+    write_message(buffer, message, &head, place.number, place.text_at)?;
+    put(redo, FileId::Jhr, place.header_at, buffer.as_slice())?;
     Ok(behind(message, place))
 }

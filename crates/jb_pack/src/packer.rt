@@ -1,5 +1,5 @@
 //! Texts are copied into .NDT part by part, and then the area is packed out of it.
-ghost use Rattle.std.specs.Prelude.{◌≡◌, ◌≤◌, List, ℕ, [], IfErr, IfOk, OnOk, length, nat_lt};
+ghost use Rattle.std.specs.Prelude.{◌≡◌, ◌≤◌, List, ℕ, [], IfErr, IfOk, Ok, OnOk, false, length, nat_lt};
 ghost use Rattle.std.specs.Option.{ForSome};
 ghost use Rattle.jb_base.specs.declared.limits.TheConstants.{MOST_SLOTS, TEXTS_CEILING};
 ghost use Rattle.jb_change.specs.Changing.{KeepsRoom};
@@ -21,6 +21,7 @@ ghost use Rattle.jb_pack.specs.Touching.{IsUntouched, StaysUnlessFault, TouchesS
 use crate::copied::{CopiedText, NOT_COPIED};
 use crate::finishing::put_copied_pack;
 use crate::planning::packing_of;
+use crate::reaching::{leaves_more, most_of, reach_of};
 use crate::shadow::empty_shadow;
 use crate::sizes::sizes_of;
 use crate::stepping::step;
@@ -89,10 +90,11 @@ impl Packer {
     /// that does not empty .NDT copies one at least where one is left.
     ///
     /// Texts that stand one behind another in .JDT are one part, of at most 1,048,576 bytes, which is read and written at
-    /// once: three calls of the device for each part, one sync, and two calls more where .NDT is emptied. It reads and
+    /// once: three calls of the device for each part, one sync behind them, and two calls more where .NDT is emptied.
+    /// Where it copies none and empties nothing, as with nothing left, it makes no call and takes no memory. It reads and
     /// writes each byte that it copies once, no more of them than the budget, and its time is linear in these and in the
-    /// slots. It takes memory for one part, 1,048,576 bytes, which it gives back, and 12 bytes for each slot that is new,
-    /// before it calls the device.
+    /// slots. It takes memory for one part, no more bytes than it copies (or than the budget, where .NDT is emptied) nor than
+    /// 1,048,576, which it gives back, and 12 bytes for each slot that is new, before it calls the device.
     pub fn some<D: Disk>(
         &mut self,
         alloc: Global,
@@ -112,6 +114,10 @@ impl Packer {
         ensures has { OnOk result (ForSome (D.device disk.new).contents (HasCopies self.new)) }
         ensures more { IfOk result (λ more. more ≡ nat_lt 0 (left self.new loaded.now.slots)) }
 
+        // With nothing left nothing is done.
+        ensures idle { left self.old loaded.now.slots ≡ 0
+            → (result ≡ Ok false) × (self.new ≡ self.old) × (D.device disk.new ≡ D.device disk.old) }
+
         // Only .NDT is touched, and it is synced then; without memory nothing is.
         ensures durable { OnOk result (IsAllSynced (D.device disk.old) → IsAllSynced (D.device disk.new)) }
         ensures kept { TouchesShadow (D.device disk.old) (D.device disk.new) }
@@ -120,14 +126,19 @@ impl Packer {
         ensures later { (D.device disk.old).faults ≤ (D.device disk.new).faults }
         ensures cause { IfErr result (PackFaultRose (D.device disk.old).faults (D.device disk.new).faults) }
     {
-        let mut buffer = zeros(alloc, MOST_TEXT_BYTES as usize)?;
-        self.copies
-            .resize(loaded.slots.as_slice().len(), NOT_COPIED)?;
+        let slots = loaded.slots.as_slice();
+        let first = reach_of(self.copies.as_slice(), self.len, slots, budget);
+        let most = most_of(first, budget);
+        if most == 0 {
+            return Ok(leaves_more(first.stop));
+        }
+        let mut buffer = zeros(alloc, most.min(MOST_TEXT_BYTES) as usize)?;
+        self.copies.resize(slots.len(), NOT_COPIED)?;
         let done = step(
             disk,
             loaded,
             self.copies.as_mut_slice(),
-            self.len,
+            first,
             budget,
             buffer.as_mut_slice(),
         )?;

@@ -1,7 +1,7 @@
 //! How far texts may be copied.
 ghost use Rattle.std.specs.Prelude.{◌≡◌, ◌≤◌};
 ghost use Rattle.jb_base.specs.declared.limits.TheConstants.{SHADOW_CEILING};
-ghost use Rattle.jb_pack.specs.Reaching.{IsReach, leaves_more};
+ghost use Rattle.jb_pack.specs.Reaching.{IsReach, leaves_more, most_of};
 
 use crate::copied::{CopiedText, copy_of, left_of};
 use jb_base::SHADOW_CEILING;
@@ -33,6 +33,16 @@ pub(crate) fn leaves_more(stop: Stop) -> bool
     ensures { result ≡ leaves_more stop }
 {
     !matches!(stop, Stop::End)
+}
+
+/// How many bytes a step copies at most that begins with this: none, where there is nothing to do.
+pub(crate) fn most_of(first: Reach, budget: u32) -> u32
+    ensures { result ≡ most_of budget first }
+{
+    match first.stop {
+        Stop::End | Stop::Budget => first.bytes,
+        Stop::Ceiling => budget,
+    }
 }
 
 /// How far the texts that are left may be copied behind the `len` bytes of .NDT, within this budget.

@@ -56,6 +56,7 @@ pub(crate) fn put_slots(
     ensures entries_back { OnOk result (AreEntriesReadAgain (packed loaded.now).slots) }
     ensures kept { KeepsRoom redo.old redo.new }
 {
+    let mut buffer = Vec::new(alloc);
     let mut place = Place {
         number: base,
         header_at: FIXED_HEADER_BYTES as u32,
@@ -69,7 +70,13 @@ pub(crate) fn put_slots(
             continue;
         };
         push_entry(index, message.owner, place.header_at)?;
-        place = put_message(alloc, redo, message, &links[place.live as usize], place)?;
+        place = put_message(
+            redo,
+            &mut buffer,
+            message,
+            &links[place.live as usize],
+            place,
+        )?;
     }
     Ok(())
 }

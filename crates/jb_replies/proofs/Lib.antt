@@ -9,3 +9,4 @@ pub mod KeptLemmas
 pub mod IndexLemmas
 pub mod ParentLemmas
 pub mod LawLemmas
+pub mod KeyLemmas

@@ -8,7 +8,7 @@ use Rattle.std.specs.FinMap.{nat_cmp-IsAntisymmetric, slice_cmp-IsAntisymmetric}
 use Rattle.std.specs.Ordering.{nat_cmp, ordering_then}
 use Rattle.std.proofs.lemmas.Cmp.{nat_cmp_total, on_total, then_total}
 use Rattle.jb_link.specs.Ids.{hash_of}
-use Rattle.jb_replies.specs.Order.{bytes_order, hash_order, hashed_order, id_order, pair_order}
+use Rattle.jb_replies.specs.Order.{bytes_order, hash_order, hashed_order, id_order, key_order, pair_order}
 
 -- the orders are total
 pub hash_order_total : IsTotalOrder hash_order
@@ -22,6 +22,9 @@ bytes_order_total = then_total (on_total (λ (one : List ℕ × ℕ). one.0) nat
 
 pub hashed_order_total : IsTotalOrder hashed_order
 hashed_order_total = then_total (on_total (λ (one : ℕ × (List ℕ × ℕ)). one.0) nat_cmp_total) (on_total (λ (one : ℕ × (List ℕ × ℕ)). one.1) bytes_order_total)
+
+pub key_order_total : IsTotalOrder key_order
+key_order_total = then_total (on_total (λ (one : ℕ × (List ℕ × ℕ)). one.0) nat_cmp_total) (on_total (λ (one : ℕ × (List ℕ × ℕ)). one.1) id_order_total)
 
 pub pair_order_total : IsTotalOrder pair_order
 pair_order_total = then_total (on_total (λ (one : ℕ × ℕ). one.0) nat_cmp_total) (on_total (λ (one : ℕ × ℕ). one.1) nat_cmp_total)

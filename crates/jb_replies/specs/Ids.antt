@@ -1,5 +1,5 @@
 -- The live messages that have an id, in the order of the ids.
-use Rattle.std.specs.Prelude.{◌≡◌, ◌≢◌, ◌↔◌, ℕ, ◌<◌, ◌≤◌, List, [], All, AllPairs, Contains, IsSome, Option, Some, None, map, option_and_then, unwrap_or}
+use Rattle.std.specs.Prelude.{◌≡◌, ◌≢◌, ◌↔◌, ℕ, ◌<◌, ◌≤◌, List, [], AllPairs, Contains, IsSome, Option, Some, None, option_and_then, unwrap_or}
 use Rattle.jb_base.specs.Subfields.{first_of}
 use Rattle.jb_link.specs.Ids.{hash_of}
 use Rattle.jb_link.specs.Plan.{loaded_at}
@@ -33,15 +33,6 @@ pub record IsIdListBut (kind : ℕ) (loaded : Loaded) (other : ℕ) (numbers : L
 pub record AreIdsBelow (kind : ℕ) (loaded : Loaded) (end : ℕ) (numbers : List ℕ) : Type 0 where
   pub listed : (number : ℕ) → Contains numbers number ↔ ((number < end) × IsSome (id_at kind loaded number))
   pub rising : AllPairs (λ one other. one < other) numbers
-
--- the numbers behind the hashes
-abbrev pub numbers_of : List (ℕ × ℕ) → List ℕ
-numbers_of hashed = map (λ one. one.1) hashed
-
--- these numbers, each with the hash of its id before it
-pub record AreHashedBelow (kind : ℕ) (loaded : Loaded) (end : ℕ) (hashed : List (ℕ × ℕ)) : Type 0 where
-  pub below : AreIdsBelow kind loaded end (numbers_of hashed)
-  pub hashes : All (λ one. one.0 ≡ hash_at kind loaded one.1) hashed
 
 -- the least number of a message with this id, where there is one
 abbrev pub IsLeastWith : ℕ → Loaded → List ℕ → Option ℕ → Type 0

@@ -5,3 +5,4 @@ pub mod Replied
 pub mod Index
 pub mod Inside
 pub mod Laws
+pub mod Keys

@@ -22,6 +22,10 @@ bytes_order one other = ordering_then (slice_cmp nat_cmp one.0 other.0) (nat_cmp
 abbrev pub hashed_order : ℕ × (List ℕ × ℕ) → ℕ × (List ℕ × ℕ) → Ordering
 hashed_order one other = ordering_then (nat_cmp one.0 other.0) (bytes_order one.1 other.1)
 
+-- first by the upper bits of the hash, then by the id and the number
+abbrev pub key_order : ℕ × (List ℕ × ℕ) → ℕ × (List ℕ × ℕ) → Ordering
+key_order one other = ordering_then (nat_cmp one.0 other.0) (id_order one.1 other.1)
+
 -- first by the first number, then by the second
 abbrev pub pair_order : ℕ × ℕ → ℕ × ℕ → Ordering
 pair_order one other = ordering_then (nat_cmp one.0 other.0) (nat_cmp one.1 other.1)

@@ -13,11 +13,11 @@
 //! to 256 elements within one piece of each list, and one element for each 512 that stand behind the place.
 #![tactic(auto)]
 
-mod copies;
 mod found;
 mod hashed;
 mod ids;
 mod kept;
+mod keys;
 mod laws;
 mod replies;
 

@@ -12,9 +12,8 @@ ghost use Rattle.jb_replies.specs.Index.{HasSameLists, IsIndexOf};
 ghost use Rattle.jb_replies.specs.Laws.{IsIndexAfterKill, IsIndexBefore};
 ghost use Rattle.jb_replies.specs.Replied.{IsLastReply};
 
-use crate::copies::copied;
 use crate::found::{id_at, message_at};
-use crate::{hashed, ids, kept};
+use crate::{ids, kept, keys};
 use jb_base::{MSGID, OutOfMemory, REPLYID};
 use jb_link::Spliced;
 use jb_model::Loaded;
@@ -50,8 +49,8 @@ impl Replies {
         ensures index { IfOk result (λ replies. IsIndexOf replies loaded.now) }
         ensures room { IfOk result (λ replies. replies.room ≡ 0) }
     {
-        let ids = hashed::ordered(alloc, loaded, MSGID)?;
-        let answers = hashed::ordered(alloc, loaded, REPLYID)?;
+        let ids = keys::ordered(alloc, loaded, MSGID)?;
+        let answers = keys::ordered(alloc, loaded, REPLYID)?;
         let kept = kept::ordered(alloc, loaded)?;
         Ok(Replies {
             ids,
@@ -67,9 +66,9 @@ impl Replies {
         ensures lists { IfOk result (λ copy. HasSameLists self.now copy) }
         ensures room { IfOk result (λ copy. copy.room ≡ more) }
     {
-        let ids = copied(alloc, &self.ids, more)?;
-        let answers = copied(alloc, &self.answers, more)?;
-        let kept = copied(alloc, &self.kept, more)?;
+        let ids = self.ids.copied(alloc, more as usize)?;
+        let answers = self.answers.copied(alloc, more as usize)?;
+        let kept = self.kept.copied(alloc, more as usize)?;
         Ok(Replies {
             ids,
             answers,

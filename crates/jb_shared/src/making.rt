@@ -40,7 +40,7 @@ fn indexes<D: Disk>(alloc: Global, area: &OpenArea<D>) -> Result<(Index, Index),
 {
     let parents = parents_of(alloc, area.loaded())?;
     let first = Index::of(alloc, area.loaded(), area.rules(), parents.as_slice())?;
-    let second = Index::of(alloc, area.loaded(), area.rules(), parents.as_slice())?;
+    let second = first.copied(alloc)?;
     Ok((first, second))
 }
 

@@ -6,6 +6,7 @@ use Rattle.std.specs.declared.collections.VecDeque.{VecDeque}
 use Rattle.std.proofs.Math.ListN.{get_or-append}
 use Rattle.std.proofs.Math.Seq.{take-append-add, drop-append-add}
 use Rattle.std.proofs.lemmas.Bool.{cases_eq}
+use Rattle.std.proofs.lemmas.List.Edits.{insert_end}
 use Rattle.std.proofs.lemmas.List.{get_or-append-add, get_or-set_same, get_or-set_other, length-set, set-append_left, set-append_right, take-append-le, drop-append-le}
 use Rattle.jb_tiered.specs.Pieces.{AreFilled, HaveGap, items_of, len_at}
 
@@ -126,6 +127,35 @@ module _ {X Z : Type 0} where
         };
         items = insert_piece ps k at (at % 512) was p x piece is (omega arith) (omega arith) items;
         as_many = as_many;
+      }
+
+  -- where each piece is filled, the first that is not has its gap behind its last element
+  gap_at_end : (count : ℕ) (ps : List (VecDeque X Z)) → AreFilled count ps → count / 512 < length ps → HaveGap (count + 1) (count / 512) ps
+  gap_at_end count ps filled within = record {
+    places = filled.places;
+    lens = λ k d below not. filled.lens k d below ∙ omega arith;
+    short = λ d. ap (λ n. n + 1) (filled.lens (count / 512) d within) ∙ omega arith;
+  }
+
+  -- what an element behind the last makes of the list
+  pub record IsPushed (count : ℕ) (x : X) (old new : List (VecDeque X Z)) : Type 0 where
+    pub filled : AreFilled (count + 1) new
+    pub items : items_of new ≡ items_of old ++ x ∷ []
+    pub as_many : length new ≡ length old
+
+  pub pushed : (count : ℕ) (ps : List (VecDeque X Z)) (was p : VecDeque X Z) (x : X) → AreFilled count ps → length (items_of ps) ≡ count → count / 512 < length ps
+      → was ≡ get_or ps (count / 512) was → p.items ≡ was.items ++ x ∷ [] → deque_len p ≡ deque_len was + 1 → deque_capacity p ≡ deque_capacity was
+      → IsPushed count x ps (set ps (count / 512) p)
+  pushed count ps was p x filled counted within is items more room =
+      let ring = was.ok.0 in
+      let last : length was.items ≡ count % 512 =
+      omega (arith, subst (λ v. deque_len v ≡ min 512 (count - count / 512 * 512)) (sym is) (filled.lens (count / 512) was within)) in
+      let end : p.items ≡ insert was.items (count % 512) x = items ∙ sym (insert_end was.items x) ∙ ap (λ n. insert was.items n x) last in
+      let put = put_in count count ps was p x (gap_at_end count ps filled within) (omega arith) within is end more (omega (arith, room)) in
+      record {
+        filled = put.filled;
+        items = put.items ∙ ap (λ n. insert (items_of ps) n x) (sym counted) ∙ insert_end (items_of ps) x;
+        as_many = put.as_many;
       }
 
   -- what a removal from a piece makes of it

@@ -1,3 +1,4 @@
 pub mod PieceLemmas
 pub mod FlatLemmas
 pub mod SearchLemmas
+pub mod CopyLemmas

@@ -1,7 +1,9 @@
 //! The pieces of a list, and the gap in one of them that wanders from piece to piece.
-ghost use Rattle.std.specs.Prelude.{◌≡◌, ◌+◌, ◌*◌, ◌<◌, ◌≤◌, length};
-ghost use Rattle.jb_tiered.specs.Pieces.{AreFilled, HaveGap, items_of};
+ghost use Rattle.std.specs.Prelude.{◌≡◌, ◌+◌, ◌*◌, ◌<◌, ◌≤◌, length, IfOk};
+ghost use Rattle.jb_tiered.specs.Pieces.{AreCopies, AreFilled, HaveGap, IsCopy, items_of};
 
+use jb_base::OutOfMemory;
+use std::alloc::Global;
 use std::collections::VecDeque;
 
 /// How many elements a full piece has.
@@ -42,4 +44,29 @@ pub(crate) fn close_gap<T>(pieces: &mut Vec<VecDeque<T>>, len: usize, at: usize)
         pieces[gap].push_back_reserved(moved);
         gap += 1;
     }
+}
+
+/// A piece with the elements of another. They are copied as the two stretches of memory in which they lie.
+fn copied_piece<T: Copy>(alloc: Global, piece: &VecDeque<T>) -> Result<VecDeque<T>, OutOfMemory>
+    ensures { IfOk result (λ copy. IsCopy piece.now copy) }
+{
+    let (first, second) = piece.as_slices();
+    let mut copy = Vec::with_capacity(alloc, PIECE)?;
+    copy.extend_from_slice(first)?;
+    copy.extend_from_slice(second)?;
+    Ok(VecDeque::from_vec(copy))
+}
+
+/// Pieces with the elements of these.
+pub(crate) fn copied_pieces<T: Copy>(
+    alloc: Global,
+    pieces: &Vec<VecDeque<T>>,
+) -> Result<Vec<VecDeque<T>>, OutOfMemory>
+    ensures { IfOk result (λ copies. AreCopies pieces.now.items copies.items) }
+{
+    let mut copies = Vec::with_capacity(alloc, pieces.len())?;
+    for piece in pieces {
+        copies.push(copied_piece(alloc, piece)?)?;
+    }
+    Ok(copies)
 }

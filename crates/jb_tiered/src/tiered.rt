@@ -1,9 +1,9 @@
 //! The list in pieces.
-ghost use Rattle.std.specs.Prelude.{◌≡◌, ◌+◌, ◌<◌, ◌≤◌, [], Bool, IfOk, OnOk, OnErr, length, insert, remove, slice_get, slice_index_or, slice_set, true, false};
+ghost use Rattle.std.specs.Prelude.{◌≡◌, ◌+◌, ◌<◌, ◌≤◌, ◌++◌, ◌∷◌, [], Bool, IfOk, OnOk, OnErr, length, insert, remove, slice_get, slice_index_or, slice_set, true, false};
 ghost use Rattle.std.specs.Fn.{ComputesKey};
 ghost use Rattle.std.specs.List.Sorted.{IsPartitionPoint, IsPartitionedBy};
 
-use crate::pieces::{PIECE, close_gap, open_gap};
+use crate::pieces::{PIECE, close_gap, copied_pieces, open_gap};
 use jb_base::OutOfMemory;
 use std::alloc::Global;
 use std::collections::VecDeque;
@@ -53,11 +53,25 @@ impl<T: Copy> Tiered<T> {
         ensures { IfOk result (λ list. list.items ≡ items.now) }
     {
         let mut list = Tiered::new(alloc);
+        list.reserve(items.len())?;
         for item in items {
-            list.reserve(1)?;
-            list.insert(list.len(), *item);
+            list.push(*item);
         }
         Ok(list)
+    }
+
+    /// A list of the same elements with room for so many more. Its cost is that of a copy of memory.
+    pub fn copied(&self, alloc: Global, more: usize) -> Result<Tiered<T>, OutOfMemory>
+        ensures items { IfOk result (λ copy. copy.items ≡ self.now.items) }
+        ensures room { IfOk result (λ copy. more ≤ copy.room) }
+    {
+        let mut copy = Tiered {
+            pieces: copied_pieces(alloc, &self.pieces)?,
+            len: self.len,
+            alloc,
+        };
+        copy.reserve(more)?;
+        Ok(copy)
     }
 
     /// How many elements there are.
@@ -139,6 +153,16 @@ impl<T: Copy> Tiered<T> {
         let Ok(()) = self.pieces[at / PIECE].insert(at % PIECE, item) else {
             unreachable!()
         };
+        self.len += 1;
+    }
+
+    /// Puts an element behind the last. It takes no memory, and no other moves.
+    pub fn push(&mut self, item: T)
+        requires { 0 < self.old.room }
+        ensures items { self.new.items ≡ self.old.items ++ item ∷ [] }
+        ensures room { self.new.room + 1 ≡ self.old.room }
+    {
+        self.pieces[self.len / PIECE].push_back_reserved(item);
         self.len += 1;
     }
 

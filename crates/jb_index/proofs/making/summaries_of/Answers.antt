@@ -1,5 +1,4 @@
-use Rattle.std.proofs.Common.{◌≡◌, ◌≤◌, get_or, length, take, ap, ◌∙◌, arith}
-use Rattle.std.specs.Prelude.{insert}
+use Rattle.std.proofs.Common.{[], ◌≡◌, ◌≤◌, ◌++◌, ◌∷◌, get_or, length, take, ap, ◌∙◌, arith}
 use Rattle.std.proofs.lemmas.List.{get_or_default}
 use Rattle.jb_link.specs.Slots.{linkables_from}
 use Rattle.jb_index.proofs.making.summaries_of.Goals as goal
@@ -25,7 +24,7 @@ loop-place-preserved c =
           (get_or_default c.args.parents.now w.len-at.result 0 _ (parent_within c.args.base c.loop-place.place c.args.slots.now c.index-slots-place.result w.in-Live.message c.args.parents.now c.loop-place.list.items w.len-at.result
           c.loop-place-test.true c.index-slots-place.is w.in-Live.is c.requires.parents c.loop-place.invariant w.len-at.ensures))
           w.summary-one.ensures
-          (ap (λ l. l.items) w.list-is ∙ w.insert.ensures.items ∙ ap (λ l. insert l w.len-at.result w.summary-one.result) w.in_ok-reserve.ensures.items)
+          (ap (λ l. l.items) w.list-is ∙ w.push.ensures.items ∙ ap (λ l. l ++ w.summary-one.result ∷ []) w.in_ok-reserve.ensures.items)
       | in_default w ↦
           listed_none c.args.base c.loop-place.place c.args.slots.now c.index-slots-place.result c.loop-place.list.items c.match-slots-place.list.items
           c.loop-place-test.true c.index-slots-place.is w.in_default.not-Live c.loop-place.invariant (ap (λ l. l.items) w.list-is)

@@ -4,6 +4,7 @@ use Rattle.jb_pack.specs.Advance.{CopiesFirst}
 use Rattle.jb_pack.specs.Shadow.{left_of, not_copied}
 use Rattle.jb_pack.proofs.CopiesLemmas.{IsLeft, below_then, copied_all, copied_first, copying_joined, copying_next, copying_none, copying_on, is_left, left_inside, room_then, run_room, run_within, slot_there}
 use Rattle.jb_pack.proofs.CopyLemmas.{text_placed, text_run}
+use Rattle.jb_pack.proofs.RestLemmas.{run_size}
 use Rattle.jb_pack.proofs.ShadowLemmas.{left-no_message}
 use Rattle.jb_pack.proofs.TouchLemmas.{fails-as, fails-then, touches-then}
 use Rattle.jb_pack.proofs.copying.copy_texts.Goals as goal
@@ -62,8 +63,14 @@ pub append-requires-clause-buffer : goal.append-requires-clause-buffer
 append-requires-clause-buffer g c =
     let short = c.loop-place.invariant.run_is.short in
     let long = c.requires.buffer in
+    let bytes = c.requires.bytes in
     let same = c.loop-place.auto.buffer in
-    omega arith
+    let low = c.loop-place-test.true in
+    omega (
+      arith,
+      run_size c.args.loaded.now (g.D.Disk.device c.args.disk.now) c.args.copies.now c.args.reach.behind (g.D.Disk.device c.loop-place.disk) c.loop-place.copies c.loop-place.run c.loop-place.end c.loop-place.next c.loop-place.place c.args.reach.slots
+          (omega (arith, length-take c.args.reach.slots c.as_slice.result.now)) c.loop-place.invariant,
+    )
 
 pub returns-in_err-end-clause-each : goal.returns-in_err-end-clause-each
 returns-in_err-end-clause-each g c =
@@ -116,8 +123,14 @@ pub append-requires-2-clause-buffer : goal.append-requires-2-clause-buffer
 append-requires-2-clause-buffer g c =
     let short = c.loop-place.invariant.run_is.short in
     let long = c.requires.buffer in
+    let bytes = c.requires.bytes in
     let same = c.loop-place.auto.buffer in
-    omega arith
+    let low = c.loop-place.auto.place-end in
+    omega (
+      arith,
+      run_size c.args.loaded.now (g.D.Disk.device c.args.disk.now) c.args.copies.now c.args.reach.behind (g.D.Disk.device c.loop-place.disk) c.loop-place.copies c.loop-place.run c.loop-place.end c.loop-place.next c.loop-place.place c.args.reach.slots
+          (omega (arith, length-take c.args.reach.slots c.as_slice.result.now)) c.loop-place.invariant,
+    )
 
 pub returns-in_err-end-2-clause-each : goal.returns-in_err-end-2-clause-each
 returns-in_err-end-2-clause-each g c =

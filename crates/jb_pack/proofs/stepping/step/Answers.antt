@@ -6,6 +6,7 @@ use Rattle.jb_model.specs.declared.loaded.LoadedSlot.{LoadedSlot}
 use Rattle.jb_pack.specs.Reaching.{Starts}
 use Rattle.jb_pack.specs.Shadow.{HasCopies, Shadow}
 use Rattle.jb_pack.proofs.PackerLemmas.{copies_below, copies_some, more_then, start_room, texts_kept}
+use Rattle.jb_pack.proofs.RestLemmas.{start_bytes, start_none}
 use Rattle.jb_pack.proofs.TouchLemmas.{synced-ok, touches-sync, touches-then}
 use Rattle.jb_pack.proofs.stepping.step.Goals as goal
 
@@ -16,7 +17,7 @@ copy_texts-requires-clause-told g c =
 pub copy_texts-requires-clause-some : goal.copy_texts-requires-clause-some
 copy_texts-requires-clause-some g c =
     let slots = c.as_slice.ensures in
-    let old : Shadow = record { texts = c.args.copies.now; len = c.args.len } in
+    let old : Shadow = record { texts = c.args.copies.now; len = c.args.first.behind } in
     let mid : Shadow = record { texts = c.start.new.copies; len = c.in_ok-reach.reach.behind } in
     let starts = subst (λ (l : List LoadedSlot). Starts c.args.budget l old mid c.in_ok-reach.reach) slots c.in_ok-reach.ensures.starts in
     (start_room c.args.budget c.args.loaded.now.slots old mid c.in_ok-reach.reach starts).0
@@ -24,7 +25,7 @@ copy_texts-requires-clause-some g c =
 pub copy_texts-requires-clause-room : goal.copy_texts-requires-clause-room
 copy_texts-requires-clause-room g c =
     let slots = c.as_slice.ensures in
-    let old : Shadow = record { texts = c.args.copies.now; len = c.args.len } in
+    let old : Shadow = record { texts = c.args.copies.now; len = c.args.first.behind } in
     let mid : Shadow = record { texts = c.start.new.copies; len = c.in_ok-reach.reach.behind } in
     let starts = subst (λ (l : List LoadedSlot). Starts c.args.budget l old mid c.in_ok-reach.reach) slots c.in_ok-reach.ensures.starts in
     (start_room c.args.budget c.args.loaded.now.slots old mid c.in_ok-reach.reach starts).1
@@ -32,7 +33,7 @@ copy_texts-requires-clause-room g c =
 pub returns-clause-copies : goal.returns-clause-copies
 returns-clause-copies g c =
     let slots = c.as_slice.ensures in
-    let old : Shadow = record { texts = c.args.copies.now; len = c.args.len } in
+    let old : Shadow = record { texts = c.args.copies.now; len = c.args.first.behind } in
     let mid : Shadow = record { texts = c.start.new.copies; len = c.in_ok-reach.reach.behind } in
     let starts = subst (λ (l : List LoadedSlot). Starts c.args.budget l old mid c.in_ok-reach.reach) slots c.in_ok-reach.ensures.starts in
     let new : Shadow = record { texts = c.copy_texts.new.copies; len = c.in_ok-end.end } in
@@ -45,16 +46,16 @@ returns-clause-has g c =
 pub returns-clause-more : goal.returns-clause-more
 returns-clause-more g c =
     let slots = c.as_slice.ensures in
-    let old : Shadow = record { texts = c.args.copies.now; len = c.args.len } in
+    let old : Shadow = record { texts = c.args.copies.now; len = c.args.first.behind } in
     let mid : Shadow = record { texts = c.start.new.copies; len = c.in_ok-reach.reach.behind } in
     let starts = subst (λ (l : List LoadedSlot). Starts c.args.budget l old mid c.in_ok-reach.reach) slots c.in_ok-reach.ensures.starts in
     let new : Shadow = record { texts = c.copy_texts.new.copies; len = c.in_ok-end.end } in
-    c.leaves_more.ensures ∙ more_then c.args.budget c.args.loaded.now.slots old mid new c.in_ok-reach.reach starts c.in_ok-end.ensures.copies
+    c.leaves_more-2.ensures ∙ more_then c.args.budget c.args.loaded.now.slots old mid new c.in_ok-reach.reach starts c.in_ok-end.ensures.copies
 
 pub returns-clause-below : goal.returns-clause-below
 returns-clause-below g c =
     let slots = c.as_slice.ensures in
-    let old : Shadow = record { texts = c.args.copies.now; len = c.args.len } in
+    let old : Shadow = record { texts = c.args.copies.now; len = c.args.first.behind } in
     let mid : Shadow = record { texts = c.start.new.copies; len = c.in_ok-reach.reach.behind } in
     let starts = subst (λ (l : List LoadedSlot). Starts c.args.budget l old mid c.in_ok-reach.reach) slots c.in_ok-reach.ensures.starts in
     let new : Shadow = record { texts = c.copy_texts.new.copies; len = c.in_ok-end.end } in
@@ -86,3 +87,31 @@ returns-clause-kept g c =
     (touches-then (g.D.Disk.device c.args.disk.now) (g.D.Disk.device c.start.new.disk) (g.D.Disk.device c.copy_texts.new.disk) c.start.ensures.kept c.copy_texts.ensures.kept)
     (touches-sync (g.D.Disk.device c.copy_texts.new.disk) (g.D.Disk.device c.sync.new.self) c.sync.result
     (g.met.D.Disk.told c.copy_texts.new.disk) (g.met.D.Disk.told c.sync.new.self) c.sync.ensures.changed)
+
+pub copy_texts-requires-clause-bytes : goal.copy_texts-requires-clause-bytes
+copy_texts-requires-clause-bytes g c =
+    let slots = c.as_slice.ensures in
+    let old : Shadow = record { texts = c.args.copies.now; len = c.args.first.behind } in
+    let mid : Shadow = record { texts = c.start.new.copies; len = c.in_ok-reach.reach.behind } in
+    let starts = subst (λ (l : List LoadedSlot). Starts c.args.budget l old mid c.in_ok-reach.reach) slots c.in_ok-reach.ensures.starts in
+    start_bytes c.args.budget c.args.loaded.now.slots old mid c.in_ok-reach.reach starts
+
+pub returns-then-reach-eq0-clause-copies : goal.returns-then-reach-eq0-clause-copies
+returns-then-reach-eq0-clause-copies g c =
+    let slots = c.as_slice.ensures in
+    let old : Shadow = record { texts = c.args.copies.now; len = c.args.first.behind } in
+    let mid : Shadow = record { texts = c.start.new.copies; len = c.in_ok-reach.reach.behind } in
+    let starts = subst (λ (l : List LoadedSlot). Starts c.args.budget l old mid c.in_ok-reach.reach) slots c.in_ok-reach.ensures.starts in
+    let within = (start_room c.args.budget c.args.loaded.now.slots old mid c.in_ok-reach.reach starts).0 in
+    let none = start_none c.args.budget c.args.loaded.now.slots old mid c.in_ok-reach.reach starts within c.if-reach-eq0.true in
+    copies_some c.args.budget c.args.loaded.now.slots old old mid mid c.in_ok-reach.reach refl refl c.requires.fits starts none
+
+pub returns-then-reach-eq0-clause-more : goal.returns-then-reach-eq0-clause-more
+returns-then-reach-eq0-clause-more g c =
+    let slots = c.as_slice.ensures in
+    let old : Shadow = record { texts = c.args.copies.now; len = c.args.first.behind } in
+    let mid : Shadow = record { texts = c.start.new.copies; len = c.in_ok-reach.reach.behind } in
+    let starts = subst (λ (l : List LoadedSlot). Starts c.args.budget l old mid c.in_ok-reach.reach) slots c.in_ok-reach.ensures.starts in
+    let within = (start_room c.args.budget c.args.loaded.now.slots old mid c.in_ok-reach.reach starts).0 in
+    let none = start_none c.args.budget c.args.loaded.now.slots old mid c.in_ok-reach.reach starts within c.if-reach-eq0.true in
+    c.leaves_more.ensures ∙ more_then c.args.budget c.args.loaded.now.slots old mid mid c.in_ok-reach.reach starts none

@@ -1,4 +1,4 @@
-use Rattle.std.proofs.Common.{[], ap, sym, ◌∙◌}
+use Rattle.std.proofs.Common.{ap, sym, ◌∙◌}
 use Rattle.jb_area.specs.Area.{rules_of}
 use Rattle.jb_base.specs.declared.area.AreaRules.{AreaRules}
 use Rattle.jb_index.specs.Index.{index_of}
@@ -12,8 +12,4 @@ returns-clause-first g c = λ texts.
     ∙ ap (λ (l : Loaded). index_of (rules_of c.args.area.now) (state_of texts l)) c.loaded-2.ensures
 
 pub returns-clause-alike : goal.returns-clause-alike
-returns-clause-alike g c =
-    let loaded = c.loaded-2.ensures ∙ sym c.loaded-3.ensures in
-    let rules = c.rules.ensures ∙ sym c.rules-2.ensures in
-    c.in_ok-first.ensures [] ∙ ap (λ (r : AreaRules). index_of r (state_of [] c.loaded-2.result.now)) rules
-    ∙ ap (λ (l : Loaded). index_of c.rules-2.result.now (state_of [] l)) loaded ∙ sym (c.in_ok-second.ensures [])
+returns-clause-alike g c = sym c.in_ok-second.ensures
