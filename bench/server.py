@@ -196,9 +196,9 @@ def measure_calls(program, folder, what, act, before=(), seconds=SECONDS):
 
 
 def posts_on(caller, seconds):
-    """Posts again and again for so long, and gives how long each post took."""
+    """Posts again and again for so long, and gives how long each post took. A session takes 16,777,216 bytes, so there is an end."""
     took, end = [], time.perf_counter() + seconds
-    while (begun := time.perf_counter()) < end:
+    while (begun := time.perf_counter()) < end and len(took) < 30_000:
         posts(caller)
         took.append(time.perf_counter() - begun)
     return took

@@ -223,17 +223,17 @@ module _ {D : Type 0} (shown : D → Device) (area : OpenArea D) (stopped : Stop
       }
 
       -- stopped again
-      pub still : (disk : D) (large : Option Change) (again : Stopped) → redo ≡ redo_in large area.redo → TellsAlike (shown area.disk) (shown disk)
+      pub still : (disk : D) (large : Option Change) (stage : Stage) (again : Stopped) → stage ≡ Doubtful again pending → redo ≡ redo_in large area.redo → TellsAlike (shown area.disk) (shown disk)
           → ((from : Loaded) (texts : List ℕ) (copies : Option Shadow) (coming : Coming) → IsStoppedAs stopped redo from texts copies (shown area.disk) → IsChange (shown area.disk).contents redo from texts copies coming → IsStoppedAs again redo from texts copies (shown disk))
           → (texts : List ℕ) (coming : Option Coming) → IsDoubtful shown area texts coming
-          → IsDoubtful shown (record area { disk = disk; large = large; stage = Doubtful again pending }) texts coming
-      still disk large again kept alike answer texts None doubt = absurd (no_none texts doubt)
-      still disk large again kept alike answer texts (Some coming) doubt =
+          → IsDoubtful shown (record area { disk = disk; large = large; stage = stage }) texts coming
+      still disk large stage again doubtful kept alike answer texts None doubt = absurd (no_none texts doubt)
+      still disk large stage again doubtful kept alike answer texts (Some coming) doubt =
           let change = change_in texts coming doubt in
           record {
             stopped = again;
             pending = pending;
-            stage = refl;
+            stage = doubtful;
             ruled = record { few_slots = doubt.ruled.few_slots; address = doubt.ruled.address; sound = doubt.ruled.sound; sized = doubt.ruled.sized; room = doubt.ruled.room };
             change = subst (λ (r : Change). IsPending area.rules.slots (shown disk).contents area.packer r pending area.held texts coming) kept
                 (pending_later area.rules.slots (shown area.disk) (shown disk) area.packer redo pending area.held texts coming alike change);

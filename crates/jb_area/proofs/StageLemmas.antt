@@ -184,16 +184,16 @@ module _ {D : Type 0} (shown : D → Device) where
         omega (arith, record_is, journal, headers, index)
 
     -- a call that was stopped is in doubt
-    pub between : (reply : Reply) (pending : Pending) (disk : D) (large : Option Change) (redo : Change) (stopped : Stopped) → redo ≡ redo_of area → redo ≡ redo_in large area.redo → area.stage ≡ Begun reply pending
+    pub between : (reply : Reply) (pending : Pending) (disk : D) (large : Option Change) (stage : Stage) (redo : Change) (stopped : Stopped) → stage ≡ Doubtful stopped pending → redo ≡ redo_of area → redo ≡ redo_in large area.redo → area.stage ≡ Begun reply pending
         → pending ≢ Nothing → TellsAlike (shown area.disk) (shown disk)
         → ((from : Loaded) (texts : List ℕ) (copies : Option Shadow) (coming : Coming) → IsSettledWith from texts copies (shown area.disk) → IsChange (shown area.disk).contents redo from texts copies coming → IsStoppedAs stopped redo from texts copies (shown disk))
-        → IsBetween shown (record area { disk = disk; large = large; stage = Doubtful stopped pending }) texts coming
-    between reply pending disk large redo stopped used kept is some alike doubt =
+        → IsBetween shown (record area { disk = disk; large = large; stage = stage }) texts coming
+    between reply pending disk large stage redo stopped doubtful used kept is some alike doubt =
         let change = some_in reply pending redo used is some in
         record {
           stopped = stopped;
           pending = pending;
-          stage = refl;
+          stage = doubtful;
           ruled = record { few_slots = begun.kept.ruled.few_slots; address = begun.kept.ruled.address; sound = begun.kept.ruled.sound; sized = begun.kept.ruled.sized; room = begun.kept.ruled.room };
           change = subst (λ (r : Change). IsPending area.rules.slots (shown disk).contents area.packer r pending area.held texts coming) kept
               (pending_later area.rules.slots (shown area.disk) (shown disk) area.packer redo pending area.held texts coming alike change);

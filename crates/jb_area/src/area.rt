@@ -2,6 +2,7 @@
 
 use crate::committing::{commit_change, in_use, settle_change};
 use crate::copying::{kept_after, sync_copies};
+use crate::places::{drop_both, drop_pending, drop_stage, put_redo, put_stage};
 use crate::stage::Stage;
 use jb_base::AreaRules;
 use jb_decide::{Held, Pending};
@@ -90,18 +91,19 @@ impl<D: Disk> OpenArea<D> {
             unreachable!()
         };
         if let Pending::Nothing = pending {
-            self.large = None;
+            drop_pending(pending);
+            put_redo(&mut self.large, None);
             return Ok(reply);
         }
         match commit_change(&mut self.disk, in_use(&self.large, &self.redo)) {
             Ok(()) => {
-                self.large = None;
+                put_redo(&mut self.large, None);
                 self.packer = kept_after(&pending, mem::replace(&mut self.packer, None));
                 self.held.apply(pending);
                 Ok(reply)
             }
             Err(stopped) => {
-                self.stage = Stage::Doubtful { stopped, pending };
+                put_stage(&mut self.stage, Stage::Doubtful { stopped, pending });
                 Err(stopped)
             }
         }
@@ -128,8 +130,8 @@ impl<D: Disk> OpenArea<D> {
         ensures rules { rules_of self.new ≡ rules_of self.old }
         ensures room { small_redo_of self.new ≡ small_redo_of self.old }
     {
-        self.large = None;
-        self.stage = Stage::Resting;
+        put_redo(&mut self.large, None);
+        put_stage(&mut self.stage, Stage::Resting);
     }
 
     /// Whether a call was stopped by a fault of the device and is not settled. While it is so, what the disk reads opens to the
@@ -175,9 +177,8 @@ impl<D: Disk> OpenArea<D> {
         if let Stage::Copying = self.stage {
             return match sync_copies(&mut self.disk) {
                 Ok(()) => {
-                    self.large = None;
-                    self.packer = None;
-                    self.stage = Stage::Resting;
+                    drop_both(&mut self.large, &mut self.packer);
+                    put_stage(&mut self.stage, Stage::Resting);
                     let stands = false;
                     Ok(stands)
                 }
@@ -189,24 +190,23 @@ impl<D: Disk> OpenArea<D> {
             unreachable!()
         };
         if let Pending::Nothing = pending {
-            self.large = None;
-            self.packer = None;
+            drop_pending(pending);
+            drop_both(&mut self.large, &mut self.packer);
             return Ok(false);
         }
         match settle_change(&mut self.disk, in_use(&self.large, &self.redo), stopped) {
             Ok(true) => {
-                self.large = None;
-                self.packer = None;
+                drop_both(&mut self.large, &mut self.packer);
                 self.held.apply(pending);
                 Ok(true)
             }
             Ok(false) => {
-                self.large = None;
-                self.packer = None;
+                drop_pending(pending);
+                drop_both(&mut self.large, &mut self.packer);
                 Ok(false)
             }
             Err(stopped) => {
-                self.stage = Stage::Doubtful { stopped, pending };
+                put_stage(&mut self.stage, Stage::Doubtful { stopped, pending });
                 Err(stopped)
             }
         }
@@ -223,8 +223,9 @@ impl<D: Disk> OpenArea<D> {
             redo: _,
             large: _,
             packer: _,
-            stage: _,
+            stage,
         } = self;
+        drop_stage(stage);
         disk
     }
 }

@@ -3,6 +3,7 @@ ghost use Rattle.std.specs.Prelude.{◌≡◌, ◌≤◌, ℕ, length, IfErr, Ok
 
 use crate::OpenArea;
 use crate::copying::copy_some;
+use crate::places::{put_redo, put_stage};
 use crate::stage::Stage;
 use jb_base::{MOST_TEXT_BYTES, OutOfMemory, User};
 use jb_decide::{
@@ -34,10 +35,13 @@ impl<D: Disk> OpenArea<D> {
         ensures { (moment : ℕ) → BeginsCall D.device self.old self.new user.now moment (Kill number) (Ok tt) }
     {
         let decided = decide_kill(&self.held, &self.rules, &mut self.redo, user, number);
-        self.stage = Stage::Begun {
-            reply: decided.reply,
-            pending: decided.pending,
-        };
+        put_stage(
+            &mut self.stage,
+            Stage::Begun {
+                reply: decided.reply,
+                pending: decided.pending,
+            },
+        );
     }
 
     /// Begins the setting of the user's mark to this number. It makes no device call, and takes no memory.
@@ -46,10 +50,13 @@ impl<D: Disk> OpenArea<D> {
         ensures { (moment : ℕ) → BeginsCall D.device self.old self.new user.now moment (SetMark number) (Ok tt) }
     {
         let decided = decide_mark(&self.held, &self.rules, &mut self.redo, user, number);
-        self.stage = Stage::Begun {
-            reply: decided.reply,
-            pending: decided.pending,
-        };
+        put_stage(
+            &mut self.stage,
+            Stage::Begun {
+                reply: decided.reply,
+                pending: decided.pending,
+            },
+        );
     }
 
     /// Kills the message with this number, which its sender, its receiver and the sysop may. Its number stays taken. Takes no
@@ -90,15 +97,18 @@ impl<D: Disk> OpenArea<D> {
     {
         match decided {
             Ok(Decided { reply, pending }) => {
-                self.large = large;
-                self.stage = Stage::Begun { reply, pending };
+                put_redo(&mut self.large, large);
+                put_stage(&mut self.stage, Stage::Begun { reply, pending });
                 Ok(())
             }
             Err(AreaError::StoreFault) => {
-                self.stage = Stage::Doubtful {
-                    stopped: Stopped::Early,
-                    pending: Pending::Nothing,
-                };
+                put_stage(
+                    &mut self.stage,
+                    Stage::Doubtful {
+                        stopped: Stopped::Early,
+                        pending: Pending::Nothing,
+                    },
+                );
                 Err(AreaError::StoreFault)
             }
             Err(AreaError::OutOfMemory) => Err(AreaError::OutOfMemory),
@@ -265,7 +275,7 @@ impl<D: Disk> OpenArea<D> {
         ) {
             Ok(more) => Ok(more),
             Err(PackError::StoreFault) => {
-                self.stage = Stage::Copying;
+                put_stage(&mut self.stage, Stage::Copying);
                 Err(AreaError::StoreFault)
             }
             Err(PackError::OutOfMemory) => Err(AreaError::OutOfMemory),
@@ -343,10 +353,13 @@ impl<D: Disk> OpenArea<D> {
     {
         match refuse_pack(&self.held, &self.rules, user) {
             Some(reply) => {
-                self.stage = Stage::Begun {
-                    reply,
-                    pending: Pending::Nothing,
-                };
+                put_stage(
+                    &mut self.stage,
+                    Stage::Begun {
+                        reply,
+                        pending: Pending::Nothing,
+                    },
+                );
                 Ok(())
             }
             None => match self.copy_all(alloc) {

@@ -25,6 +25,7 @@ mod commands;
 mod committing;
 mod copying;
 mod opening;
+mod places;
 mod stage;
 
 pub use area::OpenArea;

@@ -1,5 +1,5 @@
 //! The words of the command line.
-ghost use Rattle.std.specs.Prelude.{◌≡◌, IfNone, IfSome, None, Some, map};
+ghost use Rattle.std.specs.Prelude.{◌≡◌, ◌∷◌, [], IfNone, IfSome, None, Some, map};
 ghost use Rattle.std.specs.String.{string_bytes};
 ghost use Rattle.jb_board.specs.Words.{HasFewSteps, command_line_of, counted_line, load_line, local_line, number_up_to, serve_line, tool_line, tool_named, words_of};
 
@@ -124,6 +124,45 @@ fn counted_line<'a>(path: &'a str, calls: &str) -> Option<CommandLine<'a>>
     serve_line(path, Some(calls))
 }
 
+/// The command line of a word and a path.
+fn path_line<'a>(verb: &str, path: &'a str) -> Option<CommandLine<'a>>
+    ensures found { IfSome result (λ line. command_line_of (verb.now ∷ path.now ∷ []) ≡ Some (words_of line)) }
+    ensures none { IfNone result (command_line_of (verb.now ∷ path.now ∷ []) ≡ None) }
+    ensures few { IfSome result (λ line. HasFewSteps (words_of line)) }
+{
+    if verb == "local" {
+        return local_line(path);
+    }
+    if verb == "serve" {
+        return serve_line(path, None);
+    }
+    None
+}
+
+/// The command line of three words.
+fn three_line<'a>(verb: &str, first: &'a str, second: &'a str) -> Option<CommandLine<'a>>
+    ensures found { IfSome result (λ line. command_line_of (verb.now ∷ first.now ∷ second.now ∷ []) ≡ Some (words_of line)) }
+    ensures none { IfNone result (command_line_of (verb.now ∷ first.now ∷ second.now ∷ []) ≡ None) }
+    ensures few { IfSome result (λ line. HasFewSteps (words_of line)) }
+{
+    if verb == "load" {
+        return load_line(first, second);
+    }
+    tool_line(verb, first, second)
+}
+
+/// The command line of four words.
+fn four_line<'a>(verb: &str, path: &'a str, option: &str, calls: &str) -> Option<CommandLine<'a>>
+    ensures found { IfSome result (λ line. command_line_of (verb.now ∷ path.now ∷ option.now ∷ calls.now ∷ []) ≡ Some (words_of line)) }
+    ensures none { IfNone result (command_line_of (verb.now ∷ path.now ∷ option.now ∷ calls.now ∷ []) ≡ None) }
+    ensures few { IfSome result (λ line. HasFewSteps (words_of line)) }
+{
+    if verb == "serve" && option == "--calls" {
+        return counted_line(path, calls);
+    }
+    None
+}
+
 /// The command line that these words are, if they are one.
 pub fn command<'a>(words: &'a [String]) -> Option<CommandLine<'a>>
     ensures found { IfSome result (λ line. command_line_of (map string_bytes words.now) ≡ Some (words_of line)) }
@@ -131,14 +170,15 @@ pub fn command<'a>(words: &'a [String]) -> Option<CommandLine<'a>>
     ensures few { IfSome result (λ line. HasFewSteps (words_of line)) }
 {
     match words {
-        [verb, path, option, calls] if verb.as_str() == "serve" && option.as_str() == "--calls" => {
-            counted_line(path.as_str(), calls.as_str())
-        }
-        [verb, seed, count] if verb.as_str() == "load" => load_line(seed.as_str(), count.as_str()),
-        [verb, dir, name] => tool_line(verb.as_str(), dir.as_str(), name.as_str()),
-        [verb, path] if verb.as_str() == "local" => local_line(path.as_str()),
-        [verb, path] if verb.as_str() == "serve" => serve_line(path.as_str(), None),
         [verb] if verb.as_str() == "help" => Some(CommandLine::Help),
+        [verb, path] => path_line(verb.as_str(), path.as_str()),
+        [verb, first, second] => three_line(verb.as_str(), first.as_str(), second.as_str()),
+        [verb, path, option, calls] => four_line(
+            verb.as_str(),
+            path.as_str(),
+            option.as_str(),
+            calls.as_str(),
+        ),
         _ => None,
     }
 }

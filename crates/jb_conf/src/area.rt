@@ -1,6 +1,7 @@
 //! One area of the settings file, read behind those before it.
 ghost use Rattle.std.specs.Prelude.{◌≡◌, ◌+◌, ◌≤◌, Some, IfOk};
 ghost use Rattle.toml.specs.View.{table_view};
+ghost use Rattle.jb_base.specs.Name.{same_name};
 ghost use Rattle.jb_base.specs.declared.limits.TheConstants.{MOST_SLOTS_TOGETHER};
 ghost use Rattle.jb_conf.specs.Areas.{area_fault, area_of, has_area_name, has_place, rules_fault, rules_of, slots_of};
 ghost use Rattle.jb_conf.specs.Faults.{Answers, AnswersOrMemory};
@@ -22,10 +23,17 @@ const MOST_BASE_BYTES: usize = 200;
 /// Slots of an area that does not say how many.
 const USUAL_SLOTS: u32 = 16_000;
 
-fn has_area_name(name: &Name, areas: &[BoardArea]) -> bool
+/// Whether the area has this name.
+fn is_called(area: &BoardArea, name: &[u8]) -> bool
+    ensures { result ≡ same_name area.now.name name.now }
+{
+    area.name.as_slice().eq_ignore_ascii_case(name)
+}
+
+fn has_area_name(name: &[u8], areas: &[BoardArea]) -> bool
     ensures { result ≡ has_area_name name.now areas.now }
 {
-    areas.iter().any(|area| area.name.same(name))
+    areas.iter().any(|area| is_called(area, name))
 }
 
 fn has_place(dir: &str, base: &str, areas: &[BoardArea]) -> bool
@@ -86,16 +94,16 @@ fn rules_of(
 /// An area of these parts.
 fn board_area(
     alloc: Global,
-    name: Name,
+    name: &[u8],
     dir: &str,
     base: &str,
     rules: AreaRules,
 ) -> Result<BoardArea, OutOfMemory>
     ensures { IfOk result
-        (λ area. area ≡ record { name = name; dir = dir.now; base = base.now; rules = rules }) }
+        (λ area. area ≡ record { name = name.now; dir = dir.now; base = base.now; rules = rules }) }
 {
     Ok(BoardArea {
-        name,
+        name: Name::copy(alloc, name)?,
         dir: Text::copy(alloc, dir)?,
         base: Text::copy(alloc, base)?,
         rules,
@@ -121,14 +129,11 @@ pub fn area_of(
     let name_field = Field::Area(place, AreaKey::Name);
     let dir_field = Field::Area(place, AreaKey::Dir);
     let base_field = Field::Area(place, AreaKey::Base);
-    let name = Name::copy(
-        alloc,
-        printable(table, name_field, MOST_AREA_NAME_BYTES)?.as_bytes(),
-    )?;
-    unrepeated(has_area_name(&name, before), name_field)?;
+    let name = printable(table, name_field, MOST_AREA_NAME_BYTES)?;
+    unrepeated(has_area_name(name.as_bytes(), before), name_field)?;
     let dir = sized(table, dir_field, MOST_DIR_BYTES)?;
     let base = sized(table, base_field, MOST_BASE_BYTES)?;
     unrepeated(has_place(dir, base, before), base_field)?;
     let rules = rules_of(alloc, table, address, place, together)?;
-    Ok(board_area(alloc, name, dir, base, rules)?)
+    Ok(board_area(alloc, name.as_bytes(), dir, base, rules)?)
 }

@@ -30,7 +30,7 @@ fn is_same_digest(one: &[u8; 32], other: &[u8; 32]) -> bool
 }
 
 /// Whether the user has this name.
-fn has_name(user: &BoardUser, name: &[u8]) -> bool
+pub(crate) fn has_name(user: &BoardUser, name: &[u8]) -> bool
     ensures { result ≡ same_name user.now.user.name name.now }
 {
     user.user.name.as_slice().eq_ignore_ascii_case(name)

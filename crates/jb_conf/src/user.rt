@@ -5,6 +5,7 @@ ghost use Rattle.jb_conf.specs.Faults.{AnswersOrMemory};
 ghost use Rattle.jb_conf.specs.Users.{has_id, has_user_name, user_fault, user_of};
 
 use crate::document::unrepeated;
+use crate::login::has_name;
 use crate::rows::{digest, number, printable, short};
 use crate::{BoardUser, ConfError, Field, UserKey};
 use jb_base::{Bytes, MOST_NAME_BYTES, Name, User};
@@ -18,10 +19,10 @@ const HIGHEST_LEVEL: u32 = 255;
 /// Bytes of a salt.
 const MOST_SALT_BYTES: usize = 64;
 
-fn has_user_name(name: &Name, users: &[BoardUser]) -> bool
+fn has_user_name(name: &[u8], users: &[BoardUser]) -> bool
     ensures { result ≡ has_user_name name.now users.now }
 {
-    users.iter().any(|user| user.user.name.same(name))
+    users.iter().any(|user| has_name(user, name))
 }
 
 fn has_id(id: u32, users: &[BoardUser]) -> bool
@@ -44,11 +45,8 @@ pub fn user_of(
     let id_field = Field::User(place, UserKey::Id);
     let level_field = Field::User(place, UserKey::Level);
     let salt_field = Field::User(place, UserKey::Salt);
-    let name = Name::copy(
-        alloc,
-        printable(table, name_field, MOST_NAME_BYTES)?.as_bytes(),
-    )?;
-    unrepeated(has_user_name(&name, before), name_field)?;
+    let name = printable(table, name_field, MOST_NAME_BYTES)?;
+    unrepeated(has_user_name(name.as_bytes(), before), name_field)?;
     let id = number(table, id_field, None, 1, LAST_ID)?;
     unrepeated(has_id(id, before), id_field)?;
     let level = number(table, level_field, None, 0, HIGHEST_LEVEL)?;
@@ -56,7 +54,7 @@ pub fn user_of(
     let digest = digest(table, place)?;
     Ok(BoardUser {
         user: User {
-            name,
+            name: Name::copy(alloc, name.as_bytes())?,
             id,
             level: level as u8,
         },

@@ -1,14 +1,17 @@
 -- What each call of a disk in memory does to what it tells.
 use Rattle.std.specs.declared.alloc.Global.{Global}
-use Rattle.std.proofs.Common.{Vec, ◌≡◌, ◌≢◌, inl, inr, ℕ, ◌+◌, ◌≤◌, List, [], ◌∷◌, ◌++◌, length, refl, sym, ◌∙◌, ap, subst, true, false, Bool, le-leb, Option, Some, None, Result, Ok, Err}
-use Rattle.std.specs.Prelude.{IsErr, OnOk, OnErr, reverse, nat_le, if◌then◌else◌, ◌&&◌}
+use Rattle.std.proofs.Common.{Vec, ◌≡◌, ◌≢◌, inl, inr, ℕ, ◌+◌, ◌≤◌, List, [], ◌∷◌, ◌++◌, length, refl, sym, ◌∙◌, ap, subst, true, false, Bool, le-leb, arith, ◌<◌, Option, Some, None, Result, Ok, Err}
+use Rattle.std.specs.Option.{option_map}
+use Rattle.jb_base.specs.Fault.{Rose}
+use Rattle.std.specs.Prelude.{◌⊎◌, IsErr, OnOk, OnErr, reverse, nat_le, if◌then◌else◌, ◌&&◌}
+use Rattle.std.proofs.lemmas.Result.{on_ok_weaker, on_err_weaker}
 use Rattle.jb_disk.specs.declared.file.FileId.{FileId}
 use Rattle.jb_disk.specs.declared.call.Call.{Call}
-use Rattle.jb_disk.specs.declared.call.Call.TheVariants.{Wrote, Resized}
+use Rattle.jb_disk.specs.declared.call.Call.TheVariants.{NoChange, Wrote, Resized, Synced}
 use Rattle.jb_disk.specs.Files.{Files, with_file, overwritten, written, InFile, IsResized}
-use Rattle.jb_disk.specs.Device.{Device, Turns, Tears, Resizes, Syncs}
-use Rattle.jb_disk.specs.Images.{Images}
-use Rattle.jb_disk.specs.Memory.{of_length, contents_after, images_after, listed, device_after, Recording, device_of}
+use Rattle.jb_disk.specs.Device.{Device, Turns, Tears, Resizes, Syncs, OnlyReads, FailsBy, IsPast, and_then}
+use Rattle.jb_disk.specs.Images.{Images, just_synced, torn, cut, with_image}
+use Rattle.jb_disk.specs.Memory.{of_length, contents_after, images_after, earlier_after, listed, device_after, Recording, device_of, IsQuiet}
 use Rattle.jb_disk.specs.FileLaws.{same_file, with_file-here, with_file-other, InFile-with, length-of_length}
 use Rattle.jb_disk.specs.ImageLaws.{get-of_length}
 use Rattle.jb_disk.specs.MemoryLaws.{newest}
@@ -111,18 +114,45 @@ others-same f None = tt
 others-same f (Some files) = λ other apart. refl
 
 -- a sync that came to nothing, as the device is told
-syncs-none : {T E : Type 0} (result : Result T E) (device : Device) (n : ℕ) (f : FileId) → IsErr result
-    → Syncs f device (record { faults = n; contents = device.contents; moments = device.moments }) result
-syncs-none (Ok value) device n f fails = absurd (not_true fails)
-syncs-none (Err error) device n f fails = record { kept = tt; done = tt; tried = record { others = others-same f device.contents; steady = λ none. refl }; failed = refl }
+syncs-none : {T E : Type 0} (error : E) (device : Device) (n : ℕ) (f : FileId)
+    → Syncs {T = T} f device (record { faults = n; contents = device.contents; moments = device.moments }) (Err error)
+syncs-none error device n f = record { kept = tt; done = tt; tried = record { others = others-same f device.contents; steady = λ none. refl }; failed = refl }
+
+-- what a crash may leave after a sync that is noted
+images-synced : (first : Files) (f : FileId) (calls : List Call) (files : Files) → Some (contents_after first calls) ≡ Some files
+    → with_image f (λ _. just_synced (contents_after first calls f)) (images_after first calls) ∷ images_after first calls ∷ earlier_after first calls
+    ≡ and_then (with_image f (λ _. just_synced (files f))) (images_after first calls ∷ earlier_after first calls)
+images-synced first f calls files told =
+    let same : contents_after first calls ≡ files = cc in
+    ap (λ (read : Files). and_then (with_image f (λ _. just_synced (read f))) (images_after first calls ∷ earlier_after first calls)) same
+
+-- a sync that is noted, or in its place that there was a call, or nothing
+syncs-noted : {T E : Type 0} (result : Result T E) (first : Files) (f : FileId) (calls now : List Call) (m n : ℕ)
+    → OnOk result (now ≡ Synced f ∷ calls) → OnErr result ((now ≡ calls) ⊎ (now ≡ NoChange ∷ calls)) → Syncs f (device_after first calls m) (device_after first now n) result
+syncs-noted {T = T} {E = E} (Ok value) first f calls now m n done failed =
+    subst (λ (l : List Call). Syncs {T = T} {E = E} f (device_after first calls m) (device_after first l n) (Ok value)) (sym done)
+    (record { kept = refl; done = λ files told. images-synced first f calls files told; tried = record { others = λ other apart. refl; steady = tt }; failed = tt })
+syncs-noted {T = T} {E = E} (Err error) first f calls now m n done failed = elim failed [
+  | inl same ↦ subst (λ (l : List Call). Syncs {T = T} {E = E} f (device_after first calls m) (device_after first l n) (Err error)) (sym same) (syncs-none error (device_after first calls m) n f)
+  | inr tried ↦ subst (λ (l : List Call). Syncs {T = T} {E = E} f (device_after first calls m) (device_after first l n) (Err error)) (sym tried) (syncs-none error (device_after first calls m) n f)
+]
+
+-- a call of which there is at most a note that it was made, with the newest first
+quiet-newest : (old now : List Call) → IsQuiet old now → (reverse now ≡ reverse old) ⊎ (reverse now ≡ NoChange ∷ reverse old)
+quiet-newest old now quiet = elim quiet [
+  | inl same ↦ inl (ap reverse same)
+  | inr tried ↦ inr (newest old NoChange now tried)
+]
 
 -- the same, of the disk
-pub syncs-not : {T E : Type 0} (result : Result T E) (disk : Recording) (first : List (List ℕ)) (failing : List ℕ) (old new : List Call) (m n : ℕ) (f : FileId) → IsErr result
-    → record { first = first; calls = old; faults = m; failing = failing } ≡ disk → new ≡ old → Syncs f (device_of disk) (device_of (record { first = first; calls = new; faults = n; failing = failing })) result
-syncs-not result disk first failing old new m n f fails view_is is =
-    subst (λ (was : Recording). Syncs f (device_of was) (device_of (record { first = first; calls = new; faults = n; failing = failing })) result) view_is
-    (subst (λ (calls : List Call). Syncs f (device_after (listed first) (reverse old) m) (device_after (listed first) (reverse calls) n) result) (sym is)
-    (syncs-none result (device_after (listed first) (reverse old) m) n f fails))
+pub syncs : {T E : Type 0} (result : Result T E) (disk : Recording) (first : List (List ℕ)) (failing : List ℕ) (old now : List Call) (m n : ℕ) (f : FileId)
+    → record { first = first; calls = old; faults = m; failing = failing } ≡ disk → OnOk result (now ≡ old ++ Synced f ∷ []) → OnErr result (IsQuiet old now)
+    → Syncs f (device_of disk) (device_of (record { first = first; calls = now; faults = n; failing = failing })) result
+syncs result disk first failing old now m n f view_is done failed =
+    subst (λ (was : Recording). Syncs f (device_of was) (device_of (record { first = first; calls = now; faults = n; failing = failing })) result) view_is
+    (syncs-noted result (listed first) f (reverse old) (reverse now) m n
+    (on_ok_weaker result (newest old (Synced f) now) done)
+    (on_err_weaker result (quiet-newest old now) failed))
 
 -- what is read after a change of length
 pub present-resized : (first : Files) (f : FileId) (len : ℕ) (done : Bool) (old new : List Call) (before after : Files) → new ≡ old ++ Resized f len done ∷ [] → done ≡ true
@@ -148,3 +178,74 @@ present-kept first f old now before after is was here others file =
 -- a file of another length is a change of length that was done
 pub resized-so : (f : FileId) (len : ℕ) (old new : Files) → new f ≡ of_length len (old f) → ((other : FileId) → other ≢ f → new other ≡ old other) → InFile f (IsResized len) old new
 resized-so f len old new here others = record { here = subst (IsResized len (old f)) (sym here) (resized-of_length len (old f)); others = others }
+
+-- a range that ends within a file is not past its end
+pub within-not-past : (disk : Recording) (first : List (List ℕ)) (failing : List ℕ) (old : List Call) (m : ℕ) (present : Files) (f : FileId) (end : ℕ)
+    → record { first = first; calls = old; faults = m; failing = failing } ≡ disk → ((file : FileId) → present file ≡ contents_after (listed first) (reverse old) file)
+    → end ≤ length (present f) → IsPast (device_of disk).contents f end → ⊥
+within-not-past disk first failing old m present f end view_is was within past =
+    let there : length (contents_after (listed first) (reverse old) f) < end = subst (λ (d : Recording). length (contents_after (listed d.first) (reverse d.calls) f) < end) (sym view_is) past in
+    omega (arith, ap length (was f))
+
+-- a call that was done has no cause to fail
+pub done-fails-by : {T E : Type 0} (value : T) (past : Type 0) (disk : Recording) (first : List (List ℕ)) (failing : List ℕ) (old new : List Call) (m n : ℕ)
+    → record { first = first; calls = old; faults = m; failing = failing } ≡ disk → n ≡ m → (past → ⊥)
+    → FailsBy {T = T} {E = E} past (device_of disk) (device_of (record { first = first; calls = new; faults = n; failing = failing })) (Ok value)
+done-fails-by value past disk first failing old new m n view_is same not_past =
+    let faults : n ≡ disk.faults = same ∙ ap (λ (d : Recording). d.faults) view_is in
+    record { kept = faults; later = omega arith; failed = tt; refused = λ passed. absurd (not_past passed); alike = refl }
+
+-- what is read after a write that was done
+pub wrote-contents : (disk : Recording) (first : List (List ℕ)) (failing : List ℕ) (old new : List Call) (m n : ℕ) (f : FileId) (at : ℕ) (copy : Vec ℕ Global) (bytes : List ℕ) (done : Bool) (present : Files)
+    → record { first = first; calls = old; faults = m; failing = failing } ≡ disk → new ≡ old ++ Wrote f at copy done ∷ [] → done ≡ true → copy.items ≡ bytes
+    → ((file : FileId) → present file ≡ contents_after (listed first) (reverse old) file) → at + length bytes ≤ length (present f)
+    → (device_of (record { first = first; calls = new; faults = n; failing = failing })).contents ≡ option_map (written f at bytes) (device_of disk).contents
+wrote-contents disk first failing old new m n f at copy bytes done present view_is is so same was within =
+    let before = contents_after (listed first) (reverse old) in
+    let fits : at + length copy.items ≤ length (before f) = omega (arith, ap length (was f), ap length same) in
+    let both : (done && nat_le (at + length copy.items) (length (before f))) ≡ true = ap (λ (b : Bool). b && nat_le (at + length copy.items) (length (before f))) so ∙ le-leb _ _ fits in
+    let told : contents_after (listed first) (Wrote f at copy done ∷ reverse old) ≡ written f at bytes before =
+    written-done f at copy.items before _ both ∙ ap (λ (l : List ℕ). written f at l before) same in
+    ap (λ (calls : List Call). Some (contents_after (listed first) calls)) (newest old (Wrote f at copy done) new is) ∙ ap (λ (files : Files). Some files) told
+    ∙ ap (λ (d : Recording). Some (written f at bytes (contents_after (listed d.first) (reverse d.calls)))) view_is
+
+-- what a crash may leave after a write that was noted
+pub wrote-moments : (disk : Recording) (first : List (List ℕ)) (failing : List ℕ) (old new : List Call) (m n : ℕ) (f : FileId) (at : ℕ) (copy : Vec ℕ Global) (len : ℕ) (done : Bool)
+    → record { first = first; calls = old; faults = m; failing = failing } ≡ disk → new ≡ old ++ Wrote f at copy done ∷ [] → length copy.items ≡ len
+    → (device_of (record { first = first; calls = new; faults = n; failing = failing })).moments ≡ and_then (with_image f (torn at len)) (device_of disk).moments
+wrote-moments disk first failing old new m n f at copy len done view_is is size =
+    let after = λ (calls : List Call). images_after (listed first) calls ∷ earlier_after (listed first) calls in
+    ap after (newest old (Wrote f at copy done) new is)
+    ∙ ap (λ (k : ℕ). and_then (with_image f (torn at k)) (after (reverse old))) size
+    ∙ ap (λ (d : Recording). and_then (with_image f (torn at len)) (device_of d).moments) view_is
+
+-- what a crash may leave after a change of length that was noted
+pub resized-moments : (disk : Recording) (first : List (List ℕ)) (failing : List ℕ) (old new : List Call) (m n : ℕ) (f : FileId) (len : ℕ) (done : Bool)
+    → record { first = first; calls = old; faults = m; failing = failing } ≡ disk → new ≡ old ++ Resized f len done ∷ []
+    → (device_of (record { first = first; calls = new; faults = n; failing = failing })).moments ≡ and_then (with_image f (cut len)) (device_of disk).moments
+resized-moments disk first failing old new m n f len done view_is is =
+    ap (λ (calls : List Call). images_after (listed first) calls ∷ earlier_after (listed first) calls) (newest old (Resized f len done) new is)
+    ∙ ap (λ (d : Recording). and_then (with_image f (cut len)) (device_of d).moments) view_is
+
+-- a call of which there is at most a note that it was made changes nothing of what is told
+pub reads-quiet : (disk : Recording) (first : List (List ℕ)) (failing : List ℕ) (old new : List Call) (m n : ℕ)
+    → record { first = first; calls = old; faults = m; failing = failing } ≡ disk → IsQuiet old new
+    → OnlyReads (device_of disk) (device_of (record { first = first; calls = new; faults = n; failing = failing }))
+reads-quiet disk first failing old new m n view_is quiet =
+    let told : device_after (listed first) (reverse new) n ≡ device_after (listed first) (reverse old) n = elim (quiet-newest old new quiet) [
+      | inl same ↦ ap (λ (calls : List Call). device_after (listed first) calls n) same
+      | inr tried ↦ ap (λ (calls : List Call). device_after (listed first) calls n) tried
+    ] in
+    record {
+      contents = ap (λ (d : Device). d.contents) told ∙ ap (λ (d : Recording). (device_of d).contents) view_is;
+      moments = ap (λ (d : Device). d.moments) told ∙ ap (λ (d : Recording). (device_of d).moments) view_is;
+    }
+
+-- a refusal of a call that did not pass an end, with a fault as its cause
+pub failed-fails-by : {T E : Type 0} (result : Result T E) (past : Type 0) (disk : Recording) (first : List (List ℕ)) (failing : List ℕ) (old new : List Call) (m n : ℕ)
+    → record { first = first; calls = old; faults = m; failing = failing } ≡ disk → IsErr result → Rose m n → m ≤ n → (past → ⊥)
+    → FailsBy past (device_of disk) (device_of (record { first = first; calls = new; faults = n; failing = failing })) result
+failed-fails-by (Ok value) past disk first failing old new m n view_is fails rose later not_past = absurd (not_true fails)
+failed-fails-by (Err error) past disk first failing old new m n view_is fails rose later not_past =
+    let before : m ≡ disk.faults = ap (λ (d : Recording). d.faults) view_is in
+    record { kept = tt; later = subst (λ (k : ℕ). k ≤ n) before later; failed = inl (subst (λ (k : ℕ). Rose k n) before rose); refused = λ passed. absurd (not_past passed); alike = refl }

@@ -1,5 +1,5 @@
 //! Six files in memory that tell what a crash at each moment may leave.
-ghost use Rattle.std.specs.Prelude.{◌≡◌, ◌+◌, ◌<◌, ◌≤◌, ◌↔◌, IsTrue, ◌++◌, [], ◌∷◌, Contains, length, reverse, IfOk, OnOk, OnErr};
+ghost use Rattle.std.specs.Prelude.{◌≡◌, ◌⊎◌, ◌+◌, ◌<◌, ◌≤◌, ◌↔◌, IsTrue, ◌++◌, [], ◌∷◌, Contains, length, reverse, true, false, IfOk, IsErr, OnOk, OnErr};
 ghost use Rattle.jb_base.specs.Fault.{Rose};
 ghost use Rattle.jb_disk.specs.Memory.{FailsNext, listed, device_of, fresh_device, IsQuiet};
 ghost use Rattle.jb_disk.specs.MemoryLaws.{tells_an_image};
@@ -121,33 +121,35 @@ impl Disk for MemDisk {
     ghost fails_next = { FailsNext };
 
     fn len(&mut self, file: FileId) -> Result<u64, DiskFailed> {
-        let fails = fails(&self.failing, &self.calls);
-        note(&mut self.calls, Call::NoChange, &mut self.faults)?;
-        if fails {
-            return Err(fault(&mut self.faults));
-        }
+        note(
+            &self.failing,
+            &mut self.calls,
+            Call::NoChange,
+            &mut self.faults,
+        )?;
         Ok(self.present.file(file).len() as u64)
     }
 
     fn read_at(&mut self, file: FileId, at: u64, into: &mut [u8]) -> Result<(), DiskFailed> {
-        let fails = fails(&self.failing, &self.calls);
         if passes(self.present.file(file).len(), at, into.len()) {
             return Err(refuse(&mut self.calls));
         }
-        note(&mut self.calls, Call::NoChange, &mut self.faults)?;
-        if fails {
-            return Err(fault(&mut self.faults));
-        }
+        note(
+            &self.failing,
+            &mut self.calls,
+            Call::NoChange,
+            &mut self.faults,
+        )?;
         let from = at as usize;
         into.copy_from_slice(&self.present.file(file)[from..from + into.len()]);
         Ok(())
     }
 
     fn write_at(&mut self, file: FileId, at: u64, bytes: &[u8]) -> Result<(), DiskFailed> {
-        let fails = fails(&self.failing, &self.calls);
         if passes(self.present.file(file).len(), at, bytes.len()) {
             return Err(refuse(&mut self.calls));
         }
+        let fails = fails(&self.failing, &self.calls);
         let Ok(copy) = bytes.to_vec(self.alloc) else {
             return Err(fault(&mut self.faults));
         };
@@ -157,26 +159,20 @@ impl Disk for MemDisk {
             bytes: copy,
             done: !fails,
         };
-        note(&mut self.calls, call, &mut self.faults)?;
-        if fails {
-            return Err(fault(&mut self.faults));
-        }
+        keep(&mut self.calls, call, fails, &mut self.faults)?;
         self.present.overwrite(file, at as usize, bytes);
         Ok(())
     }
 
     fn set_len(&mut self, file: FileId, len: u64) -> Result<(), DiskFailed> {
-        let fails = fails(&self.failing, &self.calls);
         let before = self.calls.len();
+        let fails = fails(&self.failing, &self.calls);
         let call = Call::Resized {
             file,
             len,
             done: !fails,
         };
-        note(&mut self.calls, call, &mut self.faults)?;
-        if fails {
-            return Err(fault(&mut self.faults));
-        }
+        keep(&mut self.calls, call, fails, &mut self.faults)?;
         if self.present.resize(file, len as usize).is_err() {
             self.calls.truncate(before);
             return Err(fault(&mut self.faults));
@@ -185,12 +181,8 @@ impl Disk for MemDisk {
     }
 
     fn sync(&mut self, file: FileId) -> Result<(), DiskFailed> {
-        if fails(&self.failing, &self.calls) {
-            note(&mut self.calls, Call::NoChange, &mut self.faults)?;
-            return Err(fault(&mut self.faults));
-        }
-        note(&mut self.calls, Call::Synced { file }, &mut self.faults)?;
-        Ok(())
+        let call = Call::Synced { file };
+        note(&self.failing, &mut self.calls, call, &mut self.faults)
     }
 
     ghost told = { tells_an_image };
@@ -227,16 +219,36 @@ fn refuse(calls: &mut Vec<Call>) -> DiskFailed
     DiskFailed
 }
 
-// Keeps a call.
-fn note(calls: &mut Vec<Call>, call: Call, faults: &mut u64) -> Result<(), DiskFailed>
-    ensures ok { OnOk result (calls.new.items ≡ calls.old.items ++ call ∷ []) }
-    ensures err { OnErr result (calls.new.items ≡ calls.old.items) }
+// Keeps a call. One that fails is kept too, for a crash may leave it half made.
+fn keep(calls: &mut Vec<Call>, call: Call, fails: bool, faults: &mut u64) -> Result<(), DiskFailed>
+    ensures ok { OnOk result ((fails ≡ false) × (calls.new.items ≡ calls.old.items ++ call ∷ [])) }
+    ensures err { OnErr result ((calls.new.items ≡ calls.old.items) ⊎ ((fails ≡ true) × (calls.new.items ≡ calls.old.items ++ call ∷ []))) }
     ensures quiet { OnOk result (faults.new ≡ faults.old) }
     ensures counted { OnErr result (Rose faults.old faults.new) }
     ensures later { faults.old ≤ faults.new }
 {
-    match calls.push(call) {
-        Ok(()) => Ok(()),
-        Err(_) => Err(fault(faults)),
+    if calls.push(call).is_err() || fails {
+        return Err(fault(faults));
     }
+    Ok(())
+}
+
+// Keeps a call that is done whole or not at all. In place of one that fails it keeps that there was one.
+fn note(
+    failing: &[u64],
+    calls: &mut Vec<Call>,
+    call: Call,
+    faults: &mut u64,
+) -> Result<(), DiskFailed>
+    ensures ok { OnOk result (calls.new.items ≡ calls.old.items ++ call ∷ []) }
+    ensures err { OnErr result (IsQuiet calls.old.items calls.new.items) }
+    ensures listed { Contains failing.now (length calls.old.items + 1) → IsErr result }
+    ensures quiet { OnOk result (faults.new ≡ faults.old) }
+    ensures counted { OnErr result (Rose faults.old faults.new) }
+    ensures later { faults.old ≤ faults.new }
+{
+    if fails(failing, calls) {
+        return keep(calls, Call::NoChange, true, faults);
+    }
+    keep(calls, call, false, faults)
 }

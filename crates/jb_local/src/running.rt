@@ -1,7 +1,8 @@
 //! The run of one session.
-ghost use Rattle.std.specs.Prelude.{◌≡◌, ◌⊎◌, IfErr, IfOk, IsSome, List, Some, length};
+ghost use Rattle.std.specs.Prelude.{◌≡◌, ◌⊎◌, IfErr, IfOk, IsSome, ℕ, List, Some, length};
 ghost use Rattle.jb_areas.specs.All.{AreWhole, passes_at};
 ghost use Rattle.jb_conf.specs.InRange.{IsInRange};
+ghost use Rattle.jb_host.specs.Desk.{Desk};
 ghost use Rattle.jb_host.specs.Wire.{Wire};
 ghost use Rattle.jb_session.specs.Served.{Served};
 ghost use Rattle.jb_local.specs.Local.{HasBoard, HasNoSettings, RefusesSettings, RunsLocal};
@@ -54,6 +55,26 @@ fn serve<R: Wait, H: Host>(
     end
 }
 
+/// One session at the console of the host, as node 1 of this board, which was read.
+fn run_board<R: Wait, H: Host>(
+    rt: &R,
+    alloc: Global,
+    host: &mut H,
+    board: &Board,
+) -> Result<LocalEnd, RunError>
+    requires board { IsInRange board.now }
+    requires console { IsSome (H.desk host.old).console }
+    ensures { (path : List ℕ) (old : Desk) → HasBoard path board.now old (H.desk host.old) → RunsLocal path old (H.desk host.new) result }
+{
+    let mut shared = open_areas(rt, alloc, host, board.areas.as_slice(), 1)?;
+    let session = serve(rt, alloc, host, board, &mut shared);
+    let is_doubtful = close_areas(rt, host, board.areas.as_slice(), shared);
+    Ok(LocalEnd {
+        session,
+        is_doubtful,
+    })
+}
+
 /// One session at the console of the host, as node 1 of the board that the settings file at this path says. Everything that the host
 /// handed out is back then.
 pub fn local<R: Wait, H: Host>(
@@ -66,11 +87,5 @@ pub fn local<R: Wait, H: Host>(
     ensures { RunsLocal path.now (H.desk host.old) (H.desk host.new) result }
 {
     let board = board_at(alloc, host, path)?;
-    let mut shared = open_areas(rt, alloc, host, board.areas.as_slice(), 1)?;
-    let session = serve(rt, alloc, host, &board, &mut shared);
-    let is_doubtful = close_areas(rt, host, board.areas.as_slice(), shared);
-    Ok(LocalEnd {
-        session,
-        is_doubtful,
-    })
+    run_board(rt, alloc, host, &board)
 }

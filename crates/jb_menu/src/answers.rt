@@ -1,6 +1,9 @@
 //! What an area answers.
 ghost use Rattle.std.specs.Prelude.{◌≡◌, ◌<◌, ◌++◌, IfOk, OnOk, length};
 ghost use Rattle.jb_conf.specs.InRange.{IsInRange};
+ghost use Rattle.jb_text.specs.Faults.{fault_text};
+ghost use Rattle.jb_text.specs.Letter.{line};
+ghost use Rattle.jb_text.specs.Replies.{reply_text};
 ghost use Rattle.jb_menu.specs.Answers.{acting_row, list_lines, listing_line, listing_row, marking_row, reading_row, seeking_row, shown_of, with_shown};
 
 use crate::Given;
@@ -12,7 +15,7 @@ use crate::moves::Moved;
 use crate::state::{Shown, Stage, State, Visit};
 use jb_base::{Bytes, Name, OutOfMemory, PRIVATE};
 use jb_conf::Board;
-use jb_model::{Answer, Command, Letter, Reply, Summary};
+use jb_model::{Answer, Command, Letter, Reply, SharedFault, Summary};
 use jb_text::{Fixed, append_line_end, fault, letter, listing, reply};
 use std::alloc::Global;
 
@@ -180,6 +183,22 @@ pub fn reading(
     }
 }
 
+/// Puts the line of a reply behind these.
+fn append_reply(alloc: Global, lines: Bytes, answer: &Reply) -> Result<Bytes, OutOfMemory>
+    ensures { IfOk result (λ text. text ≡ lines ++ line (reply_text answer.now)) }
+{
+    let one = reply(alloc, answer)?;
+    append_line(lines, one.as_slice())
+}
+
+/// Puts the line of a fault behind these.
+fn append_fault(alloc: Global, lines: Bytes, why: &SharedFault) -> Result<Bytes, OutOfMemory>
+    ensures { IfOk result (λ text. text ≡ lines ++ line (fault_text why.now)) }
+{
+    let one = fault(alloc, why)?;
+    append_line(lines, one.as_slice())
+}
+
 /// Waits for the user's mark, before this text of a message is said.
 pub fn marking(
     alloc: Global,
@@ -194,12 +213,12 @@ pub fn marking(
     match given {
         Given::Reply(Reply::Marked { .. }) => to_area(alloc, board, visit, text),
         Given::Reply(answer) => {
-            let one = reply(alloc, answer)?;
-            to_area(alloc, board, visit, append_line(text, one.as_slice())?)
+            let lines = append_reply(alloc, text, answer)?;
+            to_area(alloc, board, visit, lines)
         }
         Given::Fault(why) => {
-            let one = fault(alloc, why)?;
-            to_area(alloc, board, visit, append_line(text, one.as_slice())?)
+            let lines = append_fault(alloc, text, why)?;
+            to_area(alloc, board, visit, lines)
         }
         _ => {
             let stage = Stage::Marking { letter: text };

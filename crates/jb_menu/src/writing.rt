@@ -1,5 +1,8 @@
 //! A message that is written.
-ghost use Rattle.std.specs.Prelude.{◌≡◌, ◌<◌, ◌^◌, IfOk, length};
+ghost use Rattle.std.specs.Prelude.{◌≡◌, ◌<◌, ◌^◌, ◌++◌, [], ◌∷◌, IfOk, length};
+ghost use Rattle.jb_text.specs.Fixed.{fixed_text};
+ghost use Rattle.jb_text.specs.Letter.{line};
+ghost use Rattle.jb_text.specs.Lines.{replying_text};
 ghost use Rattle.jb_menu.specs.Writing.{answer_subject, answer_to, is_answer, marked_subject, more_row, post_row, private_row, reply_row, says_yes, subject_row, text_row, to_row};
 
 use crate::Given;
@@ -54,6 +57,25 @@ fn answer_to(alloc: Global, shown: &Shown) -> Result<Draft, OutOfMemory>
     })
 }
 
+/// What is said before the text of an answer is typed.
+fn replying_lines(alloc: Global, from: &[u8], subject: &[u8]) -> Result<Bytes, OutOfMemory>
+    ensures { IfOk result (λ text. text ≡ line (replying_text from.now subject.now) ++ line (fixed_text Fixed.TextLine)) }
+{
+    let line = whole(replying(alloc, from, subject)?)?;
+    append_line(line, fixed(alloc, Fixed::TextLine)?.as_slice())
+}
+
+/// The answer to a message, which waits for its text, and what is said then.
+fn answering(alloc: Global, shown: &Shown) -> Result<(Bytes, Stage), OutOfMemory>
+    ensures { IfOk result (λ begun. (begun.0 ≡ line (replying_text shown.now.from (answer_subject shown.now.subject)) ++ line (fixed_text Fixed.TextLine))
+        × (begun.1 ≡ Stage.Text (answer_to shown.now) [])) }
+{
+    let draft = answer_to(alloc, shown)?;
+    let said = replying_lines(alloc, shown.from.as_slice(), draft.subject.as_slice())?;
+    let text = Bytes::new(alloc);
+    Ok((said, Stage::Text { draft, text }))
+}
+
 /// Waits for the text of the answer to the message that was shown last.
 pub fn reply(alloc: Global, board: &Board, visit: Visit) -> Result<Moved, OutOfMemory>
     requires { visit.area < length board.now.areas }
@@ -62,13 +84,7 @@ pub fn reply(alloc: Global, board: &Board, visit: Visit) -> Result<Moved, OutOfM
     let Some(shown) = &visit.shown else {
         return fixed_to_area(alloc, board, visit, Fixed::NoMessageShown);
     };
-    let draft = answer_to(alloc, shown)?;
-    let line = whole(replying(alloc, shown.from.as_slice(), draft.subject.as_slice())?)?;
-    let text = append_line(line, fixed(alloc, Fixed::TextLine)?.as_slice())?;
-    let stage = Stage::Text {
-        draft,
-        text: Bytes::new(alloc),
-    };
+    let (text, stage) = answering(alloc, shown)?;
     Ok(say(text, State::Area { visit, stage }))
 }
 
@@ -94,9 +110,9 @@ fn receiver(alloc: Global, board: &Board, visit: Visit, typed: &[u8]) -> Result<
     if typed.is_empty() {
         fixed_to_area(alloc, board, visit, Fixed::Cancelled)
     } else {
+        let text = fixed(alloc, Fixed::AskSubject)?;
         let to = Name::copy(alloc, typed)?;
         let stage = Stage::Subject { to };
-        let text = fixed(alloc, Fixed::AskSubject)?;
         Ok(say(text, State::Area { visit, stage }))
     }
 }
@@ -107,9 +123,9 @@ pub fn subject(alloc: Global, visit: Visit, to: Name, given: &Given) -> Result<M
 {
     match given {
         Given::Line(line) => {
+            let text = fixed(alloc, Fixed::AskPrivate)?;
             let subject = Bytes::copy(alloc, line.as_slice())?;
             let stage = Stage::Private { to, subject };
-            let text = fixed(alloc, Fixed::AskPrivate)?;
             Ok(say(text, State::Area { visit, stage }))
         }
         _ => {
@@ -138,6 +154,7 @@ pub fn private(
 {
     match given {
         Given::Line(line) => {
+            let text = fixed_line(alloc, Fixed::TextLine)?;
             let draft = Draft {
                 to,
                 subject,
@@ -148,7 +165,6 @@ pub fn private(
                 draft,
                 text: Bytes::new(alloc),
             };
-            let text = fixed_line(alloc, Fixed::TextLine)?;
             Ok(say(text, State::Area { visit, stage }))
         }
         _ => {
@@ -172,6 +188,16 @@ fn post(visit: Visit, draft: Draft, text: Bytes) -> Moved
     ask(visit, command, Stage::Acting)
 }
 
+/// A text with this line behind it.
+fn with_line(text: Bytes, typed: &[u8]) -> Result<Bytes, OutOfMemory>
+    ensures { IfOk result (λ longer. longer ≡ text ++ typed.now ++ 13 ∷ []) }
+{
+    let mut text = text;
+    text.append(typed)?;
+    text.append(b"\r")?;
+    Ok(text)
+}
+
 /// Puts a line behind a text, where it fits.
 fn more(
     alloc: Global,
@@ -188,9 +214,7 @@ fn more(
         let full = Stage::Text { draft, text };
         Ok(say(said, State::Area { visit, stage: full }))
     } else {
-        let mut text = text;
-        text.append(typed)?;
-        text.append(b"\r")?;
+        let text = with_line(text, typed)?;
         let stage = Stage::Text { draft, text };
         Ok(say(Bytes::new(alloc), State::Area { visit, stage }))
     }

@@ -1,8 +1,10 @@
 //! The run of many nodes.
-ghost use Rattle.std.specs.Prelude.{◌≡◌, ◌+◌, ◌<◌, ◌≤◌, ◌++◌, ◌∷◌, [], IfErr, IfOk, length, map, vec_capacity, vec_len};
+ghost use Rattle.std.specs.Prelude.{◌≡◌, ◌+◌, ◌<◌, ◌≤◌, ◌++◌, ◌∷◌, ℕ, List, [], IfErr, IfOk, length, map, vec_capacity, vec_len};
 ghost use Rattle.jb_areas.specs.All.{AreWhole};
 ghost use Rattle.jb_areas.specs.Rows.{lists_of};
 ghost use Rattle.jb_conf.specs.InRange.{IsInRange};
+ghost use Rattle.jb_host.specs.Desk.{Desk};
+ghost use Rattle.jb_local.specs.Local.{HasBoard};
 ghost use Rattle.jb_nodes.specs.Nodes.{RunsNodes};
 ghost use Rattle.jb_nodes.specs.Workers.{AreReady, PackerIsReady, gates_of, packer, passes_of};
 ghost use Rattle.jb_nodes.specs.Working.{AreAllOf, GivesUp, RunsOn, WorkToTheEnd};
@@ -125,6 +127,30 @@ where
     }
 }
 
+/// A run with many nodes of this board, which was read: room is made first, then the areas are opened and served.
+fn serve_board<T: Threads + Wait + Sync, H: Host>(
+    rt: &T,
+    alloc: Global,
+    host: &mut H,
+    board: &Board,
+    calls: Option<u32>,
+) -> Result<NodesEnd, RunError>
+where
+    H::Disk: Send + Sync,
+    H::Door: Send,
+    <H::Door as Door>::Link: Send,
+    H::Bell: Send,
+    H::Clock: Send,
+    requires { IsInRange board.now }
+    ensures { (path : List ℕ) (old : Desk) → HasBoard path board.now old (H.desk host.old) → RunsNodes path calls old (H.desk host.new) result }
+{
+    let Ok(room) = room_for(alloc, board.nodes) else {
+        return Err(RunError::OutOfMemory);
+    };
+    let shared = open_areas(rt, alloc, host, board.areas.as_slice(), board.nodes + 1)?;
+    Ok(serve_areas(rt, alloc, host, board, calls, room, shared)?)
+}
+
 /// A run with many nodes of the board that the settings file at this path says: each node serves callers at a door of its own, so many
 /// or as many as come, and the areas are packed meanwhile. The operator is told when callers may come, and when all is closed.
 /// Everything that the host handed out is back then.
@@ -144,9 +170,5 @@ where
     ensures { RunsNodes path.now calls (H.desk host.old) (H.desk host.new) result }
 {
     let board = board_at(alloc, host, path)?;
-    let Ok(room) = room_for(alloc, board.nodes) else {
-        return Err(RunError::OutOfMemory);
-    };
-    let shared = open_areas(rt, alloc, host, board.areas.as_slice(), board.nodes + 1)?;
-    Ok(serve_areas(rt, alloc, host, &board, calls, room, shared)?)
+    serve_board(rt, alloc, host, &board, calls)
 }

@@ -1,7 +1,7 @@
 -- The slots of an area as they are put into the files, one after another.
 use Rattle.std.proofs.Common.{◌≡◌, ℕ, suc, ◌+◌, ◌-◌, ◌≤◌, ◌<◌, List, [], ◌∷◌, ◌++◌, length, drop, get_or, map, All, refl, sym, ◌∙◌, ap, subst, arith, append_assoc, length-append, length-drop}
 use Rattle.std.proofs.lemmas.List.{append-nil, drop-drop, drop-map, get_or-drop, length-map}
-use Rattle.std.proofs.Math.Seq.{drop-cons}
+use Rattle.std.proofs.Math.Seq.{drop-cons, drop-length}
 use Rattle.std.proofs.lemmas.List.Sums.{sum_by-cons}
 use Rattle.std.proofs.lemmas.List.Elements.{All-drop, All-head, All-tail}
 use Rattle.jb_base.specs.Subfields.{subfield_bytes}
@@ -103,6 +103,13 @@ module _ (loaded : Loaded) (links : List Links) (start : Change) where
     pub texts : place.text_at + texts_size rest ≤ TEXTS_CEILING
     pub within : All (IsSlotWithin loaded.headers_len loaded.texts_len) rest
     pub room : KeepsRoom start redo
+
+  -- where the end is reached all is put
+  pub all_put : (slots : List LoadedSlot) (redo : Change) (index : List ℕ) (place : Place) (count : ℕ) → length slots ≤ count → count ≤ length slots
+      → IsPut redo index place count (drop count slots) → IsPut redo index place (length slots) []
+  all_put slots redo index place count reached within put =
+      let even : count ≡ length slots = omega (arith, reached, within) in
+      subst (λ (n : ℕ). IsPut redo index place n []) even (subst (IsPut redo index place count) (ap (λ (n : ℕ). drop n slots) even ∙ drop-length slots) put)
 
   -- at first nothing is put
   pub put_none : (limit : ℕ) (index : List ℕ) → IsSound limit loaded → links ≡ plan_of live → texts_size (kept_slots loaded) ≤ TEXTS_CEILING

@@ -2,7 +2,7 @@
 ghost use Rattle.std.specs.Prelude.{◌≡◌, IfOk, IfSome, option_map, unwrap_or, []};
 ghost use Rattle.std.specs.Borrow.{Bor};
 ghost use Rattle.jb_access.specs.Parties.{envelope};
-ghost use Rattle.jb_base.specs.Subfields.{first_of};
+ghost use Rattle.jb_base.specs.Subfields.{first_of, sender_of, receiver_of};
 ghost use Rattle.jb_model.specs.Live.{message_at};
 ghost use Rattle.jb_model.specs.Message.{envelope_of, letter_of};
 ghost use Rattle.jb_model.specs.Tight.{owned};
@@ -78,6 +78,29 @@ pub(crate) fn visible_at<'a>(
     }
 }
 
+/// Copies of the sender's name and of the receiver's.
+fn names(alloc: Global, subfields: &Subfields) -> Result<(Name, Name), OutOfMemory>
+    ensures { IfOk result (λ names. names ≡ (sender_of subfields.now, receiver_of subfields.now)) }
+{
+    let from = Name::copy(alloc, field(subfields, SENDER_NAME))?;
+    let to = Name::copy(alloc, field(subfields, RECEIVER_NAME))?;
+    Ok((from, to))
+}
+
+/// Copies of the data of the first subfields of two kinds, empty where there is none.
+fn copies(
+    alloc: Global,
+    subfields: &Subfields,
+    first: u16,
+    second: u16,
+) -> Result<(Bytes, Bytes), OutOfMemory>
+    ensures { IfOk result (λ copies. copies ≡ (unwrap_or (first_of first subfields.now) [], unwrap_or (first_of second subfields.now) [])) }
+{
+    let one = Bytes::copy(alloc, field(subfields, first))?;
+    let other = Bytes::copy(alloc, field(subfields, second))?;
+    Ok((one, other))
+}
+
 /// The message as it is shown, with these fields in its header.
 pub(crate) fn letter(
     alloc: Global,
@@ -87,19 +110,22 @@ pub(crate) fn letter(
 ) -> Result<Letter, OutOfMemory>
     ensures { IfOk result (λ letter. letter ≡ letter_of number (with_head head (owned message.now))) }
 {
-    let fields = &message.subfields;
+    let (from, to) = names(alloc, &message.subfields)?;
+    let (msgid, reply) = copies(alloc, &message.subfields, MSGID, REPLYID)?;
+    let subject = Bytes::copy(alloc, field(&message.subfields, SUBJECT))?;
+    let text = Bytes::copy(alloc, message.text.as_slice())?;
     Ok(Letter {
         number,
-        from: Name::copy(alloc, field(fields, SENDER_NAME))?,
-        to: Name::copy(alloc, field(fields, RECEIVER_NAME))?,
-        subject: Bytes::copy(alloc, field(fields, SUBJECT))?,
-        msgid: Bytes::copy(alloc, field(fields, MSGID))?,
-        reply: Bytes::copy(alloc, field(fields, REPLYID))?,
+        from,
+        to,
+        subject,
+        msgid,
+        reply,
         written: head.written,
         attribute: head.attribute,
         reply_to: head.reply_to,
         reply_first: head.reply_first,
         reply_next: head.reply_next,
-        text: Bytes::copy(alloc, message.text.as_slice())?,
+        text,
     })
 }

@@ -6,7 +6,7 @@ ghost use Rattle.jb_conf.specs.InRange.{IsInRange};
 ghost use Rattle.jb_host.specs.Wire.{Wire};
 ghost use Rattle.jb_shared.specs.Passes.{PassView};
 ghost use Rattle.jb_talk.specs.Asking.{most_asked};
-ghost use Rattle.jb_talk.specs.Talking.{Hands, most_wanted};
+ghost use Rattle.jb_talk.specs.Talking.{Hands, HasTalked, most_wanted};
 ghost use Rattle.jb_talk.specs.declared.request.Request.{Request};
 ghost use Rattle.jb_session.specs.Exchanges.{AreOf};
 ghost use Rattle.jb_session.specs.Served.{Served, Stands};
@@ -225,6 +225,38 @@ fn turn<R: Wait, D: Disk, L: Link, C: Clock>(
     Ok(())
 }
 
+/// Serves one caller with a talk that has begun, from the greeting to the end.
+fn serve_talk<R: Wait, D: Disk, L: Link, C: Clock>(
+    rt: &R,
+    alloc: Global,
+    board: &Board,
+    areas: &[SharedArea<D>],
+    passes: &mut [Pass],
+    link: &mut L,
+    clock: &mut C,
+    talk: &mut Talk,
+) -> SessionEnd
+    requires board { IsInRange board.now }
+    requires areas { length areas.now ≡ length board.now.areas }
+    requires ours { AreOf areas.now passes.old }
+    requires hands { Hands board.now talk.old None }
+    requires fits { HasTalked board.now talk.old [] [] [] [] }
+    ensures ours { AreOf areas.now passes.new }
+    ensures clock { C.reading clock.new ≡ C.reading clock.old }
+    ensures served { Served (C.reading clock.old) board.now (L.wire link.old) passes.old result (L.wire link.new) passes.new }
+{
+    conversations_are_one();
+    let Ok(()) = send_owed(link, talk) else {
+        return SessionEnd::LinkFault;
+    };
+    while talk.wants() > 0 {
+        if let Err(end) = turn(rt, alloc, board, areas, passes, link, clock, talk) {
+            return end;
+        }
+    }
+    ended(talk.end())
+}
+
 /// Serves one caller, from the greeting to the end, on the passes of a node: one for each area of the board, in order.
 ///
 /// All that is owed is sent before more is read, and no more is read than one session takes. Of what is owed a session holds
@@ -250,13 +282,5 @@ pub fn serve_session<R: Wait, D: Disk, L: Link, C: Clock>(
     let Ok(mut talk) = Talk::start(alloc, board) else {
         return SessionEnd::OutOfMemory;
     };
-    let Ok(()) = send_owed(link, &mut talk) else {
-        return SessionEnd::LinkFault;
-    };
-    while talk.wants() > 0 {
-        if let Err(end) = turn(rt, alloc, board, areas, passes, link, clock, &mut talk) {
-            return end;
-        }
-    }
-    ended(talk.end())
+    serve_talk(rt, alloc, board, areas, passes, link, clock, &mut talk)
 }

@@ -10,14 +10,14 @@ use trial_rows::{Row, RowError};
 const MOMENT: u32 = 1_000_000_000;
 
 /// What is asked of an area: a command, or a step of a pack, that copies so many bytes at most.
-#[derive(Debug, Drop)]
+#[derive(Drop)]
 pub(crate) enum Act {
     Command(Asked),
     Copy { user: User, budget: u32 },
 }
 
 /// How a command is asked: by the call of all commands, by that of its own, begun alone, or in two parts.
-#[derive(Clone, Copy, Debug)]
+#[derive(Clone, Copy)]
 pub(crate) enum Way {
     All,
     Own,

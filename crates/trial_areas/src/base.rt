@@ -215,18 +215,33 @@ pub(crate) fn stand(alloc: Global, area: Area) -> Result<(Quiet, String), RowErr
     Ok((disk, words))
 }
 
+/// What stands in an area, in words.
+pub(crate) fn stood_in(alloc: Global, area: Area) -> Result<String, RowError> {
+    let (_disk, words) = stand(alloc, area)?;
+    Ok(words)
+}
+
 /// What stands in an area, and what it answered last.
 pub(crate) fn came_of(alloc: Global, area: Area) -> Result<(String, String), RowError> {
     let reply = area.words(alloc);
-    let (_disk, stood) = stand(alloc, area)?;
+    let stood = stood_in(alloc, area)?;
     Ok((stood, reply?))
 }
 
 impl Base {
     /// What stands in the area of the disk.
     pub(crate) fn stand_on(&self, alloc: Global, disk: Quiet) -> Result<String, RowError> {
-        let (_disk, words) = stand(alloc, self.over(alloc, disk)?)?;
-        Ok(words)
+        stood_in(alloc, self.over(alloc, disk)?)
+    }
+
+    /// Whether this stands in the area of the disk.
+    pub(crate) fn opens_to(
+        &self,
+        alloc: Global,
+        disk: Quiet,
+        wanted: &str,
+    ) -> Result<bool, RowError> {
+        Ok(self.stand_on(alloc, disk)?.as_str() == wanted)
     }
 
     /// Whether this stands in the area, and again when its files are opened anew.
@@ -235,7 +250,7 @@ impl Base {
         if came.as_str() != wanted {
             return Ok(false);
         }
-        Ok(self.stand_on(alloc, disk)?.as_str() == wanted)
+        self.opens_to(alloc, disk, wanted)
     }
 
     /// Whether this was answered last in the area, and this stands in it then.

@@ -2,7 +2,7 @@
 
 use crate::area::{Area as Open, rules_of};
 use crate::asking::{asked_by, command_of, sized_post, user_of};
-use crate::base::{Base, stand};
+use crate::base::{Base, stand, stood_in};
 use crate::plain::{loaded_words, plain_words};
 use crate::quiet::Quiet;
 use crate::showing::{reply_words, words};
@@ -17,7 +17,7 @@ use trial_rows::RowError;
 const ROUND: u32 = 50;
 
 /// A linear congruential generator.
-#[derive(Clone, Copy, Debug)]
+#[derive(Clone, Copy)]
 struct Lot {
     state: u64,
 }
@@ -143,6 +143,14 @@ fn words_in(alloc: Global, area: &Open, texts: &[u8]) -> Result<String, RowError
     }
 }
 
+// What stands in the area of the disk, in the words of the plain one and in those of the open one.
+fn opened_words(alloc: Global, base: &Base, disk: &Quiet) -> Result<(String, String), RowError> {
+    let area = base.over(alloc, disk.copied()?)?;
+    let came = words_in(alloc, &area, disk.file(FileId::Jdt));
+    let again = stood_in(alloc, area)?;
+    Ok((came?, again))
+}
+
 // Whether the disk opens to the plain area, and to what stood in the area.
 fn is_plain(
     alloc: Global,
@@ -151,11 +159,9 @@ fn is_plain(
     plain: &Area,
     stood: &str,
 ) -> Result<bool, RowError> {
-    let area = base.over(alloc, disk.copied()?)?;
-    let came = words_in(alloc, &area, disk.file(FileId::Jdt));
-    let (_disk, again) = stand(alloc, area)?;
-    let is_plain = plain_words(alloc, plain)?.as_str() == came?.as_str();
-    Ok(is_plain && again.as_str() == stood)
+    let (came, again) = opened_words(alloc, base, disk)?;
+    let wanted = plain_words(alloc, plain)?;
+    Ok(wanted.as_str() == came.as_str() && again.as_str() == stood)
 }
 
 // The number that the next message gets.
@@ -175,6 +181,34 @@ struct Race {
     count: u32,
 }
 
+// What this comes to over the open area of the disk: its disk then, what stands in it, and how many replies were the same.
+fn asked_round(
+    alloc: Global,
+    area: Open,
+    lot: &mut Lot,
+    list: &[Asked],
+    replies: &[Reply],
+) -> Result<(Quiet, String, u32), RowError> {
+    let (area, same) = ask_all(alloc, area, lot, list, replies)?;
+    let (disk, stood) = stand(alloc, area)?;
+    Ok((disk, stood, same))
+}
+
+// The disk behind a round, and how many replies were the same; none where its area is not the plain one.
+fn raced(
+    alloc: Global,
+    base: &Base,
+    area: Open,
+    lot: &mut Lot,
+    list: &[Asked],
+    plain: &Area,
+    replies: &[Reply],
+) -> Result<(Quiet, u32), RowError> {
+    let (disk, stood, same) = asked_round(alloc, area, lot, list, replies)?;
+    let is_so = is_plain(alloc, base, &disk, plain, stood.as_str())?;
+    Ok((disk, if is_so { same } else { 0 }))
+}
+
 // A round more.
 fn next_round(alloc: Global, base: &Base, race: Race) -> Result<Race, RowError> {
     let Race {
@@ -186,10 +220,8 @@ fn next_round(alloc: Global, base: &Base, race: Race) -> Result<Race, RowError> 
     let list = lot.round(alloc, plain.base, next_of(&plain))?;
     let (plain, replies) = run_plain(alloc, plain, list.as_slice())?;
     let area = base.over(alloc, disk)?;
-    let (area, same) = ask_all(alloc, area, &mut lot, list.as_slice(), replies.as_slice())?;
-    let (disk, stood) = stand(alloc, area)?;
-    let is_so = is_plain(alloc, base, &disk, &plain, stood.as_str())?;
-    let more = if is_so { same } else { 0 };
+    let (list, replies) = (list.as_slice(), replies.as_slice());
+    let (disk, more) = raced(alloc, base, area, &mut lot, list, &plain, replies)?;
     Ok(Race {
         lot,
         plain,

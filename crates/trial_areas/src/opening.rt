@@ -33,11 +33,17 @@ fn is_fault(area: &Area) -> bool {
     }
 }
 
-// Whether the opening is told this failing call as a fault, and the disk then opens to the same.
-fn faults(alloc: Global, base: &Base, call: u64, wanted: &str) -> Result<bool, RowError> {
+// Whether the opening is told this failing call as a fault, and the disk then.
+fn failed(alloc: Global, base: &Base, call: u64) -> Result<(bool, Quiet), RowError> {
     let area = base.open(alloc, &[call])?;
     let is_told = is_fault(&area);
-    let opens = base.stand_on(alloc, area.close())?.as_str() == wanted;
+    Ok((is_told, area.close()))
+}
+
+// Whether the opening is told this failing call as a fault, and the disk then opens to the same.
+fn faults(alloc: Global, base: &Base, call: u64, wanted: &str) -> Result<bool, RowError> {
+    let (is_told, disk) = failed(alloc, base, call)?;
+    let opens = base.opens_to(alloc, disk, wanted)?;
     Ok(is_told && opens)
 }
 
@@ -57,7 +63,7 @@ fn images(alloc: Global, base: &Base, disk: &Quiet, wanted: &str) -> Result<u64,
     let mut count = 0_u64;
     for image in 0..disk.calls().saturating_add(1).saturating_mul(4) {
         let left = disk.crashed(image / 4, (image % 4) as u8)?;
-        if base.stand_on(alloc, left)?.as_str() == wanted {
+        if base.opens_to(alloc, left, wanted)? {
             count = count.saturating_add(1);
         }
     }

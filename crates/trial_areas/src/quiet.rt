@@ -9,7 +9,7 @@ use std::marker::Model;
 use trial_rows::RowError;
 
 /// Dead bytes that take no memory: so many behind the fixed header of .JHR, and so many at the beginning of .JDT.
-#[derive(Clone, Copy, Debug)]
+#[derive(Clone, Copy)]
 pub(crate) struct Holes {
     pub headers: u64,
     pub texts: u64,

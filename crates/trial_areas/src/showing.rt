@@ -69,10 +69,10 @@ pub(crate) fn links_words(alloc: Global, loaded: &Loaded) -> Result<String, RowE
 pub(crate) fn figures(alloc: Global, loaded: &Loaded) -> Result<String, RowError> {
     let slots = loaded.slots.as_slice().len();
     let marks = loaded.marks.as_slice().len();
-    let mut text = format!(in alloc; "base {}, counter {}", loaded.base, loaded.counter)?;
-    write!(text, ", {slots} slots, {marks} marks")?;
-    write!(text, ", {} bytes of texts", loaded.texts_len)?;
-    Ok(text)
+    Ok(format!(in alloc;
+        "base {}, counter {}, {slots} slots, {marks} marks, {} bytes of texts",
+        loaded.base, loaded.counter, loaded.texts_len
+    )?)
 }
 
 /// All that is loaded, to be compared.
@@ -80,9 +80,11 @@ pub(crate) fn memory_words(alloc: Global, loaded: &Loaded) -> Result<String, Row
     let slots = loaded.slots.as_slice();
     let marks = loaded.marks.as_slice();
     let mut text = figures(alloc, loaded)?;
-    write!(text, " {} {}", loaded.created, loaded.active)?;
-    write!(text, " {} {}", loaded.password, loaded.headers_len)?;
-    write!(text, " {slots:?} {marks:?} ")?;
-    text.push_str(shown(alloc, &loaded.reserved)?.as_str())?;
+    let reserved = shown(alloc, &loaded.reserved)?;
+    write!(
+        text,
+        " {} {} {} {} {slots:?} {marks:?} {reserved}",
+        loaded.created, loaded.active, loaded.password, loaded.headers_len
+    )?;
     Ok(text)
 }

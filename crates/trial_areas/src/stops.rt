@@ -29,6 +29,12 @@ impl<'a> Scene<'a> {
         Ok(area)
     }
 
+    // How many calls the disk has had before the act, and what stands then.
+    fn before(self, alloc: Global) -> Result<(u64, String), RowError> {
+        let (disk, before) = stand(alloc, self.reached(alloc, &[])?)?;
+        Ok((disk.calls(), before))
+    }
+
     /// The area behind the act.
     pub(crate) fn asked(self, alloc: Global, failing: &[u64]) -> Result<Area, RowError> {
         let area = self.reached(alloc, failing)?;
@@ -83,11 +89,11 @@ impl<'a> Case<'a> {
             act,
             way,
         };
-        let (disk, before) = stand(alloc, scene.reached(alloc, &[])?)?;
+        let (opening, before) = scene.before(alloc)?;
         let (after, reply) = came_of(alloc, scene.asked(alloc, &[])?)?;
         Ok(Case {
             scene,
-            opening: disk.calls(),
+            opening,
             before,
             after,
             reply,
@@ -107,11 +113,16 @@ impl<'a> Case<'a> {
         })
     }
 
+    // What this pick of a crash after so many calls opens as.
+    fn picked(&self, alloc: Global, disk: &Quiet, calls: u64, pick: u8) -> Result<char, RowError> {
+        self.letter(alloc, disk.crashed(calls, pick)?)
+    }
+
     // What the four picks of a crash after so many calls open as.
     fn left(&self, alloc: Global, disk: &Quiet, calls: u64) -> Result<char, RowError> {
-        let mut all = self.letter(alloc, disk.crashed(calls, 0)?)?;
+        let mut all = self.picked(alloc, disk, calls, 0)?;
         for pick in 1..4 {
-            all = both(all, self.letter(alloc, disk.crashed(calls, pick)?)?);
+            all = both(all, self.picked(alloc, disk, calls, pick)?);
         }
         Ok(all)
     }

@@ -57,12 +57,18 @@ fn ask_all(
     Ok(area)
 }
 
+// How many device calls the last act of a case makes, and whether the disk behind it has the files of the base.
+fn effects(alloc: Global, base: &Base, case: &Case<'_>) -> Result<(u64, bool), RowError> {
+    let disk = case.done(alloc)?;
+    let calls = disk.calls().saturating_sub(case.opening);
+    Ok((calls, base.is_in(&disk, 6)))
+}
+
 // `try USER COMMAND`: the reply, how many device calls were made, and whether area and files are as they were.
 fn tried(alloc: Global, base: &Base, all: &[Act]) -> Result<String, RowError> {
     let case = Case::new(alloc, base, all, Way::All)?;
-    let disk = case.done(alloc)?;
-    let calls = disk.calls().saturating_sub(case.opening);
-    let is_same = base.is_in(&disk, 6) && case.before.as_str() == case.after.as_str();
+    let (calls, is_kept) = effects(alloc, base, &case)?;
+    let is_same = is_kept && case.before.as_str() == case.after.as_str();
     let stays = if is_same { "as it was" } else { "changed" };
     let reply = case.reply.as_str();
     Ok(format!(in alloc; "{reply}, {calls} calls, {stays}")?)
@@ -108,10 +114,15 @@ impl Trial {
         }
     }
 
+    // The area of the base, on a disk that fails the calls of the row, each raised by so many.
+    fn opened(&self, alloc: Global, row: &Row, by: u64) -> Result<Area, RowError> {
+        let failing = numbers_in(alloc, row, by)?;
+        self.base.open(alloc, failing.as_slice())
+    }
+
     // `open CALL..` and `start CALL..`: opens the area, on a disk that fails these calls, counted from the first or once it is open.
     fn open(&mut self, alloc: Global, row: &Row, by: u64) -> Result<String, RowError> {
-        let failing = numbers_in(alloc, row, by)?;
-        let area = self.base.open(alloc, failing.as_slice())?;
+        let area = self.opened(alloc, row, by)?;
         let text = told(alloc, &self.base, &area);
         self.put(area);
         text

@@ -1,38 +1,50 @@
 //! Who may do what: `may READ POST SYSOP NAME LEVEL ACT`, and behind these, where the act is about a message,
 //! `FROM TO ATTRIBUTE`.
 
-use crate::words::{byte, own as word};
 use jb_access::{Action, Parties, allowed};
 use jb_base::{AreaRules, Bytes, Kind, Rule, User};
 use std::alloc::Global;
-use trial_rows::{Row, RowError};
+use trial_rows::{Row, RowError, said};
 
 /// Whether the user of this name and level may do it in an area that asks for these levels; else the rule that refuses.
 pub fn may(alloc: Global, row: &Row) -> Result<String, RowError> {
     let rules = rules(alloc, row)?;
-    let user = User {
-        name: row.name(alloc, 4)?,
-        id: 7,
-        level: byte(row, 5)?,
-    };
-    let action = action(row)?;
+    let user = user(alloc, row)?;
+    answered(alloc, row, &user, &rules, action(row)?)
+}
+
+fn user(alloc: Global, row: &Row) -> Result<User, RowError> {
+    let level = row.u8(5)?;
+    let name = row.name(alloc, 4)?;
+    Ok(User { name, id: 7, level })
+}
+
+fn answered(
+    alloc: Global,
+    row: &Row,
+    user: &User,
+    rules: &AreaRules,
+    action: Action,
+) -> Result<String, RowError> {
     if row.len() > 7 {
-        return about_message(alloc, row, &user, &rules, action);
+        return about_message(alloc, row, user, rules, action);
     }
-    if action == Action::Kill {
-        return Err(RowError::Missing(7));
+    match action {
+        Action::Kill => Err(RowError::Missing(7)),
+        _ => said(alloc, told(allowed(user, rules, action, None))),
     }
-    word(alloc, told(allowed(&user, &rules, action, None)))
 }
 
 fn rules(alloc: Global, row: &Row) -> Result<AreaRules, RowError> {
+    let (read, post, sysop) = (row.u8(1)?, row.u8(2)?, row.u8(3)?);
+    let address = Bytes::copy(alloc, b"2:5020/1042")?;
     Ok(AreaRules {
         ordinal: 1,
-        address: Bytes::copy(alloc, b"2:5020/1042")?,
+        address,
         kind: Kind::Local,
-        read: byte(row, 1)?,
-        post: byte(row, 2)?,
-        sysop: byte(row, 3)?,
+        read,
+        post,
+        sysop,
         slots: 16_000,
     })
 }
@@ -61,7 +73,7 @@ fn about_message(
         to: to.as_slice(),
         attribute: row.u32(9)?,
     };
-    word(alloc, told(allowed(user, rules, action, Some(message))))
+    said(alloc, told(allowed(user, rules, action, Some(message))))
 }
 
 fn told(answer: Result<(), Rule>) -> &'static str {

@@ -1,17 +1,16 @@
 //! Byte strings, names, an area's rules and the bits of an attribute.
 
-use crate::words::{byte, own as word};
 use jb_base::{
     AreaRules, Bytes, DELETED, Kind, LOCAL, NODISP, OutOfMemory, PRIVATE, READ, TYPEECHO, TYPELOCAL,
 };
 use std::alloc::Global;
-use trial_rows::{Row, RowError, shown};
+use trial_rows::{Row, RowError, said, shown};
 
 /// `same NAME NAME`: whether the two are one name.
 pub fn same(alloc: Global, row: &Row) -> Result<String, RowError> {
     let one = row.name(alloc, 1)?;
     let other = row.name(alloc, 2)?;
-    word(alloc, if one.same(&other) { "same" } else { "another" })
+    said(alloc, if one.same(&other) { "same" } else { "another" })
 }
 
 /// `grow BYTES BYTES ..`: a copy of the empty byte string with these behind it one after another, its length, and whether
@@ -49,17 +48,25 @@ pub fn no_memory(alloc: Global) -> Result<String, RowError> {
 
 /// `rules ORDINAL ADDRESS KIND READ POST SYSOP SLOTS`: a copy of these rules, in the same words.
 pub fn rules(alloc: Global, row: &Row) -> Result<String, RowError> {
-    let rules = AreaRules {
-        ordinal: byte(row, 1)?,
-        address: row.bytes(alloc, 2)?,
-        kind: kind(row, 3)?,
-        read: byte(row, 4)?,
-        post: byte(row, 5)?,
-        sysop: byte(row, 6)?,
-        slots: row.u32(7)?,
-    };
+    let rules = rules_in(alloc, row)?;
     let copy = rules.copy(alloc)?;
     told(alloc, &copy)
+}
+
+fn rules_in(alloc: Global, row: &Row) -> Result<AreaRules, RowError> {
+    let kind = kind(row, 3)?;
+    let (read, post, sysop) = (row.u8(4)?, row.u8(5)?, row.u8(6)?);
+    let (ordinal, slots) = (row.u8(1)?, row.u32(7)?);
+    let address = row.bytes(alloc, 2)?;
+    Ok(AreaRules {
+        ordinal,
+        address,
+        kind,
+        read,
+        post,
+        sysop,
+        slots,
+    })
 }
 
 fn kind(row: &Row, place: usize) -> Result<Kind, RowError> {

@@ -1,16 +1,15 @@
 //! Extents that share a byte: `overlap START LEN START LEN ..`.
 
-use crate::words::own as word;
 use jb_extent::{Extent, first_overlap};
 use std::alloc::Global;
-use trial_rows::{Row, RowError};
+use trial_rows::{Row, RowError, said};
 
 /// The places of the first two extents that share a byte.
 pub fn overlap(alloc: Global, row: &Row) -> Result<String, RowError> {
     let extents = extents(alloc, row)?;
     match first_overlap(alloc, extents.as_slice())? {
         Some(overlap) => Ok(format!(in alloc; "{} {}", overlap.one, overlap.other)?),
-        None => word(alloc, "none"),
+        None => said(alloc, "none"),
     }
 }
 

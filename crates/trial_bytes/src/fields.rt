@@ -1,11 +1,10 @@
 //! Subfields, as a list and as bytes.
 ghost use Rattle.std.specs.Prelude.{◌+◌, ◌<◌, ◌^◌};
 
-use crate::words::own as word;
 use jb_base::{MSGID, RECEIVER_NAME, REPLYID, SENDER_NAME, SUBJECT, Subfield, Subfields};
 use jb_subfield::{SubfieldError, decode};
 use std::alloc::Global;
-use trial_rows::{Row, RowError, hexed, listed, shown};
+use trial_rows::{Row, RowError, hexed, listed, said, shown};
 
 /// `id WORD`: the LoID of the subfields of this kind.
 pub fn id(alloc: Global, row: &Row) -> Result<String, RowError> {
@@ -27,7 +26,7 @@ pub fn first(alloc: Global, row: &Row) -> Result<String, RowError> {
     let fields = fields_at(alloc, row)?;
     let data = match fields.first(id) {
         Some(data) => shown(alloc, data)?,
-        None => word(alloc, "absent")?,
+        None => said(alloc, "absent")?,
     };
     Ok(format!(in alloc; "{} {data}", listed(alloc, &fields)?.len())?)
 }

@@ -1,21 +1,21 @@
 //! The fixed records: `message BYTES`, `fixed LENGTH BYTES`, `index BYTES` and `mark BYTES`. Each writes the fields, and
 //! then the bytes that are written for them.
 
-use crate::words::{own as word, spaced};
+use crate::words::spaced;
 use jb_base::Bytes;
 use jb_record::{
     EMPTY_SLOT, FixedHeader, MessageHeader, decode_fixed, decode_index, decode_mark,
     decode_message, encode_fixed, encode_index, encode_mark, encode_message,
 };
 use std::alloc::Global;
-use trial_rows::{Row, RowError, hexed};
+use trial_rows::{Row, RowError, hexed, said};
 
 /// A message header: the two reserved bytes and the seventeen numbers behind them.
 pub fn message(alloc: Global, row: &Row) -> Result<String, RowError> {
     let bytes = row.bytes(alloc, 1)?;
     match decode_message(bytes.as_slice()) {
         Some(header) => both_ways(alloc, &message_fields(&header), &encode_message(&header)),
-        None => word(alloc, "none"),
+        None => said(alloc, "none"),
     }
 }
 
@@ -54,7 +54,7 @@ pub fn fixed(alloc: Global, row: &Row) -> Result<String, RowError> {
     let bytes = padded(alloc, row)?;
     match decode_fixed(bytes.as_slice()) {
         Some(header) => fixed_both_ways(alloc, &header),
-        None => word(alloc, "none"),
+        None => said(alloc, "none"),
     }
 }
 
@@ -95,13 +95,13 @@ fn without_zeros(bytes: &[u8]) -> &[u8] {
 pub fn index(alloc: Global, row: &Row) -> Result<String, RowError> {
     let bytes = row.bytes(alloc, 1)?;
     match decode_index(bytes.as_slice()) {
-        Some(entry) if entry.offset == EMPTY_SLOT => word(alloc, "empty"),
+        Some(entry) if entry.offset == EMPTY_SLOT => said(alloc, "empty"),
         Some(entry) => both_ways(
             alloc,
             &[entry.user_crc, entry.offset],
             &encode_index(&entry),
         ),
-        None => word(alloc, "none"),
+        None => said(alloc, "none"),
     }
 }
 
@@ -114,6 +114,6 @@ pub fn mark(alloc: Global, row: &Row) -> Result<String, RowError> {
             &[mark.user_crc, mark.user_id, mark.last, mark.high],
             &encode_mark(&mark),
         ),
-        None => word(alloc, "none"),
+        None => said(alloc, "none"),
     }
 }

@@ -1,10 +1,9 @@
 //! The CRC of JAM, and the text of a MSGID.
 
-use crate::words::own as word;
 use jb_crc::jam_crc;
 use jb_msgid::{MsgId, MsgIdError, parse, print};
 use std::alloc::Global;
-use trial_rows::{Row, RowError, shown};
+use trial_rows::{Row, RowError, said, shown};
 
 /// `crc BYTES`: the CRC in eight hex digits.
 pub fn crc(alloc: Global, row: &Row) -> Result<String, RowError> {
@@ -23,7 +22,7 @@ pub fn msgid(alloc: Global, row: &Row) -> Result<String, RowError> {
 
 fn both_ways(alloc: Global, value: &MsgId) -> Result<String, RowError> {
     if value.address.is_empty() {
-        return word(alloc, "no-address");
+        return said(alloc, "no-address");
     }
     let usual = print(alloc, value)?;
     let usual = shown(alloc, usual.as_slice())?;
@@ -35,7 +34,7 @@ fn refused(alloc: Global, error: MsgIdError) -> Result<String, RowError> {
     match error {
         MsgIdError::NoSerial { at } => Ok(format!(in alloc; "no-serial {at}")?),
         MsgIdError::BadQuote { at } => Ok(format!(in alloc; "bad-quote {at}")?),
-        MsgIdError::EmptyAddress => word(alloc, "empty-address"),
+        MsgIdError::EmptyAddress => said(alloc, "empty-address"),
         MsgIdError::OutOfMemory => Err(RowError::OutOfMemory),
     }
 }

@@ -2,10 +2,10 @@
 ghost use Rattle.std.specs.Prelude.{◌≤◌};
 ghost use Rattle.jb_disk.specs.Files.{ceiling_of};
 
-use crate::spelling::{ceiling, done, file, text};
+use crate::spelling::{ceiling, done, file};
 use jb_disk::{Disk, FileId};
 use std::alloc::Global;
-use trial_rows::{Row, RowError, shown};
+use trial_rows::{Row, RowError, said, shown};
 
 /// What a disk answers to this call, `len`, `read`, `write`, `resize` or `sync`, with the file and the numbers of the row.
 pub(crate) fn called<D: Disk>(
@@ -28,17 +28,17 @@ pub(crate) fn called<D: Disk>(
 fn len<D: Disk>(alloc: Global, disk: &mut D, file: FileId) -> Result<String, RowError> {
     match disk.len(file) {
         Ok(len) => Ok(format!(in alloc; "{len}")?),
-        Err(_) => text(alloc, "failed"),
+        Err(_) => said(alloc, "failed"),
     }
 }
 
 fn read<D: Disk>(alloc: Global, disk: &mut D, file: FileId, row: &Row) -> Result<String, RowError> {
     let at = row.number(3)?;
-    let mut bytes = Vec::new(alloc);
-    bytes.resize(row.u16(4)? as usize, 0)?;
+    let count = row.u16(4)? as usize;
+    let mut bytes = vec![in alloc; 0u8; count]?;
     match disk.read_at(file, at, &mut bytes) {
         Ok(()) => shown(alloc, &bytes),
-        Err(_) => text(alloc, "failed"),
+        Err(_) => said(alloc, "failed"),
     }
 }
 
@@ -61,7 +61,7 @@ fn resize<D: Disk>(
 ) -> Result<String, RowError> {
     let len = row.number(3)?;
     if len > ceiling(file) {
-        return text(alloc, "not-allowed");
+        return said(alloc, "not-allowed");
     }
     done(alloc, disk.set_len(file, len).is_ok())
 }

@@ -1,9 +1,9 @@
 //! A change of lengths and pieces.
 
-use crate::spelling::{file, name, text};
+use crate::spelling::{file, name};
 use jb_disk::{Length, PieceHead, Redo};
 use std::alloc::Global;
-use trial_rows::{Row, RowError, shown};
+use trial_rows::{Row, RowError, said, shown};
 
 /// What the row about the change comes to.
 pub(crate) fn answer(alloc: Global, change: &mut Redo, row: &Row) -> Result<String, RowError> {
@@ -14,7 +14,7 @@ pub(crate) fn answer(alloc: Global, change: &mut Redo, row: &Row) -> Result<Stri
         "copy" => put_copy(change, row)?,
         _ => return asked(alloc, change, row),
     }
-    text(alloc, "ok")
+    said(alloc, "ok")
 }
 
 fn put_length(change: &mut Redo, row: &Row) -> Result<(), RowError> {
@@ -72,7 +72,7 @@ fn lengths(alloc: Global, change: &Redo) -> Result<String, RowError> {
 
 fn piece(alloc: Global, change: &Redo, k: u32) -> Result<String, RowError> {
     if k >= change.pieces() {
-        return text(alloc, "not-allowed");
+        return said(alloc, "not-allowed");
     }
     let head = head(alloc, change.head(k))?;
     let bytes = shown(alloc, change.bytes(k))?;

@@ -1,10 +1,10 @@
 //! Doors and bells in memory, and a bell by the clock that calls are counted for.
 
-use crate::spelling::{done, numbers, text};
+use crate::spelling::done;
 use jb_host::{Accepted, Bell, Door, Link, MemBell, MemDoor, MemLink, Ring, TimedBell, send};
 use std::alloc::Global;
 use std::mem;
-use trial_rows::{Row, RowError, shown};
+use trial_rows::{Row, RowError, said, shown};
 
 /// The links of the next door, the door that was made last, and those of its links that are out, in order.
 #[derive(Drop)]
@@ -42,28 +42,28 @@ fn link(alloc: Global, porch: &mut Porch, row: &Row) -> Result<String, RowError>
     porch
         .next
         .push(MemLink::new(alloc, input, Vec::new(alloc)))?;
-    text(alloc, "ok")
+    said(alloc, "ok")
 }
 
 fn made(alloc: Global, porch: &mut Porch, row: &Row) -> Result<String, RowError> {
-    let failing = numbers(alloc, row, 2)?;
+    let failing = row.numbers(alloc, 2)?;
     let links = mem::replace(&mut porch.next, Vec::new(alloc));
     porch.doors.clear();
     porch.doors.push(MemDoor::new(alloc, links, failing)?)?;
-    text(alloc, "ok")
+    said(alloc, "ok")
 }
 
 fn accepted(alloc: Global, porch: &mut Porch) -> Result<String, RowError> {
     let Some(door) = porch.doors.last_mut() else {
-        return text(alloc, "no-door");
+        return said(alloc, "no-door");
     };
     match door.accept() {
         Ok(Accepted::Call(link)) => {
             porch.out.push(link)?;
-            text(alloc, "call")
+            said(alloc, "call")
         }
-        Ok(Accepted::Shut) => text(alloc, "shut"),
-        Err(_) => text(alloc, "failed"),
+        Ok(Accepted::Shut) => said(alloc, "shut"),
+        Err(_) => said(alloc, "failed"),
     }
 }
 
@@ -71,33 +71,33 @@ fn sent(alloc: Global, porch: &mut Porch, row: &Row) -> Result<String, RowError>
     let bytes = row.bytes(alloc, 2)?;
     match porch.out.last_mut() {
         Some(link) => done(alloc, send(link, bytes.as_slice()).is_ok()),
-        None => text(alloc, "none-is-out"),
+        None => said(alloc, "none-is-out"),
     }
 }
 
 fn hung_up(alloc: Global, porch: &mut Porch) -> Result<String, RowError> {
     let Some(door) = porch.doors.last_mut() else {
-        return text(alloc, "no-door");
+        return said(alloc, "no-door");
     };
     match porch.out.pop() {
         Some(link) => {
             door.hang_up(link);
-            text(alloc, "ok")
+            said(alloc, "ok")
         }
-        None => text(alloc, "none-is-out"),
+        None => said(alloc, "none-is-out"),
     }
 }
 
 fn hung(alloc: Global, porch: &Porch) -> Result<String, RowError> {
     match porch.doors.last() {
         Some(door) => sent_on(alloc, door),
-        None => text(alloc, "no-door"),
+        None => said(alloc, "no-door"),
     }
 }
 
 /// What was sent on each link that this door has back, in order.
 pub(crate) fn sent_on(alloc: Global, door: &MemDoor) -> Result<String, RowError> {
-    let mut all = text(alloc, "sent")?;
+    let mut all = said(alloc, "sent")?;
     for link in door.hung() {
         let sent = shown(alloc, link.sent())?;
         all = format!(in alloc; "{all} {sent}")?;
@@ -124,7 +124,7 @@ const MOST_RINGS: u32 = 8;
 
 /// What a bell rings until it is shut.
 pub(crate) fn rung<B: Bell>(alloc: Global, bell: &mut B) -> Result<String, RowError> {
-    let mut all = text(alloc, "rings")?;
+    let mut all = said(alloc, "rings")?;
     for _ in 0..MOST_RINGS {
         match bell.next() {
             Ring::Pack(area) => all = format!(in alloc; "{all} {area}")?,

@@ -1,10 +1,10 @@
 //! The doors and the bell of a host in memory.
 
 use crate::door::{bell_of, rung, sent_on};
-use crate::spelling::{done, text};
+use crate::spelling::done;
 use jb_host::{Accepted, Door, Host, HostError, MemBell, MemDoor, MemHost, MemLink, send};
 use std::alloc::Global;
-use trial_rows::{Row, RowError};
+use trial_rows::{Row, RowError, said};
 
 /// The doors and bells that a host has handed out, in order.
 #[derive(Drop)]
@@ -49,12 +49,12 @@ fn add(alloc: Global, host: &mut MemHost, row: &Row) -> Result<String, RowError>
     let mut links = Vec::new(alloc);
     links.push(MemLink::new(alloc, input, Vec::new(alloc)))?;
     host.add_door(MemDoor::new(alloc, links, Vec::new(alloc))?)?;
-    text(alloc, "ok")
+    said(alloc, "ok")
 }
 
 fn refused(alloc: Global, error: HostError) -> Result<String, RowError> {
     match error {
-        HostError::Failed => text(alloc, "failed"),
+        HostError::Failed => said(alloc, "failed"),
         HostError::OutOfMemory => Err(RowError::OutOfMemory),
     }
 }
@@ -68,7 +68,7 @@ fn door(
     match host.door(row.u32(2)?, row.u16(3)?, Some(row.u32(4)?)) {
         Ok(door) => {
             out.doors.push(door)?;
-            text(alloc, "out")
+            said(alloc, "out")
         }
         Err(error) => refused(alloc, error),
     }
@@ -78,7 +78,7 @@ fn door(
 fn serve(alloc: Global, out: &mut HandedOut, row: &Row) -> Result<String, RowError> {
     let bytes = row.bytes(alloc, 2)?;
     let Some(door) = out.doors.first_mut() else {
-        return text(alloc, "none-is-out");
+        return said(alloc, "none-is-out");
     };
     match door.accept() {
         Ok(Accepted::Call(mut link)) => {
@@ -86,8 +86,8 @@ fn serve(alloc: Global, out: &mut HandedOut, row: &Row) -> Result<String, RowErr
             door.hang_up(link);
             done(alloc, is_sent)
         }
-        Ok(Accepted::Shut) => text(alloc, "shut"),
-        Err(_) => text(alloc, "failed"),
+        Ok(Accepted::Shut) => said(alloc, "shut"),
+        Err(_) => said(alloc, "failed"),
     }
 }
 
@@ -99,29 +99,29 @@ fn back(
 ) -> Result<String, RowError> {
     let node = row.u32(2)?;
     if out.doors.is_empty() {
-        return text(alloc, "none-is-out");
+        return said(alloc, "none-is-out");
     }
     host.put_door(node, out.doors.remove(0));
-    text(alloc, "ok")
+    said(alloc, "ok")
 }
 
 fn at(alloc: Global, host: &MemHost, row: &Row) -> Result<String, RowError> {
     match host.door_of(row.u32(2)?) {
         Some(door) => sent_on(alloc, door),
-        None => text(alloc, "none"),
+        None => said(alloc, "none"),
     }
 }
 
 fn add_bell(alloc: Global, host: &mut MemHost, row: &Row) -> Result<String, RowError> {
     host.add_bell(bell_of(alloc, row, 2)?);
-    text(alloc, "ok")
+    said(alloc, "ok")
 }
 
 fn bell(alloc: Global, host: &mut MemHost, out: &mut HandedOut) -> Result<String, RowError> {
     match host.bell(1, 60, None) {
         Ok(bell) => {
             out.bells.push(bell)?;
-            text(alloc, "out")
+            said(alloc, "out")
         }
         Err(error) => refused(alloc, error),
     }
@@ -130,7 +130,7 @@ fn bell(alloc: Global, host: &mut MemHost, out: &mut HandedOut) -> Result<String
 fn listen(alloc: Global, out: &mut HandedOut) -> Result<String, RowError> {
     match out.bells.last_mut() {
         Some(bell) => rung(alloc, bell),
-        None => text(alloc, "none-is-out"),
+        None => said(alloc, "none-is-out"),
     }
 }
 
@@ -138,8 +138,8 @@ fn bell_back(alloc: Global, host: &mut MemHost, out: &mut HandedOut) -> Result<S
     match out.bells.pop() {
         Some(bell) => {
             host.put_bell(bell);
-            text(alloc, "ok")
+            said(alloc, "ok")
         }
-        None => text(alloc, "none-is-out"),
+        None => said(alloc, "none-is-out"),
     }
 }

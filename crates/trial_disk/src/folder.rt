@@ -1,12 +1,11 @@
 //! A disk over real files.
 
 use crate::calling::called;
-use crate::spelling::text;
 use jb_disk::Disk;
 use jb_files::FolderDisk;
 use std::alloc::Global;
 use std::fs;
-use trial_rows::{Row, RowError};
+use trial_rows::{Row, RowError, said};
 
 /// What the row about the disk over real files comes to.
 pub(crate) fn answer(
@@ -33,7 +32,7 @@ fn made(
     let disk = FolderDisk::new(rt, alloc, row.word(2)?, row.word(3)?)?;
     disks.clear();
     disks.push(disk)?;
-    text(alloc, "ok")
+    said(alloc, "ok")
 }
 
 fn asked(
@@ -60,7 +59,7 @@ fn as_the_system(
         .open(&rt, row.word(5)?)
         .is_ok();
     let answer = called(alloc, disk, "write", row)?;
-    text(
+    said(
         alloc,
         if (answer.as_str() == "ok") == is_open {
             "same"

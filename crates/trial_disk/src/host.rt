@@ -1,12 +1,11 @@
 //! A host in memory: its disks, its console and its clocks.
 
 use crate::memory::disk;
-use crate::spelling::{numbers, text};
 use jb_base::Bytes;
 use jb_disk::{FileId, MemDisk};
 use jb_host::{Clock, Host, HostError, MemHost, MemLink, send};
 use std::alloc::Global;
-use trial_rows::{Row, RowError, shown};
+use trial_rows::{Row, RowError, said, shown};
 
 /// A host without a disk that fails the calls for a disk or for settings with these numbers.
 pub(crate) fn host(alloc: Global, failing: Vec<u64>) -> MemHost {
@@ -20,10 +19,14 @@ fn with_reading(alloc: Global, reading: u32, failing: Vec<u64>) -> MemHost {
 
 /// What a clock of a host with this reading gives, and then another.
 pub(crate) fn clock(alloc: Global, row: &Row) -> Result<String, RowError> {
-    let mut host = with_reading(alloc, row.u32(1)?, Vec::new(alloc));
+    let (first, second) = readings(with_reading(alloc, row.u32(1)?, Vec::new(alloc)));
+    Ok(format!(in alloc; "{first} {second}")?)
+}
+
+fn readings(mut host: MemHost) -> (u32, u32) {
     let first = host.clock().now();
     let second = host.clock().now();
-    Ok(format!(in alloc; "{first} {second}")?)
+    (first, second)
 }
 
 /// What the row about the host comes to. What it hands out is put beside it.
@@ -46,9 +49,9 @@ pub(crate) fn answer(
 }
 
 fn made(alloc: Global, host: &mut MemHost, row: &Row) -> Result<String, RowError> {
-    let failing = numbers(alloc, row, 2)?;
+    let failing = row.numbers(alloc, 2)?;
     *host = self::host(alloc, failing);
-    text(alloc, "ok")
+    said(alloc, "ok")
 }
 
 // A word of a row that is a folder or a name, where `-` is an empty text.
@@ -60,10 +63,10 @@ fn named(row: &Row, place: usize) -> Result<&str, RowError> {
 }
 
 fn add(alloc: Global, host: &mut MemHost, row: &Row) -> Result<String, RowError> {
+    let (dir, name) = (named(row, 2)?, named(row, 3)?);
     let headers = row.bytes(alloc, 4)?;
-    let disk = disk(alloc, headers, Vec::new(alloc))?;
-    host.add_disk(named(row, 2)?, named(row, 3)?, disk)?;
-    text(alloc, "ok")
+    host.add_disk(dir, name, disk(alloc, headers, Vec::new(alloc))?)?;
+    said(alloc, "ok")
 }
 
 fn handed_out(
@@ -75,9 +78,9 @@ fn handed_out(
     match host.disk(named(row, 2)?, named(row, 3)?) {
         Ok(disk) => {
             out.push(disk)?;
-            text(alloc, "out")
+            said(alloc, "out")
         }
-        Err(HostError::Failed) => text(alloc, "failed"),
+        Err(HostError::Failed) => said(alloc, "failed"),
         Err(HostError::OutOfMemory) => Err(RowError::OutOfMemory),
     }
 }
@@ -92,29 +95,29 @@ fn put_back(
     match out.pop() {
         Some(disk) => {
             host.put_back(dir, name, disk);
-            text(alloc, "ok")
+            said(alloc, "ok")
         }
-        None => text(alloc, "none-is-out"),
+        None => said(alloc, "none-is-out"),
     }
 }
 
 fn stands(alloc: Global, host: &MemHost, row: &Row) -> Result<String, RowError> {
     match host.disk_at(named(row, 2)?, named(row, 3)?) {
         Some(disk) => shown(alloc, disk.file(FileId::Jhr)),
-        None => text(alloc, "none"),
+        None => said(alloc, "none"),
     }
 }
 
 fn write(alloc: Global, host: &mut MemHost, row: &Row) -> Result<String, RowError> {
-    let bytes = row.bytes(alloc, 3)?;
-    host.add_settings(named(row, 2)?, bytes)?;
-    text(alloc, "ok")
+    let path = named(row, 2)?;
+    host.add_settings(path, row.bytes(alloc, 3)?)?;
+    said(alloc, "ok")
 }
 
 fn settings(alloc: Global, host: &mut MemHost, row: &Row) -> Result<String, RowError> {
     match host.settings(named(row, 2)?) {
         Ok(bytes) => shown(alloc, bytes.as_slice()),
-        Err(HostError::Failed) => text(alloc, "failed"),
+        Err(HostError::Failed) => said(alloc, "failed"),
         Err(HostError::OutOfMemory) => Err(RowError::OutOfMemory),
     }
 }
@@ -126,17 +129,27 @@ pub(crate) fn console(alloc: Global, row: &Row) -> Result<String, RowError> {
     let output = row.bytes(alloc, 2)?;
     let link = MemLink::new(alloc, input, Vec::new(alloc));
     let mut host = MemHost::new(alloc, link, 0, Vec::new(alloc));
-    let mut console = host.console();
-    let out = at_console(alloc, &host)?;
-    let is_sent = send(&mut console, output.as_slice()).is_ok();
+    let console = host.console();
+    spoken(alloc, &mut host, console, output.as_slice())
+}
+
+// What such a host answers while this console is out, on which the output is sent, and once it is back.
+fn spoken(
+    alloc: Global,
+    host: &mut MemHost,
+    mut console: MemLink,
+    output: &[u8],
+) -> Result<String, RowError> {
+    let out = at_console(alloc, host)?;
+    let is_sent = send(&mut console, output).is_ok();
     host.put_console(console);
-    let back = at_console(alloc, &host)?;
+    let back = at_console(alloc, host)?;
     Ok(format!(in alloc; "{out} {is_sent} {back}")?)
 }
 
 fn at_console(alloc: Global, host: &MemHost) -> Result<String, RowError> {
     match host.console_link() {
         Some(link) => shown(alloc, link.sent()),
-        None => text(alloc, "none"),
+        None => said(alloc, "none"),
     }
 }

@@ -1,9 +1,9 @@
 //! A link in memory.
 
-use crate::spelling::{done, numbers, text};
+use crate::spelling::done;
 use jb_host::{Link, MemLink, send};
 use std::alloc::Global;
-use trial_rows::{Row, RowError, shown};
+use trial_rows::{Row, RowError, said, shown};
 
 /// What the row about the link comes to. What is read goes into the same three bytes each time.
 pub(crate) fn answer(
@@ -24,15 +24,15 @@ pub(crate) fn answer(
 
 fn made(alloc: Global, link: &mut MemLink, row: &Row) -> Result<String, RowError> {
     let input = row.bytes(alloc, 2)?;
-    let failing = numbers(alloc, row, 3)?;
+    let failing = row.numbers(alloc, 3)?;
     *link = MemLink::new(alloc, input, failing);
-    text(alloc, "ok")
+    said(alloc, "ok")
 }
 
 fn read(alloc: Global, link: &mut MemLink, into: &mut [u8; 3]) -> Result<String, RowError> {
     let count = match link.read(into) {
         Ok(count) => format!(in alloc; "{count}")?,
-        Err(_) => text(alloc, "failed")?,
+        Err(_) => said(alloc, "failed")?,
     };
     let bytes = shown(alloc, into)?;
     Ok(format!(in alloc; "{count} {bytes}")?)
@@ -42,7 +42,7 @@ fn write(alloc: Global, link: &mut MemLink, row: &Row) -> Result<String, RowErro
     let bytes = row.bytes(alloc, 2)?;
     match link.write(bytes.as_slice()) {
         Ok(count) => Ok(format!(in alloc; "{count}")?),
-        Err(_) => text(alloc, "failed"),
+        Err(_) => said(alloc, "failed"),
     }
 }
 

@@ -2,11 +2,11 @@
 ghost use Rattle.std.specs.Prelude.{◌≤◌, length};
 
 use crate::calling::called;
-use crate::spelling::{file, numbers, text};
+use crate::spelling::file;
 use jb_base::{Bytes, OutOfMemory};
 use jb_disk::{FileId, MemDisk};
 use std::alloc::Global;
-use trial_rows::{Row, RowError, shown};
+use trial_rows::{Row, RowError, said, shown};
 
 /// What the row about the disk in memory comes to.
 pub(crate) fn answer(
@@ -42,9 +42,9 @@ pub(crate) fn disk(
 
 fn made(alloc: Global, disks: &mut Vec<MemDisk>, row: &Row) -> Result<String, RowError> {
     let headers = row.bytes(alloc, 2)?;
-    let failing = numbers(alloc, row, 3)?;
+    let failing = row.numbers(alloc, 3)?;
     disks.push(disk(alloc, headers, failing)?)?;
-    text(alloc, "ok")
+    said(alloc, "ok")
 }
 
 fn asked(alloc: Global, disk: &mut MemDisk, row: &Row) -> Result<String, RowError> {
@@ -60,7 +60,7 @@ fn crashed(alloc: Global, disk: &MemDisk, row: &Row) -> Result<String, RowError>
     let after = row.number(2)?;
     let pick = row.number(3)?;
     if after > disk.calls() || pick > 3 {
-        return text(alloc, "not-allowed");
+        return said(alloc, "not-allowed");
     }
     left(alloc, disk, after, pick as u8, file(row, 4)?)
 }

@@ -1,10 +1,10 @@
 //! What stands in the folder where the trials run.
 
-use crate::spelling::{done, text};
+use crate::spelling::done;
 use std::alloc::Global;
 use std::fs;
 use std::os::unix::fs::PermissionsExt;
-use trial_rows::{Row, RowError, shown};
+use trial_rows::{Row, RowError, said, shown};
 
 /// What the row about the real files comes to.
 pub(crate) fn answer(rt: HostRuntime, alloc: Global, row: &Row) -> Result<String, RowError> {
@@ -12,7 +12,7 @@ pub(crate) fn answer(rt: HostRuntime, alloc: Global, row: &Row) -> Result<String
     match row.word(1)? {
         "clear" => {
             let _ = fs::remove_dir_all(&rt, path);
-            text(alloc, "ok")
+            said(alloc, "ok")
         }
         "folder" => done(alloc, fs::create_dir(&rt, path).is_ok()),
         "put" => put(rt, alloc, path, row),
@@ -33,6 +33,6 @@ fn put(rt: HostRuntime, alloc: Global, path: &str, row: &Row) -> Result<String, 
 fn show(rt: HostRuntime, alloc: Global, path: &str) -> Result<String, RowError> {
     match fs::read(&rt, path) {
         Ok(bytes) => shown(alloc, bytes.as_slice()),
-        Err(_) => text(alloc, "none"),
+        Err(_) => said(alloc, "none"),
     }
 }

@@ -2,10 +2,10 @@
 
 use crate::calling::called;
 use crate::memory::disk;
-use crate::spelling::{file, numbers, text};
+use crate::spelling::file;
 use jb_disk::{MemDisk, SilentDisk};
 use std::alloc::Global;
-use trial_rows::{Row, RowError, shown};
+use trial_rows::{Row, RowError, said, shown};
 
 /// What the row about the silent disk comes to.
 pub(crate) fn answer(
@@ -27,9 +27,10 @@ fn made(
     disks: &mut Vec<SilentDisk<MemDisk>>,
     row: &Row,
 ) -> Result<String, RowError> {
-    let memory = disk(alloc, row.bytes(alloc, 2)?, numbers(alloc, row, 4)?)?;
-    disks.push(SilentDisk::stopping(memory, row.number(3)?))?;
-    text(alloc, "ok")
+    let limit = row.number(3)?;
+    let memory = disk(alloc, row.bytes(alloc, 2)?, row.numbers(alloc, 4)?)?;
+    disks.push(SilentDisk::stopping(memory, limit))?;
+    said(alloc, "ok")
 }
 
 fn asked(alloc: Global, silent: &mut SilentDisk<MemDisk>, row: &Row) -> Result<String, RowError> {

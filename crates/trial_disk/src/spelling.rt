@@ -8,7 +8,7 @@ use jb_base::{
 };
 use jb_disk::FileId;
 use std::alloc::Global;
-use trial_rows::{Row, RowError};
+use trial_rows::{Row, RowError, said};
 
 /// The file that the word at this place names.
 pub(crate) fn file(row: &Row, place: usize) -> Result<FileId, RowError> {
@@ -49,21 +49,7 @@ pub(crate) fn ceiling(file: FileId) -> u64
     }
 }
 
-/// The numbers from this place on.
-pub(crate) fn numbers(alloc: Global, row: &Row, from: usize) -> Result<Vec<u64>, RowError> {
-    let mut numbers = Vec::new(alloc);
-    for place in from..row.len() {
-        numbers.push(row.number(place)?)?;
-    }
-    Ok(numbers)
-}
-
-/// A word as a text of its own.
-pub(crate) fn text(alloc: Global, word: &str) -> Result<String, RowError> {
-    Ok(String::from_str(alloc, word)?)
-}
-
 /// The word for a call that answers nothing but whether it was done.
 pub(crate) fn done(alloc: Global, is_ok: bool) -> Result<String, RowError> {
-    text(alloc, if is_ok { "ok" } else { "failed" })
+    said(alloc, if is_ok { "ok" } else { "failed" })
 }

@@ -1,10 +1,10 @@
 //! A steady disk.
 
 use crate::calling::called;
-use crate::spelling::{file, text};
+use crate::spelling::file;
 use jb_disk::SteadyDisk;
 use std::alloc::Global;
-use trial_rows::{Row, RowError, shown};
+use trial_rows::{Row, RowError, said, shown};
 
 /// What the row about the steady disk comes to.
 pub(crate) fn answer(
@@ -23,7 +23,7 @@ pub(crate) fn answer(
 
 fn made(alloc: Global, disks: &mut Vec<SteadyDisk>, row: &Row) -> Result<String, RowError> {
     disks.push(SteadyDisk::new(alloc, row.number(2)?)?)?;
-    text(alloc, "ok")
+    said(alloc, "ok")
 }
 
 fn asked(alloc: Global, disk: &mut SteadyDisk, row: &Row) -> Result<String, RowError> {

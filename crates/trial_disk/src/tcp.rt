@@ -1,13 +1,12 @@
 //! Doors and links over sockets of this machine.
 
-use crate::spelling::text;
 use jb_base::Bytes;
 use jb_host::{Accepted, Door, Host, HostError, Link, RealHost, TcpDoor, TcpLink, send};
 use std::alloc::Global;
 use std::io;
 use std::io::{Read, Write};
 use std::net::{Ipv4Addr, Shutdown, TcpListener, TcpStream};
-use trial_rows::{Row, RowError, shown};
+use trial_rows::{Row, RowError, said, shown};
 
 /// What the row about sockets comes to.
 pub(crate) fn answer(rt: HostRuntime, alloc: Global, row: &Row) -> Result<String, RowError> {
@@ -35,10 +34,10 @@ fn heard(alloc: Global, link: &mut TcpLink) -> Result<String, RowError> {
         match link.read(&mut piece) {
             Ok(0) => return shown(alloc, all.as_slice()),
             Ok(n) => all.append(&piece[..n])?,
-            Err(_) => return text(alloc, "failed"),
+            Err(_) => return said(alloc, "failed"),
         }
     }
-    text(alloc, "endless")
+    said(alloc, "endless")
 }
 
 // The bytes that a caller is sent until the end.
@@ -46,7 +45,7 @@ fn got(alloc: Global, caller: &mut TcpStream) -> Result<String, RowError> {
     let mut bytes = Vec::new(alloc);
     match caller.read_to_end(&mut bytes) {
         Ok(_) => shown(alloc, &bytes),
-        Err(_) => text(alloc, "failed"),
+        Err(_) => said(alloc, "failed"),
     }
 }
 
@@ -71,20 +70,40 @@ fn accepted(door: &mut TcpDoor<HostRuntime>) -> &'static str {
 
 // What the caller has said, what it is sent, and what the door answers behind its last call.
 fn talk(rt: HostRuntime, alloc: Global, row: &Row) -> Result<String, RowError> {
-    let said = row.bytes(alloc, 2)?;
-    let answered = row.bytes(alloc, 3)?;
-    let Ok((mut door, mut caller)) = met(rt, said.as_slice()) else {
-        return text(alloc, "no-socket");
+    let words = row.bytes(alloc, 2)?;
+    let answer = row.bytes(alloc, 3)?;
+    match met(rt, words.as_slice()) {
+        Ok((mut door, mut caller)) => talked(alloc, &mut door, &mut caller, answer.as_slice()),
+        Err(_) => said(alloc, "no-socket"),
+    }
+}
+
+fn talked(
+    alloc: Global,
+    door: &mut TcpDoor<HostRuntime>,
+    caller: &mut TcpStream,
+    answer: &[u8],
+) -> Result<String, RowError> {
+    let Some(link) = called(door) else {
+        return said(alloc, "no-call");
     };
-    let Some(mut link) = called(&mut door) else {
-        return text(alloc, "no-call");
-    };
+    let answered = answered(alloc, door, link, answer)?;
+    let got = got(alloc, caller)?;
+    let last = accepted(door);
+    Ok(format!(in alloc; "{answered} {got} {last}")?)
+}
+
+// What is heard on a link, and whether the answer is sent, before it is hung up.
+fn answered(
+    alloc: Global,
+    door: &mut TcpDoor<HostRuntime>,
+    mut link: TcpLink,
+    answer: &[u8],
+) -> Result<String, RowError> {
     let heard = heard(alloc, &mut link)?;
-    let is_sent = send(&mut link, answered.as_slice()).is_ok();
+    let is_sent = send(&mut link, answer).is_ok();
     door.hang_up(link);
-    let got = got(alloc, &mut caller)?;
-    let last = accepted(&mut door);
-    Ok(format!(in alloc; "{heard} {is_sent} {got} {last}")?)
+    Ok(format!(in alloc; "{heard} {is_sent}")?)
 }
 
 // A port that is free for now.
@@ -102,15 +121,15 @@ fn caller_at(rt: HostRuntime, port: u16) -> io::Result<TcpStream> {
 // What two doors of a host at one port answer to two callers and then, and what another host is answered that asks for that port.
 fn ports(rt: HostRuntime, alloc: Global) -> Result<String, RowError> {
     let Ok(port) = free_port(rt) else {
-        return text(alloc, "no-socket");
+        return said(alloc, "no-socket");
     };
     let mut host = RealHost::new(rt, rt, alloc);
     let (Ok(mut one), Ok(mut two)) = (host.door(1, port, Some(1)), host.door(2, port, Some(1)))
     else {
-        return text(alloc, "no-door");
+        return said(alloc, "no-door");
     };
     let (Ok(first), Ok(second)) = (caller_at(rt, port), caller_at(rt, port)) else {
-        return text(alloc, "no-caller");
+        return said(alloc, "no-caller");
     };
     let calls = (accepted(&mut two), accepted(&mut one));
     let ends = (accepted(&mut one), accepted(&mut two));

@@ -70,10 +70,14 @@ pub fn broken(alloc: Global, file: &[u8], row: &Row) -> Result<String, RowError>
 /// `board`: the fields of the board itself.
 pub fn board(alloc: Global, file: &[u8]) -> Result<String, RowError> {
     let board = board_of(alloc, file)?;
+    board_line(alloc, &board)
+}
+
+fn board_line(alloc: Global, board: &Board) -> Result<String, RowError> {
     let mut line = shown(alloc, board.name.as_slice())?;
     line.push_str(" address ")?;
     line.push_str(shown(alloc, board.address.as_slice())?.as_str())?;
-    line.push_str(numbers_of(alloc, &board)?.as_str())?;
+    line.push_str(numbers_of(alloc, board)?.as_str())?;
     Ok(line)
 }
 

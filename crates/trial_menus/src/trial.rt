@@ -62,6 +62,12 @@ impl Trial {
         }
     }
 
+    /// What the session does with a line.
+    fn told(&mut self, alloc: Global, line: &[u8]) -> Result<String, RowError> {
+        let given = typed(line)?;
+        self.step(alloc, &given)
+    }
+
     /// What the session does with a line, where it is not what these words say already.
     fn type_line(
         &mut self,
@@ -69,7 +75,7 @@ impl Trial {
         line: &[u8],
         words: &mut String,
     ) -> Result<(), RowError> {
-        let told = self.step(alloc, &typed(line)?)?;
+        let told = self.told(alloc, line)?;
         if told.as_str() != words.as_str() {
             words.push_str(told.as_str())?;
         }

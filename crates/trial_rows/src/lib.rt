@@ -17,4 +17,4 @@ pub use error::RowError;
 pub use listing::listed;
 pub use row::Row;
 pub use running::{Answers, run};
-pub use showing::{hexed, shown};
+pub use showing::{hexed, said, shown};

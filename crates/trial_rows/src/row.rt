@@ -57,6 +57,23 @@ impl Row {
         }
     }
 
+    /// The number of at most 8 bits at this place.
+    pub fn u8(&self, place: usize) -> Result<u8, RowError> {
+        match u8::try_from(self.number(place)?) {
+            Ok(number) => Ok(number),
+            Err(_) => Err(RowError::Number(place)),
+        }
+    }
+
+    /// The numbers from this place on.
+    pub fn numbers(&self, alloc: Global, from: usize) -> Result<Vec<u64>, RowError> {
+        let mut numbers = Vec::new(alloc);
+        for place in from..self.len() {
+            numbers.push(self.number(place)?)?;
+        }
+        Ok(numbers)
+    }
+
     /// The bytes at this place.
     pub fn bytes(&self, alloc: Global, place: usize) -> Result<Bytes, RowError> {
         let word = self.word(place)?;

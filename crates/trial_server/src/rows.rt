@@ -4,9 +4,9 @@ use crate::base::{copied, empty, held, listed};
 use crate::callers::{Caller, caller_in, door_of, lines_from, numbers_from};
 use crate::held::{HeldDoor, Side};
 use crate::keeping::{Keeps, Worked};
-use crate::serving::{board_of, run};
+use crate::serving::{Ended, board_of, run};
 use crate::signals::Signals;
-use jb_base::Bytes;
+use jb_base::{Bytes, OutOfMemory};
 use jb_disk::MemDisk;
 use jb_host::{MemBell, MemDoor};
 use std::alloc::Global;
@@ -39,6 +39,21 @@ fn rings_from(alloc: Global, row: &Row, place: usize) -> Result<Vec<u32>, RowErr
         rings.push(row.u32(at)?)?;
     }
     Ok(rings)
+}
+
+// The doors of two callers who wait for one another.
+fn held_doors<'a>(
+    alloc: Global,
+    signals: &'a Signals,
+    first: Caller,
+    second: Caller,
+) -> Result<Vec<HeldDoor<'a>>, RowError> {
+    let first = HeldDoor::new(alloc, signals, Side::First, first);
+    let second = HeldDoor::new(alloc, signals, Side::Second, second);
+    let mut doors = Vec::new(alloc);
+    doors.push(first)?;
+    doors.push(second)?;
+    Ok(doors)
 }
 
 impl Trial {
@@ -89,7 +104,27 @@ impl Trial {
         said(alloc, "door")
     }
 
-    // All work at these doors and at this bell. The base is then what the disk holds.
+    // A copy of the base, on a disk that fails the calls that are to fail in this run alone.
+    fn disk(&mut self, alloc: Global) -> Result<MemDisk, OutOfMemory> {
+        let failing = mem::replace(&mut self.failing, Vec::new(alloc));
+        copied(alloc, &self.base, failing)
+    }
+
+    // Keeps what came of a run: the base is now what the disk holds.
+    fn keep(&mut self, alloc: Global, ended: Ended) -> Result<String, RowError> {
+        let packs = ended.packs;
+        let stands = if ended.is_doubtful {
+            "in doubt"
+        } else {
+            "at rest"
+        };
+        self.worked = ended.nodes;
+        self.calls = ended.disk.calls();
+        self.base = ended.disk;
+        Ok(format!(in alloc; "{packs} packed, {stands}")?)
+    }
+
+    // All work at these doors and at this bell.
     fn work<T: Threads + Wait + Sync, R: Keeps + Drop + Send>(
         &mut self,
         rt: &T,
@@ -100,19 +135,9 @@ impl Trial {
     where
         R::Link: Send,
     {
-        let failing = mem::replace(&mut self.failing, Vec::new(alloc));
-        let disk = copied(alloc, &self.base, failing)?;
+        let disk = self.disk(alloc)?;
         let ended = run(rt, alloc, self.settings.as_slice(), disk, doors, bell)?;
-        let stands = if ended.is_doubtful {
-            "in doubt"
-        } else {
-            "at rest"
-        };
-        let packs = ended.packs;
-        self.worked = ended.nodes;
-        self.calls = ended.disk.calls();
-        self.base = ended.disk;
-        Ok(format!(in alloc; "{packs} packed, {stands}")?)
+        self.keep(alloc, ended)
     }
 
     /// `serve AREA..`: the nodes serve, while the bell rings for these areas.
@@ -137,9 +162,7 @@ impl Trial {
             return Err(RowError::Unknown(0));
         };
         let signals = Signals::new();
-        let mut doors = Vec::new(alloc);
-        doors.push(HeldDoor::new(alloc, &signals, Side::First, first))?;
-        doors.push(HeldDoor::new(alloc, &signals, Side::Second, second))?;
+        let doors = held_doors(alloc, &signals, first, second)?;
         self.work(rt, alloc, doors, MemBell::new(Vec::new(alloc)))
     }
 

@@ -130,6 +130,21 @@ pub(crate) fn open_on<D: Disk + Drop>(alloc: Global, disk: D) -> Result<OpenArea
     }
 }
 
+/// The disk of the base behind its area that was opened and closed.
+pub(crate) fn closed(alloc: Global, base: &MemDisk) -> Result<MemDisk, RowError> {
+    let disk = copied(alloc, base, Vec::new(alloc))?;
+    Ok(open_on(alloc, disk)?.close())
+}
+
+// These numbers, each raised by so many.
+fn raised(alloc: Global, numbers: &[u64], by: u64) -> Result<Vec<u64>, OutOfMemory> {
+    let mut raised = Vec::new(alloc);
+    for number in numbers {
+        raised.push(number.saturating_add(by))?;
+    }
+    Ok(raised)
+}
+
 /// Opens the area of the base, on a disk that fails these of its calls, counted from 1 once the area is open.
 pub(crate) fn open(
     alloc: Global,
@@ -138,12 +153,7 @@ pub(crate) fn open(
 ) -> Result<OpenArea<MemDisk>, RowError>
     ensures { IfOk result (HasRest device_of) }
 {
-    let calls = open_on(alloc, copied(alloc, base, Vec::new(alloc))?)?
-        .close()
-        .calls();
-    let mut raised = Vec::new(alloc);
-    for number in failing {
-        raised.push(number.saturating_add(calls))?;
-    }
-    open_on(alloc, copied(alloc, base, raised)?)
+    let calls = closed(alloc, base)?.calls();
+    let failing = raised(alloc, failing, calls)?;
+    open_on(alloc, copied(alloc, base, failing)?)
 }

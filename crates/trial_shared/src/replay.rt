@@ -1,13 +1,13 @@
 //! What was noted is asked of the plain program again.
 
 use crate::asking::{Act, MOMENT, command_of};
-use crate::base::{open, rules};
+use crate::base::{closed, open, rules};
 use crate::noted::{Deed, Noted, Told, caller_at};
 use crate::same::same_area;
 use jb_base::AreaRules;
 use jb_disk::{FileId, MemDisk};
 use jb_model::{Area, Asked, Figures, Loaded, Marks, Slots};
-use jb_plain::{may_run, run_slow};
+use jb_plain::{Replies, may_run, run_slow};
 use std::alloc::Global;
 use std::mem;
 use trial_rows::RowError;
@@ -42,22 +42,43 @@ fn empty(alloc: Global) -> Area {
     }
 }
 
+// What is asked at this node.
+fn asked_at(alloc: Global, node: u32, act: Act, number: u32) -> Result<Asked, RowError> {
+    let user = caller_at(alloc, node)?.user;
+    let command = command_of(alloc, &user, act, number)?;
+    Ok(Asked {
+        user,
+        moment: MOMENT,
+        command,
+    })
+}
+
 impl Again {
-    // Asks this of the plain program, and gives its reply in words.
-    fn ask(&mut self, alloc: Global, node: u32, act: Act, number: u32) -> Result<String, RowError> {
-        let user = caller_at(alloc, node)?.user;
-        let command = command_of(alloc, &user, act, number)?;
+    // Nothing is asked yet; these of the stopped calls stand.
+    fn new(alloc: Global, standing: u32) -> Result<Again, RowError> {
+        Ok(Again {
+            rules: rules(alloc)?,
+            area: empty(alloc),
+            standing,
+            doubt: false,
+        })
+    }
+
+    // Asks these of the plain program.
+    fn run(&mut self, alloc: Global, asked: &[Asked]) -> Result<Replies, RowError> {
         let area = mem::replace(&mut self.area, empty(alloc));
         if !may_run(&area, self.rules.slots) {
             return Err(RowError::Unknown(0));
         }
-        let asked = [Asked {
-            user,
-            moment: MOMENT,
-            command,
-        }];
-        let (area, replies) = run_slow(alloc, &self.rules, area, &asked)?;
+        let (area, replies) = run_slow(alloc, &self.rules, area, asked)?;
         self.area = area;
+        Ok(replies)
+    }
+
+    // Asks this of the plain program, and gives its reply in words.
+    fn ask(&mut self, alloc: Global, node: u32, act: Act, number: u32) -> Result<String, RowError> {
+        let asked = [asked_at(alloc, node, act, number)?];
+        let replies = self.run(alloc, &asked)?;
         Ok(format!(in alloc; "{:?}", replies.as_slice())?)
     }
 
@@ -90,22 +111,28 @@ impl Again {
             _ => Ok(false),
         }
     }
+
+    // Whether what came of each deed is what comes of it here.
+    fn agrees_to_all(&mut self, alloc: Global, noted: &[Noted]) -> Result<bool, RowError> {
+        for one in noted {
+            if !self.agrees(alloc, one)? {
+                return Ok(false);
+            }
+        }
+        Ok(true)
+    }
 }
 
-// The area behind all that was noted, where it all agrees and these calls stand.
-fn replayed(alloc: Global, noted: &[Noted], standing: u32) -> Result<Option<Area>, RowError> {
-    let mut again = Again {
-        rules: rules(alloc)?,
-        area: empty(alloc),
-        standing,
-        doubt: false,
-    };
-    for one in noted {
-        if !again.agrees(alloc, one)? {
-            return Ok(None);
-        }
-    }
-    Ok(Some(again.area))
+// Whether it all agrees and comes to this area with these texts, where these of the stopped calls stand.
+fn comes_to_it(
+    alloc: Global,
+    noted: &[Noted],
+    standing: u32,
+    loaded: &Loaded,
+    texts: &[u8],
+) -> Result<bool, RowError> {
+    let mut again = Again::new(alloc, standing)?;
+    Ok(again.agrees_to_all(alloc, noted)? && same_area(&again.area, loaded, texts))
 }
 
 // Whether it all agrees and comes to this area with these texts, where some of the stopped calls stand.
@@ -117,9 +144,7 @@ fn comes_to(
 ) -> Result<bool, RowError> {
     let stopped = stopped_among(noted).min(MOST_STOPPED);
     for standing in 0..1_u32 << stopped {
-        if let Some(area) = replayed(alloc, noted, standing)?
-            && same_area(&area, loaded, texts)
-        {
+        if comes_to_it(alloc, noted, standing, loaded, texts)? {
             return Ok(true);
         }
     }
@@ -129,7 +154,9 @@ fn comes_to(
 /// Whether the plain program, asked the same one after another, answers the same and comes to the area of the base. A call that
 /// the device stopped may stand or not.
 pub(crate) fn replays(alloc: Global, noted: &[Noted], base: &MemDisk) -> Result<bool, RowError> {
-    let base = open(alloc, base, &[])?.close();
+    let base = closed(alloc, base)?;
     let found = open(alloc, &base, &[])?;
-    comes_to(alloc, noted, found.loaded(), base.file(FileId::Jdt))
+    let answer = comes_to(alloc, noted, found.loaded(), base.file(FileId::Jdt));
+    let _disk = found.close();
+    answer
 }

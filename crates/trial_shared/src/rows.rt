@@ -1,6 +1,7 @@
 //! The rows.
 ghost use Rattle.std.specs.Prelude.{◌<◌, ◌≤◌, IfOk};
 ghost use Rattle.jb_area.specs.Calls.{HasRest};
+ghost use Rattle.jb_disk.specs.Memory.{device_of};
 
 use crate::asking::{Caller, act_of, caller_named, command_of};
 use crate::base::{copied, empty, lengthened, open, open_on};
@@ -84,31 +85,46 @@ fn plan_in<'a>(row: &Row) -> Result<Plan<'a>, RowError> {
     }
 }
 
-// The nodes follow the plan. What they noted, in order, and the disk behind it.
+// What the nodes noted, in order.
+fn in_order(alloc: Global, log: Mutex<Vec<Noted>>) -> Result<Vec<Noted>, RowError> {
+    let mut noted = log.into_inner();
+    noted.as_mut_slice().sort_by_key(alloc, |one| one.order)?;
+    Ok(noted)
+}
+
+// The nodes follow the plan and note what they do. The disk behind it.
 fn followed<D: Disk + Drop + Send + Sync, R: Threads + Wait + Sync>(
     rt: &R,
     alloc: Global,
     area: OpenArea<D>,
+    log: &Mutex<Vec<Noted>>,
     plan: Plan,
-) -> Result<(Vec<Noted>, D), RowError>
+) -> Result<D, RowError>
     requires rest { HasRest D.device area }
 {
-    let Ok(mut shared) = Shared::new(rt, alloc, area, plan.nodes()) else {
-        return Err(RowError::OutOfMemory);
-    };
-    let log = Mutex::new(Vec::new(alloc));
-    shared.follow(rt, alloc, &log, plan);
-    match shared.close(rt, u32::MAX) {
-        Ok(area) => {
-            let mut noted = log.into_inner();
-            noted.as_mut_slice().sort_by_key(alloc, |one| one.order)?;
-            Ok((noted, area.close()))
-        }
-        Err((shared, _refusal)) => {
-            shared.end(rt);
-            Err(RowError::OutOfMemory)
-        }
-    }
+    let mut shared = Shared::new(rt, alloc, area, plan.nodes())?;
+    shared.follow(rt, alloc, log, plan);
+    Ok(shared.end(rt))
+}
+
+// The nodes follow the plan in the area of this disk. The disk behind it.
+fn followed_on<D: Disk + Drop + Send + Sync, R: Threads + Wait + Sync>(
+    rt: &R,
+    alloc: Global,
+    disk: D,
+    log: &Mutex<Vec<Noted>>,
+    plan: Plan,
+) -> Result<D, RowError> {
+    followed(rt, alloc, open_on(alloc, disk)?, log, plan)
+}
+
+// The area of an empty base, on a disk that fails the calls that stand from this place of the row on.
+fn empty_area(alloc: Global, row: &Row, place: usize) -> Result<OpenArea<MemDisk>, RowError>
+    ensures { IfOk result (HasRest device_of) }
+{
+    let failing = failing_in(alloc, row, place)?;
+    let base = empty(alloc)?;
+    open(alloc, &base, failing.as_slice())
 }
 
 // How much was done, how much of it the device stopped, and whether the plain program does the same.
@@ -117,6 +133,35 @@ fn compared(alloc: Global, noted: &[Noted], disk: &MemDisk) -> Result<String, Ro
     let is_same = replays(alloc, noted, disk)?;
     let same = if is_same { "the same" } else { "otherwise" };
     Ok(format!(in alloc; "{done} done, {stopped} stopped: the plain program answers {same}")?)
+}
+
+// How the looks of so many nodes stand beside the area that the disk holds.
+fn watched(alloc: Global, noted: &[Noted], nodes: u32, disk: &MemDisk) -> Result<String, RowError> {
+    let area = open(alloc, disk, &[])?;
+    let text = verdict(alloc, noted, nodes, area.loaded());
+    let _disk = area.close();
+    text
+}
+
+// What the nodes noted in words, and whether a record was written between two copies.
+fn held_words(alloc: Global, noted: &[Noted], is_between: bool) -> Result<String, RowError> {
+    let mut text = String::new(alloc);
+    for one in noted {
+        write!(text, "{:?}; ", one.told)?;
+    }
+    write!(text, "a record between two copies: {is_between}")?;
+    Ok(text)
+}
+
+// Where an area stands that was shared, and how many messages are live in it.
+fn closed_words(alloc: Global, area: &OpenArea<MemDisk>) -> Result<String, RowError> {
+    let live = area.loaded().active;
+    let stands = if area.in_doubt() {
+        "in doubt"
+    } else {
+        "at rest"
+    };
+    Ok(format!(in alloc; "{stands}, {live} live")?)
 }
 
 impl<'a, R: Threads + Wait + Sync> Trial<'a, R> {
@@ -132,25 +177,37 @@ impl<'a, R: Threads + Wait + Sync> Trial<'a, R> {
     // This is what is shared now; what was before is ended.
     fn set_shared(&mut self, shared: Option<Shared<MemDisk>>) {
         if let Some(before) = mem::replace(&mut self.shared, shared) {
-            before.end(self.rt);
+            let _disk = before.end(self.rt);
         }
     }
 
-    // This is the base now, and no area is shared.
-    fn set_base(&mut self, alloc: Global, base: MemDisk, word: &str) -> Result<String, RowError> {
-        self.base = base;
+    // The base that the row makes.
+    fn made(&self, alloc: Global, row: &Row) -> Result<MemDisk, RowError> {
+        match row.word(0)? {
+            "long" => Ok(lengthened(alloc, &self.base, row.u32(1)?)?),
+            _ => Ok(empty(alloc)?),
+        }
+    }
+
+    // `base` and `long LEN`: this is the base then, and no area is shared.
+    fn make(&mut self, alloc: Global, row: &Row) -> Result<String, RowError> {
+        let word = row.word(0)?;
+        self.base = self.made(alloc, row)?;
         self.set_shared(None);
         Ok(String::from_str(alloc, word)?)
     }
 
-    // `share NODES FAILING..`: opens the area of the base and shares it, on a disk that fails these of its calls from then on.
-    fn share(&mut self, alloc: Global, row: &Row) -> Result<String, RowError> {
+    // The area of the base, shared as the row says.
+    fn shared_in(&self, alloc: Global, row: &Row) -> Result<Shared<MemDisk>, RowError> {
         let nodes = nodes_in(row)?;
         let failing = failing_in(alloc, row, 2)?;
         let area = open(alloc, &self.base, failing.as_slice())?;
-        let Ok(shared) = Shared::new(self.rt, alloc, area, nodes) else {
-            return Err(RowError::OutOfMemory);
-        };
+        Shared::new(self.rt, alloc, area, nodes)
+    }
+
+    // `share NODES FAILING..`: opens the area of the base and shares it, on a disk that fails these of its calls from then on.
+    fn share(&mut self, alloc: Global, row: &Row) -> Result<String, RowError> {
+        let shared = self.shared_in(alloc, row)?;
         self.set_shared(Some(shared));
         Ok(String::from_str(alloc, "shared")?)
     }
@@ -160,7 +217,7 @@ impl<'a, R: Threads + Wait + Sync> Trial<'a, R> {
         let caller = caller_in(alloc, row)?;
         let ask = ask_in(alloc, row, &caller)?;
         match &mut self.shared {
-            Some(shared) => shared.ask(self.rt, alloc, row.u32(1)?, &caller, &ask),
+            Some(shared) => shared.ask(self.rt, alloc, row, &caller, &ask),
             None => Ok(String::from_str(alloc, "no area is shared")?),
         }
     }
@@ -169,14 +226,11 @@ impl<'a, R: Threads + Wait + Sync> Trial<'a, R> {
     // empty base, on a disk that fails these of its calls.
     fn follow(&self, alloc: Global, row: &Row) -> Result<String, RowError> {
         let plan = plan_in(row)?;
-        let failing = failing_in(alloc, row, 3)?;
-        let area = open(alloc, &empty(alloc)?, failing.as_slice())?;
-        let (noted, disk) = followed(self.rt, alloc, area, plan)?;
+        let log = Mutex::new(Vec::new(alloc));
+        let disk = followed(self.rt, alloc, empty_area(alloc, row, 3)?, &log, plan)?;
+        let noted = in_order(alloc, log)?;
         match plan {
-            Plan::Watch(..) => {
-                let area = open(alloc, &disk, &[])?;
-                verdict(alloc, noted.as_slice(), plan.nodes(), area.loaded())
-            }
+            Plan::Watch(..) => watched(alloc, noted.as_slice(), plan.nodes(), &disk),
             _ => compared(alloc, noted.as_slice(), &disk),
         }
     }
@@ -184,14 +238,12 @@ impl<'a, R: Threads + Wait + Sync> Trial<'a, R> {
     // `between`: one node packs the area of the base, and another posts as soon as the first text is to be copied.
     fn pack_held(&mut self, alloc: Global) -> Result<String, RowError> {
         let meeting = Meeting::new();
-        let disk = HeldDisk::new(copied(alloc, &self.base, Vec::new(alloc))?, &meeting);
-        let area = open_on(alloc, disk)?;
-        let (noted, held) = followed(self.rt, alloc, area, Plan::Between(&meeting))?;
-        let mut text = String::new(alloc);
-        for one in &noted {
-            write!(text, "{:?}; ", one.told)?;
-        }
-        write!(text, "a record between two copies: {}", held.is_between)?;
+        let log = Mutex::new(Vec::new(alloc));
+        let disk = copied(alloc, &self.base, Vec::new(alloc))?;
+        let disk = HeldDisk::new(disk, &meeting);
+        let held = followed_on(self.rt, alloc, disk, &log, Plan::Between(&meeting))?;
+        let noted = in_order(alloc, log)?;
+        let text = held_words(alloc, noted.as_slice(), held.is_between)?;
         self.base = held.disk;
         Ok(text)
     }
@@ -203,10 +255,9 @@ impl<'a, R: Threads + Wait + Sync> Trial<'a, R> {
         };
         match shared.close(self.rt, below) {
             Ok(area) => {
-                let (live, is_doubtful) = (area.loaded().active, area.in_doubt());
-                let stands = if is_doubtful { "in doubt" } else { "at rest" };
+                let text = closed_words(alloc, &area);
                 self.base = area.close();
-                Ok(format!(in alloc; "{stands}, {live} live")?)
+                text
             }
             Err((shared, refusal)) => {
                 self.set_shared(Some(shared));
@@ -224,18 +275,14 @@ impl<'a, R: Threads + Wait + Sync> Trial<'a, R> {
             shared,
         } = self;
         if let Some(shared) = shared {
-            shared.end(rt);
+            let _disk = shared.end(rt);
         }
     }
 
     /// The line that is written for this row.
     pub(crate) fn answer(&mut self, alloc: Global, row: &Row) -> Result<String, RowError> {
         match row.word(0)? {
-            "base" => self.set_base(alloc, empty(alloc)?, "base"),
-            "long" => {
-                let base = lengthened(alloc, &self.base, row.u32(1)?)?;
-                self.set_base(alloc, base, "long")
-            }
+            "base" | "long" => self.make(alloc, row),
             "share" => self.share(alloc, row),
             "close" => self.close(alloc, u32::MAX),
             "close-below" => self.close(alloc, row.u32(1)?),

@@ -15,7 +15,7 @@ use std::alloc::Global;
 use std::marker::Model;
 use std::sync::{Mutex, Wait};
 use std::thread::Threads;
-use trial_rows::RowError;
+use trial_rows::{Row, RowError};
 
 /// What is asked of a shared area.
 #[derive(Drop)]
@@ -42,6 +42,41 @@ impl<D: Disk> Model for Shared<D> {
     ghost invariant = { λ s. All (IsOf s.area) s.passes.items };
 }
 
+// What a call is answered, or why there is no answer, in words.
+fn called<D: Disk, R: Wait>(
+    rt: &R,
+    alloc: Global,
+    area: &SharedArea<D>,
+    pass: &mut Pass,
+    caller: &Caller,
+    command: &Command,
+) -> Result<String, RowError>
+    requires { IsOf area.now pass.old }
+    ensures { IsOf area.now pass.new }
+{
+    match area.call(rt, alloc, pass, &caller.user, MOMENT, command) {
+        Ok(reply) => reply_words(alloc, &reply),
+        Err(error) => Ok(format!(in alloc; "{error:?}")?),
+    }
+}
+
+// What a look is answered, or why there is no answer, in words.
+fn looked<D: Disk>(
+    alloc: Global,
+    area: &SharedArea<D>,
+    pass: &mut Pass,
+    caller: &Caller,
+    question: &Question,
+) -> Result<String, RowError>
+    requires { IsOf area.now pass.old }
+    ensures { IsOf area.now pass.new }
+{
+    match area.look(pass, &caller.user, question) {
+        Ok(answer) => answer_words(alloc, &answer),
+        Err(error) => Ok(format!(in alloc; "{error:?}")?),
+    }
+}
+
 // What is answered, or why there is no answer, in words.
 fn told<D: Disk, R: Wait>(
     rt: &R,
@@ -55,14 +90,8 @@ fn told<D: Disk, R: Wait>(
     ensures { IsOf area.now pass.new }
 {
     match ask {
-        Ask::Call(command) => match area.call(rt, alloc, pass, &caller.user, MOMENT, command) {
-            Ok(reply) => reply_words(alloc, &reply),
-            Err(error) => Ok(format!(in alloc; "{error:?}")?),
-        },
-        Ask::Look(question) => match area.look(pass, &caller.user, question) {
-            Ok(answer) => answer_words(alloc, &answer),
-            Err(error) => Ok(format!(in alloc; "{error:?}")?),
-        },
+        Ask::Call(command) => called(rt, alloc, area, pass, caller, command),
+        Ask::Look(question) => looked(alloc, area, pass, caller, question),
         Ask::Count => match area.unread_count(pass, &caller.user) {
             Ok(count) => Ok(format!(in alloc; "{count} unread")?),
             Err(error) => Ok(format!(in alloc; "{error:?}")?),
@@ -70,11 +99,11 @@ fn told<D: Disk, R: Wait>(
     }
 }
 
-// The place of this node among so many passes.
-fn place_of(node: u32, count: usize) -> Result<usize, RowError>
+// The place of the node of a row among so many passes.
+fn place_in(row: &Row, count: usize) -> Result<usize, RowError>
     ensures { IfOk result (λ place. place < count) }
 {
-    match (node as usize).checked_sub(1) {
+    match (row.u32(1)? as usize).checked_sub(1) {
         Some(place) if place < count => Ok(place),
         _ => Err(RowError::Unknown(1)),
     }
@@ -87,24 +116,29 @@ impl<D: Disk + Drop> Shared<D> {
         alloc: Global,
         area: OpenArea<D>,
         nodes: u32,
-    ) -> Result<Shared<D>, OpenArea<D>>
+    ) -> Result<Shared<D>, RowError>
         requires rest { HasRest D.device area }
         requires nodes { (0 < nodes) × (nodes ≤ 33) }
     {
-        let (area, passes) = SharedArea::new(rt, alloc, area, nodes)?;
-        Ok(Shared { area, passes })
+        match SharedArea::new(rt, alloc, area, nodes) {
+            Ok((area, passes)) => Ok(Shared { area, passes }),
+            Err(area) => {
+                let _disk = area.close();
+                Err(RowError::OutOfMemory)
+            }
+        }
     }
 
-    /// What this node is answered, in words.
+    /// What the node of this row is answered, in words.
     pub(crate) fn ask<R: Wait>(
         &mut self,
         rt: &R,
         alloc: Global,
-        node: u32,
+        row: &Row,
         caller: &Caller,
         ask: &Ask,
     ) -> Result<String, RowError> {
-        let place = place_of(node, self.passes.len())?;
+        let place = place_in(row, self.passes.len())?;
         told(rt, alloc, &self.area, &mut self.passes[place], caller, ask)
     }
 
@@ -143,11 +177,12 @@ impl<D: Disk + Drop> Shared<D> {
         }
     }
 
-    /// Ends the sharing. An area of which a pass was lost, for want of memory, can be closed no more: it is held for ever.
-    pub(crate) fn end<R: Wait>(self, rt: &R) {
+    /// Ends the sharing: the disk of the area. An area of which a pass was lost, for want of memory, can be closed no more: it is held
+    /// for ever.
+    pub(crate) fn end<R: Wait>(self, rt: &R) -> D {
         let Shared { area, passes } = self;
         match area.close(rt, passes) {
-            Ok(_area) => {}
+            Ok(area) => area.close(),
             Err(_kept) => {
                 for _ in rt.forever() {}
                 unreachable!()

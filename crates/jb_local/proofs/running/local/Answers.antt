@@ -1,17 +1,7 @@
-use Rattle.std.proofs.Common.{◌≡◌, ◌∙◌, ℕ, List, [], ◌∷◌, length, take, ap, refl, sym, subst, arith}
+use Rattle.std.proofs.Common.{ap, subst, sym, ◌∙◌}
 use Rattle.std.specs.Prelude.{Result, Err}
-use Rattle.std.proofs.Math.Seq.{take-length}
 use Rattle.std.proofs.lemmas.Result.{err_from_is_err_and}
-use Rattle.jb_areas.specs.All.{ClosesAll, OpensAll, RefusesAll, passes_at}
-use Rattle.jb_areas.specs.Rows.{lists_of}
-use Rattle.jb_areas.proofs.Callers.{only_list}
-use Rattle.jb_areas.proofs.RowLemmas.{length-lists_of}
-use Rattle.jb_areas.proofs.WholeLemmas.{whole_own}
-use Rattle.jb_conf.specs.declared.board.BoardArea.{BoardArea}
-use Rattle.jb_shared.specs.Passes.{PassView}
-use Rattle.jb_local.proofs.Refusing.{no_areas, no_board}
-use Rattle.jb_local.proofs.Serving.{serves_one}
-use Rattle.jb_local.specs.Ending.{of_areas}
+use Rattle.jb_local.proofs.Refusing.{no_board}
 use Rattle.jb_local.specs.Local.{RunsLocal}
 use Rattle.jb_local.specs.declared.ending.LocalEnd.{LocalEnd}
 use Rattle.jb_local.specs.declared.error.RunError.{RunError}
@@ -25,44 +15,5 @@ returns-in_err-board g c =
     subst (λ (r : Result LocalEnd RunError). RunsLocal c.args.path.now old new r) (sym (p.1 ∙ ap (λ (e : RunError). Err e) p.2))
     (no_board c.args.path.now old new c.in_err-board.field-0.0 c.in_err-board.ensures.err)
 
-pub returns-in_err-shared : goal.returns-in_err-shared
-returns-in_err-shared g c =
-    let old = g.H.Host.desk c.args.host.now in
-    let new = g.H.Host.desk c.open_areas.new.host in
-    let why = c.in_err-shared.field-0.0 in
-    let p = err_from_is_err_and c.from_residual-in_err-shared.result c.from_residual-in_err-shared.ensures.1 in
-    subst (λ (r : Result LocalEnd RunError). RunsLocal c.args.path.now old new r) (sym (p.1 ∙ ap (λ (e : RunError). Err e) p.2))
-    (no_areas c.args.path.now old new (of_areas why) (record {
-      board = c.in_ok-board.board;
-      mid = g.H.Host.desk c.board_at.new.host;
-      has = c.in_ok-board.ensures.ok;
-      why = why;
-      is = refl;
-      refuses = subst (λ (areas : List BoardArea). RefusesAll areas (g.H.Host.desk c.board_at.new.host) new why) c.as_slice.ensures c.in_err-shared.ensures.err;
-    }))
-
-pub close_areas-is_doubtful-requires-clause-whole : goal.close_areas-is_doubtful-requires-clause-whole
-close_areas-is_doubtful-requires-clause-whole g c = whole_own c.serve-session.new.shared 1 (length c.in_ok-board.board.areas) c.serve-session.ensures.whole
-
 pub returns : goal.returns
-returns g c =
-    let areas = c.in_ok-board.board.areas in
-    let old = g.H.Host.desk c.args.host.now in
-    let served = g.H.Host.desk c.serve-session.new.host in
-    let new = g.H.Host.desk c.close_areas-is_doubtful.new.host in
-    let after = c.serve-session.new.shared in
-    let nodes = lists_of after.nodes.items in
-    let to = passes_at after 0 in
-    let doubtful = c.close_areas-is_doubtful.result in
-    let serves = c.serve-session.ensures.served in
-    let whole = c.serve-session.ensures.whole in
-    let read = g.H.Host.desk c.board_at.new.host in
-    let opened = g.H.Host.desk c.open_areas.new.host in
-    let shared = c.in_ok-shared.shared in
-    let opens = subst (λ (list : List BoardArea). OpensAll list 1 read opened shared) c.as_slice.ensures c.in_ok-shared.ensures.ok in
-    let all = ap (λ (list : List BoardArea). take (length after.areas.items) list) c.as_slice-2.ensures ∙ ap (λ (n : ℕ). take n areas) whole.areas ∙ take-length areas in
-    let only : nodes ≡ to ∷ [] = only_list nodes (length-lists_of after.nodes.items ∙ whole.lists) in
-    serves_one c.args.path.now c.in_ok-board.board old read opened served new c.serve-session.result doubtful
-    shared to serves.0 serves.1 c.in_ok-board.ensures.ok opens serves.2 serves.3 serves.4 (whole.passes 0 (omega arith))
-    (subst (λ (lists : List (List PassView)). ClosesAll areas lists served new doubtful) only
-    (subst (λ (done : List BoardArea). ClosesAll done nodes served new doubtful) all c.close_areas-is_doubtful.ensures))
+returns g c = c.run_board.ensures c.args.path.now (g.H.Host.desk c.args.host.now) c.in_ok-board.ensures.ok

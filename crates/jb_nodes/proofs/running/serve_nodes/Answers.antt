@@ -1,15 +1,10 @@
-use Rattle.std.proofs.Common.{◌+◌, ap, refl, subst, sym, ◌∙◌}
-use Rattle.std.specs.Prelude.{List, Result, Err}
+use Rattle.std.proofs.Common.{ap, subst, sym, ◌∙◌}
+use Rattle.std.specs.Prelude.{Result, Err}
 use Rattle.std.proofs.lemmas.Result.{err_from_is_err_and}
-use Rattle.jb_areas.specs.All.{OpensAll, RefusesAll}
-use Rattle.jb_areas.specs.Rows.{lists_of}
-use Rattle.jb_conf.specs.declared.board.BoardArea.{BoardArea}
-use Rattle.jb_local.specs.Ending.{of_areas, of_host}
 use Rattle.jb_local.specs.declared.error.RunError.{RunError}
 use Rattle.jb_nodes.specs.Nodes.{RunsNodes}
 use Rattle.jb_nodes.specs.declared.ending.NodesEnd.{NodesEnd}
-use Rattle.jb_nodes.proofs.Refusing.{begins_no_areas, begins_no_board, begins_no_room, gives_up}
-use Rattle.jb_nodes.proofs.Serving.{serves_all}
+use Rattle.jb_nodes.proofs.Refusing.{begins_no_board}
 use Rattle.jb_nodes.proofs.running.serve_nodes.Goals as goal
 
 pub returns-in_err-board : goal.returns-in_err-board
@@ -20,48 +15,5 @@ returns-in_err-board g c =
     subst (λ (r : Result NodesEnd RunError). RunsNodes c.args.path.now c.args.calls old new r) (sym (p.1 ∙ ap (λ (e : RunError). Err e) p.2))
     (begins_no_board c.args.path.now c.args.calls old new c.in_err-board.field-0.0 c.in_err-board.ensures.err)
 
--- memory was wanting before the areas were opened
-pub returns-in_default : goal.returns-in_default
-returns-in_default g c =
-    begins_no_room c.args.path.now c.args.calls c.in_ok-board.board (g.H.Host.desk c.args.host.now) (g.H.Host.desk c.board_at.new.host) c.in_ok-board.ensures.ok
-
-pub returns-in_err-shared : goal.returns-in_err-shared
-returns-in_err-shared g c =
-    let old = g.H.Host.desk c.args.host.now in
-    let new = g.H.Host.desk c.open_areas.new.host in
-    let why = c.in_err-shared.field-0.0 in
-    let p = err_from_is_err_and c.from_residual-in_err-shared.result c.from_residual-in_err-shared.ensures.1 in
-    subst (λ (r : Result NodesEnd RunError). RunsNodes c.args.path.now c.args.calls old new r) (sym (p.1 ∙ ap (λ (e : RunError). Err e) p.2))
-    (begins_no_areas c.args.path.now c.args.calls old new (of_areas why) (record {
-      board = c.in_ok-board.board;
-      mid = g.H.Host.desk c.board_at.new.host;
-      has = c.in_ok-board.ensures.ok;
-      why = why;
-      is = refl;
-      refuses = subst (λ (areas : List BoardArea). RefusesAll areas (g.H.Host.desk c.board_at.new.host) new why) c.as_slice.ensures c.in_err-shared.ensures.err;
-    }))
-
-pub returns-in_err-serve_areas : goal.returns-in_err-serve_areas
-returns-in_err-serve_areas g c =
-    let board = c.in_ok-board.board in
-    let old = g.H.Host.desk c.args.host.now in
-    let read = g.H.Host.desk c.board_at.new.host in
-    let opened = g.H.Host.desk c.open_areas.new.host in
-    let new = g.H.Host.desk c.serve_areas.new.host in
-    let why = c.in_err-serve_areas.field-0.0 in
-    let shared = c.in_ok-shared.shared in
-    let opens = subst (λ (list : List BoardArea). OpensAll list (board.nodes + 1) read opened shared) c.as_slice.ensures c.in_ok-shared.ensures.ok in
-    let p = err_from_is_err_and c.from_residual-in_err-serve_areas.result c.from_residual-in_err-serve_areas.ensures.1 in
-    subst (λ (r : Result NodesEnd RunError). RunsNodes c.args.path.now c.args.calls old new r) (sym (p.1 ∙ ap (λ (e : RunError). Err e) p.2))
-    (gives_up c.args.path.now c.args.calls board old read opened new opens.befores opens.openings (lists_of shared.nodes.items) why c.in_ok-board.ensures.ok opens.out opens.start
-    c.in_err-serve_areas.ensures.err)
-
 pub returns : goal.returns
-returns g c =
-    let board = c.in_ok-board.board in
-    let read = g.H.Host.desk c.board_at.new.host in
-    let opened = g.H.Host.desk c.open_areas.new.host in
-    let shared = c.in_ok-shared.shared in
-    let opens = subst (λ (list : List BoardArea). OpensAll list (board.nodes + 1) read opened shared) c.as_slice.ensures c.in_ok-shared.ensures.ok in
-    serves_all c.args.path.now c.args.calls board (g.H.Host.desk c.args.host.now) read opened (g.H.Host.desk c.serve_areas.new.host) opens.befores opens.openings
-    (lists_of shared.nodes.items) c.in_ok-serve_areas.field-0 c.in_ok-board.ensures.ok opens.out opens.start c.in_ok-serve_areas.ensures.ok
+returns g c = c.serve_board.ensures c.args.path.now (g.H.Host.desk c.args.host.now) c.in_ok-board.ensures.ok

@@ -1,11 +1,12 @@
-use Rattle.std.proofs.Common.{◌∷◌, ◌+◌, ◌≤◌, ◌∙◌, List, ℕ, drop, subst, ap}
+use Rattle.std.proofs.Common.{◌∷◌, ◌+◌, ◌≤◌, ◌∙◌, List, ℕ, drop, length, [], subst, sym, ap}
+use Rattle.std.proofs.lemmas.List.{append-nil}
 use Rattle.jb_base.specs.declared.limits.TheConstants.{TEXTS_CEILING}
 use Rattle.jb_disk.specs.declared.file.FileId.TheVariants.{Jhr}
 use Rattle.jb_model.specs.declared.links.Links.{Links}
 use Rattle.jb_model.specs.declared.loaded.LoadedMessage.{LoadedMessage}
 use Rattle.jb_model.specs.declared.loaded.LoadedSlot.{LoadedSlot}
 use Rattle.jb_model.specs.declared.loaded.LoadedSlot.TheVariants.{Live}
-use Rattle.jb_pack.proofs.SlotLemmas.{IsPut, from_place, links_are, put_live, put_none}
+use Rattle.jb_pack.proofs.SlotLemmas.{IsPut, all_put, from_place, links_are, put_live, put_none}
 use Rattle.jb_change.specs.Records.{IsHeaderReadAgain, message_bytes}
 use Rattle.jb_pack.specs.Laid.{Lays}
 use Rattle.jb_pack.specs.Packed.{moved, texts_size}
@@ -35,3 +36,25 @@ loop-slot-preserved c =
     (subst (λ (l : Links). Lays Jhr 1 (message_bytes place.number (moved l place.header_at place.text_at message)) c.loop-slot.redo c.put_message.new.redo) links c.in_ok-place.ensures.lays)
     (subst (λ (l : Links). IsHeaderReadAgain place.number (moved l place.header_at place.text_at message)) links c.in_ok-place.ensures.back)
     c.in_ok-place.ensures.next c.put_message.ensures.kept here
+
+-- what stands at the end of the loop
+abbrev ended : (c : goal.After-drop-buffer-2)
+    → IsPut c.args.loaded.now c.args.links.now c.args.redo.now c.loop-slot.redo c.loop-slot.index c.loop-slot.place (length c.args.slots.now) []
+ended c = all_put c.args.loaded.now c.args.links.now c.args.redo.now c.args.slots.now c.loop-slot.redo c.loop-slot.index c.loop-slot.place c.loop-slot.slot-index c.loop-slot-test.false c.loop-slot.auto.slot-index-end c.loop-slot.invariant
+
+pub returns-clause-lays : goal.returns-clause-lays
+returns-clause-lays c =
+    rw c.requires.base
+    (subst (λ (bytes : List ℕ). Lays Jhr (length c.args.slots.now) bytes c.args.redo.now c.loop-slot.redo) (sym (append-nil (ended c).done) ∙ (ended c).whole) (ended c).lays)
+
+pub returns-clause-index : goal.returns-clause-index
+returns-clause-index c = sym (append-nil c.loop-slot.index) ∙ (ended c).indexed
+
+pub returns-clause-headers_back : goal.returns-clause-headers_back
+returns-clause-headers_back c = rw c.requires.base ((ended c).headers_back tt)
+
+pub returns-clause-entries_back : goal.returns-clause-entries_back
+returns-clause-entries_back c = (ended c).entries_back tt
+
+pub returns-clause-kept : goal.returns-clause-kept
+returns-clause-kept c = (ended c).room

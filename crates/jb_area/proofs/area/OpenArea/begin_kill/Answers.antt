@@ -1,6 +1,5 @@
 use Rattle.std.proofs.Common.{None, Ok, refl}
 use Rattle.jb_decide.specs.declared.decided.Decided.{Decided}
-use Rattle.jb_area.specs.declared.stage.Stage.TheVariants.{Begun}
 use Rattle.jb_area.proofs.StartLemmas.{begins, reads_itself, same_faults}
 use Rattle.jb_area.proofs.area.OpenArea.begin_kill.Goals as goal
 
@@ -9,6 +8,6 @@ returns g c = λ moment.
     let has = c.requires.rests in
     let area = c.args.self.now in
     let decided : Decided = c.decide_kill-decided.result in
-    begins g.D.Disk.device area (record area { redo = c.decide_kill-decided.new.redo; stage = Begun decided.reply decided.pending }) area.disk c.decide_kill-decided.new.redo None refl refl refl refl refl
-    (reads_itself (g.D.Disk.device area.disk)) c.decide_kill-decided.ensures.room (Ok decided) (Ok tt) c.args.user.now moment _ refl has.rests.small refl
+    begins g.D.Disk.device area (record area { redo = c.decide_kill-decided.new.redo; stage = c.put_stage.new.place }) area.disk c.decide_kill-decided.new.redo None refl refl refl refl refl
+    (reads_itself (g.D.Disk.device area.disk)) c.decide_kill-decided.ensures.room (Ok decided) (Ok tt) c.args.user.now moment _ c.put_stage.ensures has.rests.small refl
     (λ texts are. c.decide_kill-decided.ensures.decided moment texts (g.D.Disk.device area.disk).contents are) tt refl (same_faults (g.D.Disk.device area.disk)) has

@@ -4,7 +4,6 @@ use Rattle.jb_model.specs.declared.loaded.Loaded.{Loaded}
 use Rattle.jb_pack.specs.Packed.{texts_size}
 use Rattle.jb_decide.specs.declared.decided.Decided.{Decided}
 use Rattle.jb_decide.specs.declared.pending.Pending.TheVariants.{Nothing}
-use Rattle.jb_area.specs.declared.stage.Stage.TheVariants.{Begun}
 use Rattle.jb_area.proofs.Outcomes.{on_ok_then}
 use Rattle.jb_area.proofs.StartLemmas.{begins, reads_itself, same_faults}
 use Rattle.jb_area.proofs.StepLemmas.{begins_behind, begins_not, may_mid, rests_then}
@@ -15,8 +14,8 @@ returns-in-Some-clause-begins g c = λ moment.
     let has = c.requires.rests in
     let area = c.args.self.now in
     let decided : Decided = record { reply = c.in-Some.reply; pending = Nothing } in
-    begins g.D.Disk.device area (record area { stage = Begun decided.reply decided.pending }) area.disk area.redo None refl refl refl refl refl
-    (reads_itself (g.D.Disk.device area.disk)) has.rests.kept.ruled.room (Ok decided) (Ok tt) c.args.user.now moment _ refl has.rests.small refl
+    begins g.D.Disk.device area (record area { stage = c.put_stage.new.place }) area.disk area.redo None refl refl refl refl refl
+    (reads_itself (g.D.Disk.device area.disk)) has.rests.kept.ruled.room (Ok decided) (Ok tt) c.args.user.now moment _ c.put_stage.ensures has.rests.small refl
     (λ texts are. c.refuse_pack.ensures.refused c.in-Some.reply c.in-Some.is moment texts (g.D.Disk.device area.disk).contents area.redo are) tt refl (same_faults (g.D.Disk.device area.disk)) has
 
 pub copy_all-requires-clause-fits : goal.copy_all-requires-clause-fits

@@ -9,7 +9,10 @@ use Rattle.jb_pack.specs.Packed.{texts_size}
 use Rattle.jb_pack.specs.declared.error.PackError.{PackError}
 use Rattle.jb_pack.specs.declared.error.PackError.TheVariants as pack_error
 use Rattle.jb_decide.proofs.PackLemmas.{sound_under}
+use Rattle.jb_decide.specs.declared.error.AreaError.TheVariants.{StoreFault}
+use Rattle.jb_area.specs.Calls.{StepsPack}
 use Rattle.jb_area.specs.Copying.{HasCopiedSome}
+use Rattle.jb_area.specs.declared.stage.Stage.{Stage}
 use Rattle.jb_area.proofs.Outcomes.{err_gives}
 use Rattle.jb_area.proofs.StepLemmas.{steps_done, steps_stopped, steps_wanting, unless_memory, unless_ok}
 use Rattle.jb_area.proofs.area.OpenArea.copy.Goals as goal
@@ -43,9 +46,10 @@ returns-in-Ok-clause-copied g c =
 pub returns-in-Err-StoreFault-clause-steps : goal.returns-in-Err-StoreFault-clause-steps
 returns-in-Err-StoreFault-clause-steps g c =
     let is = c.in-Err-StoreFault.is ∙ ap (λ (e : PackError). Err e) c.in-Err-StoreFault.field-0-is in
-    steps_stopped g.D.Disk.device c.args.self.now c.copy_some.new.disk c.copy_some.new.kept c.copy_some.ensures.touches
+    subst (λ (s : Stage). StepsPack g.D.Disk.device c.args.self.now (record c.args.self.now { disk = c.copy_some.new.disk; packer = c.copy_some.new.kept; stage = s }) (Err StoreFault)) (sym c.put_stage.ensures)
+    (steps_stopped g.D.Disk.device c.args.self.now c.copy_some.new.disk c.copy_some.new.kept c.copy_some.ensures.touches
     (err_gives c.copy_some.result pack_error.StoreFault (PackFaultRose (g.D.Disk.device c.args.self.now.disk).faults (g.D.Disk.device c.copy_some.new.disk).faults) is c.copy_some.ensures.cause)
-    c.copy_some.ensures.later
+    c.copy_some.ensures.later)
 
 pub returns-in-Err-OutOfMemory-clause-steps : goal.returns-in-Err-OutOfMemory-clause-steps
 returns-in-Err-OutOfMemory-clause-steps g c =

@@ -1,4 +1,4 @@
-use Rattle.std.proofs.Common.{None, Some, ap, refl, subst, sym, ◌∙◌}
+use Rattle.std.proofs.Common.{Some, ap, refl, subst, sym, ◌∙◌}
 use Rattle.jb_decide.specs.Pending.{IsPacking}
 use Rattle.jb_decide.specs.declared.pending.Pending.{Pending}
 use Rattle.jb_area.specs.Area.{copied_after}
@@ -10,11 +10,11 @@ use Rattle.jb_area.proofs.area.OpenArea.finish.Goals as goal
 
 pub returns-in-Nothing-clause-done : goal.returns-in-Nothing-clause-done
 returns-in-Nothing-clause-done g c = λ texts decided coming begun.
-    rests_unchanged g.D.Disk.device c.args.self.now texts decided coming begun c.in-Begun.reply c.in-Begun.pending None c.replace.new.dest (sym c.replace.ensures.value ∙ c.in-Begun.is) c.in-Nothing.is refl c.replace.ensures.after
+    rests_unchanged g.D.Disk.device c.args.self.now texts decided coming begun c.in-Begun.reply c.in-Begun.pending c.put_redo.new.place c.replace.new.dest (sym c.replace.ensures.value ∙ c.in-Begun.is) c.in-Nothing.is c.put_redo.ensures c.replace.ensures.after
 
 pub returns-in-Nothing-clause-made : goal.returns-in-Nothing-clause-made
 returns-in-Nothing-clause-made g c =
-    made_nothing g.D.Disk.device c.args.self.now c.in-Begun.reply c.in-Begun.pending (sym c.replace.ensures.value ∙ c.in-Begun.is) c.args.self.now.disk c.args.self.now.held None c.replace.new.dest c.in-Nothing.is refl
+    made_nothing g.D.Disk.device c.args.self.now c.in-Begun.reply c.in-Begun.pending (sym c.replace.ensures.value ∙ c.in-Begun.is) c.args.self.now.disk c.args.self.now.held c.put_redo.new.place c.replace.new.dest c.in-Nothing.is refl
 
 pub returns-in-Nothing-clause-idle : goal.returns-in-Nothing-clause-idle
 returns-in-Nothing-clause-idle g c = λ none. (refl, refl)
@@ -56,7 +56,7 @@ returns-in-Err-clause-idle g c = λ none.
 
 pub returns-in-Ok-clause-made : goal.returns-in-Ok-clause-made
 returns-in-Ok-clause-made g c =
-    made_change g.D.Disk.device c.args.self.now c.in-Begun.reply c.in-Begun.pending (sym c.replace.ensures.value ∙ c.in-Begun.is) c.commit_change.new.disk c.apply.new.self None c.kept_after.result c.replace.new.dest c.in_use.result.now
+    made_change g.D.Disk.device c.args.self.now c.in-Begun.reply c.in-Begun.pending (sym c.replace.ensures.value ∙ c.in-Begun.is) c.commit_change.new.disk c.apply.new.self c.put_redo-in-Ok.new.place c.kept_after.result c.replace.new.dest c.in_use.result.now
     c.in_use.ensures c.in_default-pending.not-Nothing c.in-Ok.ensures.made
 
 pub returns-in-Nothing-clause-crash : goal.returns-in-Nothing-clause-crash
@@ -70,8 +70,8 @@ commit_change-requires g c =
 
 pub returns-in-Ok-clause-done : goal.returns-in-Ok-clause-done
 returns-in-Ok-clause-done g c = λ texts decided coming begun.
-    rests_changed g.D.Disk.device c.args.self.now texts decided coming begun c.in-Begun.reply c.in-Begun.pending c.commit_change.new.disk c.apply.new.self None c.kept_after.result c.replace.new.dest c.in_use.result.now
-    c.in_use.ensures (sym c.replace.ensures.value ∙ c.in-Begun.is) c.in_default-pending.not-Nothing refl (c.kept_after.ensures ∙ ap (copied_after c.in-Begun.pending) c.replace-in-Ok.ensures.value) c.replace.ensures.after c.apply.ensures
+    rests_changed g.D.Disk.device c.args.self.now texts decided coming begun c.in-Begun.reply c.in-Begun.pending c.commit_change.new.disk c.apply.new.self c.put_redo-in-Ok.new.place c.kept_after.result c.replace.new.dest c.in_use.result.now
+    c.in_use.ensures (sym c.replace.ensures.value ∙ c.in-Begun.is) c.in_default-pending.not-Nothing c.put_redo-in-Ok.ensures (c.kept_after.ensures ∙ ap (copied_after c.in-Begun.pending) c.replace-in-Ok.ensures.value) c.replace.ensures.after c.apply.ensures
     c.commit_change.ensures.alike c.in-Ok.ensures.made c.in-Ok.ensures.done
 
 pub returns-in-Ok-clause-crash : goal.returns-in-Ok-clause-crash
@@ -81,8 +81,8 @@ returns-in-Ok-clause-crash g c = λ texts decided coming begun was there.
 
 pub returns-in-Err-clause-doubt : goal.returns-in-Err-clause-doubt
 returns-in-Err-clause-doubt g c = λ texts decided coming begun.
-    between g.D.Disk.device c.args.self.now texts decided coming begun c.in-Begun.reply c.in-Begun.pending c.commit_change.new.disk c.args.self.now.large c.in_use.result.now c.in-Err.stopped
-    c.in_use.ensures c.in_use.ensures (sym c.replace.ensures.value ∙ c.in-Begun.is) c.in_default-pending.not-Nothing c.commit_change.ensures.alike c.in-Err.ensures.doubt
+    between g.D.Disk.device c.args.self.now texts decided coming begun c.in-Begun.reply c.in-Begun.pending c.commit_change.new.disk c.args.self.now.large c.put_stage.new.place c.in_use.result.now c.in-Err.stopped
+    c.put_stage.ensures c.in_use.ensures c.in_use.ensures (sym c.replace.ensures.value ∙ c.in-Begun.is) c.in_default-pending.not-Nothing c.commit_change.ensures.alike c.in-Err.ensures.doubt
 
 pub returns-in-Err-clause-opens : goal.returns-in-Err-clause-opens
 returns-in-Err-clause-opens g c = λ texts decided coming begun.

@@ -1,5 +1,4 @@
-use Rattle.std.proofs.Common.{None, Bool, inl, inr, refl, sym, subst, ◌∙◌}
-use Rattle.jb_area.specs.declared.stage.Stage.TheVariants.{Resting}
+use Rattle.std.proofs.Common.{Bool, inl, inr, sym, subst, ◌∙◌}
 use Rattle.jb_area.specs.Commits.{IsAnsweredAs}
 use Rattle.jb_area.proofs.DoubtLemmas.{at_doubt, copying_crashes, copying_settles, copying_still, crashes, doubt_reads, drops, falls, idle, may_apply, may_settle, stands, still}
 use Rattle.jb_area.proofs.area.OpenArea.reopen.Goals as goal
@@ -14,7 +13,7 @@ unreachable-requires g c =
 
 pub returns-in-Ok-clause-settled : goal.returns-in-Ok-clause-settled
 returns-in-Ok-clause-settled g c =
-    copying_settles g.D.Disk.device c.args.self.now c.in-Copying.is c.sync_copies.new.disk None None Resting refl refl refl c.in-Ok.ensures.settled
+    copying_settles g.D.Disk.device c.args.self.now c.in-Copying.is c.sync_copies.new.disk c.drop_both.new.large c.drop_both.new.packer c.put_stage.new.place c.drop_both.ensures.large c.drop_both.ensures.packer c.put_stage.ensures c.in-Ok.ensures.settled
 
 pub returns-in-Ok-clause-crash : goal.returns-in-Ok-clause-crash
 returns-in-Ok-clause-crash g c =
@@ -33,7 +32,7 @@ returns-in-Err-clause-crash g c =
 
 pub returns-in-Nothing-clause-settled : goal.returns-in-Nothing-clause-settled
 returns-in-Nothing-clause-settled g c =
-    drops g.D.Disk.device c.args.self.now c.in-Doubtful.stopped c.in-Doubtful.pending (sym c.replace.ensures.value ∙ c.in-Doubtful.is) c.in-Nothing.is None None c.replace.new.dest refl refl c.replace.ensures.after
+    drops g.D.Disk.device c.args.self.now c.in-Doubtful.stopped c.in-Doubtful.pending (sym c.replace.ensures.value ∙ c.in-Doubtful.is) c.in-Nothing.is c.drop_both-in-Nothing.new.large c.drop_both-in-Nothing.new.packer c.replace.new.dest c.drop_both-in-Nothing.ensures.large c.drop_both-in-Nothing.ensures.packer c.replace.ensures.after
 
 pub returns-in-Nothing-clause-crash : goal.returns-in-Nothing-clause-crash
 returns-in-Nothing-clause-crash g c =
@@ -47,7 +46,7 @@ settle_change-requires g c =
 pub returns-in-Ok-true-clause-settled : goal.returns-in-Ok-true-clause-settled
 returns-in-Ok-true-clause-settled g c =
     stands g.D.Disk.device c.args.self.now c.in-Doubtful.stopped c.in-Doubtful.pending (sym c.replace.ensures.value ∙ c.in-Doubtful.is) c.in_default-pending.not-Nothing c.in_use.result.now c.in_use.ensures
-    c.settle_change.new.disk c.apply.new.self None None c.replace.new.dest refl refl c.replace.ensures.after c.apply.ensures
+    c.settle_change.new.disk c.apply.new.self c.drop_both-in-Ok-true.new.large c.drop_both-in-Ok-true.new.packer c.replace.new.dest c.drop_both-in-Ok-true.ensures.large c.drop_both-in-Ok-true.ensures.packer c.replace.ensures.after c.apply.ensures
     (λ from texts copies coming doubt is. subst (λ (b : Bool). IsAnsweredAs b from texts coming (g.D.Disk.device c.settle_change.new.disk)) c.in-Ok-true.field-0-test (c.in-Ok-true.ensures.answer from texts copies coming doubt is))
 
 pub returns-in-Ok-true-clause-crash : goal.returns-in-Ok-true-clause-crash
@@ -58,7 +57,7 @@ returns-in-Ok-true-clause-crash g c =
 pub returns-in-Ok-false-clause-settled : goal.returns-in-Ok-false-clause-settled
 returns-in-Ok-false-clause-settled g c =
     falls g.D.Disk.device c.args.self.now c.in-Doubtful.stopped c.in-Doubtful.pending (sym c.replace.ensures.value ∙ c.in-Doubtful.is) c.in_default-pending.not-Nothing c.in_use.result.now c.in_use.ensures
-    c.settle_change.new.disk None None c.replace.new.dest refl refl c.replace.ensures.after
+    c.settle_change.new.disk c.drop_both-in-Ok-false.new.large c.drop_both-in-Ok-false.new.packer c.replace.new.dest c.drop_both-in-Ok-false.ensures.large c.drop_both-in-Ok-false.ensures.packer c.replace.ensures.after
     (λ from texts copies coming doubt is. subst (λ (b : Bool). IsAnsweredAs b from texts coming (g.D.Disk.device c.settle_change.new.disk)) c.in-Ok-false.field-0-test (c.in-Ok-false.ensures.answer from texts copies coming doubt is))
 
 pub returns-in-Ok-false-clause-crash : goal.returns-in-Ok-false-clause-crash
@@ -69,7 +68,7 @@ returns-in-Ok-false-clause-crash g c =
 pub returns-in-Err-settle_change-clause-still : goal.returns-in-Err-settle_change-clause-still
 returns-in-Err-settle_change-clause-still g c =
     still g.D.Disk.device c.args.self.now c.in-Doubtful.stopped c.in-Doubtful.pending (sym c.replace.ensures.value ∙ c.in-Doubtful.is) c.in_default-pending.not-Nothing c.in_use.result.now c.in_use.ensures
-    c.settle_change.new.disk c.args.self.now.large c.in-Err-settle_change.stopped c.in_use.ensures c.settle_change.ensures.alike c.in-Err-settle_change.ensures.still
+    c.settle_change.new.disk c.args.self.now.large c.put_stage-in-Err-settle_change.new.place c.in-Err-settle_change.stopped c.put_stage-in-Err-settle_change.ensures c.in_use.ensures c.settle_change.ensures.alike c.in-Err-settle_change.ensures.still
 
 pub returns-in-Err-settle_change-clause-opens : goal.returns-in-Err-settle_change-clause-opens
 returns-in-Err-settle_change-clause-opens g c = λ texts coming doubt. doubt_reads g.D.Disk.device _ texts coming (returns-in-Err-settle_change-clause-still g c texts coming doubt)

@@ -3,7 +3,7 @@ use Rattle.jb_base.specs.declared.limits.TheConstants.{MOST_SESSION_BYTES}
 use Rattle.jb_talk.specs.Talking.{Hands}
 use Rattle.jb_session.specs.Exchanges.{AreOf}
 use Rattle.jb_session.specs.Served.{Stands}
-use Rattle.jb_session.proofs.session.serve_session.Given as goal
+use Rattle.jb_session.proofs.session.serve_talk.Given as goal
 
 abbrev pub invariant-loop-alloc : goal.invariant-loop-alloc
 invariant-loop-alloc g l =
