@@ -230,14 +230,14 @@ def measure_to(path, server, count):
         json.dump(measure(server, count, lists), file)
 
 
-def measure_keys(program, folder, pairs=200_000):
+def measure_keys(program, folder, pairs=2_000_000, at_once=1000):
     """One caller types a key and takes it back, as fast as the server takes them."""
     server = Server(program, folder)
     typist = server.caller(1, b"general", PLAIN)
     spent, begun = server.spent(), time.perf_counter()
     child = beside(lambda: typist.types(b"z\x08" * pairs))
-    for _ in range(pairs):
-        typist.reads(b"z\x08 \x08")
+    for _ in range(pairs // at_once):
+        typist.reads(b"z\x08 \x08" * at_once)
     ended([child])
     took, spent = time.perf_counter() - begun, server.spent() - spent
     server.ends()
