@@ -2,14 +2,17 @@
 """Measures how an opening, a relink, a pack and each command of a caller grow with a base: of 1,000, 10,000 and 60,000 messages, of which every
 third answers another, none is linked, and every tenth is killed.
 
-usage: growth.py PROGRAM [DIR]
+usage: growth.py PROGRAM [DIR [count]]
 
 For each size: the least processor time of fifteen runs of a session that enters the area and leaves, of `relink` and of `pack`, each over a fresh
 copy; the session against `cat` of the three files that an opening reads; and what the session holds of memory once the area is open, and the most
-XX The files lie in DIR, or where temporary files do.
+that it held until then. Between two sizes, so that the start of the program is left out: the time and the memory of one message more. Then one command
+of a session in the area, of two hundred alike, without the visit. The runs take turns, so that what else the machine does falls on all alike. With
+`count` behind it the instructions of the first three are counted too, where valgrind is there. The files lie in DIR, or where temporary files do.
 """
 import hashlib
 import os
+import re
 import shutil
 import subprocess
 import sys
@@ -36,6 +39,14 @@ def spent(words, folder, given):
     return usage.ru_utime + usage.ru_stime
 
 
+def counted(words, folder, given):
+    """The instructions of one run, by callgrind."""
+    with open(given, "rb") as source:
+        run = subprocess.run(["valgrind", "--tool=callgrind", f"--callgrind-out-file={folder}/counted", *words], cwd=folder, stdin=source,
+                             stdout=subprocess.DEVNULL, stderr=subprocess.PIPE, text=True, check=True)
+    return int(re.search(r"Collected : (\d+)", run.stderr)[1])
+
+
 def held(words, folder):
     """What a session holds of memory once the area is open, and the most that it held until then, in bytes."""
     caller = Caller(words, folder)
@@ -53,7 +64,7 @@ def copies(folder, size):
         shutil.copy(f"{folder}/base{size}.{ending}", f"{folder}/areas/general.{ending}")
 
 
-def measure(program, folder):
+def measure(program, folder, is_counted):
     with open(f"{folder}/board.toml", "w") as file:
         file.write(SETTINGS.format(hashlib.sha256(b"word").hexdigest()).replace("[[user]]", f"slots = {SLOTS}\n[[user]]"))
     for name, words in (("visit", lambda n: []), *COMMANDS.items()):
@@ -78,6 +89,9 @@ def measure(program, folder):
         memory[size] = held(runs["opening"][0], folder)
         print(f"{size:6} messages: opening {least[size]['opening'] * 1e3:.1f} ms, {least[size]['opening'] / least[size]['cat']:.1f} times cat; "
               f"relink {least[size]['relink'] * 1e3:.1f} ms; pack {least[size]['pack'] * 1e3:.1f} ms; memory {memory[size][0] / 1e6:.1f} MB, at most {memory[size][1] / 1e6:.1f}", flush=True)
+        for name, (words, given) in runs.items() if is_counted else ():
+            copies(folder, size)
+            print(f"{size:6} messages: {name} {counted(words, folder, given) / size:.0f} instructions a message", flush=True)
     pairs = list(zip(SIZES, SIZES[1:]))
     for name in runs:
         slopes = [(least[b][name] - least[a][name]) / (b - a) * 1e9 for a, b in pairs]
@@ -90,15 +104,15 @@ def measure(program, folder):
         print(f"{name}: {more[0]:.0f} bytes a message more up to {SIZES[1]}, {more[1]:.0f} up to {SIZES[2]}")
 
 
-def main(program, above=None):
+def main(program, above=None, *more):
     folder = tempfile.mkdtemp(dir=above)
     try:
-        measure(os.path.realpath(program), folder)
+        measure(os.path.realpath(program), folder, "count" in more)
     finally:
         shutil.rmtree(folder)
 
 
 if __name__ == "__main__":
-    if len(sys.argv) not in (2, 3):
+    if len(sys.argv) not in (2, 3, 4) or sys.argv[3:] not in ([], ["count"]):
         sys.exit(__doc__)
     main(*sys.argv[1:])

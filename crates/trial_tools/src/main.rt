@@ -24,33 +24,60 @@ fn answer<R: Threads + Wait + Sync>(
     rt: &R,
     files: HostRuntime,
     alloc: Global,
+    row: &Row,
+    base: &mut Base,
+) -> Result<String, RowError> {
+    match row.word(0)? {
+        "part" => base::part(alloc, row, base),
+        "files" => base::files(alloc, row, base),
+        "patch" => base::patch(alloc, row, base),
+        "holds" => base::holds(alloc, row, base),
+        "bytes" => base::bytes(alloc, row, base),
+        "lengths" => base::lengths(alloc, row, base),
+        "keep" => base::keep(alloc, base),
+        "kept" => base::kept(alloc, base),
+        "calls" => base::calls(alloc, base),
+        "tool" => using::tool(alloc, row, base),
+        "goes-on" => going::goes_on(alloc, row, base),
+        "stopped-make" => going::stopped_make(alloc, row, base),
+        "board" => running::run(rt, alloc, row, base),
+        "session" => running::session(rt, alloc, row, base),
+        "door" => serving::door(alloc, row, base),
+        "bell" => serving::bell(alloc, row, base),
+        "nodes" => serving::nodes(rt, alloc, row, base),
+        "sent" => serving::sent(alloc, row, base),
+        "load" => loading::load(alloc, row),
+        "load-on-disk" => loading::load_on_disk(alloc, row, base),
+        "real" => real::answer(files, alloc, row, base),
+        _ => Err(RowError::Unknown(0)),
+    }
+}
+
+/// What the line comes to.
+fn answer_line<R: Threads + Wait + Sync>(
+    rt: &R,
+    files: HostRuntime,
+    alloc: Global,
     line: &str,
     base: &mut Base,
 ) -> Result<String, RowError> {
     let row = Row::of(alloc, line)?;
-    match row.word(0)? {
-        "part" => base::part(alloc, &row, base),
-        "files" => base::files(alloc, &row, base),
-        "patch" => base::patch(alloc, &row, base),
-        "holds" => base::holds(alloc, &row, base),
-        "bytes" => base::bytes(alloc, &row, base),
-        "lengths" => base::lengths(alloc, &row, base),
-        "keep" => base::keep(alloc, base),
-        "kept" => base::kept(alloc, base),
-        "calls" => base::calls(alloc, base),
-        "tool" => using::tool(alloc, &row, base),
-        "goes-on" => going::goes_on(alloc, &row, base),
-        "stopped-make" => going::stopped_make(alloc, &row, base),
-        "board" => running::run(rt, alloc, &row, base),
-        "session" => running::session(rt, alloc, &row, base),
-        "door" => serving::door(alloc, &row, base),
-        "bell" => serving::bell(alloc, &row, base),
-        "nodes" => serving::nodes(rt, alloc, &row, base),
-        "sent" => serving::sent(alloc, &row, base),
-        "load" => loading::load(alloc, &row),
-        "load-on-disk" => loading::load_on_disk(alloc, &row, base),
-        "real" => real::answer(files, alloc, &row, base),
-        _ => Err(RowError::Unknown(0)),
+    answer(rt, files, alloc, &row, base)
+}
+
+/// Prints what the row comes to, and a line that is none as it stands.
+fn print<R: Threads + Wait + Sync>(
+    rt: &R,
+    files: HostRuntime,
+    line: &str,
+    base: &mut Base,
+) -> io::Result<()> {
+    if line.is_empty() || line.starts_with('#') {
+        return println!(files; "{line}");
+    }
+    match answer_line(rt, files, files.alloc(), line, base) {
+        Ok(text) => println!(files; "{text}"),
+        Err(error) => println!(files; "no answer to '{line}': {error}"),
     }
 }
 
@@ -58,16 +85,7 @@ fn answer<R: Threads + Wait + Sync>(
 fn main(rt: HostRuntime) -> io::Result<()> {
     let mut base = Base::new(rt.alloc());
     for line in rt.lines(rt.alloc()) {
-        let line = line?;
-        let line = line.as_str();
-        if line.is_empty() || line.starts_with('#') {
-            println!(rt; "{line}")?;
-            continue;
-        }
-        match answer(&rt, rt, rt.alloc(), line, &mut base) {
-            Ok(text) => println!(rt; "{text}")?,
-            Err(error) => println!(rt; "no answer to '{line}': {error}")?,
-        }
+        print(&rt, rt, line?.as_str(), &mut base)?;
     }
     Ok(())
 }

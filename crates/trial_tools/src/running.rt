@@ -63,6 +63,46 @@ pub fn ended(
     Ok(format!(in alloc; "{status} {printed}")?)
 }
 
+/// Gives the host these words of the row as its settings file.
+pub fn settle(
+    alloc: Global,
+    row: &Row,
+    place: usize,
+    base: &Base,
+    host: &mut MemHost,
+) -> Result<(), RowError>
+    requires { IsSome (memory_desk host.old).console }
+    ensures { IsSome (memory_desk host.new).console }
+{
+    let settings = base.joined(alloc, row, place)?;
+    host.add_settings("board.toml", settings)?;
+    Ok(())
+}
+
+/// A run of these words over the host, and how it ended.
+pub fn ran<R: Threads + Wait + Sync>(
+    rt: &R,
+    alloc: Global,
+    words: &[String],
+    host: &mut MemHost,
+    base: &mut Base,
+) -> Result<String, RowError>
+    requires { IsSome (memory_desk host.old).console }
+{
+    let status = board(rt, alloc, words, host);
+    ended(alloc, status, host, base)
+}
+
+/// The host of a run of tools.
+fn host_of_tools(alloc: Global, row: &Row, base: &Base) -> Result<MemHost, RowError>
+    ensures { IfOk result (λ host. IsSome (memory_desk host).console) }
+{
+    let moment = row.u32(1)?;
+    let failing = failing(alloc, row, 3)?;
+    let disk = base.disk(alloc, row, 2)?;
+    host(alloc, disk, moment, Bytes::new(alloc), failing)
+}
+
 /// `board MOMENT DISK CONSOLE WORD..`: a run of the words over the base, in which these calls of its disk and of the console fail.
 pub fn run<R: Threads + Wait + Sync>(
     rt: &R,
@@ -70,18 +110,20 @@ pub fn run<R: Threads + Wait + Sync>(
     row: &Row,
     base: &mut Base,
 ) -> Result<String, RowError> {
-    let moment = row.u32(1)?;
     let words = words(alloc, row, 4)?;
+    let mut host = host_of_tools(alloc, row, base)?;
+    ran(rt, alloc, words.as_slice(), &mut host, base)
+}
+
+/// The host of a session, on whose console its input comes.
+fn host_of_session(alloc: Global, row: &Row, base: &Base) -> Result<MemHost, RowError>
+    ensures { IfOk result (λ host. IsSome (memory_desk host).console) }
+{
+    let moment = row.u32(1)?;
+    let failing = failing(alloc, row, 3)?;
+    let input = base.joined(alloc, row, 5)?;
     let disk = base.disk(alloc, row, 2)?;
-    let mut host = host(
-        alloc,
-        disk,
-        moment,
-        Bytes::new(alloc),
-        failing(alloc, row, 3)?,
-    )?;
-    let status = board(rt, alloc, words.as_slice(), &mut host);
-    ended(alloc, status, &host, base)
+    host(alloc, disk, moment, input, failing)
 }
 
 /// `session MOMENT DISK CONSOLE SETTINGS INPUT`: one session over the base by these settings, with this on the console, in which these
@@ -92,16 +134,11 @@ pub fn session<R: Threads + Wait + Sync>(
     row: &Row,
     base: &mut Base,
 ) -> Result<String, RowError> {
-    let moment = row.u32(1)?;
-    let disk = base.disk(alloc, row, 2)?;
-    let settings = base.joined(alloc, row, 4)?;
-    let input = base.joined(alloc, row, 5)?;
-    let mut host = host(alloc, disk, moment, input, failing(alloc, row, 3)?)?;
-    host.add_settings("board.toml", settings)?;
     let words = vec![in alloc;
         String::from_str(alloc, "local")?,
         String::from_str(alloc, "board.toml")?,
     ]?;
-    let status = board(rt, alloc, words.as_slice(), &mut host);
-    ended(alloc, status, &host, base)
+    let mut host = host_of_session(alloc, row, base)?;
+    settle(alloc, row, 4, base, &mut host)?;
+    ran(rt, alloc, words.as_slice(), &mut host, base)
 }

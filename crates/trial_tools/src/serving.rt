@@ -1,11 +1,10 @@
 //! Whole runs of the program with many nodes, over a host in memory with doors and a bell.
-ghost use Rattle.std.specs.Prelude.{IsSome};
+ghost use Rattle.std.specs.Prelude.{IfOk, IsSome};
 ghost use Rattle.jb_host.specs.Shelves.{memory_desk};
 
 use crate::base::{Base, failing};
-use crate::running::{ended, host, words};
+use crate::running::{host, ran, settle, words};
 use jb_base::{Bytes, OutOfMemory};
-use jb_board::board;
 use jb_host::{MemBell, MemDoor, MemHost, MemLink};
 use std::alloc::Global;
 use std::mem;
@@ -35,6 +34,20 @@ impl Entrance {
     fn take(&mut self, alloc: Global) -> (Vec<MemDoor>, Option<MemBell>) {
         let doors = mem::replace(&mut self.doors, Vec::new(alloc));
         (doors, self.bell.take())
+    }
+
+    /// Gives the host the doors and the bell, of which none are left.
+    fn furnish(&mut self, alloc: Global, host: &mut MemHost) -> Result<(), OutOfMemory>
+        requires { IsSome (memory_desk host.old).console }
+        ensures { IsSome (memory_desk host.new).console }
+    {
+        let (doors, bell) = self.take(alloc);
+        furnish(host, doors, bell)
+    }
+
+    /// This is the host of the last run.
+    fn keep(&mut self, host: MemHost) {
+        self.host = Some(host);
     }
 }
 
@@ -80,6 +93,15 @@ pub fn bell(alloc: Global, row: &Row, base: &mut Base) -> Result<String, RowErro
     Ok(format!(in alloc; "{rings} to come")?)
 }
 
+/// The host of a run with many nodes.
+fn host_of_nodes(alloc: Global, row: &Row, base: &Base) -> Result<MemHost, RowError>
+    ensures { IfOk result (λ host. IsSome (memory_desk host).console) }
+{
+    let moment = row.u32(1)?;
+    let disk = base.disk(alloc, row, 2)?;
+    host(alloc, disk, moment, Bytes::new(alloc), Vec::new(alloc))
+}
+
 /// `nodes MOMENT DISK SETTINGS WORD..`: a run of the words over the base, with these settings in `board.toml`, the doors and the bell,
 /// in which that call of its disk fails.
 pub fn nodes<R: Threads + Wait + Sync>(
@@ -88,17 +110,13 @@ pub fn nodes<R: Threads + Wait + Sync>(
     row: &Row,
     base: &mut Base,
 ) -> Result<String, RowError> {
-    let disk = base.disk(alloc, row, 2)?;
-    let settings = base.joined(alloc, row, 3)?;
     let words = words(alloc, row, 4)?;
-    let (doors, bell) = base.entrance.take(alloc);
-    let mut host = host(alloc, disk, row.u32(1)?, Bytes::new(alloc), Vec::new(alloc))?;
-    host.add_settings("board.toml", settings)?;
-    furnish(&mut host, doors, bell)?;
-    let status = board(rt, alloc, words.as_slice(), &mut host);
-    let text = ended(alloc, status, &host, base)?;
-    base.entrance.host = Some(host);
-    Ok(text)
+    let mut host = host_of_nodes(alloc, row, base)?;
+    settle(alloc, row, 3, base, &mut host)?;
+    base.entrance.furnish(alloc, &mut host)?;
+    let text = ran(rt, alloc, words.as_slice(), &mut host, base);
+    base.entrance.keep(host);
+    text
 }
 
 /// `sent NODE CALL`: what the last run sent to this caller at the door of the node, where the door is back.
