@@ -7,7 +7,7 @@ use jb_base::{NODISP, PRIVATE, User};
 
 /// The data of a message's first SENDERNAME and first RECEIVERNAME, empty where there is none, and its Attribute (JAM,
 /// "SubFields" and "Attribute").
-#[derive(Clone, Copy, Debug)]
+#[derive(Clone, Copy)]
 pub struct Parties<'a> {
     pub from: &'a [u8],
     pub to: &'a [u8],

@@ -1,7 +1,7 @@
 //! The open area, and what becomes of a call that is begun.
 
 use crate::committing::{commit_change, in_use, settle_change};
-use crate::copying::{kept_after, sync_copies};
+use crate::copying::{keep_after, sync_copies};
 use crate::places::{drop_both, drop_pending, drop_stage, put_redo, put_stage};
 use crate::stage::Stage;
 use jb_base::AreaRules;
@@ -87,7 +87,9 @@ impl<D: Disk> OpenArea<D> {
         ensures rules { rules_of self.new ≡ rules_of self.old }
         ensures room { small_redo_of self.new ≡ small_redo_of self.old }
     {
-        let Stage::Begun { reply, pending } = mem::replace(&mut self.stage, Stage::Resting) else {
+        let stage = mem::replace(&mut self.stage, Stage::Resting);
+        let Stage::Begun { reply, pending } = stage else {
+            drop_stage(stage);
             unreachable!()
         };
         if let Pending::Nothing = pending {
@@ -98,7 +100,7 @@ impl<D: Disk> OpenArea<D> {
         match commit_change(&mut self.disk, in_use(&self.large, &self.redo)) {
             Ok(()) => {
                 put_redo(&mut self.large, None);
-                self.packer = kept_after(&pending, mem::replace(&mut self.packer, None));
+                keep_after(&pending, &mut self.packer);
                 self.held.apply(pending);
                 Ok(reply)
             }
@@ -185,8 +187,9 @@ impl<D: Disk> OpenArea<D> {
                 Err(stopped) => Err(stopped),
             };
         }
-        let Stage::Doubtful { stopped, pending } = mem::replace(&mut self.stage, Stage::Resting)
-        else {
+        let stage = mem::replace(&mut self.stage, Stage::Resting);
+        let Stage::Doubtful { stopped, pending } = stage else {
+            drop_stage(stage);
             unreachable!()
         };
         if let Pending::Nothing = pending {

@@ -122,12 +122,12 @@ pub(crate) fn sync_copies<D: Disk>(disk: &mut D) -> Result<(), Stopped>
     }
 }
 
-/// The packer that is kept once what is pending is done: after a pack none, since its copies are of no use then.
-pub(crate) fn kept_after(pending: &Pending, kept: Option<Packer>) -> Option<Packer>
-    ensures { result ≡ copied_after pending.now kept }
+/// Keeps the packer once what is pending is done, but after a pack, since its copies are of no use then.
+pub(crate) fn keep_after(pending: &Pending, kept: &mut Option<Packer>)
+    ensures { kept.new ≡ copied_after pending.now kept.old }
 {
     match pending {
-        Pending::Packed { .. } => None,
-        Pending::Nothing | Pending::Counted { .. } | Pending::Marked { .. } => kept,
+        Pending::Packed { .. } => *kept = None,
+        Pending::Nothing | Pending::Counted { .. } | Pending::Marked { .. } => {}
     }
 }

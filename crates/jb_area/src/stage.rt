@@ -5,7 +5,7 @@ use jb_journal::Stopped;
 use jb_model::Reply;
 
 /// What is on its way in an open area.
-#[derive(Debug, Drop)]
+#[derive(Drop)]
 pub(crate) enum Stage {
     /// Nothing.
     Resting,

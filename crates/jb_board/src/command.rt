@@ -14,7 +14,7 @@ pub const MOST_STEPS: u32 = 50_000;
 pub const MOST_CALLS: u32 = 1_000_000;
 
 /// What the words of a command line ask for.
-#[derive(Clone, Copy, Debug)]
+#[derive(Clone, Copy)]
 pub enum CommandLine<'a> {
     /// `TOOL DIR NAME`: a tool, and the folder and the name of a base, neither of them empty.
     Use {

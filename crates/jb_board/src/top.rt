@@ -24,7 +24,7 @@ const HELP: &[u8] =
     b"board list DIR NAME\nboard check DIR NAME\nboard make DIR NAME\nboard pack DIR NAME\nboard relink DIR NAME\nboard load SEED COUNT\nboard local CONF\nboard serve CONF\nboard serve CONF --calls N\nboard help\n";
 
 /// What a run that is not refused comes to.
-#[derive(Debug, Drop)]
+#[derive(Drop)]
 pub(crate) enum Outcome {
     /// A text to print.
     Text(Bytes),

@@ -4,7 +4,7 @@ use crate::{BoardAreas, BoardUsers, Text};
 use jb_base::{AreaRules, Bytes, Name, User};
 
 /// A board, as its settings file says it.
-#[derive(Debug, Drop)]
+#[derive(Drop)]
 pub struct Board {
     /// What it calls itself: 1 to 36 printable bytes.
     pub name: Name,
@@ -25,7 +25,7 @@ pub struct Board {
 }
 
 /// An area of a board.
-#[derive(Debug, Drop)]
+#[derive(Drop)]
 pub struct BoardArea {
     /// What the menus call it: 1 to 24 printable bytes.
     pub name: Name,
@@ -38,7 +38,7 @@ pub struct BoardArea {
 }
 
 /// Someone who may log in.
-#[derive(Debug, Drop)]
+#[derive(Drop)]
 pub struct BoardUser {
     /// The name, the number and the level.
     pub user: User,

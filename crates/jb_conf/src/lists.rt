@@ -7,7 +7,7 @@ use std::alloc::Global;
 use std::marker::Model;
 
 /// A text. Contracts see the list of its bytes.
-#[derive(Debug, Drop)]
+#[derive(Drop)]
 pub struct Text {
     inner: String,
 }
@@ -38,7 +38,7 @@ impl Text {
 }
 
 /// The areas of a board, in the order of their numbers. Contracts see the list of them.
-#[derive(Debug, Drop)]
+#[derive(Drop)]
 pub struct BoardAreas {
     items: Vec<BoardArea>,
 }
@@ -80,7 +80,7 @@ impl BoardAreas {
 }
 
 /// The users of a board, in the order of the settings file. Contracts see the list of them.
-#[derive(Debug, Drop)]
+#[derive(Drop)]
 pub struct BoardUsers {
     items: Vec<BoardUser>,
 }

@@ -6,7 +6,7 @@ use crate::pending::Pending;
 use jb_model::Reply;
 
 /// The reply that was decided, and what is pending.
-#[derive(Debug, Drop)]
+#[derive(Drop)]
 pub struct Decided {
     pub reply: Reply,
     pub pending: Pending,

@@ -23,7 +23,7 @@ use std::marker::Model;
 /// how many messages are live, the places of the marks by their users, four bytes each, and the replies by what they answer,
 /// with room for as many marks and slots as an area may have, so that a change takes no memory. The marks themselves stand once,
 /// in what is loaded.
-#[derive(Debug, Drop)]
+#[derive(Drop)]
 pub struct Held {
     loaded: Loaded,
     live: u32,

@@ -6,7 +6,7 @@ use jb_replies::Replies;
 use jb_step::Neighbour;
 
 /// What a call that is begun will change.
-#[derive(Debug, Drop)]
+#[derive(Drop)]
 pub enum Pending {
     /// Nothing: a refusal, a look, or a relink of an area that is linked.
     Nothing,
@@ -31,7 +31,7 @@ pub enum Pending {
 }
 
 /// What will change in the slots.
-#[derive(Debug, Drop)]
+#[derive(Drop)]
 pub enum SlotChange {
     /// The header of the live message at this place gets these fields.
     Headed {

@@ -89,3 +89,30 @@ module _ (buffer bytes : List ℕ) (kept : List Kept) (file : FileId) (at len st
   -- and they fill the buffer
   pub put-total : sum_by size_of kept ≡ length buffer → sum_by size_of (kept ++ new ∷ []) ≡ length (buffer ++ bytes)
   put-total total = omega (arith, sum_by_push size_of kept new, total, long, length-append buffer bytes)
+
+-- true is not false
+not_false : true ≡ false → ⊥
+not_false is = cc
+
+-- a piece that is copied from a file, as it is kept
+abbrev pub copied_kept : FileId → ℕ → FileId → ℕ → ℕ → ℕ → Kept
+copied_kept from from_at to to_at len start = record { head = record { copy = true; from = from; from_at = from_at; to = to; to_at = to_at; len = len }; start = start }
+
+module _ (buffer : List ℕ) (kept : List Kept) (from : FileId) (from_at : ℕ) (to : FileId) (to_at len start : ℕ) (starts : start ≡ length buffer) (fits : All (KeptFits buffer) kept) where
+  -- the piece that is put
+  abbrev copied : Kept
+  copied = copied_kept from from_at to to_at len start
+
+  -- it fits with the others
+  pub copy-fits : All (KeptFits buffer) (kept ++ copied ∷ [])
+  copy-fits =
+      let last : KeptFits buffer copied = record { within = omega (arith, starts); plain = λ is. absurd (not_false is) } in
+      All-append (KeptFits buffer) kept (copied ∷ []) fits (All-cons (KeptFits buffer) copied [] last (All-nil (KeptFits buffer)))
+
+  -- the pieces are the others and it
+  pub copy-map : map (piece_of buffer) (kept ++ copied ∷ []) ≡ map (piece_of buffer) kept ++ Copy from from_at to to_at len ∷ []
+  copy-map = map-append (piece_of buffer) kept (copied ∷ [])
+
+  -- and they fill the buffer as before
+  pub copy-total : sum_by size_of kept ≡ length buffer → sum_by size_of (kept ++ copied ∷ []) ≡ length buffer
+  copy-total total = omega (arith, sum_by_push size_of kept copied, total)

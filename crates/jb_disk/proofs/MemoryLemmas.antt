@@ -1,6 +1,6 @@
 -- What each call of a disk in memory does to what it tells.
 use Rattle.std.specs.declared.alloc.Global.{Global}
-use Rattle.std.proofs.Common.{Vec, ◌≡◌, ◌≢◌, inl, inr, ℕ, ◌+◌, ◌≤◌, List, [], ◌∷◌, ◌++◌, length, refl, sym, ◌∙◌, ap, subst, true, false, Bool, le-leb, arith, ◌<◌, Option, Some, None, Result, Ok, Err}
+use Rattle.std.proofs.Common.{Vec, ◌≡◌, ◌≢◌, inl, inr, ℕ, ◌+◌, ◌≤◌, List, [], ◌∷◌, ◌++◌, length, refl, sym, ◌∙◌, ap, subst, true, false, Bool, le-leb, arith, ◌<◌, Option, Some, None, Result, Ok, Err, not}
 use Rattle.std.specs.Option.{option_map}
 use Rattle.jb_base.specs.Fault.{Rose}
 use Rattle.std.specs.Prelude.{◌⊎◌, IsErr, OnOk, OnErr, reverse, nat_le, if◌then◌else◌, ◌&&◌}
@@ -249,3 +249,134 @@ failed-fails-by (Ok value) past disk first failing old new m n view_is fails ros
 failed-fails-by (Err error) past disk first failing old new m n view_is fails rose later not_past =
     let before : m ≡ disk.faults = ap (λ (d : Recording). d.faults) view_is in
     record { kept = tt; later = subst (λ (k : ℕ). k ≤ n) before later; failed = inl (subst (λ (k : ℕ). Rose k n) before rose); refused = λ passed. absurd (not_past passed); alike = refl }
+
+-- what is read after a call that was refused, whether it is kept or not
+contents-refused : (first : Files) (call : Call) (fails : Bool) (old new : List Call) → (fails ≡ true → contents_after first (call ∷ reverse old) ≡ contents_after first (reverse old))
+    → (new ≡ old) ⊎ ((fails ≡ true) × (new ≡ old ++ call ∷ [])) → contents_after first (reverse new) ≡ contents_after first (reverse old)
+contents-refused first call fails old new nothing kept = elim kept [
+  | inl same ↦ ap (λ (calls : List Call). contents_after first (reverse calls)) same
+  | inr tried ↦ ap (contents_after first) (newest old call new tried.1) ∙ nothing tried.0
+]
+
+-- a write that fails changes nothing of what is read
+wrote-not : (first : Files) (f : FileId) (at : ℕ) (bytes : Vec ℕ Global) (calls : List Call) (fails : Bool) → fails ≡ true
+    → contents_after first (Wrote f at bytes (not fails) ∷ calls) ≡ contents_after first calls
+wrote-not first f at bytes calls true is = refl
+wrote-not first f at bytes calls false is = absurd (not_true is)
+
+-- nor does a change of length
+resized-not : (first : Files) (f : FileId) (len : ℕ) (calls : List Call) (fails : Bool) → fails ≡ true
+    → contents_after first (Resized f len (not fails) ∷ calls) ≡ contents_after first calls
+resized-not first f len calls true is = refl
+resized-not first f len calls false is = absurd (not_true is)
+
+-- what is read after a call of which there is at most a note that it was made
+pub present-quiet : (first : Files) (old new : List Call) (present : Files) → ((file : FileId) → present file ≡ contents_after first (reverse old) file) → IsQuiet old new
+    → (file : FileId) → present file ≡ contents_after first (reverse new) file
+present-quiet first old new present was quiet file = elim (quiet-newest old new quiet) [
+  | inl same ↦ was file ∙ sym (ap (λ (calls : List Call). contents_after first calls file) same)
+  | inr tried ↦ was file ∙ sym (ap (λ (calls : List Call). contents_after first calls file) tried)
+]
+
+-- a call past an end is refused, and counts nothing
+pub past-fails-by : {T E : Type 0} (error : E) (disk : Recording) (first : List (List ℕ)) (failing : List ℕ) (old new : List Call) (m : ℕ) (present : Files) (f : FileId) (end : ℕ)
+    → record { first = first; calls = old; faults = m; failing = failing } ≡ disk → ((file : FileId) → present file ≡ contents_after (listed first) (reverse old) file)
+    → length (present f) < end
+    → FailsBy {T = T} (IsPast (device_of disk).contents f end) (device_of disk) (device_of (record { first = first; calls = new; faults = m; failing = failing })) (Err error)
+past-fails-by error disk first failing old new m present f end view_is was past =
+    let same : m ≡ disk.faults = ap (λ (d : Recording). d.faults) view_is in
+    let there : length (contents_after (listed first) (reverse old) f) < end = omega (arith, ap length (was f), past) in
+    record {
+      kept = tt;
+      later = omega arith;
+      failed = inr (subst (λ (d : Recording). length (contents_after (listed d.first) (reverse d.calls) f) < end) view_is there);
+      refused = λ _. (refl, same);
+      alike = refl;
+    }
+
+-- what is read after a sync, done or not
+pub present-synced : {T E : Type 0} (result : Result T E) (first : Files) (f : FileId) (old new : List Call) (present : Files) → ((file : FileId) → present file ≡ contents_after first (reverse old) file)
+    → OnOk result (new ≡ old ++ Synced f ∷ []) → OnErr result (IsQuiet old new) → (file : FileId) → present file ≡ contents_after first (reverse new) file
+present-synced (Ok value) first f old new present was done failed file = was file ∙ sym (ap (λ (calls : List Call). contents_after first calls file) (newest old (Synced f) new done))
+present-synced (Err error) first f old new present was done failed file = present-quiet first old new present was failed file
+
+-- a call with no end to pass, by what it counted
+pub counted-fails-by : {T E : Type 0} (result : Result T E) (disk : Recording) (first : List (List ℕ)) (failing : List ℕ) (old new : List Call) (m n : ℕ)
+    → record { first = first; calls = old; faults = m; failing = failing } ≡ disk → OnOk result (n ≡ m) → OnErr result (Rose m n) → m ≤ n
+    → FailsBy ⊥ (device_of disk) (device_of (record { first = first; calls = new; faults = n; failing = failing })) result
+counted-fails-by (Ok value) disk first failing old new m n view_is quiet rose later = done-fails-by value ⊥ disk first failing old new m n view_is quiet (λ never. never)
+counted-fails-by (Err error) disk first failing old new m n view_is quiet rose later = failed-fails-by (Err error) ⊥ disk first failing old new m n view_is refl rose later (λ never. never)
+
+-- a write that was refused
+module _ (first : List (List ℕ)) (f : FileId) (at : ℕ) (bytes : Vec ℕ Global) (fails : Bool) (old new : List Call)
+    (kept : (new ≡ old) ⊎ ((fails ≡ true) × (new ≡ old ++ Wrote f at bytes (not fails) ∷ []))) where
+  -- nothing is read otherwise
+  read-unwritten : contents_after (listed first) (reverse new) ≡ contents_after (listed first) (reverse old)
+  read-unwritten = contents-refused (listed first) (Wrote f at bytes (not fails)) fails old new (wrote-not (listed first) f at bytes (reverse old) fails) kept
+
+  -- the files in memory are as they were
+  pub present-unwritten : (present : Files) → ((file : FileId) → present file ≡ contents_after (listed first) (reverse old) file)
+      → (file : FileId) → present file ≡ contents_after (listed first) (reverse new) file
+  present-unwritten present was file = was file ∙ sym (ap (λ (files : Files). files file) read-unwritten)
+
+  -- and a crash may leave what it might before, or any bytes in the range
+  pub tears-unwritten : {T E : Type 0} (result : Result T E) (disk : Recording) (failing : List ℕ) (len m n : ℕ)
+      → record { first = first; calls = old; faults = m; failing = failing } ≡ disk → length bytes.items ≡ len → IsErr result
+      → Tears f at len (device_of disk) (device_of (record { first = first; calls = new; faults = n; failing = failing })) result
+  tears-unwritten (Ok value) disk failing len m n view_is size fault = absurd (not_true fault)
+  tears-unwritten {T = T} {E = E} (Err error) disk failing len m n view_is size fault =
+      let after = λ (calls : List Call). images_after (listed first) calls ∷ earlier_after (listed first) calls in
+      subst (λ (was : Recording). Tears {T = T} {E = E} f at len (device_of was) (device_of (record { first = first; calls = new; faults = n; failing = failing })) (Err error)) view_is
+      (subst (λ (k : ℕ). Tears {T = T} {E = E} f at k (device_after (listed first) (reverse old) m) (device_after (listed first) (reverse new) n) (Err error)) size
+      (record {
+        tried = record {
+          others = λ other apart. ap (λ (files : Files). files other) read-unwritten;
+          steady = λ none. absurd (some-moment (images_after (listed first) (reverse old)) _ none);
+        };
+        moments = elim kept [
+          | inl same ↦ inl (ap (λ (calls : List Call). after (reverse calls)) same)
+          | inr tried ↦ inr (ap after (newest old (Wrote f at bytes (not fails)) new tried.1))
+        ];
+      }))
+
+-- a write that was refused, on a disk that was only read
+pub tears-not : {T E : Type 0} (error : E) (f : FileId) (at len : ℕ) (old new : Device) → OnlyReads old new → Tears {T = T} f at len old new (Err error)
+tears-not error f at len old new only = record {
+  tried = record {
+    others = subst (Turns (λ before now. (other : FileId) → other ≢ f → now other ≡ before other) old.contents) (sym only.contents) (others-same f old.contents);
+    steady = λ none. only.contents;
+  };
+  moments = inl only.moments;
+}
+
+-- a change of length that was refused
+module _ (first : List (List ℕ)) (f : FileId) (len : ℕ) (fails : Bool) (old new : List Call)
+    (kept : (new ≡ old) ⊎ ((fails ≡ true) × (new ≡ old ++ Resized f len (not fails) ∷ []))) where
+  -- nothing is read otherwise
+  read-unresized : contents_after (listed first) (reverse new) ≡ contents_after (listed first) (reverse old)
+  read-unresized = contents-refused (listed first) (Resized f len (not fails)) fails old new (resized-not (listed first) f len (reverse old) fails) kept
+
+  -- the files in memory are as they were
+  pub present-unresized : (present : Files) → ((file : FileId) → present file ≡ contents_after (listed first) (reverse old) file)
+      → (file : FileId) → present file ≡ contents_after (listed first) (reverse new) file
+  present-unresized present was file = was file ∙ sym (ap (λ (files : Files). files file) read-unresized)
+
+  -- and a crash may leave what it might before, or what the change allows
+  pub resizes-not : {T E : Type 0} (result : Result T E) (disk : Recording) (failing : List ℕ) (m n : ℕ)
+      → record { first = first; calls = old; faults = m; failing = failing } ≡ disk → IsErr result
+      → Resizes f len (device_of disk) (device_of (record { first = first; calls = new; faults = n; failing = failing })) result
+  resizes-not (Ok value) disk failing m n view_is fault = absurd (not_true fault)
+  resizes-not {T = T} {E = E} (Err error) disk failing m n view_is fault =
+      let after = λ (calls : List Call). images_after (listed first) calls ∷ earlier_after (listed first) calls in
+      subst (λ (was : Recording). Resizes {T = T} {E = E} f len (device_of was) (device_of (record { first = first; calls = new; faults = n; failing = failing })) (Err error)) view_is
+      (record {
+        done = tt;
+        tried = record {
+          others = λ other apart. ap (λ (files : Files). files other) read-unresized;
+          steady = λ none. absurd (some-moment (images_after (listed first) (reverse old)) _ none);
+        };
+        moments = elim kept [
+          | inl same ↦ inl (ap (λ (calls : List Call). after (reverse calls)) same)
+          | inr tried ↦ inr (ap after (newest old (Resized f len (not fails)) new tried.1))
+        ];
+      })

@@ -3,7 +3,7 @@
 use crate::FileId;
 
 /// A call of a disk, as far as it may have changed a file. One that is not `done` changed nothing of what is read.
-#[derive(Debug, Drop)]
+#[derive(Drop)]
 pub enum Call {
     /// A length, a read, a call past an end, or a sync that failed.
     NoChange,

@@ -18,7 +18,7 @@ use std::marker::Model;
 /// Six files in memory. The disk keeps all its calls, so that it tells every image that the trait allows, and it fails
 /// those whose numbers it was given: such a call changes nothing of what is read, and a crash may leave it half made.
 /// Want of memory is a fault of the device.
-#[derive(Debug, Drop)]
+#[derive(Drop)]
 pub struct MemDisk {
     alloc: Global,
     first: [Bytes; 6],

@@ -4,14 +4,14 @@ use crate::FileId;
 use jb_base::Bytes;
 
 /// A file's new length in bytes.
-#[derive(Clone, Copy, Debug, PartialEq, Eq)]
+#[derive(Clone, Copy, PartialEq, Eq)]
 pub struct Length {
     pub file: FileId,
     pub len: u32,
 }
 
 /// Bytes that are written into a file: given ones, or some that another file holds.
-#[derive(Debug, Drop)]
+#[derive(Drop)]
 pub enum Piece {
     Bytes {
         file: FileId,
@@ -28,7 +28,7 @@ pub enum Piece {
 }
 
 /// A piece without its bytes. Where it is no copy, `from` is `to` and `from_at` is 0.
-#[derive(Clone, Copy, Debug, PartialEq, Eq)]
+#[derive(Clone, Copy, PartialEq, Eq)]
 pub struct PieceHead {
     pub copy: bool,
     pub from: FileId,

@@ -11,7 +11,7 @@ use std::marker::Model;
 
 /// New lengths and pieces, with spare room for more. The bytes of all pieces stand in one buffer, one after another, so
 /// that a change made anew in the same room takes no memory.
-#[derive(Debug, Drop)]
+#[derive(Drop)]
 pub struct Redo {
     lengths: Vec<Length>,
     kept: Vec<Kept>,
@@ -19,7 +19,7 @@ pub struct Redo {
 }
 
 /// A piece, and where its bytes begin in the buffer.
-#[derive(Clone, Copy, Debug)]
+#[derive(Clone, Copy)]
 pub(crate) struct Kept {
     head: PieceHead,
     start: usize,

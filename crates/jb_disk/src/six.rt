@@ -8,7 +8,7 @@ use jb_base::{Bytes, OutOfMemory};
 use std::alloc::Global;
 
 /// The bytes of each file.
-#[derive(Debug, Drop)]
+#[derive(Drop)]
 pub(crate) struct Six {
     jhr: Vec<u8>,
     jdt: Vec<u8>,

@@ -9,7 +9,7 @@ use jb_base::OutOfMemory;
 use std::alloc::Global;
 
 /// Six files in memory, for a board that is built and thrown away. Want of memory is its one fault.
-#[derive(Debug, Drop)]
+#[derive(Drop)]
 pub struct SteadyDisk {
     present: Six,
     faults: u64,

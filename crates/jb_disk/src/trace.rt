@@ -18,7 +18,7 @@ const SPOILT: u8 = 0xA5;
 
 /// A file as it was last synced, as it is read now, and as it was synced but with 0xA5 in each byte that was written since
 /// and cut to the least length since; with the greatest length since.
-#[derive(Debug, Drop)]
+#[derive(Drop)]
 pub(crate) struct Trace {
     synced: Vec<u8>,
     written: Vec<u8>,

@@ -11,7 +11,7 @@ use jb_base::Bytes;
 use std::alloc::Global;
 
 /// A call that was answered other than for want of memory.
-#[derive(Debug, Drop)]
+#[derive(Drop)]
 pub enum Call {
     /// For the disk of a base.
     Disk {
@@ -57,7 +57,7 @@ pub(crate) fn settings_call(alloc: Global, path: &str) -> Result<Call, HostError
 
 /// The calls that a host answered other than for want of memory, in order, those of them that it is to fail, and how often it has
 /// failed.
-#[derive(Debug, Drop)]
+#[derive(Drop)]
 pub struct Asking {
     calls: Vec<Call>,
     failing: Failing,

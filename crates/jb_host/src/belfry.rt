@@ -8,7 +8,7 @@ use crate::memory_bell::MemBell;
 use std::mem;
 
 /// A place for a bell.
-#[derive(Debug, Drop)]
+#[derive(Drop)]
 pub enum Belfry {
     /// There is no bell.
     Empty,

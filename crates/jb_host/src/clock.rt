@@ -17,7 +17,7 @@ pub trait Clock {
 }
 
 /// A clock in memory, which always gives one reading.
-#[derive(Debug, Drop)]
+#[derive(Drop)]
 pub struct MemClock {
     reading: u32,
 }

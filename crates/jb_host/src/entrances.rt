@@ -7,7 +7,7 @@ use jb_base::OutOfMemory;
 use std::alloc::Global;
 
 /// The doors that wait to be handed out, in order, and those that were, the last one first. It keeps a place for each that waits.
-#[derive(Debug, Drop)]
+#[derive(Drop)]
 pub struct Entrances {
     waiting: Vec<MemDoor>,
     handed: Vec<HandedOut>,

@@ -2,7 +2,7 @@
 ghost use Rattle.std.specs.Prelude.{IsTrue, ◌≡◌};
 
 /// The numbers, from 1, of the calls that are to fail, and how many calls there were.
-#[derive(Debug, Drop)]
+#[derive(Drop)]
 pub struct Failing {
     numbers: Vec<u64>,
     calls: u64,

@@ -7,7 +7,7 @@ ghost use Rattle.jb_host.specs.Memory.{memory_gate};
 use crate::memory_door::MemDoor;
 
 /// The door of a node that was handed out, once it is back.
-#[derive(Debug, Drop)]
+#[derive(Drop)]
 pub struct HandedOut {
     pub(crate) node: u32,
     pub(crate) door: Option<MemDoor>,

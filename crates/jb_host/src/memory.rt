@@ -8,7 +8,7 @@ use std::alloc::Global;
 
 /// A link with an input that is there from the start, and an output that is kept. It fails the calls whose numbers, from 1,
 /// it was given; such a call takes and sends nothing. Want of memory for the output is a failure of the link.
-#[derive(Debug, Drop)]
+#[derive(Drop)]
 pub struct MemLink {
     input: Bytes,
     at: usize,

@@ -4,7 +4,7 @@ ghost use Rattle.std.specs.Prelude.{◌≡◌};
 use crate::bell::{Bell, Ring};
 
 /// A bell that rings for its areas in order, at once, and is then shut.
-#[derive(Debug, Drop)]
+#[derive(Drop)]
 pub struct MemBell {
     areas: Vec<u32>,
     is_shut: bool,

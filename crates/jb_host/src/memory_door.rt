@@ -9,7 +9,7 @@ use std::alloc::Global;
 
 /// A door that gives its links in order and is then shut, and keeps those that are hung up. It fails the calls of `accept` whose
 /// numbers, from 1, it was given; such a call gives nothing.
-#[derive(Debug, Drop)]
+#[derive(Drop)]
 pub struct MemDoor {
     links: Vec<MemLink>,
     hung: Vec<MemLink>,

@@ -21,7 +21,7 @@ use std::alloc::Global;
 /// A host with a console, disks, settings, doors, a bell and clocks in memory. It fails the calls for a disk, settings, a door or the
 /// bell whose numbers, from 1, it was given, and those for a base, a file, a door or a bell that it does not have; it tells all that a
 /// host may tell.
-#[derive(Debug, Drop)]
+#[derive(Drop)]
 pub struct MemHost {
     alloc: Global,
     console: Option<MemLink>,

@@ -7,7 +7,7 @@ use jb_base::Bytes;
 use std::alloc::Global;
 
 /// A settings file.
-#[derive(Debug, Drop)]
+#[derive(Drop)]
 pub struct Page {
     pub(crate) path: Bytes,
     pub(crate) bytes: Bytes,

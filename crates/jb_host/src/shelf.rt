@@ -8,7 +8,7 @@ use jb_base::Bytes;
 use jb_disk::MemDisk;
 
 /// A place for the disk of one base.
-#[derive(Debug, Drop)]
+#[derive(Drop)]
 pub struct Shelf {
     pub(crate) dir: Bytes,
     pub(crate) name: Bytes,

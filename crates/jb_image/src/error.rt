@@ -51,7 +51,7 @@ pub enum OpenError {
 }
 
 /// What is wrong with the header that an index record names.
-#[derive(Clone, Copy, Debug, PartialEq, Eq)]
+#[derive(Clone, Copy, PartialEq, Eq)]
 pub(crate) enum Damage {
     HeaderPlace,
     HeaderSignature,
@@ -76,7 +76,7 @@ impl Damage {
 }
 
 /// Why a part of the files is not read.
-#[derive(Clone, Copy, Debug, PartialEq, Eq)]
+#[derive(Clone, Copy, PartialEq, Eq)]
 pub(crate) enum ReadError {
     StoreFault,
     OutOfMemory,

@@ -41,7 +41,7 @@ pub(crate) fn read_entry<D: Disk>(
 }
 
 /// The slots whose headers were read, in the order of the index, and what is wrong with the next one, if something is.
-#[derive(Debug, Drop)]
+#[derive(Drop)]
 pub(crate) struct Seen {
     pub(crate) slots: Vec<SeenSlot>,
     pub(crate) damage: Option<Damage>,

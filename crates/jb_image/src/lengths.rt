@@ -9,7 +9,7 @@ use crate::error::ReadError;
 use jb_disk::{Disk, FileId};
 
 /// How many bytes the files have.
-#[derive(Clone, Copy, Debug)]
+#[derive(Clone, Copy)]
 pub(crate) struct Lengths {
     pub(crate) headers: u64,
     pub(crate) texts: u64,

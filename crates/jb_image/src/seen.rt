@@ -8,7 +8,7 @@ use jb_record::{MESSAGE_HEADER_BYTES, MessageHeader};
 
 /// A live message whose header was read, and whose subfields lie where they must: the UserCRC of its index record, and
 /// the place and the fields of its header.
-#[derive(Clone, Copy, Debug)]
+#[derive(Clone, Copy)]
 pub(crate) struct SeenMessage {
     pub(crate) owner: u32,
     pub(crate) header_at: u32,
@@ -16,7 +16,7 @@ pub(crate) struct SeenMessage {
 }
 
 /// A slot whose header was read.
-#[derive(Clone, Copy, Debug)]
+#[derive(Clone, Copy)]
 pub(crate) enum SeenSlot {
     Empty,
     Killed { header_at: u32 },

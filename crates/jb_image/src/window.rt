@@ -18,7 +18,7 @@ const WINDOW_BYTES: usize = 65_536;
 ///
 /// A look that the window holds reads nothing, so where records stand in rising order each read takes a whole window, and
 /// only a record across a border is read twice. For any other order there is [`Window::reach_all`].
-#[derive(Debug, Drop)]
+#[derive(Drop)]
 pub(crate) struct Window {
     file: FileId,
     file_len: u64,
@@ -27,7 +27,7 @@ pub(crate) struct Window {
 }
 
 /// Bytes of a file, by their place.
-#[derive(Clone, Copy, Debug)]
+#[derive(Clone, Copy)]
 struct Range {
     at: u64,
     len: usize,

@@ -24,7 +24,7 @@ use std::marker::Model;
 
 /// The summaries of an area's live messages in rising order of their numbers, its marks, its base number and next number,
 /// and its rules. There is room for as many summaries as the rules have slots, and for 65,000 marks.
-#[derive(Debug, Drop)]
+#[derive(Drop)]
 pub struct Index {
     summaries: Tiered<Summary>,
     marks: Marks,

@@ -9,7 +9,7 @@ use std::marker::Model;
 
 /// One edit of an index. It changes what it names and moves no other summary; what does not fit the room of the index
 /// changes nothing.
-#[derive(Debug, Drop)]
+#[derive(Drop)]
 pub enum OpEdit {
     /// The summary of a message: it takes the place of the one with its number, or comes between the others. The next
     /// number is then above its number.
@@ -29,7 +29,7 @@ pub enum OpEdit {
 }
 
 /// What a change of an area does to its index: edits, in order. Contracts see the list of them.
-#[derive(Debug, Drop)]
+#[derive(Drop)]
 pub struct Op {
     edits: Vec<OpEdit>,
 }

@@ -10,7 +10,7 @@ use jb_base::{AreaRules, MOST_NAME_BYTES, User};
 use jb_model::{Short, Summary};
 
 /// Which of the messages that a user sees are asked for.
-#[derive(Clone, Copy, Debug, PartialEq, Eq)]
+#[derive(Clone, Copy)]
 pub(crate) enum Wanted {
     /// All of them.
     All,

@@ -17,7 +17,7 @@ use jb_disk::{Disk, DiskFailed, FileId};
 const CHUNK_BYTES: u32 = 65_536;
 
 /// Bytes to be copied from one file into another.
-#[derive(Clone, Copy, Debug)]
+#[derive(Clone, Copy)]
 pub(crate) struct Copying {
     pub(crate) from: FileId,
     pub(crate) from_at: u64,

@@ -10,7 +10,7 @@ use std::marker::Model;
 const MOST_BYTES: usize = 16_384;
 
 /// Bytes on their way into a file, which are still to be written there.
-#[derive(Debug, Drop)]
+#[derive(Drop)]
 pub(crate) struct Gathering {
     file: FileId,
     at: u64,

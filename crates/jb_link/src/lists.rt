@@ -37,7 +37,7 @@ impl From<Vec<Links>> for Plan {
 }
 
 /// Numbers of messages, in rising order. Contracts see the list of them.
-#[derive(Debug, Drop)]
+#[derive(Drop)]
 pub struct Numbers {
     items: Vec<u32>,
 }

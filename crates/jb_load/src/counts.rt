@@ -6,7 +6,7 @@ ghost use Rattle.jb_load.specs.Workload.{kills_in, posts_in, reads_in};
 use jb_model::Reply;
 
 /// How many commands were answered as a post, as a reading and as a kill.
-#[derive(Clone, Copy, Debug)]
+#[derive(Clone, Copy)]
 pub(crate) struct Counts {
     pub posts: u32,
     pub reads: u32,

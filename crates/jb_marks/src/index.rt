@@ -13,7 +13,7 @@ use std::marker::Model;
 
 /// The places of marks that stand elsewhere, in the order of their users, and room for so many: the marks are given with
 /// each call, and are those that the index was made of, with what was set in them since. They are at most 65,000.
-#[derive(Debug, Drop)]
+#[derive(Drop)]
 pub struct MarkIndex {
     order: Vec<u32>,
 }

@@ -13,7 +13,7 @@ use std::marker::Model;
 
 /// Marks in the order of the lastread file, and room for so many more; with the room they are at most 65,000. A base
 /// from elsewhere may hold several marks of one pair.
-#[derive(Debug, Drop)]
+#[derive(Drop)]
 pub struct Marks {
     items: Vec<Mark>,
     index: MarkIndex,

@@ -9,7 +9,7 @@ ghost use Rattle.jb_menu.specs.CommandLines.{are_digits, behind_letter, command_
 const MOST_DIGITS: usize = 10;
 
 /// The letters of the commands.
-#[derive(Clone, Copy, Debug, PartialEq, Eq)]
+#[derive(Clone, Copy)]
 pub enum CommandLetter {
     A,
     B,
@@ -27,7 +27,7 @@ pub enum CommandLetter {
 }
 
 /// A line at a command prompt: nothing, a letter, a letter and a number, or a number; else it is unknown.
-#[derive(Clone, Copy, Debug, PartialEq, Eq)]
+#[derive(Clone, Copy)]
 pub enum CommandLine {
     Empty,
     Letter(CommandLetter),

@@ -22,7 +22,7 @@ use std::marker::Model;
 use std::mem;
 
 /// The menus of one session, and where they are. Contracts see the state.
-#[derive(Debug, Drop)]
+#[derive(Drop)]
 pub struct Menu {
     state: State,
 }

@@ -30,7 +30,7 @@ pub enum Move {
 }
 
 /// A move, and the state after it.
-#[derive(Debug, Drop)]
+#[derive(Drop)]
 pub struct Moved {
     pub step: Move,
     pub state: State,

@@ -3,7 +3,7 @@
 use jb_base::{Bytes, Name};
 
 /// What is kept of the message that was shown last, to answer it.
-#[derive(Debug, Drop)]
+#[derive(Drop)]
 pub struct Shown {
     pub number: u32,
     pub from: Name,
@@ -12,7 +12,7 @@ pub struct Shown {
 }
 
 /// A user in an area, each by its place on the board, and the message that was shown last since the user entered it.
-#[derive(Debug, Drop)]
+#[derive(Drop)]
 pub struct Visit {
     pub user: u32,
     pub area: u32,
@@ -20,7 +20,7 @@ pub struct Visit {
 }
 
 /// A message that is written: all of it but its text. It answers no message where that number is 0.
-#[derive(Debug, Drop)]
+#[derive(Drop)]
 pub struct Draft {
     pub to: Name,
     pub subject: Bytes,
@@ -29,7 +29,7 @@ pub struct Draft {
 }
 
 /// What a menu waits for in an area.
-#[derive(Debug, Drop)]
+#[derive(Drop)]
 pub enum Stage {
     /// A command.
     Prompt,
@@ -54,7 +54,7 @@ pub enum Stage {
 }
 
 /// What a menu waits for.
-#[derive(Debug, Drop)]
+#[derive(Drop)]
 pub enum State {
     /// A name, after so many refused log-ins.
     Name { refused: u8 },

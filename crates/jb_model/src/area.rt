@@ -7,7 +7,7 @@ use std::alloc::Global;
 use std::marker::Model;
 
 /// A message: the fields of its header, its subfields and its text.
-#[derive(Debug, Drop)]
+#[derive(Drop)]
 pub struct Message {
     pub head: Head,
     pub subfields: Subfields,
@@ -15,7 +15,7 @@ pub struct Message {
 }
 
 /// What a number of an area names: nothing, a killed message or a live one.
-#[derive(Debug, Drop)]
+#[derive(Drop)]
 pub enum Slot {
     Empty,
     Killed,
@@ -23,7 +23,7 @@ pub enum Slot {
 }
 
 /// The slots of an area as a plain value; the slot at place i has the number base plus i. Contracts see the list of them.
-#[derive(Debug, Drop)]
+#[derive(Drop)]
 pub struct Slots {
     items: Vec<Slot>,
 }
@@ -81,7 +81,7 @@ impl From<Vec<Slot>> for Slots {
 
 /// An area: the number of its first slot (basemsgnum), its slots and its marks. What its files hold besides (the other
 /// fields of the fixed header, dead bytes) is no part of it.
-#[derive(Debug, Drop)]
+#[derive(Drop)]
 pub struct Area {
     pub base: u32,
     pub slots: Slots,

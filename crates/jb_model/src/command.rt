@@ -44,7 +44,7 @@ pub enum Field {
 }
 
 /// A command with the user who asks and the moment at which it is asked, in seconds since 1970.
-#[derive(Debug, Drop)]
+#[derive(Drop)]
 pub struct Asked {
     pub user: User,
     pub moment: u32,

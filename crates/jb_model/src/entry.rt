@@ -5,7 +5,7 @@ use jb_base::User;
 
 /// What came of a call: it was answered; or the device failed in it, so that its change may stand or not; or the area was
 /// in doubt and could not be reopened, so that it was not begun. `faults` is the device's count as the entry is made.
-#[derive(Debug, Drop)]
+#[derive(Drop)]
 pub enum Outcome {
     Replied(Reply),
     InDoubt { faults: u64 },
@@ -14,7 +14,7 @@ pub enum Outcome {
 
 /// One entry of a history: a call, the `call`-th of its node, from 1; or the end of a doubt, in which the change that was
 /// in doubt was found to stand or not.
-#[derive(Debug, Drop)]
+#[derive(Drop)]
 pub enum Entry {
     Called {
         node: u32,

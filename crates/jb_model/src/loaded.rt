@@ -33,7 +33,7 @@ pub enum LoadedSlot {
 /// The slots of an area; the slot at place i has the number base plus i. Contracts see the list of them. There is always
 /// room for as many as an area may have, [`MOST_SLOTS`], so that a change of an open area takes no memory; room that was
 /// never used costs none.
-#[derive(Debug, Drop)]
+#[derive(Drop)]
 pub struct LoadedSlots {
     items: Vec<LoadedSlot>,
 }
@@ -120,7 +120,7 @@ impl LoadedSlots {
 
 /// An area without its texts: the fields of the fixed header (datecreated, modcounter, activemsgs, passwordcrc, the
 /// reserved bytes, basemsgnum), the slots, the marks, and the lengths of .JHR and .JDT in bytes.
-#[derive(Debug, Drop)]
+#[derive(Drop)]
 pub struct Loaded {
     pub created: u32,
     pub counter: u32,

@@ -10,7 +10,7 @@ use std::marker::Model;
 /// The marks of a loaded area, in the order of the lastread file. Contracts see the list of them. There is always room for
 /// as many as an area may have, [`MOST_MARKS`], so that a change of an open area takes no memory; room that was never used
 /// costs none.
-#[derive(Debug, Drop)]
+#[derive(Drop)]
 pub struct LoadedMarks {
     items: Vec<Mark>,
 }

@@ -19,7 +19,7 @@ pub enum Question {
 }
 
 /// The answer to a question: figures to [`Question::Figures`], else summaries.
-#[derive(Debug, Drop)]
+#[derive(Drop)]
 pub enum Answer {
     Summaries(Summaries),
     Figures(Figures),

@@ -15,7 +15,7 @@ pub struct Mark {
 }
 
 /// The marks of an area, in the order of the lastread file. Contracts see the list of them.
-#[derive(Debug, Drop)]
+#[derive(Drop)]
 pub struct Marks {
     items: Vec<Mark>,
 }

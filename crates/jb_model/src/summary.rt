@@ -32,7 +32,7 @@ pub struct Figures {
 }
 
 /// Summaries of messages, in the order of their numbers. Contracts see the list of them.
-#[derive(Debug, Drop)]
+#[derive(Drop)]
 pub struct Summaries {
     items: Vec<Summary>,
 }

@@ -4,7 +4,7 @@ use jb_base::Bytes;
 
 /// The address of the system at which a message was written, of one byte or more, and the serial number that the system
 /// gave it.
-#[derive(Debug, Drop)]
+#[derive(Drop)]
 pub struct MsgId {
     pub address: Bytes,
     pub serial: u32,

@@ -5,7 +5,7 @@ ghost use Rattle.jb_option.specs.Table.{spelled};
 use jb_telnet::{IAC, Verb};
 
 /// An answer of no bytes or of three: IAC, a verb and an option.
-#[derive(Clone, Copy, Debug)]
+#[derive(Clone, Copy)]
 pub struct Answer3 {
     /// The answer is the first `length` of these.
     pub bytes: [u8; 3],

@@ -1,7 +1,8 @@
 -- The texts of an area as they are copied, part by part.
-use Rattle.std.proofs.Common.{◌≡◌, ◌≢◌, inl, inr, ℕ, zero, suc, ◌+◌, ◌≤◌, List, [], ◌∷◌, ◌++◌, Option, length, min, take, drop, All, refl, sym, ◌∙◌, ap, arith, append_assoc, length-append}
+use Rattle.std.proofs.Common.{◌≡◌, ◌≢◌, inl, inr, ℕ, zero, suc, ◌+◌, ◌≤◌, List, [], ◌∷◌, ◌++◌, Option, length, min, take, drop, All, refl, sym, ◌∙◌, ap, subst, arith, append_assoc, length-append}
 use Rattle.std.specs.Option.{ForSome}
 use Rattle.std.proofs.lemmas.List.{append-nil, drop-drop}
+use Rattle.std.proofs.Math.Seq.{drop-length}
 use Rattle.std.proofs.lemmas.List.Sums.{sum_by-cons}
 use Rattle.std.proofs.lemmas.List.Elements.{All-tail}
 use Rattle.jb_base.specs.declared.limits.TheConstants.{TEXTS_CEILING}
@@ -159,6 +160,13 @@ module _ (loaded : Loaded) (contents : Option Files) (slots : List LoadedSlot) (
   pub run_fits : (redo : Change) (run : Run) (end count : ℕ) (rest : List LoadedSlot) → texts_size slots ≤ TEXTS_CEILING → IsCopied redo run end count rest
       → end + run.len ≤ TEXTS_CEILING
   run_fits redo run end count rest fits copied = omega (arith, copied.size, copied.done_is)
+
+  -- where the end is reached none is left
+  pub copied_end : (redo : Change) (run : Run) (end count : ℕ) → length slots ≤ count → count ≤ length slots → IsCopied redo run end count (drop count slots)
+      → IsCopied redo run end (length slots) []
+  copied_end redo run end count reached within copied =
+      let even : count ≡ length slots = omega (arith, reached, within) in
+      subst (λ (n : ℕ). IsCopied redo run end n []) even (subst (IsCopied redo run end count) (ap (λ (n : ℕ). drop n slots) even ∙ drop-length slots) copied)
 
   -- once the last part is put, all texts are
   pub copied_all : (redo redo' : Change) (run : Run) (end : ℕ) → PutsRun contents run redo redo' → IsCopied redo run end (length slots) [] → PutsTexts contents slots start redo'

@@ -5,7 +5,7 @@ ghost use Rattle.jb_pack.specs.Shadow.{left_of, not_copied};
 use jb_model::LoadedSlot;
 
 /// A text that was copied: where it began in .JDT, how many bytes it has, and where it begins in .NDT.
-#[derive(Clone, Copy, Debug)]
+#[derive(Clone, Copy)]
 pub(crate) struct CopiedText {
     pub(crate) from: u32,
     pub(crate) len: u32,

@@ -44,7 +44,7 @@ fn zeros(alloc: Global, len: usize) -> Result<Vec<u8>, OutOfMemory>
 /// not packed. Contracts see the copies, slot by slot, and the length of .NDT. It holds 12 bytes of memory a slot.
 ///
 /// After a fault of the device it is of no more use, since .NDT may hold something else than it says.
-#[derive(Debug, Drop)]
+#[derive(Drop)]
 pub struct Packer {
     copies: Vec<CopiedText>,
     len: u32,

@@ -8,7 +8,7 @@ use jb_subfield::headed_length;
 
 /// The number of the next slot, the places in bytes of the next header in .JHR and of the next text in .JDT, and how many
 /// live messages come before them.
-#[derive(Clone, Copy, Debug)]
+#[derive(Clone, Copy)]
 pub(crate) struct Place {
     pub(crate) number: u32,
     pub(crate) header_at: u32,

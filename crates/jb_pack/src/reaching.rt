@@ -8,7 +8,7 @@ use jb_base::SHADOW_CEILING;
 use jb_model::LoadedSlot;
 
 /// Why no further text is copied.
-#[derive(Clone, Copy, Debug)]
+#[derive(Clone, Copy)]
 pub(crate) enum Stop {
     /// None is left.
     End,
@@ -20,7 +20,7 @@ pub(crate) enum Stop {
 
 /// How far texts may be copied: how many bytes .NDT has before, how many slots are gone through, how many bytes are left of
 /// their texts, and why no further.
-#[derive(Clone, Copy, Debug)]
+#[derive(Clone, Copy)]
 pub(crate) struct Reach {
     pub(crate) behind: u32,
     pub(crate) slots: usize,

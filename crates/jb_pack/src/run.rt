@@ -5,7 +5,7 @@ ghost use Rattle.jb_pack.specs.Runs.{IsJoined, IsPlaced, IsRun};
 use jb_base::MOST_TEXT_BYTES;
 
 /// A part of a file that is read at once: where it begins, and how many bytes it has.
-#[derive(Clone, Copy, Debug)]
+#[derive(Clone, Copy)]
 pub(crate) struct Run {
     pub(crate) at: u32,
     pub(crate) len: u32,

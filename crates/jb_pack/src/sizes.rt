@@ -10,7 +10,7 @@ use jb_subfield::headed_length;
 
 /// How many messages are live and how many were killed, and the bytes that the headers of the live ones, with their
 /// subfields, take in .JHR and their texts in .JDT.
-#[derive(Clone, Copy, Debug)]
+#[derive(Clone, Copy)]
 pub(crate) struct Sizes {
     pub(crate) live: u32,
     pub(crate) killed: u32,

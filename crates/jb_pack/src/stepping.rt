@@ -20,7 +20,7 @@ use jb_disk::{Disk, DiskFailed, FileId};
 use jb_model::{Loaded, LoadedSlot};
 
 /// What a step comes to: how many bytes .NDT has then, and whether a text is left.
-#[derive(Clone, Copy, Debug)]
+#[derive(Clone, Copy)]
 pub(crate) struct StepDone {
     pub(crate) len: u32,
     pub(crate) more: bool,

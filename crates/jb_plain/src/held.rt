@@ -5,7 +5,7 @@ use jb_model::{Mark, Slot};
 
 /// An area with the numbers of its files that are more than its messages: modcounter, activemsgs, and the lengths of .JHR
 /// and .JDT in bytes, which killed messages still take up.
-#[derive(Debug, Drop)]
+#[derive(Drop)]
 pub(crate) struct PlainState {
     pub(crate) base: u32,
     pub(crate) slots: Vec<Slot>,

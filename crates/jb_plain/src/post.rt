@@ -26,7 +26,7 @@ use jb_subfield::headed_length;
 use std::alloc::Global;
 
 /// What a user wrote.
-#[derive(Clone, Copy, Debug)]
+#[derive(Clone, Copy)]
 pub(crate) struct Draft<'a> {
     pub(crate) to: &'a [u8],
     pub(crate) subject: &'a [u8],

@@ -1,5 +1,5 @@
 -- What the queued operations make of a copy.
-use Rattle.std.proofs.Common.{◌≡◌, true, Bool, List, [], ◌∷◌, ◌++◌, fold, refl, ap, sym, ◌∙◌}
+use Rattle.std.proofs.Common.{◌≡◌, true, Bool, List, [], ◌∷◌, ◌++◌, fold, refl, ap, ◌∙◌}
 use Rattle.jb_publish.specs.declared.front.Front.{Front}
 use Rattle.jb_publish.specs.declared.edition.Edition.{Edition}
 use Rattle.jb_publish.specs.declared.edition.Op.{Op}

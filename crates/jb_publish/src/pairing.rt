@@ -1,11 +1,14 @@
 //! Both ends are made.
-ghost use Rattle.std.specs.Prelude.{◌≡◌, ◌<◌, ◌≤◌, ℕ, true, false, [], drop, fold, length, slice_get, IfOk, IsTrue, Some};
+ghost use Rattle.std.specs.Prelude.{◌≡◌, ◌<◌, ◌≤◌, ℕ, true, [], drop, fold, length, slice_get, IfOk, IsTrue, Some};
+ghost use Rattle.left_right.specs.Register.{TurnsAt};
 ghost use Rattle.left_right.specs.Sides.{view};
 ghost use Rattle.jb_publish.specs.Accounts.{IsFresh, account_of, arrived};
 ghost use Rattle.jb_publish.specs.Books.{head_of};
 ghost use Rattle.jb_publish.specs.Editions.{absorbed, edition};
 ghost use Rattle.jb_publish.specs.Marks.{StandsFrom, blank, opening_at};
 ghost use Rattle.jb_publish.specs.Publications.{publication_of};
+ghost use Rattle.jb_publish.specs.Shows.{Binds, Shows};
+ghost use Rattle.jb_publish.specs.declared.edition.Edition.{Edition};
 
 use crate::edition::{Edition, Op};
 use crate::ends::{EditionReader, EditionWriter, Shower, Shown};
@@ -36,18 +39,17 @@ fn begin<T: Published<O, E> + Absorbs<K> + Drop, K: Drop, O, E>(
     true
 }
 
-// The writer takes the mark of the book and of the opening that `J` names.
+// The writer takes the mark of the book and of the opening that `J` names, of which the caller shows that the rule holds.
 fn bind<T: Published<O, E> + Absorbs<K> + Drop, K: Drop, O, E, J: NamesOpening<O>, R: Wait>(
     rt: &R,
     writer: EditionWriter<T, K, O, E>,
     word: ListWord<E>,
     front: Front<E>,
 ) -> Shower<T, K, O, E>
-    requires fresh { writer.desk.shown.value.begun ≡ false }
     requires begins { fold (absorbed T.changed) writer.desk.shown.value (drop writer.behind writer.log.items) ≡ edition writer.desk.shown.value.value writer.desk.shown.value.front true }
     requires front { writer.desk.shown.value.front ≡ front }
     requires word { word ≡ head_of front.seen.book }
-    requires stands { StandsFrom T.stands J.opening writer.desk.shown.value.value front.seen.log }
+    requires binds { (next : Edition T E) → next ≡ fold (absorbed T.changed) writer.desk.shown.value (drop writer.behind writer.log.items) → TurnsAt (Shows T.stands) writer.desk.place.id (view writer.desk.place) writer.desk.shown.value next (Binds J.opening) }
     ensures list { (publication_of result).list ≡ front.seen.log }
     ensures queued { (publication_of result).queued ≡ [] }
     ensures value { (publication_of result).value ≡ writer.desk.shown.value.value }

@@ -1,6 +1,7 @@
 //! What the writer does.
-ghost use Rattle.std.specs.Prelude.{◌≡◌, ◌≤◌, ◌<◌, true, [], ◌∷◌, ◌++◌, drop, fold, is_some, length, MatchBool, MatchResult};
+ghost use Rattle.std.specs.Prelude.{◌≡◌, ◌≤◌, ◌<◌, [], ◌∷◌, ◌++◌, drop, fold, length, MatchBool, MatchResult};
 ghost use mathlib.Core.List.{IsPrefix};
+ghost use Rattle.left_right.specs.Register.{TurnsAt};
 ghost use Rattle.left_right.specs.Sides.{view};
 ghost use Rattle.jb_publish.specs.Accounts.{account_of};
 ghost use Rattle.jb_publish.specs.Editions.{absorbed};
@@ -8,7 +9,7 @@ ghost use Rattle.jb_publish.specs.Fronts.{list_of};
 ghost use Rattle.jb_publish.specs.Marks.{StandsFrom, opening_at};
 ghost use Rattle.jb_publish.specs.Pairs.{IsIn};
 ghost use Rattle.jb_publish.specs.Publications.{publication_of, queued_with, shown_with};
-ghost use Rattle.jb_publish.specs.Shows.{IsOf};
+ghost use Rattle.jb_publish.specs.Shows.{Shows};
 ghost use Rattle.jb_publish.specs.declared.edition.Edition.{Edition};
 ghost use Rattle.jb_publish.specs.declared.edition.Op.TheVariants.{Settle};
 
@@ -45,8 +46,7 @@ fn publish<T: Published<O, E> + Absorbs<K> + Drop, K: Drop, O, E, R: Wait>(
     rt: &R,
     writer: EditionWriter<T, K, O, E>,
 ) -> EditionWriter<T, K, O, E>
-    requires bound { is_some (view writer.desk.place).mark ≡ true }
-    requires next { (next : Edition T E) → next ≡ fold (absorbed T.changed) writer.desk.shown.value (drop writer.behind writer.log.items) → (next.begun ≡ true) × IsOf T.stands (view writer.desk.place).mark next }
+    requires { (next : Edition T E) → next ≡ fold (absorbed T.changed) writer.desk.shown.value (drop writer.behind writer.log.items) → TurnsAt (Shows T.stands) writer.desk.place.id (view writer.desk.place) writer.desk.shown.value next (λ v x y w. w ≡ v) }
     ensures same { view result.desk.place ≡ view writer.desk.place }
     ensures value { result.desk.shown.value ≡ fold (absorbed T.changed) writer.desk.shown.value (drop writer.behind writer.log.items) }
     ensures queued { drop result.behind result.log.items ≡ [] }

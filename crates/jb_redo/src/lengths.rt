@@ -24,7 +24,7 @@ const RECORD_AT: u64 = 16;
 const HEAD: [u8; 4] = *b"JBJ1";
 
 /// The lengths of the files once a record's lengths are set, and the place behind these lengths.
-#[derive(Clone, Copy, Debug)]
+#[derive(Clone, Copy)]
 pub(crate) struct NewLengths {
     pub(crate) ends: Sizes,
     pub(crate) at: u64,

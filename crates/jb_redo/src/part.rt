@@ -14,14 +14,14 @@ use jb_disk::FileId;
 pub(crate) const FRONT_BYTES: usize = 12;
 
 /// The front of a piece: what stands before its bytes, or before the place copied from.
-#[derive(Clone, Copy, Debug)]
+#[derive(Clone, Copy)]
 pub(crate) enum Front {
     Bytes { to: FileId, at: u32, len: u32 },
     Copy { at: u32, len: u32 },
 }
 
 /// So many bytes of a file that go to a place of another, and where in the journal the piece ends that says so.
-#[derive(Clone, Copy, Debug)]
+#[derive(Clone, Copy)]
 pub(crate) struct Part {
     pub(crate) from: FileId,
     pub(crate) from_at: u64,

@@ -9,7 +9,7 @@ ghost use Rattle.jb_redo.specs.Walk.{AreSizes, size_in};
 use jb_disk::{Disk, DiskFailed, FileId, Length};
 
 /// How many bytes each file has, by the file's number.
-#[derive(Clone, Copy, Debug)]
+#[derive(Clone, Copy)]
 pub(crate) struct Sizes {
     by_file: [u64; 6],
 }

@@ -22,7 +22,7 @@ use std::alloc::Global;
 use std::marker::Model;
 
 /// The index of an area's replies, and room for so many messages more.
-#[derive(Debug, Drop)]
+#[derive(Drop)]
 pub struct Replies {
     ids: Tiered<u32>,
     answers: Tiered<u32>,

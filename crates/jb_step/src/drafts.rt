@@ -7,7 +7,7 @@ use jb_base::{MOST_NAME_BYTES, MOST_POSTED_TEXT_BYTES, MOST_SUBJECT_BYTES};
 use jb_model::{Field, Reply};
 
 /// What a user wrote, to whom, in reply to which number or to 0, and whether it is private.
-#[derive(Clone, Copy, Debug)]
+#[derive(Clone, Copy)]
 pub struct Draft<'a> {
     pub to: &'a [u8],
     pub subject: &'a [u8],

@@ -11,7 +11,7 @@ use jb_base::{AreaRules, User};
 use jb_model::{Loaded, LoadedMessage, LoadedSlot};
 
 /// A live message, and the place of its slot.
-#[derive(Clone, Copy, Debug)]
+#[derive(Clone, Copy)]
 pub(crate) struct Found<'a> {
     pub place: usize,
     pub message: &'a LoadedMessage,

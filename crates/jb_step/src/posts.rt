@@ -30,7 +30,7 @@ use std::alloc::Global;
 
 /// What a post writes: this message under this number behind the others, its header and its text at the ends of their
 /// files, and the neighbour's header, where there is a neighbour.
-#[derive(Debug, Drop)]
+#[derive(Drop)]
 pub struct Posting {
     pub number: u32,
     pub message: LoadedMessage,

@@ -3,7 +3,7 @@
 use jb_model::{Command, Question};
 
 /// What an area is asked.
-#[derive(Debug, Drop)]
+#[derive(Drop)]
 pub enum Act {
     /// To do this; the answer is a reply.
     Ask(Command),
@@ -14,7 +14,7 @@ pub enum Act {
 }
 
 /// What an area is asked for a user, each by its place on the board, counted from 0.
-#[derive(Debug, Drop)]
+#[derive(Drop)]
 pub struct Request {
     pub user: u32,
     pub area: u32,

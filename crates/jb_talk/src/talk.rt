@@ -55,7 +55,7 @@ impl Model for Talk {
 }
 
 /// How much of a piece was heard, and what is asked then.
-#[derive(Debug, Drop)]
+#[derive(Drop)]
 pub struct Heard {
     /// The first bytes of the piece, so many.
     pub taken: usize,

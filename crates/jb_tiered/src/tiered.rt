@@ -14,7 +14,7 @@ use std::ops::Index;
 const MOST_PIECES: usize = 1 << 40;
 
 /// A list in pieces of equal length.
-#[derive(Debug, Drop)]
+#[derive(Drop)]
 pub struct Tiered<T> {
     pieces: Vec<VecDeque<T>>,
     len: usize,

@@ -88,6 +88,14 @@ fn first_missing<S, O, E, Q, P: Seated<S, O, E, Q>>(seats: &[P], count: u32) -> 
     None
 }
 
+/// Whether a turn was given since a thread went to sleep, if it did.
+fn was_moved(slept_at: Option<u64>, serving: u64) -> bool {
+    match slept_at {
+        Some(was) => was != serving,
+        None => false,
+    }
+}
+
 impl<S: Kept<O, E>, O, E, Q> Turn<S, O, E, Q> {
     /// A turn over the state, with so many seats, from 1 to 33. Its history is empty.
     ///
@@ -171,7 +179,7 @@ impl<S: Kept<O, E>, O, E, Q> Turn<S, O, E, Q> {
                 backoff.snooze();
                 continue;
             }
-            if slept_at.is_some_and(|was| was != serving) {
+            if was_moved(slept_at, serving) {
                 shared.wake_one(SERVING);
             }
             shared.park_timeout(

@@ -6,7 +6,7 @@ ghost use Rattle.trial_areas.specs.Leaves.{LeavesFailed};
 
 use crate::calling::{abandon, ask, begin, copy, finish, reopen};
 use crate::quiet::Quiet;
-use crate::showing::{memory_words, reply_words, words};
+use crate::showing::{memory_words, reply_words};
 use jb_area::{AreaError, OpenArea};
 use jb_area_open::{OpeningError, open_area};
 use jb_base::{
@@ -16,7 +16,7 @@ use jb_base::{
 use jb_model::{Asked, Loaded, Reply};
 use std::alloc::Global;
 use std::marker::Model;
-use trial_rows::RowError;
+use trial_rows::{RowError, said};
 
 /// An area at rest.
 #[derive(Drop)]
@@ -336,7 +336,7 @@ impl Area {
     pub(crate) fn coming(&self, alloc: Global) -> Result<String, RowError> {
         match &self.stage {
             Stage::Begun(begun) => begun.coming(alloc),
-            _ => words(alloc, "none"),
+            _ => said(alloc, "none"),
         }
     }
 
@@ -373,7 +373,7 @@ impl Area {
                 let slots = area.rules().slots;
                 Ok(format!(in alloc; "in doubt {}, at most {slots} slots", area.in_doubt())?)
             }
-            None => words(alloc, "not open"),
+            None => said(alloc, "not open"),
         }
     }
 
@@ -381,7 +381,7 @@ impl Area {
     pub(crate) fn memory(&self, alloc: Global) -> Result<String, RowError> {
         match self.loaded() {
             Some(loaded) => memory_words(alloc, loaded),
-            None => words(alloc, "not open"),
+            None => said(alloc, "not open"),
         }
     }
 

@@ -74,10 +74,10 @@ pub(crate) fn sized_post(
 
 // A post with the name, subject and text of these places.
 fn post_in(alloc: Global, row: &Row, place: usize) -> Result<Command, RowError> {
+    let reply_to = row.u32(place.saturating_add(3))?;
     let to = row.name(alloc, place)?;
     let subject = row.bytes(alloc, place.saturating_add(1))?;
     let text = row.bytes(alloc, place.saturating_add(2))?;
-    let reply_to = row.u32(place.saturating_add(3))?;
     Ok(public_post(to, subject, text, reply_to))
 }
 
@@ -142,12 +142,14 @@ pub(crate) fn asked_by(user: User, command: Command) -> Asked {
 
 // What is asked from this place on: the name of the user, and a command or a step of a pack.
 fn act_in(alloc: Global, row: &Row, place: usize) -> Result<Act, RowError> {
-    let user = user_of(alloc, row.word(place)?)?;
+    let name = row.word(place)?;
     let next = place.saturating_add(1);
     if row.word(next)? == "copy" {
         let budget = row.u32(next.saturating_add(1))?;
+        let user = user_of(alloc, name)?;
         return Ok(Act::Copy { user, budget });
     }
+    let user = user_of(alloc, name)?;
     let command = command_in(alloc, row, next)?;
     Ok(Act::Command(asked_by(user, command)))
 }

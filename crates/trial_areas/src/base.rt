@@ -7,7 +7,7 @@ use jb_disk::{FileId, MemDisk};
 use std::alloc::Global;
 use std::array;
 use std::fmt::Write;
-use trial_rows::{Row, RowError, hexed};
+use trial_rows::{Row, RowError, hexed, said};
 
 /// The files of a base, the most slots that its area may have, and dead bytes.
 #[derive(Drop)]
@@ -47,12 +47,13 @@ fn copies(alloc: Global, disk: &MemDisk) -> Result<[Bytes; 6], OutOfMemory> {
     array::try_from_fn(|number| Bytes::copy(alloc, disk.file(file_of(number))))
 }
 
-// .JHR of an empty base with this number: the fixed header up to its number, and 1,000 zeros behind that.
+// .JHR of an empty base with this number: the fixed header up to its number (made 1,000,000,000 seconds after 1970, no change, no
+// message, no password), and 1,000 zeros behind that.
 fn headers_of(alloc: Global, number: u32) -> Result<Bytes, OutOfMemory> {
-    let mut headers = Bytes::copy(alloc, b"JAM\0")?;
-    headers.append(&1_000_000_000_u32.to_le_bytes())?;
-    headers.append(&[0; 8])?;
-    headers.append(&u32::MAX.to_le_bytes())?;
+    let mut headers = Bytes::copy(
+        alloc,
+        b"JAM\0\x00\xCA\x9A\x3B\0\0\0\0\0\0\0\0\xFF\xFF\xFF\xFF",
+    )?;
     headers.append(&number.to_le_bytes())?;
     headers.append(&[0; 1_000])?;
     Ok(headers)
@@ -68,12 +69,21 @@ fn append_marks(marks: &mut Bytes, count: u32) -> Result<(), OutOfMemory> {
     Ok(())
 }
 
-// These bytes so many times behind the others.
-fn append_often(file: &mut Bytes, bytes: &[u8], count: u32) -> Result<(), OutOfMemory> {
+// The bytes of a row so many times as it says behind the others.
+fn append_word(alloc: Global, row: &Row, file: &mut Bytes) -> Result<(), RowError> {
+    let count = row.u32(2)?;
+    let bytes = row.bytes(alloc, 3)?;
     for _ in 0..count {
-        file.append(bytes)?;
+        file.append(bytes.as_slice())?;
     }
     Ok(())
+}
+
+// Gives one of these files other bytes.
+fn put_bytes(files: &mut [Bytes; 6], file: FileId, bytes: Bytes) {
+    if let Some(place) = files.get_mut(file.number() as usize) {
+        *place = bytes;
+    }
 }
 
 impl Base {
@@ -87,6 +97,16 @@ impl Base {
         })
     }
 
+    /// Puts this base in its place.
+    pub(crate) fn replace(&mut self, base: Base) {
+        *self = base;
+    }
+
+    // Puts these files in the place of its own.
+    fn put_files(&mut self, files: MemDisk) {
+        self.files = files;
+    }
+
     /// An empty base with this number.
     pub(crate) fn empty(alloc: Global, number: u32) -> Result<Base, OutOfMemory> {
         let mut base = Base::new(alloc)?;
@@ -98,10 +118,8 @@ impl Base {
     // Gives a file other bytes.
     fn put(&mut self, alloc: Global, file: FileId, bytes: Bytes) -> Result<(), OutOfMemory> {
         let mut files = copies(alloc, &self.files)?;
-        if let Some(place) = files.get_mut(file.number() as usize) {
-            *place = bytes;
-        }
-        self.files = MemDisk::new(alloc, files, Vec::new(alloc))?;
+        put_bytes(&mut files, file, bytes);
+        self.put_files(MemDisk::new(alloc, files, Vec::new(alloc))?);
         Ok(())
     }
 
@@ -118,9 +136,8 @@ impl Base {
     /// `append FILE COUNT BYTES`: so many times these bytes behind the others. Its length.
     pub(crate) fn append(&mut self, alloc: Global, row: &Row) -> Result<String, RowError> {
         let file = file_in(row, 1)?;
-        let bytes = row.bytes(alloc, 3)?;
         let mut whole = Bytes::copy(alloc, self.files.file(file))?;
-        append_often(&mut whole, bytes.as_slice(), row.u32(2)?)?;
+        append_word(alloc, row, &mut whole)?;
         let length = whole.len();
         self.put(alloc, file, whole)?;
         Ok(format!(in alloc; "{length}")?)
@@ -145,7 +162,7 @@ impl Base {
         let end = at.saturating_add(row.u32(3)? as usize);
         match self.files.file(file_in(row, 1)?).get(at..end) {
             Some(bytes) => hexed(alloc, bytes),
-            None => Ok(String::from_str(alloc, "not so long")?),
+            None => said(alloc, "not so long"),
         }
     }
 
@@ -194,15 +211,19 @@ impl Base {
     /// Takes the files that the disk holds.
     pub(crate) fn take(&mut self, alloc: Global, disk: &Quiet) -> Result<(), OutOfMemory> {
         let files = copies(alloc, disk.memory())?;
-        self.files = MemDisk::new(alloc, files, Vec::new(alloc))?;
+        self.put_files(MemDisk::new(alloc, files, Vec::new(alloc))?);
         Ok(())
     }
 }
 
 /// What stands on a disk whose area was closed with this in its memory: that, and the bytes of its texts.
-fn with_texts(alloc: Global, memory: String, disk: &Quiet) -> Result<String, RowError> {
+fn with_texts(
+    alloc: Global,
+    memory: Result<String, RowError>,
+    disk: &Quiet,
+) -> Result<String, RowError> {
+    let mut memory = memory?;
     let texts = hexed(alloc, disk.file(FileId::Jdt))?;
-    let mut memory = memory;
     memory.push_str(texts.as_str())?;
     Ok(memory)
 }
@@ -211,7 +232,7 @@ fn with_texts(alloc: Global, memory: String, disk: &Quiet) -> Result<String, Row
 pub(crate) fn stand(alloc: Global, area: Area) -> Result<(Quiet, String), RowError> {
     let memory = area.memory(alloc);
     let disk = area.close();
-    let words = with_texts(alloc, memory?, &disk)?;
+    let words = with_texts(alloc, memory, &disk)?;
     Ok((disk, words))
 }
 
@@ -247,10 +268,7 @@ impl Base {
     /// Whether this stands in the area, and again when its files are opened anew.
     pub(crate) fn stands(&self, alloc: Global, area: Area, wanted: &str) -> Result<bool, RowError> {
         let (disk, came) = stand(alloc, area)?;
-        if came.as_str() != wanted {
-            return Ok(false);
-        }
-        self.opens_to(alloc, disk, wanted)
+        Ok(self.opens_to(alloc, disk, wanted)? && came.as_str() == wanted)
     }
 
     /// Whether this was answered last in the area, and this stands in it then.

@@ -5,19 +5,20 @@ use crate::asking::{asked_by, command_of, sized_post, user_of};
 use crate::base::{Base, stand, stood_in};
 use crate::plain::{loaded_words, plain_words};
 use crate::quiet::Quiet;
-use crate::showing::{reply_words, words};
+use crate::showing::reply_words;
 use jb_base::MOST_TEXT_BYTES;
 use jb_disk::FileId;
 use jb_model::{Area, Asked, Command, Marks, Reply, Slots};
 use jb_plain::{Replies, may_run, run_slow};
 use std::alloc::Global;
-use trial_rows::RowError;
+use std::mem;
+use trial_rows::{RowError, said};
 
 /// How many commands are asked between two openings.
 const ROUND: u32 = 50;
 
 /// A linear congruential generator.
-#[derive(Clone, Copy)]
+#[derive(Drop)]
 struct Lot {
     state: u64,
 }
@@ -92,13 +93,30 @@ impl Lot {
     }
 }
 
-// The plain area behind these commands, and its replies.
-fn run_plain(alloc: Global, area: Area, list: &[Asked]) -> Result<(Area, Replies), RowError> {
+// An area from number 1 on without a slot.
+fn empty(alloc: Global) -> Area {
+    Area {
+        base: 1,
+        slots: Slots::new(alloc),
+        marks: Marks::new(alloc),
+    }
+}
+
+// Puts this in the place of an area.
+fn put_area(area: &mut Area, new: Area) {
+    *area = new;
+}
+
+// Asks these of the plain area, and gives its replies.
+fn run_plain(alloc: Global, area: &mut Area, list: &[Asked]) -> Result<Replies, RowError> {
     let rules = rules_of(alloc, 65_000)?;
-    if !may_run(&area, rules.slots) {
+    if !may_run(area, rules.slots) {
         return Err(RowError::Unknown(0));
     }
-    Ok(run_slow(alloc, &rules, area, list)?)
+    let old = mem::replace(area, empty(alloc));
+    let (new, replies) = run_slow(alloc, &rules, old, list)?;
+    put_area(area, new);
+    Ok(replies)
 }
 
 // Whether the area answered this last.
@@ -139,7 +157,7 @@ fn ask_all(
 fn words_in(alloc: Global, area: &Open, texts: &[u8]) -> Result<String, RowError> {
     match area.loaded() {
         Some(loaded) => loaded_words(alloc, loaded, texts),
-        None => words(alloc, "not open"),
+        None => said(alloc, "not open"),
     }
 }
 
@@ -172,12 +190,11 @@ fn next_of(plain: &Area) -> u32 {
         .saturating_add(u32::try_from(slots).unwrap_or(u32::MAX))
 }
 
-/// What was drawn and asked so far: the plain area, the disk of the open one, and how many replies were the same.
+/// What was drawn and asked so far: the plain area, and how many replies were the same.
 #[derive(Drop)]
 struct Race {
     lot: Lot,
     plain: Area,
-    disk: Quiet,
     count: u32,
 }
 
@@ -209,45 +226,64 @@ fn raced(
     Ok((disk, if is_so { same } else { 0 }))
 }
 
-// A round more.
-fn next_round(alloc: Global, base: &Base, race: Race) -> Result<Race, RowError> {
-    let Race {
-        mut lot,
-        plain,
-        disk,
-        count,
-    } = race;
-    let list = lot.round(alloc, plain.base, next_of(&plain))?;
-    let (plain, replies) = run_plain(alloc, plain, list.as_slice())?;
-    let area = base.over(alloc, disk)?;
-    let (list, replies) = (list.as_slice(), replies.as_slice());
-    let (disk, more) = raced(alloc, base, area, &mut lot, list, &plain, replies)?;
-    Ok(Race {
-        lot,
-        plain,
-        disk,
-        count: count.saturating_add(more),
-    })
+impl Race {
+    // These commands over the open area of the disk. The disk behind them.
+    fn run(
+        &mut self,
+        alloc: Global,
+        base: &Base,
+        disk: Quiet,
+        list: &[Asked],
+    ) -> Result<Quiet, RowError> {
+        let replies = run_plain(alloc, &mut self.plain, list)?;
+        let replies = replies.as_slice();
+        let area = base.over(alloc, disk)?;
+        let (disk, more) = raced(alloc, base, area, &mut self.lot, list, &self.plain, replies)?;
+        self.count = self.count.saturating_add(more);
+        Ok(disk)
+    }
+
+    // A round more over the disk of the open area. The disk behind it.
+    fn next_round(&mut self, alloc: Global, base: &Base, disk: Quiet) -> Result<Quiet, RowError> {
+        let list = self
+            .lot
+            .round(alloc, self.plain.base, next_of(&self.plain))?;
+        self.run(alloc, base, disk, list.as_slice())
+    }
+
+    // So many rounds from this disk on.
+    fn rounds(
+        &mut self,
+        alloc: Global,
+        base: &Base,
+        disk: Quiet,
+        rounds: u32,
+    ) -> Result<(), RowError> {
+        let mut disk = disk;
+        for _ in 0..rounds {
+            disk = self.next_round(alloc, base, disk)?;
+        }
+        Ok(())
+    }
 }
 
 /// `drawn SEED ROUNDS`: how many commands are answered as by the plain program, in rounds of fifty, each of them on a base that was closed
 /// and opened anew; those of a round whose area is not that of the program do not count.
 pub(crate) fn drawn(alloc: Global, seed: u32, rounds: u32) -> Result<String, RowError> {
     let base = Base::empty(alloc, 1)?;
+    let count = counted(alloc, &base, seed, rounds)?;
+    Ok(format!(in alloc; "{count} the same")?)
+}
+
+// The same over copies of this base.
+fn counted(alloc: Global, base: &Base, seed: u32, rounds: u32) -> Result<u32, RowError> {
+    let state = u64::from(seed);
+    let disk = base.opened(alloc)?;
     let mut race = Race {
-        lot: Lot {
-            state: u64::from(seed),
-        },
-        plain: Area {
-            base: 1,
-            slots: Slots::new(alloc),
-            marks: Marks::new(alloc),
-        },
-        disk: base.opened(alloc)?,
+        lot: Lot { state },
+        plain: empty(alloc),
         count: 0,
     };
-    for _ in 0..rounds {
-        race = next_round(alloc, &base, race)?;
-    }
-    Ok(format!(in alloc; "{} the same", race.count)?)
+    race.rounds(alloc, base, disk, rounds)?;
+    Ok(race.count)
 }

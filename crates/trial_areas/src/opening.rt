@@ -43,8 +43,7 @@ fn failed(alloc: Global, base: &Base, call: u64) -> Result<(bool, Quiet), RowErr
 // Whether the opening is told this failing call as a fault, and the disk then opens to the same.
 fn faults(alloc: Global, base: &Base, call: u64, wanted: &str) -> Result<bool, RowError> {
     let (is_told, disk) = failed(alloc, base, call)?;
-    let opens = base.opens_to(alloc, disk, wanted)?;
-    Ok(is_told && opens)
+    Ok(base.opens_to(alloc, disk, wanted)? && is_told)
 }
 
 // How many of the first so many calls are told as a fault when they fail, with what opens to the same then.
@@ -75,8 +74,18 @@ fn images(alloc: Global, base: &Base, disk: &Quiet, wanted: &str) -> Result<u64,
 pub(crate) fn opening(alloc: Global, base: &Base) -> Result<String, RowError> {
     let stood = base.stand_on(alloc, base.disk(alloc, &[])?)?;
     let disk = base.opened(alloc)?;
-    let faults = faults_in(alloc, base, disk.calls(), stood.as_str())?;
-    let images = images(alloc, base, &disk, stood.as_str())?;
+    opening_words(alloc, base, &disk, stood.as_str())
+}
+
+// The same of an opening that left this disk and came to this.
+fn opening_words(
+    alloc: Global,
+    base: &Base,
+    disk: &Quiet,
+    wanted: &str,
+) -> Result<String, RowError> {
     let calls = disk.calls();
+    let faults = faults_in(alloc, base, calls, wanted)?;
+    let images = images(alloc, base, disk, wanted)?;
     Ok(format!(in alloc; "{calls} calls, {faults} faults, {images} images")?)
 }

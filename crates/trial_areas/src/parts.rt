@@ -3,10 +3,9 @@
 use crate::area::Area;
 use crate::asking::{Act, Way, ask};
 use crate::base::{Base, came_of, stand};
-use crate::showing::words;
 use crate::stops::{Case, Scene};
 use std::alloc::Global;
-use trial_rows::RowError;
+use trial_rows::{RowError, said};
 
 // The area with the command begun.
 fn begun(alloc: Global, scene: Scene<'_>) -> Result<Area, RowError> {
@@ -17,8 +16,7 @@ fn begun(alloc: Global, scene: Scene<'_>) -> Result<Area, RowError> {
 // Whether the call in one piece is answered so too, and leaves the same.
 fn is_as_whole(alloc: Global, case: &Case<'_>) -> Result<bool, RowError> {
     let way = Way::All;
-    let area = Scene { way, ..case.scene }.asked(alloc, &[])?;
-    let (after, reply) = came_of(alloc, area)?;
+    let (after, reply) = Scene { way, ..case.scene }.behind(alloc)?;
     Ok(case.after.as_str() == after.as_str() && case.reply.as_str() == reply.as_str())
 }
 
@@ -26,7 +24,7 @@ fn is_as_whole(alloc: Global, case: &Case<'_>) -> Result<bool, RowError> {
 fn is_coming(alloc: Global, case: &Case<'_>) -> Result<bool, RowError> {
     let area = begun(alloc, case.scene)?;
     let coming = area.coming(alloc);
-    let _disk = area.close();
+    let _ = area.close();
     Ok(coming?.as_str() == case.reply.as_str())
 }
 
@@ -34,10 +32,9 @@ fn is_coming(alloc: Global, case: &Case<'_>) -> Result<bool, RowError> {
 fn reads(alloc: Global, case: &Case<'_>) -> Result<Option<u64>, RowError> {
     let area = begun(alloc, case.scene)?.abandon();
     let (disk, came) = stand(alloc, area)?;
-    if !case.scene.base.is_in(&disk, 5) || came.as_str() != case.before.as_str() {
-        return Ok(None);
-    }
-    Ok(Some(disk.calls().saturating_sub(case.opening)))
+    let is_kept = case.scene.base.is_in(&disk, 5) && came.as_str() == case.before.as_str();
+    let calls = disk.calls().saturating_sub(case.opening);
+    Ok(is_kept.then_some(calls))
 }
 
 // The reply, how many device calls the beginning and the finishing make, and what becomes of the command.
@@ -48,17 +45,22 @@ fn told(alloc: Global, case: &Case<'_>, reads: u64) -> Result<String, RowError> 
     Ok(format!(in alloc; "{reply}, {reads} + {commit} calls, {fate}")?)
 }
 
+// What is said of this case.
+fn case_words(alloc: Global, case: &Case<'_>) -> Result<String, RowError> {
+    if !is_as_whole(alloc, case)? || !is_coming(alloc, case)? {
+        return said(alloc, "otherwise than in one piece");
+    }
+    match reads(alloc, case)? {
+        Some(reads) => told(alloc, case, reads),
+        None => said(alloc, "abandoned, it leaves something"),
+    }
+}
+
 /// `parts USER COMMAND`: the reply; how many device calls the beginning makes and how many the finishing; what a crash at each moment
 /// leaves; and what becomes of the command when it is stopped at each.
 pub(crate) fn parts(alloc: Global, base: &Base, all: &[Act]) -> Result<String, RowError> {
     let case = Case::new(alloc, base, all, Way::Parts)?;
-    if !is_as_whole(alloc, &case)? || !is_coming(alloc, &case)? {
-        return words(alloc, "otherwise than in one piece");
-    }
-    match reads(alloc, &case)? {
-        Some(reads) => told(alloc, &case, reads),
-        None => words(alloc, "abandoned, it leaves something"),
-    }
+    case_words(alloc, &case)
 }
 
 // Whether what is asked behind a call that was begun and abandoned is answered as without it, and leaves the same.

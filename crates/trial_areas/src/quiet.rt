@@ -38,7 +38,7 @@ fn without(holes: Holes, file: FileId, at: u64) -> u64
 }
 
 // Dead bytes of a file: where they begin, and how many they are.
-#[derive(Clone, Copy)]
+#[derive(Drop)]
 struct Dead {
     begin: u64,
     len: u64,

@@ -5,11 +5,6 @@ use std::alloc::Global;
 use std::fmt::Write;
 use trial_rows::{RowError, shown};
 
-/// These words.
-pub(crate) fn words(alloc: Global, words: &str) -> Result<String, RowError> {
-    Ok(String::from_str(alloc, words)?)
-}
-
 // Who wrote to whom about what.
 fn names_of(alloc: Global, letter: &Letter) -> Result<String, RowError> {
     let from = shown(alloc, letter.from.as_slice())?;

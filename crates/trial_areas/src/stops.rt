@@ -40,6 +40,11 @@ impl<'a> Scene<'a> {
         let area = self.reached(alloc, failing)?;
         Ok(ask(alloc, area, self.act, self.way))
     }
+
+    /// What stands behind the act, and its reply.
+    pub(crate) fn behind(self, alloc: Global) -> Result<(String, String), RowError> {
+        came_of(alloc, self.asked(alloc, &[])?)
+    }
 }
 
 /// A scene with what it comes to: how many device calls come before the act, what stands before it and behind it, and its reply.
@@ -90,7 +95,7 @@ impl<'a> Case<'a> {
             way,
         };
         let (opening, before) = scene.before(alloc)?;
-        let (after, reply) = came_of(alloc, scene.asked(alloc, &[])?)?;
+        let (after, reply) = scene.behind(alloc)?;
         Ok(Case {
             scene,
             opening,
@@ -132,14 +137,19 @@ impl<'a> Case<'a> {
         Ok(self.scene.asked(alloc, &[])?.close())
     }
 
-    // What a crash at each moment of the command leaves, a letter each.
-    fn crashes(&self, alloc: Global) -> Result<String, RowError> {
-        let disk = self.done(alloc)?;
+    // What a crash of this disk at each moment of the command leaves, a letter each.
+    fn crashes(&self, alloc: Global, disk: &Quiet) -> Result<String, RowError> {
         let mut text = String::new(alloc);
         for calls in self.opening..disk.calls().saturating_add(1) {
-            text.push(self.left(alloc, &disk, calls)?)?;
+            text.push(self.left(alloc, disk, calls)?)?;
         }
         Ok(text)
+    }
+
+    // The same of the command that nothing stops.
+    fn all_crashes(&self, alloc: Global) -> Result<String, RowError> {
+        let disk = self.done(alloc)?;
+        self.crashes(alloc, &disk)
     }
 
     // The area in doubt when the first of these calls fails in the command, and the second, where there is one, in the reopening;
@@ -152,10 +162,9 @@ impl<'a> Case<'a> {
         Ok(if_stopped(area.reopen()))
     }
 
-    // Whether a crash leaves what opens as before the command or as behind it.
-    fn is_left(&self, alloc: Global, area: Area) -> Result<bool, RowError> {
-        let disk = area.close();
-        Ok(self.left(alloc, &disk, disk.calls())? != 'x')
+    // Whether a crash of this disk leaves what opens as before the command or as behind it.
+    fn is_left(&self, alloc: Global, disk: &Quiet) -> Result<bool, RowError> {
+        Ok(self.left(alloc, disk, disk.calls())? != 'x')
     }
 
     // Whether the area in doubt is found behind the command where its change is said to stand, and else before it.
@@ -185,10 +194,8 @@ impl<'a> Case<'a> {
 
     // Whether a crash leaves one or the other when these calls fail, and the command goes on where nothing more is stopped.
     fn is_sound(&self, alloc: Global, failing: &[u64]) -> Result<bool, RowError> {
-        if let Some(area) = self.stopped(alloc, failing)? {
-            if !self.is_left(alloc, area)? {
-                return Ok(false);
-            }
+        if !self.leaves(alloc, failing)? {
+            return Ok(false);
         }
         if failing.len() > 1 {
             return Ok(true);
@@ -197,6 +204,15 @@ impl<'a> Case<'a> {
             Some(area) => self.goes_on(alloc, area),
             None => Ok(false),
         }
+    }
+
+    // Whether a crash leaves one or the other when these calls fail, or they do not come.
+    fn leaves(&self, alloc: Global, failing: &[u64]) -> Result<bool, RowError> {
+        let Some(area) = self.stopped(alloc, failing)? else {
+            return Ok(true);
+        };
+        let disk = area.close();
+        self.is_left(alloc, &disk)
     }
 
     // What becomes of the command when these calls fail; nothing where they do not come.
@@ -226,22 +242,30 @@ impl<'a> Case<'a> {
         Ok(letter)
     }
 
+    // Puts what becomes of the command when it is stopped at this call behind the text, and says whether such a call comes.
+    fn put_stop(&self, alloc: Global, call: u64, text: &mut String) -> Result<bool, RowError> {
+        let Some(letter) = self.settled(alloc, &[call])? else {
+            return Ok(false);
+        };
+        text.push(self.settled_again(alloc, call, letter)?)?;
+        Ok(true)
+    }
+
     // What becomes of the command when it is stopped at each of its calls, a letter each.
     fn stops(&self, alloc: Global) -> Result<String, RowError> {
         let mut text = String::new(alloc);
         for more in 1..MOST_CALLS {
             let call = self.opening.saturating_add(more);
-            let Some(letter) = self.settled(alloc, &[call])? else {
+            if !self.put_stop(alloc, call, &mut text)? {
                 break;
-            };
-            text.push(self.settled_again(alloc, call, letter)?)?;
+            }
         }
         Ok(text)
     }
 
     /// How many device calls the command makes, and in words what becomes of it.
     pub(crate) fn fate(&self, alloc: Global) -> Result<(u64, String), RowError> {
-        let left = self.crashes(alloc)?;
+        let left = self.all_crashes(alloc)?;
         let stopped = self.stops(alloc)?;
         let calls = stopped.len() as u64;
         let letters = if calls == 0 {

@@ -6,12 +6,12 @@ use crate::base::Base;
 use crate::drawn::drawn;
 use crate::opening::{opening, told};
 use crate::parts::{behind, parts};
-use crate::showing::{links_words, words};
+use crate::showing::links_words;
 use crate::stops::{Case, stops};
 use jb_base::OutOfMemory;
 use std::alloc::Global;
 use std::mem;
-use trial_rows::{Answers, Row, RowError};
+use trial_rows::{Answers, Row, RowError, said};
 
 /// A base, and its area once it is open.
 #[derive(Drop)]
@@ -67,7 +67,12 @@ fn effects(alloc: Global, base: &Base, case: &Case<'_>) -> Result<(u64, bool), R
 // `try USER COMMAND`: the reply, how many device calls were made, and whether area and files are as they were.
 fn tried(alloc: Global, base: &Base, all: &[Act]) -> Result<String, RowError> {
     let case = Case::new(alloc, base, all, Way::All)?;
-    let (calls, is_kept) = effects(alloc, base, &case)?;
+    tried_words(alloc, base, &case)
+}
+
+// The same of this case.
+fn tried_words(alloc: Global, base: &Base, case: &Case<'_>) -> Result<String, RowError> {
+    let (calls, is_kept) = effects(alloc, base, case)?;
     let is_same = is_kept && case.before.as_str() == case.after.as_str();
     let stays = if is_same { "as it was" } else { "changed" };
     let reply = case.reply.as_str();
@@ -141,18 +146,18 @@ impl Trial {
     fn close(&mut self, alloc: Global) -> Result<String, RowError> {
         let disk = self.take()?.close();
         self.base.take(alloc, &disk)?;
-        words(alloc, "closed")
+        said(alloc, "closed")
     }
 
     // A row that makes the base.
     fn base(&mut self, alloc: Global, row: &Row) -> Result<String, RowError> {
         match row.word(0)? {
-            "files" => self.base = Base::new(alloc)?,
-            "base" => self.base = Base::empty(alloc, row.u32(1)?)?,
+            "files" => self.base.replace(Base::new(alloc)?),
+            "base" => self.base.replace(Base::empty(alloc, row.u32(1)?)?),
             "marks" => self.base.add_marks(alloc, row.u32(1)?)?,
             _ => self.base.limit(row)?,
         }
-        words(alloc, row.word(0)?)
+        said(alloc, row.word(0)?)
     }
 
     // A row about what is asked in copies of the base.

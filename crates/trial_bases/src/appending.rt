@@ -4,31 +4,14 @@ ghost use Rattle.jb_base.specs.declared.limits.TheConstants.{MOST_SLOTS};
 ghost use Rattle.jb_base.specs.Subfields.{subfield_bytes};
 
 use crate::mark::mark_at;
+use crate::model::HEAD;
 use jb_base::{MOST_MARKS, MOST_SLOTS};
 use jb_change::{put_new_mark, put_post};
 use jb_disk::{MemDisk, Redo};
 use jb_image::decode;
-use jb_model::{Head, Loaded, LoadedMessage};
+use jb_model::{Loaded, LoadedMessage};
 use std::alloc::Global;
-use trial_rows::{Row, RowError};
-
-/// The header's fields of a message by a user of the same machine, written at 1,000,000,000 seconds.
-const HEAD: Head = Head {
-    reserved: 0,
-    times_read: 0,
-    msgid_crc: 0xCBD7_1F53,
-    reply_crc: 0xFFFF_FFFF,
-    reply_to: 0,
-    reply_first: 0,
-    reply_next: 0,
-    written: 1_000_000_000,
-    received: 0,
-    processed: 0,
-    attribute: 0x0080_0001,
-    attribute2: 0,
-    password: 0xFFFF_FFFF,
-    cost: 0,
-};
+use trial_rows::{Row, RowError, said};
 
 /// The CRC of `Hello`.
 const HELLO: u32 = 0xC9EF_5979;
@@ -90,10 +73,23 @@ fn put(
     }
     let (header_at, text_at) = (loaded.headers_len as u32, loaded.texts_len as u32);
     let message = message_of(alloc, bytes, header_at, text_at, text.len() as u32)?;
-    let mut fresh = Redo::new(alloc);
-    put_post(alloc, &mut fresh, loaded, &message, text)?;
-    *redo = fresh;
+    redo.clear();
+    put_post(alloc, redo, loaded, &message, text)?;
     Ok(())
+}
+
+/// The same, behind those of the area for which the files stand.
+fn put_behind(
+    alloc: Global,
+    disk: &mut MemDisk,
+    redo: &mut Redo,
+    bytes: &[u8],
+    text: &[u8],
+) -> Result<(), RowError> {
+    match decode(alloc, disk, 16_000) {
+        Ok(loaded) => put(alloc, redo, &loaded, bytes, text),
+        Err(_) => Err(RowError::Unknown(0)),
+    }
 }
 
 /// `post SUBFIELDS TEXT`: a message behind the others of the area for which the files stand.
@@ -105,11 +101,8 @@ pub(crate) fn post(
 ) -> Result<String, RowError> {
     let bytes = row.bytes(alloc, 1)?;
     let text = row.bytes(alloc, 2)?;
-    match decode(alloc, disk, 16_000) {
-        Ok(loaded) => put(alloc, redo, &loaded, bytes.as_slice(), text.as_slice())?,
-        Err(_) => return Err(RowError::Unknown(0)),
-    }
-    Ok(String::from_str(alloc, "put")?)
+    put_behind(alloc, disk, redo, bytes.as_slice(), text.as_slice())?;
+    said(alloc, "put")
 }
 
 /// `new-mark COUNT CRC USER LAST HIGH`: a mark behind so many.
@@ -119,9 +112,8 @@ pub(crate) fn put_mark(alloc: Global, redo: &mut Redo, row: &Row) -> Result<Stri
     if count >= MOST_MARKS {
         return Err(RowError::Unknown(1));
     }
-    let mut fresh = Redo::new(alloc);
-    fresh.reserve(1, 1, 16)?;
-    put_new_mark(&mut fresh, count, &mark);
-    *redo = fresh;
-    Ok(String::from_str(alloc, "put")?)
+    redo.clear();
+    redo.reserve(1, 1, 16)?;
+    put_new_mark(redo, count, &mark);
+    said(alloc, "put")
 }

@@ -7,26 +7,33 @@ use jb_change::{put_counts, put_kill, put_links, put_mark, put_reading};
 use jb_disk::{Disk, DiskFailed, MemDisk, Redo};
 use jb_model::Head;
 use std::alloc::Global;
-use trial_rows::{Row, RowError};
+use trial_rows::{Row, RowError, said};
 
 /// Behind this place of .JHR nothing is changed here.
 const LAST_AT: u32 = 1_000_000;
 
 /// The answer to a row that puts a piece behind the others: how many there are then.
 pub(crate) fn answer(alloc: Global, redo: &mut Redo, row: &Row) -> Result<String, RowError> {
-    match row.word(0)? {
-        "counts" => counts(redo, row.u32(1)?, row.u32(2)?)?,
-        "links" => links(redo, row)?,
-        "reading" => reading(redo, row)?,
-        "mark" => mark(redo, row)?,
-        "kill" => kill(redo, row.u32(1)?, row.u32(2)?)?,
-        _ => (),
-    }
+    put(redo, row)?;
     Ok(format!(in alloc; "{} pieces", redo.pieces())?)
 }
 
+/// Puts the piece of a row behind the others, if it gives one.
+fn put(redo: &mut Redo, row: &Row) -> Result<(), RowError> {
+    match row.word(0)? {
+        "counts" => counts(redo, row),
+        "links" => links(redo, row),
+        "reading" => reading(redo, row),
+        "mark" => mark(redo, row),
+        "kill" => kill(redo, row),
+        _ => Ok(()),
+    }
+}
+
 /// `counts COUNTER ACTIVE`.
-fn counts(redo: &mut Redo, counter: u32, active: u32) -> Result<(), RowError> {
+fn counts(redo: &mut Redo, row: &Row) -> Result<(), RowError> {
+    let counter = row.u32(1)?;
+    let active = row.u32(2)?;
     redo.reserve(0, 1, 8)?;
     put_counts(redo, counter, active);
     Ok(())
@@ -35,7 +42,9 @@ fn counts(redo: &mut Redo, counter: u32, active: u32) -> Result<(), RowError> {
 /// `links AT TO FIRST NEXT`.
 fn links(redo: &mut Redo, row: &Row) -> Result<(), RowError> {
     let at = row.u32(1)?;
-    let (to, first, next) = (row.u32(2)?, row.u32(3)?, row.u32(4)?);
+    let to = row.u32(2)?;
+    let first = row.u32(3)?;
+    let next = row.u32(4)?;
     if at > LAST_AT {
         return Err(RowError::Unknown(1));
     }
@@ -69,7 +78,9 @@ fn read_head(times_read: u32, received: u32, attribute: u32) -> Head
 /// `reading AT TIMES RECEIVED ATTRIBUTE`.
 fn reading(redo: &mut Redo, row: &Row) -> Result<(), RowError> {
     let at = row.u32(1)?;
-    let (times, received, attribute) = (row.u32(2)?, row.u32(3)?, row.u32(4)?);
+    let times = row.u32(2)?;
+    let received = row.u32(3)?;
+    let attribute = row.u32(4)?;
     if at > LAST_AT || attribute & DELETED != 0 {
         return Err(RowError::Unknown(4));
     }
@@ -91,7 +102,9 @@ fn mark(redo: &mut Redo, row: &Row) -> Result<(), RowError> {
 }
 
 /// `kill AT ATTRIBUTE`.
-fn kill(redo: &mut Redo, at: u32, attribute: u32) -> Result<(), RowError> {
+fn kill(redo: &mut Redo, row: &Row) -> Result<(), RowError> {
+    let at = row.u32(1)?;
+    let attribute = row.u32(2)?;
     if at > LAST_AT {
         return Err(RowError::Unknown(1));
     }
@@ -122,7 +135,7 @@ pub(crate) fn write(
     let written = apply(disk, redo);
     redo.clear();
     match written {
-        Ok(()) => Ok(String::from_str(alloc, "written")?),
+        Ok(()) => said(alloc, "written"),
         Err(error) => Ok(format!(in alloc; "{error}")?),
     }
 }

@@ -4,20 +4,28 @@ use jb_base::{Bytes, OutOfMemory};
 use jb_disk::{FileId, MemDisk};
 use std::alloc::Global;
 use std::array;
-use trial_rows::{Row, RowError, hexed};
+use trial_rows::{Row, RowError, hexed, said};
 
 /// The answer to a row that makes or shows files.
 pub(crate) fn answer(alloc: Global, disk: &mut MemDisk, row: &Row) -> Result<String, RowError> {
     match row.word(0)? {
-        "new" => {
-            *disk = empty(alloc)?;
-            Ok(String::from_str(alloc, "empty files")?)
-        }
+        "new" => begin(alloc, disk),
         "append" => append(alloc, disk, row),
         "length" => length(alloc, disk.file(file_at(row, 1)?)),
         "bytes" => shown(alloc, disk.file(file_at(row, 1)?), row),
         _ => run(alloc, disk.file(file_at(row, 1)?), row.number(2)?),
     }
+}
+
+/// Empty files from now on.
+fn begin(alloc: Global, disk: &mut MemDisk) -> Result<String, RowError> {
+    put(disk, empty(alloc)?);
+    said(alloc, "empty files")
+}
+
+/// Puts a disk in the place of another.
+fn put(place: &mut MemDisk, disk: MemDisk) {
+    *place = disk;
 }
 
 /// The file that the word at a place names.
@@ -51,6 +59,11 @@ pub(crate) fn empty(alloc: Global) -> Result<MemDisk, OutOfMemory> {
     MemDisk::new(alloc, files, Vec::new(alloc))
 }
 
+/// A disk with these files.
+pub(crate) fn disk_of(alloc: Global, files: [Bytes; 6]) -> Result<MemDisk, RowError> {
+    Ok(MemDisk::new(alloc, files, Vec::new(alloc))?)
+}
+
 /// What the files of a disk hold.
 pub(crate) fn copies(alloc: Global, disk: &MemDisk) -> Result<[Bytes; 6], OutOfMemory> {
     array::try_from_fn(|number| Bytes::copy(alloc, disk.file(file_of(number))))
@@ -80,7 +93,7 @@ fn append(alloc: Global, disk: &mut MemDisk, row: &Row) -> Result<String, RowErr
     let bytes = repeated(alloc, row, disk.file(file))?;
     let mut files = copies(alloc, disk)?;
     replace(&mut files, file, bytes);
-    *disk = MemDisk::new(alloc, files, Vec::new(alloc))?;
+    put(disk, disk_of(alloc, files)?);
     length(alloc, disk.file(file))
 }
 
@@ -94,19 +107,16 @@ fn shown(alloc: Global, file: &[u8], row: &Row) -> Result<String, RowError> {
     let end = at + row.u32(3)? as usize;
     match file.get(at..end) {
         Some(bytes) => hexed(alloc, bytes),
-        None => Ok(String::from_str(alloc, "not so long")?),
+        None => said(alloc, "not so long"),
     }
 }
 
 /// How many bytes from a place on are the same, and which byte it is.
 fn run(alloc: Global, file: &[u8], at: u64) -> Result<String, RowError> {
-    let Some(byte) = file.get(at as usize) else {
-        return Ok(String::from_str(alloc, "not so long")?);
+    let rest = file.get(at as usize..).unwrap_or(&[]);
+    let Some(byte) = rest.first() else {
+        return said(alloc, "not so long");
     };
-    let count = file
-        .iter()
-        .skip(at as usize)
-        .take_while(|other| *other == byte)
-        .count();
-    Ok(format!(in alloc; "{count} of {byte}")?)
+    let end = rest.iter().position(|other| other != byte);
+    Ok(format!(in alloc; "{} of {byte}", end.unwrap_or(rest.len()))?)
 }

@@ -2,7 +2,8 @@
 ghost use Rattle.std.specs.Prelude.{◌+◌, ◌<◌, ◌^◌};
 
 use jb_model::Mark;
-use trial_rows::{Row, RowError};
+use std::alloc::Global;
+use trial_rows::{Row, RowError, said};
 
 /// The mark of the four words from a place on: the CRC of the user's name, the user's number, the last message, the highest.
 pub(crate) fn mark_at(row: &Row, place: usize) -> Result<Mark, RowError>
@@ -16,9 +17,21 @@ pub(crate) fn mark_at(row: &Row, place: usize) -> Result<Mark, RowError>
     })
 }
 
-/// A mark as a word.
-pub(crate) fn put_mark(text: &mut String, mark: &Mark) -> Result<(), RowError> {
-    write!(text, " {}:{}", mark.user_crc, mark.user_id)?;
-    write!(text, ":{}:{}", mark.last, mark.high)?;
+/// Puts a mark behind the other words.
+fn put_mark(text: &mut String, mark: &Mark) -> Result<(), RowError> {
+    write!(
+        text,
+        " {}:{}:{}:{}",
+        mark.user_crc, mark.user_id, mark.last, mark.high
+    )?;
     Ok(())
+}
+
+/// These marks, in order.
+pub(crate) fn told(alloc: Global, marks: &[Mark]) -> Result<String, RowError> {
+    let mut text = said(alloc, "marks")?;
+    for mark in marks {
+        put_mark(&mut text, mark)?;
+    }
+    Ok(text)
 }

@@ -1,17 +1,17 @@
 //! The lists of an area as a plain value, and as it is loaded.
 
-use crate::loaded::put_slot;
-use crate::mark::{mark_at, put_mark};
+use crate::loaded;
+use crate::mark::{self, mark_at};
 use jb_base::{Bytes, Subfields};
 use jb_model::{
     Area, Head, LoadedMessage, LoadedSlot, LoadedSlots, Marks, Message, Short, Slot, Slots,
     Summaries, Summary,
 };
 use std::alloc::Global;
-use trial_rows::{Row, RowError, shown};
+use trial_rows::{Row, RowError, said, shown};
 
 /// The header's fields of a message by a user of the same machine, written at 1,000,000,000 seconds.
-const HEAD: Head = Head {
+pub(crate) const HEAD: Head = Head {
     reserved: 0,
     times_read: 0,
     msgid_crc: 0xCBD7_1F53,
@@ -67,20 +67,23 @@ fn all_loaded(alloc: Global, row: &Row) -> Result<LoadedSlots, RowError> {
 /// `loaded-slots DROPPED PLACE HEADER TEXT KIND..`: the slots, after the live message at a place was said to have its header
 /// and its text there, and after so many of the first were dropped.
 fn loaded_slots(alloc: Global, row: &Row) -> Result<String, RowError> {
-    let (dropped, place) = (row.u16(1)? as usize, row.u16(2)? as usize);
-    let (header_at, text_at) = (row.u32(3)?, row.u32(4)?);
+    let dropped = row.u16(1)? as usize;
+    let place = row.u16(2)? as usize;
+    let header_at = row.u32(3)?;
+    let text_at = row.u32(4)?;
     let mut slots = all_loaded(alloc, row)?;
-    if place < slots.as_slice().len() {
-        slots.set_place(place, HEAD, header_at, text_at);
-    }
+    move_one(&mut slots, place, header_at, text_at);
     if dropped <= slots.as_slice().len() {
         slots.drop_first(dropped);
     }
-    let mut text = String::from_str(alloc, "slots")?;
-    for slot in slots.as_slice() {
-        put_slot(&mut text, slot)?;
+    loaded::slots(alloc, slots.as_slice())
+}
+
+/// Says of the message at a place, where one stands there, that its header and its text are there.
+fn move_one(slots: &mut LoadedSlots, place: usize, header_at: u32, text_at: u32) {
+    if place < slots.as_slice().len() {
+        slots.set_place(place, HEAD, header_at, text_at);
     }
-    Ok(text)
 }
 
 /// A slot: `empty`, `killed`, or a live message with these bytes as its text.
@@ -110,12 +113,14 @@ fn plain_slots(alloc: Global, row: &Row) -> Result<Slots, RowError> {
 
 /// `plain-area BASE SLOT..`: the number of each live message and the length of its text.
 fn plain_area(alloc: Global, row: &Row) -> Result<String, RowError> {
-    let area = Area {
-        base: row.u32(1)?,
-        slots: plain_slots(alloc, row)?,
-        marks: Marks::new(alloc),
-    };
-    let mut text = String::from_str(alloc, "texts")?;
+    let base = row.u32(1)?;
+    let slots = plain_slots(alloc, row)?;
+    let marks = Marks::new(alloc);
+    texts(alloc, &Area { base, slots, marks })
+}
+
+fn texts(alloc: Global, area: &Area) -> Result<String, RowError> {
+    let mut text = said(alloc, "texts")?;
     for (number, slot) in (area.base..).zip(area.slots.as_slice()) {
         put_text(&mut text, number, slot)?;
     }
@@ -135,11 +140,7 @@ fn plain_marks(alloc: Global, row: &Row) -> Result<String, RowError> {
     for before in 0..row.len().min(1_000) / 4 {
         marks.push(mark_at(row, 4 * before + 1)?)?;
     }
-    let mut text = String::from_str(alloc, "marks")?;
-    for mark in marks.as_slice() {
-        put_mark(&mut text, mark)?;
-    }
-    Ok(text)
+    mark::told(alloc, marks.as_slice())
 }
 
 /// The first bytes of the bytes at a place of a row.
@@ -178,12 +179,16 @@ fn summary(alloc: Global, row: &Row) -> Result<String, RowError> {
 }
 
 fn listed(alloc: Global, summaries: &[Summary]) -> Result<String, RowError> {
-    let mut text = String::from_str(alloc, "summaries")?;
+    let mut text = said(alloc, "summaries")?;
     for summary in summaries {
-        write!(text, " {}", summary.number)?;
-        put_short(alloc, &mut text, &summary.from)?;
-        put_short(alloc, &mut text, &summary.to)?;
-        put_short(alloc, &mut text, &summary.subject)?;
+        put_summary(alloc, &mut text, summary)?;
     }
     Ok(text)
+}
+
+fn put_summary(alloc: Global, text: &mut String, summary: &Summary) -> Result<(), RowError> {
+    write!(text, " {}", summary.number)?;
+    put_short(alloc, text, &summary.from)?;
+    put_short(alloc, text, &summary.to)?;
+    put_short(alloc, text, &summary.subject)
 }

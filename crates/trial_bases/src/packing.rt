@@ -13,12 +13,11 @@ fn planned(alloc: Global, disk: &mut MemDisk, redo: &mut Redo) -> Result<Packing
         return Err(RowError::Unknown(0));
     };
     let links = relink_plan(alloc, &loaded)?;
-    let mut fresh = Redo::new(alloc);
-    let Ok(packing) = plan(alloc, disk, &loaded, links.as_slice(), &mut fresh) else {
-        return Err(RowError::OutOfMemory);
-    };
-    *redo = fresh;
-    Ok(packing)
+    redo.clear();
+    match plan(alloc, disk, &loaded, links.as_slice(), redo) {
+        Ok(packing) => Ok(packing),
+        Err(_) => Err(RowError::OutOfMemory),
+    }
 }
 
 /// What a pack comes to.

@@ -8,9 +8,10 @@ use trial_rows::{Row, RowError, said};
 
 /// Whether the user of this name and level may do it in an area that asks for these levels; else the rule that refuses.
 pub fn may(alloc: Global, row: &Row) -> Result<String, RowError> {
+    let action = action(row)?;
     let rules = rules(alloc, row)?;
     let user = user(alloc, row)?;
-    answered(alloc, row, &user, &rules, action(row)?)
+    answered(alloc, row, &user, &rules, action)
 }
 
 fn user(alloc: Global, row: &Row) -> Result<User, RowError> {
@@ -36,7 +37,9 @@ fn answered(
 }
 
 fn rules(alloc: Global, row: &Row) -> Result<AreaRules, RowError> {
-    let (read, post, sysop) = (row.u8(1)?, row.u8(2)?, row.u8(3)?);
+    let read = row.u8(1)?;
+    let post = row.u8(2)?;
+    let sysop = row.u8(3)?;
     let address = Bytes::copy(alloc, b"2:5020/1042")?;
     Ok(AreaRules {
         ordinal: 1,
@@ -66,12 +69,13 @@ fn about_message(
     rules: &AreaRules,
     action: Action,
 ) -> Result<String, RowError> {
+    let attribute = row.u32(9)?;
     let from = row.bytes(alloc, 7)?;
     let to = row.bytes(alloc, 8)?;
     let message = Parties {
         from: from.as_slice(),
         to: to.as_slice(),
-        attribute: row.u32(9)?,
+        attribute,
     };
     said(alloc, told(allowed(user, rules, action, Some(message))))
 }

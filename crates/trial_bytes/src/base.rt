@@ -1,5 +1,6 @@
 //! Byte strings, names, an area's rules and the bits of an attribute.
 
+use crate::words::{put_number, put_numbers, put_shown, put_word};
 use jb_base::{
     AreaRules, Bytes, DELETED, Kind, LOCAL, NODISP, OutOfMemory, PRIVATE, READ, TYPEECHO, TYPELOCAL,
 };
@@ -26,8 +27,10 @@ pub fn grow(alloc: Global, row: &Row) -> Result<String, RowError> {
 fn copied(alloc: Global, bytes: &Bytes) -> Result<String, RowError> {
     let state = if bytes.is_empty() { "empty" } else { "filled" };
     let copy = Bytes::copy(alloc, bytes.as_slice())?;
-    let text = shown(alloc, copy.as_slice())?;
-    Ok(format!(in alloc; "{text} {} {state}", copy.len())?)
+    let mut text = shown(alloc, copy.as_slice())?;
+    put_number(&mut text, copy.len() as u64)?;
+    put_word(&mut text, state)?;
+    Ok(text)
 }
 
 /// `own BYTES`: a byte string made of a list.
@@ -54,9 +57,12 @@ pub fn rules(alloc: Global, row: &Row) -> Result<String, RowError> {
 }
 
 fn rules_in(alloc: Global, row: &Row) -> Result<AreaRules, RowError> {
+    let ordinal = row.u8(1)?;
     let kind = kind(row, 3)?;
-    let (read, post, sysop) = (row.u8(4)?, row.u8(5)?, row.u8(6)?);
-    let (ordinal, slots) = (row.u8(1)?, row.u32(7)?);
+    let read = row.u8(4)?;
+    let post = row.u8(5)?;
+    let sysop = row.u8(6)?;
+    let slots = row.u32(7)?;
     let address = row.bytes(alloc, 2)?;
     Ok(AreaRules {
         ordinal,
@@ -78,15 +84,29 @@ fn kind(row: &Row, place: usize) -> Result<Kind, RowError> {
 }
 
 fn told(alloc: Global, rules: &AreaRules) -> Result<String, RowError> {
-    let kind = match rules.kind {
+    let mut text = String::new(alloc);
+    put_number(&mut text, u64::from(rules.ordinal))?;
+    put_shown(alloc, &mut text, rules.address.as_slice())?;
+    put_word(&mut text, kind_told(rules.kind))?;
+    put_numbers(&mut text, &levels_and_slots(rules))?;
+    Ok(text)
+}
+
+fn kind_told(kind: Kind) -> &'static str {
+    match kind {
         Kind::Local => "local",
         Kind::Echo => "echo",
-    };
-    let address = shown(alloc, rules.address.as_slice())?;
-    Ok(format!(in alloc;
-        "{} {address} {kind} {} {} {} {}",
-        rules.ordinal, rules.read, rules.post, rules.sysop, rules.slots
-    )?)
+    }
+}
+
+/// The levels that read, post and tend, and the most slots.
+fn levels_and_slots(rules: &AreaRules) -> [u32; 4] {
+    [
+        u32::from(rules.read),
+        u32::from(rules.post),
+        u32::from(rules.sysop),
+        rules.slots,
+    ]
 }
 
 /// `bits WORD WORD ..`: the attribute with these bits, the place of its lowest bit, and how many it has.

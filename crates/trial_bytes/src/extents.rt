@@ -1,5 +1,6 @@
 //! Extents that share a byte: `overlap START LEN START LEN ..`.
 
+use crate::words::{numbered, put_number};
 use jb_extent::{Extent, first_overlap};
 use std::alloc::Global;
 use trial_rows::{Row, RowError, said};
@@ -8,9 +9,15 @@ use trial_rows::{Row, RowError, said};
 pub fn overlap(alloc: Global, row: &Row) -> Result<String, RowError> {
     let extents = extents(alloc, row)?;
     match first_overlap(alloc, extents.as_slice())? {
-        Some(overlap) => Ok(format!(in alloc; "{} {}", overlap.one, overlap.other)?),
+        Some(overlap) => places(alloc, overlap.one, overlap.other),
         None => said(alloc, "none"),
     }
+}
+
+fn places(alloc: Global, one: usize, other: usize) -> Result<String, RowError> {
+    let mut text = numbered(alloc, "", one as u64)?;
+    put_number(&mut text, other as u64)?;
+    Ok(text)
 }
 
 fn extents(alloc: Global, row: &Row) -> Result<Vec<Extent>, RowError> {

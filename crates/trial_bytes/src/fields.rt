@@ -1,10 +1,11 @@
 //! Subfields, as a list and as bytes.
 ghost use Rattle.std.specs.Prelude.{◌+◌, ◌<◌, ◌^◌};
 
+use crate::words::{numbered, put_hexed, put_number, put_shown, put_word};
 use jb_base::{MSGID, RECEIVER_NAME, REPLYID, SENDER_NAME, SUBJECT, Subfield, Subfields};
 use jb_subfield::{SubfieldError, decode};
 use std::alloc::Global;
-use trial_rows::{Row, RowError, hexed, listed, said, shown};
+use trial_rows::{Row, RowError, listed};
 
 /// `id WORD`: the LoID of the subfields of this kind.
 pub fn id(alloc: Global, row: &Row) -> Result<String, RowError> {
@@ -16,7 +17,7 @@ pub fn id(alloc: Global, row: &Row) -> Result<String, RowError> {
         "subject" => SUBJECT,
         _ => return Err(RowError::Unknown(1)),
     };
-    Ok(format!(in alloc; "{id}")?)
+    numbered(alloc, "", u64::from(id))
 }
 
 /// `first ID ID HI BYTES ID HI BYTES ..`: how many subfields there are, and the data of the first with the LoID that is
@@ -24,11 +25,18 @@ pub fn id(alloc: Global, row: &Row) -> Result<String, RowError> {
 pub fn first(alloc: Global, row: &Row) -> Result<String, RowError> {
     let id = row.u16(1)?;
     let fields = fields_at(alloc, row)?;
-    let data = match fields.first(id) {
-        Some(data) => shown(alloc, data)?,
-        None => said(alloc, "absent")?,
-    };
-    Ok(format!(in alloc; "{} {data}", listed(alloc, &fields)?.len())?)
+    let count = listed(alloc, &fields)?.len();
+    found(alloc, count, fields.first(id))
+}
+
+/// How many subfields there are, and the data that were found.
+fn found(alloc: Global, count: usize, data: Option<&[u8]>) -> Result<String, RowError> {
+    let mut text = numbered(alloc, "", count as u64)?;
+    match data {
+        Some(data) => put_shown(alloc, &mut text, data)?,
+        None => put_word(&mut text, "absent")?,
+    }
+    Ok(text)
 }
 
 /// The subfields from the third word on.
@@ -59,22 +67,24 @@ pub fn subfields(alloc: Global, row: &Row) -> Result<String, RowError> {
     }
     match decode(alloc, bytes.as_slice()) {
         Ok(fields) => both_ways(alloc, &fields),
-        Err(SubfieldError::Cut { at }) => Ok(format!(in alloc; "cut {at}")?),
+        Err(SubfieldError::Cut { at }) => numbered(alloc, "cut", at as u64),
         Err(SubfieldError::OutOfMemory) => Err(RowError::OutOfMemory),
     }
 }
 
 fn both_ways(alloc: Global, fields: &Subfields) -> Result<String, RowError> {
     let list = listed(alloc, fields)?;
-    let mut text = format!(in alloc; "{} ", list.len())?;
-    for field in list.as_slice() {
-        text.push_str(one(alloc, field)?.as_str())?;
-    }
-    text.push_str(hexed(alloc, fields.as_bytes())?.as_str())?;
+    let mut text = numbered(alloc, "", list.len() as u64)?;
+    put_fields(alloc, &mut text, list.as_slice())?;
+    put_hexed(alloc, &mut text, fields.as_bytes())?;
     Ok(text)
 }
 
-fn one(alloc: Global, field: &Subfield) -> Result<String, RowError> {
-    let data = shown(alloc, field.bytes.as_slice())?;
-    Ok(format!(in alloc; "{} {} {data} ", field.id, field.hi)?)
+fn put_fields(alloc: Global, text: &mut String, fields: &[Subfield]) -> Result<(), RowError> {
+    for field in fields {
+        put_number(text, u64::from(field.id))?;
+        put_number(text, u64::from(field.hi))?;
+        put_shown(alloc, text, field.bytes.as_slice())?;
+    }
+    Ok(())
 }

@@ -1,6 +1,7 @@
 //! Numbers in files: `get WIDTH AT BYTES` and `put WIDTH AT VALUE BYTES`, where the width is 16 or 32 bits.
 ghost use Rattle.std.specs.Prelude.{◌+◌, ◌≤◌, length, IsTrue};
 
+use crate::words::numbered;
 use jb_base::{get_u16, get_u32, put_u16, put_u32};
 use std::alloc::Global;
 use trial_rows::{Row, RowError, hexed};
@@ -14,10 +15,11 @@ fn lie_at(bytes: &[u8], at: usize, count: usize) -> bool
 
 /// The number at a place.
 pub fn get(alloc: Global, row: &Row) -> Result<String, RowError> {
+    let width = row.word(1)?;
     let at = row.u32(2)? as usize;
     let bytes = row.bytes(alloc, 3)?;
-    let number = number_at(row.word(1)?, bytes.as_slice(), at)?;
-    Ok(format!(in alloc; "{number}")?)
+    let number = number_at(width, bytes.as_slice(), at)?;
+    numbered(alloc, "", u64::from(number))
 }
 
 fn number_at(width: &str, bytes: &[u8], at: usize) -> Result<u32, RowError> {
@@ -30,10 +32,22 @@ fn number_at(width: &str, bytes: &[u8], at: usize) -> Result<u32, RowError> {
 
 /// The bytes in which the number stands at a place.
 pub fn put(alloc: Global, row: &Row) -> Result<String, RowError> {
+    let width = row.word(1)?;
     let at = row.u32(2)? as usize;
     let value = row.u32(3)?;
-    let mut bytes = row.bytes(alloc, 4)?.as_slice().to_vec(alloc)?;
-    write_at(row.word(1)?, bytes.as_mut_slice(), at, value)?;
+    let bytes = row.bytes(alloc, 4)?;
+    written(alloc, width, bytes.as_slice(), at, value)
+}
+
+fn written(
+    alloc: Global,
+    width: &str,
+    bytes: &[u8],
+    at: usize,
+    value: u32,
+) -> Result<String, RowError> {
+    let mut bytes = bytes.to_vec(alloc)?;
+    write_at(width, bytes.as_mut_slice(), at, value)?;
     hexed(alloc, bytes.as_slice())
 }
 

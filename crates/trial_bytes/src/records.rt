@@ -1,14 +1,14 @@
 //! The fixed records: `message BYTES`, `fixed LENGTH BYTES`, `index BYTES` and `mark BYTES`. Each writes the fields, and
 //! then the bytes that are written for them.
 
-use crate::words::spaced;
+use crate::words::{put_hexed, put_numbers};
 use jb_base::Bytes;
 use jb_record::{
     EMPTY_SLOT, FixedHeader, MessageHeader, decode_fixed, decode_index, decode_mark,
     decode_message, encode_fixed, encode_index, encode_mark, encode_message,
 };
 use std::alloc::Global;
-use trial_rows::{Row, RowError, hexed, said};
+use trial_rows::{Row, RowError, said};
 
 /// A message header: the two reserved bytes and the seventeen numbers behind them.
 pub fn message(alloc: Global, row: &Row) -> Result<String, RowError> {
@@ -43,9 +43,10 @@ fn message_fields(header: &MessageHeader) -> [u32; 18] {
 }
 
 fn both_ways(alloc: Global, fields: &[u32], bytes: &[u8]) -> Result<String, RowError> {
-    let fields = spaced(alloc, fields)?;
-    let again = hexed(alloc, bytes)?;
-    Ok(format!(in alloc; "{fields} {again}")?)
+    let mut text = String::new(alloc);
+    put_numbers(&mut text, fields)?;
+    put_hexed(alloc, &mut text, bytes)?;
+    Ok(text)
 }
 
 /// A fixed header: its bytes, with zeros behind them up to this length. The reserved bytes and the bytes that are written
@@ -59,29 +60,31 @@ pub fn fixed(alloc: Global, row: &Row) -> Result<String, RowError> {
 }
 
 fn padded(alloc: Global, row: &Row) -> Result<Bytes, RowError> {
-    let mut bytes = row.bytes(alloc, 2)?;
     let length = row.u16(1)? as usize;
-    if length > bytes.len() {
-        let zeros = vec![in alloc; 0u8; length - bytes.len()]?;
-        bytes.append(zeros.as_slice())?;
+    let mut bytes = row.bytes(alloc, 2)?;
+    for _ in bytes.len()..length {
+        bytes.append(&[0])?;
     }
     Ok(bytes)
 }
 
 fn fixed_both_ways(alloc: Global, header: &FixedHeader) -> Result<String, RowError> {
-    let fields = spaced(
-        alloc,
-        &[
-            header.created,
-            header.counter,
-            header.active,
-            header.password,
-            header.base,
-        ],
-    )?;
-    let reserved = hexed(alloc, without_zeros(&header.reserved))?;
-    let again = hexed(alloc, without_zeros(&encode_fixed(header)))?;
-    Ok(format!(in alloc; "{fields} {reserved} {again}")?)
+    let again = encode_fixed(header);
+    let mut text = String::new(alloc);
+    put_numbers(&mut text, &fixed_fields(header))?;
+    put_hexed(alloc, &mut text, without_zeros(&header.reserved))?;
+    put_hexed(alloc, &mut text, without_zeros(&again))?;
+    Ok(text)
+}
+
+fn fixed_fields(header: &FixedHeader) -> [u32; 5] {
+    [
+        header.created,
+        header.counter,
+        header.active,
+        header.password,
+        header.base,
+    ]
 }
 
 fn without_zeros(bytes: &[u8]) -> &[u8] {

@@ -1,5 +1,6 @@
 //! The CRC of JAM, and the text of a MSGID.
 
+use crate::words::{numbered, put_number, put_shown};
 use jb_crc::jam_crc;
 use jb_msgid::{MsgId, MsgIdError, parse, print};
 use std::alloc::Global;
@@ -25,15 +26,16 @@ fn both_ways(alloc: Global, value: &MsgId) -> Result<String, RowError> {
         return said(alloc, "no-address");
     }
     let usual = print(alloc, value)?;
-    let usual = shown(alloc, usual.as_slice())?;
-    let address = shown(alloc, value.address.as_slice())?;
-    Ok(format!(in alloc; "{address} {} {usual}", value.serial)?)
+    let mut text = shown(alloc, value.address.as_slice())?;
+    put_number(&mut text, u64::from(value.serial))?;
+    put_shown(alloc, &mut text, usual.as_slice())?;
+    Ok(text)
 }
 
 fn refused(alloc: Global, error: MsgIdError) -> Result<String, RowError> {
     match error {
-        MsgIdError::NoSerial { at } => Ok(format!(in alloc; "no-serial {at}")?),
-        MsgIdError::BadQuote { at } => Ok(format!(in alloc; "bad-quote {at}")?),
+        MsgIdError::NoSerial { at } => numbered(alloc, "no-serial", at as u64),
+        MsgIdError::BadQuote { at } => numbered(alloc, "bad-quote", at as u64),
         MsgIdError::EmptyAddress => said(alloc, "empty-address"),
         MsgIdError::OutOfMemory => Err(RowError::OutOfMemory),
     }

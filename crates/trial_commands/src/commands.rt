@@ -1,11 +1,11 @@
 //! What answers the rows: the two areas that the rows build up.
 
 use crate::plain::Plain;
-use crate::{steps, words};
+use crate::steps;
 use jb_base::{AreaRules, Bytes, Kind};
 use jb_model::Loaded;
 use std::alloc::Global;
-use trial_rows::{Answers, Row, RowError};
+use trial_rows::{Answers, Row, RowError, said};
 
 /// The rules and the moment of every command, the area of the plain program, and the loaded area.
 #[derive(Drop)]
@@ -20,37 +20,47 @@ impl Commands {
     /// Both areas empty, and rules that let everybody do everything.
     pub(crate) fn new(alloc: Global) -> Result<Commands, RowError> {
         let rules = open_rules(alloc)?;
+        let loaded = steps::loaded(alloc, 1, 1_024, 0)?;
         Ok(Commands {
             rules,
             moment: 0,
             plain: Plain::new(alloc, 1),
-            loaded: steps::loaded(alloc, 1, 1_024, 0)?,
+            loaded,
         })
     }
 
     /// The levels that read, post and tend, and the most slots.
     fn set_rules(&mut self, alloc: Global, row: &Row) -> Result<String, RowError> {
-        self.rules.read = words::small(row, 1)?;
-        self.rules.post = words::small(row, 2)?;
-        self.rules.sysop = words::small(row, 3)?;
+        self.rules.read = row.u8(1)?;
+        self.rules.post = row.u8(2)?;
+        self.rules.sysop = row.u8(3)?;
         self.rules.slots = row.u32(4)?;
-        words::done(alloc)
+        said(alloc, "ok")
     }
 
     fn set_moment(&mut self, alloc: Global, row: &Row) -> Result<String, RowError> {
         self.moment = row.u32(1)?;
-        words::done(alloc)
+        said(alloc, "ok")
     }
 
     fn set_area(&mut self, alloc: Global, row: &Row) -> Result<String, RowError> {
-        self.plain = Plain::new(alloc, row.u32(1)?);
-        words::done(alloc)
+        self.plain.begin(alloc, row.u32(1)?);
+        said(alloc, "ok")
     }
 
     fn set_loaded(&mut self, alloc: Global, row: &Row) -> Result<String, RowError> {
-        self.loaded = steps::loaded(alloc, row.u32(1)?, row.number(2)?, row.number(3)?)?;
-        words::done(alloc)
+        let base = row.u32(1)?;
+        let headers_len = row.number(2)?;
+        let texts_len = row.number(3)?;
+        let loaded = steps::loaded(alloc, base, headers_len, texts_len)?;
+        put_loaded(&mut self.loaded, loaded);
+        said(alloc, "ok")
     }
+}
+
+/// Puts an area in the place of another.
+fn put_loaded(place: &mut Loaded, loaded: Loaded) {
+    *place = loaded;
 }
 
 /// Rules of a local area that ask for no level.

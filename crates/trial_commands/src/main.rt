@@ -8,8 +8,14 @@ mod showing;
 mod steps;
 mod words;
 
-fn main(rt: HostRuntime) -> anyhow::Result<()> {
-    let mut answers = commands::Commands::new(rt.alloc())?;
-    trial_rows::run(&rt, &mut answers)?;
+use commands::Commands;
+
+fn run(rt: &HostRuntime, answers: &mut Commands) -> anyhow::Result<()> {
+    trial_rows::run(rt, answers)?;
     Ok(())
+}
+
+fn main(rt: HostRuntime) -> anyhow::Result<()> {
+    let mut answers = Commands::new(rt.alloc())?;
+    run(&rt, &mut answers)
 }

@@ -1,13 +1,14 @@
 //! The plain, slow program: commands are collected and then run over the area as a plain value.
 
-use crate::{showing, words};
-use jb_base::{AreaRules, Bytes, MSGID, Name, REPLYID, Subfield, Subfields};
-use jb_model::{Area, Asked, Command, Head, Marks, Message, Slot, Slots};
+use crate::showing::{self, put_line};
+use crate::words::{self, Written};
+use jb_base::{AreaRules, Bytes, MSGID, REPLYID, Subfield, Subfields};
+use jb_model::{Area, Asked, Command, Head, Marks, Message, Reply, Slot, Slots};
 use jb_plain::{Replies, may_run, run_slow};
 use std::alloc::Global;
 use std::fmt::Write;
 use std::mem;
-use trial_rows::{Row, RowError};
+use trial_rows::{Row, RowError, said};
 
 /// A header of zeros.
 const HEAD: Head = Head {
@@ -43,6 +44,11 @@ fn empty(alloc: Global, base: u32) -> Area {
     }
 }
 
+/// Puts an area in the place of another.
+fn put_area(place: &mut Area, area: Area) {
+    *place = area;
+}
+
 /// Puts a subfield with these bytes behind the others, where there are bytes.
 fn put_field(subfields: &mut Subfields, id: u16, bytes: Bytes) -> Result<(), RowError> {
     if !bytes.is_empty() {
@@ -51,15 +57,31 @@ fn put_field(subfields: &mut Subfields, id: u16, bytes: Bytes) -> Result<(), Row
     Ok(())
 }
 
+/// A MSGID and a REPLYID, or none, by the words of a row.
+fn fields_at(alloc: Global, row: &Row) -> Result<Subfields, RowError> {
+    let id = words::part(alloc, row, 1)?;
+    let reply = words::part(alloc, row, 2)?;
+    let mut subfields = Subfields::new(alloc);
+    put_field(&mut subfields, MSGID, id)?;
+    put_field(&mut subfields, REPLYID, reply)?;
+    Ok(subfields)
+}
+
 /// A post, by the words of a row.
 fn post(alloc: Global, row: &Row) -> Result<Command, RowError> {
-    let written = words::written_in(alloc, row)?;
+    let Written {
+        to,
+        subject,
+        text,
+        reply_to,
+        private,
+    } = words::written_in(alloc, row)?;
     Ok(Command::Post {
-        to: Name::copy(alloc, written.to.as_slice())?,
-        subject: written.subject,
-        text: written.text,
-        reply_to: written.reply_to,
-        private: written.private,
+        to,
+        subject,
+        text,
+        reply_to,
+        private,
     })
 }
 
@@ -88,17 +110,31 @@ fn command(alloc: Global, row: &Row) -> Result<Command, RowError> {
 fn told(alloc: Global, replies: &Replies) -> Result<String, RowError> {
     let mut text = String::new(alloc);
     for reply in replies.as_slice() {
-        let line = showing::reply(alloc, reply)?;
-        showing::put_line(&mut text, line.as_str())?;
+        put_reply(alloc, &mut text, reply)?;
     }
     Ok(text)
 }
 
-/// A live message: the fields of its header, its subfields and its text.
-fn message_shown(alloc: Global, message: &Message) -> Result<String, RowError> {
-    let mut line = showing::header(alloc, &message.head, &message.subfields)?;
-    showing::put_bytes(alloc, &mut line, message.text.as_slice())?;
-    Ok(line)
+fn put_reply(alloc: Global, text: &mut String, reply: &Reply) -> Result<(), RowError> {
+    let line = showing::reply(alloc, reply)?;
+    put_line(text, line.as_str())
+}
+
+/// Puts a line of a live message behind the others: the fields of its header, its subfields and its text.
+fn put_message(alloc: Global, text: &mut String, message: &Message) -> Result<(), RowError> {
+    let line = showing::header(alloc, &message.head, &message.subfields)?;
+    put_line(text, line.as_str())?;
+    showing::put_bytes(alloc, text, message.text.as_slice())
+}
+
+/// Puts ReplyTo, Reply1st and ReplyNext behind the other words.
+fn put_links(text: &mut String, head: &Head) -> Result<(), RowError> {
+    write!(
+        text,
+        " {}/{}/{}",
+        head.reply_to, head.reply_first, head.reply_next
+    )?;
+    Ok(())
 }
 
 /// What stands in a slot.
@@ -119,17 +155,20 @@ impl Plain {
         }
     }
 
+    /// The area begins anew from this number on.
+    pub(crate) fn begin(&mut self, alloc: Global, base: u32) {
+        *self = Plain::new(alloc, base);
+    }
+
     /// Puts a message with a MSGID and a REPLYID, or without, behind the others.
     pub(crate) fn message(&mut self, alloc: Global, row: &Row) -> Result<String, RowError> {
-        let mut subfields = Subfields::new(alloc);
-        put_field(&mut subfields, MSGID, words::part(alloc, row, 1)?)?;
-        put_field(&mut subfields, REPLYID, words::part(alloc, row, 2)?)?;
+        let subfields = fields_at(alloc, row)?;
         self.area.slots.push(Slot::Live(Message {
             head: HEAD,
             subfields,
             text: Bytes::new(alloc),
         }))?;
-        words::done(alloc)
+        said(alloc, "ok")
     }
 
     /// Puts a command behind what is asked.
@@ -139,25 +178,36 @@ impl Plain {
         moment: u32,
         row: &Row,
     ) -> Result<String, RowError> {
-        let command = command(alloc, row)?;
         let user = words::user(alloc, row)?;
+        let command = command(alloc, row)?;
         self.list.push(Asked {
             user,
             moment,
             command,
         })?;
-        words::done(alloc)
+        said(alloc, "ok")
     }
 
     /// Runs what is asked, and tells the replies.
     pub(crate) fn run(&mut self, alloc: Global, rules: &AreaRules) -> Result<String, RowError> {
-        let area = mem::replace(&mut self.area, empty(alloc, 1));
         let list = mem::replace(&mut self.list, Vec::new(alloc));
+        let area = mem::replace(&mut self.area, empty(alloc, 1));
+        self.run_over(alloc, rules, area, list.as_slice())
+    }
+
+    /// Runs these commands over an area, which then is the one that is kept, and tells the replies.
+    fn run_over(
+        &mut self,
+        alloc: Global,
+        rules: &AreaRules,
+        area: Area,
+        list: &[Asked],
+    ) -> Result<String, RowError> {
         if !may_run(&area, rules.slots) {
-            return Ok(String::from_str(alloc, "not-allowed")?);
+            return said(alloc, "not-allowed");
         }
-        let (area, replies) = run_slow(alloc, rules, area, list.as_slice())?;
-        self.area = area;
+        let (area, replies) = run_slow(alloc, rules, area, list)?;
+        put_area(&mut self.area, area);
         told(alloc, &replies)
     }
 
@@ -175,8 +225,7 @@ impl Plain {
         let mut text = String::new(alloc);
         for slot in self.area.slots.as_slice() {
             if let Slot::Live(message) = slot {
-                let line = message_shown(alloc, message)?;
-                showing::put_line(&mut text, line.as_str())?;
+                put_message(alloc, &mut text, message)?;
             }
         }
         Ok(text)
@@ -184,15 +233,10 @@ impl Plain {
 
     /// ReplyTo, Reply1st and ReplyNext of each live message.
     pub(crate) fn links(&self, alloc: Global) -> Result<String, RowError> {
-        let mut text = String::from_str(alloc, "links")?;
+        let mut text = said(alloc, "links")?;
         for slot in self.area.slots.as_slice() {
             if let Slot::Live(message) = slot {
-                let head = &message.head;
-                write!(
-                    text,
-                    " {}/{}/{}",
-                    head.reply_to, head.reply_first, head.reply_next
-                )?;
+                put_links(&mut text, &message.head)?;
             }
         }
         Ok(text)

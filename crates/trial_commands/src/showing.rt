@@ -17,14 +17,16 @@ pub(crate) fn put_line(text: &mut String, line: &str) -> Result<(), RowError> {
 
 /// Puts bytes as a word behind the others.
 pub(crate) fn put_bytes(alloc: Global, text: &mut String, bytes: &[u8]) -> Result<(), RowError> {
+    let word = shown(alloc, bytes)?;
     text.push(' ')?;
-    text.push_str(shown(alloc, bytes)?.as_str())?;
+    text.push_str(word.as_str())?;
     Ok(())
 }
 
 /// Puts LoID, HiID and data of each subfield behind the other words.
 fn put_fields(alloc: Global, text: &mut String, subfields: &Subfields) -> Result<(), RowError> {
-    for field in listed(alloc, subfields)?.as_slice() {
+    let list = listed(alloc, subfields)?;
+    for field in list.as_slice() {
         write!(text, " {} {}", field.id, field.hi)?;
         put_bytes(alloc, text, field.bytes.as_slice())?;
     }
@@ -45,23 +47,27 @@ pub(crate) fn header(
 /// A message as it is shown.
 pub(crate) fn letter(alloc: Global, letter: &Letter) -> Result<String, RowError> {
     let mut text = format!(in alloc; "Text {}", letter.number)?;
-    put_bytes(alloc, &mut text, letter.from.as_slice())?;
-    put_bytes(alloc, &mut text, letter.to.as_slice())?;
-    put_bytes(alloc, &mut text, letter.subject.as_slice())?;
-    put_bytes(alloc, &mut text, letter.msgid.as_slice())?;
-    put_bytes(alloc, &mut text, letter.reply.as_slice())?;
-    put_numbers(&mut text, letter)?;
-    put_bytes(alloc, &mut text, letter.text.as_slice())?;
+    put_letter(alloc, &mut text, letter)?;
     Ok(text)
+}
+
+/// Puts what stands in a letter behind its number.
+fn put_letter(alloc: Global, text: &mut String, letter: &Letter) -> Result<(), RowError> {
+    put_bytes(alloc, text, letter.from.as_slice())?;
+    put_bytes(alloc, text, letter.to.as_slice())?;
+    put_bytes(alloc, text, letter.subject.as_slice())?;
+    put_bytes(alloc, text, letter.msgid.as_slice())?;
+    put_bytes(alloc, text, letter.reply.as_slice())?;
+    put_numbers(text, letter)?;
+    put_bytes(alloc, text, letter.text.as_slice())
 }
 
 /// Puts the numbers of a letter behind the other words.
 fn put_numbers(text: &mut String, letter: &Letter) -> Result<(), RowError> {
-    write!(text, " {} {}", letter.written, letter.attribute)?;
     write!(
         text,
-        " {} {} {}",
-        letter.reply_to, letter.reply_first, letter.reply_next
+        " {} {} {} {} {}",
+        letter.written, letter.attribute, letter.reply_to, letter.reply_first, letter.reply_next
     )?;
     Ok(())
 }

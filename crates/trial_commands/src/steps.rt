@@ -4,7 +4,7 @@ ghost use Rattle.std.specs.Prelude.{◌+◌, ◌≤◌, length, IsTrue};
 
 use crate::words::Written;
 use crate::{showing, words};
-use jb_base::{AreaRules, MOST_MARKS, User};
+use jb_base::{AreaRules, MOST_MARKS, OutOfMemory, User};
 use jb_crc::jam_crc;
 use jb_marks::Marks;
 use jb_model::{Loaded, LoadedMarks, LoadedMessage, LoadedSlot, LoadedSlots, Mark, Reply};
@@ -13,7 +13,7 @@ use jb_step::{Draft, Neighbour, Posting, kill, peek, post, read, relink, set_mar
 use jb_subfield::headed_length;
 use std::alloc::Global;
 use std::fmt::Debug;
-use trial_rows::{Row, RowError};
+use trial_rows::{Row, RowError, said};
 
 /// An area without a slot, from this number on, with files of these lengths.
 pub(crate) fn loaded(
@@ -82,6 +82,10 @@ fn numbered(
 
 /// What was decided, or the refusal.
 fn told<T: Debug + Drop>(alloc: Global, decided: Result<T, Reply>) -> Result<String, RowError> {
+    shown(alloc, &decided)
+}
+
+fn shown<T: Debug>(alloc: Global, decided: &T) -> Result<String, RowError> {
     Ok(format!(in alloc; "{decided:?}")?)
 }
 
@@ -133,10 +137,19 @@ fn step_mark(
     number: u32,
 ) -> Result<String, RowError> {
     let decided = mark_of(alloc, loaded, rules, user, number)?;
-    if let Ok(mark) = &decided {
+    put_mark(alloc, loaded, &decided)
+}
+
+/// Puts a mark that is set into the area, and says what was decided.
+fn put_mark(
+    alloc: Global,
+    loaded: &mut Loaded,
+    decided: &Result<Mark, Reply>,
+) -> Result<String, RowError> {
+    if let Ok(mark) = decided {
         keep_mark(loaded, *mark)?;
     }
-    told(alloc, decided)
+    shown(alloc, decided)
 }
 
 /// What is written, as a draft.
@@ -158,12 +171,12 @@ fn posting_of(
     user: &User,
     moment: u32,
     draft: Draft<'_>,
-) -> Result<Result<Posting, Reply>, RowError> {
-    if !is_numbered(loaded) {
-        return Err(RowError::Unknown(0));
-    }
+) -> Result<Result<Posting, Reply>, OutOfMemory>
+    requires base { 1 ≤ loaded.now.base }
+    requires numbers { loaded.now.base + length loaded.now.slots ≤ 4_294_967_295 }
+{
     let replies = Replies::of(alloc, loaded)?;
-    Ok(post(alloc, loaded, &replies, rules, user, moment, draft)?)
+    post(alloc, loaded, &replies, rules, user, moment, draft)
 }
 
 /// Number and UserCRC of a new message, the place of its header, place and length of its text, and the place of the
@@ -198,13 +211,34 @@ fn put_message(loaded: &mut Loaded, message: LoadedMessage) -> Result<(), RowErr
 }
 
 /// Puts what a post decided into the area.
-fn put_posting(alloc: Global, loaded: &mut Loaded, posting: Posting) -> Result<String, RowError> {
-    let text = posting_shown(alloc, &posting)?;
-    if let Some(neighbour) = posting.neighbour {
+fn put_posting(loaded: &mut Loaded, posting: Posting) -> Result<(), RowError> {
+    let Posting {
+        message,
+        neighbour,
+        ..
+    } = posting;
+    if let Some(neighbour) = neighbour {
         put_neighbour(loaded, neighbour);
     }
-    put_message(loaded, posting.message)?;
+    put_message(loaded, message)
+}
+
+fn posted(alloc: Global, loaded: &mut Loaded, posting: Posting) -> Result<String, RowError> {
+    let text = posting_shown(alloc, &posting)?;
+    put_posting(loaded, posting)?;
     Ok(text)
+}
+
+/// Puts what a post decided into the area, and says what it is, or why the post is refused.
+fn put_decided(
+    alloc: Global,
+    loaded: &mut Loaded,
+    decided: Result<Posting, Reply>,
+) -> Result<String, RowError> {
+    match decided {
+        Ok(posting) => posted(alloc, loaded, posting),
+        Err(reply) => showing::reply(alloc, &reply),
+    }
 }
 
 fn step_post(
@@ -215,11 +249,12 @@ fn step_post(
     moment: u32,
     row: &Row,
 ) -> Result<String, RowError> {
-    let written = words::written_in(alloc, row)?;
-    match posting_of(alloc, loaded, rules, user, moment, draft_of(&written))? {
-        Ok(posting) => put_posting(alloc, loaded, posting),
-        Err(reply) => showing::reply(alloc, &reply),
+    if !is_numbered(loaded) {
+        return Err(RowError::Unknown(0));
     }
+    let written = words::written_in(alloc, row)?;
+    let decided = posting_of(alloc, loaded, rules, user, moment, draft_of(&written))?;
+    put_decided(alloc, loaded, decided)
 }
 
 /// The live message at the place that the row names.
@@ -237,7 +272,7 @@ pub(crate) fn killed(alloc: Global, loaded: &mut Loaded, row: &Row) -> Result<St
     if place < loaded.slots.as_slice().len() {
         loaded.slots.set(place, LoadedSlot::Killed { header_at });
     }
-    words::done(alloc)
+    said(alloc, "ok")
 }
 
 /// The bytes of .JHR that the message at a place takes, the fields of its header, and its subfields.

@@ -1,36 +1,23 @@
 //! What the words of a row stand for.
 
-use jb_base::{Bytes, User};
+use jb_base::{Bytes, Name, User};
 use std::alloc::Global;
 use trial_rows::{Row, RowError};
 
 /// What is written to be posted.
 #[derive(Drop)]
 pub(crate) struct Written {
-    pub to: Bytes,
+    pub to: Name,
     pub subject: Bytes,
     pub text: Bytes,
     pub reply_to: u32,
     pub private: bool,
 }
 
-/// The answer to a row that only sets something.
-pub(crate) fn done(alloc: Global) -> Result<String, RowError> {
-    Ok(String::from_str(alloc, "ok")?)
-}
-
-/// The number of at most 8 bits at this place.
-pub(crate) fn small(row: &Row, place: usize) -> Result<u8, RowError> {
-    match u8::try_from(row.number(place)?) {
-        Ok(number) => Ok(number),
-        Err(_) => Err(RowError::Number(place)),
-    }
-}
-
 /// The user who asks: name, number and level stand behind the word of the command.
 pub(crate) fn user(alloc: Global, row: &Row) -> Result<User, RowError> {
     let id = row.u32(3)?;
-    let level = small(row, 4)?;
+    let level = row.u8(4)?;
     let name = row.name(alloc, 2)?;
     Ok(User { name, id, level })
 }
@@ -51,6 +38,12 @@ pub(crate) fn part(alloc: Global, row: &Row, place: usize) -> Result<Bytes, RowE
     }
 }
 
+/// The receiver of a post.
+fn receiver(alloc: Global, row: &Row) -> Result<Name, RowError> {
+    let bytes = part(alloc, row, 5)?;
+    Ok(Name::copy(alloc, bytes.as_slice())?)
+}
+
 /// Whether a post is a private one.
 fn is_private(row: &Row, place: usize) -> Result<bool, RowError> {
     match row.word(place)? {
@@ -64,7 +57,7 @@ fn is_private(row: &Row, place: usize) -> Result<bool, RowError> {
 pub(crate) fn written_in(alloc: Global, row: &Row) -> Result<Written, RowError> {
     let reply_to = row.u32(8)?;
     let private = is_private(row, 9)?;
-    let to = part(alloc, row, 5)?;
+    let to = receiver(alloc, row)?;
     let subject = part(alloc, row, 6)?;
     let text = part(alloc, row, 7)?;
     Ok(Written {

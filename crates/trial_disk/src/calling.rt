@@ -16,19 +16,15 @@ pub(crate) fn called<D: Disk>(
 ) -> Result<String, RowError> {
     let file = file(row, 2)?;
     match call {
-        "len" => len(alloc, disk, file),
+        "len" => match disk.len(file) {
+            Ok(len) => Ok(format!(in alloc; "{len}")?),
+            Err(_) => said(alloc, "failed"),
+        },
         "read" => read(alloc, disk, file, row),
         "write" => write(alloc, disk, file, row),
         "resize" => resize(alloc, disk, file, row),
         "sync" => done(alloc, disk.sync(file).is_ok()),
         _ => Err(RowError::Unknown(1)),
-    }
-}
-
-fn len<D: Disk>(alloc: Global, disk: &mut D, file: FileId) -> Result<String, RowError> {
-    match disk.len(file) {
-        Ok(len) => Ok(format!(in alloc; "{len}")?),
-        Err(_) => said(alloc, "failed"),
     }
 }
 

@@ -1,8 +1,9 @@
 //! A change of lengths and pieces.
 
-use crate::spelling::{file, name};
+use crate::spelling::{file, name, worded};
 use jb_disk::{Length, PieceHead, Redo};
 use std::alloc::Global;
+use std::fmt::Write;
 use trial_rows::{Row, RowError, said, shown};
 
 /// What the row about the change comes to.
@@ -53,7 +54,7 @@ fn put_copy(change: &mut Redo, row: &Row) -> Result<(), RowError> {
 fn asked(alloc: Global, change: &Redo, row: &Row) -> Result<String, RowError> {
     match row.word(1)? {
         "lengths" => lengths(alloc, change),
-        "pieces" => Ok(format!(in alloc; "{}", change.pieces())?),
+        "pieces" => worded(format!(in alloc; "{}", change.pieces())),
         "piece" => piece(alloc, change, row.u32(2)?),
         _ => Err(RowError::Unknown(1)),
     }
@@ -62,10 +63,7 @@ fn asked(alloc: Global, change: &Redo, row: &Row) -> Result<String, RowError> {
 fn lengths(alloc: Global, change: &Redo) -> Result<String, RowError> {
     let mut text = String::new(alloc);
     for entry in change.lengths() {
-        text.push_str(name(entry.file))?;
-        text.push(' ')?;
-        text.push_str(format!(in alloc; "{}", entry.len)?.as_str())?;
-        text.push(';')?;
+        write!(text, "{} {};", name(entry.file), entry.len)?;
     }
     Ok(text)
 }
@@ -76,7 +74,7 @@ fn piece(alloc: Global, change: &Redo, k: u32) -> Result<String, RowError> {
     }
     let head = head(alloc, change.head(k))?;
     let bytes = shown(alloc, change.bytes(k))?;
-    Ok(format!(in alloc; "{head} {bytes}")?)
+    worded(format!(in alloc; "{head} {bytes}"))
 }
 
 fn head(alloc: Global, head: PieceHead) -> Result<String, RowError> {

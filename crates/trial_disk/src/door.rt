@@ -3,6 +3,7 @@
 use crate::spelling::done;
 use jb_host::{Accepted, Bell, Door, Link, MemBell, MemDoor, MemLink, Ring, TimedBell, send};
 use std::alloc::Global;
+use std::fmt::Write;
 use std::mem;
 use trial_rows::{Row, RowError, said, shown};
 
@@ -100,23 +101,18 @@ pub(crate) fn sent_on(alloc: Global, door: &MemDoor) -> Result<String, RowError>
     let mut all = said(alloc, "sent")?;
     for link in door.hung() {
         let sent = shown(alloc, link.sent())?;
-        all = format!(in alloc; "{all} {sent}")?;
+        write!(all, " {sent}")?;
     }
     Ok(all)
 }
 
-/// The areas from this place on.
-fn areas(alloc: Global, row: &Row, from: usize) -> Result<Vec<u32>, RowError> {
+/// A bell in memory over the areas from this place on.
+pub(crate) fn bell_of(alloc: Global, row: &Row, from: usize) -> Result<MemBell, RowError> {
     let mut areas = Vec::new(alloc);
     for place in from..row.len() {
         areas.push(row.u32(place)?)?;
     }
-    Ok(areas)
-}
-
-/// A bell in memory over the areas from this place on.
-pub(crate) fn bell_of(alloc: Global, row: &Row, from: usize) -> Result<MemBell, RowError> {
-    Ok(MemBell::new(areas(alloc, row, from)?))
+    Ok(MemBell::new(areas))
 }
 
 /// For how many rings at most a bell is listened to.
@@ -127,8 +123,11 @@ pub(crate) fn rung<B: Bell>(alloc: Global, bell: &mut B) -> Result<String, RowEr
     let mut all = said(alloc, "rings")?;
     for _ in 0..MOST_RINGS {
         match bell.next() {
-            Ring::Pack(area) => all = format!(in alloc; "{all} {area}")?,
-            Ring::Shut => return Ok(format!(in alloc; "{all} shut")?),
+            Ring::Pack(area) => write!(all, " {area}")?,
+            Ring::Shut => {
+                write!(all, " shut")?;
+                break;
+            }
         }
     }
     Ok(all)

@@ -1,6 +1,6 @@
 //! A link in memory.
 
-use crate::spelling::done;
+use crate::spelling::{done, worded};
 use jb_host::{Link, MemLink, send};
 use std::alloc::Global;
 use trial_rows::{Row, RowError, said, shown};
@@ -30,18 +30,18 @@ fn made(alloc: Global, link: &mut MemLink, row: &Row) -> Result<String, RowError
 }
 
 fn read(alloc: Global, link: &mut MemLink, into: &mut [u8; 3]) -> Result<String, RowError> {
-    let count = match link.read(into) {
-        Ok(count) => format!(in alloc; "{count}")?,
-        Err(_) => said(alloc, "failed")?,
-    };
+    let read = link.read(into);
     let bytes = shown(alloc, into)?;
-    Ok(format!(in alloc; "{count} {bytes}")?)
+    match read {
+        Ok(count) => worded(format!(in alloc; "{count} {bytes}")),
+        Err(_) => worded(format!(in alloc; "failed {bytes}")),
+    }
 }
 
 fn write(alloc: Global, link: &mut MemLink, row: &Row) -> Result<String, RowError> {
     let bytes = row.bytes(alloc, 2)?;
     match link.write(bytes.as_slice()) {
-        Ok(count) => Ok(format!(in alloc; "{count}")?),
+        Ok(count) => worded(format!(in alloc; "{count}")),
         Err(_) => said(alloc, "failed"),
     }
 }

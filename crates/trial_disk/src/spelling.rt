@@ -7,7 +7,7 @@ use jb_base::{
     TEXTS_CEILING,
 };
 use jb_disk::FileId;
-use std::alloc::Global;
+use std::alloc::{AllocError, Global};
 use trial_rows::{Row, RowError, said};
 
 /// The file that the word at this place names.
@@ -47,6 +47,11 @@ pub(crate) fn ceiling(file: FileId) -> u64
         FileId::Jnl => JOURNAL_CEILING,
         FileId::Ndt => SHADOW_CEILING,
     }
+}
+
+/// Words that were put together, unless there was no memory for them.
+pub(crate) fn worded(words: Result<String, AllocError>) -> Result<String, RowError> {
+    Ok(words?)
 }
 
 /// The word for a call that answers nothing but whether it was done.

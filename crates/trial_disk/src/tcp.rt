@@ -118,28 +118,51 @@ fn caller_at(rt: HostRuntime, port: u16) -> io::Result<TcpStream> {
     Ok(caller)
 }
 
+// What another host is answered that asks for this port.
+fn at_another(rt: HostRuntime, alloc: Global, port: u16) -> Result<&'static str, RowError> {
+    match RealHost::new(rt, rt, alloc).door(1, port, None) {
+        Ok(_) => Ok("out"),
+        Err(HostError::Failed) => Ok("failed"),
+        Err(HostError::OutOfMemory) => Err(RowError::OutOfMemory),
+    }
+}
+
+// What these two doors at a port answer to two callers there and then, and what another host is answered that asks for that port.
+fn at_doors(
+    rt: HostRuntime,
+    alloc: Global,
+    port: u16,
+    one: &mut TcpDoor<HostRuntime>,
+    two: &mut TcpDoor<HostRuntime>,
+) -> Result<String, RowError> {
+    let Ok(first) = caller_at(rt, port) else {
+        return said(alloc, "no-caller");
+    };
+    let Ok(second) = caller_at(rt, port) else {
+        return said(alloc, "no-caller");
+    };
+    let calls = (accepted(two), accepted(one));
+    let ends = (accepted(one), accepted(two));
+    drop(first);
+    drop(second);
+    let other = at_another(rt, alloc, port)?;
+    Ok(format!(in alloc; "{} {} {} {} {other}", calls.0, calls.1, ends.0, ends.1)?)
+}
+
 // What two doors of a host at one port answer to two callers and then, and what another host is answered that asks for that port.
 fn ports(rt: HostRuntime, alloc: Global) -> Result<String, RowError> {
     let Ok(port) = free_port(rt) else {
         return said(alloc, "no-socket");
     };
     let mut host = RealHost::new(rt, rt, alloc);
-    let (Ok(mut one), Ok(mut two)) = (host.door(1, port, Some(1)), host.door(2, port, Some(1)))
-    else {
+    let Ok(mut one) = host.door(1, port, Some(1)) else {
         return said(alloc, "no-door");
     };
-    let (Ok(first), Ok(second)) = (caller_at(rt, port), caller_at(rt, port)) else {
-        return said(alloc, "no-caller");
+    let Ok(mut two) = host.door(2, port, Some(1)) else {
+        return said(alloc, "no-door");
     };
-    let calls = (accepted(&mut two), accepted(&mut one));
-    let ends = (accepted(&mut one), accepted(&mut two));
-    drop((first, second));
-    let other = match RealHost::new(rt, rt, alloc).door(1, port, None) {
-        Ok(_) => "out",
-        Err(HostError::Failed) => "failed",
-        Err(HostError::OutOfMemory) => return Err(RowError::OutOfMemory),
-    };
+    let words = at_doors(rt, alloc, port, &mut one, &mut two);
     host.put_door(1, one);
     host.put_door(2, two);
-    Ok(format!(in alloc; "{} {} {} {} {other}", calls.0, calls.1, ends.0, ends.1)?)
+    words
 }

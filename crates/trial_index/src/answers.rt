@@ -4,7 +4,7 @@ use jb_base::User;
 use jb_index::Index;
 use jb_model::{Answer, Figures, Question, Short, Summaries, Summary};
 use std::alloc::Global;
-use trial_rows::{Row, RowError, shown};
+use trial_rows::{Row, RowError, said, shown};
 
 /// The answer to a row that asks.
 pub(crate) fn answer(
@@ -15,9 +15,26 @@ pub(crate) fn answer(
 ) -> Result<String, RowError> {
     match row.word(0)? {
         "count" => Ok(format!(in alloc; "{} unread", index.unread_count(user))?),
-        "lines" => lines(alloc, &index.listed(user, row.u32(1)?, row.u32(2)?)?),
-        _ => told(alloc, &index.ask(user, &question_at(row)?)?),
+        "lines" => listed(alloc, index, user, row),
+        _ => asked(alloc, index, user, &question_at(row)?),
     }
+}
+
+fn listed(alloc: Global, index: &Index, user: &User, row: &Row) -> Result<String, RowError> {
+    let from = row.u32(1)?;
+    let most = row.u32(2)?;
+    let summaries = index.listed(user, from, most)?;
+    lines(alloc, &summaries)
+}
+
+fn asked(
+    alloc: Global,
+    index: &Index,
+    user: &User,
+    question: &Question,
+) -> Result<String, RowError> {
+    let answer = index.ask(user, question)?;
+    told(alloc, &answer)
 }
 
 /// The question of a row.
@@ -26,7 +43,8 @@ fn question_at(row: &Row) -> Result<Question, RowError> {
     if word == "figures" {
         return Ok(Question::Figures);
     }
-    let (from, most) = (row.u32(1)?, row.u32(2)?);
+    let from = row.u32(1)?;
+    let most = row.u32(2)?;
     match word {
         "list" => Ok(Question::List { from, most }),
         "unread" => Ok(Question::Unread { from, most }),
@@ -44,7 +62,7 @@ fn told(alloc: Global, answer: &Answer) -> Result<String, RowError> {
 }
 
 fn numbers(alloc: Global, summaries: &Summaries) -> Result<String, RowError> {
-    let mut text = String::from_str(alloc, "numbers")?;
+    let mut text = said(alloc, "numbers")?;
     for summary in summaries.as_slice() {
         write!(text, " {}", summary.number)?;
     }
@@ -52,14 +70,10 @@ fn numbers(alloc: Global, summaries: &Summaries) -> Result<String, RowError> {
 }
 
 fn told_figures(alloc: Global, figures: &Figures) -> Result<String, RowError> {
-    let mut text = format!(in alloc; "base {} next {}", figures.base, figures.next)?;
-    write!(
-        text,
-        " visible {} unread {}",
-        figures.visible, figures.unread
-    )?;
-    write!(text, " last {} high {}", figures.last, figures.high)?;
-    Ok(text)
+    Ok(format!(in alloc;
+        "base {} next {} visible {} unread {} last {} high {}",
+        figures.base, figures.next, figures.visible, figures.unread, figures.last, figures.high
+    )?)
 }
 
 /// What is kept of a text, and how long it was.
@@ -80,15 +94,14 @@ fn put_line(alloc: Global, text: &mut String, summary: &Summary) -> Result<(), R
     put_short(alloc, text, &summary.subject)?;
     write!(
         text,
-        " written {} attribute {}",
-        summary.written, summary.attribute
+        " written {} attribute {} parent {}",
+        summary.written, summary.attribute, summary.parent
     )?;
-    write!(text, " parent {}", summary.parent)?;
     Ok(())
 }
 
 fn lines(alloc: Global, summaries: &Summaries) -> Result<String, RowError> {
-    let mut text = String::from_str(alloc, "lines")?;
+    let mut text = said(alloc, "lines")?;
     for summary in summaries.as_slice() {
         put_line(alloc, &mut text, summary)?;
     }

@@ -39,6 +39,8 @@ impl SoundArea {
         requires low { 1 ≤ base }
         requires high { base ≤ 16_000_000 }
     {
+        let slots = LoadedSlots::new(alloc)?;
+        let marks = LoadedMarks::new(alloc)?;
         let loaded = Loaded {
             created: 0,
             counter: 0,
@@ -46,8 +48,8 @@ impl SoundArea {
             password: 0xFFFF_FFFF,
             reserved: [0; 1000],
             base,
-            slots: LoadedSlots::new(alloc)?,
-            marks: LoadedMarks::new(alloc)?,
+            slots,
+            marks,
             headers_len: 1_024,
             texts_len: 0,
         };
@@ -138,14 +140,18 @@ fn rules_of(alloc: Global, read: u8, sysop: u8) -> AreaRules
 
 /// The answer to a row that changes the area.
 pub(crate) fn answer(alloc: Global, area: &mut SoundArea, row: &Row) -> Result<String, RowError> {
-    match row.word(0)? {
-        "area" => begin(alloc, area, row.u32(1)?)?,
-        "live" => area.post(head_at(row)?, fields_at(alloc, row)?)?,
-        "chain" => chain(alloc, area, row.u32(1)?)?,
-        "kill" => kill(area, row.u32(1)?)?,
-        _ => area.mark(mark_at(alloc, row)?)?,
-    }
+    change(alloc, area, row)?;
     Ok(format!(in alloc; "next {}", area.next())?)
+}
+
+fn change(alloc: Global, area: &mut SoundArea, row: &Row) -> Result<(), RowError> {
+    match row.word(0)? {
+        "area" => begin(alloc, area, row.u32(1)?),
+        "live" => area.post(head_at(row)?, fields_at(alloc, row)?),
+        "chain" => chain(alloc, area, row.u32(1)?),
+        "kill" => kill(area, row.u32(1)?),
+        _ => area.mark(mark_at(alloc, row)?),
+    }
 }
 
 /// An area without a message from now on.
@@ -153,8 +159,13 @@ fn begin(alloc: Global, area: &mut SoundArea, base: u32) -> Result<(), RowError>
     if base < 1 || base > 16_000_000 {
         return Err(RowError::Unknown(1));
     }
-    *area = SoundArea::new(alloc, base)?;
+    put(area, SoundArea::new(alloc, base)?);
     Ok(())
+}
+
+/// Puts an area in the place of another.
+fn put(place: &mut SoundArea, area: SoundArea) {
+    *place = area;
 }
 
 /// So many messages without a subfield, each a reply to the one before it.

@@ -12,7 +12,7 @@ use area::SoundArea;
 use jb_base::{Name, OutOfMemory, User};
 use std::alloc::Global;
 use std::io;
-use trial_rows::{Answers, Row, RowError};
+use trial_rows::{Answers, Row, RowError, said};
 
 /// What the rows so far have made.
 #[derive(Drop)]
@@ -41,25 +41,30 @@ impl Trial {
 
     /// `levels READ SYSOP`: the levels that the area asks for.
     fn set_levels(&mut self, alloc: Global, row: &Row) -> Result<String, RowError> {
-        self.read = level(row, 1)?;
-        self.sysop = level(row, 2)?;
-        Ok(String::from_str(alloc, "levels")?)
+        self.read = row.u8(1)?;
+        self.sysop = row.u8(2)?;
+        said(alloc, "levels")
     }
 
     /// `user NAME ID LEVEL`: who asks.
     fn set_user(&mut self, alloc: Global, row: &Row) -> Result<String, RowError> {
-        let (id, level) = (row.u32(2)?, level(row, 3)?);
+        let id = row.u32(2)?;
+        let level = row.u8(3)?;
         let name = row.name(alloc, 1)?;
         self.user = User { name, id, level };
-        Ok(String::from_str(alloc, "user")?)
+        said(alloc, "user")
     }
-}
 
-/// The level at this place of a row.
-fn level(row: &Row, place: usize) -> Result<u8, RowError> {
-    match u8::try_from(row.number(place)?) {
-        Ok(level) => Ok(level),
-        Err(_) => Err(RowError::Number(place)),
+    /// `walk`: how many messages are unread, of the area itself.
+    fn walk(&self, alloc: Global) -> Result<String, RowError> {
+        let unread = self.area.unread(alloc, self.read, self.sysop, &self.user);
+        Ok(format!(in alloc; "{unread} unread")?)
+    }
+
+    /// What the index of the area answers.
+    fn ask(&self, alloc: Global, row: &Row) -> Result<String, RowError> {
+        let index = self.area.index(alloc, self.read, self.sysop)?;
+        answers::answer(alloc, &index, &self.user, row)
     }
 }
 
@@ -69,14 +74,8 @@ impl Answers for Trial {
             "levels" => self.set_levels(alloc, row),
             "user" => self.set_user(alloc, row),
             "area" | "live" | "chain" | "kill" | "mark" => area::answer(alloc, &mut self.area, row),
-            "walk" => {
-                let unread = self.area.unread(alloc, self.read, self.sysop, &self.user);
-                Ok(format!(in alloc; "{unread} unread")?)
-            }
-            _ => {
-                let index = self.area.index(alloc, self.read, self.sysop)?;
-                answers::answer(alloc, &index, &self.user, row)
-            }
+            "walk" => self.walk(alloc),
+            _ => self.ask(alloc, row),
         }
     }
 }

@@ -1,11 +1,10 @@
 //! The files over which the rows are tried.
 
-use crate::showing::text;
 use jb_base::{Bytes, OutOfMemory};
 use jb_disk::MemDisk;
 use std::alloc::Global;
 use std::array;
-use trial_rows::{Row, RowError};
+use trial_rows::{Row, RowError, said};
 
 /// The number of .JNL.
 const JOURNAL: usize = 4;
@@ -36,26 +35,29 @@ impl Base {
         for place in 1..row.len() {
             self.files.push(row.bytes(alloc, place)?)?;
         }
-        text(alloc, "ok")
+        said(alloc, "ok")
     }
 
     /// Takes the journal that has the words of a row one behind another.
     pub(crate) fn set_journal(&mut self, alloc: Global, row: &Row) -> Result<String, RowError> {
         self.journal = Bytes::new(alloc);
         for place in 1..row.len() {
-            self.journal.append(row.bytes(alloc, place)?.as_slice())?;
+            let bytes = row.bytes(alloc, place)?;
+            self.journal.append(bytes.as_slice())?;
         }
-        text(alloc, "ok")
+        said(alloc, "ok")
     }
 
     /// Puts a word so many times behind the journal, and another one behind that.
     pub(crate) fn put_more(&mut self, alloc: Global, row: &Row) -> Result<String, RowError> {
+        let count = row.u16(1)?;
         let bytes = row.bytes(alloc, 2)?;
-        for _ in 0..row.u16(1)? {
+        let last = row.bytes(alloc, 3)?;
+        for _ in 0..count {
             self.journal.append(bytes.as_slice())?;
         }
-        self.journal.append(row.bytes(alloc, 3)?.as_slice())?;
-        text(alloc, "ok")
+        self.journal.append(last.as_slice())?;
+        said(alloc, "ok")
     }
 
     fn file(&self, number: usize) -> &[u8] {
@@ -63,6 +65,12 @@ impl Base {
             Some(bytes) => bytes.as_slice(),
             None => &[],
         }
+    }
+
+    /// A disk with the files and the journal, which fails the call with this number.
+    pub(crate) fn failing(&self, alloc: Global, call: u64) -> Result<MemDisk, OutOfMemory> {
+        let failing = vec![in alloc; call]?;
+        self.disk(alloc, self.journal(), failing)
     }
 
     /// A disk with these files and this journal, which fails the calls with these numbers.

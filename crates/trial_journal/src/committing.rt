@@ -3,11 +3,11 @@ ghost use Rattle.jb_journal.specs.Commit.{IsWritable};
 
 use crate::base::Base;
 use crate::change::change;
-use crate::showing::{files, stop, text};
+use crate::showing::{put_files, put_word, stop};
 use jb_disk::{FileId, MemDisk, Redo, SilentDisk};
 use jb_journal::{Stopped, commit, prepare, settle};
 use std::alloc::Global;
-use trial_rows::{Row, RowError, hexed};
+use trial_rows::{Row, RowError, hexed, said};
 
 // Gives the journal its head, and commits the change.
 fn committed(silent: &mut SilentDisk<MemDisk>, redo: &Redo) -> Result<(), Stopped>
@@ -23,41 +23,64 @@ pub(crate) fn commit_done(
     base: &Base,
     done: &mut Vec<MemDisk>,
 ) -> Result<String, RowError> {
+    let redo = change(alloc)?;
     let disk = base.disk(alloc, base.journal(), Vec::new(alloc))?;
     let mut silent = SilentDisk::new(disk);
-    let head = prepared(alloc, &mut silent)?;
-    let before = silent.disk.calls();
-    let redo = change(alloc)?;
-    let is_done = commit(&mut silent, &redo).is_ok();
-    let all = after(alloc, &silent.disk, before)?;
+    let text = prepared_and_committed(alloc, &mut silent, &redo)?;
     done.push(silent.disk)?;
-    Ok(format!(in alloc; "{head} {is_done} {all}")?)
+    Ok(text)
+}
+
+fn prepared_and_committed(
+    alloc: Global,
+    silent: &mut SilentDisk<MemDisk>,
+    redo: &Redo,
+) -> Result<String, RowError>
+    requires { IsWritable redo.now }
+{
+    let mut text = prepared(alloc, silent)?;
+    let before = silent.disk.calls();
+    let is_done = commit(silent, redo).is_ok();
+    let calls = silent.disk.calls().saturating_sub(before);
+    write!(text, " {is_done} {calls}")?;
+    put_files(alloc, &mut text, &silent.disk)?;
+    put_journal(alloc, &mut text, &silent.disk)?;
+    Ok(text)
 }
 
 fn prepared(alloc: Global, silent: &mut SilentDisk<MemDisk>) -> Result<String, RowError> {
     match prepare(silent) {
         Ok(()) => hexed(alloc, silent.disk.file(FileId::Jnl)),
-        Err(_) => text(alloc, "failed"),
+        Err(_) => said(alloc, "failed"),
     }
 }
 
-fn after(alloc: Global, disk: &MemDisk, before: u64) -> Result<String, RowError> {
-    let calls = disk.calls().saturating_sub(before);
-    let files = files(alloc, disk)?;
+fn put_journal(alloc: Global, text: &mut String, disk: &MemDisk) -> Result<(), RowError> {
     let journal = hexed(alloc, disk.file(FileId::Jnl))?;
-    Ok(format!(in alloc; "{calls} {files} {journal}")?)
+    put_word(text, journal.as_str())
 }
 
 /// Where a commit was stopped by the failing of the row's calls, how often settling was, what it answers at last, and the
 /// files then.
 pub(crate) fn settled(alloc: Global, base: &Base, row: &Row) -> Result<String, RowError> {
-    let failing = vec![in alloc; row.number(1)?, row.number(2)?]?;
-    let disk = base.disk(alloc, base.journal(), failing)?;
-    let mut silent = SilentDisk::new(disk);
+    let first = row.number(1)?;
+    let second = row.number(2)?;
+    let failing = vec![in alloc; first, second]?;
     let redo = change(alloc)?;
-    match committed(&mut silent, &redo) {
-        Ok(()) => text(alloc, "done"),
-        Err(stopped) => settle_twice(alloc, &mut silent, &redo, stopped),
+    let disk = base.disk(alloc, base.journal(), failing)?;
+    settled_on(alloc, &mut SilentDisk::new(disk), &redo)
+}
+
+fn settled_on(
+    alloc: Global,
+    silent: &mut SilentDisk<MemDisk>,
+    redo: &Redo,
+) -> Result<String, RowError>
+    requires { IsWritable redo.now }
+{
+    match committed(silent, redo) {
+        Ok(()) => said(alloc, "done"),
+        Err(stopped) => settle_twice(alloc, silent, redo, stopped),
     }
 }
 
@@ -70,7 +93,7 @@ fn settle_twice(
     requires { IsWritable redo.now }
 {
     match settle(silent, redo, stopped) {
-        Ok(_) => text(alloc, "settled-at-once"),
+        Ok(_) => said(alloc, "settled-at-once"),
         Err(again) => settle_again(alloc, silent, redo, stopped, again),
     }
 }
@@ -89,7 +112,9 @@ fn settle_again(
         Ok(false) => "does-not-stand",
         Err(_) => "stopped-again",
     };
-    let (first, second) = (stop(first), stop(second));
-    let files = files(alloc, &silent.disk)?;
-    Ok(format!(in alloc; "{first} {second} {answer} {files}")?)
+    let mut text = said(alloc, stop(first))?;
+    put_word(&mut text, stop(second))?;
+    put_word(&mut text, answer)?;
+    put_files(alloc, &mut text, &silent.disk)?;
+    Ok(text)
 }

@@ -2,13 +2,13 @@
 ghost use Rattle.std.specs.Prelude.{◌≤◌, IfOk};
 ghost use Rattle.jb_journal.specs.Commit.{IsWritable};
 
-use crate::showing::{opening, text};
+use crate::showing::opening;
 use jb_base::{Bytes, OutOfMemory, TEXTS_CEILING};
 use jb_disk::{FileId, Length, MemDisk, Redo, SilentDisk};
 use jb_journal::{commit, prepare, recover};
 use std::alloc::Global;
 use std::array;
-use trial_rows::{Row, RowError};
+use trial_rows::{Row, RowError, said};
 
 /// The number of .NDT.
 const SHADOW: usize = 5;
@@ -57,15 +57,21 @@ fn is_copied(disk: &MemDisk) -> bool {
     }
 }
 
-// What opening answers after a crash behind the open gate, how many calls it makes, and whether the bytes are there then.
-fn recovered(alloc: Global, disk: &MemDisk) -> Result<String, RowError> {
+// Puts what opening answers, how many calls it makes, and whether the bytes are there then, behind the other words.
+fn put_opening(alloc: Global, text: &mut String, left: &mut MemDisk) -> Result<(), RowError> {
+    let answer = opening(alloc, recover(left))?;
+    write!(text, " {answer} {} {}", left.calls(), is_copied(left))?;
+    Ok(())
+}
+
+// The same after a crash behind the open gate.
+fn put_recovered(alloc: Global, text: &mut String, disk: &MemDisk) -> Result<(), RowError> {
     if disk.calls() < CALLS_TO_OPEN {
-        return text(alloc, "not-allowed");
+        text.push_str(" not-allowed")?;
+        return Ok(());
     }
     let mut left = disk.crashed(CALLS_TO_OPEN, 2)?;
-    let answer = opening(alloc, recover(&mut left))?;
-    let (calls, is_there) = (left.calls(), is_copied(&left));
-    Ok(format!(in alloc; "{answer} {calls} {is_there}")?)
+    put_opening(alloc, text, &mut left)
 }
 
 /// Whether a copy of so many bytes is committed, how many calls that makes, and whether the bytes are there then; and the
@@ -73,15 +79,26 @@ fn recovered(alloc: Global, disk: &MemDisk) -> Result<String, RowError> {
 pub(crate) fn copied(alloc: Global, row: &Row) -> Result<String, RowError> {
     let len = row.u32(1)?;
     if len as u64 > TEXTS_CEILING {
-        return text(alloc, "not-allowed");
+        return said(alloc, "not-allowed");
     }
     let redo = change(alloc, len)?;
-    let mut silent = SilentDisk::new(disk(alloc, len + 1)?);
-    let is_prepared = prepare(&mut silent).is_ok();
+    let disk = disk(alloc, len + 1)?;
+    copied_on(alloc, &mut SilentDisk::new(disk), &redo)
+}
+
+fn copied_on(
+    alloc: Global,
+    silent: &mut SilentDisk<MemDisk>,
+    redo: &Redo,
+) -> Result<String, RowError>
+    requires { IsWritable redo.now }
+{
+    let is_prepared = prepare(silent).is_ok();
     let before = silent.disk.calls();
-    let is_done = is_prepared && commit(&mut silent, &redo).is_ok();
+    let is_done = is_prepared && commit(silent, redo).is_ok();
     let calls = silent.disk.calls().saturating_sub(before);
     let is_there = is_copied(&silent.disk);
-    let again = recovered(alloc, &silent.disk)?;
-    Ok(format!(in alloc; "{is_done} {calls} {is_there} {again}")?)
+    let mut text = format!(in alloc; "{is_done} {calls} {is_there}")?;
+    put_recovered(alloc, &mut text, &silent.disk)?;
+    Ok(text)
 }

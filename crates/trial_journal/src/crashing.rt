@@ -2,11 +2,11 @@
 ghost use Rattle.std.specs.Prelude.{◌≤◌, length};
 
 use crate::base::Base;
-use crate::showing::{files, opening, text};
+use crate::showing::{files, opening};
 use jb_disk::MemDisk;
 use jb_journal::recover;
 use std::alloc::Global;
-use trial_rows::{Row, RowError};
+use trial_rows::{Row, RowError, said};
 
 /// What opening answers over the files and the journal of the rows.
 pub(crate) fn opened(alloc: Global, base: &Base) -> Result<String, RowError> {
@@ -20,7 +20,7 @@ pub(crate) fn crash(alloc: Global, done: &[MemDisk], row: &Row) -> Result<String
     let after = row.number(1)?;
     match done.last() {
         Some(disk) if after <= disk.calls() => picked(alloc, disk, after),
-        _ => text(alloc, "not-allowed"),
+        _ => said(alloc, "not-allowed"),
     }
 }
 
@@ -32,20 +32,38 @@ fn picked(alloc: Global, disk: &MemDisk, after: u64) -> Result<String, RowError>
         if pick > 0 {
             all.push(' ')?;
         }
-        let left = disk.crashed(after, pick)?;
-        all.push_str(recovered(alloc, left, pick)?.as_str())?;
+        put_picked(alloc, &mut all, disk, after, pick)?;
     }
     Ok(all)
 }
 
-fn recovered(alloc: Global, left: MemDisk, pick: u8) -> Result<String, RowError>
+fn put_picked(
+    alloc: Global,
+    text: &mut String,
+    disk: &MemDisk,
+    after: u64,
+    pick: u8,
+) -> Result<(), RowError>
+    requires calls { after ≤ length disk.now.calls }
+    requires pick { pick ≤ 3 }
+{
+    let mut left = disk.crashed(after, pick)?;
+    put_recovered(alloc, text, &mut left, pick)
+}
+
+fn put_recovered(
+    alloc: Global,
+    text: &mut String,
+    left: &mut MemDisk,
+    pick: u8,
+) -> Result<(), RowError>
     requires { pick ≤ 3 }
 {
-    let mut left = left;
-    let answer = opening(alloc, recover(&mut left))?;
-    let files = files(alloc, &left)?;
-    let again = comes_again(alloc, &left, pick, files.as_str())?;
-    Ok(format!(in alloc; "{answer} {files} {again}")?)
+    let answer = opening(alloc, recover(left))?;
+    let files = files(alloc, left)?;
+    let again = comes_again(alloc, left, pick, files.as_str())?;
+    write!(text, "{answer} {files} {again}")?;
+    Ok(())
 }
 
 // Whether opening that is stopped after each number of its calls, and begun again, comes to these files.
@@ -58,17 +76,29 @@ fn comes_again(
     requires { pick ≤ 3 }
 {
     for after in 0..opened.calls() {
-        let left = opened.crashed(after, pick)?;
-        if !comes_to(alloc, left, wanted)? {
+        if !comes_after(alloc, opened, after, pick, wanted)? {
             return Ok("differs");
         }
     }
     Ok("same")
 }
 
-fn comes_to(alloc: Global, left: MemDisk, wanted: &str) -> Result<bool, RowError> {
-    let mut left = left;
-    let is_opened = recover(&mut left).is_ok();
-    let files = files(alloc, &left)?;
+fn comes_after(
+    alloc: Global,
+    opened: &MemDisk,
+    after: u64,
+    pick: u8,
+    wanted: &str,
+) -> Result<bool, RowError>
+    requires calls { after ≤ length opened.now.calls }
+    requires pick { pick ≤ 3 }
+{
+    let mut left = opened.crashed(after, pick)?;
+    comes_to(alloc, &mut left, wanted)
+}
+
+fn comes_to(alloc: Global, left: &mut MemDisk, wanted: &str) -> Result<bool, RowError> {
+    let is_opened = recover(left).is_ok();
+    let files = files(alloc, left)?;
     Ok(is_opened && files.as_str() == wanted)
 }

@@ -3,6 +3,7 @@
 use crate::base::Base;
 use crate::showing::record;
 use jb_base::{Bytes, OutOfMemory};
+use jb_disk::MemDisk;
 use jb_redo::test_record;
 use std::alloc::Global;
 use trial_rows::{Row, RowError};
@@ -37,22 +38,38 @@ pub(crate) fn changed(alloc: Global, base: &Base, row: &Row) -> Result<String, R
 
 /// What is answered for the journal cut to each length from one on and below another.
 pub(crate) fn cuts(alloc: Global, base: &Base, row: &Row) -> Result<String, RowError> {
-    let (from, to) = (row.u16(1)? as usize, row.u16(2)? as usize);
+    let from = row.u16(1)? as usize;
+    let to = row.u16(2)? as usize;
     let journal = base.journal();
     let mut all = String::new(alloc);
     for len in from..to.min(journal.len()) {
         if len > from {
             all.push(' ')?;
         }
-        all.push_str(tested(alloc, base, &journal[..len])?.as_str())?;
+        put_tested(alloc, &mut all, base, &journal[..len])?;
     }
     Ok(all)
 }
 
+fn put_tested(
+    alloc: Global,
+    text: &mut String,
+    base: &Base,
+    journal: &[u8],
+) -> Result<(), RowError> {
+    let answer = tested(alloc, base, journal)?;
+    text.push_str(answer.as_str())?;
+    Ok(())
+}
+
 /// What is answered where a call fails, and how many calls were made.
 pub(crate) fn failing(alloc: Global, base: &Base, row: &Row) -> Result<String, RowError> {
-    let failing = vec![in alloc; row.number(1)?]?;
-    let mut disk = base.disk(alloc, base.journal(), failing)?;
-    let answer = record(alloc, test_record(&mut disk))?;
-    Ok(format!(in alloc; "{answer} {}", disk.calls())?)
+    let mut disk = base.failing(alloc, row.number(1)?)?;
+    tested_on(alloc, &mut disk)
+}
+
+fn tested_on(alloc: Global, disk: &mut MemDisk) -> Result<String, RowError> {
+    let mut text = record(alloc, test_record(disk))?;
+    write!(text, " {}", disk.calls())?;
+    Ok(text)
 }

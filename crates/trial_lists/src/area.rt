@@ -11,10 +11,7 @@ use trial_rows::{Row, RowError};
 pub(crate) fn answer(alloc: Global, area: &mut Indexed, row: &Row) -> Result<String, RowError> {
     match row.word(0)? {
         "area" => begin(alloc, area, row.u32(1)?),
-        "live" => {
-            let message = message_at(alloc, row)?;
-            post(alloc, area, message)
-        }
+        "live" => post(alloc, area, message_at(alloc, row)?),
         "dead" => post(alloc, area, LoadedSlot::Killed { header_at: 1_024 }),
         "kill" => kill(alloc, area, row.u32(1)?),
         _ => asked(alloc, area, row),
@@ -40,8 +37,13 @@ fn begin(alloc: Global, area: &mut Indexed, base: u32) -> Result<String, RowErro
     if base > 1_000 {
         return Err(RowError::Unknown(1));
     }
-    *area = Indexed::new(alloc, base)?;
+    put(area, Indexed::new(alloc, base)?);
     next(alloc, area)
+}
+
+/// Puts an area in the place of another.
+fn put(place: &mut Indexed, area: Indexed) {
+    *place = area;
 }
 
 /// The number that the next message gets.

@@ -35,6 +35,8 @@ impl Indexed {
     pub(crate) fn new(alloc: Global, base: u32) -> Result<Indexed, OutOfMemory>
         requires { base ≤ 1_000 }
     {
+        let slots = LoadedSlots::new(alloc)?;
+        let marks = LoadedMarks::new(alloc)?;
         let loaded = Loaded {
             created: 0,
             counter: 0,
@@ -42,8 +44,8 @@ impl Indexed {
             password: 0xFFFF_FFFF,
             reserved: [0; 1000],
             base,
-            slots: LoadedSlots::new(alloc)?,
-            marks: LoadedMarks::new(alloc)?,
+            slots,
+            marks,
             headers_len: 1_024,
             texts_len: 0,
         };

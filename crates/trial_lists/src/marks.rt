@@ -6,23 +6,27 @@ use jb_base::MOST_MARKS;
 use jb_marks::Marks;
 use jb_model::Mark;
 use std::alloc::Global;
-use trial_rows::{Row, RowError};
+use trial_rows::{Row, RowError, said};
 
 /// The answer to a row of marks.
 pub(crate) fn answer(alloc: Global, marks: &mut Marks, row: &Row) -> Result<String, RowError> {
     match row.word(0)? {
-        "marks" => {
-            let list = marks_of(alloc, row)?;
-            kept(alloc, marks, &list)
-        }
-        "drawn-marks" => {
-            let list = drawn(alloc, row.u32(1)?, row.u32(2)?, row.u32(3)?)?;
+        "marks" | "drawn-marks" => {
+            let list = list_of(alloc, row)?;
             kept(alloc, marks, &list)
         }
         "find" => found(alloc, marks, row.u32(1)?, row.u32(2)?),
         "firsts" => firsts(alloc, marks, row.u32(1)?, row.u32(2)?),
         "set" => set_all(alloc, marks, row),
         _ => all(alloc, marks),
+    }
+}
+
+/// The marks that a row gives, or has drawn.
+fn list_of(alloc: Global, row: &Row) -> Result<Vec<Mark>, RowError> {
+    match row.word(0)? {
+        "marks" => marks_of(alloc, row),
+        _ => drawn(alloc, row.u32(1)?, row.u32(2)?, row.u32(3)?),
     }
 }
 
@@ -76,28 +80,47 @@ fn kept(alloc: Global, marks: &mut Marks, list: &[Mark]) -> Result<String, RowEr
     if list.len() > MOST_MARKS as usize {
         return Err(RowError::Unknown(1));
     }
-    *marks = Marks::copy(alloc, list)?;
+    put_marks(marks, Marks::copy(alloc, list)?);
     Ok(format!(in alloc; "{} marks", marks.as_slice().len())?)
+}
+
+/// Puts marks in the place of others.
+fn put_marks(place: &mut Marks, marks: Marks) {
+    *place = marks;
 }
 
 /// A mark as a word.
 fn put_mark(text: &mut String, mark: &Mark) -> Result<(), RowError> {
-    write!(text, " {}:{}", mark.user_crc, mark.user_id)?;
-    write!(text, ":{}:{}", mark.last, mark.high)?;
+    write!(
+        text,
+        " {}:{}:{}:{}",
+        mark.user_crc, mark.user_id, mark.last, mark.high
+    )?;
+    Ok(())
+}
+
+/// Writes the mark that is found, or that there is none.
+fn put_found(text: &mut String, mark: Option<Mark>) -> Result<(), RowError> {
+    match mark {
+        Some(mark) => put_mark(text, &mark),
+        None => Ok(text.push_str(" none")?),
+    }
+}
+
+/// Writes the place of a mark, or this word where it has none.
+fn put_place(text: &mut String, place: Option<usize>, none: &str) -> Result<(), RowError> {
+    match place {
+        Some(place) => write!(text, "at {place}")?,
+        None => text.push_str(none)?,
+    }
     Ok(())
 }
 
 /// The place of a pair's mark, and the mark.
 fn found(alloc: Global, marks: &Marks, user_crc: u32, user_id: u32) -> Result<String, RowError> {
     let mut text = String::new(alloc);
-    match marks.place_of(user_crc, user_id) {
-        Some(place) => write!(text, "at {place}")?,
-        None => text.push_str("nowhere")?,
-    }
-    match marks.find(user_crc, user_id) {
-        Some(mark) => put_mark(&mut text, &mark)?,
-        None => text.push_str(" none")?,
-    }
+    put_place(&mut text, marks.place_of(user_crc, user_id), "nowhere")?;
+    put_found(&mut text, marks.find(user_crc, user_id))?;
     Ok(text)
 }
 
@@ -105,12 +128,17 @@ fn found(alloc: Global, marks: &Marks, user_crc: u32, user_id: u32) -> Result<St
 fn firsts(alloc: Global, marks: &Marks, user_crc: u32, count: u32) -> Result<String, RowError> {
     let mut text = format!(in alloc; "{user_crc}:")?;
     for user_id in 0..count {
-        match marks.find(user_crc, user_id) {
-            Some(mark) => write!(text, " {}", mark.last)?,
-            None => text.push_str(" -")?,
-        }
+        put_last(&mut text, marks.find(user_crc, user_id))?;
     }
     Ok(text)
+}
+
+fn put_last(text: &mut String, mark: Option<Mark>) -> Result<(), RowError> {
+    match mark {
+        Some(mark) => write!(text, " {}", mark.last)?,
+        None => text.push_str(" -")?,
+    }
+    Ok(())
 }
 
 /// Sets a mark, where it is one of the pairs that are there or there is room or memory for it.
@@ -129,7 +157,7 @@ fn set(marks: &mut Marks, mark: Mark) -> Result<(), RowError> {
 
 /// Sets the marks of a row, one after another. Of each it says where its pair stood before, and what is found of it then.
 fn set_all(alloc: Global, marks: &mut Marks, row: &Row) -> Result<String, RowError> {
-    let mut text = String::from_str(alloc, "set")?;
+    let mut text = said(alloc, "set")?;
     for before in 0..count_of(row) {
         let mark = mark_at(row, before)?;
         put_set(&mut text, marks, mark)?;
@@ -138,20 +166,15 @@ fn set_all(alloc: Global, marks: &mut Marks, row: &Row) -> Result<String, RowErr
 }
 
 fn put_set(text: &mut String, marks: &mut Marks, mark: Mark) -> Result<(), RowError> {
-    match marks.place_of(mark.user_crc, mark.user_id) {
-        Some(place) => write!(text, " at {place}")?,
-        None => text.push_str(" behind")?,
-    }
+    text.push(' ')?;
+    put_place(text, marks.place_of(mark.user_crc, mark.user_id), "behind")?;
     set(marks, mark)?;
-    match marks.find(mark.user_crc, mark.user_id) {
-        Some(found) => put_mark(text, &found),
-        None => Ok(text.push_str(" none")?),
-    }
+    put_found(text, marks.find(mark.user_crc, mark.user_id))
 }
 
 /// All marks, in order.
 fn all(alloc: Global, marks: &Marks) -> Result<String, RowError> {
-    let mut text = String::from_str(alloc, "marks")?;
+    let mut text = said(alloc, "marks")?;
     for mark in marks.as_slice() {
         put_mark(&mut text, mark)?;
     }

@@ -1,16 +1,14 @@
 //! Rows of a list in pieces.
+ghost use Rattle.std.specs.Prelude.{◌<◌, length};
 
 use jb_tiered::Tiered;
 use std::alloc::Global;
-use trial_rows::{Row, RowError};
+use trial_rows::{Row, RowError, said};
 
 /// The answer to a row of a list in pieces.
 pub(crate) fn answer(alloc: Global, list: &mut Tiered<u32>, row: &Row) -> Result<String, RowError> {
     match row.word(0)? {
-        "even" => {
-            *list = even(alloc, row.u16(1)?)?;
-            shown(alloc, list)
-        }
+        "even" => begin(alloc, list, row.u16(1)?),
         "put" => put(alloc, list, row.number(1)?, row.u32(2)?),
         "take" => take(alloc, list, row.number(1)?),
         "ends" => take_ends(alloc, list, row.u16(1)?),
@@ -18,6 +16,17 @@ pub(crate) fn answer(alloc: Global, list: &mut Tiered<u32>, row: &Row) -> Result
         "get" => get(alloc, list, row.number(1)?),
         _ => searched(alloc, list, row),
     }
+}
+
+/// Has so many even numbers from now on.
+fn begin(alloc: Global, list: &mut Tiered<u32>, count: u16) -> Result<String, RowError> {
+    put_list(list, even(alloc, count)?);
+    shown(alloc, list)
+}
+
+/// Puts a list in the place of another.
+fn put_list(place: &mut Tiered<u32>, list: Tiered<u32>) {
+    *place = list;
 }
 
 /// The even numbers from 0 on, so many, as a copy of a vector.
@@ -37,19 +46,40 @@ fn is_step(list: &Tiered<u32>, at: usize, next: usize) -> bool {
     }
 }
 
+/// What stands before the element at a place, where it begins or ends a run; else nothing is written of it.
+fn before(list: &Tiered<u32>, at: usize) -> Option<&'static str>
+    requires { at < length list.now.items }
+{
+    if at == 0 || !is_step(list, at - 1, at) {
+        return Some(" ");
+    }
+    if is_step(list, at, at.saturating_add(1)) {
+        return None;
+    }
+    Some("..")
+}
+
 /// How many elements there are, and which: `a..b` for a run of which each is 2 more than the one before it.
 fn shown(alloc: Global, list: &Tiered<u32>) -> Result<String, RowError> {
     let mut text = format!(in alloc; "{}:", list.len())?;
     for at in 0..list.len() {
-        let begins = at == 0 || !is_step(list, at - 1, at);
-        let ends = !is_step(list, at, at + 1);
-        if begins {
-            write!(text, " {}", list[at])?;
-        } else if ends {
-            write!(text, "..{}", list[at])?;
+        if let Some(before) = before(list, at) {
+            put_number(&mut text, before, list[at])?;
         }
     }
     Ok(text)
+}
+
+fn put_number(text: &mut String, before: &str, number: u32) -> Result<(), RowError> {
+    write!(text, "{before}{number}")?;
+    Ok(())
+}
+
+/// Puts what is left behind the words of what was taken.
+fn put_rest(alloc: Global, text: &mut String, list: &Tiered<u32>) -> Result<(), RowError> {
+    let rest = shown(alloc, list)?;
+    write!(text, " of {rest}")?;
+    Ok(())
 }
 
 /// Puts an element in at a place, where the list is so long.
@@ -71,25 +101,25 @@ fn put(alloc: Global, list: &mut Tiered<u32>, at: u64, item: u32) -> Result<Stri
 /// The element that stands at a place, and the list without it.
 fn take(alloc: Global, list: &mut Tiered<u32>, at: u64) -> Result<String, RowError> {
     if at as usize >= list.len() {
-        return Ok(String::from_str(alloc, "none")?);
+        return said(alloc, "none");
     }
     let item = list.remove(at as usize);
-    let rest = shown(alloc, list)?;
-    Ok(format!(in alloc; "{item} of {rest}")?)
+    let mut text = format!(in alloc; "{item}")?;
+    put_rest(alloc, &mut text, list)?;
+    Ok(text)
 }
 
 /// Takes the first element out, then the last, and so on, so many; says which they were, and what is left.
 fn take_ends(alloc: Global, list: &mut Tiered<u32>, count: u16) -> Result<String, RowError> {
-    let mut text = String::from_str(alloc, "taken")?;
+    let mut text = said(alloc, "taken")?;
     for turn in 0..count {
         let last = list.len().saturating_sub(1);
         let at = if turn % 2 == 0 { 0 } else { last };
         if at < list.len() {
-            write!(text, " {}", list.remove(at))?;
+            put_number(&mut text, " ", list.remove(at))?;
         }
     }
-    text.push_str(" of ")?;
-    text.push_str(shown(alloc, list)?.as_str())?;
+    put_rest(alloc, &mut text, list)?;
     Ok(text)
 }
 
@@ -105,13 +135,13 @@ fn put_in_front(alloc: Global, list: &mut Tiered<u32>, count: u16) -> Result<Str
 fn get(alloc: Global, list: &Tiered<u32>, at: u64) -> Result<String, RowError> {
     match list.get(at as usize) {
         Some(item) => Ok(format!(in alloc; "{item}")?),
-        None => Ok(String::from_str(alloc, "none")?),
+        None => said(alloc, "none"),
     }
 }
 
 /// How many elements stand before the first that is not below a number, for each number of the row.
 fn searched(alloc: Global, list: &Tiered<u32>, row: &Row) -> Result<String, RowError> {
-    let mut text = String::from_str(alloc, "before")?;
+    let mut text = said(alloc, "before")?;
     for place in 1..row.len() {
         let number = row.u32(place)?;
         let before = list.partition_point(|item| *item < number);

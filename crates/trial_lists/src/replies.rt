@@ -7,7 +7,7 @@ use jb_base::Bytes;
 use jb_link::{Spliced, is_live, parent, splice};
 use jb_model::Loaded;
 use std::alloc::Global;
-use trial_rows::RowError;
+use trial_rows::{RowError, said};
 
 fn put_spliced(text: &mut String, spliced: Spliced) -> Result<(), RowError> {
     match spliced {
@@ -44,14 +44,18 @@ pub(crate) fn spliced(alloc: Global, area: &Indexed, number: u32) -> Result<Stri
 
 /// The same of each live message.
 pub(crate) fn all_spliced(alloc: Global, area: &Indexed) -> Result<String, RowError> {
-    let mut text = String::from_str(alloc, "splices")?;
+    let mut text = said(alloc, "splices")?;
     for number in area.loaded().base..area.next() {
         if is_live(area.loaded(), number) {
-            write!(text, " {number}:")?;
-            put_splice(&mut text, area, number)?;
+            put_named_splice(&mut text, area, number)?;
         }
     }
     Ok(text)
+}
+
+fn put_named_splice(text: &mut String, area: &Indexed, number: u32) -> Result<(), RowError> {
+    write!(text, " {number}:")?;
+    put_splice(text, area, number)
 }
 
 /// Whether the number is one of the area's or the next one.
@@ -77,6 +81,11 @@ fn put_parent(
     }
     let scanned = parent(loaded, number, reply, kept);
     let indexed = area.replies().parent(loaded, number, reply, kept);
+    put_both(text, scanned, indexed)
+}
+
+/// Writes a number that was found by both ways, or both numbers.
+fn put_both(text: &mut String, scanned: u32, indexed: u32) -> Result<(), RowError> {
     write!(text, "{scanned}")?;
     if indexed != scanned {
         write!(text, "/{indexed}")?;
@@ -103,7 +112,7 @@ pub(crate) fn all_parents(
     area: &Indexed,
     reply: &[Bytes],
 ) -> Result<String, RowError> {
-    let mut text = String::from_str(alloc, "parents")?;
+    let mut text = said(alloc, "parents")?;
     for number in area.loaded().base..=area.next() {
         text.push_str(" ")?;
         put_parent(&mut text, area, number, first_of(reply), number / 2)?;

@@ -59,10 +59,13 @@ fn list(alloc: Global, row: &Row) -> Result<Given, RowError> {
 
 /// A message from Test to Hello.
 fn letter(alloc: Global, number: u32, attribute: u32, subject: Bytes) -> Result<Letter, RowError> {
+    let from = Name::copy(alloc, b"Test")?;
+    let to = Name::copy(alloc, b"Hello")?;
+    let text = Bytes::copy(alloc, b"Good\r")?;
     Ok(Letter {
         number,
-        from: Name::copy(alloc, b"Test")?,
-        to: Name::copy(alloc, b"Hello")?,
+        from,
+        to,
         subject,
         msgid: Bytes::new(alloc),
         reply: Bytes::new(alloc),
@@ -71,7 +74,7 @@ fn letter(alloc: Global, number: u32, attribute: u32, subject: Bytes) -> Result<
         reply_to: 0,
         reply_first: 0,
         reply_next: 0,
-        text: Bytes::copy(alloc, b"Good\r")?,
+        text,
     })
 }
 

@@ -13,45 +13,45 @@ fn number_or_none(row: &Row, place: usize) -> u32 {
     }
 }
 
-/// What a command did, by its word and its numbers.
-fn done(word: &str, first: u32, second: u32, third: u32) -> Option<Reply> {
+/// What a command did, by its word and its numbers, or why it was refused.
+fn done(word: &str, first: u32, second: u32, third: u32) -> Result<Reply, RowError> {
     match word {
-        "posted" => Some(Reply::Posted { number: first }),
-        "killed" => Some(Reply::Killed { number: first }),
-        "marked" => Some(Reply::Marked {
+        "posted" => Ok(Reply::Posted { number: first }),
+        "killed" => Ok(Reply::Killed { number: first }),
+        "marked" => Ok(Reply::Marked {
             last: first,
             high: second,
         }),
-        "packed" => Some(Reply::Packed {
+        "packed" => Ok(Reply::Packed {
             base: first,
             live: second,
             dropped: third,
         }),
-        "relinked" => Some(Reply::Relinked { changed: first }),
-        _ => None,
+        "relinked" => Ok(Reply::Relinked { changed: first }),
+        _ => refused(word, first),
     }
 }
 
 /// Why a command was refused, by its word and its number. It is a kill, and a subject or a receiver, that is refused.
-fn refused(word: &str, number: u32) -> Option<Reply> {
+fn refused(word: &str, number: u32) -> Result<Reply, RowError> {
     match word {
-        "denied" => Some(Reply::Denied { rule: Rule::A4 }),
-        "no-message" => Some(Reply::NoMessage { number }),
-        "too-long" => Some(Reply::TooLong {
+        "denied" => Ok(Reply::Denied { rule: Rule::A4 }),
+        "no-message" => Ok(Reply::NoMessage { number }),
+        "too-long" => Ok(Reply::TooLong {
             field: Field::Subject,
             length: u64::from(number),
         }),
-        "empty-name" => Some(Reply::EmptyName { field: Field::To }),
-        "slots-full" => Some(Reply::SlotsFull { slots: number }),
-        "headers-full" => Some(Reply::HeadersFull {
+        "empty-name" => Ok(Reply::EmptyName { field: Field::To }),
+        "slots-full" => Ok(Reply::SlotsFull { slots: number }),
+        "headers-full" => Ok(Reply::HeadersFull {
             length: u64::from(number),
         }),
-        "text-full" => Some(Reply::TextFull {
+        "text-full" => Ok(Reply::TextFull {
             length: u64::from(number),
         }),
-        "numbers-spent" => Some(Reply::NumbersSpent { next: number }),
-        "marks-full" => Some(Reply::MarksFull { marks: number }),
-        _ => None,
+        "numbers-spent" => Ok(Reply::NumbersSpent { next: number }),
+        "marks-full" => Ok(Reply::MarksFull { marks: number }),
+        _ => Err(RowError::Unknown(1)),
     }
 }
 
@@ -59,13 +59,9 @@ fn refused(word: &str, number: u32) -> Option<Reply> {
 pub fn reply(row: &Row) -> Result<Given, RowError> {
     let word = row.word(1)?;
     let first = number_or_none(row, 2);
-    if let Some(reply) = done(word, first, number_or_none(row, 3), number_or_none(row, 4)) {
-        return Ok(Given::Reply(reply));
-    }
-    match refused(word, first) {
-        Some(reply) => Ok(Given::Reply(reply)),
-        None => Err(RowError::Unknown(1)),
-    }
+    let second = number_or_none(row, 3);
+    let third = number_or_none(row, 4);
+    Ok(Given::Reply(done(word, first, second, third)?))
 }
 
 /// `fault KIND NUMBER..`: why there is no answer.

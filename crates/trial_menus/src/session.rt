@@ -2,7 +2,7 @@
 
 use crate::settings::board_of;
 use crate::telling::told;
-use jb_base::Bytes;
+use jb_base::{Bytes, OutOfMemory};
 use jb_conf::Board;
 use jb_menu::{Given, Menu, Move};
 use std::alloc::Global;
@@ -36,8 +36,8 @@ impl Session {
     }
 
     /// The next move.
-    fn step(&mut self, alloc: Global, given: &Given) -> Result<Move, RowError> {
-        Ok(self.menu.step(alloc, &self.board, given)?)
+    fn step(&mut self, alloc: Global, given: &Given) -> Result<Move, OutOfMemory> {
+        self.menu.step(alloc, &self.board, given)
     }
 
     /// The place of the user.
@@ -47,6 +47,7 @@ impl Session {
 
     /// The next move, in words.
     pub fn told(&mut self, alloc: Global, given: &Given) -> Result<String, RowError> {
-        told(alloc, &self.step(alloc, given)?)
+        let step = self.step(alloc, given)?;
+        told(alloc, &step)
     }
 }

@@ -3,10 +3,10 @@ ghost use Rattle.std.specs.Prelude.{IfOk};
 ghost use Rattle.jb_conf.specs.InRange.{IsInRange};
 
 use crate::words::rest_bytes;
-use jb_base::Bytes;
+use jb_base::{AreaRules, Bytes};
 use jb_conf::{Board, BoardArea, BoardUser, check_login, read};
 use std::alloc::Global;
-use trial_rows::{Row, RowError, shown};
+use trial_rows::{Row, RowError, said, shown};
 
 /// The board of a file.
 pub fn board_of(alloc: Global, file: &[u8]) -> Result<Board, RowError>
@@ -29,31 +29,30 @@ pub fn append_line(file: &mut Bytes, line: &[u8]) -> Result<(), RowError> {
     Ok(())
 }
 
-/// The file with this text in the place of so many lines, of which the first has this place, counted from 0.
-fn with_instead(
-    alloc: Global,
+/// Puts a file behind another, with this text in the place of so many lines, of which the first has this place, counted from 0.
+fn append_changed(
+    changed: &mut Bytes,
     file: &[u8],
     from: u64,
     count: u64,
     text: &[u8],
-) -> Result<Bytes, RowError> {
-    let mut changed = Bytes::new(alloc);
+) -> Result<(), RowError> {
     for (place, line) in file.split(is_line_feed).enumerate() {
         let place = place as u64;
         if place == from {
-            append_line(&mut changed, text)?;
+            append_line(changed, text)?;
         }
         if place < from || place - from >= count {
-            append_line(&mut changed, line)?;
+            append_line(changed, line)?;
         }
     }
-    Ok(changed)
+    Ok(())
 }
 
 /// What is said of a file.
 fn refusal(alloc: Global, file: &[u8]) -> Result<String, RowError> {
     match read(alloc, file) {
-        Ok(_) => Ok(String::from_str(alloc, "read")?),
+        Ok(_) => said(alloc, "read"),
         Err(error) => Ok(format!(in alloc; "{error}")?),
     }
 }
@@ -63,7 +62,8 @@ pub fn broken(alloc: Global, file: &[u8], row: &Row) -> Result<String, RowError>
     let from = row.number(1)?.saturating_sub(1);
     let count = row.number(2)?;
     let text = rest_bytes(alloc, row, 3)?;
-    let changed = with_instead(alloc, file, from, count, text.as_slice())?;
+    let mut changed = Bytes::new(alloc);
+    append_changed(&mut changed, file, from, count, text.as_slice())?;
     refusal(alloc, changed.as_slice())
 }
 
@@ -75,23 +75,30 @@ pub fn board(alloc: Global, file: &[u8]) -> Result<String, RowError> {
 
 fn board_line(alloc: Global, board: &Board) -> Result<String, RowError> {
     let mut line = shown(alloc, board.name.as_slice())?;
-    line.push_str(" address ")?;
-    line.push_str(shown(alloc, board.address.as_slice())?.as_str())?;
-    line.push_str(numbers_of(alloc, board)?.as_str())?;
+    put_address(alloc, &mut line, board.address.as_slice())?;
+    put_numbers(&mut line, board)?;
     Ok(line)
 }
 
-/// The numbers of a board, and how many areas and users it has.
-fn numbers_of(alloc: Global, board: &Board) -> Result<String, RowError> {
+fn put_address(alloc: Global, line: &mut String, address: &[u8]) -> Result<(), RowError> {
+    let address = shown(alloc, address)?;
+    write!(line, " address {address}")?;
+    Ok(())
+}
+
+/// Puts the numbers of a board, and how many areas and users it has, behind the other words.
+fn put_numbers(line: &mut String, board: &Board) -> Result<(), RowError> {
     let port = board.port;
     let nodes = board.nodes;
     let offset = board.offset;
     let minutes = board.pack_minutes;
     let areas = board.areas.as_slice().len();
     let users = board.users.as_slice().len();
-    Ok(format!(in alloc;
+    write!(
+        line,
         " port {port} nodes {nodes} offset {offset} pack {minutes} areas {areas} users {users}"
-    )?)
+    )?;
+    Ok(())
 }
 
 /// `area PLACE`: the fields of an area, by its place from 0.
@@ -100,34 +107,36 @@ pub fn area(alloc: Global, file: &[u8], row: &Row) -> Result<String, RowError> {
     let board = board_of(alloc, file)?;
     match board.areas.as_slice().get(place as usize) {
         Some(area) => area_line(alloc, area),
-        None => Ok(String::from_str(alloc, "none")?),
+        None => said(alloc, "none"),
     }
 }
 
 fn area_line(alloc: Global, area: &BoardArea) -> Result<String, RowError> {
     let mut line = shown(alloc, area.name.as_slice())?;
-    line.push_str(" dir ")?;
-    line.push_str(area.dir.as_str())?;
-    line.push_str(" base ")?;
-    line.push_str(area.base.as_str())?;
-    line.push_str(" address ")?;
-    line.push_str(shown(alloc, area.rules.address.as_slice())?.as_str())?;
-    line.push_str(rules_of(alloc, area)?.as_str())?;
+    write!(
+        line,
+        " dir {} base {}",
+        area.dir.as_str(),
+        area.base.as_str()
+    )?;
+    put_address(alloc, &mut line, area.rules.address.as_slice())?;
+    put_rules(&mut line, &area.rules)?;
     Ok(line)
 }
 
-/// The rules of an area, but its address.
-fn rules_of(alloc: Global, area: &BoardArea) -> Result<String, RowError> {
-    let rules = &area.rules;
+/// Puts the rules of an area, but its address, behind the other words.
+fn put_rules(line: &mut String, rules: &AreaRules) -> Result<(), RowError> {
     let ordinal = rules.ordinal;
     let kind = rules.kind;
     let read = rules.read;
     let post = rules.post;
     let sysop = rules.sysop;
     let slots = rules.slots;
-    Ok(format!(in alloc;
+    write!(
+        line,
         " kind {kind:?} ordinal {ordinal} read {read} post {post} sysop {sysop} slots {slots}"
-    )?)
+    )?;
+    Ok(())
 }
 
 /// `user PLACE`: the fields of a user, by its place from 0.
@@ -136,16 +145,21 @@ pub fn user(alloc: Global, file: &[u8], row: &Row) -> Result<String, RowError> {
     let board = board_of(alloc, file)?;
     match board.users.as_slice().get(place as usize) {
         Some(user) => user_line(alloc, user),
-        None => Ok(String::from_str(alloc, "none")?),
+        None => said(alloc, "none"),
     }
 }
 
 fn user_line(alloc: Global, user: &BoardUser) -> Result<String, RowError> {
-    let id = user.user.id;
-    let level = user.user.level;
-    let name = shown(alloc, user.user.name.as_slice())?;
-    let salt = shown(alloc, user.salt.as_slice())?;
-    Ok(format!(in alloc; "{name} id {id} level {level} salt {salt}")?)
+    let mut line = shown(alloc, user.user.name.as_slice())?;
+    write!(line, " id {} level {}", user.user.id, user.user.level)?;
+    put_salt(alloc, &mut line, user.salt.as_slice())?;
+    Ok(line)
+}
+
+fn put_salt(alloc: Global, line: &mut String, salt: &[u8]) -> Result<(), RowError> {
+    let salt = shown(alloc, salt)?;
+    write!(line, " salt {salt}")?;
+    Ok(())
 }
 
 /// `login NAME PASSWORD`: the place of the user who logs in.
@@ -163,6 +177,6 @@ pub fn login(alloc: Global, file: &[u8], row: &Row) -> Result<String, RowError> 
 pub fn place_line(alloc: Global, place: Option<u32>) -> Result<String, RowError> {
     match place {
         Some(place) => Ok(format!(in alloc; "user {place}")?),
-        None => Ok(String::from_str(alloc, "nobody")?),
+        None => said(alloc, "nobody"),
     }
 }

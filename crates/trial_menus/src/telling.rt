@@ -19,17 +19,24 @@ fn escaped() -> AsciiSet {
 fn append_quoted(words: &mut String, alloc: Global, text: &[u8]) -> Result<(), RowError> {
     let mut whole = String::new(alloc);
     percent_encode(text, escaped()).append_to(&mut whole)?;
-    let mut between = '"';
-    for line in whole.as_str().split("%0D%0A") {
-        words.push(between)?;
-        words.push_str(line)?;
-        between = '^';
-    }
+    append_lines(words, whole.as_str())?;
     words.push('"')?;
     Ok(())
 }
 
-fn quoted(alloc: Global, word: &str, text: &Bytes) -> Result<String, RowError> {
+/// Puts the lines behind these words, a quote before the first and `^` before each other.
+fn append_lines(words: &mut String, lines: &str) -> Result<(), RowError> {
+    let mut between = '"';
+    for line in lines.split("%0D%0A") {
+        words.push(between)?;
+        words.push_str(line)?;
+        between = '^';
+    }
+    Ok(())
+}
+
+/// A word, and a text behind it in quotes.
+pub fn quoted(alloc: Global, word: &str, text: &Bytes) -> Result<String, RowError> {
     let mut words = String::from_str(alloc, word)?;
     append_quoted(&mut words, alloc, text.as_slice())?;
     Ok(words)
@@ -46,20 +53,19 @@ fn manner(
     Ok(format!(in alloc; "posts in {area}, answers {reply_to}, private {private}, {len} bytes ")?)
 }
 
-/// The words of a post with its texts behind them: the receiver, the subject, and the beginning of the text.
-fn posted(
+/// Puts the texts of a post behind these words: the beginning of the text, the receiver and the subject.
+fn append_post(
+    words: &mut String,
     alloc: Global,
-    mut words: String,
     to: &[u8],
     subject: &[u8],
     text: &[u8],
-) -> Result<String, RowError> {
-    append_quoted(&mut words, alloc, &text[..text.len().min(MOST_SHOWN)])?;
+) -> Result<(), RowError> {
+    append_quoted(words, alloc, &text[..text.len().min(MOST_SHOWN)])?;
     words.push_str(", to ")?;
-    append_quoted(&mut words, alloc, to)?;
+    append_quoted(words, alloc, to)?;
     words.push_str(", subject ")?;
-    append_quoted(&mut words, alloc, subject)?;
-    Ok(words)
+    append_quoted(words, alloc, subject)
 }
 
 /// What the menus ask for, as the move writes its own fields; a post in words.
@@ -75,14 +81,15 @@ fn asked(alloc: Global, step: &Move) -> Result<String, RowError> {
                 private,
             },
         } => {
-            let words = manner(alloc, *area, *reply_to, *private, text.len())?;
-            posted(
+            let mut words = manner(alloc, *area, *reply_to, *private, text.len())?;
+            append_post(
+                &mut words,
                 alloc,
-                words,
                 to.as_slice(),
                 subject.as_slice(),
                 text.as_slice(),
-            )
+            )?;
+            Ok(words)
         }
         other => Ok(format!(in alloc; "{other:?}")?),
     }

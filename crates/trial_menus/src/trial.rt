@@ -3,10 +3,10 @@
 use crate::given::{given, typed};
 use crate::session::Session;
 use crate::settings;
-use crate::telling::told;
+use crate::telling::quoted;
 use crate::words::{rest, rest_bytes};
 use jb_base::Bytes;
-use jb_menu::{Given, Move};
+use jb_menu::Given;
 use std::alloc::Global;
 use trial_rows::{Answers, Row, RowError};
 
@@ -41,9 +41,15 @@ impl Trial {
     /// `start`: a session on the board of the file.
     fn start(&mut self, alloc: Global) -> Result<String, RowError> {
         let (session, text) = Session::start(alloc, self.file.as_slice())?;
+        self.put(session)?;
+        quoted(alloc, "says ", &text)
+    }
+
+    /// Has this session from now on.
+    fn put(&mut self, session: Session) -> Result<(), RowError> {
         self.sessions.clear();
         self.sessions.push(session)?;
-        told(alloc, &Move::Say { text, mask: false })
+        Ok(())
     }
 
     /// `who`: the place of the session's user.
@@ -88,12 +94,23 @@ impl Trial {
         let letters = row.bytes(alloc, 1)?;
         let behind = rest_bytes(alloc, row, 2)?;
         let mut words = String::new(alloc);
-        for letter in letters.as_slice() {
-            let mut line = Bytes::copy(alloc, &[*letter])?;
-            line.append(behind.as_slice())?;
-            self.type_line(alloc, line.as_slice(), &mut words)?;
-        }
+        self.type_each(alloc, letters.as_slice(), behind.as_slice(), &mut words)?;
         Ok(words)
+    }
+
+    fn type_each(
+        &mut self,
+        alloc: Global,
+        letters: &[u8],
+        behind: &[u8],
+        words: &mut String,
+    ) -> Result<(), RowError> {
+        for letter in letters {
+            let mut line = Bytes::copy(alloc, &[*letter])?;
+            line.append(behind)?;
+            self.type_line(alloc, line.as_slice(), words)?;
+        }
+        Ok(())
     }
 
     /// `again COUNT TEXT`: what the session does with a line so many times, once where it is always the same.
@@ -116,8 +133,14 @@ impl Trial {
             "area" => settings::area(alloc, file, row),
             "user" => settings::user(alloc, file, row),
             "login" => settings::login(alloc, file, row),
-            _ => self.step(alloc, &given(alloc, row)?),
+            _ => self.give(alloc, row),
         }
+    }
+
+    /// What the session does when it is given what this row says.
+    fn give(&mut self, alloc: Global, row: &Row) -> Result<String, RowError> {
+        let given = given(alloc, row)?;
+        self.step(alloc, &given)
     }
 }
 

@@ -12,15 +12,6 @@ pub(crate) struct Caller {
     pub failing: Vec<u64>,
 }
 
-/// The numbers from this place of a row on.
-pub(crate) fn numbers_from(alloc: Global, row: &Row, place: usize) -> Result<Vec<u64>, RowError> {
-    let mut numbers = Vec::new(alloc);
-    for at in place..row.len() {
-        numbers.push(row.number(at)?)?;
-    }
-    Ok(numbers)
-}
-
 /// The words from this place of a row on, each with an end of line behind it.
 pub(crate) fn lines_from(
     alloc: Global,
@@ -36,12 +27,18 @@ pub(crate) fn lines_from(
     Ok(lines)
 }
 
-/// The caller of `call FAILING LINE..`, where the first word is the number of the call that fails, or `-`.
-pub(crate) fn caller_in(alloc: Global, row: &Row) -> Result<Caller, RowError> {
+// The number of the call that fails, or `-` for none.
+fn failing_in(alloc: Global, row: &Row) -> Result<Vec<u64>, RowError> {
     let mut failing = Vec::new(alloc);
     if row.word(1)? != "-" {
         failing.push(row.number(1)?)?;
     }
+    Ok(failing)
+}
+
+/// The caller of `call FAILING LINE..`, where the first word is the number of the call that fails, or `-`.
+pub(crate) fn caller_in(alloc: Global, row: &Row) -> Result<Caller, RowError> {
+    let failing = failing_in(alloc, row)?;
     let typed = lines_from(alloc, row, 2, b"\r\n")?;
     Ok(Caller { typed, failing })
 }

@@ -29,6 +29,22 @@ fn answered<T: Threads + Wait + Sync>(
     answer(rt, alloc, trial, &row)
 }
 
+// Writes what the line comes to, and a line that is none as it stands.
+fn print<T: Threads + Wait + Sync + Print>(
+    rt: &T,
+    alloc: Global,
+    trial: &mut Trial,
+    line: &str,
+) -> io::Result<()> {
+    if line.is_empty() || line.starts_with('#') {
+        return println!(rt; "{line}");
+    }
+    match answered(rt, alloc, trial, line) {
+        Ok(text) => println!(rt; "{text}"),
+        Err(error) => println!(rt; "no answer to '{line}': {error}"),
+    }
+}
+
 // The rows of trial_rows, in a loop of its own: what answers them here starts threads and waits for them.
 fn run<T: Threads + Wait + Sync + Input + Print>(
     rt: &T,
@@ -36,16 +52,7 @@ fn run<T: Threads + Wait + Sync + Input + Print>(
     trial: &mut Trial,
 ) -> io::Result<()> {
     for line in rt.lines(alloc) {
-        let line = line?;
-        let line = line.as_str();
-        if line.is_empty() || line.starts_with('#') {
-            println!(rt; "{line}")?;
-            continue;
-        }
-        match answered(rt, alloc, trial, line) {
-            Ok(text) => println!(rt; "{text}")?,
-            Err(error) => println!(rt; "no answer to '{line}': {error}")?,
-        }
+        print(rt, alloc, trial, line?.as_str())?;
     }
     Ok(())
 }

@@ -1,7 +1,7 @@
 //! The rows.
 
 use crate::base::{copied, empty, held, listed};
-use crate::callers::{Caller, caller_in, door_of, lines_from, numbers_from};
+use crate::callers::{Caller, caller_in, door_of, lines_from};
 use crate::held::{HeldDoor, Side};
 use crate::keeping::{Keeps, Worked};
 use crate::serving::{Ended, board_of, run};
@@ -13,7 +13,7 @@ use std::alloc::Global;
 use std::mem;
 use std::sync::Wait;
 use std::thread::Threads;
-use trial_rows::{Row, RowError, shown};
+use trial_rows::{Row, RowError, said, shown};
 
 /// Settings and a base; who waits for the next run, and what came of the last one.
 #[derive(Drop)]
@@ -25,11 +25,6 @@ pub(crate) struct Trial {
     doors: Vec<MemDoor>,
     worked: Vec<Worked>,
     calls: u64,
-}
-
-// A word as a line.
-fn said(alloc: Global, word: &str) -> Result<String, RowError> {
-    Ok(String::from_str(alloc, word)?)
 }
 
 // The areas for which a bell is to ring, from this place of a row on.
@@ -56,6 +51,17 @@ fn held_doors<'a>(
     Ok(doors)
 }
 
+// How many users these settings have.
+fn users_of(alloc: Global, settings: &[u8]) -> Result<usize, RowError> {
+    let board = board_of(alloc, settings)?;
+    Ok(board.users.as_slice().len())
+}
+
+// Puts this in the place of a base.
+fn put_base(base: &mut MemDisk, new: MemDisk) {
+    *base = new;
+}
+
 impl Trial {
     /// No settings, and an empty base.
     pub(crate) fn new(alloc: Global) -> Result<Trial, RowError> {
@@ -73,20 +79,20 @@ impl Trial {
     /// `settings LINE..`: the settings file, which has one area.
     fn set_settings(&mut self, alloc: Global, row: &Row) -> Result<String, RowError> {
         let settings = lines_from(alloc, row, 1, b"\n")?;
-        let users = board_of(alloc, settings.as_slice())?.users.as_slice().len();
+        let users = users_of(alloc, settings.as_slice())?;
         self.settings = settings;
         Ok(format!(in alloc; "{users} users")?)
     }
 
     /// `base`: a base without a message.
     fn set_base(&mut self, alloc: Global) -> Result<String, RowError> {
-        self.base = empty(alloc)?;
+        put_base(&mut self.base, empty(alloc)?);
         said(alloc, "base")
     }
 
     /// `disk CALL..`: these calls of the disk fail in the next run.
     fn set_disk(&mut self, alloc: Global, row: &Row) -> Result<String, RowError> {
-        self.failing = numbers_from(alloc, row, 1)?;
+        self.failing = row.numbers(alloc, 1)?;
         said(alloc, "disk")
     }
 
@@ -98,8 +104,8 @@ impl Trial {
 
     /// `door CALL..`: one node more, at whose door those who wait come in, and which fails these of its calls.
     fn add_door(&mut self, alloc: Global, row: &Row) -> Result<String, RowError> {
+        let failing = row.numbers(alloc, 1)?;
         let callers = mem::replace(&mut self.callers, Vec::new(alloc));
-        let failing = numbers_from(alloc, row, 1)?;
         self.doors.push(door_of(alloc, callers, failing)?)?;
         said(alloc, "door")
     }
@@ -111,17 +117,10 @@ impl Trial {
     }
 
     // Keeps what came of a run: the base is now what the disk holds.
-    fn keep(&mut self, alloc: Global, ended: Ended) -> Result<String, RowError> {
-        let packs = ended.packs;
-        let stands = if ended.is_doubtful {
-            "in doubt"
-        } else {
-            "at rest"
-        };
-        self.worked = ended.nodes;
-        self.calls = ended.disk.calls();
-        self.base = ended.disk;
-        Ok(format!(in alloc; "{packs} packed, {stands}")?)
+    fn keep(&mut self, worked: Vec<Worked>, disk: MemDisk) {
+        self.calls = disk.calls();
+        put_base(&mut self.base, disk);
+        self.worked = worked;
     }
 
     // All work at these doors and at this bell.
@@ -136,8 +135,15 @@ impl Trial {
         R::Link: Send,
     {
         let disk = self.disk(alloc)?;
-        let ended = run(rt, alloc, self.settings.as_slice(), disk, doors, bell)?;
-        self.keep(alloc, ended)
+        let Ended {
+            nodes,
+            packs,
+            is_doubtful,
+            disk,
+        } = run(rt, alloc, self.settings.as_slice(), disk, doors, bell)?;
+        self.keep(nodes, disk);
+        let stands = if is_doubtful { "in doubt" } else { "at rest" };
+        Ok(format!(in alloc; "{packs} packed, {stands}")?)
     }
 
     /// `serve AREA..`: the nodes serve, while the bell rings for these areas.
@@ -189,12 +195,6 @@ impl Trial {
             None => Err(RowError::Number(2)),
         }
     }
-
-    /// `calls`: how many calls of the disk the last run made.
-    fn disk_calls(&self, alloc: Global) -> Result<String, RowError> {
-        let calls = self.calls;
-        Ok(format!(in alloc; "{calls}")?)
-    }
 }
 
 /// The line that is written for this row.
@@ -214,7 +214,8 @@ pub(crate) fn answer<T: Threads + Wait + Sync>(
         "held" => trial.serve_held(rt, alloc),
         "tally" => trial.tally(alloc, row),
         "sent" => trial.sent(alloc, row),
-        "calls" => trial.disk_calls(alloc),
+        // how many calls of the disk the last run made
+        "calls" => Ok(format!(in alloc; "{}", trial.calls)?),
         "list" => listed(alloc, &trial.base),
         "file" => held(alloc, &trial.base, row),
         _ => Err(RowError::Unknown(0)),

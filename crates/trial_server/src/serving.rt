@@ -80,6 +80,27 @@ fn opened<T: Wait>(
     }
 }
 
+// Opens the area of this board over the disk, and all work at the doors and at the bell until it is closed.
+fn run_board<T: Threads + Wait + Sync, R: Keeps + Drop + Send>(
+    rt: &T,
+    alloc: Global,
+    board: &Board,
+    disk: MemDisk,
+    doors: Vec<R>,
+    bell: MemBell,
+) -> Result<Ended, RowError>
+where
+    R::Link: Send,
+    requires range { IsInRange board.now }
+    requires one { length board.now.areas ≡ 1 }
+    requires few { length doors.items ≤ 32 }
+{
+    let open = opened(rt, alloc, board, disk, doors.len() as u32 + 1)?;
+    let mut crew = Crew::new(rt, alloc, open, doors, bell)?;
+    crew.work(rt, alloc, board);
+    crew.part(rt, alloc)
+}
+
 /// Opens the area of the board over this disk, serves it at these doors while it is packed as this bell rings, and closes it.
 pub(crate) fn run<T: Threads + Wait + Sync, R: Keeps + Drop + Send>(
     rt: &T,
@@ -92,12 +113,9 @@ pub(crate) fn run<T: Threads + Wait + Sync, R: Keeps + Drop + Send>(
 where
     R::Link: Send,
 {
-    let board = board_of(alloc, settings)?;
     if doors.len() > MOST_NODES {
         return Err(RowError::Unknown(0));
     }
-    let open = opened(rt, alloc, &board, disk, doors.len() as u32 + 1)?;
-    let mut crew = Crew::new(rt, alloc, open, doors, bell)?;
-    crew.work(rt, alloc, &board);
-    crew.part(rt, alloc)
+    let board = board_of(alloc, settings)?;
+    run_board(rt, alloc, &board, disk, doors, bell)
 }

@@ -33,6 +33,22 @@ fn answered<R: Threads + Wait + Sync>(
     trial.answer(alloc, &row)
 }
 
+// Writes what the line comes to, and a line that is none as it stands.
+fn print<R: Threads + Wait + Sync + Print>(
+    rt: &R,
+    alloc: Global,
+    trial: &mut Trial<R>,
+    line: &str,
+) -> io::Result<()> {
+    if line.is_empty() || line.starts_with('#') {
+        return println!(rt; "{line}");
+    }
+    match answered(alloc, trial, line) {
+        Ok(text) => println!(rt; "{text}"),
+        Err(error) => println!(rt; "no answer to '{line}': {error}"),
+    }
+}
+
 // The rows of trial_rows, in a loop of its own: what answers them here starts threads and waits for them.
 fn run<R: Threads + Wait + Sync + Input + Print>(
     rt: &R,
@@ -40,16 +56,7 @@ fn run<R: Threads + Wait + Sync + Input + Print>(
     trial: &mut Trial<R>,
 ) -> io::Result<()> {
     for line in rt.lines(alloc) {
-        let line = line?;
-        let line = line.as_str();
-        if line.is_empty() || line.starts_with('#') {
-            println!(rt; "{line}")?;
-            continue;
-        }
-        match answered(alloc, trial, line) {
-            Ok(text) => println!(rt; "{text}")?,
-            Err(error) => println!(rt; "no answer to '{line}': {error}")?,
-        }
+        print(rt, alloc, trial, line?.as_str())?;
     }
     Ok(())
 }

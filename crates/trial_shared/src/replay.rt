@@ -53,6 +53,11 @@ fn asked_at(alloc: Global, node: u32, act: Act, number: u32) -> Result<Asked, Ro
     })
 }
 
+// Puts this in the place of an area.
+fn put_area(area: &mut Area, new: Area) {
+    *area = new;
+}
+
 impl Again {
     // Nothing is asked yet; these of the stopped calls stand.
     fn new(alloc: Global, standing: u32) -> Result<Again, RowError> {
@@ -66,12 +71,12 @@ impl Again {
 
     // Asks these of the plain program.
     fn run(&mut self, alloc: Global, asked: &[Asked]) -> Result<Replies, RowError> {
-        let area = mem::replace(&mut self.area, empty(alloc));
-        if !may_run(&area, self.rules.slots) {
+        if !may_run(&self.area, self.rules.slots) {
             return Err(RowError::Unknown(0));
         }
+        let area = mem::replace(&mut self.area, empty(alloc));
         let (area, replies) = run_slow(alloc, &self.rules, area, asked)?;
-        self.area = area;
+        put_area(&mut self.area, area);
         Ok(replies)
     }
 
@@ -151,12 +156,17 @@ fn comes_to(
     Ok(false)
 }
 
+// Whether it all agrees and comes to the area of the base.
+fn comes_to_base(alloc: Global, noted: &[Noted], base: &MemDisk) -> Result<bool, RowError> {
+    let found = open(alloc, base, &[])?;
+    let answer = comes_to(alloc, noted, found.loaded(), base.file(FileId::Jdt));
+    let _disk = found.close();
+    answer
+}
+
 /// Whether the plain program, asked the same one after another, answers the same and comes to the area of the base. A call that
 /// the device stopped may stand or not.
 pub(crate) fn replays(alloc: Global, noted: &[Noted], base: &MemDisk) -> Result<bool, RowError> {
     let base = closed(alloc, base)?;
-    let found = open(alloc, &base, &[])?;
-    let answer = comes_to(alloc, noted, found.loaded(), base.file(FileId::Jdt));
-    let _disk = found.close();
-    answer
+    comes_to_base(alloc, noted, &base)
 }

@@ -19,7 +19,7 @@ use std::fmt::Write;
 use std::mem;
 use std::sync::{Mutex, Wait};
 use std::thread::Threads;
-use trial_rows::{Row, RowError};
+use trial_rows::{Row, RowError, said};
 
 /// A base, and the area that is shared, opened from it. It is not `Drop`: end it by `end`.
 pub(crate) struct Trial<'a, R: Threads + Wait + Sync> {
@@ -64,15 +64,6 @@ fn ask_in(alloc: Global, row: &Row, caller: &Caller) -> Result<Ask, RowError> {
         _ => return Err(RowError::Unknown(0)),
     };
     Ok(Ask::Look(question))
-}
-
-// The calls of a disk that are to fail: the numbers from this place of the row on.
-fn failing_in(alloc: Global, row: &Row, place: usize) -> Result<Vec<u64>, RowError> {
-    let mut failing = Vec::new(alloc);
-    for at in place..row.len() {
-        failing.push(row.number(at)?)?;
-    }
-    Ok(failing)
 }
 
 // The plan of a row.
@@ -122,7 +113,7 @@ fn followed_on<D: Disk + Drop + Send + Sync, R: Threads + Wait + Sync>(
 fn empty_area(alloc: Global, row: &Row, place: usize) -> Result<OpenArea<MemDisk>, RowError>
     ensures { IfOk result (HasRest device_of) }
 {
-    let failing = failing_in(alloc, row, place)?;
+    let failing = row.numbers(alloc, place)?;
     let base = empty(alloc)?;
     open(alloc, &base, failing.as_slice())
 }
@@ -151,6 +142,25 @@ fn held_words(alloc: Global, noted: &[Noted], is_between: bool) -> Result<String
     }
     write!(text, "a record between two copies: {is_between}")?;
     Ok(text)
+}
+
+// What is said of the plan, of what the nodes noted and of the disk behind it.
+fn judged(
+    alloc: Global,
+    plan: Plan,
+    log: Mutex<Vec<Noted>>,
+    disk: &MemDisk,
+) -> Result<String, RowError> {
+    let noted = in_order(alloc, log)?;
+    match plan {
+        Plan::Watch(..) => watched(alloc, noted.as_slice(), plan.nodes(), disk),
+        _ => compared(alloc, noted.as_slice(), disk),
+    }
+}
+
+// Puts this in the place of a base.
+fn put_base(base: &mut MemDisk, new: MemDisk) {
+    *base = new;
 }
 
 // Where an area stands that was shared, and how many messages are live in it.
@@ -192,15 +202,16 @@ impl<'a, R: Threads + Wait + Sync> Trial<'a, R> {
     // `base` and `long LEN`: this is the base then, and no area is shared.
     fn make(&mut self, alloc: Global, row: &Row) -> Result<String, RowError> {
         let word = row.word(0)?;
-        self.base = self.made(alloc, row)?;
+        let made = self.made(alloc, row)?;
+        put_base(&mut self.base, made);
         self.set_shared(None);
-        Ok(String::from_str(alloc, word)?)
+        said(alloc, word)
     }
 
     // The area of the base, shared as the row says.
     fn shared_in(&self, alloc: Global, row: &Row) -> Result<Shared<MemDisk>, RowError> {
         let nodes = nodes_in(row)?;
-        let failing = failing_in(alloc, row, 2)?;
+        let failing = row.numbers(alloc, 2)?;
         let area = open(alloc, &self.base, failing.as_slice())?;
         Shared::new(self.rt, alloc, area, nodes)
     }
@@ -209,7 +220,7 @@ impl<'a, R: Threads + Wait + Sync> Trial<'a, R> {
     fn share(&mut self, alloc: Global, row: &Row) -> Result<String, RowError> {
         let shared = self.shared_in(alloc, row)?;
         self.set_shared(Some(shared));
-        Ok(String::from_str(alloc, "shared")?)
+        said(alloc, "shared")
     }
 
     // `call NODE NAME LEVEL ACT NUMBER`, and the looks and counts: what the node is answered.
@@ -218,7 +229,7 @@ impl<'a, R: Threads + Wait + Sync> Trial<'a, R> {
         let ask = ask_in(alloc, row, &caller)?;
         match &mut self.shared {
             Some(shared) => shared.ask(self.rt, alloc, row, &caller, &ask),
-            None => Ok(String::from_str(alloc, "no area is shared")?),
+            None => said(alloc, "no area is shared"),
         }
     }
 
@@ -228,11 +239,7 @@ impl<'a, R: Threads + Wait + Sync> Trial<'a, R> {
         let plan = plan_in(row)?;
         let log = Mutex::new(Vec::new(alloc));
         let disk = followed(self.rt, alloc, empty_area(alloc, row, 3)?, &log, plan)?;
-        let noted = in_order(alloc, log)?;
-        match plan {
-            Plan::Watch(..) => watched(alloc, noted.as_slice(), plan.nodes(), &disk),
-            _ => compared(alloc, noted.as_slice(), &disk),
-        }
+        judged(alloc, plan, log, &disk)
     }
 
     // `between`: one node packs the area of the base, and another posts as soon as the first text is to be copied.
@@ -242,21 +249,21 @@ impl<'a, R: Threads + Wait + Sync> Trial<'a, R> {
         let disk = copied(alloc, &self.base, Vec::new(alloc))?;
         let disk = HeldDisk::new(disk, &meeting);
         let held = followed_on(self.rt, alloc, disk, &log, Plan::Between(&meeting))?;
+        let is_between = held.is_between;
+        put_base(&mut self.base, held.disk);
         let noted = in_order(alloc, log)?;
-        let text = held_words(alloc, noted.as_slice(), held.is_between)?;
-        self.base = held.disk;
-        Ok(text)
+        held_words(alloc, noted.as_slice(), is_between)
     }
 
     // Closes the area with the passes of the nodes below this one. The base is then what its disk holds.
     fn close(&mut self, alloc: Global, below: u32) -> Result<String, RowError> {
         let Some(shared) = self.shared.take() else {
-            return Ok(String::from_str(alloc, "no area is shared")?);
+            return said(alloc, "no area is shared");
         };
         match shared.close(self.rt, below) {
             Ok(area) => {
                 let text = closed_words(alloc, &area);
-                self.base = area.close();
+                put_base(&mut self.base, area.close());
                 text
             }
             Err((shared, refusal)) => {

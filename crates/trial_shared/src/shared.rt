@@ -6,7 +6,7 @@ ghost use Rattle.jb_shared.specs.Areas.{IsOf};
 use crate::asking::{Caller, MOMENT};
 use crate::nodes::follow_all;
 use crate::noted::{Noted, Plan};
-use crate::showing::{answer_words, reply_words};
+use crate::showing::{answer_words, count_words, reply_words};
 use jb_area::OpenArea;
 use jb_disk::Disk;
 use jb_model::{Command, Question};
@@ -42,41 +42,6 @@ impl<D: Disk> Model for Shared<D> {
     ghost invariant = { λ s. All (IsOf s.area) s.passes.items };
 }
 
-// What a call is answered, or why there is no answer, in words.
-fn called<D: Disk, R: Wait>(
-    rt: &R,
-    alloc: Global,
-    area: &SharedArea<D>,
-    pass: &mut Pass,
-    caller: &Caller,
-    command: &Command,
-) -> Result<String, RowError>
-    requires { IsOf area.now pass.old }
-    ensures { IsOf area.now pass.new }
-{
-    match area.call(rt, alloc, pass, &caller.user, MOMENT, command) {
-        Ok(reply) => reply_words(alloc, &reply),
-        Err(error) => Ok(format!(in alloc; "{error:?}")?),
-    }
-}
-
-// What a look is answered, or why there is no answer, in words.
-fn looked<D: Disk>(
-    alloc: Global,
-    area: &SharedArea<D>,
-    pass: &mut Pass,
-    caller: &Caller,
-    question: &Question,
-) -> Result<String, RowError>
-    requires { IsOf area.now pass.old }
-    ensures { IsOf area.now pass.new }
-{
-    match area.look(pass, &caller.user, question) {
-        Ok(answer) => answer_words(alloc, &answer),
-        Err(error) => Ok(format!(in alloc; "{error:?}")?),
-    }
-}
-
 // What is answered, or why there is no answer, in words.
 fn told<D: Disk, R: Wait>(
     rt: &R,
@@ -90,12 +55,12 @@ fn told<D: Disk, R: Wait>(
     ensures { IsOf area.now pass.new }
 {
     match ask {
-        Ask::Call(command) => called(rt, alloc, area, pass, caller, command),
-        Ask::Look(question) => looked(alloc, area, pass, caller, question),
-        Ask::Count => match area.unread_count(pass, &caller.user) {
-            Ok(count) => Ok(format!(in alloc; "{count} unread")?),
-            Err(error) => Ok(format!(in alloc; "{error:?}")?),
-        },
+        Ask::Call(command) => {
+            let reply = area.call(rt, alloc, pass, &caller.user, MOMENT, command);
+            reply_words(alloc, reply)
+        }
+        Ask::Look(question) => answer_words(alloc, area.look(pass, &caller.user, question)),
+        Ask::Count => count_words(alloc, area.unread_count(pass, &caller.user)),
     }
 }
 

@@ -1,9 +1,15 @@
 //! Replies and answers in words.
 
-use jb_model::{Answer, Letter, Reply};
+use jb_model::{Answer, Barred, Letter, LookError, Reply, Summary};
+use jb_shared::SharedError;
 use std::alloc::Global;
-use std::fmt::Write;
+use std::fmt::{Debug, Write};
 use trial_rows::{RowError, shown};
+
+// This as `Debug` has it.
+fn debugged<T: Debug>(alloc: Global, this: &T) -> Result<String, RowError> {
+    Ok(format!(in alloc; "{this:?}")?)
+}
 
 // A text; of many bytes that are all the same how many they are, and one of them.
 fn text_words(alloc: Global, text: &[u8]) -> Result<String, RowError> {
@@ -37,23 +43,43 @@ fn letter_words(alloc: Global, letter: &Letter) -> Result<String, RowError> {
     Ok(text)
 }
 
-/// A reply in one line.
-pub(crate) fn reply_words(alloc: Global, reply: &Reply) -> Result<String, RowError> {
-    match reply {
-        Reply::Text { letter } => letter_words(alloc, letter),
-        _ => Ok(format!(in alloc; "{reply:?}")?),
-    }
-}
-
-/// An answer in one line: the figures, or the numbers of the messages.
-pub(crate) fn answer_words(alloc: Global, answer: &Answer) -> Result<String, RowError> {
-    let summaries = match answer {
-        Answer::Figures(figures) => return Ok(format!(in alloc; "{figures:?}")?),
-        Answer::Summaries(summaries) => summaries,
-    };
+// The numbers of these messages.
+fn numbers_words(alloc: Global, summaries: &[Summary]) -> Result<String, RowError> {
     let mut text = String::from_str(alloc, "numbers")?;
-    for summary in summaries.as_slice() {
+    for summary in summaries {
         write!(text, " {}", summary.number)?;
     }
     Ok(text)
+}
+
+/// What a call is answered, or why there is no reply, in one line.
+pub(crate) fn reply_words(
+    alloc: Global,
+    reply: Result<Reply, SharedError>,
+) -> Result<String, RowError> {
+    match &reply {
+        Ok(Reply::Text { letter }) => letter_words(alloc, letter),
+        Ok(reply) => debugged(alloc, reply),
+        Err(error) => debugged(alloc, error),
+    }
+}
+
+/// What a look is answered, or why there is no answer, in one line: the figures, or the numbers of the messages.
+pub(crate) fn answer_words(
+    alloc: Global,
+    answer: Result<Answer, LookError>,
+) -> Result<String, RowError> {
+    match &answer {
+        Ok(Answer::Figures(figures)) => debugged(alloc, figures),
+        Ok(Answer::Summaries(summaries)) => numbers_words(alloc, summaries.as_slice()),
+        Err(error) => debugged(alloc, error),
+    }
+}
+
+/// What a count comes to, or why there is none, in one line.
+pub(crate) fn count_words(alloc: Global, count: Result<u32, Barred>) -> Result<String, RowError> {
+    match count {
+        Ok(count) => Ok(format!(in alloc; "{count} unread")?),
+        Err(error) => debugged(alloc, &error),
+    }
 }

@@ -9,7 +9,7 @@ use trial_rows::RowError;
 /// device stopped; `last` and `mark` are the numbers of its last post and of its mark, as its answers say; `base` and `next` are
 /// those that it was shown last. `looks` counts its looks, `fell` those that showed a number below the one before, and `missed` those
 /// that did not show what the node's own calls had done.
-#[derive(Clone, Copy, Default)]
+#[derive(Default, Drop)]
 struct Witness {
     posted: u32,
     killed: u32,

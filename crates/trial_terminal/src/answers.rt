@@ -8,15 +8,23 @@ use trial_rows::{Row, RowError, shown};
 
 /// `reply KIND ..`: the line of a reply of this kind, with its words and numbers.
 pub fn reply(alloc: Global, row: &Row) -> Result<String, RowError> {
-    let reply = match row.word(1)? {
-        "text" => text(alloc)?,
-        "denied" => Reply::Denied { rule: rule(row)? },
-        "empty-name" => Reply::EmptyName { field: field(row)? },
-        "too-long" => too_long(row)?,
-        _ => with_numbers(row)?,
-    };
-    let line = jb_text::reply(alloc, &reply)?;
+    let reply = reply_of(alloc, row)?;
+    reply_line(alloc, &reply)
+}
+
+fn reply_line(alloc: Global, reply: &Reply) -> Result<String, RowError> {
+    let line = jb_text::reply(alloc, reply)?;
     shown(alloc, line.as_slice())
+}
+
+fn reply_of(alloc: Global, row: &Row) -> Result<Reply, RowError> {
+    match row.word(1)? {
+        "text" => text(alloc),
+        "denied" => Ok(Reply::Denied { rule: rule(row)? }),
+        "empty-name" => Ok(Reply::EmptyName { field: field(row)? }),
+        "too-long" => too_long(row),
+        _ => with_numbers(row),
+    }
 }
 
 fn text(alloc: Global) -> Result<Reply, RowError> {

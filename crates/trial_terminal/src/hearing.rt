@@ -1,12 +1,13 @@
 //! What a caller sends, through the decoder, the options and the line editor.
 
 use crate::options::state;
+use crate::words::{put_shown, put_word};
 use jb_base::{Bytes, OutOfMemory};
 use jb_line::{Echo, Key, LineEditor, Typed};
 use jb_option::Options;
 use jb_telnet::{Decoder, Event};
 use std::alloc::Global;
-use trial_rows::{Row, RowError, hexed, shown};
+use trial_rows::{Row, RowError, hexed};
 
 /// One caller's side of a session, and what came of it so far.
 #[derive(Drop)]
@@ -39,6 +40,15 @@ impl Caller {
             if let Some(event) = self.decoder.push(*byte) {
                 self.take(event)?;
             }
+        }
+        Ok(())
+    }
+
+    /// Hears all words of the row from the second on.
+    fn hear_all(&mut self, alloc: Global, row: &Row) -> Result<(), RowError> {
+        for place in 1..row.len() {
+            let bytes = row.bytes(alloc, place)?;
+            self.hear(bytes.as_slice())?;
         }
         Ok(())
     }
@@ -97,18 +107,14 @@ fn append_rubs(sent: &mut Bytes, count: u8) -> Result<(), OutOfMemory> {
 /// `hear BYTES ..`: the answers about options, the lines, what was echoed of keys, and whether the board echoes now.
 pub fn hear(alloc: Global, row: &Row) -> Result<String, RowError> {
     let mut caller = Caller::new(alloc);
-    for place in 1..row.len() {
-        caller.hear(row.bytes(alloc, place)?.as_slice())?;
-    }
+    caller.hear_all(alloc, row)?;
     seen(alloc, &caller)
 }
 
 fn seen(alloc: Global, caller: &Caller) -> Result<String, RowError> {
-    let answers = hexed(alloc, caller.answers.as_slice())?;
-    let lines = shown(alloc, caller.lines.as_slice())?;
-    let echoed = shown(alloc, caller.echoed.as_slice())?;
-    Ok(format!(in alloc;
-        "{answers} {lines} {echoed} {}",
-        state(caller.options.echo())
-    )?)
+    let mut text = hexed(alloc, caller.answers.as_slice())?;
+    put_shown(alloc, &mut text, caller.lines.as_slice())?;
+    put_shown(alloc, &mut text, caller.echoed.as_slice())?;
+    put_word(&mut text, state(caller.options.echo()))?;
+    Ok(text)
 }

@@ -16,8 +16,13 @@ pub fn date(alloc: Global, row: &Row) -> Result<String, RowError> {
 
 /// `letter TEXT`: a message from Test to Hello about `abc` with this text, written at 1,000,000,000 seconds, as it is shown.
 pub fn letter(alloc: Global, row: &Row) -> Result<String, RowError> {
-    let message = message(alloc, 1_000_000_000, row.bytes(alloc, 1)?)?;
-    let text = jb_text::letter(alloc, &message, 0)?;
+    let text = row.bytes(alloc, 1)?;
+    let message = message(alloc, 1_000_000_000, text)?;
+    letter_shown(alloc, &message)
+}
+
+fn letter_shown(alloc: Global, message: &Letter) -> Result<String, RowError> {
+    let text = jb_text::letter(alloc, message, 0)?;
     shown(alloc, text.as_slice())
 }
 

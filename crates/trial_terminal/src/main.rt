@@ -10,6 +10,7 @@ mod letters;
 mod options;
 mod says;
 mod telnet;
+mod words;
 
 use std::alloc::Global;
 use std::io;

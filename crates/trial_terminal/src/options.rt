@@ -1,6 +1,7 @@
 //! The options of a session, from the greeting on.
 
 use crate::telnet::event;
+use crate::words::{put_hexed, put_word};
 use jb_option::Options;
 use std::alloc::Global;
 use trial_rows::{Row, RowError, hexed};
@@ -16,7 +17,7 @@ pub fn answers(alloc: Global, row: &Row) -> Result<String, RowError> {
     let mut text = String::new(alloc);
     for place in 1..row.len() {
         let answer = options.step(event(row, place)?);
-        append(&mut text, hexed(alloc, answer.as_slice())?.as_str())?;
+        put_hexed(alloc, &mut text, answer.as_slice())?;
     }
     Ok(text)
 }
@@ -27,7 +28,7 @@ pub fn echoing(alloc: Global, row: &Row) -> Result<String, RowError> {
     let mut text = String::new(alloc);
     for place in 1..row.len() {
         let _ = options.step(event(row, place)?);
-        append(&mut text, state(options.echo()))?;
+        put_word(&mut text, state(options.echo()))?;
     }
     Ok(text)
 }
@@ -35,13 +36,4 @@ pub fn echoing(alloc: Global, row: &Row) -> Result<String, RowError> {
 /// Whether the board echoes, as a word.
 pub fn state(echo: bool) -> &'static str {
     if echo { "on" } else { "off" }
-}
-
-/// Puts a word behind the others.
-fn append(text: &mut String, word: &str) -> Result<(), RowError> {
-    if !text.is_empty() {
-        text.push(' ')?;
-    }
-    text.push_str(word)?;
-    Ok(())
 }

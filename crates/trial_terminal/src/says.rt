@@ -1,5 +1,6 @@
 //! The lines of a session.
 
+use jb_base::{Bytes, OutOfMemory};
 use jb_text::{Fixed, area_line, figures, fixed, listing, prompt, replying, start, welcome};
 use std::alloc::Global;
 use trial_rows::{Row, RowError, shown};
@@ -34,13 +35,18 @@ fn named_text(row: &Row) -> Result<Fixed, RowError> {
 
 /// `start BOARD`, `welcome NAME`, `prompt AREA`: a text with a name in it.
 pub fn named(alloc: Global, row: &Row) -> Result<String, RowError> {
+    let word = row.word(0)?;
     let name = row.bytes(alloc, 1)?;
-    let text = match row.word(0)? {
-        "start" => start(alloc, name.as_slice())?,
-        "welcome" => welcome(alloc, name.as_slice())?,
-        _ => prompt(alloc, name.as_slice())?,
-    };
+    let text = text_with(alloc, word, name.as_slice())?;
     shown(alloc, text.as_slice())
+}
+
+fn text_with(alloc: Global, word: &str, name: &[u8]) -> Result<Bytes, OutOfMemory> {
+    match word {
+        "start" => start(alloc, name),
+        "welcome" => welcome(alloc, name),
+        _ => prompt(alloc, name),
+    }
 }
 
 /// `figures VISIBLE UNREAD`: the figures of an area.
@@ -59,11 +65,10 @@ pub fn answered(alloc: Global, row: &Row) -> Result<String, RowError> {
 
 /// `area ORDINAL NAME UNREAD`: a line of the list of areas.
 pub fn area(alloc: Global, row: &Row) -> Result<String, RowError> {
-    let Ok(ordinal) = u8::try_from(row.number(1)?) else {
-        return Err(RowError::Number(1));
-    };
+    let ordinal = row.u8(1)?;
+    let unread = row.u32(3)?;
     let name = row.bytes(alloc, 2)?;
-    let text = area_line(alloc, ordinal, name.as_slice(), row.u32(3)?)?;
+    let text = area_line(alloc, ordinal, name.as_slice(), unread)?;
     shown(alloc, text.as_slice())
 }
 

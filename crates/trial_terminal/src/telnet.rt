@@ -1,5 +1,6 @@
 //! The events of a stream, and bytes as they are sent.
 
+use crate::words::put_word;
 use jb_telnet::{Decoder, Event, Verb, encode};
 use std::alloc::Global;
 use trial_rows::{Row, RowError, hexed};
@@ -7,41 +8,47 @@ use trial_rows::{Row, RowError, hexed};
 /// `events BYTES`: the events of the bytes, or `-` for none.
 pub fn events(alloc: Global, row: &Row) -> Result<String, RowError> {
     let bytes = row.bytes(alloc, 1)?;
-    let mut decoder = Decoder::new();
     let mut text = String::new(alloc);
-    for byte in bytes.as_slice() {
-        if let Some(event) = decoder.push(*byte) {
-            append_event(alloc, &mut text, event)?;
-        }
-    }
+    put_events(&mut text, bytes.as_slice())?;
     if text.is_empty() {
         text.push('-')?;
     }
     Ok(text)
 }
 
-fn append_event(alloc: Global, text: &mut String, event: Event) -> Result<(), RowError> {
-    if !text.is_empty() {
-        text.push(' ')?;
-    }
-    match event {
-        Event::Byte(byte) => append(alloc, text, "byte", byte)?,
-        Event::Do(option) => append(alloc, text, "do", option)?,
-        Event::Dont(option) => append(alloc, text, "dont", option)?,
-        Event::Will(option) => append(alloc, text, "will", option)?,
-        Event::Wont(option) => append(alloc, text, "wont", option)?,
-        Event::Other(code) => append(alloc, text, "other", code)?,
-        Event::AreYouThere => text.push_str("are-you-there")?,
-        Event::EraseChar => text.push_str("erase-char")?,
-        Event::EraseLine => text.push_str("erase-line")?,
-        Event::Sub => text.push_str("sub")?,
+fn put_events(text: &mut String, bytes: &[u8]) -> Result<(), RowError> {
+    let mut decoder = Decoder::new();
+    for byte in bytes {
+        if let Some(event) = decoder.push(*byte) {
+            put_event(text, event)?;
+        }
     }
     Ok(())
 }
 
-fn append(alloc: Global, text: &mut String, word: &str, number: u8) -> Result<(), RowError> {
-    text.push_str(format!(in alloc; "{word}:{number}")?.as_str())?;
+fn put_event(text: &mut String, event: Event) -> Result<(), RowError> {
+    let (word, number) = told(event);
+    put_word(text, word)?;
+    if let Some(number) = number {
+        write!(text, ":{number}")?;
+    }
     Ok(())
+}
+
+/// The word of an event, and the byte that it is about.
+fn told(event: Event) -> (&'static str, Option<u8>) {
+    match event {
+        Event::Byte(byte) => ("byte", Some(byte)),
+        Event::Do(option) => ("do", Some(option)),
+        Event::Dont(option) => ("dont", Some(option)),
+        Event::Will(option) => ("will", Some(option)),
+        Event::Wont(option) => ("wont", Some(option)),
+        Event::Other(code) => ("other", Some(code)),
+        Event::AreYouThere => ("are-you-there", None),
+        Event::EraseChar => ("erase-char", None),
+        Event::EraseLine => ("erase-line", None),
+        Event::Sub => ("sub", None),
+    }
 }
 
 /// The event that the word at this place names.

@@ -6,11 +6,11 @@ use crate::serving::Entrance;
 use jb_base::Bytes;
 use jb_disk::MemDisk;
 use std::alloc::Global;
-use trial_rows::{Row, RowError, shown};
+use trial_rows::{Row, RowError, said, shown};
 
 /// Named bytes, the files of one base, and of an earlier moment, and how many calls the last tool made of its disk; and what a host
 /// with doors is given.
-#[derive(Debug, Drop)]
+#[derive(Drop)]
 pub struct Base {
     pub parts: Parts,
     pub files: BaseFiles,
@@ -108,9 +108,9 @@ pub fn holds(alloc: Global, row: &Row, base: &Base) -> Result<String, RowError> 
     let wanted = base.joined(alloc, row, 2)?;
     let bytes = base.files.bytes(file);
     if bytes == wanted.as_slice() {
-        return Ok(String::from_str(alloc, "the same")?);
+        return said(alloc, "the same");
     }
-    Ok(shown(alloc, bytes)?)
+    shown(alloc, bytes)
 }
 
 /// `bytes FILE PLACE COUNT`: the bytes of a file from a place on, at most so many.
@@ -118,18 +118,13 @@ pub fn bytes(alloc: Global, row: &Row, base: &Base) -> Result<String, RowError> 
     let bytes = base.files.bytes(file_named(row, 1)?);
     let at = (row.u32(2)? as usize).min(bytes.len());
     let end = at.saturating_add(row.u32(3)? as usize).min(bytes.len());
-    Ok(shown(alloc, &bytes[at..end])?)
+    shown(alloc, &bytes[at..end])
 }
 
 /// `calls`: how many calls the last tool made of its disk.
 pub fn calls(alloc: Global, base: &Base) -> Result<String, RowError> {
     let calls = base.calls;
     Ok(format!(in alloc; "{calls}")?)
-}
-
-/// `lengths FILE..`: how long these files are.
-pub fn lengths(alloc: Global, row: &Row, base: &Base) -> Result<String, RowError> {
-    base.files.lengths_of(alloc, row, 1)
 }
 
 /// `keep`: keeps a copy of the files.
@@ -142,6 +137,6 @@ pub fn keep(alloc: Global, base: &mut Base) -> Result<String, RowError> {
 pub fn kept(alloc: Global, base: &Base) -> Result<String, RowError> {
     match base.files.other_than(&base.kept) {
         Some(file) => Ok(format!(in alloc; "{file:?} is another")?),
-        None => Ok(String::from_str(alloc, "as they were")?),
+        None => said(alloc, "as they were"),
     }
 }

@@ -31,7 +31,7 @@ pub fn file_named(row: &Row, place: usize) -> Result<FileId, RowError> {
 }
 
 /// What the files hold. One that was not given is empty.
-#[derive(Debug, Drop)]
+#[derive(Drop)]
 pub struct BaseFiles {
     six: Vec<Bytes>,
 }
@@ -50,11 +50,16 @@ impl BaseFiles {
         Ok(())
     }
 
+    // Gives the next file these bytes.
+    fn push_copy(&mut self, alloc: Global, bytes: &[u8]) -> Result<(), RowError> {
+        self.push(Bytes::copy(alloc, bytes)?)
+    }
+
     /// A copy of these files.
     pub fn copied(&self, alloc: Global) -> Result<BaseFiles, RowError> {
         let mut files = BaseFiles::new(alloc);
         for file in ALL {
-            files.push(Bytes::copy(alloc, self.bytes(file))?)?;
+            files.push_copy(alloc, self.bytes(file))?;
         }
         Ok(files)
     }
@@ -63,7 +68,7 @@ impl BaseFiles {
     pub fn of_disk(alloc: Global, disk: &MemDisk) -> Result<BaseFiles, RowError> {
         let mut files = BaseFiles::new(alloc);
         for file in ALL {
-            files.push(Bytes::copy(alloc, disk.file(file))?)?;
+            files.push_copy(alloc, disk.file(file))?;
         }
         Ok(files)
     }
@@ -72,7 +77,7 @@ impl BaseFiles {
     pub fn of_steady_disk(alloc: Global, disk: &SteadyDisk) -> Result<BaseFiles, RowError> {
         let mut files = BaseFiles::new(alloc);
         for file in ALL {
-            files.push(Bytes::copy(alloc, disk.file(file))?)?;
+            files.push_copy(alloc, disk.file(file))?;
         }
         Ok(files)
     }

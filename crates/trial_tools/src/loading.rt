@@ -20,6 +20,12 @@ pub fn load(alloc: Global, row: &Row) -> Result<String, RowError> {
     shown(alloc, text.as_slice())
 }
 
+/// The base has the files of this disk then.
+fn take(alloc: Global, disk: SteadyDisk, base: &mut Base) -> Result<(), RowError> {
+    base.files = BaseFiles::of_steady_disk(alloc, &disk)?;
+    Ok(())
+}
+
 /// `load-on-disk SEED COUNT`: the same on a disk that is handed in, whose files the base then has.
 pub fn load_on_disk(alloc: Global, row: &Row, base: &mut Base) -> Result<String, RowError> {
     let seed = row.u32(1)?;
@@ -29,7 +35,7 @@ pub fn load_on_disk(alloc: Global, row: &Row, base: &mut Base) -> Result<String,
     }
     let disk = SteadyDisk::new(alloc, 0)?;
     let (disk, answer) = jb_load::load(alloc, disk, seed, count);
-    base.files = BaseFiles::of_steady_disk(alloc, &disk)?;
+    take(alloc, disk, base)?;
     match answer {
         Ok(text) => shown(alloc, text.as_slice()),
         Err(error) => Ok(format!(in alloc; "{error:?}")?),

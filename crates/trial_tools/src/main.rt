@@ -33,7 +33,7 @@ fn answer<R: Threads + Wait + Sync>(
         "patch" => base::patch(alloc, row, base),
         "holds" => base::holds(alloc, row, base),
         "bytes" => base::bytes(alloc, row, base),
-        "lengths" => base::lengths(alloc, row, base),
+        "lengths" => base.files.lengths_of(alloc, row, 1),
         "keep" => base::keep(alloc, base),
         "kept" => base::kept(alloc, base),
         "calls" => base::calls(alloc, base),
@@ -82,10 +82,14 @@ fn print<R: Threads + Wait + Sync>(
 }
 
 // The rows of trial_rows, in a loop of its own: what answers them here may wait.
-fn main(rt: HostRuntime) -> io::Result<()> {
-    let mut base = Base::new(rt.alloc());
-    for line in rt.lines(rt.alloc()) {
-        print(&rt, rt, line?.as_str(), &mut base)?;
+fn run<R: Threads + Wait + Sync>(rt: &R, files: HostRuntime, base: &mut Base) -> io::Result<()> {
+    for line in files.lines(files.alloc()) {
+        print(rt, files, line?.as_str(), base)?;
     }
     Ok(())
+}
+
+fn main(rt: HostRuntime) -> io::Result<()> {
+    let mut base = Base::new(rt.alloc());
+    run(&rt, rt, &mut base)
 }

@@ -5,14 +5,14 @@ use std::alloc::Global;
 use trial_rows::{Row, RowError};
 
 /// Bytes with a name.
-#[derive(Debug, Drop)]
+#[derive(Drop)]
 struct Part {
     name: String,
     bytes: Bytes,
 }
 
 /// The bytes that have names, the earliest first.
-#[derive(Debug, Drop)]
+#[derive(Drop)]
 pub struct Parts {
     parts: Vec<Part>,
 }

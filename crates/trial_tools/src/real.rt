@@ -32,7 +32,8 @@ pub fn answer(
         "read" => read(rt, alloc, row, base),
         "tool" => tool(rt, alloc, row),
         "commit" => commit_in(rt, alloc, row),
-        "recover" => recover_in(rt, alloc, row),
+        // `real recover CALLS`: recovers the base by a disk of so many calls
+        "recover" => said(alloc, recovered(rt, alloc, row)?),
         "give-up" => give_up(rt, alloc, row),
         _ => Err(RowError::Unknown(1)),
     }
@@ -134,27 +135,30 @@ fn change(alloc: Global) -> Result<Redo, OutOfMemory>
     Ok(redo)
 }
 
+/// Whether the journal is prepared and this change committed by a disk of so many calls, which is then abandoned.
+fn committed(rt: HostRuntime, alloc: Global, calls: u64, redo: &Redo) -> Result<bool, OutOfMemory>
+    requires { IsWritable redo.now }
+{
+    let mut disk = disk(rt, alloc, calls)?;
+    Ok(prepare(&mut disk).is_ok() && commit(&mut disk, redo).is_ok())
+}
+
 /// `real commit CALLS`: prepares the journal and commits the change by a disk of so many calls, and abandons it.
 fn commit_in(rt: HostRuntime, alloc: Global, row: &Row) -> Result<String, RowError> {
     let calls = row.number(2)?;
     let redo = change(alloc)?;
-    let mut disk = disk(rt, alloc, calls)?;
-    let done = prepare(&mut disk).is_ok() && commit(&mut disk, &redo).is_ok();
-    said(alloc, done)
+    said(alloc, committed(rt, alloc, calls, &redo)?)
 }
 
-/// `real recover CALLS`: recovers the base by a disk of so many calls, and abandons it.
-fn recover_in(rt: HostRuntime, alloc: Global, row: &Row) -> Result<String, RowError> {
+/// Whether the base is recovered by a disk of so many calls as the row says, which is then abandoned.
+fn recovered(rt: HostRuntime, alloc: Global, row: &Row) -> Result<bool, RowError> {
     let calls = row.number(2)?;
     let mut disk = disk(rt, alloc, calls)?;
-    let done = recover(&mut disk).is_ok();
-    said(alloc, done)
+    Ok(recover(&mut disk).is_ok())
 }
 
 /// `real give-up CALLS`: a recovery that is abandoned after so many calls, or done before.
 fn give_up(rt: HostRuntime, alloc: Global, row: &Row) -> Result<String, RowError> {
-    let calls = row.number(2)?;
-    let mut disk = disk(rt, alloc, calls)?;
-    let _ = recover(&mut disk);
+    let _done = recovered(rt, alloc, row)?;
     Ok(String::from_str(alloc, "given up")?)
 }

@@ -5,24 +5,25 @@ ghost use Rattle.jb_host.specs.Shelves.{memory_desk};
 use crate::base::{Base, failing};
 use jb_base::Bytes;
 use jb_board::board;
-use jb_disk::MemDisk;
 use jb_host::{MemHost, MemLink};
 use std::alloc::Global;
 use std::sync::Wait;
 use std::thread::Threads;
-use trial_rows::{Row, RowError, shown};
+use trial_rows::{Row, RowError, said, shown};
 
-/// A host with the base `general` in the folder `a`, at this moment, on whose console this comes and which fails the calls with these
-/// numbers there.
-pub fn host(
+/// A host at the moment of the row, with the base as `general` in the folder `a`, which fails the call that the third word numbers. On
+/// its console this comes, and the calls with these numbers fail there.
+pub fn host_of(
     alloc: Global,
-    general: MemDisk,
-    moment: u32,
+    row: &Row,
+    base: &Base,
     input: Bytes,
     failing: Vec<u64>,
 ) -> Result<MemHost, RowError>
     ensures { IfOk result (λ host. IsSome (memory_desk host).console) }
 {
+    let moment = row.u32(1)?;
+    let general = base.disk(alloc, row, 2)?;
     let console = MemLink::new(alloc, input, failing);
     let mut host = MemHost::new(alloc, console, moment, Vec::new(alloc));
     host.add_disk("a", "general", general)?;
@@ -44,7 +45,7 @@ pub fn words(alloc: Global, row: &Row, from: usize) -> Result<Vec<String>, RowEr
 fn printed(alloc: Global, host: &MemHost) -> Result<String, RowError> {
     match host.console_link() {
         Some(console) => shown(alloc, console.sent()),
-        None => Ok(String::from_str(alloc, "the console is out")?),
+        None => said(alloc, "the console is out"),
     }
 }
 
@@ -56,7 +57,7 @@ pub fn ended(
     base: &mut Base,
 ) -> Result<String, RowError> {
     let Some(disk) = host.disk_at("a", "general") else {
-        return Ok(String::from_str(alloc, "the disk is out")?);
+        return said(alloc, "the disk is out");
     };
     base.take(alloc, disk)?;
     let printed = printed(alloc, host)?;
@@ -93,16 +94,6 @@ pub fn ran<R: Threads + Wait + Sync>(
     ended(alloc, status, host, base)
 }
 
-/// The host of a run of tools.
-fn host_of_tools(alloc: Global, row: &Row, base: &Base) -> Result<MemHost, RowError>
-    ensures { IfOk result (λ host. IsSome (memory_desk host).console) }
-{
-    let moment = row.u32(1)?;
-    let failing = failing(alloc, row, 3)?;
-    let disk = base.disk(alloc, row, 2)?;
-    host(alloc, disk, moment, Bytes::new(alloc), failing)
-}
-
 /// `board MOMENT DISK CONSOLE WORD..`: a run of the words over the base, in which these calls of its disk and of the console fail.
 pub fn run<R: Threads + Wait + Sync>(
     rt: &R,
@@ -111,7 +102,8 @@ pub fn run<R: Threads + Wait + Sync>(
     base: &mut Base,
 ) -> Result<String, RowError> {
     let words = words(alloc, row, 4)?;
-    let mut host = host_of_tools(alloc, row, base)?;
+    let failing = failing(alloc, row, 3)?;
+    let mut host = host_of(alloc, row, base, Bytes::new(alloc), failing)?;
     ran(rt, alloc, words.as_slice(), &mut host, base)
 }
 
@@ -119,11 +111,9 @@ pub fn run<R: Threads + Wait + Sync>(
 fn host_of_session(alloc: Global, row: &Row, base: &Base) -> Result<MemHost, RowError>
     ensures { IfOk result (λ host. IsSome (memory_desk host).console) }
 {
-    let moment = row.u32(1)?;
     let failing = failing(alloc, row, 3)?;
     let input = base.joined(alloc, row, 5)?;
-    let disk = base.disk(alloc, row, 2)?;
-    host(alloc, disk, moment, input, failing)
+    host_of(alloc, row, base, input, failing)
 }
 
 /// `session MOMENT DISK CONSOLE SETTINGS INPUT`: one session over the base by these settings, with this on the console, in which these

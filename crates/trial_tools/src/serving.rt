@@ -3,17 +3,17 @@ ghost use Rattle.std.specs.Prelude.{IfOk, IsSome};
 ghost use Rattle.jb_host.specs.Shelves.{memory_desk};
 
 use crate::base::{Base, failing};
-use crate::running::{host, ran, settle, words};
+use crate::running::{host_of, ran, settle, words};
 use jb_base::{Bytes, OutOfMemory};
 use jb_host::{MemBell, MemDoor, MemHost, MemLink};
 use std::alloc::Global;
 use std::mem;
 use std::sync::Wait;
 use std::thread::Threads;
-use trial_rows::{Row, RowError, shown};
+use trial_rows::{Row, RowError, said, shown};
 
 /// The doors and the bell that the next host is given, and the host of the last run.
-#[derive(Debug, Drop)]
+#[derive(Drop)]
 pub struct Entrance {
     doors: Vec<MemDoor>,
     bell: Option<MemBell>,
@@ -69,17 +69,25 @@ fn furnish(
     Ok(())
 }
 
-/// `door FAILING INPUT..`: one door more for the next host, at which callers with these inputs come in, and which fails that call.
-pub fn door(alloc: Global, row: &Row, base: &mut Base) -> Result<String, RowError> {
+/// The callers whose inputs stand from this place of the row on.
+fn callers(alloc: Global, row: &Row, from: usize, base: &Base) -> Result<Vec<MemLink>, RowError> {
     let mut links = Vec::new(alloc);
-    for place in 2..row.len() {
+    for place in from..row.len() {
         let input = base.joined(alloc, row, place)?;
         links.push(MemLink::new(alloc, input, Vec::new(alloc)))?;
     }
-    let callers = links.len();
-    let door = MemDoor::new(alloc, links, failing(alloc, row, 1)?)?;
-    base.entrance.doors.push(door)?;
-    Ok(format!(in alloc; "{callers} to come")?)
+    Ok(links)
+}
+
+/// `door FAILING INPUT..`: one door more for the next host, at which callers with these inputs come in, and which fails that call.
+pub fn door(alloc: Global, row: &Row, base: &mut Base) -> Result<String, RowError> {
+    let failing = failing(alloc, row, 1)?;
+    let links = callers(alloc, row, 2, base)?;
+    let count = links.len();
+    base.entrance
+        .doors
+        .push(MemDoor::new(alloc, links, failing)?)?;
+    Ok(format!(in alloc; "{count} to come")?)
 }
 
 /// `bell AREA..`: the bell of the next host, which rings for these areas.
@@ -93,15 +101,6 @@ pub fn bell(alloc: Global, row: &Row, base: &mut Base) -> Result<String, RowErro
     Ok(format!(in alloc; "{rings} to come")?)
 }
 
-/// The host of a run with many nodes.
-fn host_of_nodes(alloc: Global, row: &Row, base: &Base) -> Result<MemHost, RowError>
-    ensures { IfOk result (λ host. IsSome (memory_desk host).console) }
-{
-    let moment = row.u32(1)?;
-    let disk = base.disk(alloc, row, 2)?;
-    host(alloc, disk, moment, Bytes::new(alloc), Vec::new(alloc))
-}
-
 /// `nodes MOMENT DISK SETTINGS WORD..`: a run of the words over the base, with these settings in `board.toml`, the doors and the bell,
 /// in which that call of its disk fails.
 pub fn nodes<R: Threads + Wait + Sync>(
@@ -111,7 +110,7 @@ pub fn nodes<R: Threads + Wait + Sync>(
     base: &mut Base,
 ) -> Result<String, RowError> {
     let words = words(alloc, row, 4)?;
-    let mut host = host_of_nodes(alloc, row, base)?;
+    let mut host = host_of(alloc, row, base, Bytes::new(alloc), Vec::new(alloc))?;
     settle(alloc, row, 3, base, &mut host)?;
     base.entrance.furnish(alloc, &mut host)?;
     let text = ran(rt, alloc, words.as_slice(), &mut host, base);
@@ -125,10 +124,10 @@ pub fn sent(alloc: Global, row: &Row, base: &Base) -> Result<String, RowError> {
         return Err(RowError::Unknown(0));
     };
     let Some(door) = host.door_of(row.u32(1)?) else {
-        return Ok(String::from_str(alloc, "no door is back")?);
+        return said(alloc, "no door is back");
     };
     match door.hung().get((row.u32(2)? as usize).wrapping_sub(1)) {
         Some(link) => shown(alloc, link.sent()),
-        None => Ok(String::from_str(alloc, "nobody was served")?),
+        None => said(alloc, "nobody was served"),
     }
 }

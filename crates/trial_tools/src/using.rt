@@ -2,6 +2,7 @@
 
 use crate::base::Base;
 use jb_base::Bytes;
+use jb_disk::MemDisk;
 use jb_tool::{Tool, ToolError, run};
 use std::alloc::Global;
 use trial_rows::{Row, RowError, shown};
@@ -29,12 +30,22 @@ pub fn outcome(alloc: Global, answer: &Result<Bytes, ToolError>) -> Result<Strin
     }
 }
 
+/// What a tool answered. The base takes the files of its disk.
+fn used(
+    alloc: Global,
+    disk: &MemDisk,
+    answer: &Result<Bytes, ToolError>,
+    base: &mut Base,
+) -> Result<String, RowError> {
+    base.take(alloc, disk)?;
+    outcome(alloc, answer)
+}
+
 /// `tool NAME MOMENT FAILING`: uses a tool on the base.
 pub fn tool(alloc: Global, row: &Row, base: &mut Base) -> Result<String, RowError> {
     let tool = tool_named(row, 1)?;
     let moment = row.u32(2)?;
     let disk = base.disk(alloc, row, 3)?;
     let (disk, answer) = run(alloc, disk, tool, moment);
-    base.take(alloc, &disk)?;
-    outcome(alloc, &answer)
+    used(alloc, &disk, &answer, base)
 }

@@ -35,3 +35,27 @@ returns-clause-found g c = λ files contents_is.
     let low = c.loop-k.auto.k-end in
     let index = (c.requires.lengths files contents_is).index in
     record { few = omega (arith, so_far.count_is, c.requires.all, index, low); each = so_far.told files contents_is }
+
+pub returns-in_err-entry-clause-kept : goal.returns-in_err-entry-clause-kept
+returns-in_err-entry-clause-kept g c = reads_on _ _ _ c.loop-k.invariant.so_far.kept c.read_entry.ensures.kept
+
+pub returns-in_err-entry-clause-window : goal.returns-in_err-entry-clause-window
+returns-in_err-entry-clause-window g c = window_kept _ _ _ _ _ c.read_entry.ensures.kept.contents c.loop-k.invariant.window
+
+pub returns-in_err-slot-clause-kept : goal.returns-in_err-slot-clause-kept
+returns-in_err-slot-clause-kept g c = reads_on _ _ _ (reads_on _ _ _ c.loop-k.invariant.so_far.kept c.read_entry.ensures.kept) c.see_slot.ensures.kept
+
+pub returns-in_err-slot-clause-window : goal.returns-in_err-slot-clause-window
+returns-in_err-slot-clause-window g c = c.see_slot.ensures.window
+
+pub returns-in-Err-clause-kept : goal.returns-in-Err-clause-kept
+returns-in-Err-clause-kept g c = reads_on _ _ _ (reads_on _ _ _ c.loop-k.invariant.so_far.kept c.read_entry.ensures.kept) c.see_slot.ensures.kept
+
+pub returns-in-Err-clause-window : goal.returns-in-Err-clause-window
+returns-in-Err-clause-window g c = c.see_slot.ensures.window
+
+pub returns-in_err-push-in-Ok-clause-kept : goal.returns-in_err-push-in-Ok-clause-kept
+returns-in_err-push-in-Ok-clause-kept g c = reads_on _ _ _ (reads_on _ _ _ c.loop-k.invariant.so_far.kept c.read_entry.ensures.kept) c.see_slot.ensures.kept
+
+pub returns-in_err-push-in-Ok-clause-window : goal.returns-in_err-push-in-Ok-clause-window
+returns-in_err-push-in-Ok-clause-window g c = c.see_slot.ensures.window

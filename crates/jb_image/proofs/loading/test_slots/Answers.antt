@@ -1,5 +1,6 @@
 use Rattle.std.proofs.Common.{◌∙◌, arith}
-use Rattle.jb_image.proofs.Refusals.{first_damaged, refused_by_slot}
+use Rattle.jb_image.proofs.FileBytes.{reads_on}
+use Rattle.jb_image.proofs.Refusals.{damage_cause, first_damaged, opening_cause, opening_refused, refused_by_slot}
 use Rattle.jb_image.proofs.SlotsSoFar.{AreWholeSoFar-next}
 use Rattle.jb_image.proofs.loading.test_slots.Goals as goal
 
@@ -28,3 +29,18 @@ loop-slot-preserved g c =
 pub returns-clause-passed : goal.returns-clause-passed
 returns-clause-passed g c = λ files contents_is k low.
     c.loop-slot.invariant.so_far.told files contents_is k (omega (arith, low))
+
+pub returns-in_err-_whole-clause-kept : goal.returns-in_err-_whole-clause-kept
+returns-in_err-_whole-clause-kept g c = reads_on _ _ _ c.loop-slot.invariant.so_far.kept c.load_slot.ensures.kept
+
+pub returns-in-Err-clause-kept : goal.returns-in-Err-clause-kept
+returns-in-Err-clause-kept g c = reads_on _ _ _ c.loop-slot.invariant.so_far.kept c.load_slot.ensures.kept
+
+pub returns-in_err-_whole-clause-cause : goal.returns-in_err-_whole-clause-cause
+returns-in_err-_whole-clause-cause g c = opening_cause c.from_residual.result _ _ _ c.in_err-_whole.field-0.0 c.from_residual.ensures.1 c.loop-slot.invariant.so_far.quiet c.in_err-_whole.ensures.cause
+
+pub returns-in_err-_whole-clause-refused : goal.returns-in_err-_whole-clause-refused
+returns-in_err-_whole-clause-refused g c = opening_refused c.from_residual.result _ c.in_err-_whole.field-0.0 c.from_residual.ensures.1
+
+pub returns-in-Err-clause-cause : goal.returns-in-Err-clause-cause
+returns-in-Err-clause-cause g c = damage_cause _ _ _ c.in-Err.damage _ c.of_number.ensures (c.in_ok-_whole.ensures.quiet ∙ c.loop-slot.invariant.so_far.quiet)

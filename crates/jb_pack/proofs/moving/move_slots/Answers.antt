@@ -1,10 +1,11 @@
 use Rattle.std.proofs.Common.{◌≡◌, ◌+◌, ◌<◌, ◌∷◌, ◌∙◌, ℕ, List, ap, arith, drop, get_or, length, subst, sym}
+use Rattle.std.proofs.Math.Seq.{drop-length}
 use Rattle.jb_model.specs.declared.links.Links.{Links}
 use Rattle.jb_model.specs.declared.loaded.LoadedMessage.{LoadedMessage}
 use Rattle.jb_model.specs.declared.loaded.LoadedSlot.{LoadedSlot}
 use Rattle.jb_model.specs.declared.loaded.LoadedSlot.TheVariants.{Empty, Live}
 use Rattle.jb_pack.specs.declared.place.Place.{Place}
-use Rattle.jb_pack.proofs.MoveLemmas.{IsMoved, move_live, move_no_message, rest_is}
+use Rattle.jb_pack.proofs.MoveLemmas.{IsMoved, move_live, move_no_message, move_none, moved_all, rest_is}
 use Rattle.jb_pack.proofs.moving.move_slots.Goals as goal
 
 pub loop-at-preserved-in_default : goal.loop-at-preserved-in_default
@@ -42,3 +43,13 @@ loop-at-preserved c = λ live are.
     (rest_is live links c.args.base all now place k slot low read was ∙ ap (λ (s : LoadedSlot). s ∷ rest) c.in-Live.is) was in
     move_live live links c.args.base all now c.set_place.new.self place c.behind-next.result k c.linked-head.result message rest none
     (c.set_place.ensures Empty) c.linked-head.ensures c.behind-next.ensures here
+
+pub loop-at-init : goal.loop-at-init
+loop-at-init c = λ live are. move_none live c.args.links.now c.args.base c.args.slots.now are
+
+pub returns-clause-moved : goal.returns-clause-moved
+returns-clause-moved c = λ live are.
+    let all : List LoadedSlot = c.args.slots.now in
+    let even : c.loop-at.at ≡ length all = omega (arith, c.loop-at-test.false, c.loop-at.auto.at-end, ap length c.as_slice-at-end.ensures) in
+    moved_all live c.args.links.now c.args.base all c.loop-at.slots c.loop-at.place c.loop-at.at
+    (subst (IsMoved live c.args.links.now c.args.base all c.loop-at.slots c.loop-at.place c.loop-at.at) (ap (λ (n : ℕ). drop n all) even ∙ drop-length all) (c.loop-at.invariant live are))

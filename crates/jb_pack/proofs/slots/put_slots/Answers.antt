@@ -1,4 +1,4 @@
-use Rattle.std.proofs.Common.{◌∷◌, ◌+◌, ◌≤◌, ◌∙◌, List, ℕ, drop, length, [], subst, sym, ap}
+use Rattle.std.proofs.Common.{◌≡◌, ◌∷◌, ◌+◌, ◌-◌, ◌≤◌, ◌∙◌, List, ℕ, drop, length, [], subst, sym, ap, arith, length-drop}
 use Rattle.std.proofs.lemmas.List.{append-nil}
 use Rattle.jb_base.specs.declared.limits.TheConstants.{TEXTS_CEILING}
 use Rattle.jb_disk.specs.declared.file.FileId.TheVariants.{Jhr}
@@ -6,7 +6,7 @@ use Rattle.jb_model.specs.declared.links.Links.{Links}
 use Rattle.jb_model.specs.declared.loaded.LoadedMessage.{LoadedMessage}
 use Rattle.jb_model.specs.declared.loaded.LoadedSlot.{LoadedSlot}
 use Rattle.jb_model.specs.declared.loaded.LoadedSlot.TheVariants.{Live}
-use Rattle.jb_pack.proofs.SlotLemmas.{IsPut, all_put, from_place, links_are, put_live, put_none}
+use Rattle.jb_pack.proofs.SlotLemmas.{IsPut, all_put, from_place, links_are, put_live, put_no_message, put_none, has_place, keeps_then}
 use Rattle.jb_change.specs.Records.{IsHeaderReadAgain, message_bytes}
 use Rattle.jb_pack.specs.Laid.{Lays}
 use Rattle.jb_pack.specs.Packed.{moved, texts_size}
@@ -36,6 +36,46 @@ loop-slot-preserved c =
     (subst (λ (l : Links). Lays Jhr 1 (message_bytes place.number (moved l place.header_at place.text_at message)) c.loop-slot.redo c.put_message.new.redo) links c.in_ok-place.ensures.lays)
     (subst (λ (l : Links). IsHeaderReadAgain place.number (moved l place.header_at place.text_at message)) links c.in_ok-place.ensures.back)
     c.in_ok-place.ensures.next c.put_message.ensures.kept here
+
+pub loop-slot-preserved-in_default : goal.loop-slot-preserved-in_default
+loop-slot-preserved-in_default c =
+    let k : ℕ = c.loop-slot.slot-index in
+    let rest : List LoadedSlot = drop (k + 1) c.args.slots.now in
+    let here : IsPut c.args.loaded.now c.args.links.now c.args.redo.now c.loop-slot.redo c.loop-slot.index c.loop-slot.place k (c.slot-item.result ∷ rest) =
+    subst (IsPut c.args.loaded.now c.args.links.now c.args.redo.now c.loop-slot.redo c.loop-slot.index c.loop-slot.place k)
+    (from_place c.args.slots.now k c.slot-item.result c.loop-slot-test.true c.slot-item.is) c.loop-slot.invariant in
+    put_no_message c.args.loaded.now c.args.links.now c.args.redo.now c.loop-slot.redo c.loop-slot.index c.push_entry.new.index c.loop-slot.place k c.slot-item.result rest
+    c.in_default.not-Live c.in_ok-push_entry.ensures.ok c.in_ok-push_entry.ensures.back here
+
+pub returns-in_err-push_entry-clause-kept : goal.returns-in_err-push_entry-clause-kept
+returns-in_err-push_entry-clause-kept c = c.loop-slot.invariant.room
+
+pub returns-in_err-push_entry-2-clause-kept : goal.returns-in_err-push_entry-2-clause-kept
+returns-in_err-push_entry-2-clause-kept c = c.loop-slot.invariant.room
+
+pub returns-in_err-place-clause-kept : goal.returns-in_err-place-clause-kept
+returns-in_err-place-clause-kept c = keeps_then c.args.redo.now c.loop-slot.redo c.put_message.new.redo c.loop-slot.invariant.room c.put_message.ensures.kept
+
+pub put_message-requires : goal.put_message-requires
+put_message-requires c =
+    let k : ℕ = c.loop-slot.slot-index in
+    let rest : List LoadedSlot = drop (k + 1) c.args.slots.now in
+    let place : Place = c.loop-slot.place in
+    let here : IsPut c.args.loaded.now c.args.links.now c.args.redo.now c.loop-slot.redo c.loop-slot.index place k (Live c.in-Live.message ∷ rest) =
+    subst (IsPut c.args.loaded.now c.args.links.now c.args.redo.now c.loop-slot.redo c.loop-slot.index place k)
+    (from_place c.args.slots.now k c.slot-item.result c.loop-slot-test.true c.slot-item.is ∙ ap (λ (s : LoadedSlot). s ∷ rest) c.in-Live.is) c.loop-slot.invariant in
+    let there = has_place c.args.loaded.now c.args.links.now c.args.redo.now c.loop-slot.redo c.loop-slot.index place k c.in-Live.message rest here in
+    let sound = c.requires.sound in
+    let kept_len = length-drop (c.args.base - c.args.loaded.now.base) c.args.loaded.now.slots in
+    let slots_are : c.args.slots.now ≡ drop (c.args.base - c.args.loaded.now.base) c.args.loaded.now.slots = rw c.requires.base c.requires.slots in
+    record {
+      few = there.few;
+      at = c.loop-slot.invariant.at;
+      headers = there.headers;
+      texts = there.texts;
+      number = omega (arith, there.number, sound.numbers);
+      live = omega (arith, c.loop-slot.invariant.few, c.loop-slot-test.true, ap length slots_are, kept_len, sound.few_slots);
+    }
 
 -- what stands at the end of the loop
 abbrev ended : (c : goal.After-drop-buffer-2)

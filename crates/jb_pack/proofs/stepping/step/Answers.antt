@@ -7,7 +7,7 @@ use Rattle.jb_pack.specs.Reaching.{Starts}
 use Rattle.jb_pack.specs.Shadow.{HasCopies, Shadow}
 use Rattle.jb_pack.proofs.PackerLemmas.{copies_below, copies_some, more_then, start_room, texts_kept}
 use Rattle.jb_pack.proofs.RestLemmas.{start_bytes, start_none}
-use Rattle.jb_pack.proofs.TouchLemmas.{synced-ok, touches-sync, touches-then}
+use Rattle.jb_pack.proofs.TouchLemmas.{fails-as, fails-then, synced-ok, touches-sync, touches-then}
 use Rattle.jb_pack.proofs.stepping.step.Goals as goal
 
 pub copy_texts-requires-clause-told : goal.copy_texts-requires-clause-told
@@ -115,3 +115,26 @@ returns-then-reach-eq0-clause-more g c =
     let within = (start_room c.args.budget c.args.loaded.now.slots old mid c.in_ok-reach.reach starts).0 in
     let none = start_none c.args.budget c.args.loaded.now.slots old mid c.in_ok-reach.reach starts within c.if-reach-eq0.true in
     c.leaves_more.ensures ∙ more_then c.args.budget c.args.loaded.now.slots old mid mid c.in_ok-reach.reach starts none
+
+pub returns-in_err-reach-clause-cause : goal.returns-in_err-reach-clause-cause
+returns-in_err-reach-clause-cause g c = fails-as _ _ _ _ refl c.from_residual.ensures.0 c.in_err-reach.ensures.cause
+
+pub returns-then-reach-eq0-clause-cause : goal.returns-then-reach-eq0-clause-cause
+returns-then-reach-eq0-clause-cause g c =
+    let cause = c.in_ok-reach.ensures.cause in
+    record { kept = cause.kept; later = cause.later; failed = tt; refused = λ none. absurd none; alike = cause.alike }
+
+pub returns-in_err-end-clause-cause : goal.returns-in_err-end-clause-cause
+returns-in_err-end-clause-cause g c =
+    fails-then _ _ _ _ c.in_ok-reach.ensures.cause.kept c.start.ensures.kept (fails-as _ _ _ _ refl c.from_residual-in_err-end.ensures.0 c.in_err-end.ensures.cause)
+
+pub returns-in_err-sync-clause-cause : goal.returns-in_err-sync-clause-cause
+returns-in_err-sync-clause-cause g c =
+    fails-then _ _ _ _ (c.in_ok-end.ensures.cause.kept ∙ c.in_ok-reach.ensures.cause.kept) (touches-then _ _ _ c.start.ensures.kept c.copy_texts.ensures.kept)
+    (fails-as _ _ _ _ refl c.from_residual-in_err-sync.ensures.0 c.in_err-sync.ensures.cause)
+
+pub returns-clause-cause : goal.returns-clause-cause
+returns-clause-cause g c =
+    let cause = c.in_ok-sync.ensures.cause in
+    fails-then _ _ _ _ (c.in_ok-end.ensures.cause.kept ∙ c.in_ok-reach.ensures.cause.kept) (touches-then _ _ _ c.start.ensures.kept c.copy_texts.ensures.kept)
+    (record { kept = cause.kept; later = cause.later; failed = tt; refused = λ none. absurd none; alike = cause.alike })

@@ -1,4 +1,4 @@
-use Rattle.std.proofs.Common.{rules, sym, ◌∙◌, ap}
+use Rattle.std.proofs.Common.{sym, ◌∙◌, ap}
 use Rattle.jb_publish.proofs.Growing.{grows_moves}
 use Rattle.jb_publish.proofs.list.go_on.Goals as goal
 

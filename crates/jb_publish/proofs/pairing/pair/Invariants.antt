@@ -1,4 +1,4 @@
-use Rattle.std.proofs.Common.{◌≡◌, ℕ, ◌-◌, ◌≤◌, [], length, slice_get, Some}
+use Rattle.std.proofs.Common.{◌≡◌, ℕ, ◌-◌, ◌≤◌, length, slice_get, Some}
 use Rattle.std.specs.Prelude.{vec_capacity}
 use Rattle.jb_publish.specs.Accounts.{IsFresh}
 use Rattle.jb_publish.specs.Publications.{publication_of}

@@ -1,7 +1,7 @@
-use Rattle.std.proofs.Common.{◌≡◌, length, rules, sym, ap, subst, true, ◌+◌, ◌≤◌, List, ℕ, ◌∙◌, not}
+use Rattle.std.proofs.Common.{◌≡◌, length, rules, sym, ap, subst, true, ◌+◌, ◌≤◌, List, ℕ, ◌∙◌, not, inl, refl, ◌<◌}
 use Rattle.jb_disk.specs.Files.{overwritten}
 use Rattle.jb_disk.specs.Memory.{listed, files_of}
-use Rattle.jb_disk.proofs.MemoryLemmas.{tears, present-wrote, within-not-past, done-fails-by, failed-fails-by, wrote-contents, wrote-moments}
+use Rattle.jb_disk.proofs.MemoryLemmas.{tears, tears-not, tears-unwritten, present-wrote, present-quiet, present-unwritten, reads-quiet, within-not-past, past-fails-by, done-fails-by, failed-fails-by, wrote-contents, wrote-moments}
 use Rattle.jb_disk.proofs.memory.MemDiskDisk.write_at.Goals as goal
 
 pub returns-clause-changed : goal.returns-clause-changed
@@ -47,3 +47,51 @@ returns-in_err-keep-clause-cause c =
     let within : c.args.at + length c.args.bytes.now ≤ length (files_of c.self.inside.present c.args.file) = search rules in
     failed-fails-by _ _ c.args.self.now c.self.inside.first c.self.inside.failing.items c.self.inside.calls.items c.keep.new.calls.items c.self.inside.faults c.keep.new.faults c.self.view_is c.from_residual.ensures.0 c.in_err-keep.ensures.counted c.keep.ensures.later
     (within-not-past c.args.self.now c.self.inside.first c.self.inside.failing.items c.self.inside.calls.items c.self.inside.faults (files_of c.self.inside.present) c.args.file _ c.self.view_is c.self.invariant within)
+
+pub invariant_of-self : goal.invariant_of-self
+invariant_of-self c = present-quiet (listed c.self.inside.first) c.self.inside.calls.items c.refuse.new.calls.items (files_of c.self.inside.present) c.self.invariant c.refuse.ensures
+
+pub returns-then-passes-clause-changed : goal.returns-then-passes-clause-changed
+returns-then-passes-clause-changed c =
+    tears-not _ c.args.file c.args.at (length c.args.bytes.now) _ _
+    (reads-quiet c.args.self.now c.self.inside.first c.self.inside.failing.items c.self.inside.calls.items c.refuse.new.calls.items c.self.inside.faults c.self.inside.faults c.self.view_is c.refuse.ensures)
+
+pub invariant_of-self-in_err-keep : goal.invariant_of-self-in_err-keep
+invariant_of-self-in_err-keep c =
+    present-unwritten c.self.inside.first c.args.file c.args.at c.in-Ok.copy c.fails-fails.result c.self.inside.calls.items c.keep.new.calls.items c.in_err-keep.ensures.err (files_of c.self.inside.present) c.self.invariant
+
+pub returns-in_err-keep-clause-changed : goal.returns-in_err-keep-clause-changed
+returns-in_err-keep-clause-changed c =
+    let size : length c.in-Ok.copy.items ≡ length c.args.bytes.now = search rules in
+    tears-unwritten c.self.inside.first c.args.file c.args.at c.in-Ok.copy c.fails-fails.result c.self.inside.calls.items c.keep.new.calls.items c.in_err-keep.ensures.err _ c.args.self.now
+    c.self.inside.failing.items (length c.args.bytes.now) c.self.inside.faults c.keep.new.faults c.self.view_is size c.from_residual.ensures.0
+
+pub returns-in_default-clause-changed : goal.returns-in_default-clause-changed
+returns-in_default-clause-changed c =
+    tears-not _ c.args.file c.args.at (length c.args.bytes.now) _ _
+    (reads-quiet c.args.self.now c.self.inside.first c.self.inside.failing.items c.self.inside.calls.items c.self.inside.calls.items c.self.inside.faults c.fault.new.faults c.self.view_is (inl refl))
+
+pub returns-then-passes-clause-past : goal.returns-then-passes-clause-past
+returns-then-passes-clause-past c = λ past.
+    reads-quiet c.args.self.now c.self.inside.first c.self.inside.failing.items c.self.inside.calls.items c.refuse.new.calls.items c.self.inside.faults c.self.inside.faults c.self.view_is c.refuse.ensures
+
+pub returns-then-passes-clause-cause : goal.returns-then-passes-clause-cause
+returns-then-passes-clause-cause c =
+    let beyond : length (files_of c.self.inside.present c.args.file) < c.args.at + length c.args.bytes.now = search rules in
+    past-fails-by _ c.args.self.now c.self.inside.first c.self.inside.failing.items c.self.inside.calls.items c.refuse.new.calls.items c.self.inside.faults (files_of c.self.inside.present) c.args.file _ c.self.view_is
+    c.self.invariant beyond
+
+pub returns-in_default-clause-past : goal.returns-in_default-clause-past
+returns-in_default-clause-past c = λ past.
+    reads-quiet c.args.self.now c.self.inside.first c.self.inside.failing.items c.self.inside.calls.items c.self.inside.calls.items c.self.inside.faults c.fault.new.faults c.self.view_is (inl refl)
+
+pub returns-in_default-clause-cause : goal.returns-in_default-clause-cause
+returns-in_default-clause-cause c =
+    let within : c.args.at + length c.args.bytes.now ≤ length (files_of c.self.inside.present c.args.file) = search rules in
+    failed-fails-by _ _ c.args.self.now c.self.inside.first c.self.inside.failing.items c.self.inside.calls.items c.self.inside.calls.items c.self.inside.faults c.fault.new.faults c.self.view_is refl c.fault.ensures.rose c.fault.ensures.later
+    (within-not-past c.args.self.now c.self.inside.first c.self.inside.failing.items c.self.inside.calls.items c.self.inside.faults (files_of c.self.inside.present) c.args.file _ c.self.view_is c.self.invariant within)
+
+pub returns-in_err-keep-clause-past : goal.returns-in_err-keep-clause-past
+returns-in_err-keep-clause-past c =
+    let within : c.args.at + length c.args.bytes.now ≤ length (files_of c.self.inside.present c.args.file) = search rules in
+    λ past. absurd (within-not-past c.args.self.now c.self.inside.first c.self.inside.failing.items c.self.inside.calls.items c.self.inside.faults (files_of c.self.inside.present) c.args.file _ c.self.view_is c.self.invariant within past)

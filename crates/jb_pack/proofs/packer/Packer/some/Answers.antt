@@ -103,3 +103,15 @@ returns-clause-idle g c =
     let is = reach_read c.args.budget c.self.inside.len c.as_slice-slots.result.now c.args.loaded.now.slots c.as_slice.result.now c.self.inside.copies.items c.args.self.now c.reach_of-first.result
     c.as_slice-slots.ensures c.as_slice.ensures.value c.self.view_is c.reach_of-first.ensures in
     λ none. absurd (some_left c.args.budget c.most_of-most.result c.args.loaded.now.slots c.args.self.now c.reach_of-first.result is c.most_of-most.ensures c.if-most-eq0.false none)
+
+pub returns-in_err-buffer-clause-idle : goal.returns-in_err-buffer-clause-idle
+returns-in_err-buffer-clause-idle g c =
+    let is = reach_read c.args.budget c.self.inside.len c.as_slice-slots.result.now c.args.loaded.now.slots c.as_slice.result.now c.self.inside.copies.items c.args.self.now c.reach_of-first.result
+    c.as_slice-slots.ensures c.as_slice.ensures.value c.self.view_is c.reach_of-first.ensures in
+    λ none. absurd (some_left c.args.budget c.most_of-most.result c.args.loaded.now.slots c.args.self.now c.reach_of-first.result is c.most_of-most.ensures c.if-most-eq0.false none)
+
+pub returns-in_err-resize-clause-idle : goal.returns-in_err-resize-clause-idle
+returns-in_err-resize-clause-idle g c =
+    let is = reach_read c.args.budget c.self.inside.len c.as_slice-slots.result.now c.args.loaded.now.slots c.as_slice.result.now c.self.inside.copies.items c.args.self.now c.reach_of-first.result
+    c.as_slice-slots.ensures c.as_slice.ensures.value c.self.view_is c.reach_of-first.ensures in
+    λ none. absurd (some_left c.args.budget c.most_of-most.result c.args.loaded.now.slots c.args.self.now c.reach_of-first.result is c.most_of-most.ensures c.if-most-eq0.false none)
