@@ -223,12 +223,12 @@ def try_refusals(trial):
             if not well:
                 break
     seen.ends(7)
-    Terminal(trial, "no settings", ("local", "nothing.toml")).ends(5, b"fault 5 HostFault\nboard: nothing.toml: the settings file could not be read, or the port not be opened\n")
-    Terminal(trial, "no path", ("local",)).ends(1, b"fault 1 Words\nboard: these words are no command line; ./board help shows the forms\n")
+    Terminal(trial, "no settings", ("local", "nothing.toml")).ends(5, b"fault 5 HostFault\nboard: nothing.toml: the settings file could not be read\n")
+    Terminal(trial, "no path", ("local",)).ends(1, b"fault 1 Words\nboard: these words are no command line; the word help alone shows the forms\n")
     trial.has_settings("x =")
     Terminal(trial, "settings that are none").ends(2, b"fault 2.1 NotToml\nboard: board.toml: the settings are no TOML document\n")
     trial.has_settings(settings(["general", "other"]))
-    Terminal(trial, "an area that is not there").ends(3, b"fault 3.1 ShortHeader area.2\nboard: board.toml: the base of area 2: there is no base here: its header file, "
+    Terminal(trial, "an area that is not there").ends(3, b"fault 3.1 ShortHeader area.2\nboard: board.toml: the base of area 2, looked for from the folder of this start: there is no base here: its header file, "
                                                            b".JHR or .jhr, is not there, or has fewer than 1,024 bytes\n")
 
 

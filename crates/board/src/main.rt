@@ -1,4 +1,4 @@
-//! The program `board`: the tools of an operator of JAM message bases.
+//! The program `board`: the tools of an operator of JAM message bases, a session at the console, and many at a port.
 //!
 //! `main` makes the real host and hands it to [`jb_board::board`], with the words. That is the whole program over
 //! any host: its contract says, for every list of words, what is asked of the host, what is printed, and with which status the

@@ -1,7 +1,7 @@
 -- A disk that was handed out, used and put back.
 use Rattle.std.proofs.Common.{◌≡◌, ℕ, ◌≤◌, Bool, true, false, ◌&&◌, List, inl, inr, ap, ◌∙◌, refl, arith}
 use Rattle.std.specs.Prelude.{bytes_eq, if◌then◌else◌, Some, Result, Ok, Err}
-use Rattle.std.specs.Option.{ForSome, option_map}
+use Rattle.std.specs.Option.{option_map}
 use Rattle.std.proofs.lemmas.Slice.Eq.{bytes_eq-Decides}
 use Rattle.jb_disk.specs.Device.{Device}
 use Rattle.jb_host.proofs.Callers.{keeps_more}
@@ -11,7 +11,6 @@ use Rattle.jb_tool.specs.Answers.{AnswersTool, KeepsUnderTool}
 use Rattle.jb_tool.specs.declared.error.ToolError.{ToolError}
 use Rattle.jb_tool.specs.declared.tool.Tool.{Tool}
 use Rattle.jb_board.specs.Run.{Answer, AnswersAs, UsesDisk, UsesTool, answer_of}
-use Rattle.jb_board.specs.declared.fault.Fault.TheVariants.{Words as NoWords, HostFault, OutOfMemory}
 
 -- the place that was changed
 here : (dir name : List ℕ) (place : Place) (disks : Disks) → with_place dir name place disks dir name ≡ place
@@ -33,39 +32,24 @@ twice_changed dir name first second disks =
 -- a disk that is put back after it was used
 used_disk : (tool : Tool) (moment : ℕ) (dir name : List ℕ) (before after : Device) (old mid new : Desk) (answer : Answer) → GivesDisk dir name before old mid → TakesBack dir name after mid new
     → AnswersAs tool moment before after answer → KeepsUnderTool tool moment before after → before.faults ≤ after.faults
-    → ForSome old.disks (λ disks. UsesDisk tool moment dir name disks new.disks answer)
-used_disk tool moment dir name before after old mid new answer given back answers crash later = λ disks told.
-    let out : mid.disks ≡ Some (with_place dir name handed_out disks) = given.out ∙ ap (option_map (with_place dir name handed_out)) told in
-    let returned = back.back (with_place dir name handed_out disks) out (here dir name handed_out disks) in
-    record {
-      before = before;
-      then = after;
-      was = given.was disks told;
-      back = returned ∙ ap (option_map (with_place dir name (has_disk after))) out ∙ ap (λ (d : Disks). Some d) (twice_changed dir name handed_out (has_disk after) disks);
-      answers = answers;
-      crash = crash;
-      later = later;
-    }
+    → UsesDisk tool moment dir name old.disks new.disks answer
+used_disk tool moment dir name before after old mid new answer given back answers crash later = record {
+  before = before;
+  then = after;
+  was = given.was;
+  back = λ disks told.
+      let out : mid.disks ≡ Some (with_place dir name handed_out disks) = given.out ∙ ap (option_map (with_place dir name handed_out)) told in
+      let returned = back.back (with_place dir name handed_out disks) out (here dir name handed_out disks) in
+      returned ∙ ap (option_map (with_place dir name (has_disk after))) out ∙ ap (λ (d : Disks). Some d) (twice_changed dir name handed_out (has_disk after) disks);
+  answers = answers;
+  crash = crash;
+  later = later;
+}
 
 -- the answer of a tool, as that of the run
 answers_as : (tool : Tool) (moment : ℕ) (before after : Device) (answer : Result (List ℕ) ToolError) → AnswersTool tool moment before after answer → AnswersAs tool moment before after (answer_of answer)
 answers_as tool moment before after (Ok text) is = is
 answers_as tool moment before after (Err error) is = is
-
--- which is no fault of the host
-no_host_fault : (answer : Result (List ℕ) ToolError) → answer_of answer ≡ Err HostFault → ⊥
-no_host_fault (Ok text) is = cc
-no_host_fault (Err error) is = cc
-
--- nor want of memory of the host
-no_want : (answer : Result (List ℕ) ToolError) → answer_of answer ≡ Err OutOfMemory → ⊥
-no_want (Ok text) is = cc
-no_want (Err error) is = cc
-
--- nor one of words
-no_words : (answer : Result (List ℕ) ToolError) → answer_of answer ≡ Err NoWords → ⊥
-no_words (Ok text) is = cc
-no_words (Err error) is = cc
 
 -- the run of a tool whose disk was handed out, used and put back
 pub used_tool : (tool : Tool) (moment : ℕ) (dir name : List ℕ) (before after : Device) (old mid new : Desk) (answer : Result (List ℕ) ToolError) → GivesDisk dir name before old mid
@@ -75,8 +59,5 @@ used_tool tool moment dir name before after old mid new answer given back answer
   calls = inl (back.calls ∙ given.calls);
   disk = inr (used_disk tool moment dir name before after old mid new (answer_of answer) given back (answers_as tool moment before after answer answers) crash later);
   rest = but_faults old new (keeps_more old mid new given.rest back.rest);
-  cause = λ is. absurd (no_host_fault answer is);
-  memory = λ is. absurd (no_want answer is);
-  known = λ is. no_words answer is;
   later = omega (arith, given.rest.faults, back.rest.faults);
 }

@@ -39,12 +39,12 @@ AnswersAs tool moment before after (Ok (Text text)) = AnswersTool tool moment be
 AnswersAs tool moment before after (Err (Tool error)) = AnswersTool tool moment before after (Err error)
 AnswersAs tool moment before after _ = ⊥
 
--- the disk was handed out, the tool used on it, and the disk put back
-pub record UsesDisk (tool : ToolName) (moment : ℕ) (dir name : List ℕ) (disks : Disks) (after : Option Disks) (answer : Answer) : Type 0 where
+-- the disk was handed out, the tool used on it, and the disk put back; which disk that is, where the host tells its disks
+pub record UsesDisk (tool : ToolName) (moment : ℕ) (dir name : List ℕ) (old new : Option Disks) (answer : Answer) : Type 0 where
   pub before : Device
   pub then : Device
-  pub was : disks dir name ≡ has_disk before
-  pub back : after ≡ Some (with_place dir name (has_disk then) disks)
+  pub was : ForSome old (λ disks. disks dir name ≡ has_disk before)
+  pub back : ForSome old (λ disks. new ≡ Some (with_place dir name (has_disk then) disks))
   pub answers : AnswersAs tool moment before then answer
   pub crash : KeepsUnderTool tool moment before then
   pub later : before.faults ≤ then.faults
@@ -57,11 +57,8 @@ GetsNoDisk old new answer =
 -- the run of a tool: one call of the host, for that disk alone; want of memory hides no fault of the host
 pub record UsesTool (tool : ToolName) (moment : ℕ) (dir name : List ℕ) (old new : Desk) (answer : Answer) : Type 0 where
   pub calls : (new.calls ≡ and_call (asked_disk dir name) old.calls) ⊎ ((answer ≡ Err OutOfMemory) × (new.calls ≡ old.calls))
-  pub disk : GetsNoDisk old new answer ⊎ ForSome old.disks (λ disks. UsesDisk tool moment dir name disks new.disks answer)
+  pub disk : GetsNoDisk old new answer ⊎ UsesDisk tool moment dir name old.disks new.disks answer
   pub rest : KeepsRest old (record new { faults = old.faults })
-  pub cause : answer ≡ Err HostFault → Rose old.faults new.faults
-  pub memory : answer ≡ Err OutOfMemory → new.faults ≡ old.faults
-  pub known : answer ≡ Err NoWords → ⊥
   pub later : old.faults ≤ new.faults
 
 -- this text is answered, or that there was no memory

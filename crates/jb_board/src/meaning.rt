@@ -38,7 +38,9 @@ fn of_base(error: OpenError) -> &'static str {
             "the text of this message does not lie whole in .JDT, or is longer than 1,048,576 bytes"
         }
         OpenError::HeadersOverlap { .. } => "the headers of these two messages share bytes",
-        OpenError::StoreFault => "one of its files could not be read, written or synced",
+        OpenError::StoreFault => {
+            "one of its files could not be read, written or synced: look for its folder, rights, room on the disk, and the limit of open files"
+        }
         OpenError::OutOfMemory => "there was no memory",
     }
 }
@@ -70,7 +72,7 @@ fn of_area(error: OpeningError) -> &'static str {
 /// What a refusal means, of whatever it is.
 fn of_fault(fault: Fault) -> &'static str {
     match fault {
-        Fault::Words => "these words are no command line; ./board help shows the forms",
+        Fault::Words => "these words are no command line; the word help alone shows the forms",
         Fault::Settings(_) => "the settings are refused",
         Fault::Area { error, .. } => of_area(error),
         Fault::Tool(error) => of_tool(error),
@@ -79,13 +81,27 @@ fn of_fault(fault: Fault) -> &'static str {
     }
 }
 
+/// What a refusal of a run with one session means, which opens no port.
+fn of_local(fault: Fault) -> &'static str {
+    match fault {
+        Fault::HostFault => "the settings file could not be read",
+        _ => of_fault(fault),
+    }
+}
+
 /// The line of a refusal of the settings at this path, or of an area that they say.
-fn of_settings(alloc: Global, path: &str, fault: Fault) -> Result<String, OutOfMemory> {
-    let meaning = of_fault(fault);
+fn of_settings(
+    alloc: Global,
+    path: &str,
+    fault: Fault,
+    meaning: &str,
+) -> Result<String, OutOfMemory> {
     let line = match fault {
         Fault::Settings(error) => format!(in alloc; "board: {path}: {error}")?,
         Fault::Area { place, .. } => {
-            format!(in alloc; "board: {path}: the base of area {place}: {meaning}")?
+            format!(in alloc;
+                "board: {path}: the base of area {place}, looked for from the folder of this start: {meaning}"
+            )?
         }
         _ => format!(in alloc; "board: {path}: {meaning}")?,
     };
@@ -100,8 +116,8 @@ fn explanation(alloc: Global, words: &[String], fault: Fault) -> Result<String, 
             let line = format!(in alloc; "board: {dir}/{name}: {meaning}")?;
             Ok(line)
         }
-        Some(CommandLine::Local { path }) => of_settings(alloc, path, fault),
-        Some(CommandLine::Serve { path, .. }) => of_settings(alloc, path, fault),
+        Some(CommandLine::Local { path }) => of_settings(alloc, path, fault, of_local(fault)),
+        Some(CommandLine::Serve { path, .. }) => of_settings(alloc, path, fault, meaning),
         _ => {
             let line = format!(in alloc; "board: {meaning}")?;
             Ok(line)

@@ -4,7 +4,7 @@ use crate::FileId;
 use jb_base::Bytes;
 
 /// A file's new length in bytes.
-#[derive(Clone, Copy, PartialEq, Eq)]
+#[derive(Clone, Copy)]
 pub struct Length {
     pub file: FileId,
     pub len: u32,
@@ -28,7 +28,7 @@ pub enum Piece {
 }
 
 /// A piece without its bytes. Where it is no copy, `from` is `to` and `from_at` is 0.
-#[derive(Clone, Copy, PartialEq, Eq)]
+#[derive(Clone, Copy)]
 pub struct PieceHead {
     pub copy: bool,
     pub from: FileId,

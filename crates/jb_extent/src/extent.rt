@@ -3,7 +3,7 @@ ghost use Rattle.std.specs.Bool.{MatchBool};
 ghost use Rattle.jb_extent.specs.Extents.{AreDisjoint, ShareByte};
 
 /// The `len` bytes of a file from place `start` on, counted in bytes from 0; none where `len` is 0.
-#[derive(Clone, Copy, Debug, PartialEq, Eq)]
+#[derive(Clone, Copy)]
 pub struct Extent {
     pub start: u64,
     pub len: u64,

@@ -9,7 +9,7 @@ use jb_base::OutOfMemory;
 use std::alloc::Global;
 
 /// Two extents of a list that share a byte, by their places in it, counted from 0: `one` stands before `other`.
-#[derive(Clone, Copy, Debug, PartialEq, Eq)]
+#[derive(Clone, Copy)]
 pub struct Overlap {
     pub one: usize,
     pub other: usize,

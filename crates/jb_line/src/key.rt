@@ -16,7 +16,7 @@ pub const STAR: u8 = b'*';
 pub const DELETE: u8 = 127;
 
 /// A key that was pressed.
-#[derive(Clone, Copy, Debug, PartialEq, Eq)]
+#[derive(Clone, Copy, PartialEq, Eq)]
 pub enum Key {
     /// A byte of data.
     Byte(u8),
@@ -27,7 +27,7 @@ pub enum Key {
 }
 
 /// How a key is echoed.
-#[derive(Clone, Copy, Debug, PartialEq, Eq)]
+#[derive(Clone, Copy, PartialEq, Eq)]
 pub enum Echo {
     Nothing,
     /// This byte.

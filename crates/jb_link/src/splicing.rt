@@ -11,7 +11,7 @@ use jb_base::{MSGID, REPLYID};
 use jb_model::{Loaded, LoadedMessage, LoadedSlot};
 
 /// The header that one more reply changes beside its own.
-#[derive(Clone, Copy, Debug, PartialEq, Eq)]
+#[derive(Clone, Copy, PartialEq, Eq)]
 pub enum Spliced {
     /// None: the message is no reply.
     None,

@@ -5,7 +5,7 @@ ghost use Rattle.jb_local.specs.Ending.{status_of};
 use jb_session::SessionEnd;
 
 /// How a session ended, and whether an area was in doubt when all were closed.
-#[derive(Clone, Copy, Debug, PartialEq, Eq)]
+#[derive(Clone, Copy)]
 pub struct LocalEnd {
     pub session: SessionEnd,
     pub is_doubtful: bool,

@@ -1,7 +1,7 @@
 //! The first bytes of a byte string, kept in place.
 
 /// The first `N` bytes of a byte string, with zeros after its end, and its whole length.
-#[derive(Clone, Copy, Debug, PartialEq, Eq)]
+#[derive(Clone, Copy)]
 pub struct Short<const N: usize> {
     pub first: [u8; N],
     pub length: u32,

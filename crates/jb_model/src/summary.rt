@@ -8,7 +8,7 @@ use std::marker::Model;
 
 /// A message in a list: its number, the first bytes of its sender, receiver and subject (empty where it has none), when it
 /// was written in seconds since 1970, the bits of its attribute, and the number of the message that it answers, 0 for none.
-#[derive(Clone, Copy, Debug, PartialEq, Eq)]
+#[derive(Clone, Copy)]
 pub struct Summary {
     pub number: u32,
     pub from: Short<36>,
@@ -21,7 +21,7 @@ pub struct Summary {
 
 /// The numbers of an area for a user: the base number, the next number, how many messages the user sees and how many of
 /// these are unread, and the two numbers of the user's mark, 0 without one.
-#[derive(Clone, Copy, Debug, PartialEq, Eq)]
+#[derive(Clone, Copy, Debug)]
 pub struct Figures {
     pub base: u32,
     pub next: u32,

@@ -3,7 +3,7 @@ ghost use Rattle.std.specs.Prelude.{◌≡◌};
 ghost use Rattle.jb_nodes.specs.Ending.{status_of};
 
 /// Whether an area was in doubt when all were closed, and whether a door had failed.
-#[derive(Clone, Copy, Debug, PartialEq, Eq)]
+#[derive(Clone, Copy)]
 pub struct NodesEnd {
     pub is_doubtful: bool,
     pub door_failed: bool,

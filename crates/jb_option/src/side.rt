@@ -1,7 +1,7 @@
 //! How an option stands on one side.
 
 /// How an option stands on one side.
-#[derive(Clone, Copy, Debug, PartialEq, Eq)]
+#[derive(Clone, Copy, PartialEq, Eq)]
 pub enum Side {
     /// The board has offered it, and the caller has not said yet.
     Offered,

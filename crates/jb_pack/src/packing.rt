@@ -1,7 +1,7 @@
 //! What a pack comes to.
 
 /// What [`plan`](crate::plan) answers.
-#[derive(Clone, Copy, Debug, PartialEq, Eq)]
+#[derive(Clone, Copy, Debug)]
 pub enum Packing {
     /// The area is packed by the change: its new base, how many messages are live, and how many killed ones it drops.
     Fits { base: u32, live: u32, dropped: u32 },

@@ -11,7 +11,7 @@ pub const RESERVED_BYTES: usize = 1_000;
 
 /// The fixed header: datecreated, modcounter, activemsgs, passwordcrc and basemsgnum of the standard, and its reserved
 /// bytes.
-#[derive(Clone, Copy, Debug, PartialEq, Eq)]
+#[derive(Clone, Copy)]
 pub struct FixedHeader {
     pub created: u32,
     pub counter: u32,

@@ -9,7 +9,7 @@ pub const INDEX_RECORD_BYTES: usize = 8;
 pub const EMPTY_SLOT: u32 = 0xFFFF_FFFF;
 
 /// An index record: the `jam_crc` of the receiver's name, and the place of the header in .JHR.
-#[derive(Clone, Copy, Debug, PartialEq, Eq)]
+#[derive(Clone, Copy)]
 pub struct IndexRecord {
     pub user_crc: u32,
     pub offset: u32,

@@ -7,7 +7,7 @@ use jb_base::{get_u32, put_u32};
 pub const MARK_RECORD_BYTES: usize = 16;
 
 /// A lastread record: the `jam_crc` of the user's name, the user's number, and the last and the highest number read.
-#[derive(Clone, Copy, Debug, PartialEq, Eq)]
+#[derive(Clone, Copy)]
 pub struct MarkRecord {
     pub user_crc: u32,
     pub user_id: u32,

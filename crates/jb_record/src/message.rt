@@ -12,7 +12,7 @@ pub const REVISION: u16 = 1;
 /// A message header: SubfieldLen, TimesRead, MSGIDcrc, REPLYcrc, ReplyTo, Reply1st, ReplyNext, DateWritten, DateReceived,
 /// DateProcessed, MessageNumber, Attribute, Attribute2, Offset, TxtLen, PasswordCRC and Cost of the standard, with the two
 /// reserved bytes behind the Revision. Dates are seconds since 1970, lengths and places are in bytes.
-#[derive(Clone, Copy, Debug, PartialEq, Eq)]
+#[derive(Clone, Copy)]
 pub struct MessageHeader {
     pub reserved: u16,
     pub subfields: u32,

@@ -5,7 +5,7 @@ ghost use Rattle.jb_server.specs.Tallies.{and_failed, counted, no_tally};
 use jb_session::SessionEnd;
 
 /// How many callers a node has served, and how their sessions ended. Counts stop at their greatest value.
-#[derive(Clone, Copy, Debug, PartialEq, Eq)]
+#[derive(Clone, Copy, Debug)]
 pub struct Tally {
     /// All sessions.
     pub calls: u32,

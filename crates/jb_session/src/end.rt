@@ -5,7 +5,7 @@ ghost use Rattle.jb_session.specs.Ends.{end_as};
 use jb_talk::TalkEnd;
 
 /// How a session ends.
-#[derive(Clone, Copy, Debug, PartialEq, Eq)]
+#[derive(Clone, Copy, PartialEq, Eq)]
 pub enum SessionEnd {
     /// The user leaves.
     Quit,

@@ -12,7 +12,7 @@ use jb_model::{Loaded, Reply};
 
 /// What a kill writes: the slot at this place is of a killed message from now on, and in the header at this place of .JHR
 /// the attribute is another.
-#[derive(Clone, Copy, Debug, PartialEq, Eq)]
+#[derive(Clone, Copy, Debug)]
 pub struct Killing {
     pub place: usize,
     pub header_at: u32,

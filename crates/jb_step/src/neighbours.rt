@@ -11,7 +11,7 @@ use jb_replies::Replies;
 
 /// The message at this place has these fields in its header from now on: the new message is its first reply, or the next
 /// reply behind it.
-#[derive(Clone, Copy, Debug, PartialEq, Eq)]
+#[derive(Clone, Copy)]
 pub struct Neighbour {
     pub place: usize,
     pub head: Head,

@@ -11,7 +11,7 @@ use jb_base::{AreaRules, READ, RECEIVER_NAME, User};
 use jb_model::{Head, Loaded, LoadedMessage, Reply};
 
 /// What a reading writes: the header of the message at this place has these fields from now on.
-#[derive(Clone, Copy, Debug, PartialEq, Eq)]
+#[derive(Clone, Copy, Debug)]
 pub struct Reading {
     pub place: usize,
     pub head: Head,

@@ -8,7 +8,7 @@ use jb_menu::MenuEnd;
 pub const MOST_PIECE_BYTES: usize = 4_096;
 
 /// Whether a talk goes on.
-#[derive(Clone, Copy, Debug, PartialEq, Eq)]
+#[derive(Clone, Copy, PartialEq, Eq)]
 pub enum Standing {
     /// It goes on with what the caller sends.
     On,
@@ -30,7 +30,7 @@ impl Standing {
 }
 
 /// How a talk ends, where no more bytes and answers come.
-#[derive(Clone, Copy, Debug, PartialEq, Eq)]
+#[derive(Clone, Copy, PartialEq, Eq)]
 pub enum TalkEnd {
     /// The caller hangs up.
     Hangup,

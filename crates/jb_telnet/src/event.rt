@@ -1,7 +1,7 @@
 //! What a unit of the stream says.
 
 /// What one unit of the stream says.
-#[derive(Clone, Copy, Debug, PartialEq, Eq)]
+#[derive(Clone, Copy, PartialEq, Eq)]
 pub enum Event {
     /// A byte of data: itself, or 255 where IAC stands twice.
     Byte(u8),

@@ -5,7 +5,7 @@ ghost use Rattle.jb_telnet.specs.Codes.{code_of};
 use crate::codes::{DO, DONT, WILL, WONT};
 
 /// What one side says of an option (RFC 854, "TELNET command structure"; RFC 855).
-#[derive(Clone, Copy, Debug, PartialEq, Eq)]
+#[derive(Clone, Copy, PartialEq, Eq)]
 pub enum Verb {
     /// The sender performs it, or offers to.
     Will,

@@ -1,7 +1,7 @@
 //! The names of the texts that are always the same.
 
 /// A text that is always the same. [`crate::fixed`] gives it.
-#[derive(Clone, Copy, Debug, PartialEq, Eq)]
+#[derive(Clone, Copy, PartialEq, Eq)]
 pub enum Fixed {
     /// Asks for the user's name.
     AskName,

@@ -8,7 +8,7 @@ use jb_disk::Disk;
 use std::alloc::Global;
 
 /// A tool that works on the files of one base.
-#[derive(Clone, Copy, Debug, PartialEq, Eq)]
+#[derive(Clone, Copy, PartialEq, Eq)]
 pub enum Tool {
     /// Lists the live messages: [`list`].
     List,
