@@ -1,7 +1,6 @@
 //! Who asks, and what, in the words of a row.
 
-use crate::area::Area;
-use jb_base::{Bytes, Name, OutOfMemory, User};
+use jb_base::{Bytes, Name, User};
 use jb_model::{Asked, Command};
 use std::alloc::Global;
 use trial_rows::{Row, RowError};
@@ -25,9 +24,9 @@ pub(crate) enum Way {
     Parts,
 }
 
-/// The user of this name: `Test` may post, `Hello` is one level below those who tend the area, `Sysop` and `Cosysop`, `Guest` is
-/// one level below those who read, `Reader` one below those who post.
-pub(crate) fn user_of(alloc: Global, name: &str) -> Result<User, RowError> {
+// The user of this name: `Test` may post, `Hello` is one level below those who tend the area, `Sysop` and `Cosysop`, `Guest` is
+// one level below those who read, `Reader` one below those who post.
+fn user_of(alloc: Global, name: &str) -> Result<User, RowError> {
     let (id, level) = match name {
         "Test" => (7, 20),
         "Hello" => (8, 199),
@@ -37,48 +36,75 @@ pub(crate) fn user_of(alloc: Global, name: &str) -> Result<User, RowError> {
         "Reader" => (10, 19),
         _ => return Err(RowError::Unknown(0)),
     };
-    let name = Name::copy(alloc, name.as_bytes())?;
-    Ok(User { name, id, level })
+    match Name::copy(alloc, name.as_bytes()) {
+        Ok(name) => Ok(User { name, id, level }),
+        Err(_) => Err(RowError::OutOfMemory),
+    }
 }
 
-// So many letters `a`.
-fn letters(alloc: Global, count: u32) -> Result<Bytes, OutOfMemory> {
-    Ok(Bytes::from(vec![in alloc; b'a'; count as usize]?))
-}
-
-// A public post.
-fn public_post(to: Name, subject: Bytes, text: Bytes, reply_to: u32) -> Command {
-    Command::Post {
+// A post.
+fn post_of(
+    alloc: Global,
+    to: &[u8],
+    subject: &[u8],
+    text: &[u8],
+    reply_to: u32,
+    private: bool,
+) -> Result<Command, RowError> {
+    let Ok(to) = Name::copy(alloc, to) else {
+        return Err(RowError::OutOfMemory);
+    };
+    let Ok(subject) = Bytes::copy(alloc, subject) else {
+        return Err(RowError::OutOfMemory);
+    };
+    let Ok(text) = Bytes::copy(alloc, text) else {
+        return Err(RowError::OutOfMemory);
+    };
+    Ok(Command::Post {
         to,
         subject,
         text,
         reply_to,
-        private: false,
-    }
+        private,
+    })
 }
 
-/// A public post whose name, subject and text have so many bytes.
+// So many of these letters.
+fn first(letters: &[u8], count: u32) -> &[u8] {
+    letters.get(..count as usize).unwrap_or(b"")
+}
+
+/// A public post whose name, subject and text have so many bytes, each of them a letter `a`.
 pub(crate) fn sized_post(
     alloc: Global,
     to: u32,
     subject: u32,
     text: u32,
     reply_to: u32,
-) -> Result<Command, OutOfMemory> {
-    let to = letters(alloc, to)?;
-    let to = Name::copy(alloc, to.as_slice())?;
-    let subject = letters(alloc, subject)?;
-    let text = letters(alloc, text)?;
-    Ok(public_post(to, subject, text, reply_to))
+) -> Result<Command, RowError> {
+    let most = to.max(subject).max(text);
+    let Ok(letters) = vec![in alloc; b'a'; most as usize] else {
+        return Err(RowError::OutOfMemory);
+    };
+    let all = letters.as_slice();
+    let (to, subject, text) = (first(all, to), first(all, subject), first(all, text));
+    post_of(alloc, to, subject, text, reply_to, false)
 }
 
 // A post with the name, subject and text of these places.
 fn post_in(alloc: Global, row: &Row, place: usize) -> Result<Command, RowError> {
     let reply_to = row.u32(place.saturating_add(3))?;
-    let to = row.name(alloc, place)?;
-    let subject = row.bytes(alloc, place.saturating_add(1))?;
-    let text = row.bytes(alloc, place.saturating_add(2))?;
-    Ok(public_post(to, subject, text, reply_to))
+    let Ok(to) = row.bytes(alloc, place) else {
+        return Err(RowError::Bytes(place));
+    };
+    let Ok(subject) = row.bytes(alloc, place.saturating_add(1)) else {
+        return Err(RowError::Bytes(place));
+    };
+    let Ok(text) = row.bytes(alloc, place.saturating_add(2)) else {
+        return Err(RowError::Bytes(place));
+    };
+    let (to, subject, text) = (to.as_slice(), subject.as_slice(), text.as_slice());
+    post_of(alloc, to, subject, text, reply_to, false)
 }
 
 // A post whose sizes stand at these places.
@@ -87,30 +113,14 @@ fn sized_in(alloc: Global, row: &Row, place: usize) -> Result<Command, RowError>
     let subject = row.u32(place.saturating_add(1))?;
     let text = row.u32(place.saturating_add(2))?;
     let reply_to = row.u32(place.saturating_add(3))?;
-    Ok(sized_post(alloc, to, subject, text, reply_to)?)
+    sized_post(alloc, to, subject, text, reply_to)
 }
 
-// A post of five bytes about `abc`.
-fn short_post(
-    alloc: Global,
-    to: &[u8],
-    reply_to: u32,
-    private: bool,
-) -> Result<Command, OutOfMemory> {
-    Ok(Command::Post {
-        to: Name::copy(alloc, to)?,
-        subject: Bytes::copy(alloc, b"abc")?,
-        text: Bytes::copy(alloc, b"Good\r")?,
-        reply_to,
-        private,
-    })
-}
-
-/// The command of this word about this number.
+/// The command of this word about this number. A post has five bytes about `abc`.
 pub(crate) fn command_of(alloc: Global, what: &str, number: u32) -> Result<Command, RowError> {
     match what {
-        "post" => Ok(short_post(alloc, b"Hello", number, false)?),
-        "private" => Ok(short_post(alloc, b"Sysop", number, true)?),
+        "post" => post_of(alloc, b"Hello", b"abc", b"Good\r", number, false),
+        "private" => post_of(alloc, b"Sysop", b"abc", b"Good\r", number, true),
         "read" => Ok(Command::Read { number }),
         "peek" => Ok(Command::Peek { number }),
         "kill" => Ok(Command::Kill { number }),
@@ -131,12 +141,28 @@ fn command_in(alloc: Global, row: &Row, place: usize) -> Result<Command, RowErro
     }
 }
 
-/// What the user asks, at the moment of every call.
-pub(crate) fn asked_by(user: User, command: Command) -> Asked {
-    Asked {
-        user,
-        moment: MOMENT,
-        command,
+/// What the user of this name asks, at the moment of every call.
+pub(crate) fn asked_by(
+    alloc: Global,
+    name: &str,
+    command: Result<Command, RowError>,
+) -> Result<Asked, RowError> {
+    let command = command?;
+    match user_of(alloc, name) {
+        Ok(user) => Ok(Asked {
+            user,
+            moment: MOMENT,
+            command,
+        }),
+        Err(error) => Err(error),
+    }
+}
+
+// A step of a pack.
+fn copy_by(alloc: Global, name: &str, budget: u32) -> Result<Act, RowError> {
+    match user_of(alloc, name) {
+        Ok(user) => Ok(Act::Copy { user, budget }),
+        Err(error) => Err(error),
     }
 }
 
@@ -145,46 +171,29 @@ fn act_in(alloc: Global, row: &Row, place: usize) -> Result<Act, RowError> {
     let name = row.word(place)?;
     let next = place.saturating_add(1);
     if row.word(next)? == "copy" {
-        let budget = row.u32(next.saturating_add(1))?;
-        let user = user_of(alloc, name)?;
-        return Ok(Act::Copy { user, budget });
+        return copy_by(alloc, name, row.u32(next.saturating_add(1))?);
     }
-    let user = user_of(alloc, name)?;
-    let command = command_in(alloc, row, next)?;
-    Ok(Act::Command(asked_by(user, command)))
+    match asked_by(alloc, name, command_in(alloc, row, next)) {
+        Ok(asked) => Ok(Act::Command(asked)),
+        Err(error) => Err(error),
+    }
 }
 
-/// All that is asked in a row from its second word on, with `;` between two.
-pub(crate) fn all_in(alloc: Global, row: &Row) -> Result<Vec<Act>, RowError> {
-    let mut all = Vec::new(alloc);
-    all.push(act_in(alloc, row, 1)?)?;
+// Puts what is asked from this place on behind the others.
+fn put_act(alloc: Global, row: &Row, place: usize, all: &mut Vec<Act>) -> Result<(), RowError> {
+    match act_in(alloc, row, place) {
+        Ok(act) => Ok(all.push(act)?),
+        Err(error) => Err(error),
+    }
+}
+
+/// Puts all that is asked in a row from its second word on, with `;` between two, behind the others.
+pub(crate) fn put_all(alloc: Global, row: &Row, all: &mut Vec<Act>) -> Result<(), RowError> {
+    put_act(alloc, row, 1, all)?;
     for place in 1..row.len() {
         if row.word(place)? == ";" {
-            all.push(act_in(alloc, row, place.saturating_add(1))?)?;
+            put_act(alloc, row, place.saturating_add(1), all)?;
         }
     }
-    Ok(all)
-}
-
-// A command in two parts; where its beginning is stopped, that alone.
-fn in_parts(alloc: Global, area: Area, asked: &Asked) -> Area {
-    let area = area.begin(alloc, asked);
-    if area.is_stopped() {
-        return area;
-    }
-    area.finish()
-}
-
-/// Asks this of the area. A step of a pack has one way alone.
-pub(crate) fn ask(alloc: Global, area: Area, act: &Act, way: Way) -> Area {
-    let asked = match act {
-        Act::Copy { user, budget } => return area.copy(alloc, user, *budget),
-        Act::Command(asked) => asked,
-    };
-    match way {
-        Way::All => area.ask(alloc, asked, false),
-        Way::Own => area.ask(alloc, asked, true),
-        Way::Begun => area.begin(alloc, asked),
-        Way::Parts => in_parts(alloc, area, asked),
-    }
+    Ok(())
 }

@@ -1,18 +1,18 @@
 //! Commands that are drawn by lot, asked of one open area and of the plain, slow program beside it.
 
-use crate::area::{Area as Open, rules_of};
-use crate::asking::{asked_by, command_of, sized_post, user_of};
-use crate::base::{Base, stand, stood_in};
-use crate::plain::{loaded_words, plain_words};
-use crate::quiet::Quiet;
-use crate::showing::reply_words;
+use crate::area::rules_of;
+use crate::asking::{Way, asked_by, command_of, sized_post};
+use crate::base::Base;
+use crate::copied::Copied;
+use crate::plain::{put_loaded, put_plain};
+use crate::showing::put_reply;
 use jb_base::MOST_TEXT_BYTES;
 use jb_disk::FileId;
 use jb_model::{Area, Asked, Command, Marks, Reply, Slots};
 use jb_plain::{Replies, may_run, run_slow};
 use std::alloc::Global;
 use std::mem;
-use trial_rows::{RowError, said};
+use trial_rows::{RowError, Words};
 
 /// How many commands are asked between two openings.
 const ROUND: u32 = 50;
@@ -61,35 +61,48 @@ impl Lot {
         let to = self.draw(40);
         let subject = self.draw(80);
         let text = self.draw(20_000);
-        Ok(sized_post(alloc, to, subject, text, number)?)
+        sized_post(alloc, to, subject, text, number)
     }
 
     // What is done, where the numbers go from this one to below that one.
     fn command(&mut self, alloc: Global, base: u32, next: u32) -> Result<Command, RowError> {
         let number = self.number(base, next);
-        match self.draw(40) {
-            0..=3 => command_of(alloc, "post", 0),
-            4..=11 => command_of(alloc, "post", number),
-            12 | 13 => command_of(alloc, "private", 0),
-            14 | 15 => self.sized(alloc, number),
-            16..=20 => command_of(alloc, "read", number),
-            21 | 22 => command_of(alloc, "peek", number),
-            23..=31 => command_of(alloc, "kill", number),
-            32..=34 => command_of(alloc, "mark", number),
-            35 | 36 => Ok(Command::Relink),
-            _ => Ok(Command::Pack),
-        }
+        let (what, number) = match self.draw(40) {
+            0..=3 => ("post", 0),
+            4..=11 => ("post", number),
+            12 | 13 => ("private", 0),
+            14 | 15 => return self.sized(alloc, number),
+            16..=20 => ("read", number),
+            21 | 22 => ("peek", number),
+            23..=31 => ("kill", number),
+            32..=34 => ("mark", number),
+            35 | 36 => return Ok(Command::Relink),
+            _ => return Ok(Command::Pack),
+        };
+        command_of(alloc, what, number)
+    }
+
+    // Who asks what.
+    fn asked(&mut self, alloc: Global, base: u32, next: u32) -> Result<Asked, RowError> {
+        let who = self.who();
+        asked_by(alloc, who, self.command(alloc, base, next))
     }
 
     // A round of commands, where the numbers go from this one to below that one, and a third of them may be posts.
-    fn round(&mut self, alloc: Global, base: u32, next: u32) -> Result<Vec<Asked>, RowError> {
-        let mut list = Vec::new(alloc);
+    fn put_round(
+        &mut self,
+        alloc: Global,
+        base: u32,
+        next: u32,
+        list: &mut Vec<Asked>,
+    ) -> Result<(), RowError> {
         for count in 0..ROUND {
-            let user = user_of(alloc, self.who())?;
-            let command = self.command(alloc, base, next.saturating_add(count / 3))?;
-            list.push(asked_by(user, command))?;
+            match self.asked(alloc, base, next.saturating_add(count / 3)) {
+                Ok(asked) => list.push(asked)?,
+                Err(error) => return Err(error),
+            }
         }
-        Ok(list)
+        Ok(())
     }
 }
 
@@ -109,77 +122,87 @@ fn put_area(area: &mut Area, new: Area) {
 
 // Asks these of the plain area, and gives its replies.
 fn run_plain(alloc: Global, area: &mut Area, list: &[Asked]) -> Result<Replies, RowError> {
-    let rules = rules_of(alloc, 65_000)?;
+    let Ok(rules) = rules_of(alloc, 65_000) else {
+        return Err(RowError::OutOfMemory);
+    };
     if !may_run(area, rules.slots) {
         return Err(RowError::Unknown(0));
     }
     let old = mem::replace(area, empty(alloc));
-    let (new, replies) = run_slow(alloc, &rules, old, list)?;
-    put_area(area, new);
-    Ok(replies)
+    match run_slow(alloc, &rules, old, list) {
+        Ok((new, replies)) => {
+            put_area(area, new);
+            Ok(replies)
+        }
+        Err(_) => Err(RowError::OutOfMemory),
+    }
+}
+
+// A reply in words.
+fn words_of(alloc: Global, reply: &Reply) -> Result<String, RowError> {
+    let mut words = Words::new(alloc);
+    match put_reply(alloc, &mut words, reply) {
+        Ok(()) => words.end(),
+        Err(error) => Err(error),
+    }
+}
+
+// The plain area in words.
+fn plain_words(alloc: Global, area: &Area) -> Result<String, RowError> {
+    let mut words = Words::new(alloc);
+    match put_plain(alloc, &mut words, area) {
+        Ok(()) => words.end(),
+        Err(error) => Err(error),
+    }
+}
+
+// What the other area of a copy has loaded, in the words of the plain one, with the texts on the disk of the first.
+fn loaded_words(copy: &Copied<'_>) -> Result<String, RowError> {
+    let mut words = Words::new(copy.alloc);
+    let Some(loaded) = copy.look.loaded() else {
+        return Err(RowError::Unknown(0));
+    };
+    let texts = copy.area.file(FileId::Jdt);
+    match put_loaded(copy.alloc, &mut words, loaded, texts) {
+        Ok(()) => words.end(),
+        Err(error) => Err(error),
+    }
 }
 
 // Whether the area answered this last.
-fn is_reply(alloc: Global, area: &Open, reply: &Reply) -> Result<bool, RowError> {
-    let wanted = reply_words(alloc, reply)?;
-    Ok(area.words(alloc)?.as_str() == wanted.as_str())
+fn is_reply(copy: &mut Copied<'_>, reply: &Reply) -> bool {
+    let wanted = words_of(copy.alloc, reply);
+    let wanted = copy.noted(wanted);
+    copy.reply().as_str() == wanted.as_str()
 }
 
 // How many of these are answered so in the open area. Before some of them their users copy texts for a pack, as drawn by lot; of that
 // the plain program knows nothing.
-fn ask_all(
-    alloc: Global,
-    area: Open,
-    lot: &mut Lot,
-    list: &[Asked],
-    replies: &[Reply],
-) -> Result<(Open, u32), RowError> {
-    let mut area = area;
-    let mut count = 0_u32;
+fn ask_all(copy: &mut Copied<'_>, lot: &mut Lot, list: &[Asked], replies: &[Reply]) -> u64 {
+    let mut count = 0_u64;
+    let alloc = copy.alloc;
     for (asked, reply) in list.iter().zip(replies) {
         if lot.draw(4) == 0 {
-            area = area.copy(alloc, &asked.user, MOST_TEXT_BYTES);
+            copy.area.copy(alloc, &asked.user, MOST_TEXT_BYTES);
         }
-        area = area.ask(alloc, asked, false);
-        match is_reply(alloc, &area, reply) {
-            Ok(true) => count = count.saturating_add(1),
-            Ok(false) => {}
-            Err(error) => {
-                let _disk = area.close();
-                return Err(error);
-            }
+        copy.area.ask(alloc, asked, Way::All);
+        if is_reply(copy, reply) {
+            count = count.saturating_add(1);
         }
     }
-    Ok((area, count))
+    count
 }
 
-// The area in the words of the plain one, with its texts among these.
-fn words_in(alloc: Global, area: &Open, texts: &[u8]) -> Result<String, RowError> {
-    match area.loaded() {
-        Some(loaded) => loaded_words(alloc, loaded, texts),
-        None => said(alloc, "not open"),
-    }
-}
-
-// What stands in the area of the disk, in the words of the plain one and in those of the open one.
-fn opened_words(alloc: Global, base: &Base, disk: &Quiet) -> Result<(String, String), RowError> {
-    let area = base.over(alloc, disk.copied()?)?;
-    let came = words_in(alloc, &area, disk.file(FileId::Jdt));
-    let again = stood_in(alloc, area)?;
-    Ok((came?, again))
-}
-
-// Whether the disk opens to the plain area, and to what stood in the area.
-fn is_plain(
-    alloc: Global,
-    base: &Base,
-    disk: &Quiet,
-    plain: &Area,
-    stood: &str,
-) -> Result<bool, RowError> {
-    let (came, again) = opened_words(alloc, base, disk)?;
-    let wanted = plain_words(alloc, plain)?;
-    Ok(wanted.as_str() == came.as_str() && again.as_str() == stood)
+// Closes the area. Whether its disk opens to the plain area, and to what stood in the area.
+fn is_plain(copy: &mut Copied<'_>, plain: &Area) -> bool {
+    let stood = copy.stood();
+    let calls = copy.area.calls();
+    copy.look_at(calls, 1);
+    let came = loaded_words(copy);
+    let came = copy.noted(came);
+    let wanted = plain_words(copy.alloc, plain);
+    let wanted = copy.noted(wanted);
+    came.as_str() == wanted.as_str() && copy.looks().as_str() == stood.as_str()
 }
 
 // The number that the next message gets.
@@ -190,100 +213,69 @@ fn next_of(plain: &Area) -> u32 {
         .saturating_add(u32::try_from(slots).unwrap_or(u32::MAX))
 }
 
-/// What was drawn and asked so far: the plain area, and how many replies were the same.
-#[derive(Drop)]
-struct Race {
-    lot: Lot,
-    plain: Area,
-    count: u32,
-}
-
-// What this comes to over the open area of the disk: its disk then, what stands in it, and how many replies were the same.
-fn asked_round(
-    alloc: Global,
-    area: Open,
+// How many of these are answered as by the plain program, on a base that is closed and opened anew for them; none where the area is
+// not the plain one then.
+fn run(
+    copy: &mut Copied<'_>,
     lot: &mut Lot,
+    plain: &mut Area,
     list: &[Asked],
-    replies: &[Reply],
-) -> Result<(Quiet, String, u32), RowError> {
-    let (area, same) = ask_all(alloc, area, lot, list, replies)?;
-    let (disk, stood) = stand(alloc, area)?;
-    Ok((disk, stood, same))
+) -> Result<u64, RowError> {
+    match run_plain(copy.alloc, plain, list) {
+        Ok(replies) => {
+            copy.open_anew();
+            let same = ask_all(copy, lot, list, replies.as_slice());
+            Ok(if is_plain(copy, plain) { same } else { 0 })
+        }
+        Err(error) => Err(error),
+    }
 }
 
-// The disk behind a round, and how many replies were the same; none where its area is not the plain one.
+// The same of a round of commands that are drawn by lot.
+fn next_round(copy: &mut Copied<'_>, lot: &mut Lot, plain: &mut Area) -> Result<u64, RowError> {
+    let mut list = Vec::new(copy.alloc);
+    lot.put_round(copy.alloc, plain.base, next_of(plain), &mut list)?;
+    run(copy, lot, plain, list.as_slice())
+}
+
+// The same of so many rounds.
+fn rounds(copy: &mut Copied<'_>, seed: u32, rounds: u32) -> Result<u64, RowError> {
+    let mut lot = Lot {
+        state: u64::from(seed),
+    };
+    let mut plain = empty(copy.alloc);
+    let mut count = 0_u64;
+    copy.open(&[]);
+    for _ in 0..rounds {
+        count = count.saturating_add(next_round(copy, &mut lot, &mut plain)?);
+    }
+    copy.end()?;
+    Ok(count)
+}
+
+// The same over a copy of this base, in words.
 fn raced(
     alloc: Global,
     base: &Base,
-    area: Open,
-    lot: &mut Lot,
-    list: &[Asked],
-    plain: &Area,
-    replies: &[Reply],
-) -> Result<(Quiet, u32), RowError> {
-    let (disk, stood, same) = asked_round(alloc, area, lot, list, replies)?;
-    let is_so = is_plain(alloc, base, &disk, plain, stood.as_str())?;
-    Ok((disk, if is_so { same } else { 0 }))
-}
-
-impl Race {
-    // These commands over the open area of the disk. The disk behind them.
-    fn run(
-        &mut self,
-        alloc: Global,
-        base: &Base,
-        disk: Quiet,
-        list: &[Asked],
-    ) -> Result<Quiet, RowError> {
-        let replies = run_plain(alloc, &mut self.plain, list)?;
-        let replies = replies.as_slice();
-        let area = base.over(alloc, disk)?;
-        let (disk, more) = raced(alloc, base, area, &mut self.lot, list, &self.plain, replies)?;
-        self.count = self.count.saturating_add(more);
-        Ok(disk)
-    }
-
-    // A round more over the disk of the open area. The disk behind it.
-    fn next_round(&mut self, alloc: Global, base: &Base, disk: Quiet) -> Result<Quiet, RowError> {
-        let list = self
-            .lot
-            .round(alloc, self.plain.base, next_of(&self.plain))?;
-        self.run(alloc, base, disk, list.as_slice())
-    }
-
-    // So many rounds from this disk on.
-    fn rounds(
-        &mut self,
-        alloc: Global,
-        base: &Base,
-        disk: Quiet,
-        rounds: u32,
-    ) -> Result<(), RowError> {
-        let mut disk = disk;
-        for _ in 0..rounds {
-            disk = self.next_round(alloc, base, disk)?;
-        }
-        Ok(())
-    }
+    seed: u32,
+    many: u32,
+    words: &mut Words,
+) -> Result<(), RowError> {
+    let mut copy = Copied::new(alloc, base);
+    words.number(rounds(&mut copy, seed, many)?);
+    words.word("the same");
+    Ok(())
 }
 
 /// `drawn SEED ROUNDS`: how many commands are answered as by the plain program, in rounds of fifty, each of them on a base that was closed
 /// and opened anew; those of a round whose area is not that of the program do not count.
-pub(crate) fn drawn(alloc: Global, seed: u32, rounds: u32) -> Result<String, RowError> {
-    let base = Base::empty(alloc, 1)?;
-    let count = counted(alloc, &base, seed, rounds)?;
-    Ok(format!(in alloc; "{count} the same")?)
-}
-
-// The same over copies of this base.
-fn counted(alloc: Global, base: &Base, seed: u32, rounds: u32) -> Result<u32, RowError> {
-    let state = u64::from(seed);
-    let disk = base.opened(alloc)?;
-    let mut race = Race {
-        lot: Lot { state },
-        plain: empty(alloc),
-        count: 0,
-    };
-    race.rounds(alloc, base, disk, rounds)?;
-    Ok(race.count)
+pub(crate) fn put_drawn(
+    alloc: Global,
+    seed: u32,
+    many: u32,
+    words: &mut Words,
+) -> Result<(), RowError> {
+    let mut base = Base::new(alloc);
+    base.begin(1)?;
+    raced(alloc, &base, seed, many, words)
 }

@@ -6,20 +6,18 @@ mod area;
 mod asking;
 mod base;
 mod calling;
+mod copied;
 mod drawn;
 mod opening;
 mod parts;
 mod plain;
 mod quiet;
 mod showing;
+mod stage;
 mod stops;
 mod trial;
 
 fn main(rt: HostRuntime) -> std::io::Result<()> {
-    let Ok(mut trial) = trial::Trial::new(rt.alloc()) else {
-        return println!(rt; "out of memory");
-    };
-    let ran = trial_rows::run(&rt, &mut trial);
-    trial.end_all();
-    ran
+    let mut trial = trial::Trial::new(rt.alloc());
+    trial_rows::run(&rt, &mut trial)
 }

@@ -1,87 +1,87 @@
 //! Calls in two parts: begun, with the reply that is coming, and finished, abandoned or stopped.
 
-use crate::area::Area;
-use crate::asking::{Act, Way, ask};
-use crate::base::{Base, came_of, stand};
-use crate::stops::{Case, Scene};
+use crate::asking::{Act, Way};
+use crate::base::Base;
+use crate::copied::Copied;
+use crate::stage::End;
+use crate::stops::Case;
 use std::alloc::Global;
-use trial_rows::{RowError, said};
-
-// The area with the command begun.
-fn begun(alloc: Global, scene: Scene<'_>) -> Result<Area, RowError> {
-    let way = Way::Begun;
-    Scene { way, ..scene }.asked(alloc, &[])
-}
+use trial_rows::{RowError, Words};
 
 // Whether the call in one piece is answered so too, and leaves the same.
-fn is_as_whole(alloc: Global, case: &Case<'_>) -> Result<bool, RowError> {
-    let way = Way::All;
-    let (after, reply) = Scene { way, ..case.scene }.behind(alloc)?;
-    Ok(case.after.as_str() == after.as_str() && case.reply.as_str() == reply.as_str())
+fn is_as_whole(case: &mut Case<'_>) -> bool {
+    case.ask(&[], Way::All);
+    case.copy.answers(case.reply.as_str(), case.after.as_str())
 }
 
 // Whether the reply that is coming is the one that comes.
-fn is_coming(alloc: Global, case: &Case<'_>) -> Result<bool, RowError> {
-    let area = begun(alloc, case.scene)?;
-    let coming = area.coming(alloc);
-    let _ = area.close();
-    Ok(coming?.as_str() == case.reply.as_str())
+fn is_coming(case: &mut Case<'_>) -> bool {
+    case.ask(&[], Way::Begun);
+    case.copy.coming().as_str() == case.reply.as_str()
 }
 
-// How many device calls the beginning makes, where the call abandoned then leaves all as it was, but for the copies of a pack.
-fn reads(alloc: Global, case: &Case<'_>) -> Result<Option<u64>, RowError> {
-    let area = begun(alloc, case.scene)?.abandon();
-    let (disk, came) = stand(alloc, area)?;
-    let is_kept = case.scene.base.is_in(&disk, 5) && came.as_str() == case.before.as_str();
-    let calls = disk.calls().saturating_sub(case.opening);
-    Ok(is_kept.then_some(calls))
-}
-
-// The reply, how many device calls the beginning and the finishing make, and what becomes of the command.
-fn told(alloc: Global, case: &Case<'_>, reads: u64) -> Result<String, RowError> {
-    let (calls, fate) = case.fate(alloc)?;
-    let commit = calls.saturating_sub(reads);
-    let reply = case.reply.as_str();
-    Ok(format!(in alloc; "{reply}, {reads} + {commit} calls, {fate}")?)
-}
-
-// What is said of this case.
-fn case_words(alloc: Global, case: &Case<'_>) -> Result<String, RowError> {
-    if !is_as_whole(alloc, case)? || !is_coming(alloc, case)? {
-        return said(alloc, "otherwise than in one piece");
-    }
-    match reads(alloc, case)? {
-        Some(reads) => told(alloc, case, reads),
-        None => said(alloc, "abandoned, it leaves something"),
-    }
+// Whether the call abandoned behind its beginning leaves all as it was, but for the copies of a pack. It is closed then.
+fn is_dropped(case: &mut Case<'_>) -> bool {
+    case.ask(&[], Way::Begun);
+    case.copy.area.end(End::Abandon);
+    case.copy.stood().as_str() == case.before.as_str() && case.copy.is_kept(5)
 }
 
 /// `parts USER COMMAND`: the reply; how many device calls the beginning makes and how many the finishing; what a crash at each moment
 /// leaves; and what becomes of the command when it is stopped at each.
-pub(crate) fn parts(alloc: Global, base: &Base, all: &[Act]) -> Result<String, RowError> {
-    let case = Case::new(alloc, base, all, Way::Parts)?;
-    case_words(alloc, &case)
+pub(crate) fn put_parts(case: &mut Case<'_>, words: &mut Words) -> Result<(), RowError> {
+    if !is_as_whole(case) || !is_coming(case) {
+        words.word("otherwise than in one piece");
+        return case.copy.end();
+    }
+    if !is_dropped(case) {
+        words.word("abandoned, it leaves something");
+        return case.copy.end();
+    }
+    let reads = case.calls();
+    words.word(case.reply.as_str());
+    words.put(",");
+    words.number(reads);
+    words.word("+");
+    case.put_fate(words, reads)
 }
 
 // Whether what is asked behind a call that was begun and abandoned is answered as without it, and leaves the same.
-fn is_alone(alloc: Global, base: &Base, dropped: &Act, act: &Act) -> Result<bool, RowError> {
-    let alone = ask(alloc, base.open(alloc, &[])?, act, Way::All);
-    let (after, reply) = came_of(alloc, alone)?;
-    let area = ask(alloc, base.open(alloc, &[])?, dropped, Way::Begun).abandon();
-    let area = ask(alloc, area, act, Way::All);
-    base.answers(alloc, area, reply.as_str(), after.as_str())
+fn is_alone(copy: &mut Copied<'_>, dropped: &Act, act: &Act) -> bool {
+    let alloc = copy.alloc;
+    copy.open(&[]);
+    copy.area.act(alloc, act, Way::All);
+    let reply = copy.reply();
+    let after = copy.stood();
+    copy.open(&[]);
+    copy.area.act(alloc, dropped, Way::Begun);
+    copy.area.end(End::Abandon);
+    copy.area.act(alloc, act, Way::All);
+    copy.answers(reply.as_str(), after.as_str())
 }
 
-/// `behind USER COMMAND ; ..`: how many of these are answered as ever behind the first, which is begun and abandoned.
-pub(crate) fn behind(alloc: Global, base: &Base, all: &[Act]) -> Result<String, RowError> {
-    let mut count = 0_u32;
-    let Some(first) = all.first() else {
-        return Err(RowError::Missing(1));
-    };
+// How many of these are answered as ever behind the first.
+fn count_alone(copy: &mut Copied<'_>, first: &Act, all: &[Act]) -> u64 {
+    let mut count = 0_u64;
     for act in all {
-        if is_alone(alloc, base, first, act)? {
+        if is_alone(copy, first, act) {
             count = count.saturating_add(1);
         }
     }
-    Ok(format!(in alloc; "{count}")?)
+    count
+}
+
+/// `behind USER COMMAND ; ..`: how many of these are answered as ever behind the first, which is begun and abandoned.
+pub(crate) fn put_behind(
+    alloc: Global,
+    base: &Base,
+    all: &[Act],
+    words: &mut Words,
+) -> Result<(), RowError> {
+    let Some(first) = all.first() else {
+        return Err(RowError::Missing(1));
+    };
+    let mut copy = Copied::new(alloc, base);
+    words.number(count_alone(&mut copy, first, all));
+    copy.end()
 }

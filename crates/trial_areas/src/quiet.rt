@@ -112,10 +112,16 @@ impl Quiet {
         holes: Holes,
         failing: &[u64],
     ) -> Result<Quiet, RowError> {
-        Ok(Quiet {
-            disk: SilentDisk::new(MemDisk::new(alloc, files, failing.to_vec(alloc)?)?),
-            holes,
-        })
+        let Ok(failing) = failing.to_vec(alloc) else {
+            return Err(RowError::OutOfMemory);
+        };
+        match MemDisk::new(alloc, files, failing) {
+            Ok(disk) => Ok(Quiet {
+                disk: SilentDisk::new(disk),
+                holes,
+            }),
+            Err(_) => Err(RowError::OutOfMemory),
+        }
     }
 
     /// What the file holds, without dead bytes.
@@ -123,19 +129,9 @@ impl Quiet {
         self.disk.disk.file(file)
     }
 
-    /// The files in memory.
-    pub(crate) fn memory(&self) -> &MemDisk {
-        &self.disk.disk
-    }
-
     /// How many calls the disk has had.
     pub(crate) fn calls(&self) -> u64 {
         self.disk.disk.calls()
-    }
-
-    /// The same files once more.
-    pub(crate) fn copied(&self) -> Result<Quiet, RowError> {
-        self.crashed(self.calls(), 1)
     }
 
     /// What a crash after so many calls may leave, by the pick from 0 to 3.
@@ -144,10 +140,13 @@ impl Quiet {
         if calls > disk.calls() || pick > 3 {
             return Err(RowError::Unknown(0));
         }
-        Ok(Quiet {
-            disk: SilentDisk::new(disk.crashed(calls, pick)?),
-            holes: self.holes,
-        })
+        match disk.crashed(calls, pick) {
+            Ok(disk) => Ok(Quiet {
+                disk: SilentDisk::new(disk),
+                holes: self.holes,
+            }),
+            Err(_) => Err(RowError::OutOfMemory),
+        }
     }
 }
 

@@ -2,84 +2,118 @@
 
 use jb_model::{Head, Letter, Loaded, LoadedSlot, Reply};
 use std::alloc::Global;
-use std::fmt::Write;
-use trial_rows::{RowError, shown};
+use std::fmt::Debug;
+use trial_rows::{RowError, Words};
 
-// Who wrote to whom about what.
-fn names_of(alloc: Global, letter: &Letter) -> Result<String, RowError> {
-    let from = shown(alloc, letter.from.as_slice())?;
-    let to = shown(alloc, letter.to.as_slice())?;
-    let subject = shown(alloc, letter.subject.as_slice())?;
-    Ok(format!(in alloc; "{from} to {to}: {subject}")?)
+/// This as it shows itself to those who look for faults.
+pub(crate) fn put_shape<T: Debug>(
+    alloc: Global,
+    words: &mut Words,
+    this: &T,
+) -> Result<(), RowError> {
+    match format!(in alloc; "{this:?}") {
+        Ok(text) => {
+            words.word(text.as_str());
+            Ok(())
+        }
+        Err(_) => Err(RowError::OutOfMemory),
+    }
+}
+
+// Three links.
+fn put_links(words: &mut Words, to: u32, first: u32, next: u32) {
+    words.number(u64::from(to));
+    words.put("/");
+    words.put_number(u64::from(first));
+    words.put("/");
+    words.put_number(u64::from(next));
 }
 
 // MSGID and REPLYID, date and attribute, and the links.
-fn origin_of(alloc: Global, letter: &Letter) -> Result<String, RowError> {
-    let msgid = shown(alloc, letter.msgid.as_slice())?;
-    let reply = shown(alloc, letter.reply.as_slice())?;
-    Ok(format!(in alloc;
-        "{msgid} {reply} {} {:x} {}/{}/{}",
-        letter.written, letter.attribute, letter.reply_to, letter.reply_first, letter.reply_next
-    )?)
+fn put_origin(alloc: Global, words: &mut Words, letter: &Letter) -> Result<(), RowError> {
+    words.shown(letter.msgid.as_slice());
+    words.shown(letter.reply.as_slice());
+    words.number(u64::from(letter.written));
+    match format!(in alloc; "{:x}", letter.attribute) {
+        Ok(text) => words.word(text.as_str()),
+        Err(_) => return Err(RowError::OutOfMemory),
+    }
+    put_links(
+        words,
+        letter.reply_to,
+        letter.reply_first,
+        letter.reply_next,
+    );
+    Ok(())
 }
 
 // A letter: number, names and subject, text, and where it comes from.
-fn letter_words(alloc: Global, letter: &Letter) -> Result<String, RowError> {
-    let names = names_of(alloc, letter)?;
-    let text = shown(alloc, letter.text.as_slice())?;
-    let origin = origin_of(alloc, letter)?;
-    Ok(format!(in alloc; "Text {} {names}: {text} {origin}", letter.number)?)
+fn put_letter(alloc: Global, words: &mut Words, letter: &Letter) -> Result<(), RowError> {
+    words.word("Text");
+    words.number(u64::from(letter.number));
+    words.shown(letter.from.as_slice());
+    words.word("to");
+    words.shown(letter.to.as_slice());
+    words.put(":");
+    words.shown(letter.subject.as_slice());
+    words.put(":");
+    words.shown(letter.text.as_slice());
+    put_origin(alloc, words, letter)
 }
 
 /// A reply in words.
-pub(crate) fn reply_words(alloc: Global, reply: &Reply) -> Result<String, RowError> {
+pub(crate) fn put_reply(alloc: Global, words: &mut Words, reply: &Reply) -> Result<(), RowError> {
     match reply {
-        Reply::Text { letter } => letter_words(alloc, letter),
-        _ => Ok(format!(in alloc; "{reply:?}")?),
+        Reply::Text { letter } => put_letter(alloc, words, letter),
+        _ => put_shape(alloc, words, reply),
     }
 }
 
 // The links of a message.
-fn link_words(alloc: Global, number: u32, head: &Head) -> Result<String, RowError> {
-    Ok(format!(in alloc;
-        " {number} {}/{}/{}",
-        head.reply_to, head.reply_first, head.reply_next
-    )?)
+fn put_linked(words: &mut Words, number: u32, head: &Head) {
+    words.number(u64::from(number));
+    put_links(words, head.reply_to, head.reply_first, head.reply_next);
 }
 
 /// Number, ReplyTo, Reply1st and ReplyNext of each live message.
-pub(crate) fn links_words(alloc: Global, loaded: &Loaded) -> Result<String, RowError> {
+pub(crate) fn put_all_links(words: &mut Words, loaded: &Loaded) {
     let mut number = loaded.base;
-    let mut text = String::from_str(alloc, "links")?;
+    words.word("links");
     for slot in loaded.slots.as_slice() {
         if let LoadedSlot::Live(message) = slot {
-            text.push_str(link_words(alloc, number, &message.head)?.as_str())?;
+            put_linked(words, number, &message.head);
         }
         number = number.saturating_add(1);
     }
-    Ok(text)
 }
 
 /// Base number, counter, slots, marks, and the bytes of texts.
-pub(crate) fn figures(alloc: Global, loaded: &Loaded) -> Result<String, RowError> {
-    let slots = loaded.slots.as_slice().len();
-    let marks = loaded.marks.as_slice().len();
-    Ok(format!(in alloc;
-        "base {}, counter {}, {slots} slots, {marks} marks, {} bytes of texts",
-        loaded.base, loaded.counter, loaded.texts_len
-    )?)
+pub(crate) fn put_figures(words: &mut Words, loaded: &Loaded) {
+    words.word("base");
+    words.number(u64::from(loaded.base));
+    words.put(", counter");
+    words.number(u64::from(loaded.counter));
+    words.put(",");
+    words.number(loaded.slots.as_slice().len() as u64);
+    words.word("slots,");
+    words.number(loaded.marks.as_slice().len() as u64);
+    words.word("marks,");
+    words.number(u64::from(loaded.texts_len));
+    words.word("bytes of texts");
 }
 
 /// All that is loaded, to be compared.
-pub(crate) fn memory_words(alloc: Global, loaded: &Loaded) -> Result<String, RowError> {
-    let slots = loaded.slots.as_slice();
-    let marks = loaded.marks.as_slice();
-    let mut text = figures(alloc, loaded)?;
-    let reserved = shown(alloc, &loaded.reserved)?;
-    write!(
-        text,
-        " {} {} {} {} {slots:?} {marks:?} {reserved}",
-        loaded.created, loaded.active, loaded.password, loaded.headers_len
-    )?;
-    Ok(text)
+pub(crate) fn put_memory(
+    alloc: Global,
+    words: &mut Words,
+    loaded: &Loaded,
+) -> Result<(), RowError> {
+    put_figures(words, loaded);
+    words.number(u64::from(loaded.created));
+    words.number(u64::from(loaded.active));
+    words.number(u64::from(loaded.password));
+    words.number(u64::from(loaded.headers_len));
+    words.shown(&loaded.reserved);
+    put_shape(alloc, words, &loaded.slots.as_slice())?;
+    put_shape(alloc, words, &loaded.marks.as_slice())
 }

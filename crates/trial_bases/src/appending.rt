@@ -11,7 +11,7 @@ use jb_disk::{MemDisk, Redo};
 use jb_image::decode;
 use jb_model::{Loaded, LoadedMessage};
 use std::alloc::Global;
-use trial_rows::{Row, RowError, said};
+use trial_rows::{Row, RowError, Words};
 
 /// The CRC of `Hello`.
 const HELLO: u32 = 0xC9EF_5979;
@@ -72,9 +72,13 @@ fn put(
         return Err(RowError::Unknown(0));
     }
     let (header_at, text_at) = (loaded.headers_len as u32, loaded.texts_len as u32);
-    let message = message_of(alloc, bytes, header_at, text_at, text.len() as u32)?;
+    let Ok(message) = message_of(alloc, bytes, header_at, text_at, text.len() as u32) else {
+        return Err(RowError::Bytes(1));
+    };
     redo.clear();
-    put_post(alloc, redo, loaded, &message, text)?;
+    if put_post(alloc, redo, loaded, &message, text).is_err() {
+        return Err(RowError::OutOfMemory);
+    }
     Ok(())
 }
 
@@ -86,10 +90,10 @@ fn put_behind(
     bytes: &[u8],
     text: &[u8],
 ) -> Result<(), RowError> {
-    match decode(alloc, disk, 16_000) {
-        Ok(loaded) => put(alloc, redo, &loaded, bytes, text),
-        Err(_) => Err(RowError::Unknown(0)),
-    }
+    let Ok(loaded) = decode(alloc, disk, 16_000) else {
+        return Err(RowError::Unknown(0));
+    };
+    put(alloc, redo, &loaded, bytes, text)
 }
 
 /// `post SUBFIELDS TEXT`: a message behind the others of the area for which the files stand.
@@ -98,15 +102,21 @@ pub(crate) fn post(
     disk: &mut MemDisk,
     redo: &mut Redo,
     row: &Row,
-) -> Result<String, RowError> {
-    let bytes = row.bytes(alloc, 1)?;
-    let text = row.bytes(alloc, 2)?;
+    words: &mut Words,
+) -> Result<(), RowError> {
+    let Ok(bytes) = row.bytes(alloc, 1) else {
+        return Err(RowError::Bytes(1));
+    };
+    let Ok(text) = row.bytes(alloc, 2) else {
+        return Err(RowError::Bytes(2));
+    };
     put_behind(alloc, disk, redo, bytes.as_slice(), text.as_slice())?;
-    said(alloc, "put")
+    words.word("put");
+    Ok(())
 }
 
 /// `new-mark COUNT CRC USER LAST HIGH`: a mark behind so many.
-pub(crate) fn put_mark(alloc: Global, redo: &mut Redo, row: &Row) -> Result<String, RowError> {
+pub(crate) fn put_mark(redo: &mut Redo, row: &Row, words: &mut Words) -> Result<(), RowError> {
     let count = row.u32(1)?;
     let mark = mark_at(row, 2)?;
     if count >= MOST_MARKS {
@@ -115,5 +125,6 @@ pub(crate) fn put_mark(alloc: Global, redo: &mut Redo, row: &Row) -> Result<Stri
     redo.clear();
     redo.reserve(1, 1, 16)?;
     put_new_mark(redo, count, &mark);
-    said(alloc, "put")
+    words.word("put");
+    Ok(())
 }

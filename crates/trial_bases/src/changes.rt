@@ -6,16 +6,17 @@ use jb_base::{DELETED, MOST_MARKS};
 use jb_change::{put_counts, put_kill, put_links, put_mark, put_reading};
 use jb_disk::{Disk, DiskFailed, MemDisk, Redo};
 use jb_model::Head;
-use std::alloc::Global;
-use trial_rows::{Row, RowError, said};
+use trial_rows::{Row, RowError, Words};
 
 /// Behind this place of .JHR nothing is changed here.
 const LAST_AT: u32 = 1_000_000;
 
-/// The answer to a row that puts a piece behind the others: how many there are then.
-pub(crate) fn answer(alloc: Global, redo: &mut Redo, row: &Row) -> Result<String, RowError> {
+/// The answer to a row that puts a piece behind the others, if it gives one: how many there are then.
+pub(crate) fn answer(redo: &mut Redo, row: &Row, words: &mut Words) -> Result<(), RowError> {
     put(redo, row)?;
-    Ok(format!(in alloc; "{} pieces", redo.pieces())?)
+    words.number(u64::from(redo.pieces()));
+    words.word("pieces");
+    Ok(())
 }
 
 /// Puts the piece of a row behind the others, if it gives one.
@@ -26,7 +27,8 @@ fn put(redo: &mut Redo, row: &Row) -> Result<(), RowError> {
         "reading" => reading(redo, row),
         "mark" => mark(redo, row),
         "kill" => kill(redo, row),
-        _ => Ok(()),
+        "pieces" => Ok(()),
+        _ => Err(RowError::Unknown(0)),
     }
 }
 
@@ -128,14 +130,14 @@ fn apply(disk: &mut MemDisk, redo: &Redo) -> Result<(), DiskFailed> {
 
 /// Does the change that was put together; then there is none.
 pub(crate) fn write(
-    alloc: Global,
     disk: &mut MemDisk,
     redo: &mut Redo,
-) -> Result<String, RowError> {
-    let written = apply(disk, redo);
-    redo.clear();
-    match written {
-        Ok(()) => said(alloc, "written"),
-        Err(error) => Ok(format!(in alloc; "{error}")?),
+    words: &mut Words,
+) -> Result<(), RowError> {
+    match apply(disk, redo) {
+        Ok(()) => words.word("written"),
+        Err(DiskFailed) => words.word("the disk failed"),
     }
+    redo.clear();
+    Ok(())
 }

@@ -4,28 +4,16 @@ use jb_base::{Bytes, OutOfMemory};
 use jb_disk::{FileId, MemDisk};
 use std::alloc::Global;
 use std::array;
-use trial_rows::{Row, RowError, hexed, said};
-
-/// The answer to a row that makes or shows files.
-pub(crate) fn answer(alloc: Global, disk: &mut MemDisk, row: &Row) -> Result<String, RowError> {
-    match row.word(0)? {
-        "new" => begin(alloc, disk),
-        "append" => append(alloc, disk, row),
-        "length" => length(alloc, disk.file(file_at(row, 1)?)),
-        "bytes" => shown(alloc, disk.file(file_at(row, 1)?), row),
-        _ => run(alloc, disk.file(file_at(row, 1)?), row.number(2)?),
-    }
-}
+use trial_rows::{Row, RowError, Words};
 
 /// Empty files from now on.
-fn begin(alloc: Global, disk: &mut MemDisk) -> Result<String, RowError> {
-    put(disk, empty(alloc)?);
-    said(alloc, "empty files")
-}
-
-/// Puts a disk in the place of another.
-fn put(place: &mut MemDisk, disk: MemDisk) {
-    *place = disk;
+pub(crate) fn begin(alloc: Global, disk: &mut MemDisk, words: &mut Words) -> Result<(), RowError> {
+    let Ok(made) = empty(alloc) else {
+        return Err(RowError::OutOfMemory);
+    };
+    *disk = made;
+    words.word("empty files");
+    Ok(())
 }
 
 /// The file that the word at a place names.
@@ -59,64 +47,148 @@ pub(crate) fn empty(alloc: Global) -> Result<MemDisk, OutOfMemory> {
     MemDisk::new(alloc, files, Vec::new(alloc))
 }
 
-/// A disk with these files.
-pub(crate) fn disk_of(alloc: Global, files: [Bytes; 6]) -> Result<MemDisk, RowError> {
-    Ok(MemDisk::new(alloc, files, Vec::new(alloc))?)
+/// A disk with the files of another, but with these bytes in the place of one, which fails the calls with these numbers.
+fn with_file(
+    alloc: Global,
+    disk: &MemDisk,
+    other: FileId,
+    bytes: &[u8],
+    failing: &[u64],
+) -> Result<MemDisk, OutOfMemory> {
+    let Ok(failing) = failing.to_vec(alloc) else {
+        return Err(OutOfMemory);
+    };
+    let Ok(files) = array::try_from_fn(|number| {
+        let file = file_of(number);
+        Bytes::copy(
+            alloc,
+            if file == other {
+                bytes
+            } else {
+                disk.file(file)
+            },
+        )
+    }) else {
+        return Err(OutOfMemory);
+    };
+    MemDisk::new(alloc, files, failing)
 }
 
-/// What the files of a disk hold.
-pub(crate) fn copies(alloc: Global, disk: &MemDisk) -> Result<[Bytes; 6], OutOfMemory> {
-    array::try_from_fn(|number| Bytes::copy(alloc, disk.file(file_of(number))))
+/// Makes a disk with the files of another, which fails the calls with these numbers.
+pub(crate) fn copy(
+    alloc: Global,
+    disk: &MemDisk,
+    failing: &[u64],
+    place: &mut MemDisk,
+) -> Result<(), RowError> {
+    let first = disk.file(FileId::Jhr);
+    let Ok(made) = with_file(alloc, disk, FileId::Jhr, first, failing) else {
+        return Err(RowError::OutOfMemory);
+    };
+    *place = made;
+    Ok(())
 }
 
-/// Gives a file other bytes.
-pub(crate) fn replace(files: &mut [Bytes; 6], file: FileId, bytes: Bytes) {
-    if let Some(place) = files.get_mut(file.number() as usize) {
-        *place = bytes;
+/// Gives a file other bytes, on a new disk.
+pub(crate) fn replace(
+    alloc: Global,
+    disk: &mut MemDisk,
+    file: FileId,
+    bytes: &[u8],
+) -> Result<(), RowError> {
+    let Ok(made) = with_file(alloc, disk, file, bytes, &[]) else {
+        return Err(RowError::OutOfMemory);
+    };
+    *disk = made;
+    Ok(())
+}
+
+/// Puts a part so many times behind these bytes.
+fn repeat(all: &mut Bytes, count: u32, part: &[u8]) -> Result<(), OutOfMemory> {
+    for _ in 0..count {
+        all.append(part)?;
     }
+    Ok(())
 }
 
-/// The bytes at the fourth word of a row, as often as the third says.
+/// The bytes at the fourth word of a row, as often as the third says, behind others.
 fn repeated(alloc: Global, row: &Row, before: &[u8]) -> Result<Bytes, RowError> {
     let count = row.u32(2)?;
-    let part = row.bytes(alloc, 3)?;
-    let mut all = Bytes::copy(alloc, before)?;
-    for _ in 0..count {
-        all.append(part.as_slice())?;
+    let Ok(part) = row.bytes(alloc, 3) else {
+        return Err(RowError::Bytes(3));
+    };
+    let Ok(mut all) = Bytes::copy(alloc, before) else {
+        return Err(RowError::OutOfMemory);
+    };
+    if repeat(&mut all, count, part.as_slice()).is_err() {
+        return Err(RowError::OutOfMemory);
     }
     Ok(all)
 }
 
 /// `append FILE COUNT BYTES`: a new disk, on which so many times these bytes stand behind the others of a file.
-fn append(alloc: Global, disk: &mut MemDisk, row: &Row) -> Result<String, RowError> {
+pub(crate) fn append(
+    alloc: Global,
+    disk: &mut MemDisk,
+    row: &Row,
+    words: &mut Words,
+) -> Result<(), RowError> {
     let file = file_at(row, 1)?;
-    let bytes = repeated(alloc, row, disk.file(file))?;
-    let mut files = copies(alloc, disk)?;
-    replace(&mut files, file, bytes);
-    put(disk, disk_of(alloc, files)?);
-    length(alloc, disk.file(file))
+    let Ok(bytes) = repeated(alloc, row, disk.file(file)) else {
+        return Err(RowError::Bytes(3));
+    };
+    replace(alloc, disk, file, bytes.as_slice())?;
+    put_length(disk, row, words)
 }
 
-fn length(alloc: Global, file: &[u8]) -> Result<String, RowError> {
-    Ok(format!(in alloc; "{} bytes", file.len())?)
+/// `length FILE`.
+pub(crate) fn put_length(disk: &MemDisk, row: &Row, words: &mut Words) -> Result<(), RowError> {
+    let file = disk.file(file_at(row, 1)?);
+    words.number(file.len() as u64);
+    words.word("bytes");
+    Ok(())
 }
 
 /// `bytes FILE AT LEN`.
-fn shown(alloc: Global, file: &[u8], row: &Row) -> Result<String, RowError> {
+pub(crate) fn put_bytes(
+    alloc: Global,
+    disk: &MemDisk,
+    row: &Row,
+    words: &mut Words,
+) -> Result<(), RowError> {
+    let file = disk.file(file_at(row, 1)?);
     let at = row.u32(2)? as usize;
     let end = at + row.u32(3)? as usize;
     match file.get(at..end) {
-        Some(bytes) => hexed(alloc, bytes),
-        None => said(alloc, "not so long"),
+        Some(bytes) => words.hexed(alloc, bytes),
+        None => words.word("not so long"),
     }
+    Ok(())
 }
 
-/// How many bytes from a place on are the same, and which byte it is.
-fn run(alloc: Global, file: &[u8], at: u64) -> Result<String, RowError> {
-    let rest = file.get(at as usize..).unwrap_or(&[]);
+/// How many bytes are this one, up to the first that is another.
+fn run_len(bytes: &[u8], byte: u8) -> usize {
+    let mut len = 0;
+    for other in bytes {
+        if *other != byte {
+            return len;
+        }
+        len = len.saturating_add(1);
+    }
+    len
+}
+
+/// `run FILE AT`: how many bytes from a place on are the same, and which byte it is.
+pub(crate) fn put_run(disk: &MemDisk, row: &Row, words: &mut Words) -> Result<(), RowError> {
+    let file = disk.file(file_at(row, 1)?);
+    let at = row.number(2)? as usize;
+    let rest = file.get(at..).unwrap_or(&[]);
     let Some(byte) = rest.first() else {
-        return said(alloc, "not so long");
+        words.word("not so long");
+        return Ok(());
     };
-    let end = rest.iter().position(|other| other != byte);
-    Ok(format!(in alloc; "{} of {byte}", end.unwrap_or(rest.len()))?)
+    words.number(run_len(rest, *byte) as u64);
+    words.word("of");
+    words.number(u64::from(*byte));
+    Ok(())
 }

@@ -1,102 +1,124 @@
 //! The area for which files stand.
 
 use crate::mark;
-use jb_base::{Subfield, Subfields};
+use crate::opening::put_refusal;
+use jb_base::Subfields;
 use jb_disk::MemDisk;
 use jb_image::decode;
-use jb_model::{Head, Loaded, LoadedMessage, LoadedSlot};
+use jb_model::{Loaded, LoadedMessage, LoadedSlot};
 use std::alloc::Global;
-use trial_rows::{Row, RowError, listed, said, shown};
+use trial_rows::{Row, RowError, Words, listed, shown};
 
 /// The answer to a row that shows the area.
-pub(crate) fn answer(alloc: Global, disk: &mut MemDisk, row: &Row) -> Result<String, RowError> {
+pub(crate) fn answer(
+    alloc: Global,
+    disk: &mut MemDisk,
+    row: &Row,
+    words: &mut Words,
+) -> Result<(), RowError> {
     match decode(alloc, disk, 65_000) {
-        Ok(loaded) => part(alloc, &loaded, row),
-        Err(error) => Ok(format!(in alloc; "{error:?}")?),
+        Ok(loaded) => put_part(alloc, &loaded, row, words),
+        Err(error) => put_refusal(alloc, error, words),
     }
 }
 
-fn part(alloc: Global, loaded: &Loaded, row: &Row) -> Result<String, RowError> {
+fn put_part(alloc: Global, loaded: &Loaded, row: &Row, words: &mut Words) -> Result<(), RowError> {
     match row.word(0)? {
-        "area" => numbers(alloc, loaded),
-        "marks" => mark::told(alloc, loaded.marks.as_slice()),
-        "slots" => slots(alloc, loaded.slots.as_slice()),
-        _ => message_at(alloc, loaded.slots.as_slice(), row.number(1)?),
-    }
-}
-
-/// The numbers of the fixed header, and the lengths of .JHR and .JDT.
-fn numbers(alloc: Global, loaded: &Loaded) -> Result<String, RowError> {
-    Ok(format!(in alloc;
-        "created {} counter {} active {} base {} headers {} texts {}",
-        loaded.created,
-        loaded.counter,
-        loaded.active,
-        loaded.base,
-        loaded.headers_len,
-        loaded.texts_len
-    )?)
-}
-
-/// What each number names, and the place of its header.
-pub(crate) fn slots(alloc: Global, slots: &[LoadedSlot]) -> Result<String, RowError> {
-    let mut text = said(alloc, "slots")?;
-    for slot in slots {
-        put_slot(&mut text, slot)?;
-    }
-    Ok(text)
-}
-
-fn put_slot(text: &mut String, slot: &LoadedSlot) -> Result<(), RowError> {
-    match slot {
-        LoadedSlot::Empty => text.push_str(" empty")?,
-        LoadedSlot::Killed { header_at } => write!(text, " killed@{header_at}")?,
-        LoadedSlot::Live(message) => write!(text, " live@{}", message.header_at)?,
+        "area" => put_numbers(words, loaded),
+        "marks" => mark::put_marks(words, loaded.marks.as_slice()),
+        "slots" => put_slots(words, loaded.slots.as_slice()),
+        _ => return put_message_at(alloc, loaded.slots.as_slice(), row.number(1)?, words),
     }
     Ok(())
 }
 
-fn message_at(alloc: Global, slots: &[LoadedSlot], place: u64) -> Result<String, RowError> {
+/// Puts a number and what it is.
+fn put_named(words: &mut Words, name: &str, number: u64) {
+    words.word(name);
+    words.number(number);
+}
+
+/// The numbers of the fixed header, and the lengths of .JHR and .JDT.
+fn put_numbers(words: &mut Words, loaded: &Loaded) {
+    put_named(words, "created", u64::from(loaded.created));
+    put_named(words, "counter", u64::from(loaded.counter));
+    put_named(words, "active", u64::from(loaded.active));
+    put_named(words, "base", u64::from(loaded.base));
+    put_named(words, "headers", loaded.headers_len);
+    put_named(words, "texts", loaded.texts_len);
+}
+
+/// What each number names, and the place of its header.
+pub(crate) fn put_slots(words: &mut Words, slots: &[LoadedSlot]) {
+    words.word("slots");
+    for slot in slots {
+        put_slot(words, slot);
+    }
+}
+
+fn put_slot(words: &mut Words, slot: &LoadedSlot) {
+    match slot {
+        LoadedSlot::Empty => words.word("empty"),
+        LoadedSlot::Killed { header_at } => put_placed(words, "killed@", *header_at),
+        LoadedSlot::Live(message) => put_placed(words, "live@", message.header_at),
+    }
+}
+
+fn put_placed(words: &mut Words, kind: &str, header_at: u32) {
+    words.word(kind);
+    words.put_number(u64::from(header_at));
+}
+
+fn put_message_at(
+    alloc: Global,
+    slots: &[LoadedSlot],
+    place: u64,
+    words: &mut Words,
+) -> Result<(), RowError> {
     match slots.get(place as usize) {
-        Some(LoadedSlot::Live(message)) => shown_message(alloc, message),
-        _ => said(alloc, "not live"),
+        Some(LoadedSlot::Live(message)) => put_message(alloc, message, words),
+        _ => {
+            words.word("not live");
+            Ok(())
+        }
     }
 }
 
 /// What is read of a live message: the numbers of its index record and of its header, and its subfields.
-fn shown_message(alloc: Global, message: &LoadedMessage) -> Result<String, RowError> {
-    let mut text = places_of(alloc, message)?;
-    put_head(&mut text, &message.head)?;
-    put_fields(alloc, &mut text, &message.subfields)?;
-    Ok(text)
+fn put_message(alloc: Global, message: &LoadedMessage, words: &mut Words) -> Result<(), RowError> {
+    put_named(words, "owner", u64::from(message.owner));
+    put_named(words, "header", u64::from(message.header_at));
+    put_named(words, "text", u64::from(message.text_at));
+    words.put("+");
+    words.put_number(u64::from(message.text_len));
+    put_named(words, "read", u64::from(message.head.times_read));
+    put_named(words, "id", u64::from(message.head.msgid_crc));
+    put_named(words, "attribute", u64::from(message.head.attribute));
+    put_fields(alloc, &message.subfields, words)
 }
 
-fn places_of(alloc: Global, message: &LoadedMessage) -> Result<String, RowError> {
-    Ok(format!(in alloc;
-        "owner {} header {} text {}+{}",
-        message.owner, message.header_at, message.text_at, message.text_len
-    )?)
-}
-
-fn put_head(text: &mut String, head: &Head) -> Result<(), RowError> {
-    write!(
-        text,
-        " read {} id {} attribute {}",
-        head.times_read, head.msgid_crc, head.attribute
-    )?;
-    Ok(())
-}
-
-fn put_fields(alloc: Global, text: &mut String, fields: &Subfields) -> Result<(), RowError> {
-    let list = listed(alloc, fields)?;
+fn put_fields(alloc: Global, fields: &Subfields, words: &mut Words) -> Result<(), RowError> {
+    let Ok(list) = listed(alloc, fields) else {
+        return Err(RowError::OutOfMemory);
+    };
     for field in list.as_slice() {
-        put_field(alloc, text, field)?;
+        put_numbered(alloc, u64::from(field.id), field.bytes.as_slice(), words)?;
     }
     Ok(())
 }
 
-fn put_field(alloc: Global, text: &mut String, field: &Subfield) -> Result<(), RowError> {
-    let bytes = shown(alloc, field.bytes.as_slice())?;
-    write!(text, " {}:{bytes}", field.id)?;
+/// Puts a number, and bytes behind a colon.
+pub(crate) fn put_numbered(
+    alloc: Global,
+    number: u64,
+    bytes: &[u8],
+    words: &mut Words,
+) -> Result<(), RowError> {
+    let Ok(text) = shown(alloc, bytes) else {
+        return Err(RowError::OutOfMemory);
+    };
+    words.number(number);
+    words.put(":");
+    words.put(text.as_str());
     Ok(())
 }

@@ -2,8 +2,7 @@
 ghost use Rattle.std.specs.Prelude.{◌+◌, ◌<◌, ◌^◌};
 
 use jb_model::Mark;
-use std::alloc::Global;
-use trial_rows::{Row, RowError, said};
+use trial_rows::{Row, RowError, Words};
 
 /// The mark of the four words from a place on: the CRC of the user's name, the user's number, the last message, the highest.
 pub(crate) fn mark_at(row: &Row, place: usize) -> Result<Mark, RowError>
@@ -17,21 +16,19 @@ pub(crate) fn mark_at(row: &Row, place: usize) -> Result<Mark, RowError>
     })
 }
 
-/// Puts a mark behind the other words.
-fn put_mark(text: &mut String, mark: &Mark) -> Result<(), RowError> {
-    write!(
-        text,
-        " {}:{}:{}:{}",
-        mark.user_crc, mark.user_id, mark.last, mark.high
-    )?;
-    Ok(())
+/// Puts a number behind a colon.
+fn put_behind(words: &mut Words, number: u32) {
+    words.put(":");
+    words.put_number(u64::from(number));
 }
 
-/// These marks, in order.
-pub(crate) fn told(alloc: Global, marks: &[Mark]) -> Result<String, RowError> {
-    let mut text = said(alloc, "marks")?;
+/// Puts these marks, in order.
+pub(crate) fn put_marks(words: &mut Words, marks: &[Mark]) {
+    words.word("marks");
     for mark in marks {
-        put_mark(&mut text, mark)?;
+        words.number(u64::from(mark.user_crc));
+        put_behind(words, mark.user_id);
+        put_behind(words, mark.last);
+        put_behind(words, mark.high);
     }
-    Ok(text)
 }

@@ -1,14 +1,16 @@
 //! The lists of an area as a plain value, and as it is loaded.
 
-use crate::loaded;
-use crate::mark::{self, mark_at};
-use jb_base::{Bytes, Subfields};
+use crate::changes;
+use crate::loaded::{put_numbered, put_slots};
+use crate::mark::{mark_at, put_marks};
+use jb_base::Subfields;
+use jb_disk::Redo;
 use jb_model::{
     Area, Head, LoadedMessage, LoadedSlot, LoadedSlots, Marks, Message, Short, Slot, Slots,
     Summaries, Summary,
 };
 use std::alloc::Global;
-use trial_rows::{Row, RowError, said, shown};
+use trial_rows::{Row, RowError, Words};
 
 /// The header's fields of a message by a user of the same machine, written at 1,000,000,000 seconds.
 pub(crate) const HEAD: Head = Head {
@@ -28,14 +30,19 @@ pub(crate) const HEAD: Head = Head {
     cost: 0,
 };
 
-/// The answer to a row of lists.
-pub(crate) fn answer(alloc: Global, row: &Row) -> Result<String, RowError> {
+/// The answer to a row of lists, or to one that puts a piece behind the others of a change.
+pub(crate) fn answer(
+    alloc: Global,
+    redo: &mut Redo,
+    row: &Row,
+    words: &mut Words,
+) -> Result<(), RowError> {
     match row.word(0)? {
-        "loaded-slots" => loaded_slots(alloc, row),
-        "plain-area" => plain_area(alloc, row),
-        "plain-marks" => plain_marks(alloc, row),
-        "summary" => summary(alloc, row),
-        _ => Err(RowError::Unknown(0)),
+        "loaded-slots" => loaded_slots(alloc, row, words),
+        "plain-area" => plain_area(alloc, row, words),
+        "plain-marks" => plain_marks(alloc, row, words),
+        "summary" => summary(alloc, row, words),
+        _ => changes::answer(redo, row, words),
     }
 }
 
@@ -55,28 +62,12 @@ fn loaded_slot(alloc: Global, kind: &str) -> LoadedSlot {
     }
 }
 
-/// The slots of these kinds, from the fifth word of a row on.
-fn all_loaded(alloc: Global, row: &Row) -> Result<LoadedSlots, RowError> {
-    let mut slots = LoadedSlots::new(alloc)?;
+/// Puts slots of these kinds, from the fifth word of a row on.
+fn fill_loaded(alloc: Global, row: &Row, slots: &mut LoadedSlots) -> Result<(), RowError> {
     for place in 5..row.len() {
         slots.push(loaded_slot(alloc, row.word(place)?))?;
     }
-    Ok(slots)
-}
-
-/// `loaded-slots DROPPED PLACE HEADER TEXT KIND..`: the slots, after the live message at a place was said to have its header
-/// and its text there, and after so many of the first were dropped.
-fn loaded_slots(alloc: Global, row: &Row) -> Result<String, RowError> {
-    let dropped = row.u16(1)? as usize;
-    let place = row.u16(2)? as usize;
-    let header_at = row.u32(3)?;
-    let text_at = row.u32(4)?;
-    let mut slots = all_loaded(alloc, row)?;
-    move_one(&mut slots, place, header_at, text_at);
-    if dropped <= slots.as_slice().len() {
-        slots.drop_first(dropped);
-    }
-    loaded::slots(alloc, slots.as_slice())
+    Ok(())
 }
 
 /// Says of the message at a place, where one stands there, that its header and its text are there.
@@ -86,84 +77,118 @@ fn move_one(slots: &mut LoadedSlots, place: usize, header_at: u32, text_at: u32)
     }
 }
 
+/// Drops so many of the first slots, where there are so many.
+fn drop_some(slots: &mut LoadedSlots, dropped: u16) {
+    if dropped as usize <= slots.as_slice().len() {
+        slots.drop_first(dropped as usize);
+    }
+}
+
+/// Does with the slots what a row says.
+fn change_loaded(
+    alloc: Global,
+    row: &Row,
+    slots: &mut LoadedSlots,
+    words: &mut Words,
+) -> Result<(), RowError> {
+    fill_loaded(alloc, row, slots)?;
+    move_one(slots, row.u16(2)? as usize, row.u32(3)?, row.u32(4)?);
+    drop_some(slots, row.u16(1)?);
+    put_slots(words, slots.as_slice());
+    Ok(())
+}
+
+/// `loaded-slots DROPPED PLACE HEADER TEXT KIND..`: the slots, after the live message at a place was said to have its header
+/// and its text there, and after so many of the first were dropped.
+fn loaded_slots(alloc: Global, row: &Row, words: &mut Words) -> Result<(), RowError> {
+    let Ok(mut slots) = LoadedSlots::new(alloc) else {
+        return Err(RowError::OutOfMemory);
+    };
+    change_loaded(alloc, row, &mut slots, words)
+}
+
 /// A slot: `empty`, `killed`, or a live message with these bytes as its text.
 fn plain_slot(alloc: Global, row: &Row, place: usize) -> Result<Slot, RowError> {
     match row.word(place)? {
         "empty" => Ok(Slot::Empty),
         "killed" => Ok(Slot::Killed),
-        _ => Ok(live(alloc, row.bytes(alloc, place)?)),
+        _ => live_slot(alloc, row, place),
     }
 }
 
-fn live(alloc: Global, text: Bytes) -> Slot {
-    Slot::Live(Message {
+fn live_slot(alloc: Global, row: &Row, place: usize) -> Result<Slot, RowError> {
+    let Ok(text) = row.bytes(alloc, place) else {
+        return Err(RowError::Bytes(place));
+    };
+    Ok(Slot::Live(Message {
         head: HEAD,
         subfields: Subfields::new(alloc),
         text,
-    })
+    }))
 }
 
-fn plain_slots(alloc: Global, row: &Row) -> Result<Slots, RowError> {
-    let mut slots = Slots::new(alloc);
+fn fill_plain(alloc: Global, row: &Row, slots: &mut Slots) -> Result<(), RowError> {
     for place in 2..row.len() {
-        slots.push(plain_slot(alloc, row, place)?)?;
+        let Ok(slot) = plain_slot(alloc, row, place) else {
+            return Err(RowError::Bytes(place));
+        };
+        slots.push(slot)?;
     }
-    Ok(slots)
+    Ok(())
 }
 
 /// `plain-area BASE SLOT..`: the number of each live message and the length of its text.
-fn plain_area(alloc: Global, row: &Row) -> Result<String, RowError> {
+fn plain_area(alloc: Global, row: &Row, words: &mut Words) -> Result<(), RowError> {
     let base = row.u32(1)?;
-    let slots = plain_slots(alloc, row)?;
+    let mut slots = Slots::new(alloc);
+    fill_plain(alloc, row, &mut slots)?;
     let marks = Marks::new(alloc);
-    texts(alloc, &Area { base, slots, marks })
+    put_texts(words, &Area { base, slots, marks });
+    Ok(())
 }
 
-fn texts(alloc: Global, area: &Area) -> Result<String, RowError> {
-    let mut text = said(alloc, "texts")?;
-    for (number, slot) in (area.base..).zip(area.slots.as_slice()) {
-        put_text(&mut text, number, slot)?;
+fn put_texts(words: &mut Words, area: &Area) {
+    words.word("texts");
+    let mut number = u64::from(area.base);
+    for slot in area.slots.as_slice() {
+        if let Slot::Live(message) = slot {
+            put_text(words, number, message);
+        }
+        number = number.saturating_add(1);
     }
-    Ok(text)
 }
 
-fn put_text(text: &mut String, number: u32, slot: &Slot) -> Result<(), RowError> {
-    if let Slot::Live(message) = slot {
-        write!(text, " {number}:{}", message.text.len())?;
+fn put_text(words: &mut Words, number: u64, message: &Message) {
+    words.number(number);
+    words.put(":");
+    words.put_number(message.text.len() as u64);
+}
+
+fn fill_marks(row: &Row, marks: &mut Marks) -> Result<(), RowError> {
+    for before in 0..row.len().min(1_000) / 4 {
+        marks.push(mark_at(row, 4 * before + 1)?)?;
     }
     Ok(())
 }
 
 /// `plain-marks CRC USER LAST HIGH ..`: the marks, in order.
-fn plain_marks(alloc: Global, row: &Row) -> Result<String, RowError> {
+fn plain_marks(alloc: Global, row: &Row, words: &mut Words) -> Result<(), RowError> {
     let mut marks = Marks::new(alloc);
-    for before in 0..row.len().min(1_000) / 4 {
-        marks.push(mark_at(row, 4 * before + 1)?)?;
-    }
-    mark::told(alloc, marks.as_slice())
+    fill_marks(row, &mut marks)?;
+    put_marks(words, marks.as_slice());
+    Ok(())
 }
 
 /// The first bytes of the bytes at a place of a row.
 fn short<const N: usize>(alloc: Global, row: &Row, place: usize) -> Result<Short<N>, RowError> {
-    let bytes = row.bytes(alloc, place)?;
-    if bytes.len() > 1_000_000 {
-        return Err(RowError::Bytes(place));
+    match row.bytes(alloc, place) {
+        Ok(bytes) if bytes.len() <= 1_000_000 => Ok(Short::of(bytes.as_slice())),
+        _ => Err(RowError::Bytes(place)),
     }
-    Ok(Short::of(bytes.as_slice()))
-}
-
-fn put_short<const N: usize>(
-    alloc: Global,
-    text: &mut String,
-    short: &Short<N>,
-) -> Result<(), RowError> {
-    let kept = shown(alloc, short.as_slice())?;
-    write!(text, " {}:{kept}", short.length)?;
-    Ok(())
 }
 
 /// `summary FROM TO SUBJECT`: of each how long it is, and the first bytes that are kept.
-fn summary(alloc: Global, row: &Row) -> Result<String, RowError> {
+fn summary(alloc: Global, row: &Row, words: &mut Words) -> Result<(), RowError> {
     let summary = Summary {
         number: 4,
         from: short(alloc, row, 1)?,
@@ -175,20 +200,21 @@ fn summary(alloc: Global, row: &Row) -> Result<String, RowError> {
     };
     let mut summaries = Summaries::new(alloc);
     summaries.push(summary)?;
-    listed(alloc, summaries.as_slice())
+    put_summaries(alloc, summaries.as_slice(), words)
 }
 
-fn listed(alloc: Global, summaries: &[Summary]) -> Result<String, RowError> {
-    let mut text = said(alloc, "summaries")?;
+fn put_summaries(alloc: Global, summaries: &[Summary], words: &mut Words) -> Result<(), RowError> {
+    words.word("summaries");
     for summary in summaries {
-        put_summary(alloc, &mut text, summary)?;
+        put_summary(alloc, summary, words)?;
     }
-    Ok(text)
+    Ok(())
 }
 
-fn put_summary(alloc: Global, text: &mut String, summary: &Summary) -> Result<(), RowError> {
-    write!(text, " {}", summary.number)?;
-    put_short(alloc, text, &summary.from)?;
-    put_short(alloc, text, &summary.to)?;
-    put_short(alloc, text, &summary.subject)
+fn put_summary(alloc: Global, summary: &Summary, words: &mut Words) -> Result<(), RowError> {
+    let (from, to, subject) = (&summary.from, &summary.to, &summary.subject);
+    words.number(u64::from(summary.number));
+    put_numbered(alloc, u64::from(from.length), from.as_slice(), words)?;
+    put_numbered(alloc, u64::from(to.length), to.as_slice(), words)?;
+    put_numbered(alloc, u64::from(subject.length), subject.as_slice(), words)
 }

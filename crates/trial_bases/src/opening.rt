@@ -1,129 +1,146 @@
 //! Whether files are opened, and why not.
 ghost use Rattle.std.specs.Prelude.{◌<◌, ◌^◌};
 
-use crate::files::{copies, disk_of, file_at, replace};
+use crate::files::{copy, file_at, replace};
 use jb_base::{Bytes, OutOfMemory};
-use jb_disk::MemDisk;
+use jb_disk::{FileId, MemDisk};
 use jb_image::{OpenError, decode};
 use std::alloc::Global;
-use trial_rows::{Row, RowError};
-
-/// The answer to a row that opens a copy of the files.
-pub(crate) fn answer(alloc: Global, disk: &MemDisk, row: &Row) -> Result<String, RowError> {
-    match row.word(0)? {
-        "fault" => fault(alloc, disk, row.number(1)?),
-        word => over_other(alloc, disk, row, word),
-    }
-}
-
-/// What comes of the opening of the disk that a row speaks of.
-fn over_other(alloc: Global, disk: &MemDisk, row: &Row, word: &str) -> Result<String, RowError> {
-    let slots = row.u32(1)?;
-    let mut other = other(alloc, disk, row, word)?;
-    match word {
-        "calls" => calls(alloc, &mut other, slots),
-        _ => opened(alloc, &mut other, slots),
-    }
-}
-
-fn other(alloc: Global, disk: &MemDisk, row: &Row, word: &str) -> Result<MemDisk, RowError> {
-    match word {
-        "open-zeros" => with_zeros(alloc, disk, row),
-        _ => changed(alloc, disk, row),
-    }
-}
+use trial_rows::{Row, RowError, Words};
 
 /// The bytes of a file with others over those from a place on, and behind its end.
 fn overwritten(alloc: Global, file: &[u8], at: usize, bytes: &[u8]) -> Result<Bytes, OutOfMemory> {
     let end = at.saturating_add(bytes.len()).min(file.len());
-    let mut all = Bytes::copy(alloc, &file[..at.min(file.len())])?;
-    all.append(bytes)?;
-    all.append(&file[end..])?;
+    let Ok(mut all) = Bytes::copy(alloc, &file[..at.min(file.len())]) else {
+        return Err(OutOfMemory);
+    };
+    if all.append(bytes).is_err() || all.append(&file[end..]).is_err() {
+        return Err(OutOfMemory);
+    }
     Ok(all)
 }
 
+/// Gives a file other bytes from a place on.
+fn overwrite(
+    alloc: Global,
+    disk: &mut MemDisk,
+    file: FileId,
+    at: usize,
+    bytes: &[u8],
+) -> Result<(), RowError> {
+    let Ok(new) = overwritten(alloc, disk.file(file), at, bytes) else {
+        return Err(RowError::OutOfMemory);
+    };
+    replace(alloc, disk, file, new.as_slice())
+}
+
 /// Does the change of the three words from a place on: a file, a place in it, and the bytes that stand from there on.
-fn change(alloc: Global, files: &mut [Bytes; 6], row: &Row, place: usize) -> Result<(), RowError>
+fn change(alloc: Global, disk: &mut MemDisk, row: &Row, place: usize) -> Result<(), RowError>
     requires { place < 2 ^ 63 }
 {
     let file = file_at(row, place)?;
     let at = row.u32(place + 1)? as usize;
-    let bytes = row.bytes(alloc, place + 2)?;
-    if let Some(old) = files.get(file.number() as usize) {
-        let new = overwritten(alloc, old.as_slice(), at, bytes.as_slice())?;
-        replace(files, file, new);
-    }
-    Ok(())
+    let Ok(bytes) = row.bytes(alloc, place + 2) else {
+        return Err(RowError::Bytes(place + 2));
+    };
+    overwrite(alloc, disk, file, at, bytes.as_slice())
 }
 
-/// A disk with these files after the changes of a row.
-fn changed(alloc: Global, disk: &MemDisk, row: &Row) -> Result<MemDisk, RowError> {
-    let mut files = copies(alloc, disk)?;
-    change_all(alloc, &mut files, row)?;
-    disk_of(alloc, files)
-}
-
-fn change_all(alloc: Global, files: &mut [Bytes; 6], row: &Row) -> Result<(), RowError> {
+/// Makes a copy of the files with the changes of a row, which are three words each, from the third on.
+fn make(alloc: Global, disk: &MemDisk, other: &mut MemDisk, row: &Row) -> Result<(), RowError> {
+    copy(alloc, disk, &[], other)?;
     for number in 0..row.len().min(100) / 3 {
         if 3 * number + 2 < row.len() {
-            change(alloc, files, row, 3 * number + 2)?;
+            change(alloc, other, row, 3 * number + 2)?;
         }
     }
     Ok(())
 }
 
-/// A disk with these files, but one of them is so many zeros: `open-zeros SLOTS FILE LEN`.
-fn with_zeros(alloc: Global, disk: &MemDisk, row: &Row) -> Result<MemDisk, RowError> {
-    let file = file_at(row, 2)?;
-    let len = row.u32(3)? as usize;
-    let zeros = Bytes::from(vec![in alloc; 0; len]?);
-    let mut files = copies(alloc, disk)?;
-    replace(&mut files, file, zeros);
-    disk_of(alloc, files)
-}
-
-/// A disk with these files that fails the call with this number.
-fn failing(alloc: Global, disk: &MemDisk, call: u64) -> Result<MemDisk, OutOfMemory> {
-    let failing = vec![in alloc; call; 1]?;
-    let files = copies(alloc, disk)?;
-    MemDisk::new(alloc, files, failing)
-}
-
-fn opening(alloc: Global, disk: &mut MemDisk, slots: u32) -> Result<(), OpenError> {
-    decode(alloc, disk, slots)?;
-    Ok(())
-}
-
-fn put_answer(text: &mut String, answer: Result<(), OpenError>) -> Result<(), RowError> {
-    match answer {
-        Ok(()) => text.push_str("opened")?,
-        Err(error) => write!(text, "{error:?}")?,
-    }
+/// Puts why files are not opened.
+pub(crate) fn put_refusal(
+    alloc: Global,
+    error: OpenError,
+    words: &mut Words,
+) -> Result<(), RowError> {
+    let Ok(text) = format!(in alloc; "{error:?}") else {
+        return Err(RowError::OutOfMemory);
+    };
+    words.word(text.as_str());
     Ok(())
 }
 
 /// What the opening answers.
-fn opened(alloc: Global, disk: &mut MemDisk, slots: u32) -> Result<String, RowError> {
-    let mut text = String::new(alloc);
-    put_answer(&mut text, opening(alloc, disk, slots))?;
-    Ok(text)
+fn put_opened(
+    alloc: Global,
+    disk: &mut MemDisk,
+    slots: u32,
+    words: &mut Words,
+) -> Result<(), RowError> {
+    match decode(alloc, disk, slots) {
+        Ok(_) => words.word("opened"),
+        Err(error) => return put_refusal(alloc, error, words),
+    }
+    Ok(())
 }
 
-/// How many calls of the disk the opening makes.
-fn calls(alloc: Global, disk: &mut MemDisk, slots: u32) -> Result<String, RowError> {
-    let _answer = opening(alloc, disk, slots);
-    Ok(format!(in alloc; "{}", disk.calls())?)
+/// `open SLOTS CHANGE ..`: what the opening of a copy of the files answers, after changes.
+pub(crate) fn open(
+    alloc: Global,
+    disk: &MemDisk,
+    other: &mut MemDisk,
+    row: &Row,
+    words: &mut Words,
+) -> Result<(), RowError> {
+    make(alloc, disk, other, row)?;
+    put_opened(alloc, other, row.u32(1)?, words)
 }
 
-/// What the opening answers where this call of the disk fails, and what the next one answers.
-fn fault(alloc: Global, disk: &MemDisk, call: u64) -> Result<String, RowError> {
-    let mut disk = failing(alloc, disk, call)?;
-    opened_twice(alloc, &mut disk)
+/// `open-zeros SLOTS FILE LEN`: the same where one of the files is so many zeros.
+pub(crate) fn open_zeros(
+    alloc: Global,
+    disk: &MemDisk,
+    other: &mut MemDisk,
+    row: &Row,
+    words: &mut Words,
+) -> Result<(), RowError> {
+    copy(alloc, disk, &[], other)?;
+    put_zeros(alloc, other, file_at(row, 2)?, row.u32(3)?)?;
+    put_opened(alloc, other, row.u32(1)?, words)
 }
 
-fn opened_twice(alloc: Global, disk: &mut MemDisk) -> Result<String, RowError> {
-    let mut text = opened(alloc, disk, 5)?;
-    text.push_str(" then ")?;
-    put_answer(&mut text, opening(alloc, disk, 5))?;
-    Ok(text)
+/// Makes a file so many zeros.
+fn put_zeros(alloc: Global, disk: &mut MemDisk, file: FileId, len: u32) -> Result<(), RowError> {
+    let Ok(zeros) = vec![in alloc; 0; len as usize] else {
+        return Err(RowError::OutOfMemory);
+    };
+    replace(alloc, disk, file, zeros.as_slice())
+}
+
+/// `calls SLOTS CHANGE ..`: how many calls of the disk the opening makes.
+pub(crate) fn put_calls(
+    alloc: Global,
+    disk: &MemDisk,
+    other: &mut MemDisk,
+    row: &Row,
+    words: &mut Words,
+) -> Result<(), RowError> {
+    make(alloc, disk, other, row)?;
+    let _answer = decode(alloc, other, row.u32(1)?);
+    words.number(other.calls());
+    Ok(())
+}
+
+/// `fault CALL`: what the opening answers where this call of the disk fails, and what the next one answers.
+pub(crate) fn fault(
+    alloc: Global,
+    disk: &MemDisk,
+    other: &mut MemDisk,
+    row: &Row,
+    words: &mut Words,
+) -> Result<(), RowError> {
+    copy(alloc, disk, &[row.number(1)?], other)?;
+    put_opened(alloc, other, 5, words)?;
+    words.word("then");
+    put_opened(alloc, other, 5, words)
 }

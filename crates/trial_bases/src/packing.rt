@@ -5,7 +5,7 @@ use jb_image::decode;
 use jb_link::relink_plan;
 use jb_pack::{Packing, plan};
 use std::alloc::Global;
-use trial_rows::RowError;
+use trial_rows::{RowError, Words};
 
 /// What a pack of the base on this disk comes to, and the change that makes it.
 fn planned(alloc: Global, disk: &mut MemDisk, redo: &mut Redo) -> Result<Packing, RowError> {
@@ -21,11 +21,16 @@ fn planned(alloc: Global, disk: &mut MemDisk, redo: &mut Redo) -> Result<Packing
 }
 
 /// What a pack comes to.
-pub(crate) fn plan_of(
+pub(crate) fn put_plan(
     alloc: Global,
     disk: &mut MemDisk,
     redo: &mut Redo,
-) -> Result<String, RowError> {
+    words: &mut Words,
+) -> Result<(), RowError> {
     let packing = planned(alloc, disk, redo)?;
-    Ok(format!(in alloc; "{packing:?}")?)
+    let Ok(text) = format!(in alloc; "{packing:?}") else {
+        return Err(RowError::OutOfMemory);
+    };
+    words.word(text.as_str());
+    Ok(())
 }

@@ -1,14 +1,13 @@
 //! The plain, slow program: commands are collected and then run over the area as a plain value.
 
-use crate::showing::{self, put_line};
+use crate::showing::{put_debug, put_header, put_reply};
 use crate::words::{self, Written};
 use jb_base::{AreaRules, Bytes, MSGID, REPLYID, Subfield, Subfields};
-use jb_model::{Area, Asked, Command, Head, Marks, Message, Reply, Slot, Slots};
+use jb_model::{Area, Asked, Command, Head, Marks, Message, Slot, Slots};
 use jb_plain::{Replies, may_run, run_slow};
 use std::alloc::Global;
-use std::fmt::Write;
 use std::mem;
-use trial_rows::{Row, RowError, said};
+use trial_rows::{Row, RowError, Words};
 
 /// A header of zeros.
 const HEAD: Head = Head {
@@ -49,45 +48,62 @@ fn put_area(place: &mut Area, area: Area) {
     *place = area;
 }
 
-/// Puts a subfield with these bytes behind the others, where there are bytes.
-fn put_field(subfields: &mut Subfields, id: u16, bytes: Bytes) -> Result<(), RowError> {
-    if !bytes.is_empty() {
-        subfields.push(Subfield { id, hi: 0, bytes })?;
+/// Puts the bytes at a place of a row behind the others as a subfield of this kind, where there are bytes.
+fn put_field(
+    alloc: Global,
+    subfields: &mut Subfields,
+    id: u16,
+    row: &Row,
+    place: usize,
+) -> Result<(), RowError> {
+    let Ok(bytes) = words::part(alloc, row, place) else {
+        return Err(RowError::Bytes(place));
+    };
+    if bytes.is_empty() {
+        return Ok(());
+    }
+    if subfields.push(Subfield { id, hi: 0, bytes }).is_err() {
+        return Err(RowError::OutOfMemory);
     }
     Ok(())
 }
 
 /// A MSGID and a REPLYID, or none, by the words of a row.
-fn fields_at(alloc: Global, row: &Row) -> Result<Subfields, RowError> {
-    let id = words::part(alloc, row, 1)?;
-    let reply = words::part(alloc, row, 2)?;
-    let mut subfields = Subfields::new(alloc);
-    put_field(&mut subfields, MSGID, id)?;
-    put_field(&mut subfields, REPLYID, reply)?;
-    Ok(subfields)
+fn put_fields(alloc: Global, subfields: &mut Subfields, row: &Row) -> Result<(), RowError> {
+    put_field(alloc, subfields, MSGID, row, 1)?;
+    put_field(alloc, subfields, REPLYID, row, 2)
 }
 
-/// A post, by the words of a row.
-fn post(alloc: Global, row: &Row) -> Result<Command, RowError> {
+/// A post of what is written.
+fn post_of(written: Written) -> Command {
     let Written {
         to,
         subject,
         text,
         reply_to,
         private,
-    } = words::written_in(alloc, row)?;
-    Ok(Command::Post {
+    } = written;
+    Command::Post {
         to,
         subject,
         text,
         reply_to,
         private,
-    })
+    }
 }
 
-/// A command about this number.
-fn numbered(word: &str, number: u32) -> Result<Command, RowError> {
-    match word {
+/// A post, by the words of a row.
+fn post(alloc: Global, row: &Row) -> Result<Command, RowError> {
+    match words::written_in(alloc, row) {
+        Ok(written) => Ok(post_of(written)),
+        Err(error) => Err(error),
+    }
+}
+
+/// A command about the number that stands behind the user.
+fn numbered(row: &Row) -> Result<Command, RowError> {
+    let number = row.u32(5)?;
+    match row.word(1)? {
         "read" => Ok(Command::Read { number }),
         "peek" => Ok(Command::Peek { number }),
         "kill" => Ok(Command::Kill { number }),
@@ -102,39 +118,35 @@ fn command(alloc: Global, row: &Row) -> Result<Command, RowError> {
         "post" => post(alloc, row),
         "pack" => Ok(Command::Pack),
         "relink" => Ok(Command::Relink),
-        word => numbered(word, row.u32(5)?),
+        _ => numbered(row),
     }
 }
 
-/// Each reply on a line.
-fn told(alloc: Global, replies: &Replies) -> Result<String, RowError> {
-    let mut text = String::new(alloc);
+/// Puts each reply on a line.
+fn put_replies(alloc: Global, replies: &Replies, words: &mut Words) -> Result<(), RowError> {
+    let mut between = "";
     for reply in replies.as_slice() {
-        put_reply(alloc, &mut text, reply)?;
+        words.put(between);
+        put_reply(alloc, reply, words)?;
+        between = "\n";
     }
-    Ok(text)
+    Ok(())
 }
 
-fn put_reply(alloc: Global, text: &mut String, reply: &Reply) -> Result<(), RowError> {
-    let line = showing::reply(alloc, reply)?;
-    put_line(text, line.as_str())
-}
-
-/// Puts a line of a live message behind the others: the fields of its header, its subfields and its text.
-fn put_message(alloc: Global, text: &mut String, message: &Message) -> Result<(), RowError> {
-    let line = showing::header(alloc, &message.head, &message.subfields)?;
-    put_line(text, line.as_str())?;
-    showing::put_bytes(alloc, text, message.text.as_slice())
+/// Puts a live message: the fields of its header, its subfields and its text.
+fn put_message(alloc: Global, message: &Message, words: &mut Words) -> Result<(), RowError> {
+    put_header(alloc, &message.head, &message.subfields, words)?;
+    words.shown(message.text.as_slice());
+    Ok(())
 }
 
 /// Puts ReplyTo, Reply1st and ReplyNext behind the other words.
-fn put_links(text: &mut String, head: &Head) -> Result<(), RowError> {
-    write!(
-        text,
-        " {}/{}/{}",
-        head.reply_to, head.reply_first, head.reply_next
-    )?;
-    Ok(())
+fn put_links(words: &mut Words, head: &Head) {
+    words.number(head.reply_to as u64);
+    words.put("/");
+    words.put_number(head.reply_first as u64);
+    words.put("/");
+    words.put_number(head.reply_next as u64);
 }
 
 /// What stands in a slot.
@@ -155,20 +167,42 @@ impl Plain {
         }
     }
 
-    /// The area begins anew from this number on.
-    pub(crate) fn begin(&mut self, alloc: Global, base: u32) {
+    /// The area begins anew from a number on.
+    pub(crate) fn begin(
+        &mut self,
+        alloc: Global,
+        row: &Row,
+        words: &mut Words,
+    ) -> Result<(), RowError> {
+        let base = row.u32(1)?;
         *self = Plain::new(alloc, base);
+        words.word("ok");
+        Ok(())
     }
 
     /// Puts a message with a MSGID and a REPLYID, or without, behind the others.
-    pub(crate) fn message(&mut self, alloc: Global, row: &Row) -> Result<String, RowError> {
-        let subfields = fields_at(alloc, row)?;
-        self.area.slots.push(Slot::Live(Message {
+    pub(crate) fn message(
+        &mut self,
+        alloc: Global,
+        row: &Row,
+        words: &mut Words,
+    ) -> Result<(), RowError> {
+        let mut subfields = Subfields::new(alloc);
+        put_fields(alloc, &mut subfields, row)?;
+        words.word("ok");
+        self.post(Message {
             head: HEAD,
             subfields,
             text: Bytes::new(alloc),
-        }))?;
-        said(alloc, "ok")
+        })
+    }
+
+    /// Puts a message behind the others.
+    fn post(&mut self, message: Message) -> Result<(), RowError> {
+        if self.area.slots.push(Slot::Live(message)).is_err() {
+            return Err(RowError::OutOfMemory);
+        }
+        Ok(())
     }
 
     /// Puts a command behind what is asked.
@@ -177,22 +211,42 @@ impl Plain {
         alloc: Global,
         moment: u32,
         row: &Row,
-    ) -> Result<String, RowError> {
-        let user = words::user(alloc, row)?;
-        let command = command(alloc, row)?;
-        self.list.push(Asked {
+        words: &mut Words,
+    ) -> Result<(), RowError> {
+        let user = match words::user(alloc, row) {
+            Ok(user) => user,
+            Err(error) => return Err(error),
+        };
+        let command = match command(alloc, row) {
+            Ok(command) => command,
+            Err(error) => return Err(error),
+        };
+        words.word("ok");
+        self.keep(Asked {
             user,
             moment,
             command,
-        })?;
-        said(alloc, "ok")
+        })
+    }
+
+    /// Keeps what is asked for the next run.
+    fn keep(&mut self, asked: Asked) -> Result<(), RowError> {
+        if self.list.push(asked).is_err() {
+            return Err(RowError::OutOfMemory);
+        }
+        Ok(())
     }
 
     /// Runs what is asked, and tells the replies.
-    pub(crate) fn run(&mut self, alloc: Global, rules: &AreaRules) -> Result<String, RowError> {
+    pub(crate) fn run(
+        &mut self,
+        alloc: Global,
+        rules: &AreaRules,
+        words: &mut Words,
+    ) -> Result<(), RowError> {
         let list = mem::replace(&mut self.list, Vec::new(alloc));
         let area = mem::replace(&mut self.area, empty(alloc, 1));
-        self.run_over(alloc, rules, area, list.as_slice())
+        self.run_over(alloc, rules, area, list.as_slice(), words)
     }
 
     /// Runs these commands over an area, which then is the one that is kept, and tells the replies.
@@ -202,49 +256,55 @@ impl Plain {
         rules: &AreaRules,
         area: Area,
         list: &[Asked],
-    ) -> Result<String, RowError> {
+        words: &mut Words,
+    ) -> Result<(), RowError> {
         if !may_run(&area, rules.slots) {
-            return said(alloc, "not-allowed");
+            words.word("not-allowed");
+            return Ok(());
         }
-        let (area, replies) = run_slow(alloc, rules, area, list)?;
+        let Ok((area, replies)) = run_slow(alloc, rules, area, list) else {
+            return Err(RowError::OutOfMemory);
+        };
         put_area(&mut self.area, area);
-        told(alloc, &replies)
+        put_replies(alloc, &replies, words)
     }
 
     /// The base number, and what stands in each slot.
-    pub(crate) fn slots(&self, alloc: Global) -> Result<String, RowError> {
-        let mut text = format!(in alloc; "base {}", self.area.base)?;
+    pub(crate) fn put_slots(&self, words: &mut Words) -> Result<(), RowError> {
+        words.word("base");
+        words.number(self.area.base as u64);
         for slot in self.area.slots.as_slice() {
-            write!(text, " {}", kind_of(slot))?;
+            words.word(kind_of(slot));
         }
-        Ok(text)
+        Ok(())
     }
 
     /// Each live message on a line.
-    pub(crate) fn messages(&self, alloc: Global) -> Result<String, RowError> {
-        let mut text = String::new(alloc);
+    pub(crate) fn put_messages(&self, alloc: Global, words: &mut Words) -> Result<(), RowError> {
+        let mut between = "";
         for slot in self.area.slots.as_slice() {
             if let Slot::Live(message) = slot {
-                put_message(alloc, &mut text, message)?;
+                words.put(between);
+                put_message(alloc, message, words)?;
+                between = "\n";
             }
         }
-        Ok(text)
+        Ok(())
     }
 
     /// ReplyTo, Reply1st and ReplyNext of each live message.
-    pub(crate) fn links(&self, alloc: Global) -> Result<String, RowError> {
-        let mut text = said(alloc, "links")?;
+    pub(crate) fn put_links(&self, words: &mut Words) -> Result<(), RowError> {
+        words.word("links");
         for slot in self.area.slots.as_slice() {
             if let Slot::Live(message) = slot {
-                put_links(&mut text, &message.head)?;
+                put_links(words, &message.head);
             }
         }
-        Ok(text)
+        Ok(())
     }
 
     /// The marks.
-    pub(crate) fn marks(&self, alloc: Global) -> Result<String, RowError> {
-        let marks = self.area.marks.as_slice();
-        Ok(format!(in alloc; "{marks:?}")?)
+    pub(crate) fn put_marks(&self, alloc: Global, words: &mut Words) -> Result<(), RowError> {
+        put_debug(alloc, &self.area.marks.as_slice(), words)
     }
 }

@@ -1,81 +1,71 @@
 //! What is written of messages and of replies.
 
-use jb_base::{Bytes, Subfields};
+use jb_base::Subfields;
 use jb_model::{Head, Letter, Reply};
 use std::alloc::Global;
-use std::fmt::Write;
-use trial_rows::{RowError, listed, shown};
+use std::fmt::Debug;
+use trial_rows::{RowError, Words, listed};
 
-/// Puts a line behind the others.
-pub(crate) fn put_line(text: &mut String, line: &str) -> Result<(), RowError> {
-    if !text.is_empty() {
-        text.push('\n')?;
+/// Puts a value as its `Debug` writes it.
+pub(crate) fn put_debug<T: Debug>(
+    alloc: Global,
+    value: &T,
+    words: &mut Words,
+) -> Result<(), RowError> {
+    match format!(in alloc; "{value:?}") {
+        Ok(text) => words.put(text.as_str()),
+        Err(_) => return Err(RowError::OutOfMemory),
     }
-    text.push_str(line)?;
-    Ok(())
-}
-
-/// Puts bytes as a word behind the others.
-pub(crate) fn put_bytes(alloc: Global, text: &mut String, bytes: &[u8]) -> Result<(), RowError> {
-    let word = shown(alloc, bytes)?;
-    text.push(' ')?;
-    text.push_str(word.as_str())?;
     Ok(())
 }
 
 /// Puts LoID, HiID and data of each subfield behind the other words.
-fn put_fields(alloc: Global, text: &mut String, subfields: &Subfields) -> Result<(), RowError> {
-    let list = listed(alloc, subfields)?;
+fn put_fields(alloc: Global, subfields: &Subfields, words: &mut Words) -> Result<(), RowError> {
+    let list = match listed(alloc, subfields) {
+        Ok(list) => list,
+        Err(error) => return Err(error),
+    };
     for field in list.as_slice() {
-        write!(text, " {} {}", field.id, field.hi)?;
-        put_bytes(alloc, text, field.bytes.as_slice())?;
+        words.number(field.id as u64);
+        words.number(field.hi as u64);
+        words.shown(field.bytes.as_slice());
     }
     Ok(())
 }
 
-/// The header's fields of a message, and its subfields.
-pub(crate) fn header(
+/// Puts the header's fields of a message, and its subfields.
+pub(crate) fn put_header(
     alloc: Global,
     head: &Head,
     subfields: &Subfields,
-) -> Result<String, RowError> {
-    let mut text = format!(in alloc; "{head:?}")?;
-    put_fields(alloc, &mut text, subfields)?;
-    Ok(text)
+    words: &mut Words,
+) -> Result<(), RowError> {
+    put_debug(alloc, head, words)?;
+    put_fields(alloc, subfields, words)
 }
 
-/// A message as it is shown.
-pub(crate) fn letter(alloc: Global, letter: &Letter) -> Result<String, RowError> {
-    let mut text = format!(in alloc; "Text {}", letter.number)?;
-    put_letter(alloc, &mut text, letter)?;
-    Ok(text)
+/// Puts a message as it is shown.
+pub(crate) fn put_letter(letter: &Letter, words: &mut Words) {
+    words.put("Text");
+    words.number(letter.number as u64);
+    words.shown(letter.from.as_slice());
+    words.shown(letter.to.as_slice());
+    words.shown(letter.subject.as_slice());
+    words.shown(letter.msgid.as_slice());
+    words.shown(letter.reply.as_slice());
+    words.number(letter.written as u64);
+    words.number(letter.attribute as u64);
+    words.number(letter.reply_to as u64);
+    words.number(letter.reply_first as u64);
+    words.number(letter.reply_next as u64);
+    words.shown(letter.text.as_slice());
 }
 
-/// Puts what stands in a letter behind its number.
-fn put_letter(alloc: Global, text: &mut String, letter: &Letter) -> Result<(), RowError> {
-    put_bytes(alloc, text, letter.from.as_slice())?;
-    put_bytes(alloc, text, letter.to.as_slice())?;
-    put_bytes(alloc, text, letter.subject.as_slice())?;
-    put_bytes(alloc, text, letter.msgid.as_slice())?;
-    put_bytes(alloc, text, letter.reply.as_slice())?;
-    put_numbers(text, letter)?;
-    put_bytes(alloc, text, letter.text.as_slice())
-}
-
-/// Puts the numbers of a letter behind the other words.
-fn put_numbers(text: &mut String, letter: &Letter) -> Result<(), RowError> {
-    write!(
-        text,
-        " {} {} {} {} {}",
-        letter.written, letter.attribute, letter.reply_to, letter.reply_first, letter.reply_next
-    )?;
-    Ok(())
-}
-
-/// A reply, with the letter in words.
-pub(crate) fn reply(alloc: Global, reply: &Reply) -> Result<String, RowError> {
+/// Puts a reply, with the letter in words.
+pub(crate) fn put_reply(alloc: Global, reply: &Reply, words: &mut Words) -> Result<(), RowError> {
     match reply {
-        Reply::Text { letter: shown } => letter(alloc, shown),
-        _ => Ok(format!(in alloc; "{reply:?}")?),
+        Reply::Text { letter } => put_letter(letter, words),
+        _ => return put_debug(alloc, reply, words),
     }
+    Ok(())
 }

@@ -2,9 +2,9 @@
 //! after it has written.
 ghost use Rattle.std.specs.Prelude.{◌+◌, ◌≤◌, length, IsTrue};
 
-use crate::words::Written;
-use crate::{showing, words};
-use jb_base::{AreaRules, MOST_MARKS, OutOfMemory, User};
+use crate::showing::{put_debug, put_header, put_letter, put_reply};
+use crate::words::{self, Written};
+use jb_base::{AreaRules, MOST_MARKS, User};
 use jb_crc::jam_crc;
 use jb_marks::Marks;
 use jb_model::{Loaded, LoadedMarks, LoadedMessage, LoadedSlot, LoadedSlots, Mark, Reply};
@@ -13,7 +13,7 @@ use jb_step::{Draft, Neighbour, Posting, kill, peek, post, read, relink, set_mar
 use jb_subfield::headed_length;
 use std::alloc::Global;
 use std::fmt::Debug;
-use trial_rows::{Row, RowError, said};
+use trial_rows::{Row, RowError, Words};
 
 /// An area without a slot, from this number on, with files of these lengths.
 pub(crate) fn loaded(
@@ -22,8 +22,12 @@ pub(crate) fn loaded(
     headers_len: u64,
     texts_len: u64,
 ) -> Result<Loaded, RowError> {
-    let slots = LoadedSlots::new(alloc)?;
-    let marks = LoadedMarks::new(alloc)?;
+    let Ok(slots) = LoadedSlots::new(alloc) else {
+        return Err(RowError::OutOfMemory);
+    };
+    let Ok(marks) = LoadedMarks::new(alloc) else {
+        return Err(RowError::OutOfMemory);
+    };
     Ok(Loaded {
         created: 0,
         counter: 0,
@@ -36,6 +40,24 @@ pub(crate) fn loaded(
         headers_len,
         texts_len,
     })
+}
+
+/// Begins the area anew, by the words of a row.
+pub(crate) fn begin(
+    alloc: Global,
+    area: &mut Loaded,
+    row: &Row,
+    words: &mut Words,
+) -> Result<(), RowError> {
+    let base = row.u32(1)?;
+    let headers_len = row.number(2)?;
+    let texts_len = row.number(3)?;
+    match loaded(alloc, base, headers_len, texts_len) {
+        Ok(fresh) => *area = fresh,
+        Err(error) => return Err(error),
+    }
+    words.word("ok");
+    Ok(())
 }
 
 /// Whether the numbers of the area begin at 1 or above and fit four bytes, as the calls ask.
@@ -52,41 +74,58 @@ pub(crate) fn step(
     rules: &AreaRules,
     moment: u32,
     row: &Row,
-) -> Result<String, RowError> {
-    let user = words::user(alloc, row)?;
-    match row.word(1)? {
-        "post" => step_post(alloc, loaded, rules, &user, moment, row),
-        "relink" => step_relink(alloc, loaded, rules, &user),
-        word => numbered(alloc, loaded, rules, &user, moment, word, row.u32(5)?),
+    words: &mut Words,
+) -> Result<(), RowError> {
+    match words::user(alloc, row) {
+        Ok(user) => decide(alloc, loaded, rules, &user, moment, row, words),
+        Err(error) => Err(error),
     }
 }
 
-/// What a command about this number decides.
+/// What the row's command of this user decides.
+fn decide(
+    alloc: Global,
+    loaded: &mut Loaded,
+    rules: &AreaRules,
+    user: &User,
+    moment: u32,
+    row: &Row,
+    words: &mut Words,
+) -> Result<(), RowError> {
+    match row.word(1)? {
+        "post" => step_post(alloc, loaded, rules, user, moment, row, words),
+        "relink" => step_relink(alloc, loaded, rules, user, words),
+        _ => numbered(alloc, loaded, rules, user, moment, row, words),
+    }
+}
+
+/// What a command about a number decides.
 fn numbered(
     alloc: Global,
     loaded: &mut Loaded,
     rules: &AreaRules,
     user: &User,
     moment: u32,
-    word: &str,
-    number: u32,
-) -> Result<String, RowError> {
-    match word {
-        "read" => told(alloc, read(loaded, rules, user, moment, number)),
-        "peek" => told(alloc, peek(loaded, rules, user, number)),
-        "kill" => told(alloc, kill(loaded, rules, user, number)),
-        "mark" => step_mark(alloc, loaded, rules, user, number),
+    row: &Row,
+    words: &mut Words,
+) -> Result<(), RowError> {
+    let number = row.u32(5)?;
+    match row.word(1)? {
+        "read" => put_decided(alloc, read(loaded, rules, user, moment, number), words),
+        "peek" => put_decided(alloc, peek(loaded, rules, user, number), words),
+        "kill" => put_decided(alloc, kill(loaded, rules, user, number), words),
+        "mark" => step_mark(alloc, loaded, rules, user, number, words),
         _ => Err(RowError::Unknown(1)),
     }
 }
 
-/// What was decided, or the refusal.
-fn told<T: Debug + Drop>(alloc: Global, decided: Result<T, Reply>) -> Result<String, RowError> {
-    shown(alloc, &decided)
-}
-
-fn shown<T: Debug>(alloc: Global, decided: &T) -> Result<String, RowError> {
-    Ok(format!(in alloc; "{decided:?}")?)
+/// Puts what was decided, or the refusal.
+fn put_decided<T: Debug + Drop>(
+    alloc: Global,
+    decided: Result<T, Reply>,
+    words: &mut Words,
+) -> Result<(), RowError> {
+    put_debug(alloc, &decided, words)
 }
 
 fn step_relink(
@@ -94,27 +133,35 @@ fn step_relink(
     loaded: &Loaded,
     rules: &AreaRules,
     user: &User,
-) -> Result<String, RowError> {
+    words: &mut Words,
+) -> Result<(), RowError> {
     if !is_numbered(loaded) {
         return Err(RowError::Unknown(0));
     }
-    told(alloc, relink(alloc, loaded, rules, user)?)
+    match relink(alloc, loaded, rules, user) {
+        Ok(decided) => put_decided(alloc, decided, words),
+        Err(_) => Err(RowError::OutOfMemory),
+    }
 }
 
-/// The mark that a user sets, or why it is not set.
-fn mark_of(
+/// What the setting of a mark decides. A mark that is set is put into the area.
+fn step_mark(
     alloc: Global,
-    loaded: &Loaded,
+    loaded: &mut Loaded,
     rules: &AreaRules,
     user: &User,
     number: u32,
-) -> Result<Result<Mark, Reply>, RowError> {
+    words: &mut Words,
+) -> Result<(), RowError> {
     if !is_numbered(loaded) || loaded.marks.as_slice().len() > MOST_MARKS as usize {
         return Err(RowError::Unknown(0));
     }
-    let marks = Marks::copy(alloc, loaded.marks.as_slice())?;
+    let Ok(marks) = Marks::copy(alloc, loaded.marks.as_slice()) else {
+        return Err(RowError::OutOfMemory);
+    };
     let present = marks.find(jam_crc(user.name.as_slice()), user.id);
-    Ok(set_mark(loaded, present, rules, user, number))
+    let decided = set_mark(loaded, present, rules, user, number);
+    put_mark(alloc, loaded, &decided, words)
 }
 
 /// Puts a mark in the place of the one of its pair, or behind the others.
@@ -129,27 +176,17 @@ fn keep_mark(loaded: &mut Loaded, mark: Mark) -> Result<(), RowError> {
     Ok(())
 }
 
-fn step_mark(
-    alloc: Global,
-    loaded: &mut Loaded,
-    rules: &AreaRules,
-    user: &User,
-    number: u32,
-) -> Result<String, RowError> {
-    let decided = mark_of(alloc, loaded, rules, user, number)?;
-    put_mark(alloc, loaded, &decided)
-}
-
 /// Puts a mark that is set into the area, and says what was decided.
 fn put_mark(
     alloc: Global,
     loaded: &mut Loaded,
     decided: &Result<Mark, Reply>,
-) -> Result<String, RowError> {
+    words: &mut Words,
+) -> Result<(), RowError> {
     if let Ok(mark) = decided {
         keep_mark(loaded, *mark)?;
     }
-    shown(alloc, decided)
+    put_debug(alloc, decided, words)
 }
 
 /// What is written, as a draft.
@@ -163,38 +200,34 @@ fn draft_of(written: &Written) -> Draft<'_> {
     }
 }
 
-/// What a post decides, over the index of the area's replies.
-fn posting_of(
-    alloc: Global,
-    loaded: &Loaded,
-    rules: &AreaRules,
-    user: &User,
-    moment: u32,
-    draft: Draft<'_>,
-) -> Result<Result<Posting, Reply>, OutOfMemory>
-    requires base { 1 ≤ loaded.now.base }
-    requires numbers { loaded.now.base + length loaded.now.slots ≤ 4_294_967_295 }
-{
-    let replies = Replies::of(alloc, loaded)?;
-    post(alloc, loaded, &replies, rules, user, moment, draft)
-}
-
 /// Number and UserCRC of a new message, the place of its header, place and length of its text, and the place of the
 /// message whose header it changes.
-fn posting_shown(alloc: Global, posting: &Posting) -> Result<String, RowError> {
+fn put_posting(words: &mut Words, posting: &Posting) {
     let message = &posting.message;
-    let place = match posting.neighbour {
-        Some(neighbour) => Some(neighbour.place),
-        None => None,
-    };
-    Ok(format!(in alloc;
-        "Posted {} owner {} header {} text {} {} neighbour {place:?}",
-        posting.number, message.owner, message.header_at, message.text_at, message.text_len
-    )?)
+    words.word("Posted");
+    words.number(posting.number as u64);
+    words.word("owner");
+    words.number(message.owner as u64);
+    words.word("header");
+    words.number(message.header_at as u64);
+    words.word("text");
+    words.number(message.text_at as u64);
+    words.number(message.text_len as u64);
+    words.word("neighbour");
+    match posting.neighbour {
+        Some(neighbour) => put_place(words, neighbour.place),
+        None => words.word("None"),
+    }
+}
+
+fn put_place(words: &mut Words, place: usize) {
+    words.word("Some(");
+    words.put_number(place as u64);
+    words.put(")");
 }
 
 /// Writes the header of the message that a post changes.
-fn put_neighbour(loaded: &mut Loaded, neighbour: Neighbour) {
+fn keep_neighbour(loaded: &mut Loaded, neighbour: Neighbour) {
     let Neighbour { place, head } = neighbour;
     if place < loaded.slots.as_slice().len() {
         loaded.slots.set_head(place, head);
@@ -202,42 +235,57 @@ fn put_neighbour(loaded: &mut Loaded, neighbour: Neighbour) {
 }
 
 /// Puts a new message behind the others, at the ends of the files.
-fn put_message(loaded: &mut Loaded, message: LoadedMessage) -> Result<(), RowError> {
+fn keep_message(loaded: &mut Loaded, message: LoadedMessage) -> Result<(), RowError> {
     let header = headed_length(&message.subfields);
     loaded.headers_len = loaded.headers_len.saturating_add(header);
-    loaded.texts_len = loaded.texts_len.saturating_add(u64::from(message.text_len));
-    loaded.slots.push(LoadedSlot::Live(message))?;
+    loaded.texts_len = loaded.texts_len.saturating_add(message.text_len as u64);
+    if loaded.slots.push(LoadedSlot::Live(message)).is_err() {
+        return Err(RowError::OutOfMemory);
+    }
     Ok(())
 }
 
-/// Puts what a post decided into the area.
-fn put_posting(loaded: &mut Loaded, posting: Posting) -> Result<(), RowError> {
-    let Posting {
-        message,
-        neighbour,
-        ..
-    } = posting;
-    if let Some(neighbour) = neighbour {
-        put_neighbour(loaded, neighbour);
+/// Puts what a post decided into the area, and says what it is.
+fn posted(loaded: &mut Loaded, posting: Posting, words: &mut Words) -> Result<(), RowError> {
+    put_posting(words, &posting);
+    if let Some(neighbour) = posting.neighbour {
+        keep_neighbour(loaded, neighbour);
     }
-    put_message(loaded, message)
-}
-
-fn posted(alloc: Global, loaded: &mut Loaded, posting: Posting) -> Result<String, RowError> {
-    let text = posting_shown(alloc, &posting)?;
-    put_posting(loaded, posting)?;
-    Ok(text)
+    keep_message(loaded, posting.message)
 }
 
 /// Puts what a post decided into the area, and says what it is, or why the post is refused.
-fn put_decided(
+fn keep_decided(
     alloc: Global,
     loaded: &mut Loaded,
     decided: Result<Posting, Reply>,
-) -> Result<String, RowError> {
+    words: &mut Words,
+) -> Result<(), RowError> {
     match decided {
-        Ok(posting) => posted(alloc, loaded, posting),
-        Err(reply) => showing::reply(alloc, &reply),
+        Ok(posting) => posted(loaded, posting, words),
+        Err(reply) => put_reply(alloc, &reply, words),
+    }
+}
+
+/// What the post of a draft decides, over the index of the area's replies.
+fn step_draft(
+    alloc: Global,
+    loaded: &mut Loaded,
+    rules: &AreaRules,
+    user: &User,
+    moment: u32,
+    draft: Draft<'_>,
+    words: &mut Words,
+) -> Result<(), RowError> {
+    if !is_numbered(loaded) {
+        return Err(RowError::Unknown(0));
+    }
+    let Ok(replies) = Replies::of(alloc, loaded) else {
+        return Err(RowError::OutOfMemory);
+    };
+    match post(alloc, loaded, &replies, rules, user, moment, draft) {
+        Ok(decided) => keep_decided(alloc, loaded, decided, words),
+        Err(_) => Err(RowError::OutOfMemory),
     }
 }
 
@@ -248,13 +296,22 @@ fn step_post(
     user: &User,
     moment: u32,
     row: &Row,
-) -> Result<String, RowError> {
-    if !is_numbered(loaded) {
-        return Err(RowError::Unknown(0));
+    words: &mut Words,
+) -> Result<(), RowError> {
+    match words::written_in(alloc, row) {
+        Ok(written) => {
+            step_draft(
+                alloc,
+                loaded,
+                rules,
+                user,
+                moment,
+                draft_of(&written),
+                words,
+            )
+        }
+        Err(error) => Err(error),
     }
-    let written = words::written_in(alloc, row)?;
-    let decided = posting_of(alloc, loaded, rules, user, moment, draft_of(&written))?;
-    put_decided(alloc, loaded, decided)
 }
 
 /// The live message at the place that the row names.
@@ -266,28 +323,44 @@ fn message_at<'a>(loaded: &'a Loaded, row: &Row) -> Result<&'a LoadedMessage, Ro
 }
 
 /// Puts a killed message in the place that the row names, with the header there.
-pub(crate) fn killed(alloc: Global, loaded: &mut Loaded, row: &Row) -> Result<String, RowError> {
+pub(crate) fn killed(loaded: &mut Loaded, row: &Row, words: &mut Words) -> Result<(), RowError> {
     let place = row.u32(1)? as usize;
     let header_at = message_at(loaded, row)?.header_at;
     if place < loaded.slots.as_slice().len() {
         loaded.slots.set(place, LoadedSlot::Killed { header_at });
     }
-    said(alloc, "ok")
+    words.word("ok");
+    Ok(())
 }
 
 /// The bytes of .JHR that the message at a place takes, the fields of its header, and its subfields.
-pub(crate) fn header(alloc: Global, loaded: &Loaded, row: &Row) -> Result<String, RowError> {
+pub(crate) fn header(
+    alloc: Global,
+    loaded: &Loaded,
+    row: &Row,
+    words: &mut Words,
+) -> Result<(), RowError> {
     let message = message_at(loaded, row)?;
-    let length = headed_length(&message.subfields);
-    let header = showing::header(alloc, &message.head, &message.subfields)?;
-    Ok(format!(in alloc; "{length} {header}")?)
+    words.number(headed_length(&message.subfields));
+    words.put(" ");
+    put_header(alloc, &message.head, &message.subfields, words)
 }
 
 /// The message at a place as it is shown, with a number and a text.
-pub(crate) fn letter(alloc: Global, loaded: &Loaded, row: &Row) -> Result<String, RowError> {
+pub(crate) fn letter(
+    alloc: Global,
+    loaded: &Loaded,
+    row: &Row,
+    words: &mut Words,
+) -> Result<(), RowError> {
     let message = message_at(loaded, row)?;
     let number = row.u32(2)?;
-    let text = row.bytes(alloc, 3)?;
-    let letter = jb_step::letter(alloc, number, message.head, message, text)?;
-    showing::letter(alloc, &letter)
+    let Ok(text) = row.bytes(alloc, 3) else {
+        return Err(RowError::Bytes(3));
+    };
+    match jb_step::letter(alloc, number, message.head, message, text) {
+        Ok(letter) => put_letter(&letter, words),
+        Err(_) => return Err(RowError::OutOfMemory),
+    }
+    Ok(())
 }

@@ -18,15 +18,20 @@ pub(crate) struct Written {
 pub(crate) fn user(alloc: Global, row: &Row) -> Result<User, RowError> {
     let id = row.u32(3)?;
     let level = row.u8(4)?;
-    let name = row.name(alloc, 2)?;
-    Ok(User { name, id, level })
+    match row.name(alloc, 2) {
+        Ok(name) => Ok(User { name, id, level }),
+        Err(error) => Err(error),
+    }
 }
 
 /// So many letters `a`, of the count in this word.
 fn letters(alloc: Global, count: &str, place: usize) -> Result<Bytes, RowError> {
-    match count.parse::<u16>() {
-        Ok(count) => Ok(Bytes::from(vec![in alloc; b'a'; usize::from(count)]?)),
-        Err(_) => Err(RowError::Number(place)),
+    let Ok(count) = count.parse::<u16>() else {
+        return Err(RowError::Number(place));
+    };
+    match vec![in alloc; b'a'; count as usize] {
+        Ok(letters) => Ok(Bytes::from(letters)),
+        Err(_) => Err(RowError::OutOfMemory),
     }
 }
 
@@ -40,8 +45,13 @@ pub(crate) fn part(alloc: Global, row: &Row, place: usize) -> Result<Bytes, RowE
 
 /// The receiver of a post.
 fn receiver(alloc: Global, row: &Row) -> Result<Name, RowError> {
-    let bytes = part(alloc, row, 5)?;
-    Ok(Name::copy(alloc, bytes.as_slice())?)
+    let Ok(bytes) = part(alloc, row, 5) else {
+        return Err(RowError::Bytes(5));
+    };
+    match Name::copy(alloc, bytes.as_slice()) {
+        Ok(name) => Ok(name),
+        Err(_) => Err(RowError::OutOfMemory),
+    }
 }
 
 /// Whether a post is a private one.
@@ -57,9 +67,15 @@ fn is_private(row: &Row, place: usize) -> Result<bool, RowError> {
 pub(crate) fn written_in(alloc: Global, row: &Row) -> Result<Written, RowError> {
     let reply_to = row.u32(8)?;
     let private = is_private(row, 9)?;
-    let to = receiver(alloc, row)?;
-    let subject = part(alloc, row, 6)?;
-    let text = part(alloc, row, 7)?;
+    let Ok(to) = receiver(alloc, row) else {
+        return Err(RowError::Bytes(5));
+    };
+    let Ok(subject) = part(alloc, row, 6) else {
+        return Err(RowError::Bytes(6));
+    };
+    let Ok(text) = part(alloc, row, 7) else {
+        return Err(RowError::Bytes(7));
+    };
     Ok(Written {
         to,
         subject,

@@ -2,62 +2,82 @@
 ghost use Rattle.std.specs.Prelude.{◌≤◌};
 ghost use Rattle.jb_disk.specs.Files.{ceiling_of};
 
-use crate::spelling::{ceiling, done, file};
+use crate::spelling::{ceiling, file, put_done};
 use jb_disk::{Disk, FileId};
 use std::alloc::Global;
-use trial_rows::{Row, RowError, said, shown};
+use trial_rows::{Row, RowError, Words};
 
-/// What a disk answers to this call, `len`, `read`, `write`, `resize` or `sync`, with the file and the numbers of the row.
-pub(crate) fn called<D: Disk>(
+/// Puts what a disk answers to this call, `len`, `read`, `write`, `resize` or `sync`, with the file and the numbers of the row.
+pub(crate) fn put_called<D: Disk>(
     alloc: Global,
     disk: &mut D,
     call: &str,
     row: &Row,
-) -> Result<String, RowError> {
+    words: &mut Words,
+) -> Result<(), RowError> {
     let file = file(row, 2)?;
     match call {
-        "len" => match disk.len(file) {
-            Ok(len) => Ok(format!(in alloc; "{len}")?),
-            Err(_) => said(alloc, "failed"),
-        },
-        "read" => read(alloc, disk, file, row),
-        "write" => write(alloc, disk, file, row),
-        "resize" => resize(alloc, disk, file, row),
-        "sync" => done(alloc, disk.sync(file).is_ok()),
-        _ => Err(RowError::Unknown(1)),
+        "len" => put_len(disk, file, words),
+        "read" => return put_read(alloc, disk, file, row, words),
+        "write" => put_done(is_written(alloc, disk, row)?, words),
+        "resize" => return put_resized(disk, file, row, words),
+        "sync" => put_done(disk.sync(file).is_ok(), words),
+        _ => return Err(RowError::Unknown(1)),
+    }
+    Ok(())
+}
+
+fn put_len<D: Disk>(disk: &mut D, file: FileId, words: &mut Words) {
+    match disk.len(file) {
+        Ok(len) => words.number(len),
+        Err(_) => words.word("failed"),
     }
 }
 
-fn read<D: Disk>(alloc: Global, disk: &mut D, file: FileId, row: &Row) -> Result<String, RowError> {
+fn put_read<D: Disk>(
+    alloc: Global,
+    disk: &mut D,
+    file: FileId,
+    row: &Row,
+    words: &mut Words,
+) -> Result<(), RowError> {
     let at = row.number(3)?;
     let count = row.u16(4)? as usize;
-    let mut bytes = vec![in alloc; 0u8; count]?;
+    let Ok(mut bytes) = vec![in alloc; 0u8; count] else {
+        return Err(RowError::OutOfMemory);
+    };
     match disk.read_at(file, at, &mut bytes) {
-        Ok(()) => shown(alloc, &bytes),
-        Err(_) => said(alloc, "failed"),
+        Ok(()) => words.shown(&bytes),
+        Err(_) => words.word("failed"),
     }
+    Ok(())
 }
 
-fn write<D: Disk>(
+/// Whether a disk writes the bytes of the row.
+pub(crate) fn is_written<D: Disk>(
     alloc: Global,
     disk: &mut D,
-    file: FileId,
     row: &Row,
-) -> Result<String, RowError> {
+) -> Result<bool, RowError> {
+    let file = file(row, 2)?;
     let at = row.number(3)?;
-    let bytes = row.bytes(alloc, 4)?;
-    done(alloc, disk.write_at(file, at, bytes.as_slice()).is_ok())
+    let Ok(bytes) = row.bytes(alloc, 4) else {
+        return Err(RowError::Bytes(4));
+    };
+    Ok(disk.write_at(file, at, bytes.as_slice()).is_ok())
 }
 
-fn resize<D: Disk>(
-    alloc: Global,
+fn put_resized<D: Disk>(
     disk: &mut D,
     file: FileId,
     row: &Row,
-) -> Result<String, RowError> {
+    words: &mut Words,
+) -> Result<(), RowError> {
     let len = row.number(3)?;
     if len > ceiling(file) {
-        return said(alloc, "not-allowed");
+        words.word("not-allowed");
+    } else {
+        put_done(disk.set_len(file, len).is_ok(), words);
     }
-    done(alloc, disk.set_len(file, len).is_ok())
+    Ok(())
 }

@@ -1,87 +1,103 @@
 //! A change of lengths and pieces.
 
-use crate::spelling::{file, name, worded};
-use jb_disk::{Length, PieceHead, Redo};
+use crate::spelling::{file, name};
+use jb_disk::{FileId, Length, PieceHead, Redo};
 use std::alloc::Global;
-use std::fmt::Write;
-use trial_rows::{Row, RowError, said, shown};
+use trial_rows::{Row, RowError, Words};
 
-/// What the row about the change comes to.
-pub(crate) fn answer(alloc: Global, change: &mut Redo, row: &Row) -> Result<String, RowError> {
-    match row.word(1)? {
-        "clear" => change.clear(),
-        "length" => put_length(change, row)?,
-        "bytes" => put_bytes(alloc, change, row)?,
-        "copy" => put_copy(change, row)?,
-        _ => return asked(alloc, change, row),
+/// Puts what the row about the change comes to.
+pub(crate) fn put(
+    alloc: Global,
+    change: &mut Redo,
+    call: &str,
+    row: &Row,
+    words: &mut Words,
+) -> Result<(), RowError> {
+    match call {
+        "lengths" => put_lengths(change, words),
+        "pieces" => words.number(u64::from(change.pieces())),
+        "piece" => put_piece(change, row.u32(2)?, words),
+        _ => {
+            words.word("ok");
+            return edit(alloc, change, call, row);
+        }
     }
-    said(alloc, "ok")
-}
-
-fn put_length(change: &mut Redo, row: &Row) -> Result<(), RowError> {
-    let entry = Length {
-        file: file(row, 2)?,
-        len: row.u32(3)?,
-    };
-    change.reserve(1, 0, 0)?;
-    change.put_len(entry);
     Ok(())
 }
 
-fn put_bytes(alloc: Global, change: &mut Redo, row: &Row) -> Result<(), RowError> {
-    let file = file(row, 2)?;
-    let at = row.u32(3)?;
-    let bytes = row.bytes(alloc, 4)?;
+fn edit(alloc: Global, change: &mut Redo, call: &str, row: &Row) -> Result<(), RowError> {
+    match call {
+        "clear" => {
+            change.clear();
+            Ok(())
+        }
+        "length" => add_length(change, row),
+        "bytes" => add_bytes(alloc, change, row),
+        "copy" => add_copy(change, row),
+        _ => Err(RowError::Unknown(1)),
+    }
+}
+
+// The file at this place of the row and the number behind it.
+fn spot(row: &Row, place: usize) -> Result<(FileId, u32), RowError> {
+    let file = file(row, place)?;
+    let number = row.u32(place.saturating_add(1))?;
+    Ok((file, number))
+}
+
+fn add_length(change: &mut Redo, row: &Row) -> Result<(), RowError> {
+    let (file, len) = spot(row, 2)?;
+    change.reserve(1, 0, 0)?;
+    change.put_len(Length { file, len });
+    Ok(())
+}
+
+fn add_bytes(alloc: Global, change: &mut Redo, row: &Row) -> Result<(), RowError> {
+    let (file, at) = spot(row, 2)?;
+    let Ok(bytes) = row.bytes(alloc, 4) else {
+        return Err(RowError::Bytes(4));
+    };
     let Ok(len) = u32::try_from(bytes.len()) else {
         return Err(RowError::Bytes(4));
     };
-    change.reserve(0, 1, len as u64)?;
+    if change.reserve(0, 1, len as u64).is_err() {
+        return Err(RowError::OutOfMemory);
+    }
     change.put_bytes(file, at, bytes.as_slice());
     Ok(())
 }
 
-fn put_copy(change: &mut Redo, row: &Row) -> Result<(), RowError> {
-    let from = file(row, 2)?;
-    let from_at = row.u32(3)?;
-    let to = file(row, 4)?;
-    let to_at = row.u32(5)?;
+fn add_copy(change: &mut Redo, row: &Row) -> Result<(), RowError> {
+    let (from, from_at) = spot(row, 2)?;
+    let (to, to_at) = spot(row, 4)?;
     let len = row.u32(6)?;
     change.reserve(0, 1, 0)?;
     change.put_copy(from, from_at, to, to_at, len);
     Ok(())
 }
 
-fn asked(alloc: Global, change: &Redo, row: &Row) -> Result<String, RowError> {
-    match row.word(1)? {
-        "lengths" => lengths(alloc, change),
-        "pieces" => worded(format!(in alloc; "{}", change.pieces())),
-        "piece" => piece(alloc, change, row.u32(2)?),
-        _ => Err(RowError::Unknown(1)),
-    }
-}
-
-fn lengths(alloc: Global, change: &Redo) -> Result<String, RowError> {
-    let mut text = String::new(alloc);
+fn put_lengths(change: &Redo, words: &mut Words) {
     for entry in change.lengths() {
-        write!(text, "{} {};", name(entry.file), entry.len)?;
+        words.put(name(entry.file));
+        words.number(u64::from(entry.len));
+        words.put(";");
     }
-    Ok(text)
 }
 
-fn piece(alloc: Global, change: &Redo, k: u32) -> Result<String, RowError> {
+fn put_piece(change: &Redo, k: u32, words: &mut Words) {
     if k >= change.pieces() {
-        return said(alloc, "not-allowed");
+        words.word("not-allowed");
+        return;
     }
-    let head = head(alloc, change.head(k))?;
-    let bytes = shown(alloc, change.bytes(k))?;
-    worded(format!(in alloc; "{head} {bytes}"))
+    put_head(change.head(k), words);
+    words.shown(change.bytes(k));
 }
 
-fn head(alloc: Global, head: PieceHead) -> Result<String, RowError> {
-    let kind = if head.copy { "copy" } else { "bytes" };
-    let (from, to) = (name(head.from), name(head.to));
-    Ok(format!(in alloc;
-        "{kind} {from} {} {to} {} {}",
-        head.from_at, head.to_at, head.len
-    )?)
+fn put_head(head: PieceHead, words: &mut Words) {
+    words.word(if head.copy { "copy" } else { "bytes" });
+    words.word(name(head.from));
+    words.number(u64::from(head.from_at));
+    words.word(name(head.to));
+    words.number(u64::from(head.to_at));
+    words.number(u64::from(head.len));
 }

@@ -1,10 +1,12 @@
 //! The doors and the bell of a host in memory.
 
-use crate::door::{bell_of, rung, sent_on};
-use crate::spelling::done;
-use jb_host::{Accepted, Door, Host, HostError, MemBell, MemDoor, MemHost, MemLink, send};
+use crate::door::{bell_of, next_call, put_rung, put_sent_on};
+use crate::host::put_refused;
+use crate::link::link_of;
+use crate::spelling::{keep, put_done};
+use jb_host::{Door, Host, MemBell, MemDoor, MemHost, MemLink, send};
 use std::alloc::Global;
-use trial_rows::{Row, RowError, said};
+use trial_rows::{Row, RowError, Words};
 
 /// The doors and bells that a host has handed out, in order.
 #[derive(Drop)]
@@ -22,124 +24,153 @@ impl HandedOut {
     }
 }
 
-/// What the row about the doors and the bell of the host comes to.
-pub(crate) fn answer(
+/// Puts what the row about the doors and the bell of the host comes to.
+pub(crate) fn put(
     alloc: Global,
     host: &mut MemHost,
     out: &mut HandedOut,
+    call: &str,
     row: &Row,
-) -> Result<String, RowError> {
-    match row.word(1)? {
-        "add" => add(alloc, host, row),
-        "door" => door(alloc, host, out, row),
-        "serve" => serve(alloc, out, row),
-        "back" => back(alloc, host, out, row),
-        "at" => at(alloc, host, row),
-        "add-bell" => add_bell(alloc, host, row),
-        "bell" => bell(alloc, host, out),
-        "listen" => listen(alloc, out),
-        "bell-back" => bell_back(alloc, host, out),
-        _ => Err(RowError::Unknown(1)),
+    words: &mut Words,
+) -> Result<(), RowError> {
+    match call {
+        "add" => return add(alloc, host, row, words),
+        "door" => return hand_out(host, out, row, words),
+        "serve" => return serve(alloc, out, row, words),
+        "back" => return put_back(host, out, row, words),
+        "at" => return put_at(host, row, words),
+        "add-bell" => return add_bell(alloc, host, row, words),
+        "bell" => return hand_bell_out(host, out, words),
+        "listen" => listen(out, words),
+        "bell-back" => put_bell_back(host, out, words),
+        _ => return Err(RowError::Unknown(1)),
     }
+    Ok(())
 }
 
 // A door with one link, on which these bytes come.
-fn add(alloc: Global, host: &mut MemHost, row: &Row) -> Result<String, RowError> {
-    let input = row.bytes(alloc, 2)?;
-    let mut links = Vec::new(alloc);
-    links.push(MemLink::new(alloc, input, Vec::new(alloc)))?;
-    host.add_door(MemDoor::new(alloc, links, Vec::new(alloc))?)?;
-    said(alloc, "ok")
+fn add(alloc: Global, host: &mut MemHost, row: &Row, words: &mut Words) -> Result<(), RowError> {
+    let Ok(door) = door_of(alloc, row) else {
+        return Err(RowError::Bytes(2));
+    };
+    words.word("ok");
+    Ok(host.add_door(door)?)
 }
 
-fn refused(alloc: Global, error: HostError) -> Result<String, RowError> {
-    match error {
-        HostError::Failed => said(alloc, "failed"),
-        HostError::OutOfMemory => Err(RowError::OutOfMemory),
+fn door_of(alloc: Global, row: &Row) -> Result<MemDoor, RowError> {
+    let mut links = Vec::new(alloc);
+    let Ok(link) = link_of(alloc, row, 2, 3) else {
+        return Err(RowError::Bytes(2));
+    };
+    keep(&mut links, link)?;
+    match MemDoor::new(alloc, links, Vec::new(alloc)) {
+        Ok(door) => Ok(door),
+        Err(_) => Err(RowError::OutOfMemory),
     }
 }
 
-fn door(
-    alloc: Global,
+fn hand_out(
     host: &mut MemHost,
     out: &mut HandedOut,
     row: &Row,
-) -> Result<String, RowError> {
+    words: &mut Words,
+) -> Result<(), RowError> {
     match host.door(row.u32(2)?, row.u16(3)?, Some(row.u32(4)?)) {
         Ok(door) => {
-            out.doors.push(door)?;
-            said(alloc, "out")
+            words.word("out");
+            keep(&mut out.doors, door)
         }
-        Err(error) => refused(alloc, error),
+        Err(error) => put_refused(error, words),
     }
 }
 
 // The next caller at the door that is out longest is sent these bytes, and hung up.
-fn serve(alloc: Global, out: &mut HandedOut, row: &Row) -> Result<String, RowError> {
-    let bytes = row.bytes(alloc, 2)?;
-    let Some(door) = out.doors.first_mut() else {
-        return said(alloc, "none-is-out");
+fn serve(alloc: Global, out: &mut HandedOut, row: &Row, words: &mut Words) -> Result<(), RowError> {
+    let Ok(bytes) = row.bytes(alloc, 2) else {
+        return Err(RowError::Bytes(2));
     };
-    match door.accept() {
-        Ok(Accepted::Call(mut link)) => {
-            let is_sent = send(&mut link, bytes.as_slice()).is_ok();
+    match out.doors.first_mut() {
+        Some(door) => put_served(door, bytes.as_slice(), words),
+        None => words.word("none-is-out"),
+    }
+    Ok(())
+}
+
+fn put_served(door: &mut MemDoor, bytes: &[u8], words: &mut Words) {
+    match next_call(door) {
+        Ok(mut link) => {
+            put_done(send(&mut link, bytes).is_ok(), words);
             door.hang_up(link);
-            done(alloc, is_sent)
         }
-        Ok(Accepted::Shut) => said(alloc, "shut"),
-        Err(_) => said(alloc, "failed"),
+        Err(word) => words.word(word),
     }
 }
 
-fn back(
-    alloc: Global,
+fn put_back(
     host: &mut MemHost,
     out: &mut HandedOut,
     row: &Row,
-) -> Result<String, RowError> {
+    words: &mut Words,
+) -> Result<(), RowError> {
     let node = row.u32(2)?;
     if out.doors.is_empty() {
-        return said(alloc, "none-is-out");
+        words.word("none-is-out");
+    } else {
+        host.put_door(node, out.doors.remove(0));
+        words.word("ok");
     }
-    host.put_door(node, out.doors.remove(0));
-    said(alloc, "ok")
+    Ok(())
 }
 
-fn at(alloc: Global, host: &MemHost, row: &Row) -> Result<String, RowError> {
+fn put_at(host: &MemHost, row: &Row, words: &mut Words) -> Result<(), RowError> {
     match host.door_of(row.u32(2)?) {
-        Some(door) => sent_on(alloc, door),
-        None => said(alloc, "none"),
+        Some(door) => put_sent_on(door, words),
+        None => words.word("none"),
     }
+    Ok(())
 }
 
-fn add_bell(alloc: Global, host: &mut MemHost, row: &Row) -> Result<String, RowError> {
-    host.add_bell(bell_of(alloc, row, 2)?);
-    said(alloc, "ok")
+fn add_bell(
+    alloc: Global,
+    host: &mut MemHost,
+    row: &Row,
+    words: &mut Words,
+) -> Result<(), RowError> {
+    let Ok(bell) = bell_of(alloc, row, 2) else {
+        return Err(RowError::Number(2));
+    };
+    host.add_bell(bell);
+    words.word("ok");
+    Ok(())
 }
 
-fn bell(alloc: Global, host: &mut MemHost, out: &mut HandedOut) -> Result<String, RowError> {
+fn hand_bell_out(
+    host: &mut MemHost,
+    out: &mut HandedOut,
+    words: &mut Words,
+) -> Result<(), RowError> {
     match host.bell(1, 60, None) {
         Ok(bell) => {
-            out.bells.push(bell)?;
-            said(alloc, "out")
+            words.word("out");
+            keep(&mut out.bells, bell)
         }
-        Err(error) => refused(alloc, error),
+        Err(error) => put_refused(error, words),
     }
 }
 
-fn listen(alloc: Global, out: &mut HandedOut) -> Result<String, RowError> {
+fn listen(out: &mut HandedOut, words: &mut Words) {
     match out.bells.last_mut() {
-        Some(bell) => rung(alloc, bell),
-        None => said(alloc, "none-is-out"),
+        Some(bell) => put_rung(bell, words),
+        None => words.word("none-is-out"),
     }
 }
 
-fn bell_back(alloc: Global, host: &mut MemHost, out: &mut HandedOut) -> Result<String, RowError> {
+fn put_bell_back(host: &mut MemHost, out: &mut HandedOut, words: &mut Words) {
     match out.bells.pop() {
         Some(bell) => {
             host.put_bell(bell);
-            said(alloc, "ok")
+            words.word("ok");
         }
-        None => said(alloc, "none-is-out"),
+        None => words.word("none-is-out"),
     }
 }

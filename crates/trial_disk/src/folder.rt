@@ -1,70 +1,61 @@
 //! A disk over real files.
 
-use crate::calling::called;
-use jb_disk::Disk;
+use crate::calling::{is_written, put_called};
 use jb_files::FolderDisk;
 use std::alloc::Global;
 use std::fs;
-use trial_rows::{Row, RowError, said};
+use trial_rows::{Row, RowError, Words};
 
-/// What the row about the disk over real files comes to.
-pub(crate) fn answer(
+/// Puts what the row about the disk over real files comes to.
+pub(crate) fn put(
     rt: HostRuntime,
     alloc: Global,
-    disks: &mut Vec<FolderDisk<HostRuntime>>,
+    kept: &mut Option<FolderDisk<HostRuntime>>,
+    call: &str,
     row: &Row,
-) -> Result<String, RowError> {
-    if row.word(1)? == "new" {
-        return made(rt, alloc, disks, row);
+    words: &mut Words,
+) -> Result<(), RowError> {
+    if call == "new" {
+        return make(rt, alloc, kept, row, words);
     }
-    match disks.last_mut() {
-        Some(disk) => asked(rt, alloc, disk, row),
-        None => Err(RowError::Unknown(1)),
+    let Some(disk) = kept else {
+        return Err(RowError::Unknown(1));
+    };
+    match call {
+        "write-as-the-system" => put_as_the_system(rt, alloc, disk, row, words),
+        _ => put_called(alloc, disk, call, row, words),
     }
 }
 
-fn made(
+fn make(
     rt: HostRuntime,
     alloc: Global,
-    disks: &mut Vec<FolderDisk<HostRuntime>>,
+    kept: &mut Option<FolderDisk<HostRuntime>>,
     row: &Row,
-) -> Result<String, RowError> {
-    let disk = FolderDisk::new(rt, alloc, row.word(2)?, row.word(3)?)?;
-    disks.clear();
-    disks.push(disk)?;
-    said(alloc, "ok")
-}
-
-fn asked(
-    rt: HostRuntime,
-    alloc: Global,
-    disk: &mut FolderDisk<HostRuntime>,
-    row: &Row,
-) -> Result<String, RowError> {
-    match row.word(1)? {
-        "write-as-the-system" => as_the_system(rt, alloc, disk, row),
-        call => called(alloc, disk, call, row),
-    }
+    words: &mut Words,
+) -> Result<(), RowError> {
+    let Ok(disk) = FolderDisk::new(rt, alloc, row.word(2)?, row.word(3)?) else {
+        return Err(RowError::OutOfMemory);
+    };
+    *kept = Some(disk);
+    words.word("ok");
+    Ok(())
 }
 
 // Whether a write is done exactly where the system opens the file to be written, which it does for some users and not for others.
-fn as_the_system(
+fn put_as_the_system(
     rt: HostRuntime,
     alloc: Global,
     disk: &mut FolderDisk<HostRuntime>,
     row: &Row,
-) -> Result<String, RowError> {
-    let is_open = fs::OpenOptions::new()
-        .write(true)
-        .open(&rt, row.word(5)?)
-        .is_ok();
-    let answer = called(alloc, disk, "write", row)?;
-    said(
-        alloc,
-        if (answer.as_str() == "ok") == is_open {
-            "same"
-        } else {
-            "differs"
-        },
-    )
+    words: &mut Words,
+) -> Result<(), RowError> {
+    let is_open = opens(rt, row.word(5)?);
+    let is_same = is_written(alloc, disk, row)? == is_open;
+    words.word(if is_same { "same" } else { "differs" });
+    Ok(())
+}
+
+fn opens(rt: HostRuntime, path: &str) -> bool {
+    fs::OpenOptions::new().write(true).open(&rt, path).is_ok()
 }

@@ -1,57 +1,58 @@
 //! A host in memory: its disks, its console and its clocks.
 
-use crate::memory::disk;
+use crate::link::link_of;
+use crate::memory::disk_of;
+use crate::spelling::keep;
 use jb_base::Bytes;
 use jb_disk::{FileId, MemDisk};
 use jb_host::{Clock, Host, HostError, MemHost, MemLink, send};
 use std::alloc::Global;
-use trial_rows::{Row, RowError, said, shown};
+use trial_rows::{Row, RowError, Words};
 
-/// A host without a disk that fails the calls for a disk or for settings with these numbers.
-pub(crate) fn host(alloc: Global, failing: Vec<u64>) -> MemHost {
-    with_reading(alloc, 0, failing)
-}
-
-fn with_reading(alloc: Global, reading: u32, failing: Vec<u64>) -> MemHost {
+/// A host without a disk whose clocks have this reading, and that fails the calls for a disk or for settings with these numbers.
+pub(crate) fn host(alloc: Global, reading: u32, failing: Vec<u64>) -> MemHost {
     let link = MemLink::new(alloc, Bytes::new(alloc), Vec::new(alloc));
     MemHost::new(alloc, link, reading, failing)
 }
 
-/// What a clock of a host with this reading gives, and then another.
-pub(crate) fn clock(alloc: Global, row: &Row) -> Result<String, RowError> {
-    let (first, second) = readings(with_reading(alloc, row.u32(1)?, Vec::new(alloc)));
-    Ok(format!(in alloc; "{first} {second}")?)
+/// Puts what a clock of a host with this reading gives, and then another.
+pub(crate) fn put_clock(alloc: Global, row: &Row, words: &mut Words) -> Result<(), RowError> {
+    let reading = row.u32(1)?;
+    let mut host = host(alloc, reading, Vec::new(alloc));
+    for _ in 0..2 {
+        words.number(u64::from(host.clock().now()));
+    }
+    Ok(())
 }
 
-fn readings(mut host: MemHost) -> (u32, u32) {
-    let first = host.clock().now();
-    let second = host.clock().now();
-    (first, second)
-}
-
-/// What the row about the host comes to. What it hands out is put beside it.
-pub(crate) fn answer(
+/// Puts what the row about the host comes to. What it hands out is put beside it.
+pub(crate) fn put(
     alloc: Global,
     host: &mut MemHost,
     out: &mut Vec<MemDisk>,
+    call: &str,
     row: &Row,
-) -> Result<String, RowError> {
-    match row.word(1)? {
-        "new" => made(alloc, host, row),
-        "add" => add(alloc, host, row),
-        "disk" => handed_out(alloc, host, out, row),
-        "back" => put_back(alloc, host, out, row),
-        "at" => stands(alloc, host, row),
-        "write" => write(alloc, host, row),
-        "settings" => settings(alloc, host, row),
+    words: &mut Words,
+) -> Result<(), RowError> {
+    match call {
+        "new" => make(alloc, host, row, words),
+        "add" => add(alloc, host, row, words),
+        "disk" => hand_out(host, out, row, words),
+        "back" => put_back(host, out, row, words),
+        "at" => put_at(host, row, words),
+        "write" => write(alloc, host, row, words),
+        "settings" => put_settings(host, row, words),
         _ => Err(RowError::Unknown(1)),
     }
 }
 
-fn made(alloc: Global, host: &mut MemHost, row: &Row) -> Result<String, RowError> {
-    let failing = row.numbers(alloc, 2)?;
-    *host = self::host(alloc, failing);
-    said(alloc, "ok")
+fn make(alloc: Global, host: &mut MemHost, row: &Row, words: &mut Words) -> Result<(), RowError> {
+    let Ok(failing) = row.numbers(alloc, 2) else {
+        return Err(RowError::Number(2));
+    };
+    *host = self::host(alloc, 0, failing);
+    words.word("ok");
+    Ok(())
 }
 
 // A word of a row that is a folder or a name, where `-` is an empty text.
@@ -62,94 +63,112 @@ fn named(row: &Row, place: usize) -> Result<&str, RowError> {
     }
 }
 
-fn add(alloc: Global, host: &mut MemHost, row: &Row) -> Result<String, RowError> {
+fn add(alloc: Global, host: &mut MemHost, row: &Row, words: &mut Words) -> Result<(), RowError> {
     let (dir, name) = (named(row, 2)?, named(row, 3)?);
-    let headers = row.bytes(alloc, 4)?;
-    host.add_disk(dir, name, disk(alloc, headers, Vec::new(alloc))?)?;
-    said(alloc, "ok")
+    let Ok(disk) = disk_of(alloc, row, 4, 5) else {
+        return Err(RowError::Bytes(4));
+    };
+    words.word("ok");
+    Ok(host.add_disk(dir, name, disk)?)
 }
 
-fn handed_out(
-    alloc: Global,
+/// Puts that a host refused a call, unless it was for want of memory.
+pub(crate) fn put_refused(error: HostError, words: &mut Words) -> Result<(), RowError> {
+    match error {
+        HostError::Failed => {
+            words.word("failed");
+            Ok(())
+        }
+        HostError::OutOfMemory => Err(RowError::OutOfMemory),
+    }
+}
+
+fn hand_out(
     host: &mut MemHost,
     out: &mut Vec<MemDisk>,
     row: &Row,
-) -> Result<String, RowError> {
+    words: &mut Words,
+) -> Result<(), RowError> {
     match host.disk(named(row, 2)?, named(row, 3)?) {
         Ok(disk) => {
-            out.push(disk)?;
-            said(alloc, "out")
+            words.word("out");
+            keep(out, disk)
         }
-        Err(HostError::Failed) => said(alloc, "failed"),
-        Err(HostError::OutOfMemory) => Err(RowError::OutOfMemory),
+        Err(error) => put_refused(error, words),
     }
 }
 
 fn put_back(
-    alloc: Global,
     host: &mut MemHost,
     out: &mut Vec<MemDisk>,
     row: &Row,
-) -> Result<String, RowError> {
+    words: &mut Words,
+) -> Result<(), RowError> {
     let (dir, name) = (named(row, 2)?, named(row, 3)?);
     match out.pop() {
         Some(disk) => {
             host.put_back(dir, name, disk);
-            said(alloc, "ok")
+            words.word("ok");
         }
-        None => said(alloc, "none-is-out"),
+        None => words.word("none-is-out"),
     }
+    Ok(())
 }
 
-fn stands(alloc: Global, host: &MemHost, row: &Row) -> Result<String, RowError> {
+fn put_at(host: &MemHost, row: &Row, words: &mut Words) -> Result<(), RowError> {
     match host.disk_at(named(row, 2)?, named(row, 3)?) {
-        Some(disk) => shown(alloc, disk.file(FileId::Jhr)),
-        None => said(alloc, "none"),
+        Some(disk) => words.shown(disk.file(FileId::Jhr)),
+        None => words.word("none"),
     }
+    Ok(())
 }
 
-fn write(alloc: Global, host: &mut MemHost, row: &Row) -> Result<String, RowError> {
+fn write(alloc: Global, host: &mut MemHost, row: &Row, words: &mut Words) -> Result<(), RowError> {
     let path = named(row, 2)?;
-    host.add_settings(path, row.bytes(alloc, 3)?)?;
-    said(alloc, "ok")
+    let Ok(bytes) = row.bytes(alloc, 3) else {
+        return Err(RowError::Bytes(3));
+    };
+    words.word("ok");
+    Ok(host.add_settings(path, bytes)?)
 }
 
-fn settings(alloc: Global, host: &mut MemHost, row: &Row) -> Result<String, RowError> {
+fn put_settings(host: &mut MemHost, row: &Row, words: &mut Words) -> Result<(), RowError> {
     match host.settings(named(row, 2)?) {
-        Ok(bytes) => shown(alloc, bytes.as_slice()),
-        Err(HostError::Failed) => said(alloc, "failed"),
-        Err(HostError::OutOfMemory) => Err(RowError::OutOfMemory),
+        Ok(bytes) => {
+            words.shown(bytes.as_slice());
+            Ok(())
+        }
+        Err(error) => put_refused(error, words),
     }
 }
 
-/// A host whose console has the input of this row: what it answers for its console once that is out, and what was sent on
+/// Puts what a host whose console has the input of this row answers for its console once that is out, and what was sent on
 /// it once it is back.
-pub(crate) fn console(alloc: Global, row: &Row) -> Result<String, RowError> {
-    let input = row.bytes(alloc, 1)?;
-    let output = row.bytes(alloc, 2)?;
-    let link = MemLink::new(alloc, input, Vec::new(alloc));
+pub(crate) fn put_console(alloc: Global, row: &Row, words: &mut Words) -> Result<(), RowError> {
+    let Ok(output) = row.bytes(alloc, 2) else {
+        return Err(RowError::Bytes(2));
+    };
+    let Ok(link) = link_of(alloc, row, 1, 3) else {
+        return Err(RowError::Bytes(1));
+    };
     let mut host = MemHost::new(alloc, link, 0, Vec::new(alloc));
     let console = host.console();
-    spoken(alloc, &mut host, console, output.as_slice())
+    put_spoken(&mut host, console, output.as_slice(), words);
+    Ok(())
 }
 
 // What such a host answers while this console is out, on which the output is sent, and once it is back.
-fn spoken(
-    alloc: Global,
-    host: &mut MemHost,
-    mut console: MemLink,
-    output: &[u8],
-) -> Result<String, RowError> {
-    let out = at_console(alloc, host)?;
+fn put_spoken(host: &mut MemHost, mut console: MemLink, output: &[u8], words: &mut Words) {
+    put_at_console(host, words);
     let is_sent = send(&mut console, output).is_ok();
+    words.word(if is_sent { "true" } else { "false" });
     host.put_console(console);
-    let back = at_console(alloc, host)?;
-    Ok(format!(in alloc; "{out} {is_sent} {back}")?)
+    put_at_console(host, words);
 }
 
-fn at_console(alloc: Global, host: &MemHost) -> Result<String, RowError> {
+fn put_at_console(host: &MemHost, words: &mut Words) {
     match host.console_link() {
-        Some(link) => shown(alloc, link.sent()),
-        None => said(alloc, "none"),
+        Some(link) => words.shown(link.sent()),
+        None => words.word("none"),
     }
 }

@@ -1,52 +1,83 @@
 //! A link in memory.
 
-use crate::spelling::{done, worded};
+use crate::spelling::put_done;
 use jb_host::{Link, MemLink, send};
 use std::alloc::Global;
-use trial_rows::{Row, RowError, said, shown};
+use trial_rows::{Row, RowError, Words};
 
-/// What the row about the link comes to. What is read goes into the same three bytes each time.
-pub(crate) fn answer(
+/// Puts what the row about the link comes to. What is read goes into the same three bytes each time.
+pub(crate) fn put(
     alloc: Global,
     link: &mut MemLink,
     into: &mut [u8; 3],
+    call: &str,
     row: &Row,
-) -> Result<String, RowError> {
-    match row.word(1)? {
-        "new" => made(alloc, link, row),
-        "read" => read(alloc, link, into),
-        "write" => write(alloc, link, row),
-        "send" => sent(alloc, link, row),
-        "sent" => shown(alloc, link.sent()),
-        _ => Err(RowError::Unknown(1)),
+    words: &mut Words,
+) -> Result<(), RowError> {
+    match call {
+        "new" => return make(alloc, link, row, words),
+        "read" => put_read(link, into, words),
+        "write" | "send" => return put_written(alloc, link, call, row, words),
+        "sent" => words.shown(link.sent()),
+        _ => return Err(RowError::Unknown(1)),
+    }
+    Ok(())
+}
+
+/// A link with the input at this place of the row, which fails the calls that the row numbers from the other place on.
+pub(crate) fn link_of(
+    alloc: Global,
+    row: &Row,
+    place: usize,
+    from: usize,
+) -> Result<MemLink, RowError> {
+    let Ok(failing) = row.numbers(alloc, from) else {
+        return Err(RowError::Number(from));
+    };
+    match row.bytes(alloc, place) {
+        Ok(input) => Ok(MemLink::new(alloc, input, failing)),
+        Err(error) => Err(error),
     }
 }
 
-fn made(alloc: Global, link: &mut MemLink, row: &Row) -> Result<String, RowError> {
-    let input = row.bytes(alloc, 2)?;
-    let failing = row.numbers(alloc, 3)?;
-    *link = MemLink::new(alloc, input, failing);
-    said(alloc, "ok")
+fn make(alloc: Global, link: &mut MemLink, row: &Row, words: &mut Words) -> Result<(), RowError> {
+    let Ok(new) = link_of(alloc, row, 2, 3) else {
+        return Err(RowError::Bytes(2));
+    };
+    *link = new;
+    words.word("ok");
+    Ok(())
 }
 
-fn read(alloc: Global, link: &mut MemLink, into: &mut [u8; 3]) -> Result<String, RowError> {
-    let read = link.read(into);
-    let bytes = shown(alloc, into)?;
-    match read {
-        Ok(count) => worded(format!(in alloc; "{count} {bytes}")),
-        Err(_) => worded(format!(in alloc; "failed {bytes}")),
+fn put_read(link: &mut MemLink, into: &mut [u8; 3], words: &mut Words) {
+    match link.read(into) {
+        Ok(count) => words.number(count as u64),
+        Err(_) => words.word("failed"),
     }
+    words.shown(into);
 }
 
-fn write(alloc: Global, link: &mut MemLink, row: &Row) -> Result<String, RowError> {
-    let bytes = row.bytes(alloc, 2)?;
-    match link.write(bytes.as_slice()) {
-        Ok(count) => worded(format!(in alloc; "{count}")),
-        Err(_) => said(alloc, "failed"),
+fn put_written(
+    alloc: Global,
+    link: &mut MemLink,
+    call: &str,
+    row: &Row,
+    words: &mut Words,
+) -> Result<(), RowError> {
+    let Ok(bytes) = row.bytes(alloc, 2) else {
+        return Err(RowError::Bytes(2));
+    };
+    if call == "send" {
+        put_done(send(link, bytes.as_slice()).is_ok(), words);
+    } else {
+        put_count(link, bytes.as_slice(), words);
     }
+    Ok(())
 }
 
-fn sent(alloc: Global, link: &mut MemLink, row: &Row) -> Result<String, RowError> {
-    let bytes = row.bytes(alloc, 2)?;
-    done(alloc, send(link, bytes.as_slice()).is_ok())
+fn put_count(link: &mut MemLink, bytes: &[u8], words: &mut Words) {
+    match link.write(bytes) {
+        Ok(count) => words.number(count as u64),
+        Err(_) => words.word("failed"),
+    }
 }

@@ -23,16 +23,16 @@ use jb_files::FolderDisk;
 use jb_host::{MemHost, MemLink};
 use std::alloc::Global;
 use std::io;
-use trial_rows::{Answers, Row, RowError};
+use trial_rows::{Answers, Row, RowError, Words};
 
 /// What the rows made last, and what a host handed out.
 #[derive(Drop)]
 struct Trial {
     rt: HostRuntime,
-    memory: Vec<MemDisk>,
-    steady: Vec<SteadyDisk>,
-    silent: Vec<SilentDisk<MemDisk>>,
-    folder: Vec<FolderDisk<HostRuntime>>,
+    memory: Option<MemDisk>,
+    steady: Option<SteadyDisk>,
+    silent: Option<SilentDisk<MemDisk>>,
+    folder: Option<FolderDisk<HostRuntime>>,
     change: Redo,
     link: MemLink,
     into: [u8; 3],
@@ -46,39 +46,68 @@ impl Trial {
     fn new(rt: HostRuntime, alloc: Global) -> Trial {
         Trial {
             rt,
-            memory: Vec::new(alloc),
-            steady: Vec::new(alloc),
-            silent: Vec::new(alloc),
-            folder: Vec::new(alloc),
+            memory: None,
+            steady: None,
+            silent: None,
+            folder: None,
             change: Redo::new(alloc),
             link: MemLink::new(alloc, Bytes::new(alloc), Vec::new(alloc)),
             into: [0; 3],
-            host: host::host(alloc, Vec::new(alloc)),
+            host: host::host(alloc, 0, Vec::new(alloc)),
             out: Vec::new(alloc),
             porch: Porch::new(alloc),
             handed: HandedOut::new(alloc),
+        }
+    }
+
+    /// Puts what a row about a host, a door, a bell or a link comes to; its second word is the call.
+    fn put(
+        &mut self,
+        alloc: Global,
+        call: &str,
+        row: &Row,
+        words: &mut Words,
+    ) -> Result<(), RowError> {
+        match row.word(0)? {
+            "link" => link::put(alloc, &mut self.link, &mut self.into, call, row, words),
+            "console" => host::put_console(alloc, row, words),
+            "clock" => host::put_clock(alloc, row, words),
+            "host" => host::put(alloc, &mut self.host, &mut self.out, call, row, words),
+            "door" => door::put(alloc, &mut self.porch, call, row, words),
+            "bell" => door::put_bell(self.rt, alloc, call, row, words),
+            "entrance" => entrance::put(alloc, &mut self.host, &mut self.handed, call, row, words),
+            "tcp" => tcp::put(self.rt, alloc, call, row, words),
+            _ => self.put_stored(alloc, call, row, words),
+        }
+    }
+
+    /// Puts what a row about a disk, about real files or about a change comes to.
+    fn put_stored(
+        &mut self,
+        alloc: Global,
+        call: &str,
+        row: &Row,
+        words: &mut Words,
+    ) -> Result<(), RowError> {
+        match row.word(0)? {
+            "memory" => memory::put(alloc, &mut self.memory, call, row, words),
+            "steady" => steady::put(alloc, &mut self.steady, call, row, words),
+            "silent" => silent::put(alloc, &mut self.silent, call, row, words),
+            "folder" => folder::put(self.rt, alloc, &mut self.folder, call, row, words),
+            "real" => real::put(self.rt, alloc, call, row, words),
+            "change" => change::put(alloc, &mut self.change, call, row, words),
+            _ => Err(RowError::Unknown(0)),
         }
     }
 }
 
 impl Answers for Trial {
     fn answer(&mut self, alloc: Global, row: &Row) -> Result<String, RowError> {
-        match row.word(0)? {
-            "memory" => memory::answer(alloc, &mut self.memory, row),
-            "steady" => steady::answer(alloc, &mut self.steady, row),
-            "silent" => silent::answer(alloc, &mut self.silent, row),
-            "folder" => folder::answer(self.rt, alloc, &mut self.folder, row),
-            "real" => real::answer(self.rt, alloc, row),
-            "change" => change::answer(alloc, &mut self.change, row),
-            "link" => link::answer(alloc, &mut self.link, &mut self.into, row),
-            "console" => host::console(alloc, row),
-            "clock" => host::clock(alloc, row),
-            "host" => host::answer(alloc, &mut self.host, &mut self.out, row),
-            "door" => door::answer(alloc, &mut self.porch, row),
-            "bell" => door::bell(self.rt, alloc, row),
-            "entrance" => entrance::answer(alloc, &mut self.host, &mut self.handed, row),
-            "tcp" => tcp::answer(self.rt, alloc, row),
-            _ => Err(RowError::Unknown(0)),
+        let call = row.word(1)?;
+        let mut words = Words::new(alloc);
+        match self.put(alloc, call, row, &mut words) {
+            Ok(()) => words.end(),
+            Err(error) => Err(error),
         }
     }
 }

@@ -1,34 +1,53 @@
 //! A disk in memory, and what a crash leaves of it.
-ghost use Rattle.std.specs.Prelude.{◌≤◌, length};
 
-use crate::calling::called;
+use crate::calling::put_called;
 use crate::spelling::file;
-use jb_base::{Bytes, OutOfMemory};
-use jb_disk::{FileId, MemDisk};
+use jb_base::Bytes;
+use jb_disk::MemDisk;
 use std::alloc::Global;
-use trial_rows::{Row, RowError, said, shown};
+use trial_rows::{Row, RowError, Words};
 
-/// What the row about the disk in memory comes to.
-pub(crate) fn answer(
+/// Puts what the row about the disk in memory comes to.
+pub(crate) fn put(
     alloc: Global,
-    disks: &mut Vec<MemDisk>,
+    kept: &mut Option<MemDisk>,
+    call: &str,
     row: &Row,
-) -> Result<String, RowError> {
-    if row.word(1)? == "new" {
-        return made(alloc, disks, row);
+    words: &mut Words,
+) -> Result<(), RowError> {
+    if call == "new" {
+        return make(alloc, kept, row, words);
     }
-    match disks.last_mut() {
-        Some(disk) => asked(alloc, disk, row),
-        None => Err(RowError::Unknown(1)),
+    let Some(disk) = kept else {
+        return Err(RowError::Unknown(1));
+    };
+    match call {
+        "calls" => words.number(disk.calls()),
+        "file" => words.shown(disk.file(file(row, 2)?)),
+        "crash" => return put_crashed(disk, row, words),
+        _ => return put_called(alloc, disk, call, row, words),
+    }
+    Ok(())
+}
+
+/// A disk whose .JHR has the bytes at this place of the row and whose other files have none, and which fails the calls that the row
+/// numbers from the other place on.
+pub(crate) fn disk_of(
+    alloc: Global,
+    row: &Row,
+    place: usize,
+    from: usize,
+) -> Result<MemDisk, RowError> {
+    let Ok(failing) = row.numbers(alloc, from) else {
+        return Err(RowError::Number(from));
+    };
+    match row.bytes(alloc, place) {
+        Ok(headers) => disk(alloc, headers, failing),
+        Err(error) => Err(error),
     }
 }
 
-/// A disk whose .JHR has these bytes and whose other files have none, and which fails these calls.
-pub(crate) fn disk(
-    alloc: Global,
-    headers: Bytes,
-    failing: Vec<u64>,
-) -> Result<MemDisk, OutOfMemory> {
+fn disk(alloc: Global, headers: Bytes, failing: Vec<u64>) -> Result<MemDisk, RowError> {
     let files = [
         headers,
         Bytes::new(alloc),
@@ -37,44 +56,37 @@ pub(crate) fn disk(
         Bytes::new(alloc),
         Bytes::new(alloc),
     ];
-    MemDisk::new(alloc, files, failing)
-}
-
-fn made(alloc: Global, disks: &mut Vec<MemDisk>, row: &Row) -> Result<String, RowError> {
-    let headers = row.bytes(alloc, 2)?;
-    let failing = row.numbers(alloc, 3)?;
-    disks.push(disk(alloc, headers, failing)?)?;
-    said(alloc, "ok")
-}
-
-fn asked(alloc: Global, disk: &mut MemDisk, row: &Row) -> Result<String, RowError> {
-    match row.word(1)? {
-        "calls" => Ok(format!(in alloc; "{}", disk.calls())?),
-        "file" => shown(alloc, disk.file(file(row, 2)?)),
-        "crash" => crashed(alloc, disk, row),
-        call => called(alloc, disk, call, row),
+    match MemDisk::new(alloc, files, failing) {
+        Ok(disk) => Ok(disk),
+        Err(_) => Err(RowError::OutOfMemory),
     }
 }
 
-fn crashed(alloc: Global, disk: &MemDisk, row: &Row) -> Result<String, RowError> {
+fn make(
+    alloc: Global,
+    kept: &mut Option<MemDisk>,
+    row: &Row,
+    words: &mut Words,
+) -> Result<(), RowError> {
+    let Ok(disk) = disk_of(alloc, row, 2, 3) else {
+        return Err(RowError::Bytes(2));
+    };
+    *kept = Some(disk);
+    words.word("ok");
+    Ok(())
+}
+
+fn put_crashed(disk: &MemDisk, row: &Row, words: &mut Words) -> Result<(), RowError> {
     let after = row.number(2)?;
     let pick = row.number(3)?;
+    let file = file(row, 4)?;
     if after > disk.calls() || pick > 3 {
-        return said(alloc, "not-allowed");
+        words.word("not-allowed");
+        return Ok(());
     }
-    left(alloc, disk, after, pick as u8, file(row, 4)?)
-}
-
-fn left(
-    alloc: Global,
-    disk: &MemDisk,
-    after: u64,
-    pick: u8,
-    file: FileId,
-) -> Result<String, RowError>
-    requires within { after ≤ length disk.now.calls }
-    requires known { pick ≤ 3 }
-{
-    let left = disk.crashed(after, pick)?;
-    shown(alloc, left.file(file))
+    let Ok(left) = disk.crashed(after, pick as u8) else {
+        return Err(RowError::OutOfMemory);
+    };
+    words.shown(left.file(file));
+    Ok(())
 }

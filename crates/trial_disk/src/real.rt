@@ -1,38 +1,56 @@
 //! What stands in the folder where the trials run.
 
-use crate::spelling::done;
+use crate::spelling::put_done;
 use std::alloc::Global;
 use std::fs;
 use std::os::unix::fs::PermissionsExt;
-use trial_rows::{Row, RowError, said, shown};
+use trial_rows::{Row, RowError, Words};
 
-/// What the row about the real files comes to.
-pub(crate) fn answer(rt: HostRuntime, alloc: Global, row: &Row) -> Result<String, RowError> {
+/// Puts what the row about the real files comes to.
+pub(crate) fn put(
+    rt: HostRuntime,
+    alloc: Global,
+    call: &str,
+    row: &Row,
+    words: &mut Words,
+) -> Result<(), RowError> {
     let path = row.word(2)?;
-    match row.word(1)? {
-        "clear" => {
-            let _ = fs::remove_dir_all(&rt, path);
-            said(alloc, "ok")
-        }
-        "folder" => done(alloc, fs::create_dir(&rt, path).is_ok()),
-        "put" => put(rt, alloc, path, row),
-        "protect" => done(
-            alloc,
+    match call {
+        "clear" => clear(rt, path, words),
+        "folder" => put_done(fs::create_dir(&rt, path).is_ok(), words),
+        "put" => return write(rt, alloc, path, row, words),
+        "protect" => put_done(
             fs::set_permissions(&rt, path, fs::Permissions::from_mode(0o444)).is_ok(),
+            words,
         ),
-        "show" => show(rt, alloc, path),
-        _ => Err(RowError::Unknown(1)),
+        "show" => show(rt, path, words),
+        _ => return Err(RowError::Unknown(1)),
     }
+    Ok(())
 }
 
-fn put(rt: HostRuntime, alloc: Global, path: &str, row: &Row) -> Result<String, RowError> {
-    let bytes = row.bytes(alloc, 3)?;
-    done(alloc, fs::write(&rt, path, bytes.as_slice()).is_ok())
+fn clear(rt: HostRuntime, path: &str, words: &mut Words) {
+    let _ = fs::remove_dir_all(&rt, path);
+    words.word("ok");
 }
 
-fn show(rt: HostRuntime, alloc: Global, path: &str) -> Result<String, RowError> {
+fn write(
+    rt: HostRuntime,
+    alloc: Global,
+    path: &str,
+    row: &Row,
+    words: &mut Words,
+) -> Result<(), RowError> {
+    let Ok(bytes) = row.bytes(alloc, 3) else {
+        return Err(RowError::Bytes(3));
+    };
+    put_done(fs::write(&rt, path, bytes.as_slice()).is_ok(), words);
+    Ok(())
+}
+
+fn show(rt: HostRuntime, path: &str, words: &mut Words) {
     match fs::read(&rt, path) {
-        Ok(bytes) => shown(alloc, bytes.as_slice()),
-        Err(_) => said(alloc, "none"),
+        Ok(bytes) => words.shown(bytes.as_slice()),
+        Err(_) => words.word("none"),
     }
 }

@@ -1,42 +1,50 @@
 //! A silent disk over one in memory.
 
-use crate::calling::called;
-use crate::memory::disk;
+use crate::calling::put_called;
+use crate::memory::disk_of;
 use crate::spelling::file;
 use jb_disk::{MemDisk, SilentDisk};
 use std::alloc::Global;
-use trial_rows::{Row, RowError, said, shown};
+use trial_rows::{Row, RowError, Words};
 
-/// What the row about the silent disk comes to.
-pub(crate) fn answer(
+/// Puts what the row about the silent disk comes to.
+pub(crate) fn put(
     alloc: Global,
-    disks: &mut Vec<SilentDisk<MemDisk>>,
+    kept: &mut Option<SilentDisk<MemDisk>>,
+    call: &str,
     row: &Row,
-) -> Result<String, RowError> {
-    if row.word(1)? == "new" {
-        return made(alloc, disks, row);
+    words: &mut Words,
+) -> Result<(), RowError> {
+    if call == "new" {
+        return make(alloc, kept, row, words);
     }
-    match disks.last_mut() {
-        Some(disk) => asked(alloc, disk, row),
-        None => Err(RowError::Unknown(1)),
+    let Some(silent) = kept else {
+        return Err(RowError::Unknown(1));
+    };
+    match call {
+        "calls" => put_calls(silent, words),
+        "file" => words.shown(silent.disk.file(file(row, 2)?)),
+        _ => return put_called(alloc, silent, call, row, words),
     }
+    Ok(())
 }
 
-fn made(
+fn make(
     alloc: Global,
-    disks: &mut Vec<SilentDisk<MemDisk>>,
+    kept: &mut Option<SilentDisk<MemDisk>>,
     row: &Row,
-) -> Result<String, RowError> {
+    words: &mut Words,
+) -> Result<(), RowError> {
     let limit = row.number(3)?;
-    let memory = disk(alloc, row.bytes(alloc, 2)?, row.numbers(alloc, 4)?)?;
-    disks.push(SilentDisk::stopping(memory, limit))?;
-    said(alloc, "ok")
+    let Ok(memory) = disk_of(alloc, row, 2, 4) else {
+        return Err(RowError::Bytes(2));
+    };
+    *kept = Some(SilentDisk::stopping(memory, limit));
+    words.word("ok");
+    Ok(())
 }
 
-fn asked(alloc: Global, silent: &mut SilentDisk<MemDisk>, row: &Row) -> Result<String, RowError> {
-    match row.word(1)? {
-        "calls" => Ok(format!(in alloc; "{} {}", silent.calls(), silent.syncs())?),
-        "file" => shown(alloc, silent.disk.file(file(row, 2)?)),
-        call => called(alloc, silent, call, row),
-    }
+fn put_calls(silent: &SilentDisk<MemDisk>, words: &mut Words) {
+    words.number(silent.calls());
+    words.number(silent.syncs());
 }

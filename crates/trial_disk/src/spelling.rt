@@ -7,8 +7,7 @@ use jb_base::{
     TEXTS_CEILING,
 };
 use jb_disk::FileId;
-use std::alloc::{AllocError, Global};
-use trial_rows::{Row, RowError, said};
+use trial_rows::{Row, RowError, Words};
 
 /// The file that the word at this place names.
 pub(crate) fn file(row: &Row, place: usize) -> Result<FileId, RowError> {
@@ -49,12 +48,15 @@ pub(crate) fn ceiling(file: FileId) -> u64
     }
 }
 
-/// Words that were put together, unless there was no memory for them.
-pub(crate) fn worded(words: Result<String, AllocError>) -> Result<String, RowError> {
-    Ok(words?)
+/// Puts the word for a call that answers nothing but whether it was done.
+pub(crate) fn put_done(is_done: bool, words: &mut Words) {
+    words.word(if is_done { "ok" } else { "failed" });
 }
 
-/// The word for a call that answers nothing but whether it was done.
-pub(crate) fn done(alloc: Global, is_ok: bool) -> Result<String, RowError> {
-    said(alloc, if is_ok { "ok" } else { "failed" })
+/// Puts one more behind the others of a list.
+pub(crate) fn keep<T: Drop>(list: &mut Vec<T>, one: T) -> Result<(), RowError> {
+    match list.push(one) {
+        Ok(()) => Ok(()),
+        Err(_) => Err(RowError::OutOfMemory),
+    }
 }

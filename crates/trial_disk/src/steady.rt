@@ -1,34 +1,42 @@
 //! A steady disk.
 
-use crate::calling::called;
+use crate::calling::put_called;
 use crate::spelling::file;
 use jb_disk::SteadyDisk;
 use std::alloc::Global;
-use trial_rows::{Row, RowError, said, shown};
+use trial_rows::{Row, RowError, Words};
 
-/// What the row about the steady disk comes to.
-pub(crate) fn answer(
+/// Puts what the row about the steady disk comes to.
+pub(crate) fn put(
     alloc: Global,
-    disks: &mut Vec<SteadyDisk>,
+    kept: &mut Option<SteadyDisk>,
+    call: &str,
     row: &Row,
-) -> Result<String, RowError> {
-    if row.word(1)? == "new" {
-        return made(alloc, disks, row);
+    words: &mut Words,
+) -> Result<(), RowError> {
+    if call == "new" {
+        return make(alloc, kept, row, words);
     }
-    match disks.last_mut() {
-        Some(disk) => asked(alloc, disk, row),
-        None => Err(RowError::Unknown(1)),
+    let Some(disk) = kept else {
+        return Err(RowError::Unknown(1));
+    };
+    match call {
+        "file" => words.shown(disk.file(file(row, 2)?)),
+        _ => return put_called(alloc, disk, call, row, words),
     }
+    Ok(())
 }
 
-fn made(alloc: Global, disks: &mut Vec<SteadyDisk>, row: &Row) -> Result<String, RowError> {
-    disks.push(SteadyDisk::new(alloc, row.number(2)?)?)?;
-    said(alloc, "ok")
-}
-
-fn asked(alloc: Global, disk: &mut SteadyDisk, row: &Row) -> Result<String, RowError> {
-    match row.word(1)? {
-        "file" => shown(alloc, disk.file(file(row, 2)?)),
-        call => called(alloc, disk, call, row),
-    }
+fn make(
+    alloc: Global,
+    kept: &mut Option<SteadyDisk>,
+    row: &Row,
+    words: &mut Words,
+) -> Result<(), RowError> {
+    let Ok(disk) = SteadyDisk::new(alloc, row.number(2)?) else {
+        return Err(RowError::OutOfMemory);
+    };
+    *kept = Some(disk);
+    words.word("ok");
+    Ok(())
 }

@@ -2,7 +2,7 @@
 ghost use Rattle.std.specs.Prelude.{◌≡◌, ◌≤◌, IsTrue};
 ghost use Rattle.trial_index.specs.Room.{HasRoom};
 
-use crate::message::{fields_at, head_at, head_of};
+use crate::message::{head_at, head_of, put_fields};
 use jb_base::{AreaRules, Bytes, DELETED, Kind, OutOfMemory, Subfields, User};
 use jb_crc::jam_crc;
 use jb_index::{Index, parents_of, unread_in};
@@ -10,7 +10,7 @@ use jb_model::{Head, Loaded, LoadedMarks, LoadedMessage, LoadedSlot, LoadedSlots
 use jb_subfield::headed_length;
 use std::alloc::Global;
 use std::marker::Model;
-use trial_rows::{Row, RowError};
+use trial_rows::{Row, RowError, Words};
 
 /// The most slots of an area.
 const MOST: u32 = 1_000;
@@ -39,8 +39,12 @@ impl SoundArea {
         requires low { 1 ≤ base }
         requires high { base ≤ 16_000_000 }
     {
-        let slots = LoadedSlots::new(alloc)?;
-        let marks = LoadedMarks::new(alloc)?;
+        let Ok(slots) = LoadedSlots::new(alloc) else {
+            return Err(OutOfMemory);
+        };
+        let Ok(marks) = LoadedMarks::new(alloc) else {
+            return Err(OutOfMemory);
+        };
         let loaded = Loaded {
             created: 0,
             counter: 0,
@@ -138,62 +142,88 @@ fn rules_of(alloc: Global, read: u8, sysop: u8) -> AreaRules
     }
 }
 
-/// The answer to a row that changes the area.
-pub(crate) fn answer(alloc: Global, area: &mut SoundArea, row: &Row) -> Result<String, RowError> {
-    change(alloc, area, row)?;
-    Ok(format!(in alloc; "next {}", area.next())?)
-}
-
-fn change(alloc: Global, area: &mut SoundArea, row: &Row) -> Result<(), RowError> {
-    match row.word(0)? {
-        "area" => begin(alloc, area, row.u32(1)?),
-        "live" => area.post(head_at(row)?, fields_at(alloc, row)?),
-        "chain" => chain(alloc, area, row.u32(1)?),
-        "kill" => kill(area, row.u32(1)?),
-        _ => area.mark(mark_at(alloc, row)?),
-    }
+/// Puts the number that the next message gets.
+fn put_next(area: &SoundArea, words: &mut Words) -> Result<(), RowError> {
+    words.word("next");
+    words.number(area.next() as u64);
+    Ok(())
 }
 
 /// An area without a message from now on.
-fn begin(alloc: Global, area: &mut SoundArea, base: u32) -> Result<(), RowError> {
+pub(crate) fn begin(
+    alloc: Global,
+    area: &mut SoundArea,
+    row: &Row,
+    words: &mut Words,
+) -> Result<(), RowError> {
+    let base = row.u32(1)?;
     if base < 1 || base > 16_000_000 {
         return Err(RowError::Unknown(1));
     }
-    put(area, SoundArea::new(alloc, base)?);
-    Ok(())
+    match SoundArea::new(alloc, base) {
+        Ok(fresh) => *area = fresh,
+        Err(_) => return Err(RowError::OutOfMemory),
+    }
+    put_next(area, words)
 }
 
-/// Puts an area in the place of another.
-fn put(place: &mut SoundArea, area: SoundArea) {
-    *place = area;
+/// Posts the message of a row.
+pub(crate) fn live(
+    alloc: Global,
+    area: &mut SoundArea,
+    row: &Row,
+    words: &mut Words,
+) -> Result<(), RowError> {
+    let head = head_at(row)?;
+    let mut subfields = Subfields::new(alloc);
+    put_fields(alloc, &mut subfields, row)?;
+    area.post(head, subfields)?;
+    put_next(area, words)
 }
 
 /// So many messages without a subfield, each a reply to the one before it.
-fn chain(alloc: Global, area: &mut SoundArea, count: u32) -> Result<(), RowError> {
-    for _ in 0..count {
+pub(crate) fn chain(
+    alloc: Global,
+    area: &mut SoundArea,
+    row: &Row,
+    words: &mut Words,
+) -> Result<(), RowError> {
+    for _ in 0..row.u32(1)? {
         let before = area.next().saturating_sub(1);
         area.post(head_of(before, 0, 1), Subfields::new(alloc))?;
     }
-    Ok(())
+    put_next(area, words)
 }
 
-/// The message with this number is killed.
-fn kill(area: &mut SoundArea, number: u32) -> Result<(), RowError> {
+/// The message with the number of a row is killed.
+pub(crate) fn kill(area: &mut SoundArea, row: &Row, words: &mut Words) -> Result<(), RowError> {
+    let number = row.u32(1)?;
     let base = area.loaded.base;
     if number < base {
         return Err(RowError::Unknown(1));
     }
     area.kill((number - base) as usize);
-    Ok(())
+    put_next(area, words)
 }
 
-/// The mark of a row `mark NAME ID LAST HIGH`.
-fn mark_at(alloc: Global, row: &Row) -> Result<Mark, RowError> {
-    let name = row.bytes(alloc, 1)?;
-    Ok(Mark {
-        user_crc: jam_crc(name.as_slice()),
-        user_id: row.u32(2)?,
-        last: row.u32(3)?,
-        high: row.u32(4)?,
-    })
+/// Puts the mark of a row `mark NAME ID LAST HIGH` behind the others.
+pub(crate) fn mark(
+    alloc: Global,
+    area: &mut SoundArea,
+    row: &Row,
+    words: &mut Words,
+) -> Result<(), RowError> {
+    let user_id = row.u32(2)?;
+    let last = row.u32(3)?;
+    let high = row.u32(4)?;
+    match row.bytes(alloc, 1) {
+        Ok(name) => area.mark(Mark {
+            user_crc: jam_crc(name.as_slice()),
+            user_id,
+            last,
+            high,
+        })?,
+        Err(error) => return Err(error),
+    }
+    put_next(area, words)
 }

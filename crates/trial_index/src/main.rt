@@ -12,7 +12,7 @@ use area::SoundArea;
 use jb_base::{Name, OutOfMemory, User};
 use std::alloc::Global;
 use std::io;
-use trial_rows::{Answers, Row, RowError, said};
+use trial_rows::{Answers, Row, RowError, Words};
 
 /// What the rows so far have made.
 #[derive(Drop)]
@@ -26,9 +26,14 @@ struct Trial {
 impl Trial {
     /// An area without a message, and a user without a name.
     fn new(alloc: Global) -> Result<Trial, OutOfMemory> {
-        let name = Name::copy(alloc, &[])?;
+        let Ok(name) = Name::copy(alloc, &[]) else {
+            return Err(OutOfMemory);
+        };
+        let Ok(area) = SoundArea::new(alloc, 1) else {
+            return Err(OutOfMemory);
+        };
         Ok(Trial {
-            area: SoundArea::new(alloc, 1)?,
+            area,
             read: 0,
             sysop: 255,
             user: User {
@@ -40,42 +45,81 @@ impl Trial {
     }
 
     /// `levels READ SYSOP`: the levels that the area asks for.
-    fn set_levels(&mut self, alloc: Global, row: &Row) -> Result<String, RowError> {
+    fn set_levels(&mut self, row: &Row, words: &mut Words) -> Result<(), RowError> {
         self.read = row.u8(1)?;
         self.sysop = row.u8(2)?;
-        said(alloc, "levels")
+        words.word("levels");
+        Ok(())
     }
 
     /// `user NAME ID LEVEL`: who asks.
-    fn set_user(&mut self, alloc: Global, row: &Row) -> Result<String, RowError> {
+    fn set_user(&mut self, alloc: Global, row: &Row, words: &mut Words) -> Result<(), RowError> {
         let id = row.u32(2)?;
         let level = row.u8(3)?;
-        let name = row.name(alloc, 1)?;
-        self.user = User { name, id, level };
-        said(alloc, "user")
+        match row.name(alloc, 1) {
+            Ok(name) => self.user = User { name, id, level },
+            Err(error) => return Err(error),
+        }
+        words.word("user");
+        Ok(())
     }
 
     /// `walk`: how many messages are unread, of the area itself.
-    fn walk(&self, alloc: Global) -> Result<String, RowError> {
+    fn walk(&self, alloc: Global, words: &mut Words) -> Result<(), RowError> {
         let unread = self.area.unread(alloc, self.read, self.sysop, &self.user);
-        Ok(format!(in alloc; "{unread} unread")?)
+        answers::put_unread(unread, words)
     }
 
     /// What the index of the area answers.
-    fn ask(&self, alloc: Global, row: &Row) -> Result<String, RowError> {
-        let index = self.area.index(alloc, self.read, self.sysop)?;
-        answers::answer(alloc, &index, &self.user, row)
+    fn ask(&self, alloc: Global, word: &str, row: &Row, words: &mut Words) -> Result<(), RowError> {
+        match self.area.index(alloc, self.read, self.sysop) {
+            Ok(index) => answers::answer(&index, &self.user, word, row, words),
+            Err(_) => Err(RowError::OutOfMemory),
+        }
+    }
+
+    /// Puts the words of the answer to a row that begins with this word.
+    fn put_answer(
+        &mut self,
+        alloc: Global,
+        word: &str,
+        row: &Row,
+        words: &mut Words,
+    ) -> Result<(), RowError> {
+        match word {
+            "levels" => self.set_levels(row, words),
+            "user" => self.set_user(alloc, row, words),
+            "walk" => self.walk(alloc, words),
+            _ => self.change(alloc, word, row, words),
+        }
+    }
+
+    /// The same of a row that changes the area, or else asks.
+    fn change(
+        &mut self,
+        alloc: Global,
+        word: &str,
+        row: &Row,
+        words: &mut Words,
+    ) -> Result<(), RowError> {
+        match word {
+            "area" => area::begin(alloc, &mut self.area, row, words),
+            "live" => area::live(alloc, &mut self.area, row, words),
+            "chain" => area::chain(alloc, &mut self.area, row, words),
+            "kill" => area::kill(&mut self.area, row, words),
+            "mark" => area::mark(alloc, &mut self.area, row, words),
+            _ => self.ask(alloc, word, row, words),
+        }
     }
 }
 
 impl Answers for Trial {
     fn answer(&mut self, alloc: Global, row: &Row) -> Result<String, RowError> {
-        match row.word(0)? {
-            "levels" => self.set_levels(alloc, row),
-            "user" => self.set_user(alloc, row),
-            "area" | "live" | "chain" | "kill" | "mark" => area::answer(alloc, &mut self.area, row),
-            "walk" => self.walk(alloc),
-            _ => self.ask(alloc, row),
+        let word = row.word(0)?;
+        let mut words = Words::new(alloc);
+        match self.put_answer(alloc, word, row, &mut words) {
+            Ok(()) => words.end(),
+            Err(error) => Err(error),
         }
     }
 }

@@ -16,19 +16,22 @@ fn put_field(
     if row.word(place)? == "none" {
         return Ok(());
     }
-    let bytes = row.bytes(alloc, place)?;
-    fields.push(Subfield { id, hi: 0, bytes })?;
+    let Ok(bytes) = row.bytes(alloc, place) else {
+        return Err(RowError::Bytes(place));
+    };
+    if fields.push(Subfield { id, hi: 0, bytes }).is_err() {
+        return Err(RowError::OutOfMemory);
+    }
     Ok(())
 }
 
 /// The subfields of a row `live FROM TO SUBJECT MSGID REPLYID ..`.
-pub(crate) fn fields_at(alloc: Global, row: &Row) -> Result<Subfields, RowError> {
-    let mut fields = Subfields::new(alloc);
-    let kinds = [SENDER_NAME, RECEIVER_NAME, SUBJECT, MSGID, REPLYID];
-    for (before, id) in kinds.into_iter().enumerate() {
-        put_field(alloc, &mut fields, id, row, before + 1)?;
-    }
-    Ok(fields)
+pub(crate) fn put_fields(alloc: Global, fields: &mut Subfields, row: &Row) -> Result<(), RowError> {
+    put_field(alloc, fields, SENDER_NAME, row, 1)?;
+    put_field(alloc, fields, RECEIVER_NAME, row, 2)?;
+    put_field(alloc, fields, SUBJECT, row, 3)?;
+    put_field(alloc, fields, MSGID, row, 4)?;
+    put_field(alloc, fields, REPLYID, row, 5)
 }
 
 /// The header's fields of a message with this ReplyTo, written then, with these attributes.

@@ -1,11 +1,12 @@
 //! The doing of the journal's record.
+ghost use Rattle.std.specs.Prelude.{◌≤◌};
 
 use crate::base::Base;
-use crate::showing::{put_files, put_word, record};
-use jb_disk::{FileId, MemDisk};
+use crate::showing::{put_files, put_record, put_truth};
+use jb_disk::{FileId, MemDisk, SilentDisk};
 use jb_redo::{RecordError, apply_record, test_record};
 use std::alloc::Global;
-use trial_rows::{Row, RowError, shown};
+use trial_rows::{Row, RowError, Words};
 
 // Tests the record and does it.
 fn applied(disk: &mut MemDisk) -> Result<(), RecordError> {
@@ -13,74 +14,87 @@ fn applied(disk: &mut MemDisk) -> Result<(), RecordError> {
     apply_record(disk)
 }
 
+/// Puts what the doing of the record answers, and the files then.
+fn put_applied(alloc: Global, disk: &mut MemDisk, words: &mut Words) -> Result<(), RowError> {
+    put_record(words, applied(disk));
+    put_files(alloc, words, disk)
+}
+
 /// What is answered, the files then, and what a second test answers.
-pub(crate) fn apply(alloc: Global, base: &Base) -> Result<String, RowError> {
-    let mut disk = base.disk(alloc, base.journal(), Vec::new(alloc))?;
-    applied_and_tested(alloc, &mut disk)
-}
-
-fn applied_and_tested(alloc: Global, disk: &mut MemDisk) -> Result<String, RowError> {
-    let mut text = record(alloc, applied(disk))?;
-    put_files(alloc, &mut text, disk)?;
-    put_shadow(alloc, &mut text, disk)?;
-    put_test(alloc, &mut text, disk)?;
-    Ok(text)
-}
-
-fn put_shadow(alloc: Global, text: &mut String, disk: &MemDisk) -> Result<(), RowError> {
-    let shadow = shown(alloc, disk.file(FileId::Ndt))?;
-    put_word(text, shadow.as_str())
-}
-
-fn put_test(alloc: Global, text: &mut String, disk: &mut MemDisk) -> Result<(), RowError> {
-    let answer = record(alloc, test_record(disk))?;
-    put_word(text, answer.as_str())
+pub(crate) fn apply(
+    alloc: Global,
+    base: &Base,
+    silent: &mut SilentDisk<MemDisk>,
+    words: &mut Words,
+) -> Result<(), RowError> {
+    base.begin(alloc, &[], silent)?;
+    let disk = &mut silent.disk;
+    put_applied(alloc, disk, words)?;
+    words.shown(disk.file(FileId::Ndt));
+    put_record(words, test_record(disk));
+    Ok(())
 }
 
 /// What is answered, how long .JLR is then, and whether each of its bytes but the first is that of the row.
-pub(crate) fn long(alloc: Global, base: &Base, row: &Row) -> Result<String, RowError> {
-    let wanted = row.bytes(alloc, 1)?;
-    let mut disk = base.disk(alloc, base.journal(), Vec::new(alloc))?;
-    filled(alloc, &mut disk, wanted.as_slice())
+pub(crate) fn long(
+    alloc: Global,
+    base: &Base,
+    row: &Row,
+    silent: &mut SilentDisk<MemDisk>,
+    words: &mut Words,
+) -> Result<(), RowError> {
+    base.begin(alloc, &[], silent)?;
+    put_record(words, applied(&mut silent.disk));
+    let file = silent.disk.file(FileId::Jlr);
+    words.number(file.len() as u64);
+    let Ok(wanted) = row.bytes(alloc, 1) else {
+        return Err(RowError::Bytes(1));
+    };
+    put_truth(words, is_filled(file, wanted.as_slice()));
+    Ok(())
 }
 
-fn filled(alloc: Global, disk: &mut MemDisk, wanted: &[u8]) -> Result<String, RowError> {
-    let mut text = record(alloc, applied(disk))?;
-    let file = disk.file(FileId::Jlr);
-    let is_filled = file.iter().skip(1).all(|byte| wanted == [*byte].as_slice());
-    write!(text, " {} {is_filled}", file.len())?;
-    Ok(text)
+/// Whether each byte but the first is this one.
+fn is_filled(file: &[u8], wanted: &[u8]) -> bool {
+    let mut is_first = true;
+    for byte in file {
+        if !is_first && wanted != [*byte].as_slice() {
+            return false;
+        }
+        is_first = false;
+    }
+    true
 }
 
 /// What is answered where a call fails, and the files that come of each pick of what a crash leaves then; or how many calls
 /// were made where none failed.
-pub(crate) fn stopped(alloc: Global, base: &Base, row: &Row) -> Result<String, RowError> {
-    let mut disk = base.failing(alloc, row.number(1)?)?;
-    stopped_on(alloc, &mut disk)
-}
-
-fn stopped_on(alloc: Global, disk: &mut MemDisk) -> Result<String, RowError> {
+pub(crate) fn stopped(
+    alloc: Global,
+    base: &Base,
+    row: &Row,
+    silent: &mut SilentDisk<MemDisk>,
+    words: &mut Words,
+) -> Result<(), RowError> {
+    base.begin(alloc, &[row.number(1)?], silent)?;
+    let disk = &mut silent.disk;
     let answer = applied(disk);
-    let mut text = record(alloc, answer)?;
-    match answer {
-        Ok(()) => write!(text, " {}", disk.calls())?,
-        Err(_) => put_left(alloc, &mut text, disk)?,
+    put_record(words, answer);
+    if answer.is_ok() {
+        words.number(disk.calls());
+        return Ok(());
     }
-    Ok(text)
-}
-
-/// Puts what comes of each pick behind the other words.
-fn put_left(alloc: Global, text: &mut String, disk: &MemDisk) -> Result<(), RowError> {
     for pick in 0..4 {
-        let mut left = disk.crashed(disk.calls(), pick)?;
-        put_applied(alloc, text, &mut left)?;
+        put_left(alloc, disk, pick, words)?;
     }
     Ok(())
 }
 
-/// Puts what the doing of the record answers, and the files then, behind the other words.
-fn put_applied(alloc: Global, text: &mut String, disk: &mut MemDisk) -> Result<(), RowError> {
-    let answer = record(alloc, applied(disk))?;
-    put_word(text, answer.as_str())?;
-    put_files(alloc, text, disk)
+/// Puts what comes of a pick of what a crash leaves, where the doing is begun again.
+fn put_left(alloc: Global, disk: &MemDisk, pick: u8, words: &mut Words) -> Result<(), RowError>
+    requires { pick ≤ 3 }
+{
+    let Ok(mut left) = disk.crashed(disk.calls(), pick) else {
+        return Err(RowError::OutOfMemory);
+    };
+    put_applied(alloc, &mut left, words)
 }

@@ -1,13 +1,13 @@
 //! The files over which the rows are tried.
 
 use jb_base::{Bytes, OutOfMemory};
-use jb_disk::MemDisk;
+use jb_disk::{MemDisk, SilentDisk};
 use std::alloc::Global;
 use std::array;
-use trial_rows::{Row, RowError, said};
+use trial_rows::{Row, RowError, Words};
 
 /// The number of .JNL.
-const JOURNAL: usize = 4;
+pub(crate) const JOURNAL: usize = 4;
 
 /// The six files by their numbers, of which that of .JNL stands apart.
 #[derive(Drop)]
@@ -30,34 +30,49 @@ impl Base {
     }
 
     /// Takes the six files of a row. The journal is not one of them.
-    pub(crate) fn set_files(&mut self, alloc: Global, row: &Row) -> Result<String, RowError> {
+    pub(crate) fn set_files(&mut self, alloc: Global, row: &Row) -> Result<(), RowError> {
         self.files.clear();
         for place in 1..row.len() {
-            self.files.push(row.bytes(alloc, place)?)?;
+            let Ok(file) = row.bytes(alloc, place) else {
+                return Err(RowError::Bytes(place));
+            };
+            self.files.push(file)?;
         }
-        said(alloc, "ok")
+        Ok(())
     }
 
     /// Takes the journal that has the words of a row one behind another.
-    pub(crate) fn set_journal(&mut self, alloc: Global, row: &Row) -> Result<String, RowError> {
+    pub(crate) fn set_journal(&mut self, alloc: Global, row: &Row) -> Result<(), RowError> {
         self.journal = Bytes::new(alloc);
         for place in 1..row.len() {
-            let bytes = row.bytes(alloc, place)?;
-            self.journal.append(bytes.as_slice())?;
+            self.put_part(alloc, row, place, 1)?;
         }
-        said(alloc, "ok")
+        Ok(())
     }
 
     /// Puts a word so many times behind the journal, and another one behind that.
-    pub(crate) fn put_more(&mut self, alloc: Global, row: &Row) -> Result<String, RowError> {
-        let count = row.u16(1)?;
-        let bytes = row.bytes(alloc, 2)?;
-        let last = row.bytes(alloc, 3)?;
+    pub(crate) fn put_more(&mut self, alloc: Global, row: &Row) -> Result<(), RowError> {
+        self.put_part(alloc, row, 2, row.u16(1)?)?;
+        self.put_part(alloc, row, 3, 1)
+    }
+
+    /// Puts the word at this place so many times behind the journal.
+    fn put_part(
+        &mut self,
+        alloc: Global,
+        row: &Row,
+        place: usize,
+        count: u16,
+    ) -> Result<(), RowError> {
+        let Ok(bytes) = row.bytes(alloc, place) else {
+            return Err(RowError::Bytes(place));
+        };
         for _ in 0..count {
-            self.journal.append(bytes.as_slice())?;
+            if self.journal.append(bytes.as_slice()).is_err() {
+                return Err(RowError::OutOfMemory);
+            }
         }
-        self.journal.append(last.as_slice())?;
-        said(alloc, "ok")
+        Ok(())
     }
 
     fn file(&self, number: usize) -> &[u8] {
@@ -67,29 +82,61 @@ impl Base {
         }
     }
 
-    /// A disk with the files and the journal, which fails the call with this number.
-    pub(crate) fn failing(&self, alloc: Global, call: u64) -> Result<MemDisk, OutOfMemory> {
-        let failing = vec![in alloc; call]?;
-        self.disk(alloc, self.journal(), failing)
-    }
-
-    /// A disk with these files and this journal, which fails the calls with these numbers.
-    pub(crate) fn disk(
+    /// A disk with these files, but with these bytes in the place of one, which fails the calls with these numbers.
+    fn disk(
         &self,
         alloc: Global,
-        journal: &[u8],
-        failing: Vec<u64>,
+        other: usize,
+        bytes: &[u8],
+        failing: &[u64],
     ) -> Result<MemDisk, OutOfMemory> {
-        let files = array::try_from_fn(|number| {
-            Bytes::copy(
-                alloc,
-                if number == JOURNAL {
-                    journal
-                } else {
-                    self.file(number)
-                },
-            )
-        })?;
+        let Ok(failing) = failing.to_vec(alloc) else {
+            return Err(OutOfMemory);
+        };
+        let Ok(files) = array::try_from_fn(|number| {
+            let file = if number == other {
+                bytes
+            } else {
+                self.file(number)
+            };
+            Bytes::copy(alloc, file)
+        }) else {
+            return Err(OutOfMemory);
+        };
         MemDisk::new(alloc, files, failing)
     }
+
+    /// Makes that disk, as one that tells nothing.
+    pub(crate) fn make(
+        &self,
+        alloc: Global,
+        other: usize,
+        bytes: &[u8],
+        failing: &[u64],
+        silent: &mut SilentDisk<MemDisk>,
+    ) -> Result<(), RowError> {
+        let Ok(disk) = self.disk(alloc, other, bytes, failing) else {
+            return Err(RowError::OutOfMemory);
+        };
+        *silent = SilentDisk::new(disk);
+        Ok(())
+    }
+
+    /// Makes a disk with the files and the journal of the rows, which fails the calls with these numbers.
+    pub(crate) fn begin(
+        &self,
+        alloc: Global,
+        failing: &[u64],
+        silent: &mut SilentDisk<MemDisk>,
+    ) -> Result<(), RowError> {
+        self.make(alloc, JOURNAL, self.journal(), failing, silent)
+    }
+}
+
+/// A disk without files, that tells nothing.
+pub(crate) fn empty(alloc: Global) -> Result<SilentDisk<MemDisk>, OutOfMemory> {
+    let Ok(disk) = Base::new(alloc).disk(alloc, JOURNAL, &[], &[]) else {
+        return Err(OutOfMemory);
+    };
+    Ok(SilentDisk::new(disk))
 }

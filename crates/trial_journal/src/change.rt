@@ -12,7 +12,9 @@ pub(crate) fn change(alloc: Global) -> Result<Redo, OutOfMemory>
     ensures { IfOk result (λ redo. IsWritable redo) }
 {
     let mut redo = Redo::new(alloc);
-    redo.reserve(3, 4, 8)?;
+    let Ok(()) = redo.reserve(3, 4, 8) else {
+        return Err(OutOfMemory);
+    };
     redo.put_len(Length {
         file: FileId::Jhr,
         len: 10,

@@ -2,13 +2,14 @@
 ghost use Rattle.std.specs.Prelude.{◌≤◌, IfOk};
 ghost use Rattle.jb_journal.specs.Commit.{IsWritable};
 
-use crate::showing::opening;
-use jb_base::{Bytes, OutOfMemory, TEXTS_CEILING};
+use crate::base::Base;
+use crate::committing::put_commit;
+use crate::showing::{put_opening, put_truth};
+use jb_base::{OutOfMemory, TEXTS_CEILING};
 use jb_disk::{FileId, Length, MemDisk, Redo, SilentDisk};
-use jb_journal::{commit, prepare, recover};
+use jb_journal::{prepare, recover};
 use std::alloc::Global;
-use std::array;
-use trial_rows::{Row, RowError, said};
+use trial_rows::{Row, RowError, Words};
 
 /// The number of .NDT.
 const SHADOW: usize = 5;
@@ -17,21 +18,22 @@ const SHADOW: usize = 5;
 const CALLS_TO_OPEN: u64 = 9;
 
 // So many bytes, the same ones again after 251, which no buffer's size is a multiple of.
-fn numbered(alloc: Global, len: u32) -> Result<Bytes, OutOfMemory> {
-    let mut bytes = Bytes::new(alloc);
+fn numbered(alloc: Global, len: u32) -> Result<Vec<u8>, OutOfMemory> {
+    let mut bytes = Vec::new(alloc);
     for place in 0..len {
-        bytes.append(&[(place % 251) as u8])?;
+        if bytes.push((place % 251) as u8).is_err() {
+            return Err(OutOfMemory);
+        }
     }
     Ok(bytes)
 }
 
-// A disk on which .NDT has so many bytes, and no other file any.
-fn disk(alloc: Global, len: u32) -> Result<MemDisk, OutOfMemory> {
-    let files = array::try_from_fn(|number| {
-        let len = if number == SHADOW { len } else { 0 };
-        numbered(alloc, len)
-    })?;
-    MemDisk::new(alloc, files, Vec::new(alloc))
+// Makes a disk on which .NDT has so many bytes, and no other file any.
+fn make(alloc: Global, len: u32, silent: &mut SilentDisk<MemDisk>) -> Result<(), RowError> {
+    let Ok(bytes) = numbered(alloc, len) else {
+        return Err(RowError::OutOfMemory);
+    };
+    Base::new(alloc).make(alloc, SHADOW, bytes.as_slice(), &[], silent)
 }
 
 // .JDT gets so many bytes, those of .NDT from the second on.
@@ -40,7 +42,9 @@ fn change(alloc: Global, len: u32) -> Result<Redo, OutOfMemory>
     ensures { IfOk result (λ redo. IsWritable redo) }
 {
     let mut redo = Redo::new(alloc);
-    redo.reserve(1, 1, 0)?;
+    let Ok(()) = redo.reserve(1, 1, 0) else {
+        return Err(OutOfMemory);
+    };
     redo.put_len(Length {
         file: FileId::Jdt,
         len,
@@ -49,56 +53,65 @@ fn change(alloc: Global, len: u32) -> Result<Redo, OutOfMemory>
     Ok(redo)
 }
 
-// Whether .JDT is .NDT without its first byte.
-fn is_copied(disk: &MemDisk) -> bool {
-    match disk.file(FileId::Ndt) {
+// Puts whether .JDT is .NDT without its first byte.
+fn put_copied(words: &mut Words, disk: &MemDisk) {
+    let is_copied = match disk.file(FileId::Ndt) {
         [_, rest @ ..] => rest == disk.file(FileId::Jdt),
         [] => false,
-    }
+    };
+    put_truth(words, is_copied);
 }
 
-// Puts what opening answers, how many calls it makes, and whether the bytes are there then, behind the other words.
-fn put_opening(alloc: Global, text: &mut String, left: &mut MemDisk) -> Result<(), RowError> {
-    let answer = opening(alloc, recover(left))?;
-    write!(text, " {answer} {} {}", left.calls(), is_copied(left))?;
+// What opening answers after a crash behind the open gate, how many calls it makes, and whether the bytes are there then.
+fn put_recovered(disk: &MemDisk, words: &mut Words) -> Result<(), RowError> {
+    if disk.calls() < CALLS_TO_OPEN {
+        words.word("not-allowed");
+        return Ok(());
+    }
+    let Ok(mut left) = disk.crashed(CALLS_TO_OPEN, 2) else {
+        return Err(RowError::OutOfMemory);
+    };
+    put_opening(words, recover(&mut left));
+    words.number(left.calls());
+    put_copied(words, &left);
     Ok(())
 }
 
-// The same after a crash behind the open gate.
-fn put_recovered(alloc: Global, text: &mut String, disk: &MemDisk) -> Result<(), RowError> {
-    if disk.calls() < CALLS_TO_OPEN {
-        text.push_str(" not-allowed")?;
-        return Ok(());
-    }
-    let mut left = disk.crashed(CALLS_TO_OPEN, 2)?;
-    put_opening(alloc, text, &mut left)
+// Commits that change.
+fn put_change(
+    alloc: Global,
+    len: u32,
+    silent: &mut SilentDisk<MemDisk>,
+    words: &mut Words,
+) -> Result<(), RowError>
+    requires { len ≤ 67_108_864 }
+{
+    let Ok(redo) = change(alloc, len) else {
+        return Err(RowError::OutOfMemory);
+    };
+    put_commit(silent, &redo, words);
+    Ok(())
 }
 
 /// Whether a copy of so many bytes is committed, how many calls that makes, and whether the bytes are there then; and the
 /// same of the opening after a crash.
-pub(crate) fn copied(alloc: Global, row: &Row) -> Result<String, RowError> {
+pub(crate) fn copied(
+    alloc: Global,
+    row: &Row,
+    silent: &mut SilentDisk<MemDisk>,
+    words: &mut Words,
+) -> Result<(), RowError> {
     let len = row.u32(1)?;
     if len as u64 > TEXTS_CEILING {
-        return said(alloc, "not-allowed");
+        words.word("not-allowed");
+        return Ok(());
     }
-    let redo = change(alloc, len)?;
-    let disk = disk(alloc, len + 1)?;
-    copied_on(alloc, &mut SilentDisk::new(disk), &redo)
-}
-
-fn copied_on(
-    alloc: Global,
-    silent: &mut SilentDisk<MemDisk>,
-    redo: &Redo,
-) -> Result<String, RowError>
-    requires { IsWritable redo.now }
-{
-    let is_prepared = prepare(silent).is_ok();
-    let before = silent.disk.calls();
-    let is_done = is_prepared && commit(silent, redo).is_ok();
-    let calls = silent.disk.calls().saturating_sub(before);
-    let is_there = is_copied(&silent.disk);
-    let mut text = format!(in alloc; "{is_done} {calls} {is_there}")?;
-    put_recovered(alloc, &mut text, &silent.disk)?;
-    Ok(text)
+    make(alloc, len + 1, silent)?;
+    if prepare(silent).is_err() {
+        words.word("failed");
+        return Ok(());
+    }
+    put_change(alloc, len, silent, words)?;
+    put_copied(words, &silent.disk);
+    put_recovered(&silent.disk, words)
 }

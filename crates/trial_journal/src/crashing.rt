@@ -2,103 +2,100 @@
 ghost use Rattle.std.specs.Prelude.{◌≤◌, length};
 
 use crate::base::Base;
-use crate::showing::{files, opening};
-use jb_disk::MemDisk;
+use crate::showing::{put_files, put_opening};
+use jb_disk::{FileId, MemDisk, SilentDisk};
 use jb_journal::recover;
 use std::alloc::Global;
-use trial_rows::{Row, RowError, said};
+use trial_rows::{Row, RowError, Words};
 
 /// What opening answers over the files and the journal of the rows.
-pub(crate) fn opened(alloc: Global, base: &Base) -> Result<String, RowError> {
-    let mut disk = base.disk(alloc, base.journal(), Vec::new(alloc))?;
-    opening(alloc, recover(&mut disk))
+pub(crate) fn opened(
+    alloc: Global,
+    base: &Base,
+    silent: &mut SilentDisk<MemDisk>,
+    words: &mut Words,
+) -> Result<(), RowError> {
+    base.begin(alloc, &[], silent)?;
+    put_opening(words, recover(&mut silent.disk));
+    Ok(())
 }
 
 /// What comes of a crash after so many calls of the last commit, for each pick: what opening answers, the files then, and
 /// whether an opening that is stopped at any of its calls, by the same pick, and begun again comes to the same.
-pub(crate) fn crash(alloc: Global, done: &[MemDisk], row: &Row) -> Result<String, RowError> {
+pub(crate) fn crash(
+    alloc: Global,
+    disk: &MemDisk,
+    row: &Row,
+    words: &mut Words,
+) -> Result<(), RowError> {
     let after = row.number(1)?;
-    match done.last() {
-        Some(disk) if after <= disk.calls() => picked(alloc, disk, after),
-        _ => said(alloc, "not-allowed"),
+    if after > disk.calls() {
+        words.word("not-allowed");
+        return Ok(());
     }
-}
-
-fn picked(alloc: Global, disk: &MemDisk, after: u64) -> Result<String, RowError>
-    requires { after ≤ length disk.now.calls }
-{
-    let mut all = String::new(alloc);
     for pick in 0..4 {
-        if pick > 0 {
-            all.push(' ')?;
-        }
-        put_picked(alloc, &mut all, disk, after, pick)?;
+        put_picked(alloc, disk, after, pick, words)?;
     }
-    Ok(all)
+    Ok(())
 }
 
 fn put_picked(
     alloc: Global,
-    text: &mut String,
     disk: &MemDisk,
     after: u64,
     pick: u8,
+    words: &mut Words,
 ) -> Result<(), RowError>
     requires calls { after ≤ length disk.now.calls }
     requires pick { pick ≤ 3 }
 {
-    let mut left = disk.crashed(after, pick)?;
-    put_recovered(alloc, text, &mut left, pick)
+    let Ok(mut left) = disk.crashed(after, pick) else {
+        return Err(RowError::OutOfMemory);
+    };
+    put_recovered(alloc, &mut left, pick, words)
 }
 
 fn put_recovered(
     alloc: Global,
-    text: &mut String,
     left: &mut MemDisk,
     pick: u8,
+    words: &mut Words,
 ) -> Result<(), RowError>
     requires { pick ≤ 3 }
 {
-    let answer = opening(alloc, recover(left))?;
-    let files = files(alloc, left)?;
-    let again = comes_again(alloc, left, pick, files.as_str())?;
-    write!(text, "{answer} {files} {again}")?;
+    put_opening(words, recover(left));
+    put_files(alloc, words, left)?;
+    words.word(comes_again(left, pick)?);
     Ok(())
 }
 
-// Whether opening that is stopped after each number of its calls, and begun again, comes to these files.
-fn comes_again(
-    alloc: Global,
-    opened: &MemDisk,
-    pick: u8,
-    wanted: &str,
-) -> Result<&'static str, RowError>
+// Whether opening that is stopped after each number of its calls, and begun again, comes to the same files.
+fn comes_again(opened: &MemDisk, pick: u8) -> Result<&'static str, RowError>
     requires { pick ≤ 3 }
 {
     for after in 0..opened.calls() {
-        if !comes_after(alloc, opened, after, pick, wanted)? {
+        if !comes_after(opened, after, pick)? {
             return Ok("differs");
         }
     }
     Ok("same")
 }
 
-fn comes_after(
-    alloc: Global,
-    opened: &MemDisk,
-    after: u64,
-    pick: u8,
-    wanted: &str,
-) -> Result<bool, RowError>
+fn comes_after(opened: &MemDisk, after: u64, pick: u8) -> Result<bool, RowError>
     requires calls { after ≤ length opened.now.calls }
     requires pick { pick ≤ 3 }
 {
-    let mut left = opened.crashed(after, pick)?;
-    comes_to(alloc, &mut left, wanted)
+    let Ok(mut left) = opened.crashed(after, pick) else {
+        return Err(RowError::OutOfMemory);
+    };
+    let is_opened = recover(&mut left).is_ok();
+    Ok(is_opened && are_same(&left, opened))
 }
 
-fn comes_to(alloc: Global, left: &mut MemDisk, wanted: &str) -> Result<bool, RowError> {
-    let is_opened = recover(left).is_ok();
-    let files = files(alloc, left)?;
-    Ok(is_opened && files.as_str() == wanted)
+// Whether the four files of the base are the same on both disks.
+fn are_same(left: &MemDisk, right: &MemDisk) -> bool {
+    left.file(FileId::Jhr) == right.file(FileId::Jhr)
+        && left.file(FileId::Jdt) == right.file(FileId::Jdt)
+        && left.file(FileId::Jdx) == right.file(FileId::Jdx)
+        && left.file(FileId::Jlr) == right.file(FileId::Jlr)
 }

@@ -11,45 +11,88 @@ mod showing;
 mod testing;
 
 use base::Base;
-use jb_disk::MemDisk;
+use jb_base::OutOfMemory;
+use jb_disk::{MemDisk, SilentDisk};
 use std::alloc::Global;
 use std::io;
-use trial_rows::{Answers, Row, RowError};
+use trial_rows::{Answers, Row, RowError, Words};
 
-/// The files that the rows gave, and the disks on which a commit was done, the last one at the end.
+/// The files that the rows gave, the disk on which a row is tried, and the one on which a commit was done last.
 #[derive(Drop)]
 struct Trial {
     base: Base,
-    done: Vec<MemDisk>,
+    tried: SilentDisk<MemDisk>,
+    done: SilentDisk<MemDisk>,
 }
 
-impl Answers for Trial {
-    fn answer(&mut self, alloc: Global, row: &Row) -> Result<String, RowError> {
+impl Trial {
+    /// No files, and disks without any.
+    fn new(alloc: Global) -> Result<Trial, OutOfMemory> {
+        let Ok(tried) = base::empty(alloc) else {
+            return Err(OutOfMemory);
+        };
+        let Ok(done) = base::empty(alloc) else {
+            return Err(OutOfMemory);
+        };
+        let base = Base::new(alloc);
+        Ok(Trial { base, tried, done })
+    }
+
+    /// The answer to a row on the record in the journal.
+    fn put(&mut self, alloc: Global, row: &Row, words: &mut Words) -> Result<(), RowError> {
+        let (base, tried) = (&self.base, &mut self.tried);
+        match row.word(0)? {
+            "test" => testing::changed(alloc, base, row, tried, words),
+            "cuts" => testing::cuts(alloc, base, row, tried, words),
+            "failing" => testing::failing(alloc, base, row, tried, words),
+            "apply" => applying::apply(alloc, base, tried, words),
+            "long" => applying::long(alloc, base, row, tried, words),
+            "stopped" => applying::stopped(alloc, base, row, tried, words),
+            _ => self.put_committed(alloc, row, words),
+        }
+    }
+
+    /// The answer to a row on commits and openings.
+    fn put_committed(
+        &mut self,
+        alloc: Global,
+        row: &Row,
+        words: &mut Words,
+    ) -> Result<(), RowError> {
+        let (base, tried) = (&self.base, &mut self.tried);
+        match row.word(0)? {
+            "commit" => committing::commit_done(alloc, base, &mut self.done, words),
+            "copied" => copying::copied(alloc, row, tried, words),
+            "settled" => committing::settled(alloc, base, row, tried, words),
+            "crash" => crashing::crash(alloc, &self.done.disk, row, words),
+            "recover" => crashing::opened(alloc, base, tried, words),
+            _ => self.take(alloc, row, words),
+        }
+    }
+
+    /// Takes the files or the journal of a row.
+    fn take(&mut self, alloc: Global, row: &Row, words: &mut Words) -> Result<(), RowError> {
+        words.word("ok");
         match row.word(0)? {
             "files" => self.base.set_files(alloc, row),
             "journal" => self.base.set_journal(alloc, row),
             "more" => self.base.put_more(alloc, row),
-            "test" => testing::changed(alloc, &self.base, row),
-            "cuts" => testing::cuts(alloc, &self.base, row),
-            "failing" => testing::failing(alloc, &self.base, row),
-            "apply" => applying::apply(alloc, &self.base),
-            "long" => applying::long(alloc, &self.base, row),
-            "stopped" => applying::stopped(alloc, &self.base, row),
-            "commit" => committing::commit_done(alloc, &self.base, &mut self.done),
-            "copied" => copying::copied(alloc, row),
-            "settled" => committing::settled(alloc, &self.base, row),
-            "crash" => crashing::crash(alloc, &self.done, row),
-            "recover" => crashing::opened(alloc, &self.base),
             _ => Err(RowError::Unknown(0)),
         }
     }
 }
 
+impl Answers for Trial {
+    fn answer(&mut self, alloc: Global, row: &Row) -> Result<String, RowError> {
+        let mut words = Words::new(alloc);
+        self.put(alloc, row, &mut words)?;
+        words.end()
+    }
+}
+
 fn main(rt: HostRuntime) -> io::Result<()> {
-    let alloc = rt.alloc();
-    let mut trial = Trial {
-        base: Base::new(alloc),
-        done: Vec::new(alloc),
-    };
-    trial_rows::run(&rt, &mut trial)
+    match Trial::new(rt.alloc()) {
+        Ok(mut trial) => trial_rows::run(&rt, &mut trial),
+        Err(OutOfMemory) => println!(rt; "out of memory"),
+    }
 }

@@ -4,34 +4,35 @@ use jb_disk::{FileId, MemDisk};
 use jb_journal::{JournalError, Recovered, Stopped};
 use jb_redo::RecordError;
 use std::alloc::Global;
-use trial_rows::{RowError, said, shown};
+use trial_rows::{RowError, Words, shown};
 
-/// Puts a word behind the others.
-pub(crate) fn put_word(text: &mut String, word: &str) -> Result<(), RowError> {
-    text.push(' ')?;
-    text.push_str(word)?;
-    Ok(())
+/// Puts whether something is so.
+pub(crate) fn put_truth(words: &mut Words, is_so: bool) {
+    words.word(if is_so { "true" } else { "false" });
 }
 
-/// What the test or the applying of a record answers.
-pub(crate) fn record(alloc: Global, answer: Result<(), RecordError>) -> Result<String, RowError> {
+/// Puts the place where a record is refused.
+fn put_bad(words: &mut Words, at: u64) {
+    words.word("bad-");
+    words.put_number(at);
+}
+
+/// Puts what the test or the applying of a record answers.
+pub(crate) fn put_record(words: &mut Words, answer: Result<(), RecordError>) {
     match answer {
-        Ok(()) => said(alloc, "ok"),
-        Err(RecordError::Bad { at }) => Ok(format!(in alloc; "bad-{at}")?),
-        Err(RecordError::StoreFault) => said(alloc, "fault"),
+        Ok(()) => words.word("ok"),
+        Err(RecordError::Bad { at }) => put_bad(words, at),
+        Err(RecordError::StoreFault) => words.word("fault"),
     }
 }
 
-/// What an opening answers.
-pub(crate) fn opening(
-    alloc: Global,
-    answer: Result<Recovered, JournalError>,
-) -> Result<String, RowError> {
+/// Puts what an opening answers.
+pub(crate) fn put_opening(words: &mut Words, answer: Result<Recovered, JournalError>) {
     match answer {
-        Ok(Recovered::Closed) => said(alloc, "closed"),
-        Ok(Recovered::Replayed) => said(alloc, "replayed"),
-        Err(JournalError::BadRecord { at }) => Ok(format!(in alloc; "bad-{at}")?),
-        Err(JournalError::StoreFault) => said(alloc, "fault"),
+        Ok(Recovered::Closed) => words.word("closed"),
+        Ok(Recovered::Replayed) => words.word("replayed"),
+        Err(JournalError::BadRecord { at }) => put_bad(words, at),
+        Err(JournalError::StoreFault) => words.word("fault"),
     }
 }
 
@@ -44,24 +45,19 @@ pub(crate) fn stop(stopped: Stopped) -> &'static str {
 }
 
 /// Puts a file behind those before it.
-fn put_file(alloc: Global, text: &mut String, file: &[u8]) -> Result<(), RowError> {
-    let word = shown(alloc, file)?;
-    text.push('/')?;
-    text.push_str(word.as_str())?;
+fn put_file(alloc: Global, words: &mut Words, file: &[u8]) -> Result<(), RowError> {
+    let Ok(word) = shown(alloc, file) else {
+        return Err(RowError::OutOfMemory);
+    };
+    words.put("/");
+    words.put(word.as_str());
     Ok(())
 }
 
-/// The four files of the base.
-pub(crate) fn files(alloc: Global, disk: &MemDisk) -> Result<String, RowError> {
-    let mut all = shown(alloc, disk.file(FileId::Jhr))?;
-    put_file(alloc, &mut all, disk.file(FileId::Jdt))?;
-    put_file(alloc, &mut all, disk.file(FileId::Jdx))?;
-    put_file(alloc, &mut all, disk.file(FileId::Jlr))?;
-    Ok(all)
-}
-
-/// Puts the four files behind the other words.
-pub(crate) fn put_files(alloc: Global, text: &mut String, disk: &MemDisk) -> Result<(), RowError> {
-    let files = files(alloc, disk)?;
-    put_word(text, files.as_str())
+/// Puts the four files of the base behind the other words.
+pub(crate) fn put_files(alloc: Global, words: &mut Words, disk: &MemDisk) -> Result<(), RowError> {
+    words.shown(disk.file(FileId::Jhr));
+    put_file(alloc, words, disk.file(FileId::Jdt))?;
+    put_file(alloc, words, disk.file(FileId::Jdx))?;
+    put_file(alloc, words, disk.file(FileId::Jlr))
 }

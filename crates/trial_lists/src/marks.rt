@@ -2,32 +2,35 @@
 ghost use Rattle.std.specs.Prelude.{◌+◌, ◌*◌, ◌<◌, ◌^◌};
 
 use crate::drawing::next;
+use crate::replace;
 use jb_base::MOST_MARKS;
 use jb_marks::Marks;
 use jb_model::Mark;
 use std::alloc::Global;
-use trial_rows::{Row, RowError, said};
+use trial_rows::{Row, RowError, Words};
 
-/// The answer to a row of marks.
-pub(crate) fn answer(alloc: Global, marks: &mut Marks, row: &Row) -> Result<String, RowError> {
-    match row.word(0)? {
-        "marks" | "drawn-marks" => {
-            let list = list_of(alloc, row)?;
-            kept(alloc, marks, &list)
-        }
-        "find" => found(alloc, marks, row.u32(1)?, row.u32(2)?),
-        "firsts" => firsts(alloc, marks, row.u32(1)?, row.u32(2)?),
-        "set" => set_all(alloc, marks, row),
-        _ => all(alloc, marks),
-    }
+/// Has the marks of a row from now on.
+pub(crate) fn begin(
+    alloc: Global,
+    marks: &mut Marks,
+    row: &Row,
+    words: &mut Words,
+) -> Result<(), RowError> {
+    let mut list = Vec::new(alloc);
+    put_given(&mut list, row)?;
+    keep(alloc, marks, &list, words)
 }
 
-/// The marks that a row gives, or has drawn.
-fn list_of(alloc: Global, row: &Row) -> Result<Vec<Mark>, RowError> {
-    match row.word(0)? {
-        "marks" => marks_of(alloc, row),
-        _ => drawn(alloc, row.u32(1)?, row.u32(2)?, row.u32(3)?),
-    }
+/// Has marks from now on that a row has drawn.
+pub(crate) fn begin_drawn(
+    alloc: Global,
+    marks: &mut Marks,
+    row: &Row,
+    words: &mut Words,
+) -> Result<(), RowError> {
+    let mut list = Vec::new(alloc);
+    put_drawn(&mut list, row)?;
+    keep(alloc, marks, &list, words)
 }
 
 /// How many marks the words behind the first are: four a mark.
@@ -49,94 +52,107 @@ fn mark_at(row: &Row, before: usize) -> Result<Mark, RowError>
     })
 }
 
-/// The marks of a row.
-fn marks_of(alloc: Global, row: &Row) -> Result<Vec<Mark>, RowError> {
-    let mut list = Vec::new(alloc);
+/// Puts the marks of a row behind the others.
+fn put_given(list: &mut Vec<Mark>, row: &Row) -> Result<(), RowError> {
     for before in 0..count_of(row) {
-        list.push(mark_at(row, before)?)?;
+        let mark = mark_at(row, before)?;
+        list.push(mark)?;
     }
-    Ok(list)
+    Ok(())
 }
 
-/// So many marks of pairs that are drawn below a limit; the last message of each is how many stand before it.
-fn drawn(alloc: Global, count: u32, seed: u32, limit: u32) -> Result<Vec<Mark>, RowError> {
-    let mut list = Vec::new(alloc);
-    let mut seed = seed;
+/// A mark of a pair that is drawn below a limit, with this one as its last message and its highest.
+fn drawn(seed: &mut u32, limit: u32, last: u32) -> Mark {
+    let user_crc = next(seed).checked_rem(limit).unwrap_or(0);
+    let user_id = next(seed).checked_rem(limit).unwrap_or(0);
+    Mark {
+        user_crc,
+        user_id,
+        last,
+        high: last,
+    }
+}
+
+/// Puts so many drawn marks behind the others; the last message of each is how many stand before it.
+fn put_drawn(list: &mut Vec<Mark>, row: &Row) -> Result<(), RowError> {
+    let count = row.u32(1)?;
+    let mut seed = row.u32(2)?;
+    let limit = row.u32(3)?;
     for last in 0..count {
-        let user_crc = next(&mut seed).checked_rem(limit).unwrap_or(0);
-        let user_id = next(&mut seed).checked_rem(limit).unwrap_or(0);
-        list.push(Mark {
-            user_crc,
-            user_id,
-            last,
-            high: last,
-        })?;
+        list.push(drawn(&mut seed, limit, last))?;
     }
-    Ok(list)
+    Ok(())
 }
 
-/// Has these marks from now on, and says how many they are.
-fn kept(alloc: Global, marks: &mut Marks, list: &[Mark]) -> Result<String, RowError> {
+/// Has a copy of these marks from now on, and says how many they are.
+fn keep(
+    alloc: Global,
+    marks: &mut Marks,
+    list: &[Mark],
+    words: &mut Words,
+) -> Result<(), RowError> {
     if list.len() > MOST_MARKS as usize {
         return Err(RowError::Unknown(1));
     }
-    put_marks(marks, Marks::copy(alloc, list)?);
-    Ok(format!(in alloc; "{} marks", marks.as_slice().len())?)
-}
-
-/// Puts marks in the place of others.
-fn put_marks(place: &mut Marks, marks: Marks) {
-    *place = marks;
+    match Marks::copy(alloc, list) {
+        Ok(copy) => replace(marks, copy),
+        Err(_) => return Err(RowError::OutOfMemory),
+    }
+    words.number(marks.as_slice().len() as u64);
+    words.word("marks");
+    Ok(())
 }
 
 /// A mark as a word.
-fn put_mark(text: &mut String, mark: &Mark) -> Result<(), RowError> {
-    write!(
-        text,
-        " {}:{}:{}:{}",
-        mark.user_crc, mark.user_id, mark.last, mark.high
-    )?;
-    Ok(())
+fn put_mark(words: &mut Words, mark: &Mark) {
+    words.number(mark.user_crc as u64);
+    words.put(":");
+    words.put_number(mark.user_id as u64);
+    words.put(":");
+    words.put_number(mark.last as u64);
+    words.put(":");
+    words.put_number(mark.high as u64);
 }
 
-/// Writes the mark that is found, or that there is none.
-fn put_found(text: &mut String, mark: Option<Mark>) -> Result<(), RowError> {
-    match mark {
-        Some(mark) => put_mark(text, &mark),
-        None => Ok(text.push_str(" none")?),
+/// Puts the mark of a pair that is found, or that there is none.
+fn put_found(words: &mut Words, marks: &Marks, user_crc: u32, user_id: u32) {
+    match marks.find(user_crc, user_id) {
+        Some(mark) => put_mark(words, &mark),
+        None => words.word("none"),
     }
 }
 
-/// Writes the place of a mark, or this word where it has none.
-fn put_place(text: &mut String, place: Option<usize>, none: &str) -> Result<(), RowError> {
-    match place {
-        Some(place) => write!(text, "at {place}")?,
-        None => text.push_str(none)?,
+/// Puts the place of a pair's mark, or this word where it has none.
+fn put_place(words: &mut Words, marks: &Marks, user_crc: u32, user_id: u32, none: &str) {
+    match marks.place_of(user_crc, user_id) {
+        Some(place) => {
+            words.word("at");
+            words.number(place as u64);
+        }
+        None => words.word(none),
     }
+}
+
+/// The place of the mark of a row's pair, and the mark.
+pub(crate) fn find(marks: &Marks, row: &Row, words: &mut Words) -> Result<(), RowError> {
+    let user_crc = row.u32(1)?;
+    let user_id = row.u32(2)?;
+    put_place(words, marks, user_crc, user_id, "nowhere");
+    put_found(words, marks, user_crc, user_id);
     Ok(())
 }
 
-/// The place of a pair's mark, and the mark.
-fn found(alloc: Global, marks: &Marks, user_crc: u32, user_id: u32) -> Result<String, RowError> {
-    let mut text = String::new(alloc);
-    put_place(&mut text, marks.place_of(user_crc, user_id), "nowhere")?;
-    put_found(&mut text, marks.find(user_crc, user_id))?;
-    Ok(text)
-}
-
-/// The last message of the first mark of each number below this one, with the name's CRC; `-` where there is none.
-fn firsts(alloc: Global, marks: &Marks, user_crc: u32, count: u32) -> Result<String, RowError> {
-    let mut text = format!(in alloc; "{user_crc}:")?;
+/// The last message of the first mark of each number below one of a row, with the name's CRC; `-` where there is none.
+pub(crate) fn put_firsts(marks: &Marks, row: &Row, words: &mut Words) -> Result<(), RowError> {
+    let user_crc = row.u32(1)?;
+    let count = row.u32(2)?;
+    words.number(user_crc as u64);
+    words.put(":");
     for user_id in 0..count {
-        put_last(&mut text, marks.find(user_crc, user_id))?;
-    }
-    Ok(text)
-}
-
-fn put_last(text: &mut String, mark: Option<Mark>) -> Result<(), RowError> {
-    match mark {
-        Some(mark) => write!(text, " {}", mark.last)?,
-        None => text.push_str(" -")?,
+        match marks.find(user_crc, user_id) {
+            Some(mark) => words.number(mark.last as u64),
+            None => words.word("-"),
+        }
     }
     Ok(())
 }
@@ -156,27 +172,22 @@ fn set(marks: &mut Marks, mark: Mark) -> Result<(), RowError> {
 }
 
 /// Sets the marks of a row, one after another. Of each it says where its pair stood before, and what is found of it then.
-fn set_all(alloc: Global, marks: &mut Marks, row: &Row) -> Result<String, RowError> {
-    let mut text = said(alloc, "set")?;
+pub(crate) fn set_all(marks: &mut Marks, row: &Row, words: &mut Words) -> Result<(), RowError> {
+    words.word("set");
     for before in 0..count_of(row) {
         let mark = mark_at(row, before)?;
-        put_set(&mut text, marks, mark)?;
+        put_place(words, marks, mark.user_crc, mark.user_id, "behind");
+        set(marks, mark)?;
+        put_found(words, marks, mark.user_crc, mark.user_id);
     }
-    Ok(text)
-}
-
-fn put_set(text: &mut String, marks: &mut Marks, mark: Mark) -> Result<(), RowError> {
-    text.push(' ')?;
-    put_place(text, marks.place_of(mark.user_crc, mark.user_id), "behind")?;
-    set(marks, mark)?;
-    put_found(text, marks.find(mark.user_crc, mark.user_id))
+    Ok(())
 }
 
 /// All marks, in order.
-fn all(alloc: Global, marks: &Marks) -> Result<String, RowError> {
-    let mut text = said(alloc, "marks")?;
+pub(crate) fn put_all(marks: &Marks, words: &mut Words) -> Result<(), RowError> {
+    words.word("marks");
     for mark in marks.as_slice() {
-        put_mark(&mut text, mark)?;
+        put_mark(words, mark);
     }
-    Ok(text)
+    Ok(())
 }

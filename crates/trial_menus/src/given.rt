@@ -52,17 +52,26 @@ fn summary(number: u32) -> Summary {
 fn list(alloc: Global, row: &Row) -> Result<Given, RowError> {
     let mut messages = Summaries::new(alloc);
     for place in 1..row.len() {
-        messages.push(summary(row.u32(place)?))?;
+        let number = row.u32(place)?;
+        if messages.push(summary(number)).is_err() {
+            return Err(RowError::OutOfMemory);
+        }
     }
     Ok(Given::Answer(Answer::Summaries(messages)))
 }
 
-/// A message from Test to Hello.
-fn letter(alloc: Global, number: u32, attribute: u32, subject: Bytes) -> Result<Letter, RowError> {
-    let from = Name::copy(alloc, b"Test")?;
-    let to = Name::copy(alloc, b"Hello")?;
-    let text = Bytes::copy(alloc, b"Good\r")?;
-    Ok(Letter {
+/// A message from Test to Hello that was read.
+fn letter(alloc: Global, number: u32, attribute: u32, subject: Bytes) -> Result<Given, RowError> {
+    let Ok(from) = Name::copy(alloc, b"Test") else {
+        return Err(RowError::OutOfMemory);
+    };
+    let Ok(to) = Name::copy(alloc, b"Hello") else {
+        return Err(RowError::OutOfMemory);
+    };
+    let Ok(text) = Bytes::copy(alloc, b"Good\r") else {
+        return Err(RowError::OutOfMemory);
+    };
+    let letter = Letter {
         number,
         from,
         to,
@@ -75,7 +84,8 @@ fn letter(alloc: Global, number: u32, attribute: u32, subject: Bytes) -> Result<
         reply_first: 0,
         reply_next: 0,
         text,
-    })
+    };
+    Ok(Given::Reply(Reply::Text { letter }))
 }
 
 /// `letter NUMBER open|private SUBJECT`: a message that was read.
@@ -86,15 +96,24 @@ fn letter_read(alloc: Global, row: &Row) -> Result<Given, RowError> {
         "private" => 0x0080_0005,
         _ => return Err(RowError::Unknown(2)),
     };
-    let subject = rest_bytes(alloc, row, 3)?;
-    let letter = letter(alloc, number, attribute, subject)?;
-    Ok(Given::Reply(Reply::Text { letter }))
+    match rest_bytes(alloc, row, 3) {
+        Ok(subject) => letter(alloc, number, attribute, subject),
+        Err(error) => Err(error),
+    }
+}
+
+/// A line of the words of a row from the second on, typed key by key.
+fn line(alloc: Global, row: &Row) -> Result<Given, RowError> {
+    match rest_bytes(alloc, row, 1) {
+        Ok(bytes) => typed(bytes.as_slice()),
+        Err(error) => Err(error),
+    }
 }
 
 /// What the menus are given by this row.
 pub fn given(alloc: Global, row: &Row) -> Result<Given, RowError> {
     match row.word(0)? {
-        "line" => typed(rest_bytes(alloc, row, 1)?.as_slice()),
+        "line" => line(alloc, row),
         "count" => Ok(Given::Count(row.u32(1)?)),
         "figures" => figures(row),
         "list" => list(alloc, row),

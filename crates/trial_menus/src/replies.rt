@@ -61,7 +61,10 @@ pub fn reply(row: &Row) -> Result<Given, RowError> {
     let first = number_or_none(row, 2);
     let second = number_or_none(row, 3);
     let third = number_or_none(row, 4);
-    Ok(Given::Reply(done(word, first, second, third)?))
+    match done(word, first, second, third) {
+        Ok(reply) => Ok(Given::Reply(reply)),
+        Err(error) => Err(error),
+    }
 }
 
 /// `fault KIND NUMBER..`: why there is no answer.

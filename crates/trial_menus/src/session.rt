@@ -1,13 +1,12 @@
 //! A session: the menus on their board.
 
-use crate::settings::board_of;
-use crate::telling::told;
+use crate::telling::put_move;
 use jb_base::{Bytes, OutOfMemory};
-use jb_conf::Board;
-use jb_menu::{Given, Menu, Move};
+use jb_conf::{Board, read};
+use jb_menu::{Given, Menu};
 use std::alloc::Global;
 use std::marker::Model;
-use trial_rows::RowError;
+use trial_rows::{RowError, Words};
 
 /// A menu on its board. Nothing is seen of it, so that no proof carries where it is.
 #[derive(Drop)]
@@ -30,14 +29,13 @@ impl Model for Session {
 impl Session {
     /// A session that begins, and what is said first.
     pub fn start(alloc: Global, file: &[u8]) -> Result<(Session, Bytes), RowError> {
-        let board = board_of(alloc, file)?;
-        let (menu, text) = Menu::start(alloc, &board)?;
-        Ok((Session { board, menu }, text))
-    }
-
-    /// The next move.
-    fn step(&mut self, alloc: Global, given: &Given) -> Result<Move, OutOfMemory> {
-        self.menu.step(alloc, &self.board, given)
+        let Ok(board) = read(alloc, file) else {
+            return Err(RowError::Unknown(0));
+        };
+        match Menu::start(alloc, &board) {
+            Ok((menu, text)) => Ok((Session { board, menu }, text)),
+            Err(OutOfMemory) => Err(RowError::OutOfMemory),
+        }
     }
 
     /// The place of the user.
@@ -45,9 +43,16 @@ impl Session {
         self.menu.user()
     }
 
-    /// The next move, in words.
-    pub fn told(&mut self, alloc: Global, given: &Given) -> Result<String, RowError> {
-        let step = self.step(alloc, given)?;
-        told(alloc, &step)
+    /// Puts the next move, in words.
+    pub fn put_next(
+        &mut self,
+        alloc: Global,
+        given: &Given,
+        words: &mut Words,
+    ) -> Result<(), RowError> {
+        match self.menu.step(alloc, &self.board, given) {
+            Ok(step) => put_move(alloc, words, &step),
+            Err(OutOfMemory) => Err(RowError::OutOfMemory),
+        }
     }
 }

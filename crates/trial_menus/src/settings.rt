@@ -1,32 +1,20 @@
 //! The rows on the settings file.
-ghost use Rattle.std.specs.Prelude.{IfOk};
 ghost use Rattle.jb_conf.specs.InRange.{IsInRange};
 
-use crate::words::rest_bytes;
-use jb_base::{AreaRules, Bytes};
-use jb_conf::{Board, BoardArea, BoardUser, check_login, read};
+use crate::words::{put_named, rest_bytes};
+use jb_base::{AreaRules, Bytes, Kind, OutOfMemory};
+use jb_conf::{Board, BoardArea, BoardUser, ConfError, check_login, read};
 use std::alloc::Global;
-use trial_rows::{Row, RowError, said, shown};
-
-/// The board of a file.
-pub fn board_of(alloc: Global, file: &[u8]) -> Result<Board, RowError>
-    ensures { IfOk result IsInRange }
-{
-    match read(alloc, file) {
-        Ok(board) => Ok(board),
-        Err(_) => Err(RowError::Unknown(0)),
-    }
-}
+use trial_rows::{Row, RowError, Words};
 
 fn is_line_feed(byte: &u8) -> bool {
     *byte == b'\n'
 }
 
 /// Puts a line and its end behind a file.
-pub fn append_line(file: &mut Bytes, line: &[u8]) -> Result<(), RowError> {
+pub fn append_line(file: &mut Bytes, line: &[u8]) -> Result<(), OutOfMemory> {
     file.append(line)?;
-    file.append(b"\n")?;
-    Ok(())
+    file.append(b"\n")
 }
 
 /// Puts a file behind another, with this text in the place of so many lines, of which the first has this place, counted from 0.
@@ -36,147 +24,163 @@ fn append_changed(
     from: u64,
     count: u64,
     text: &[u8],
-) -> Result<(), RowError> {
-    for (place, line) in file.split(is_line_feed).enumerate() {
-        let place = place as u64;
+) -> Result<(), OutOfMemory> {
+    let mut place = 0;
+    for line in file.split(is_line_feed) {
         if place == from {
             append_line(changed, text)?;
         }
         if place < from || place - from >= count {
             append_line(changed, line)?;
         }
+        place = place.saturating_add(1);
     }
     Ok(())
 }
 
-/// What is said of a file.
-fn refusal(alloc: Global, file: &[u8]) -> Result<String, RowError> {
-    match read(alloc, file) {
-        Ok(_) => said(alloc, "read"),
-        Err(error) => Ok(format!(in alloc; "{error}")?),
+/// The file of a row: with TEXT in the place of COUNT lines, of which the first is line FROM.
+fn changed(alloc: Global, file: &[u8], row: &Row) -> Result<Bytes, RowError> {
+    let from = row.number(1)?.saturating_sub(1);
+    let count = row.number(2)?;
+    let Ok(text) = rest_bytes(alloc, row, 3) else {
+        return Err(RowError::Bytes(3));
+    };
+    let mut changed = Bytes::new(alloc);
+    match append_changed(&mut changed, file, from, count, text.as_slice()) {
+        Ok(()) => Ok(changed),
+        Err(OutOfMemory) => Err(RowError::OutOfMemory),
     }
+}
+
+/// Puts why a file is refused.
+fn put_refusal(alloc: Global, words: &mut Words, error: ConfError) -> Result<(), RowError> {
+    let Ok(text) = format!(in alloc; "{error}") else {
+        return Err(RowError::OutOfMemory);
+    };
+    words.put(text.as_str());
+    Ok(())
+}
+
+/// Puts what is said of a file.
+fn put_reading(alloc: Global, words: &mut Words, file: &[u8]) -> Result<(), RowError> {
+    match read(alloc, file) {
+        Ok(_) => words.word("read"),
+        Err(error) => return put_refusal(alloc, words, error),
+    }
+    Ok(())
 }
 
 /// `broken FROM COUNT TEXT`: what is said of the file with TEXT in the place of COUNT lines, of which the first is line FROM.
-pub fn broken(alloc: Global, file: &[u8], row: &Row) -> Result<String, RowError> {
-    let from = row.number(1)?.saturating_sub(1);
-    let count = row.number(2)?;
-    let text = rest_bytes(alloc, row, 3)?;
-    let mut changed = Bytes::new(alloc);
-    append_changed(&mut changed, file, from, count, text.as_slice())?;
-    refusal(alloc, changed.as_slice())
+pub fn broken(alloc: Global, file: &[u8], row: &Row, words: &mut Words) -> Result<(), RowError> {
+    match changed(alloc, file, row) {
+        Ok(changed) => put_reading(alloc, words, changed.as_slice()),
+        Err(error) => Err(error),
+    }
 }
 
-/// `board`: the fields of the board itself.
-pub fn board(alloc: Global, file: &[u8]) -> Result<String, RowError> {
-    let board = board_of(alloc, file)?;
-    board_line(alloc, &board)
+/// The answer to a row on what was read of the file.
+pub fn answer(alloc: Global, file: &[u8], row: &Row, words: &mut Words) -> Result<(), RowError> {
+    match read(alloc, file) {
+        Ok(board) => put_part(alloc, &board, row, words),
+        Err(_) => Err(RowError::Unknown(0)),
+    }
 }
 
-fn board_line(alloc: Global, board: &Board) -> Result<String, RowError> {
-    let mut line = shown(alloc, board.name.as_slice())?;
-    put_address(alloc, &mut line, board.address.as_slice())?;
-    put_numbers(&mut line, board)?;
-    Ok(line)
-}
-
-fn put_address(alloc: Global, line: &mut String, address: &[u8]) -> Result<(), RowError> {
-    let address = shown(alloc, address)?;
-    write!(line, " address {address}")?;
+fn put_part(alloc: Global, board: &Board, row: &Row, words: &mut Words) -> Result<(), RowError>
+    requires { IsInRange board.now }
+{
+    match row.word(0)? {
+        "board" => put_board(words, board),
+        "area" => put_area(words, board.areas.as_slice(), row.u32(1)?),
+        "user" => put_user(words, board.users.as_slice(), row.u32(1)?),
+        _ => return login(alloc, board, row, words),
+    }
     Ok(())
 }
 
-/// Puts the numbers of a board, and how many areas and users it has, behind the other words.
-fn put_numbers(line: &mut String, board: &Board) -> Result<(), RowError> {
-    let port = board.port;
-    let nodes = board.nodes;
-    let offset = board.offset;
-    let minutes = board.pack_minutes;
-    let areas = board.areas.as_slice().len();
-    let users = board.users.as_slice().len();
-    write!(
-        line,
-        " port {port} nodes {nodes} offset {offset} pack {minutes} areas {areas} users {users}"
-    )?;
-    Ok(())
+/// `board`: the fields of the board itself, and how many areas and users it has.
+fn put_board(words: &mut Words, board: &Board) {
+    words.shown(board.name.as_slice());
+    put_address(words, board.address.as_slice());
+    put_named(words, "port", u64::from(board.port));
+    put_named(words, "nodes", u64::from(board.nodes));
+    put_offset(words, board.offset);
+    put_named(words, "pack", u64::from(board.pack_minutes));
+    put_named(words, "areas", board.areas.as_slice().len() as u64);
+    put_named(words, "users", board.users.as_slice().len() as u64);
+}
+
+fn put_address(words: &mut Words, address: &[u8]) {
+    words.word("address");
+    words.shown(address);
+}
+
+fn put_offset(words: &mut Words, offset: i32) {
+    words.word("offset");
+    words.word(if offset < 0 { "-" } else { "" });
+    words.put_number(u64::from(offset.unsigned_abs()));
 }
 
 /// `area PLACE`: the fields of an area, by its place from 0.
-pub fn area(alloc: Global, file: &[u8], row: &Row) -> Result<String, RowError> {
-    let place = row.u32(1)?;
-    let board = board_of(alloc, file)?;
-    match board.areas.as_slice().get(place as usize) {
-        Some(area) => area_line(alloc, area),
-        None => said(alloc, "none"),
-    }
+fn put_area(words: &mut Words, areas: &[BoardArea], place: u32) {
+    let Some(area) = areas.get(place as usize) else {
+        return words.word("none");
+    };
+    words.shown(area.name.as_slice());
+    words.word("dir");
+    words.word(area.dir.as_str());
+    words.word("base");
+    words.word(area.base.as_str());
+    put_rules(words, &area.rules);
 }
 
-fn area_line(alloc: Global, area: &BoardArea) -> Result<String, RowError> {
-    let mut line = shown(alloc, area.name.as_slice())?;
-    write!(
-        line,
-        " dir {} base {}",
-        area.dir.as_str(),
-        area.base.as_str()
-    )?;
-    put_address(alloc, &mut line, area.rules.address.as_slice())?;
-    put_rules(&mut line, &area.rules)?;
-    Ok(line)
-}
-
-/// Puts the rules of an area, but its address, behind the other words.
-fn put_rules(line: &mut String, rules: &AreaRules) -> Result<(), RowError> {
-    let ordinal = rules.ordinal;
-    let kind = rules.kind;
-    let read = rules.read;
-    let post = rules.post;
-    let sysop = rules.sysop;
-    let slots = rules.slots;
-    write!(
-        line,
-        " kind {kind:?} ordinal {ordinal} read {read} post {post} sysop {sysop} slots {slots}"
-    )?;
-    Ok(())
+/// Puts the rules of an area behind the other words.
+fn put_rules(words: &mut Words, rules: &AreaRules) {
+    put_address(words, rules.address.as_slice());
+    words.word(match rules.kind {
+        Kind::Local => "kind Local",
+        Kind::Echo => "kind Echo",
+    });
+    put_named(words, "ordinal", u64::from(rules.ordinal));
+    put_named(words, "read", u64::from(rules.read));
+    put_named(words, "post", u64::from(rules.post));
+    put_named(words, "sysop", u64::from(rules.sysop));
+    put_named(words, "slots", u64::from(rules.slots));
 }
 
 /// `user PLACE`: the fields of a user, by its place from 0.
-pub fn user(alloc: Global, file: &[u8], row: &Row) -> Result<String, RowError> {
-    let place = row.u32(1)?;
-    let board = board_of(alloc, file)?;
-    match board.users.as_slice().get(place as usize) {
-        Some(user) => user_line(alloc, user),
-        None => said(alloc, "none"),
-    }
-}
-
-fn user_line(alloc: Global, user: &BoardUser) -> Result<String, RowError> {
-    let mut line = shown(alloc, user.user.name.as_slice())?;
-    write!(line, " id {} level {}", user.user.id, user.user.level)?;
-    put_salt(alloc, &mut line, user.salt.as_slice())?;
-    Ok(line)
-}
-
-fn put_salt(alloc: Global, line: &mut String, salt: &[u8]) -> Result<(), RowError> {
-    let salt = shown(alloc, salt)?;
-    write!(line, " salt {salt}")?;
-    Ok(())
+fn put_user(words: &mut Words, users: &[BoardUser], place: u32) {
+    let Some(user) = users.get(place as usize) else {
+        return words.word("none");
+    };
+    words.shown(user.user.name.as_slice());
+    put_named(words, "id", u64::from(user.user.id));
+    put_named(words, "level", u64::from(user.user.level));
+    words.word("salt");
+    words.shown(user.salt.as_slice());
 }
 
 /// `login NAME PASSWORD`: the place of the user who logs in.
-pub fn login(alloc: Global, file: &[u8], row: &Row) -> Result<String, RowError> {
-    let name = row.bytes(alloc, 1)?;
-    let password = row.bytes(alloc, 2)?;
-    let board = board_of(alloc, file)?;
-    place_line(
-        alloc,
-        check_login(&board, name.as_slice(), password.as_slice()),
-    )
+fn login(alloc: Global, board: &Board, row: &Row, words: &mut Words) -> Result<(), RowError>
+    requires { IsInRange board.now }
+{
+    let Ok(name) = row.bytes(alloc, 1) else {
+        return Err(RowError::Bytes(1));
+    };
+    let Ok(password) = row.bytes(alloc, 2) else {
+        return Err(RowError::Bytes(2));
+    };
+    put_place(
+        words,
+        check_login(board, name.as_slice(), password.as_slice()),
+    );
+    Ok(())
 }
 
-/// The place of a user, from 0.
-pub fn place_line(alloc: Global, place: Option<u32>) -> Result<String, RowError> {
+/// Puts the place of a user, from 0.
+pub fn put_place(words: &mut Words, place: Option<u32>) {
     match place {
-        Some(place) => Ok(format!(in alloc; "user {place}")?),
-        None => said(alloc, "nobody"),
+        Some(place) => put_named(words, "user", u64::from(place)),
+        None => words.word("nobody"),
     }
 }

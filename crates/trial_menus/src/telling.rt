@@ -5,7 +5,7 @@ use jb_menu::{MenuEnd, Move};
 use jb_model::Command;
 use percent_encoding::{AsciiSet, CONTROLS, percent_encode};
 use std::alloc::Global;
-use trial_rows::RowError;
+use trial_rows::{RowError, Words};
 
 /// Bytes of a posted text that are shown.
 const MOST_SHOWN: usize = 40;
@@ -16,60 +16,82 @@ fn escaped() -> AsciiSet {
 
 /// Puts a text behind these words, in quotes: `^` is the end of a line, `%` and two hex digits are a byte that does not stand
 /// for itself.
-fn append_quoted(words: &mut String, alloc: Global, text: &[u8]) -> Result<(), RowError> {
+fn put_quoted(alloc: Global, words: &mut Words, text: &[u8]) -> Result<(), RowError> {
     let mut whole = String::new(alloc);
-    percent_encode(text, escaped()).append_to(&mut whole)?;
-    append_lines(words, whole.as_str())?;
-    words.push('"')?;
-    Ok(())
-}
-
-/// Puts the lines behind these words, a quote before the first and `^` before each other.
-fn append_lines(words: &mut String, lines: &str) -> Result<(), RowError> {
-    let mut between = '"';
-    for line in lines.split("%0D%0A") {
-        words.push(between)?;
-        words.push_str(line)?;
-        between = '^';
+    if percent_encode(text, escaped())
+        .append_to(&mut whole)
+        .is_err()
+    {
+        return Err(RowError::OutOfMemory);
     }
+    put_lines(words, whole.as_str());
     Ok(())
 }
 
-/// A word, and a text behind it in quotes.
-pub fn quoted(alloc: Global, word: &str, text: &Bytes) -> Result<String, RowError> {
-    let mut words = String::from_str(alloc, word)?;
-    append_quoted(&mut words, alloc, text.as_slice())?;
-    Ok(words)
+/// Puts the lines behind these words, a quote before the first and behind the last, and `^` between two.
+fn put_lines(words: &mut Words, lines: &str) {
+    let mut is_first = true;
+    words.put("\"");
+    for line in lines.split("%0D%0A") {
+        if !is_first {
+            words.put("^");
+        }
+        words.put(line);
+        is_first = false;
+    }
+    words.put("\"");
 }
 
-/// How a message is posted, and the length of its text.
-fn manner(
+/// Puts a word, and a text behind it in quotes.
+pub fn put_said(
     alloc: Global,
-    area: u32,
-    reply_to: u32,
-    private: bool,
-    len: usize,
-) -> Result<String, RowError> {
-    Ok(format!(in alloc; "posts in {area}, answers {reply_to}, private {private}, {len} bytes ")?)
+    words: &mut Words,
+    word: &str,
+    text: &Bytes,
+) -> Result<(), RowError> {
+    words.put(word);
+    put_quoted(alloc, words, text.as_slice())
 }
 
-/// Puts the texts of a post behind these words: the beginning of the text, the receiver and the subject.
-fn append_post(
-    words: &mut String,
+/// Puts how a message is posted, and the length of its text.
+fn put_manner(words: &mut Words, area: u32, reply_to: u32, private: bool, len: usize) {
+    words.word("posts in");
+    words.number(u64::from(area));
+    words.put(", answers");
+    words.number(u64::from(reply_to));
+    words.put(", private");
+    words.word(if private { "true" } else { "false" });
+    words.put(",");
+    words.number(len as u64);
+    words.put(" bytes ");
+}
+
+/// Puts the texts of a post: the beginning of the text, the receiver and the subject.
+fn put_post(
     alloc: Global,
+    words: &mut Words,
     to: &[u8],
     subject: &[u8],
     text: &[u8],
 ) -> Result<(), RowError> {
-    append_quoted(words, alloc, &text[..text.len().min(MOST_SHOWN)])?;
-    words.push_str(", to ")?;
-    append_quoted(words, alloc, to)?;
-    words.push_str(", subject ")?;
-    append_quoted(words, alloc, subject)
+    put_quoted(alloc, words, &text[..text.len().min(MOST_SHOWN)])?;
+    words.put(", to ");
+    put_quoted(alloc, words, to)?;
+    words.put(", subject ");
+    put_quoted(alloc, words, subject)
 }
 
-/// What the menus ask for, as the move writes its own fields; a post in words.
-fn asked(alloc: Global, step: &Move) -> Result<String, RowError> {
+/// Puts the fields of a move, as it writes them itself.
+fn put_fields(alloc: Global, words: &mut Words, step: &Move) -> Result<(), RowError> {
+    let Ok(text) = format!(in alloc; "{step:?}") else {
+        return Err(RowError::OutOfMemory);
+    };
+    words.put(text.as_str());
+    Ok(())
+}
+
+/// Puts what the menus ask for, as the move writes its own fields; a post in words.
+fn put_asked(alloc: Global, words: &mut Words, step: &Move) -> Result<(), RowError> {
     match step {
         Move::Ask {
             area,
@@ -81,30 +103,29 @@ fn asked(alloc: Global, step: &Move) -> Result<String, RowError> {
                 private,
             },
         } => {
-            let mut words = manner(alloc, *area, *reply_to, *private, text.len())?;
-            append_post(
-                &mut words,
+            put_manner(words, *area, *reply_to, *private, text.len());
+            put_post(
                 alloc,
+                words,
                 to.as_slice(),
                 subject.as_slice(),
                 text.as_slice(),
-            )?;
-            Ok(words)
+            )
         }
-        other => Ok(format!(in alloc; "{other:?}")?),
+        other => put_fields(alloc, words, other),
     }
 }
 
-/// A move in words: what is said, unseen where the next line is not shown as it is typed; the end; or what is asked.
-pub fn told(alloc: Global, step: &Move) -> Result<String, RowError> {
+/// Puts a move in words: what is said, unseen where the next line is not shown as it is typed; the end; or what is asked.
+pub fn put_move(alloc: Global, words: &mut Words, step: &Move) -> Result<(), RowError> {
     match step {
-        Move::Say { text, mask: false } => quoted(alloc, "says ", text),
-        Move::Say { text, .. } => quoted(alloc, "unseen ", text),
+        Move::Say { text, mask: false } => put_said(alloc, words, "says ", text),
+        Move::Say { text, .. } => put_said(alloc, words, "unseen ", text),
         Move::End {
             text,
             end: MenuEnd::Quit,
-        } => quoted(alloc, "ends Quit ", text),
-        Move::End { text, .. } => quoted(alloc, "ends LoginRefused ", text),
-        other => asked(alloc, other),
+        } => put_said(alloc, words, "ends Quit ", text),
+        Move::End { text, .. } => put_said(alloc, words, "ends LoginRefused ", text),
+        other => put_asked(alloc, words, other),
     }
 }

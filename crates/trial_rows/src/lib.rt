@@ -12,9 +12,11 @@ mod listing;
 mod row;
 mod running;
 mod showing;
+mod words;
 
 pub use error::RowError;
 pub use listing::listed;
 pub use row::Row;
 pub use running::{Answers, run};
 pub use showing::{hexed, said, shown};
+pub use words::Words;

@@ -1,11 +1,11 @@
 //! Bytes as words that a row may have.
 
 use crate::RowError;
-use percent_encoding::{AsciiSet, NON_ALPHANUMERIC, percent_encode};
+use percent_encoding::{AsciiSet, percent_encode};
 use std::alloc::Global;
 
 /// The bytes that stand for themselves beside letters and digits: the graphic ones of ASCII without the percent sign.
-fn escaped() -> AsciiSet {
+pub(crate) fn escaped() -> AsciiSet {
     percent_encoding::CONTROLS.add(b' ').add(b'%')
 }
 

@@ -4,7 +4,7 @@ ghost use Rattle.std.specs.Prelude.{◌≡◌, ◌≤◌, Some, length};
 ghost use Rattle.jb_host.specs.Real.{silent_gate, silent_wire};
 
 use crate::callers::Caller;
-use crate::keeping::Keeps;
+use crate::keeping::{Keeps, keep_copy};
 use crate::signals::Signals;
 use jb_base::{Bytes, OutOfMemory};
 use jb_host::{Accepted, Door, DoorFailed, Link, LinkFailed};
@@ -66,6 +66,16 @@ fn fill(into: &mut [u8], typed: &[u8], at: usize) -> usize
     n
 }
 
+// Whether the second caller was told that its letter is posted.
+fn has_posted(sent: &[u8]) -> bool {
+    for part in sent.windows(POSTED.len()) {
+        if part == POSTED {
+            return true;
+        }
+    }
+    false
+}
+
 impl<'a> Link for HeldLink<'a> {
     ghost wire = { λ link. silent_wire link.faults link.ends link.unsent };
 
@@ -92,8 +102,7 @@ impl<'a> Link for HeldLink<'a> {
             self.unsent = self.unsent.saturating_add(1);
             return Err(LinkFailed);
         }
-        let mut said = self.output.as_slice().windows(POSTED.len());
-        if matches!(self.side, Side::Second) && said.any(|part| part == POSTED) {
+        if matches!(self.side, Side::Second) && has_posted(self.output.as_slice()) {
             self.signals.posted.give();
         }
         Ok(bytes.len())
@@ -160,7 +169,9 @@ impl<'a> Door for HeldDoor<'a> {
 impl<'a> Keeps for HeldDoor<'a> {
     fn sent(&self, alloc: Global) -> Result<Vec<Bytes>, OutOfMemory> {
         let mut sent = Vec::new(alloc);
-        sent.push(Bytes::copy(alloc, self.sent.as_slice())?)?;
-        Ok(sent)
+        if keep_copy(alloc, &mut sent, self.sent.as_slice()) {
+            return Ok(sent);
+        }
+        Err(OutOfMemory)
     }
 }

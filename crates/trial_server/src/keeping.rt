@@ -11,11 +11,21 @@ pub(crate) trait Keeps: Door {
     fn sent(&self, alloc: Global) -> Result<Vec<Bytes>, OutOfMemory>;
 }
 
+/// Puts a copy of what was sent behind the others. Says whether there was memory.
+pub(crate) fn keep_copy(alloc: Global, kept: &mut Vec<Bytes>, sent: &[u8]) -> bool {
+    match Bytes::copy(alloc, sent) {
+        Ok(copy) => kept.push(copy).is_ok(),
+        Err(_) => false,
+    }
+}
+
 impl Keeps for MemDoor {
     fn sent(&self, alloc: Global) -> Result<Vec<Bytes>, OutOfMemory> {
         let mut sent = Vec::new(alloc);
         for link in self.hung() {
-            sent.push(Bytes::copy(alloc, link.sent())?)?;
+            if !keep_copy(alloc, &mut sent, link.sent()) {
+                return Err(OutOfMemory);
+            }
         }
         Ok(sent)
     }

@@ -9,6 +9,7 @@ mod held;
 mod keeping;
 mod rows;
 mod serving;
+mod showing;
 mod signals;
 
 use crate::rows::{Trial, answer};
@@ -16,7 +17,7 @@ use std::alloc::Global;
 use std::io;
 use std::sync::Wait;
 use std::thread::Threads;
-use trial_rows::{Row, RowError};
+use trial_rows::{Row, RowError, Words};
 
 // The line that is written for this one.
 fn answered<T: Threads + Wait + Sync>(
@@ -25,8 +26,14 @@ fn answered<T: Threads + Wait + Sync>(
     trial: &mut Trial,
     line: &str,
 ) -> Result<String, RowError> {
-    let row = Row::of(alloc, line)?;
-    answer(rt, alloc, trial, &row)
+    let Ok(row) = Row::of(alloc, line) else {
+        return Err(RowError::OutOfMemory);
+    };
+    let mut words = Words::new(alloc);
+    match answer(rt, alloc, trial, &row, &mut words) {
+        Ok(()) => words.end(),
+        Err(error) => Err(error),
+    }
 }
 
 // Writes what the line comes to, and a line that is none as it stands.

@@ -1,10 +1,11 @@
 //! The rows.
 
-use crate::base::{copied, empty, held, listed};
+use crate::base::{copied, empty, put_file, put_list};
 use crate::callers::{Caller, caller_in, door_of, lines_from};
 use crate::held::{HeldDoor, Side};
 use crate::keeping::{Keeps, Worked};
 use crate::serving::{Ended, board_of, run};
+use crate::showing::put_debugged;
 use crate::signals::Signals;
 use jb_base::{Bytes, OutOfMemory};
 use jb_disk::MemDisk;
@@ -13,7 +14,7 @@ use std::alloc::Global;
 use std::mem;
 use std::sync::Wait;
 use std::thread::Threads;
-use trial_rows::{Row, RowError, said, shown};
+use trial_rows::{Row, RowError, Words};
 
 /// Settings and a base; who waits for the next run, and what came of the last one.
 #[derive(Drop)]
@@ -31,7 +32,10 @@ pub(crate) struct Trial {
 fn rings_from(alloc: Global, row: &Row, place: usize) -> Result<Vec<u32>, RowError> {
     let mut rings = Vec::new(alloc);
     for at in place..row.len() {
-        rings.push(row.u32(at)?)?;
+        let area = row.u32(at)?;
+        if rings.push(area).is_err() {
+            return Err(RowError::OutOfMemory);
+        }
     }
     Ok(rings)
 }
@@ -46,15 +50,18 @@ fn held_doors<'a>(
     let first = HeldDoor::new(alloc, signals, Side::First, first);
     let second = HeldDoor::new(alloc, signals, Side::Second, second);
     let mut doors = Vec::new(alloc);
-    doors.push(first)?;
-    doors.push(second)?;
+    if doors.push(first).is_err() || doors.push(second).is_err() {
+        return Err(RowError::OutOfMemory);
+    }
     Ok(doors)
 }
 
 // How many users these settings have.
 fn users_of(alloc: Global, settings: &[u8]) -> Result<usize, RowError> {
-    let board = board_of(alloc, settings)?;
-    Ok(board.users.as_slice().len())
+    match board_of(alloc, settings) {
+        Ok(board) => Ok(board.users.as_slice().len()),
+        Err(error) => Err(error),
+    }
 }
 
 // Puts this in the place of a base.
@@ -62,52 +69,107 @@ fn put_base(base: &mut MemDisk, new: MemDisk) {
     *base = new;
 }
 
+// How many packs a run did, and whether the area was in doubt.
+fn put_ended(ended: &Ended, words: &mut Words) {
+    words.number(u64::from(ended.packs));
+    words.word("packed,");
+    words.word(if ended.is_doubtful {
+        "in doubt"
+    } else {
+        "at rest"
+    });
+}
+
 impl Trial {
     /// No settings, and an empty base.
     pub(crate) fn new(alloc: Global) -> Result<Trial, RowError> {
-        Ok(Trial {
-            settings: Bytes::new(alloc),
-            base: empty(alloc)?,
-            failing: Vec::new(alloc),
-            callers: Vec::new(alloc),
-            doors: Vec::new(alloc),
-            worked: Vec::new(alloc),
-            calls: 0,
-        })
+        match empty(alloc) {
+            Ok(base) => Ok(Trial {
+                settings: Bytes::new(alloc),
+                base,
+                failing: Vec::new(alloc),
+                callers: Vec::new(alloc),
+                doors: Vec::new(alloc),
+                worked: Vec::new(alloc),
+                calls: 0,
+            }),
+            Err(error) => Err(error),
+        }
     }
 
     /// `settings LINE..`: the settings file, which has one area.
-    fn set_settings(&mut self, alloc: Global, row: &Row) -> Result<String, RowError> {
-        let settings = lines_from(alloc, row, 1, b"\n")?;
+    fn set_settings(
+        &mut self,
+        alloc: Global,
+        row: &Row,
+        words: &mut Words,
+    ) -> Result<(), RowError> {
+        let settings = match lines_from(alloc, row, 1, b"\n") {
+            Ok(settings) => settings,
+            Err(error) => return Err(error),
+        };
         let users = users_of(alloc, settings.as_slice())?;
         self.settings = settings;
-        Ok(format!(in alloc; "{users} users")?)
+        words.number(users as u64);
+        words.word("users");
+        Ok(())
     }
 
     /// `base`: a base without a message.
-    fn set_base(&mut self, alloc: Global) -> Result<String, RowError> {
-        put_base(&mut self.base, empty(alloc)?);
-        said(alloc, "base")
+    fn set_base(&mut self, alloc: Global) -> Result<(), RowError> {
+        match empty(alloc) {
+            Ok(base) => {
+                put_base(&mut self.base, base);
+                Ok(())
+            }
+            Err(error) => Err(error),
+        }
     }
 
     /// `disk CALL..`: these calls of the disk fail in the next run.
-    fn set_disk(&mut self, alloc: Global, row: &Row) -> Result<String, RowError> {
-        self.failing = row.numbers(alloc, 1)?;
-        said(alloc, "disk")
+    fn set_disk(&mut self, alloc: Global, row: &Row) -> Result<(), RowError> {
+        match row.numbers(alloc, 1) {
+            Ok(failing) => {
+                self.failing = failing;
+                Ok(())
+            }
+            Err(error) => Err(error),
+        }
     }
 
     /// `call FAILING LINE..`: one caller more who waits.
-    fn add_caller(&mut self, alloc: Global, row: &Row) -> Result<String, RowError> {
-        self.callers.push(caller_in(alloc, row)?)?;
-        said(alloc, "call")
+    fn add_caller(&mut self, alloc: Global, row: &Row) -> Result<(), RowError> {
+        match caller_in(alloc, row) {
+            Ok(caller) => match self.callers.push(caller) {
+                Ok(()) => Ok(()),
+                Err(_) => Err(RowError::OutOfMemory),
+            },
+            Err(error) => Err(error),
+        }
+    }
+
+    // The door of a row, at which those who wait come in.
+    fn door_in(&mut self, alloc: Global, row: &Row) -> Result<MemDoor, RowError> {
+        let failing = match row.numbers(alloc, 1) {
+            Ok(failing) => failing,
+            Err(error) => return Err(error),
+        };
+        let callers = mem::replace(&mut self.callers, Vec::new(alloc));
+        match door_of(alloc, callers, failing) {
+            Ok(door) => Ok(door),
+            Err(_) => Err(RowError::OutOfMemory),
+        }
     }
 
     /// `door CALL..`: one node more, at whose door those who wait come in, and which fails these of its calls.
-    fn add_door(&mut self, alloc: Global, row: &Row) -> Result<String, RowError> {
-        let failing = row.numbers(alloc, 1)?;
-        let callers = mem::replace(&mut self.callers, Vec::new(alloc));
-        self.doors.push(door_of(alloc, callers, failing)?)?;
-        said(alloc, "door")
+    fn add_door(&mut self, alloc: Global, row: &Row) -> Result<(), RowError> {
+        match self.door_in(alloc, row) {
+            Ok(door) => match self.doors.push(door) {
+                Ok(()) => Ok(()),
+                Err(_) => Err(RowError::OutOfMemory),
+            },
+            Err(error) => Err(error),
+        }
     }
 
     // A copy of the base, on a disk that fails the calls that are to fail in this run alone.
@@ -117,10 +179,10 @@ impl Trial {
     }
 
     // Keeps what came of a run: the base is now what the disk holds.
-    fn keep(&mut self, worked: Vec<Worked>, disk: MemDisk) {
-        self.calls = disk.calls();
-        put_base(&mut self.base, disk);
-        self.worked = worked;
+    fn keep(&mut self, ended: Ended) {
+        self.calls = ended.disk.calls();
+        put_base(&mut self.base, ended.disk);
+        self.worked = ended.nodes;
     }
 
     // All work at these doors and at this bell.
@@ -130,20 +192,22 @@ impl Trial {
         alloc: Global,
         doors: Vec<R>,
         bell: MemBell,
-    ) -> Result<String, RowError>
+        words: &mut Words,
+    ) -> Result<(), RowError>
     where
         R::Link: Send,
     {
-        let disk = self.disk(alloc)?;
-        let Ended {
-            nodes,
-            packs,
-            is_doubtful,
-            disk,
-        } = run(rt, alloc, self.settings.as_slice(), disk, doors, bell)?;
-        self.keep(nodes, disk);
-        let stands = if is_doubtful { "in doubt" } else { "at rest" };
-        Ok(format!(in alloc; "{packs} packed, {stands}")?)
+        let Ok(disk) = self.disk(alloc) else {
+            return Err(RowError::OutOfMemory);
+        };
+        match run(rt, alloc, self.settings.as_slice(), disk, doors, bell) {
+            Ok(ended) => {
+                put_ended(&ended, words);
+                self.keep(ended);
+                Ok(())
+            }
+            Err(error) => Err(error),
+        }
     }
 
     /// `serve AREA..`: the nodes serve, while the bell rings for these areas.
@@ -152,10 +216,15 @@ impl Trial {
         rt: &T,
         alloc: Global,
         row: &Row,
-    ) -> Result<String, RowError> {
-        let doors = mem::replace(&mut self.doors, Vec::new(alloc));
-        let bell = MemBell::new(rings_from(alloc, row, 1)?);
-        self.work(rt, alloc, doors, bell)
+        words: &mut Words,
+    ) -> Result<(), RowError> {
+        match rings_from(alloc, row, 1) {
+            Ok(rings) => {
+                let doors = mem::replace(&mut self.doors, Vec::new(alloc));
+                self.work(rt, alloc, doors, MemBell::new(rings), words)
+            }
+            Err(error) => Err(error),
+        }
     }
 
     /// `held`: two nodes serve the two who wait, and these wait for one another.
@@ -163,13 +232,19 @@ impl Trial {
         &mut self,
         rt: &T,
         alloc: Global,
-    ) -> Result<String, RowError> {
-        let (Some(second), Some(first)) = (self.callers.pop(), self.callers.pop()) else {
+        words: &mut Words,
+    ) -> Result<(), RowError> {
+        let Some(second) = self.callers.pop() else {
+            return Err(RowError::Unknown(0));
+        };
+        let Some(first) = self.callers.pop() else {
             return Err(RowError::Unknown(0));
         };
         let signals = Signals::new();
-        let doors = held_doors(alloc, &signals, first, second)?;
-        self.work(rt, alloc, doors, MemBell::new(Vec::new(alloc)))
+        match held_doors(alloc, &signals, first, second) {
+            Ok(doors) => self.work(rt, alloc, doors, MemBell::new(Vec::new(alloc)), words),
+            Err(error) => Err(error),
+        }
     }
 
     // What the node of a row has done.
@@ -182,42 +257,58 @@ impl Trial {
     }
 
     /// `tally NODE`: what it has counted.
-    fn tally(&self, alloc: Global, row: &Row) -> Result<String, RowError> {
-        let tally = self.worked_in(row)?.tally;
-        Ok(format!(in alloc; "{tally:?}")?)
+    fn put_tally(&self, alloc: Global, row: &Row, words: &mut Words) -> Result<(), RowError> {
+        let worked = self.worked_in(row)?;
+        put_debugged(alloc, words, &worked.tally)
     }
 
     /// `sent NODE CALL`: what was sent to this caller of the node.
-    fn sent(&self, alloc: Global, row: &Row) -> Result<String, RowError> {
+    fn put_sent(&self, row: &Row, words: &mut Words) -> Result<(), RowError> {
         let place = (row.u32(2)? as usize).wrapping_sub(1);
         match self.worked_in(row)?.sent.get(place) {
-            Some(sent) => shown(alloc, sent.as_slice()),
+            Some(sent) => {
+                words.shown(sent.as_slice());
+                Ok(())
+            }
             None => Err(RowError::Number(2)),
+        }
+    }
+
+    // A row that makes something ready for a run, and is answered by its word.
+    fn make(&mut self, alloc: Global, row: &Row, words: &mut Words) -> Result<(), RowError> {
+        let word = row.word(0)?;
+        words.word(word);
+        match word {
+            "base" => self.set_base(alloc),
+            "disk" => self.set_disk(alloc, row),
+            "call" => self.add_caller(alloc, row),
+            "door" => self.add_door(alloc, row),
+            _ => Err(RowError::Unknown(0)),
         }
     }
 }
 
-/// The line that is written for this row.
+/// Puts together the line that is written for this row.
 pub(crate) fn answer<T: Threads + Wait + Sync>(
     rt: &T,
     alloc: Global,
     trial: &mut Trial,
     row: &Row,
-) -> Result<String, RowError> {
+    words: &mut Words,
+) -> Result<(), RowError> {
     match row.word(0)? {
-        "settings" => trial.set_settings(alloc, row),
-        "base" => trial.set_base(alloc),
-        "disk" => trial.set_disk(alloc, row),
-        "call" => trial.add_caller(alloc, row),
-        "door" => trial.add_door(alloc, row),
-        "serve" => trial.serve(rt, alloc, row),
-        "held" => trial.serve_held(rt, alloc),
-        "tally" => trial.tally(alloc, row),
-        "sent" => trial.sent(alloc, row),
+        "settings" => trial.set_settings(alloc, row, words),
+        "serve" => trial.serve(rt, alloc, row, words),
+        "held" => trial.serve_held(rt, alloc, words),
+        "tally" => trial.put_tally(alloc, row, words),
+        "sent" => trial.put_sent(row, words),
         // how many calls of the disk the last run made
-        "calls" => Ok(format!(in alloc; "{}", trial.calls)?),
-        "list" => listed(alloc, &trial.base),
-        "file" => held(alloc, &trial.base, row),
-        _ => Err(RowError::Unknown(0)),
+        "calls" => {
+            words.number(trial.calls);
+            Ok(())
+        }
+        "list" => put_list(alloc, &trial.base, words),
+        "file" => put_file(alloc, &trial.base, row, words),
+        _ => trial.make(alloc, row, words),
     }
 }

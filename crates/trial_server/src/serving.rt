@@ -65,7 +65,10 @@ fn opened<T: Wait>(
     let areas = board.areas.as_slice();
     let console = MemLink::new(alloc, Bytes::new(alloc), Vec::new(alloc));
     let mut host = MemHost::new(alloc, console, MOMENT, Vec::new(alloc));
-    host.add_disk(areas[0].dir.as_str(), areas[0].base.as_str(), disk)?;
+    let (dir, name) = (areas[0].dir.as_str(), areas[0].base.as_str());
+    if host.add_disk(dir, name, disk).is_err() {
+        return Err(RowError::OutOfMemory);
+    }
     match open_areas(rt, alloc, &mut host, areas, nodes) {
         Ok(shared) => {
             let SharedAreas {

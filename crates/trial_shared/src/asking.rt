@@ -26,17 +26,17 @@ pub(crate) enum Act {
 }
 
 /// The act that this word of a row names.
-pub(crate) fn act_of(word: &str) -> Result<Act, RowError> {
+pub(crate) fn act_of(word: &str) -> Option<Act> {
     match word {
-        "post" => Ok(Act::Post),
-        "private" => Ok(Act::Private),
-        "read" => Ok(Act::Read),
-        "peek" => Ok(Act::Peek),
-        "kill" => Ok(Act::Kill),
-        "mark" => Ok(Act::Mark),
-        "pack" => Ok(Act::Pack),
-        "relink" => Ok(Act::Relink),
-        _ => Err(RowError::Unknown(4)),
+        "post" => Some(Act::Post),
+        "private" => Some(Act::Private),
+        "read" => Some(Act::Read),
+        "peek" => Some(Act::Peek),
+        "kill" => Some(Act::Kill),
+        "mark" => Some(Act::Mark),
+        "pack" => Some(Act::Pack),
+        "relink" => Some(Act::Relink),
+        _ => None,
     }
 }
 
@@ -52,7 +52,9 @@ pub(crate) fn caller_named(alloc: Global, name: &[u8], level: u8) -> Result<Call
     if name.len() > MOST_NAME_BYTES {
         return Err(RowError::Bytes(2));
     }
-    let name = Name::copy(alloc, name)?;
+    let Ok(name) = Name::copy(alloc, name) else {
+        return Err(RowError::OutOfMemory);
+    };
     Ok(Caller {
         user: User { name, id: 7, level },
     })
@@ -61,10 +63,19 @@ pub(crate) fn caller_named(alloc: Global, name: &[u8], level: u8) -> Result<Call
 // A post about `abc`, whose text is the name of who posts.
 fn post(alloc: Global, from: &User, reply_to: u32, private: bool) -> Result<Command, OutOfMemory> {
     let to = if private { b"Sysop" } else { b"Hello" };
+    let Ok(to) = Name::copy(alloc, to) else {
+        return Err(OutOfMemory);
+    };
+    let Ok(subject) = Bytes::copy(alloc, b"abc") else {
+        return Err(OutOfMemory);
+    };
+    let Ok(text) = Bytes::copy(alloc, from.name.as_slice()) else {
+        return Err(OutOfMemory);
+    };
     Ok(Command::Post {
-        to: Name::copy(alloc, to)?,
-        subject: Bytes::copy(alloc, b"abc")?,
-        text: Bytes::copy(alloc, from.name.as_slice())?,
+        to,
+        subject,
+        text,
         reply_to,
         private,
     })

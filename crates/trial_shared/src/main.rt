@@ -6,6 +6,7 @@
 mod agenda;
 mod asking;
 mod base;
+mod following;
 mod held;
 mod nodes;
 mod noted;
@@ -21,7 +22,7 @@ use std::alloc::Global;
 use std::io;
 use std::sync::Wait;
 use std::thread::Threads;
-use trial_rows::{Row, RowError};
+use trial_rows::{Row, RowError, Words};
 
 // The line that is written for this one.
 fn answered<R: Threads + Wait + Sync>(
@@ -29,8 +30,14 @@ fn answered<R: Threads + Wait + Sync>(
     trial: &mut Trial<R>,
     line: &str,
 ) -> Result<String, RowError> {
-    let row = Row::of(alloc, line)?;
-    trial.answer(alloc, &row)
+    let Ok(row) = Row::of(alloc, line) else {
+        return Err(RowError::OutOfMemory);
+    };
+    let mut words = Words::new(alloc);
+    match trial.answer(alloc, &row, &mut words) {
+        Ok(()) => words.end(),
+        Err(error) => Err(error),
+    }
 }
 
 // Writes what the line comes to, and a line that is none as it stands.

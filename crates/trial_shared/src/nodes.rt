@@ -3,7 +3,7 @@ ghost use Rattle.std.specs.Prelude.{All};
 ghost use Rattle.jb_shared.specs.Areas.{IsOf};
 
 use crate::agenda::Agenda;
-use crate::asking::{Caller, MOMENT, command_of};
+use crate::asking::{Act, Caller, MOMENT, command_of};
 use crate::noted::{Deed, NODES, Noted, Plan, Told, caller_at};
 use jb_disk::Disk;
 use jb_model::{Answer, Question};
@@ -19,11 +19,35 @@ fn seen<D: Disk>(area: &SharedArea<D>, pass: &mut Pass, caller: &Caller) -> Resu
     requires { IsOf area.now pass.old }
     ensures { IsOf area.now pass.new }
 {
-    let count = area.unread_count(pass, &caller.user);
-    let answer = area.look(pass, &caller.user, &Question::Figures);
-    match (count, answer) {
-        (Ok(unread), Ok(Answer::Figures(figures))) => Ok(Told::Saw { figures, unread }),
+    let Ok(unread) = area.unread_count(pass, &caller.user) else {
+        return Err(RowError::OutOfMemory);
+    };
+    match area.look(pass, &caller.user, &Question::Figures) {
+        Ok(Answer::Figures(figures)) => Ok(Told::Saw { figures, unread }),
         _ => Err(RowError::OutOfMemory),
+    }
+}
+
+// A call about a number.
+fn called<D: Disk, R: Wait>(
+    rt: &R,
+    alloc: Global,
+    area: &SharedArea<D>,
+    pass: &mut Pass,
+    caller: &Caller,
+    act: Act,
+    number: u32,
+) -> Result<Told, RowError>
+    requires { IsOf area.now pass.old }
+    ensures { IsOf area.now pass.new }
+{
+    let Ok(command) = command_of(alloc, &caller.user, act, number) else {
+        return Err(RowError::OutOfMemory);
+    };
+    match area.call(rt, alloc, pass, &caller.user, MOMENT, &command) {
+        Ok(reply) => Ok(Told::Replied(reply)),
+        Err(SharedError::StoreFault) => Ok(Told::Stopped),
+        Err(_) => Err(RowError::OutOfMemory),
     }
 }
 
@@ -39,15 +63,25 @@ fn done<D: Disk, R: Wait>(
     requires { IsOf area.now pass.old }
     ensures { IsOf area.now pass.new }
 {
-    let caller = caller_at(alloc, node)?;
-    let Deed::Asked(act, number) = deed else {
-        return seen(area, pass, &caller);
+    let Ok(caller) = caller_at(alloc, node) else {
+        return Err(RowError::OutOfMemory);
     };
-    let command = command_of(alloc, &caller.user, act, number)?;
-    match area.call(rt, alloc, pass, &caller.user, MOMENT, &command) {
-        Ok(reply) => Ok(Told::Replied(reply)),
-        Err(SharedError::StoreFault) => Ok(Told::Stopped),
-        Err(_) => Err(RowError::OutOfMemory),
+    match deed {
+        Deed::Asked(act, number) => called(rt, alloc, area, pass, &caller, act, number),
+        Deed::Looked => seen(area, pass, &caller),
+    }
+}
+
+// Notes what came of the deed, and says whether it could.
+fn note(
+    log: &mut Vec<Noted>,
+    agenda: &mut Agenda,
+    deed: Deed,
+    told: Result<Told, RowError>,
+) -> bool {
+    match told {
+        Ok(told) => log.push(agenda.noted(deed, told)).is_ok(),
+        Err(_) => false,
     }
 }
 
@@ -60,7 +94,7 @@ fn follow<D: Disk, R: Wait>(
     log: &Mutex<Vec<Noted>>,
     plan: Plan,
     place: usize,
-) -> Result<(), RowError>
+)
     requires { IsOf area.now pass.old }
     ensures { IsOf area.now pass.new }
 {
@@ -68,16 +102,18 @@ fn follow<D: Disk, R: Wait>(
     let mut agenda = Agenda::new(plan, node);
     for _ in 0..agenda.deeds() {
         let deed = agenda.next();
-        if agenda.is_in_order() {
+        let is_noted = if agenda.is_in_order() {
             let mut log = log.lock(rt);
-            let told = done(rt, alloc, area, pass, node, deed)?;
-            log.push(agenda.noted(deed, told))?;
+            let told = done(rt, alloc, area, pass, node, deed);
+            note(&mut log, &mut agenda, deed, told)
         } else {
-            let told = done(rt, alloc, area, pass, node, deed)?;
-            log.lock(rt).push(agenda.noted(deed, told))?;
+            let told = done(rt, alloc, area, pass, node, deed);
+            note(&mut log.lock(rt), &mut agenda, deed, told)
+        };
+        if !is_noted {
+            break;
         }
     }
-    Ok(())
 }
 
 /// Each node follows the plan, in a thread of its own.
@@ -100,7 +136,7 @@ pub(crate) fn follow_all<D: Disk + Send + Sync, R: Threads + Wait + Sync>(
             requires { IsOf area.now pass.now }
             ensures { IsOf area.entry.now pass.exit.now }
         {
-            let _done = follow(rt, alloc, area, pass, log, plan, place);
+            follow(rt, alloc, area, pass, log, plan, place);
         },
     );
 }

@@ -5,7 +5,7 @@ use crate::asking::{Act, Caller, caller_named};
 use crate::held::Meeting;
 use jb_model::{Figures, Reply};
 use std::alloc::Global;
-use trial_rows::RowError;
+use trial_rows::{RowError, Words};
 
 /// As many nodes as there may be.
 pub(crate) const NODES: u32 = 33;
@@ -67,7 +67,12 @@ pub(crate) struct Noted {
 
 /// The user of a node. Every fourth, from the first on, may tend the area.
 pub(crate) fn caller_at(alloc: Global, node: u32) -> Result<Caller, RowError> {
-    let name = format!(in alloc; "Node {node}")?;
     let level = if node % 4 == 1 { 200 } else { 20 };
+    let mut words = Words::new(alloc);
+    words.word("Node");
+    words.number(u64::from(node));
+    let Ok(name) = words.end() else {
+        return Err(RowError::OutOfMemory);
+    };
     caller_named(alloc, name.as_bytes(), level)
 }

@@ -1,12 +1,13 @@
 //! What was noted is asked of the plain program again.
 
-use crate::asking::{Act, MOMENT, command_of};
+use crate::asking::{Act, Caller, MOMENT, command_of};
 use crate::base::{closed, open, rules};
 use crate::noted::{Deed, Noted, Told, caller_at};
 use crate::same::same_area;
+use crate::showing::debugged;
 use jb_base::AreaRules;
 use jb_disk::{FileId, MemDisk};
-use jb_model::{Area, Asked, Figures, Loaded, Marks, Slots};
+use jb_model::{Area, Asked, Figures, Loaded, Marks, Reply, Slots};
 use jb_plain::{Replies, may_run, run_slow};
 use std::alloc::Global;
 use std::mem;
@@ -17,17 +18,20 @@ const MOST_STOPPED: usize = 8;
 
 /// How many calls the device stopped.
 pub(crate) fn stopped_among(noted: &[Noted]) -> usize {
-    noted
-        .iter()
-        .filter(|one| matches!(one.told, Told::Stopped))
-        .count()
+    let mut stopped = 0_usize;
+    for one in noted {
+        if matches!(one.told, Told::Stopped) {
+            stopped = stopped.saturating_add(1);
+        }
+    }
+    stopped
 }
 
 /// The plain program's area, which of the stopped calls to come stand there (by the bits, the first call by the lowest), and
 /// whether the last call was stopped.
 #[derive(Drop)]
-struct Again {
-    rules: AreaRules,
+struct Again<'a> {
+    rules: &'a AreaRules,
     area: Area,
     standing: u32,
     doubt: bool,
@@ -44,8 +48,12 @@ fn empty(alloc: Global) -> Area {
 
 // What is asked at this node.
 fn asked_at(alloc: Global, node: u32, act: Act, number: u32) -> Result<Asked, RowError> {
-    let user = caller_at(alloc, node)?.user;
-    let command = command_of(alloc, &user, act, number)?;
+    let Ok(Caller { user }) = caller_at(alloc, node) else {
+        return Err(RowError::OutOfMemory);
+    };
+    let Ok(command) = command_of(alloc, &user, act, number) else {
+        return Err(RowError::OutOfMemory);
+    };
     Ok(Asked {
         user,
         moment: MOMENT,
@@ -58,39 +66,84 @@ fn put_area(area: &mut Area, new: Area) {
     *area = new;
 }
 
-impl Again {
-    // Nothing is asked yet; these of the stopped calls stand.
-    fn new(alloc: Global, standing: u32) -> Result<Again, RowError> {
-        Ok(Again {
-            rules: rules(alloc)?,
-            area: empty(alloc),
-            standing,
-            doubt: false,
-        })
-    }
+// Whether both are the same, with all fields of a letter.
+fn is_same(alloc: Global, one: &Reply, other: &Reply) -> Result<bool, RowError> {
+    let Ok(one) = debugged(alloc, one) else {
+        return Err(RowError::OutOfMemory);
+    };
+    let Ok(other) = debugged(alloc, other) else {
+        return Err(RowError::OutOfMemory);
+    };
+    Ok(one.as_str() == other.as_str())
+}
 
-    // Asks these of the plain program.
-    fn run(&mut self, alloc: Global, asked: &[Asked]) -> Result<Replies, RowError> {
+impl<'a> Again<'a> {
+    // Asks this of the plain program.
+    fn run(&mut self, alloc: Global, asked: Asked) -> Result<Replies, RowError> {
         if !may_run(&self.area, self.rules.slots) {
             return Err(RowError::Unknown(0));
         }
         let area = mem::replace(&mut self.area, empty(alloc));
-        let (area, replies) = run_slow(alloc, &self.rules, area, asked)?;
-        put_area(&mut self.area, area);
-        Ok(replies)
+        match run_slow(alloc, self.rules, area, &[asked]) {
+            Ok((area, replies)) => {
+                put_area(&mut self.area, area);
+                Ok(replies)
+            }
+            Err(_) => Err(RowError::OutOfMemory),
+        }
     }
 
-    // Asks this of the plain program, and gives its reply in words.
-    fn ask(&mut self, alloc: Global, node: u32, act: Act, number: u32) -> Result<String, RowError> {
-        let asked = [asked_at(alloc, node, act, number)?];
-        let replies = self.run(alloc, &asked)?;
-        Ok(format!(in alloc; "{:?}", replies.as_slice())?)
+    // What the plain program replies where this is asked at the node.
+    fn ask(
+        &mut self,
+        alloc: Global,
+        node: u32,
+        act: Act,
+        number: u32,
+    ) -> Result<Replies, RowError> {
+        match asked_at(alloc, node, act, number) {
+            Ok(asked) => self.run(alloc, asked),
+            Err(error) => Err(error),
+        }
     }
 
     // Whether the figures can be those of this area; in doubt what they tell is left open.
     fn shows(&self, figures: &Figures) -> bool {
         let next = (self.area.base as usize).saturating_add(self.area.slots.as_slice().len());
         self.doubt || (figures.base == self.area.base && figures.next as usize == next)
+    }
+
+    // Whether this is the plain program's reply too.
+    fn replies(
+        &mut self,
+        alloc: Global,
+        node: u32,
+        act: Act,
+        number: u32,
+        reply: &Reply,
+    ) -> Result<bool, RowError> {
+        self.doubt = false;
+        match self.ask(alloc, node, act, number) {
+            Ok(replies) => match replies.as_slice() {
+                [answer] => is_same(alloc, answer, reply),
+                _ => Ok(false),
+            },
+            Err(error) => Err(error),
+        }
+    }
+
+    // The call was stopped: it is asked of the plain program where it stands.
+    fn stop(&mut self, alloc: Global, node: u32, act: Act, number: u32) -> Result<bool, RowError> {
+        self.doubt = true;
+        let stands = self.standing & 1 == 1;
+        self.standing >>= 1;
+        if !stands {
+            return Ok(true);
+        }
+        match self.ask(alloc, node, act, number) {
+            Ok(_) => Ok(true),
+            Err(error) => Err(error),
+        }
     }
 
     // Whether what came of the deed is what comes of it here.
@@ -100,56 +153,47 @@ impl Again {
                 Ok(self.shows(figures) && figures.unread == *unread)
             }
             (Told::Replied(reply), Deed::Asked(act, number)) => {
-                self.doubt = false;
-                let answer = self.ask(alloc, one.node, act, number)?;
-                Ok(answer.as_str() == format!(in alloc; "[{reply:?}]")?.as_str())
+                self.replies(alloc, one.node, act, number, reply)
             }
-            (Told::Stopped, Deed::Asked(act, number)) => {
-                self.doubt = true;
-                let stands = self.standing & 1 == 1;
-                self.standing >>= 1;
-                if stands {
-                    let _answer = self.ask(alloc, one.node, act, number)?;
-                }
-                Ok(true)
-            }
+            (Told::Stopped, Deed::Asked(act, number)) => self.stop(alloc, one.node, act, number),
             _ => Ok(false),
         }
     }
 
-    // Whether what came of each deed is what comes of it here.
-    fn agrees_to_all(&mut self, alloc: Global, noted: &[Noted]) -> Result<bool, RowError> {
+    // Whether what came of each deed is what comes of it here, and it comes to this area with these texts.
+    fn comes_to(
+        &mut self,
+        alloc: Global,
+        noted: &[Noted],
+        loaded: &Loaded,
+        texts: &[u8],
+    ) -> Result<bool, RowError> {
         for one in noted {
             if !self.agrees(alloc, one)? {
                 return Ok(false);
             }
         }
-        Ok(true)
+        Ok(same_area(&self.area, loaded, texts))
     }
-}
-
-// Whether it all agrees and comes to this area with these texts, where these of the stopped calls stand.
-fn comes_to_it(
-    alloc: Global,
-    noted: &[Noted],
-    standing: u32,
-    loaded: &Loaded,
-    texts: &[u8],
-) -> Result<bool, RowError> {
-    let mut again = Again::new(alloc, standing)?;
-    Ok(again.agrees_to_all(alloc, noted)? && same_area(&again.area, loaded, texts))
 }
 
 // Whether it all agrees and comes to this area with these texts, where some of the stopped calls stand.
 fn comes_to(
     alloc: Global,
+    rules: &AreaRules,
     noted: &[Noted],
     loaded: &Loaded,
     texts: &[u8],
 ) -> Result<bool, RowError> {
     let stopped = stopped_among(noted).min(MOST_STOPPED);
     for standing in 0..1_u32 << stopped {
-        if comes_to_it(alloc, noted, standing, loaded, texts)? {
+        let mut again = Again {
+            rules,
+            area: empty(alloc),
+            standing,
+            doubt: false,
+        };
+        if again.comes_to(alloc, noted, loaded, texts)? {
             return Ok(true);
         }
     }
@@ -158,15 +202,25 @@ fn comes_to(
 
 // Whether it all agrees and comes to the area of the base.
 fn comes_to_base(alloc: Global, noted: &[Noted], base: &MemDisk) -> Result<bool, RowError> {
-    let found = open(alloc, base, &[])?;
-    let answer = comes_to(alloc, noted, found.loaded(), base.file(FileId::Jdt));
-    let _disk = found.close();
-    answer
+    let Ok(rules) = rules(alloc) else {
+        return Err(RowError::OutOfMemory);
+    };
+    match open(alloc, base, &[]) {
+        Ok(found) => {
+            let texts = base.file(FileId::Jdt);
+            let answer = comes_to(alloc, &rules, noted, found.loaded(), texts);
+            let _disk = found.close();
+            answer
+        }
+        Err(error) => Err(error),
+    }
 }
 
 /// Whether the plain program, asked the same one after another, answers the same and comes to the area of the base. A call that
 /// the device stopped may stand or not.
 pub(crate) fn replays(alloc: Global, noted: &[Noted], base: &MemDisk) -> Result<bool, RowError> {
-    let base = closed(alloc, base)?;
-    comes_to_base(alloc, noted, &base)
+    match closed(alloc, base) {
+        Ok(base) => comes_to_base(alloc, noted, &base),
+        Err(error) => Err(error),
+    }
 }

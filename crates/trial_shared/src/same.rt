@@ -20,15 +20,20 @@ fn same_slot(slot: &Slot, loaded: &LoadedSlot, texts: &[u8]) -> bool {
     }
 }
 
-/// Whether it is this area, with its texts among these: base number, marks, and what stands in each slot.
-pub(crate) fn same_area(area: &Area, loaded: &Loaded, texts: &[u8]) -> bool {
-    let (slots, found) = (area.slots.as_slice(), loaded.slots.as_slice());
-    for (slot, found) in slots.iter().zip(found) {
-        if !same_slot(slot, found, texts) {
-            return false;
+// Whether the same stands in each slot.
+fn same_slots(slots: &[Slot], found: &[LoadedSlot], texts: &[u8]) -> bool {
+    for place in 0..slots.len() {
+        match found.get(place) {
+            Some(found) if same_slot(&slots[place], found, texts) => {}
+            _ => return false,
         }
     }
+    slots.len() == found.len()
+}
+
+/// Whether it is this area, with its texts among these: base number, marks, and what stands in each slot.
+pub(crate) fn same_area(area: &Area, loaded: &Loaded, texts: &[u8]) -> bool {
     area.base == loaded.base
-        && slots.len() == found.len()
         && area.marks.as_slice() == loaded.marks.as_slice()
+        && same_slots(area.slots.as_slice(), loaded.slots.as_slice(), texts)
 }

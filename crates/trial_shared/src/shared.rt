@@ -6,7 +6,7 @@ ghost use Rattle.jb_shared.specs.Areas.{IsOf};
 use crate::asking::{Caller, MOMENT};
 use crate::nodes::follow_all;
 use crate::noted::{Noted, Plan};
-use crate::showing::{answer_words, count_words, reply_words};
+use crate::showing::{put_answer, put_count, put_reply};
 use jb_area::OpenArea;
 use jb_disk::Disk;
 use jb_model::{Command, Question};
@@ -15,7 +15,7 @@ use std::alloc::Global;
 use std::marker::Model;
 use std::sync::{Mutex, Wait};
 use std::thread::Threads;
-use trial_rows::{Row, RowError};
+use trial_rows::{Row, RowError, Words};
 
 /// What is asked of a shared area.
 #[derive(Drop)]
@@ -50,17 +50,21 @@ fn told<D: Disk, R: Wait>(
     pass: &mut Pass,
     caller: &Caller,
     ask: &Ask,
-) -> Result<String, RowError>
+    words: &mut Words,
+) -> Result<(), RowError>
     requires { IsOf area.now pass.old }
     ensures { IsOf area.now pass.new }
 {
     match ask {
         Ask::Call(command) => {
             let reply = area.call(rt, alloc, pass, &caller.user, MOMENT, command);
-            reply_words(alloc, reply)
+            put_reply(alloc, words, &reply)
         }
-        Ask::Look(question) => answer_words(alloc, area.look(pass, &caller.user, question)),
-        Ask::Count => count_words(alloc, area.unread_count(pass, &caller.user)),
+        Ask::Look(question) => {
+            let answer = area.look(pass, &caller.user, question);
+            put_answer(alloc, words, &answer)
+        }
+        Ask::Count => put_count(alloc, words, area.unread_count(pass, &caller.user)),
     }
 }
 
@@ -102,9 +106,11 @@ impl<D: Disk + Drop> Shared<D> {
         row: &Row,
         caller: &Caller,
         ask: &Ask,
-    ) -> Result<String, RowError> {
+        words: &mut Words,
+    ) -> Result<(), RowError> {
         let place = place_in(row, self.passes.len())?;
-        told(rt, alloc, &self.area, &mut self.passes[place], caller, ask)
+        let pass = &mut self.passes[place];
+        told(rt, alloc, &self.area, pass, caller, ask, words)
     }
 
     /// Each node follows the plan in a thread of its own.

@@ -2,84 +2,131 @@
 
 use jb_model::{Answer, Barred, Letter, LookError, Reply, Summary};
 use jb_shared::SharedError;
-use std::alloc::Global;
-use std::fmt::{Debug, Write};
-use trial_rows::{RowError, shown};
+use std::alloc::{AllocError, Global};
+use std::fmt::Debug;
+use trial_rows::{RowError, Words};
 
-// This as `Debug` has it.
-fn debugged<T: Debug>(alloc: Global, this: &T) -> Result<String, RowError> {
-    Ok(format!(in alloc; "{this:?}")?)
+/// This as `Debug` has it.
+pub(crate) fn debugged<T: Debug>(alloc: Global, this: &T) -> Result<String, AllocError> {
+    format!(in alloc; "{this:?}")
+}
+
+// What was put together, behind the other words.
+fn put_made(words: &mut Words, made: Result<String, AllocError>) -> Result<(), RowError> {
+    let Ok(text) = made else {
+        return Err(RowError::OutOfMemory);
+    };
+    words.word(text.as_str());
+    Ok(())
+}
+
+/// This as `Debug` has it, behind the other words.
+pub(crate) fn put_debugged<T: Debug>(
+    alloc: Global,
+    words: &mut Words,
+    this: &T,
+) -> Result<(), RowError> {
+    put_made(words, debugged(alloc, this))
+}
+
+// Whether a text has many bytes, which are all this one.
+fn is_all(text: &[u8], first: u8) -> bool {
+    for byte in text {
+        if *byte != first {
+            return false;
+        }
+    }
+    text.len() > 100
 }
 
 // A text; of many bytes that are all the same how many they are, and one of them.
-fn text_words(alloc: Global, text: &[u8]) -> Result<String, RowError> {
+fn put_text(alloc: Global, words: &mut Words, text: &[u8]) -> Result<(), RowError> {
     match text.first() {
-        Some(first) if text.len() > 100 && text.iter().all(|byte| byte == first) => {
-            Ok(format!(in alloc; "{}*{}", text.len(), char::from(*first))?)
+        Some(first) if is_all(text, *first) => {
+            let many = text.len();
+            put_made(words, format!(in alloc; "{many}*{}", char::from(*first)))
         }
-        _ => shown(alloc, text),
+        _ => {
+            words.shown(text);
+            Ok(())
+        }
     }
+}
+
+// The links of a letter.
+fn put_links(words: &mut Words, letter: &Letter) {
+    words.number(u64::from(letter.reply_to));
+    words.put("/");
+    words.put_number(u64::from(letter.reply_first));
+    words.put("/");
+    words.put_number(u64::from(letter.reply_next));
 }
 
 // A letter: number, names, subject and text, MSGID and REPLYID, date, attribute in hex, and the links.
-fn letter_words(alloc: Global, letter: &Letter) -> Result<String, RowError> {
-    let mut text = format!(in alloc; "Text {}", letter.number)?;
-    for part in [
-        letter.from.as_slice(),
-        letter.to.as_slice(),
-        letter.subject.as_slice(),
-        letter.text.as_slice(),
-        letter.msgid.as_slice(),
-        letter.reply.as_slice(),
-    ] {
-        let part = text_words(alloc, part)?;
-        write!(text, " {part}")?;
-    }
-    write!(
-        text,
-        " {} {:x} {}/{}/{}",
-        letter.written, letter.attribute, letter.reply_to, letter.reply_first, letter.reply_next
-    )?;
-    Ok(text)
+fn put_letter(alloc: Global, words: &mut Words, letter: &Letter) -> Result<(), RowError> {
+    words.word("Text");
+    words.number(u64::from(letter.number));
+    words.shown(letter.from.as_slice());
+    words.shown(letter.to.as_slice());
+    words.shown(letter.subject.as_slice());
+    put_text(alloc, words, letter.text.as_slice())?;
+    words.shown(letter.msgid.as_slice());
+    words.shown(letter.reply.as_slice());
+    words.number(u64::from(letter.written));
+    put_made(words, format!(in alloc; "{:x}", letter.attribute))?;
+    put_links(words, letter);
+    Ok(())
 }
 
 // The numbers of these messages.
-fn numbers_words(alloc: Global, summaries: &[Summary]) -> Result<String, RowError> {
-    let mut text = String::from_str(alloc, "numbers")?;
+fn put_numbers(words: &mut Words, summaries: &[Summary]) {
+    words.word("numbers");
     for summary in summaries {
-        write!(text, " {}", summary.number)?;
+        words.number(u64::from(summary.number));
     }
-    Ok(text)
 }
 
 /// What a call is answered, or why there is no reply, in one line.
-pub(crate) fn reply_words(
+pub(crate) fn put_reply(
     alloc: Global,
-    reply: Result<Reply, SharedError>,
-) -> Result<String, RowError> {
-    match &reply {
-        Ok(Reply::Text { letter }) => letter_words(alloc, letter),
-        Ok(reply) => debugged(alloc, reply),
-        Err(error) => debugged(alloc, error),
+    words: &mut Words,
+    reply: &Result<Reply, SharedError>,
+) -> Result<(), RowError> {
+    match reply {
+        Ok(Reply::Text { letter }) => put_letter(alloc, words, letter),
+        Ok(reply) => put_debugged(alloc, words, reply),
+        Err(error) => put_debugged(alloc, words, error),
     }
 }
 
 /// What a look is answered, or why there is no answer, in one line: the figures, or the numbers of the messages.
-pub(crate) fn answer_words(
+pub(crate) fn put_answer(
     alloc: Global,
-    answer: Result<Answer, LookError>,
-) -> Result<String, RowError> {
-    match &answer {
-        Ok(Answer::Figures(figures)) => debugged(alloc, figures),
-        Ok(Answer::Summaries(summaries)) => numbers_words(alloc, summaries.as_slice()),
-        Err(error) => debugged(alloc, error),
+    words: &mut Words,
+    answer: &Result<Answer, LookError>,
+) -> Result<(), RowError> {
+    match answer {
+        Ok(Answer::Figures(figures)) => put_debugged(alloc, words, figures),
+        Ok(Answer::Summaries(summaries)) => {
+            put_numbers(words, summaries.as_slice());
+            Ok(())
+        }
+        Err(error) => put_debugged(alloc, words, error),
     }
 }
 
 /// What a count comes to, or why there is none, in one line.
-pub(crate) fn count_words(alloc: Global, count: Result<u32, Barred>) -> Result<String, RowError> {
+pub(crate) fn put_count(
+    alloc: Global,
+    words: &mut Words,
+    count: Result<u32, Barred>,
+) -> Result<(), RowError> {
     match count {
-        Ok(count) => Ok(format!(in alloc; "{count} unread")?),
-        Err(error) => debugged(alloc, &error),
+        Ok(count) => {
+            words.number(u64::from(count));
+            words.word("unread");
+            Ok(())
+        }
+        Err(error) => put_debugged(alloc, words, &error),
     }
 }

@@ -2,8 +2,7 @@
 
 use crate::noted::{Noted, Told};
 use jb_model::{Figures, Loaded, Reply};
-use std::alloc::Global;
-use trial_rows::RowError;
+use trial_rows::Words;
 
 /// What a node did and saw. `posted`, `killed` and `stopped` count its posts and kills that were answered and its calls that the
 /// device stopped; `last` and `mark` are the numbers of its last post and of its mark, as its answers say; `base` and `next` are
@@ -63,8 +62,10 @@ impl Witness {
     // All that this node was told.
     fn of(noted: &[Noted], node: u32) -> Witness {
         let mut witness = Witness::default();
-        for one in noted.iter().filter(|one| one.node == node) {
-            witness.hear(&one.told);
+        for one in noted {
+            if one.node == node {
+                witness.hear(&one.told);
+            }
         }
         witness
     }
@@ -77,13 +78,20 @@ impl Witness {
     }
 }
 
+// How often a number fell, and how often a node did not see its own calls.
+fn put_faults(words: &mut Words, fell: u32, missed: u32) {
+    if fell == 0 && missed == 0 {
+        words.word("no number fell, each saw its own calls;");
+        return;
+    }
+    words.number(u64::from(fell));
+    words.word("times a number fell,");
+    words.number(u64::from(missed));
+    words.word("times own calls were not seen;");
+}
+
 /// What is said of so many nodes, of which the first alone posted, once the area is closed.
-pub(crate) fn verdict(
-    alloc: Global,
-    noted: &[Noted],
-    nodes: u32,
-    loaded: &Loaded,
-) -> Result<String, RowError> {
+pub(crate) fn verdict(words: &mut Words, noted: &[Noted], nodes: u32, loaded: &Loaded) {
     let (mut looks, mut fell, mut missed) = (0_u32, 0_u32, 0_u32);
     for node in 0..nodes {
         let one = Witness::of(noted, node.saturating_add(1));
@@ -91,15 +99,12 @@ pub(crate) fn verdict(
         fell = fell.saturating_add(one.fell);
         missed = missed.saturating_add(one.missed);
     }
-    let saw = if fell == 0 && missed == 0 {
-        format!(in alloc; "no number fell, each saw its own calls")?
-    } else {
-        format!(in alloc; "{fell} times a number fell, {missed} times own calls were not seen")?
-    };
-    let stands = if Witness::of(noted, 1).agrees(loaded) {
+    words.number(u64::from(looks));
+    words.word("looks:");
+    put_faults(words, fell, missed);
+    words.word(if Witness::of(noted, 1).agrees(loaded) {
         "the area holds what was posted"
     } else {
         "the area holds something else"
-    };
-    Ok(format!(in alloc; "{looks} looks: {saw}; {stands}")?)
+    });
 }

@@ -1,46 +1,50 @@
 //! The line of each reply and each fault.
 
 use crate::letters::message;
+use crate::says::put_line;
 use jb_base::{Bytes, Rule};
 use jb_model::{Field, Reply, SharedFault};
 use std::alloc::Global;
-use trial_rows::{Row, RowError, shown};
+use trial_rows::{Row, RowError, Words};
 
 /// `reply KIND ..`: the line of a reply of this kind, with its words and numbers.
-pub fn reply(alloc: Global, row: &Row) -> Result<String, RowError> {
-    let reply = reply_of(alloc, row)?;
-    reply_line(alloc, &reply)
-}
-
-fn reply_line(alloc: Global, reply: &Reply) -> Result<String, RowError> {
-    let line = jb_text::reply(alloc, reply)?;
-    shown(alloc, line.as_slice())
+pub fn put_reply(alloc: Global, row: &Row, words: &mut Words) -> Result<(), RowError> {
+    match reply_of(alloc, row) {
+        Ok(reply) => put_line(jb_text::reply(alloc, &reply), words),
+        Err(error) => Err(error),
+    }
 }
 
 fn reply_of(alloc: Global, row: &Row) -> Result<Reply, RowError> {
     match row.word(1)? {
         "text" => text(alloc),
-        "denied" => Ok(Reply::Denied { rule: rule(row)? }),
-        "empty-name" => Ok(Reply::EmptyName { field: field(row)? }),
+        "denied" => denied(row),
+        "empty-name" => empty_name(row),
         "too-long" => too_long(row),
         _ => with_numbers(row),
     }
 }
 
 fn text(alloc: Global) -> Result<Reply, RowError> {
-    let letter = message(alloc, 0, Bytes::copy(alloc, b"Good\r")?)?;
-    Ok(Reply::Text { letter })
+    let Ok(text) = Bytes::copy(alloc, b"Good\r") else {
+        return Err(RowError::OutOfMemory);
+    };
+    match message(alloc, 0, text) {
+        Ok(letter) => Ok(Reply::Text { letter }),
+        Err(error) => Err(error),
+    }
 }
 
-fn rule(row: &Row) -> Result<Rule, RowError> {
-    match row.word(2)? {
-        "A1" => Ok(Rule::A1),
-        "A2" => Ok(Rule::A2),
-        "A3" => Ok(Rule::A3),
-        "A4" => Ok(Rule::A4),
-        "A5" => Ok(Rule::A5),
-        _ => Err(RowError::Unknown(2)),
-    }
+fn denied(row: &Row) -> Result<Reply, RowError> {
+    let rule = match row.word(2)? {
+        "A1" => Rule::A1,
+        "A2" => Rule::A2,
+        "A3" => Rule::A3,
+        "A4" => Rule::A4,
+        "A5" => Rule::A5,
+        _ => return Err(RowError::Unknown(2)),
+    };
+    Ok(Reply::Denied { rule })
 }
 
 fn field(row: &Row) -> Result<Field, RowError> {
@@ -50,6 +54,11 @@ fn field(row: &Row) -> Result<Field, RowError> {
         "text" => Ok(Field::Text),
         _ => Err(RowError::Unknown(2)),
     }
+}
+
+fn empty_name(row: &Row) -> Result<Reply, RowError> {
+    let field = field(row)?;
+    Ok(Reply::EmptyName { field })
 }
 
 fn too_long(row: &Row) -> Result<Reply, RowError> {
@@ -66,44 +75,52 @@ fn number(row: &Row, place: usize) -> u32 {
 fn with_numbers(row: &Row) -> Result<Reply, RowError> {
     let first = number(row, 2);
     let second = number(row, 3);
-    match row.word(1)? {
-        "posted" => Ok(Reply::Posted { number: first }),
-        "killed" => Ok(Reply::Killed { number: first }),
-        "marked" => Ok(Reply::Marked {
+    let third = number(row, 4);
+    let reply = match row.word(1)? {
+        "marked" => Reply::Marked {
             last: first,
             high: second,
-        }),
-        "packed" => Ok(Reply::Packed {
+        },
+        "packed" => Reply::Packed {
             base: first,
             live: second,
-            dropped: number(row, 4),
-        }),
-        "relinked" => Ok(Reply::Relinked { changed: first }),
-        "no-message" => Ok(Reply::NoMessage { number: first }),
-        "slots-full" => Ok(Reply::SlotsFull { slots: first }),
-        "headers-full" => Ok(Reply::HeadersFull {
-            length: u64::from(first),
-        }),
-        "texts-full" => Ok(Reply::TextFull {
-            length: u64::from(first),
-        }),
-        "numbers-spent" => Ok(Reply::NumbersSpent { next: first }),
-        "marks-full" => Ok(Reply::MarksFull { marks: first }),
+            dropped: third,
+        },
+        word => return with_number(word, first),
+    };
+    Ok(reply)
+}
+
+fn with_number(word: &str, number: u32) -> Result<Reply, RowError> {
+    let length = u64::from(number);
+    match word {
+        "posted" => Ok(Reply::Posted { number }),
+        "killed" => Ok(Reply::Killed { number }),
+        "relinked" => Ok(Reply::Relinked { changed: number }),
+        "no-message" => Ok(Reply::NoMessage { number }),
+        "slots-full" => Ok(Reply::SlotsFull { slots: number }),
+        "headers-full" => Ok(Reply::HeadersFull { length }),
+        "texts-full" => Ok(Reply::TextFull { length }),
+        "numbers-spent" => Ok(Reply::NumbersSpent { next: number }),
+        "marks-full" => Ok(Reply::MarksFull { marks: number }),
         _ => Err(RowError::Unknown(1)),
     }
 }
 
 /// `fault KIND`, and of a gap two numbers: the line of a fault.
-pub fn fault(alloc: Global, row: &Row) -> Result<String, RowError> {
-    let fault = match row.word(1)? {
-        "store" => SharedFault::StoreFault,
-        "gap" => gap(row)?,
-        "run-spent" => SharedFault::RunSpent,
-        "barred" => SharedFault::Barred,
-        _ => return Err(RowError::Unknown(1)),
-    };
-    let line = jb_text::fault(alloc, &fault)?;
-    shown(alloc, line.as_slice())
+pub fn put_fault(alloc: Global, row: &Row, words: &mut Words) -> Result<(), RowError> {
+    let fault = fault_of(row)?;
+    put_line(jb_text::fault(alloc, &fault), words)
+}
+
+fn fault_of(row: &Row) -> Result<SharedFault, RowError> {
+    match row.word(1)? {
+        "store" => Ok(SharedFault::StoreFault),
+        "gap" => gap(row),
+        "run-spent" => Ok(SharedFault::RunSpent),
+        "barred" => Ok(SharedFault::Barred),
+        _ => Err(RowError::Unknown(1)),
+    }
 }
 
 fn gap(row: &Row) -> Result<SharedFault, RowError> {

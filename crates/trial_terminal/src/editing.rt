@@ -4,14 +4,12 @@
 use jb_base::Bytes;
 use jb_line::{Echo, Key, LineEditor};
 use std::alloc::Global;
-use trial_rows::{Row, RowError, shown};
+use trial_rows::{Row, RowError, Words};
 
-/// What came of the keys so far.
+/// What came of the keys so far, beside the word for the echo of each.
 #[derive(Drop)]
 struct Desk {
     editor: LineEditor,
-    /// How each key was echoed, each with a space behind it.
-    echoes: String,
     /// The lines that ended, each with a `|` behind it.
     lines: Bytes,
 }
@@ -20,99 +18,119 @@ impl Desk {
     fn new(alloc: Global) -> Desk {
         Desk {
             editor: LineEditor::new(),
-            echoes: String::new(alloc),
             lines: Bytes::new(alloc),
         }
     }
 
-    fn press(&mut self, key: Key) -> Result<(), RowError> {
+    fn press(&mut self, key: Key, echoes: &mut Words) -> Result<(), RowError> {
         let typed = self.editor.push(key);
-        put_echo(&mut self.echoes, typed.echo)?;
-        if let Some(line) = typed.line {
-            self.lines.append(line.as_slice())?;
-            self.lines.append(b"|")?;
+        put_echo(typed.echo, echoes);
+        match &typed.line {
+            Some(line) => end_line(&mut self.lines, line.as_slice()),
+            None => Ok(()),
+        }
+    }
+
+    fn press_all(&mut self, bytes: &[u8], echoes: &mut Words) -> Result<(), RowError> {
+        for byte in bytes {
+            self.press(Key::Byte(*byte), echoes)?;
         }
         Ok(())
     }
 
-    fn press_all(&mut self, bytes: &[u8]) -> Result<(), RowError> {
-        for byte in bytes {
-            self.press(Key::Byte(*byte))?;
+    /// Each byte that the word at this place writes is a key.
+    fn press_word(
+        &mut self,
+        alloc: Global,
+        row: &Row,
+        place: usize,
+        echoes: &mut Words,
+    ) -> Result<(), RowError> {
+        match row.bytes(alloc, place) {
+            Ok(bytes) => self.press_all(bytes.as_slice(), echoes),
+            Err(error) => Err(error),
         }
-        Ok(())
     }
 
     /// What the word at this place says is done.
-    fn take(&mut self, alloc: Global, row: &Row, place: usize) -> Result<(), RowError> {
+    fn take(
+        &mut self,
+        alloc: Global,
+        row: &Row,
+        place: usize,
+        echoes: &mut Words,
+    ) -> Result<(), RowError> {
         match row.word(place)? {
-            "erase-char" => self.press(Key::EraseChar)?,
-            "erase-line" => self.press(Key::EraseLine)?,
+            "erase-char" => return self.press(Key::EraseChar, echoes),
+            "erase-line" => return self.press(Key::EraseLine, echoes),
             "mask" => self.editor.mask(true),
             "unmask" => self.editor.mask(false),
-            _ => self.press_all(row.bytes(alloc, place)?.as_slice())?,
+            _ => return self.press_word(alloc, row, place, echoes),
         }
         Ok(())
     }
 
     /// What all words of the row from the second on say is done.
-    fn take_all(&mut self, alloc: Global, row: &Row) -> Result<(), RowError> {
+    fn take_all(&mut self, alloc: Global, row: &Row, echoes: &mut Words) -> Result<(), RowError> {
         for place in 1..row.len() {
-            self.take(alloc, row, place)?;
+            self.take(alloc, row, place, echoes)?;
         }
         Ok(())
     }
 
-    /// The echo of each key, and then the lines.
-    fn told(&self, alloc: Global) -> Result<String, RowError> {
-        let lines = shown(alloc, self.lines.as_slice())?;
-        Ok(format!(in alloc; "{}{lines}", self.echoes)?)
-    }
-
-    /// The echo of each key of the third word and of a return, behind a line of as many bytes as the second says, and how many
-    /// bytes the line has that it ends.
-    fn end_at(&mut self, alloc: Global, row: &Row) -> Result<String, RowError> {
+    /// The third word of the row and a return are typed behind a line of as many bytes as the second says.
+    fn end_at(&mut self, alloc: Global, row: &Row, echoes: &mut Words) -> Result<(), RowError> {
         for _key in 0..row.u16(1)? {
             let _ = self.editor.push(Key::Byte(b'x'));
         }
-        self.take(alloc, row, 2)?;
-        self.press(Key::Byte(13))?;
-        let length = self.lines.len().saturating_sub(1);
-        Ok(format!(in alloc; "{}{length}", self.echoes)?)
+        self.take(alloc, row, 2, echoes)?;
+        self.press(Key::Byte(13), echoes)
     }
 }
 
-/// Puts an echo and a space behind the others.
-fn put_echo(text: &mut String, echo: Echo) -> Result<(), RowError> {
-    match echo {
-        Echo::Nothing => text.push_str("nothing ")?,
-        Echo::One(byte) => write!(text, "byte:{byte} ")?,
-        Echo::Rub(count) => write!(text, "rub:{count} ")?,
-        Echo::NewLine => text.push_str("new-line ")?,
-    }
+/// Puts a line and a `|` behind the others.
+pub fn end_line(lines: &mut Bytes, line: &[u8]) -> Result<(), RowError> {
+    lines.append(line)?;
+    lines.append(b"|")?;
     Ok(())
 }
 
-/// What came of all words of the row from the second on.
-fn after_words(alloc: Global, row: &Row) -> Result<Desk, RowError> {
-    let mut desk = Desk::new(alloc);
-    desk.take_all(alloc, row)?;
-    Ok(desk)
+/// Puts the word for an echo.
+fn put_echo(echo: Echo, words: &mut Words) {
+    match echo {
+        Echo::Nothing => words.word("nothing"),
+        Echo::One(byte) => put_numbered("byte:", byte, words),
+        Echo::Rub(count) => put_numbered("rub:", count, words),
+        Echo::NewLine => words.word("new-line"),
+    }
+}
+
+fn put_numbered(word: &str, number: u8, words: &mut Words) {
+    words.word(word);
+    words.put_number(u64::from(number));
 }
 
 /// `lines WORD ..`: the lines, each with a `|` behind it.
-pub fn lines(alloc: Global, row: &Row) -> Result<String, RowError> {
-    let desk = after_words(alloc, row)?;
-    shown(alloc, desk.lines.as_slice())
+pub fn put_lines(alloc: Global, row: &Row, words: &mut Words) -> Result<(), RowError> {
+    let mut desk = Desk::new(alloc);
+    let taken = desk.take_all(alloc, row, &mut Words::new(alloc));
+    words.shown(desk.lines.as_slice());
+    taken
 }
 
 /// `type WORD ..`: the echo of each key, and then the lines.
-pub fn typed(alloc: Global, row: &Row) -> Result<String, RowError> {
-    let desk = after_words(alloc, row)?;
-    desk.told(alloc)
+pub fn put_typed(alloc: Global, row: &Row, words: &mut Words) -> Result<(), RowError> {
+    let mut desk = Desk::new(alloc);
+    let taken = desk.take_all(alloc, row, words);
+    words.shown(desk.lines.as_slice());
+    taken
 }
 
 /// `at LENGTH WORD`: behind a line of so many bytes, the echo of the word's keys and of a return, and how many bytes the
 /// line has that it ends.
-pub fn at(alloc: Global, row: &Row) -> Result<String, RowError> {
-    Desk::new(alloc).end_at(alloc, row)
+pub fn put_at(alloc: Global, row: &Row, words: &mut Words) -> Result<(), RowError> {
+    let mut desk = Desk::new(alloc);
+    let taken = desk.end_at(alloc, row, words);
+    words.number(desk.lines.len().saturating_sub(1) as u64);
+    taken
 }

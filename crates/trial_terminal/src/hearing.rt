@@ -1,13 +1,13 @@
 //! What a caller sends, through the decoder, the options and the line editor.
 
+use crate::editing::end_line;
 use crate::options::state;
-use crate::words::{put_shown, put_word};
 use jb_base::{Bytes, OutOfMemory};
 use jb_line::{Echo, Key, LineEditor, Typed};
 use jb_option::Options;
 use jb_telnet::{Decoder, Event};
 use std::alloc::Global;
-use trial_rows::{Row, RowError, hexed};
+use trial_rows::{Row, RowError, Words};
 
 /// One caller's side of a session, and what came of it so far.
 #[derive(Drop)]
@@ -35,7 +35,7 @@ impl Caller {
         }
     }
 
-    fn hear(&mut self, bytes: &[u8]) -> Result<(), OutOfMemory> {
+    fn hear(&mut self, bytes: &[u8]) -> Result<(), RowError> {
         for byte in bytes {
             if let Some(event) = self.decoder.push(*byte) {
                 self.take(event)?;
@@ -44,36 +44,50 @@ impl Caller {
         Ok(())
     }
 
+    /// Hears the word at this place of the row.
+    fn hear_word(&mut self, alloc: Global, row: &Row, place: usize) -> Result<(), RowError> {
+        match row.bytes(alloc, place) {
+            Ok(bytes) => self.hear(bytes.as_slice()),
+            Err(error) => Err(error),
+        }
+    }
+
     /// Hears all words of the row from the second on.
     fn hear_all(&mut self, alloc: Global, row: &Row) -> Result<(), RowError> {
         for place in 1..row.len() {
-            let bytes = row.bytes(alloc, place)?;
-            self.hear(bytes.as_slice())?;
+            self.hear_word(alloc, row, place)?;
         }
         Ok(())
     }
 
-    fn take(&mut self, event: Event) -> Result<(), OutOfMemory> {
+    fn take(&mut self, event: Event) -> Result<(), RowError> {
         let answer = self.options.step(event);
         self.answers.append(answer.as_slice())?;
         match key(event) {
             Some(key) => {
                 let typed = self.editor.push(key);
-                self.note(typed)
+                self.note(&typed)
             }
             None => Ok(()),
         }
     }
 
-    fn note(&mut self, typed: Typed) -> Result<(), OutOfMemory> {
+    fn note(&mut self, typed: &Typed) -> Result<(), RowError> {
         if self.options.echo() {
             append_echo(&mut self.echoed, typed.echo)?;
         }
-        if let Some(line) = typed.line {
-            self.lines.append(line.as_slice())?;
-            self.lines.append(b"|")?;
+        match &typed.line {
+            Some(line) => end_line(&mut self.lines, line.as_slice()),
+            None => Ok(()),
         }
-        Ok(())
+    }
+
+    /// Puts the answers about options, the lines, what was echoed of keys, and whether the board echoes now.
+    fn put(&self, alloc: Global, words: &mut Words) {
+        words.hexed(alloc, self.answers.as_slice());
+        words.shown(self.lines.as_slice());
+        words.shown(self.echoed.as_slice());
+        words.word(state(self.options.echo()));
     }
 }
 
@@ -105,16 +119,9 @@ fn append_rubs(sent: &mut Bytes, count: u8) -> Result<(), OutOfMemory> {
 }
 
 /// `hear BYTES ..`: the answers about options, the lines, what was echoed of keys, and whether the board echoes now.
-pub fn hear(alloc: Global, row: &Row) -> Result<String, RowError> {
+pub fn put_heard(alloc: Global, row: &Row, words: &mut Words) -> Result<(), RowError> {
     let mut caller = Caller::new(alloc);
-    caller.hear_all(alloc, row)?;
-    seen(alloc, &caller)
-}
-
-fn seen(alloc: Global, caller: &Caller) -> Result<String, RowError> {
-    let mut text = hexed(alloc, caller.answers.as_slice())?;
-    put_shown(alloc, &mut text, caller.lines.as_slice())?;
-    put_shown(alloc, &mut text, caller.echoed.as_slice())?;
-    put_word(&mut text, state(caller.options.echo()))?;
-    Ok(text)
+    let heard = caller.hear_all(alloc, row);
+    caller.put(alloc, words);
+    heard
 }

@@ -10,11 +10,10 @@ mod letters;
 mod options;
 mod says;
 mod telnet;
-mod words;
 
 use std::alloc::Global;
 use std::io;
-use trial_rows::{Answers, Row, RowError};
+use trial_rows::{Answers, Row, RowError, Words};
 
 /// The rows are answered one by one, and nothing is kept between two.
 #[derive(Drop)]
@@ -22,29 +21,45 @@ struct Calls {}
 
 impl Answers for Calls {
     fn answer(&mut self, alloc: Global, row: &Row) -> Result<String, RowError> {
-        match row.word(0)? {
-            "events" => telnet::events(alloc, row),
-            "verb" => telnet::verb(alloc, row),
-            "encode" => telnet::encoded(alloc, row),
-            "greeting" => options::greeting(alloc),
-            "answers" => options::answers(alloc, row),
-            "echoing" => options::echoing(alloc, row),
-            "lines" => editing::lines(alloc, row),
-            "type" => editing::typed(alloc, row),
-            "at" => editing::at(alloc, row),
-            "hear" => hearing::hear(alloc, row),
-            "fixed" => says::always(alloc, row),
-            "start" | "welcome" | "prompt" => says::named(alloc, row),
-            "figures" => says::counts(alloc, row),
-            "replying" => says::answered(alloc, row),
-            "area" => says::area(alloc, row),
-            "listing" => says::listed(alloc, row),
-            "reply" => answers::reply(alloc, row),
-            "fault" => answers::fault(alloc, row),
-            "date" => letters::date(alloc, row),
-            "letter" => letters::letter(alloc, row),
-            _ => Err(RowError::Unknown(0)),
+        let mut words = Words::new(alloc);
+        match put(alloc, row, &mut words) {
+            Ok(()) => words.end(),
+            Err(error) => Err(error),
         }
+    }
+}
+
+/// Puts what a row about what a terminal sends, or about a text, comes to.
+fn put(alloc: Global, row: &Row, words: &mut Words) -> Result<(), RowError> {
+    match row.word(0)? {
+        "events" => telnet::put_events(alloc, row, words),
+        "verb" => telnet::put_verb(row, words),
+        "encode" => telnet::put_encoded(alloc, row, words),
+        "greeting" => options::put_greeting(alloc, words),
+        "answers" => options::put_answers(alloc, row, words),
+        "echoing" => options::put_echoing(row, words),
+        "lines" => editing::put_lines(alloc, row, words),
+        "type" => editing::put_typed(alloc, row, words),
+        "at" => editing::put_at(alloc, row, words),
+        "hear" => hearing::put_heard(alloc, row, words),
+        _ => put_text(alloc, row, words),
+    }
+}
+
+/// Puts what a row about a text comes to.
+fn put_text(alloc: Global, row: &Row, words: &mut Words) -> Result<(), RowError> {
+    match row.word(0)? {
+        "fixed" => says::put_fixed(alloc, row, words),
+        "start" | "welcome" | "prompt" => says::put_named(alloc, row, words),
+        "figures" => says::put_figures(alloc, row, words),
+        "replying" => says::put_replying(alloc, row, words),
+        "area" => says::put_area(alloc, row, words),
+        "listing" => says::put_listing(alloc, row, words),
+        "reply" => answers::put_reply(alloc, row, words),
+        "fault" => answers::put_fault(alloc, row, words),
+        "date" => letters::put_date(row, words),
+        "letter" => letters::put_letter(alloc, row, words),
+        _ => Err(RowError::Unknown(0)),
     }
 }
 

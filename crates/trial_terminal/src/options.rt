@@ -1,36 +1,34 @@
 //! The options of a session, from the greeting on.
 
 use crate::telnet::event;
-use crate::words::{put_hexed, put_word};
 use jb_option::Options;
 use std::alloc::Global;
-use trial_rows::{Row, RowError, hexed};
+use trial_rows::{Row, RowError, Words};
 
 /// `greeting`: what the board sends first.
-pub fn greeting(alloc: Global) -> Result<String, RowError> {
-    hexed(alloc, &Options::new().greeting())
+pub fn put_greeting(alloc: Global, words: &mut Words) -> Result<(), RowError> {
+    words.hexed(alloc, &Options::new().greeting());
+    Ok(())
 }
 
 /// `answers EVENT ..`: the answer to each event.
-pub fn answers(alloc: Global, row: &Row) -> Result<String, RowError> {
+pub fn put_answers(alloc: Global, row: &Row, words: &mut Words) -> Result<(), RowError> {
     let mut options = Options::new();
-    let mut text = String::new(alloc);
     for place in 1..row.len() {
         let answer = options.step(event(row, place)?);
-        put_hexed(alloc, &mut text, answer.as_slice())?;
+        words.hexed(alloc, answer.as_slice());
     }
-    Ok(text)
+    Ok(())
 }
 
 /// `echoing EVENT ..`: whether the board echoes behind each event.
-pub fn echoing(alloc: Global, row: &Row) -> Result<String, RowError> {
+pub fn put_echoing(row: &Row, words: &mut Words) -> Result<(), RowError> {
     let mut options = Options::new();
-    let mut text = String::new(alloc);
     for place in 1..row.len() {
         let _ = options.step(event(row, place)?);
-        put_word(&mut text, state(options.echo()))?;
+        words.word(state(options.echo()));
     }
-    Ok(text)
+    Ok(())
 }
 
 /// Whether the board echoes, as a word.

@@ -1,38 +1,40 @@
 //! The events of a stream, and bytes as they are sent.
 
-use crate::words::put_word;
 use jb_telnet::{Decoder, Event, Verb, encode};
 use std::alloc::Global;
-use trial_rows::{Row, RowError, hexed};
+use trial_rows::{Row, RowError, Words};
 
 /// `events BYTES`: the events of the bytes, or `-` for none.
-pub fn events(alloc: Global, row: &Row) -> Result<String, RowError> {
-    let bytes = row.bytes(alloc, 1)?;
-    let mut text = String::new(alloc);
-    put_events(&mut text, bytes.as_slice())?;
-    if text.is_empty() {
-        text.push('-')?;
+pub fn put_events(alloc: Global, row: &Row, words: &mut Words) -> Result<(), RowError> {
+    let Ok(bytes) = row.bytes(alloc, 1) else {
+        return Err(RowError::Bytes(1));
+    };
+    if !put_decoded(bytes.as_slice(), words) {
+        words.word("-");
     }
-    Ok(text)
+    Ok(())
 }
 
-fn put_events(text: &mut String, bytes: &[u8]) -> Result<(), RowError> {
+/// Puts the events of the bytes; whether there were some.
+fn put_decoded(bytes: &[u8], words: &mut Words) -> bool {
     let mut decoder = Decoder::new();
+    let mut is_some = false;
     for byte in bytes {
         if let Some(event) = decoder.push(*byte) {
-            put_event(text, event)?;
+            put_event(event, words);
+            is_some = true;
         }
     }
-    Ok(())
+    is_some
 }
 
-fn put_event(text: &mut String, event: Event) -> Result<(), RowError> {
+fn put_event(event: Event, words: &mut Words) {
     let (word, number) = told(event);
-    put_word(text, word)?;
+    words.word(word);
     if let Some(number) = number {
-        write!(text, ":{number}")?;
+        words.put(":");
+        words.put_number(u64::from(number));
     }
-    Ok(())
 }
 
 /// The word of an event, and the byte that it is about.
@@ -82,7 +84,7 @@ fn numbered(kind: &str, number: &str, place: usize) -> Result<Event, RowError> {
 }
 
 /// `verb WORD`: the code of a verb.
-pub fn verb(alloc: Global, row: &Row) -> Result<String, RowError> {
+pub fn put_verb(row: &Row, words: &mut Words) -> Result<(), RowError> {
     let verb = match row.word(1)? {
         "will" => Verb::Will,
         "wont" => Verb::Wont,
@@ -90,12 +92,18 @@ pub fn verb(alloc: Global, row: &Row) -> Result<String, RowError> {
         "dont" => Verb::Dont,
         _ => return Err(RowError::Unknown(1)),
     };
-    Ok(format!(in alloc; "{}", verb.code())?)
+    words.number(u64::from(verb.code()));
+    Ok(())
 }
 
 /// `encode BYTES`: the bytes as they are sent.
-pub fn encoded(alloc: Global, row: &Row) -> Result<String, RowError> {
-    let bytes = row.bytes(alloc, 1)?;
-    let sent = encode(alloc, bytes.as_slice())?;
-    hexed(alloc, sent.as_slice())
+pub fn put_encoded(alloc: Global, row: &Row, words: &mut Words) -> Result<(), RowError> {
+    let Ok(bytes) = row.bytes(alloc, 1) else {
+        return Err(RowError::Bytes(1));
+    };
+    let Ok(sent) = encode(alloc, bytes.as_slice()) else {
+        return Err(RowError::OutOfMemory);
+    };
+    words.hexed(alloc, sent.as_slice());
+    Ok(())
 }

@@ -1,33 +1,50 @@
 //! The six files of a base.
 
+use crate::base::keep;
 use jb_base::{Bytes, OutOfMemory};
 use jb_disk::{FileId, MemDisk, SteadyDisk};
 use std::alloc::Global;
 use std::array;
-use trial_rows::{Row, RowError};
+use trial_rows::{Row, RowError, Words};
 
-/// The files in the order of their numbers.
-pub const ALL: [FileId; 6] = [
-    FileId::Jhr,
-    FileId::Jdt,
-    FileId::Jdx,
-    FileId::Jlr,
-    FileId::Jnl,
-    FileId::Ndt,
-];
+/// How many files there are.
+pub const COUNT: usize = 6;
 
-/// The extension of each, in that order.
-pub const NAMES: [&str; 6] = ["JHR", "JDT", "JDX", "JLR", "JNL", "NDT"];
+/// The file at this place, in the order of their numbers.
+pub fn file_at(place: usize) -> FileId {
+    match place {
+        0 => FileId::Jhr,
+        1 => FileId::Jdt,
+        2 => FileId::Jdx,
+        3 => FileId::Jlr,
+        4 => FileId::Jnl,
+        _ => FileId::Ndt,
+    }
+}
+
+/// The extension of a file.
+pub fn name_of(file: FileId) -> &'static str {
+    match file {
+        FileId::Jhr => "JHR",
+        FileId::Jdt => "JDT",
+        FileId::Jdx => "JDX",
+        FileId::Jlr => "JLR",
+        FileId::Jnl => "JNL",
+        FileId::Ndt => "NDT",
+    }
+}
 
 /// The file that a word names by its extension.
 pub fn file_named(row: &Row, place: usize) -> Result<FileId, RowError> {
-    let word = row.word(place)?;
-    for (file, name) in ALL.iter().zip(NAMES) {
-        if name == word {
-            return Ok(*file);
-        }
+    match row.word(place)? {
+        "JHR" => Ok(FileId::Jhr),
+        "JDT" => Ok(FileId::Jdt),
+        "JDX" => Ok(FileId::Jdx),
+        "JLR" => Ok(FileId::Jlr),
+        "JNL" => Ok(FileId::Jnl),
+        "NDT" => Ok(FileId::Ndt),
+        _ => Err(RowError::Unknown(place)),
     }
-    Err(RowError::Unknown(place))
 }
 
 /// What the files hold. One that was not given is empty.
@@ -44,42 +61,49 @@ impl BaseFiles {
         }
     }
 
+    /// None is given from now on.
+    pub fn clear(&mut self) {
+        self.six.clear();
+    }
+
     /// Gives the next file its bytes.
     pub fn push(&mut self, bytes: Bytes) -> Result<(), RowError> {
-        self.six.push(bytes)?;
-        Ok(())
+        keep(&mut self.six, bytes)
     }
 
     // Gives the next file these bytes.
     fn push_copy(&mut self, alloc: Global, bytes: &[u8]) -> Result<(), RowError> {
-        self.push(Bytes::copy(alloc, bytes)?)
+        match Bytes::copy(alloc, bytes) {
+            Ok(bytes) => self.push(bytes),
+            Err(_) => Err(RowError::OutOfMemory),
+        }
     }
 
-    /// A copy of these files.
-    pub fn copied(&self, alloc: Global) -> Result<BaseFiles, RowError> {
-        let mut files = BaseFiles::new(alloc);
-        for file in ALL {
-            files.push_copy(alloc, self.bytes(file))?;
+    /// Takes what the others hold.
+    pub fn take_files(&mut self, alloc: Global, others: &BaseFiles) -> Result<(), RowError> {
+        self.clear();
+        for place in 0..COUNT {
+            self.push_copy(alloc, others.at(place))?;
         }
-        Ok(files)
+        Ok(())
     }
 
-    /// The files of a disk.
-    pub fn of_disk(alloc: Global, disk: &MemDisk) -> Result<BaseFiles, RowError> {
-        let mut files = BaseFiles::new(alloc);
-        for file in ALL {
-            files.push_copy(alloc, disk.file(file))?;
+    /// Takes what a disk holds.
+    pub fn take_disk(&mut self, alloc: Global, disk: &MemDisk) -> Result<(), RowError> {
+        self.clear();
+        for place in 0..COUNT {
+            self.push_copy(alloc, disk.file(file_at(place)))?;
         }
-        Ok(files)
+        Ok(())
     }
 
-    /// The files of a disk on which each write is done at once.
-    pub fn of_steady_disk(alloc: Global, disk: &SteadyDisk) -> Result<BaseFiles, RowError> {
-        let mut files = BaseFiles::new(alloc);
-        for file in ALL {
-            files.push_copy(alloc, disk.file(file))?;
+    /// Takes what a disk holds on which each write is done at once.
+    pub fn take_steady_disk(&mut self, alloc: Global, disk: &SteadyDisk) -> Result<(), RowError> {
+        self.clear();
+        for place in 0..COUNT {
+            self.push_copy(alloc, disk.file(file_at(place)))?;
         }
-        Ok(files)
+        Ok(())
     }
 
     /// What stands at this place, in the order of the numbers.
@@ -104,54 +128,52 @@ impl BaseFiles {
 
     /// A disk with these files, which fails the calls with these numbers.
     pub fn disk(&self, alloc: Global, failing: Vec<u64>) -> Result<MemDisk, RowError> {
-        let files = self.array(alloc)?;
-        Ok(MemDisk::new(alloc, files, failing)?)
+        let Ok(files) = self.array(alloc) else {
+            return Err(RowError::OutOfMemory);
+        };
+        match MemDisk::new(alloc, files, failing) {
+            Ok(disk) => Ok(disk),
+            Err(_) => Err(RowError::OutOfMemory),
+        }
     }
 
     fn array(&self, alloc: Global) -> Result<[Bytes; 6], OutOfMemory> {
         array::try_from_fn(|place| Bytes::copy(alloc, self.at(place)))
     }
 
-    /// How long each is.
-    pub fn lengths(&self, alloc: Global) -> Result<String, RowError> {
-        let mut text = String::new(alloc);
-        for (name, file) in NAMES.iter().zip(ALL) {
-            append_length(alloc, name, self.bytes(file), &mut text)?;
+    /// Puts how long each is.
+    pub fn put_lengths(&self, words: &mut Words) {
+        for place in 0..COUNT {
+            put_length(name_of(file_at(place)), self.at(place), words);
         }
-        Ok(text)
     }
 
-    /// How long those are that the row names from this place on.
-    pub fn lengths_of(&self, alloc: Global, row: &Row, from: usize) -> Result<String, RowError> {
-        let mut text = String::new(alloc);
+    /// Puts how long those are that the row names from this place on.
+    pub fn put_lengths_of(
+        &self,
+        row: &Row,
+        from: usize,
+        words: &mut Words,
+    ) -> Result<(), RowError> {
         for place in from..row.len() {
             let file = file_named(row, place)?;
-            append_length(alloc, row.word(place)?, self.bytes(file), &mut text)?;
+            put_length(row.word(place)?, self.bytes(file), words);
         }
-        Ok(text)
+        Ok(())
     }
 
     /// The first file that holds something else than the other has.
     pub fn other_than(&self, others: &BaseFiles) -> Option<FileId> {
-        for file in ALL {
-            if self.bytes(file) != others.bytes(file) {
-                return Some(file);
+        for place in 0..COUNT {
+            if self.at(place) != others.at(place) {
+                return Some(file_at(place));
             }
         }
         None
     }
 }
 
-fn append_length(
-    alloc: Global,
-    name: &str,
-    bytes: &[u8],
-    text: &mut String,
-) -> Result<(), RowError> {
-    if !text.is_empty() {
-        text.push(' ')?;
-    }
-    let length = bytes.len();
-    text.push_str(format!(in alloc; "{name} {length}")?.as_str())?;
-    Ok(())
+fn put_length(name: &str, bytes: &[u8], words: &mut Words) {
+    words.word(name);
+    words.number(bytes.len() as u64);
 }

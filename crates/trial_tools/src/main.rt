@@ -17,39 +17,31 @@ use std::alloc::Global;
 use std::io;
 use std::sync::Wait;
 use std::thread::Threads;
-use trial_rows::{Row, RowError};
+use trial_rows::{Row, RowError, Words};
 
-/// What the row comes to. It may wait, since a session waits for the turn of an area.
-fn answer<R: Threads + Wait + Sync>(
+/// Puts what the row comes to. It may wait, since a session waits for the turn of an area.
+fn put<R: Threads + Wait + Sync>(
     rt: &R,
     files: HostRuntime,
     alloc: Global,
     row: &Row,
     base: &mut Base,
-) -> Result<String, RowError> {
+    words: &mut Words,
+) -> Result<(), RowError> {
     match row.word(0)? {
-        "part" => base::part(alloc, row, base),
-        "files" => base::files(alloc, row, base),
-        "patch" => base::patch(alloc, row, base),
-        "holds" => base::holds(alloc, row, base),
-        "bytes" => base::bytes(alloc, row, base),
-        "lengths" => base.files.lengths_of(alloc, row, 1),
-        "keep" => base::keep(alloc, base),
-        "kept" => base::kept(alloc, base),
-        "calls" => base::calls(alloc, base),
-        "tool" => using::tool(alloc, row, base),
-        "goes-on" => going::goes_on(alloc, row, base),
-        "stopped-make" => going::stopped_make(alloc, row, base),
-        "board" => running::run(rt, alloc, row, base),
-        "session" => running::session(rt, alloc, row, base),
-        "door" => serving::door(alloc, row, base),
-        "bell" => serving::bell(alloc, row, base),
-        "nodes" => serving::nodes(rt, alloc, row, base),
-        "sent" => serving::sent(alloc, row, base),
-        "load" => loading::load(alloc, row),
-        "load-on-disk" => loading::load_on_disk(alloc, row, base),
-        "real" => real::answer(files, alloc, row, base),
-        _ => Err(RowError::Unknown(0)),
+        "tool" => using::put_tool(alloc, row, base, words),
+        "goes-on" => going::put_gone_on(alloc, row, base, words),
+        "stopped-make" => going::put_stopped_make(alloc, row, base, words),
+        "board" => running::run(rt, alloc, row, base, words),
+        "session" => running::session(rt, alloc, row, base, words),
+        "door" => serving::add_door(alloc, row, base, words),
+        "bell" => serving::add_bell(alloc, row, base, words),
+        "nodes" => serving::nodes(rt, alloc, row, base, words),
+        "sent" => serving::put_sent(row, base, words),
+        "load" => loading::put_load(alloc, row, words),
+        "load-on-disk" => loading::put_load_on_disk(alloc, row, base, words),
+        "real" => real::put(files, alloc, row, base, words),
+        _ => base::put(alloc, row, base, words),
     }
 }
 
@@ -61,8 +53,14 @@ fn answer_line<R: Threads + Wait + Sync>(
     line: &str,
     base: &mut Base,
 ) -> Result<String, RowError> {
-    let row = Row::of(alloc, line)?;
-    answer(rt, files, alloc, &row, base)
+    let Ok(row) = Row::of(alloc, line) else {
+        return Err(RowError::OutOfMemory);
+    };
+    let mut words = Words::new(alloc);
+    match put(rt, files, alloc, &row, base, &mut words) {
+        Ok(()) => words.end(),
+        Err(error) => Err(error),
+    }
 }
 
 /// Prints what the row comes to, and a line that is none as it stands.

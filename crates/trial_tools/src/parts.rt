@@ -1,5 +1,6 @@
 //! Named bytes, and bytes that are put together.
 
+use crate::base::keep;
 use jb_base::Bytes;
 use std::alloc::Global;
 use trial_rows::{Row, RowError};
@@ -26,10 +27,11 @@ impl Parts {
     }
 
     /// Gives these bytes a name.
-    pub fn put(&mut self, alloc: Global, name: &str, bytes: Bytes) -> Result<(), RowError> {
-        let name = String::from_str(alloc, name)?;
-        self.parts.push(Part { name, bytes })?;
-        Ok(())
+    pub fn add(&mut self, alloc: Global, name: &str, bytes: Bytes) -> Result<(), RowError> {
+        match String::from_str(alloc, name) {
+            Ok(name) => keep(&mut self.parts, Part { name, bytes }),
+            Err(_) => Err(RowError::OutOfMemory),
+        }
     }
 
     /// The bytes with this name.
@@ -45,43 +47,53 @@ impl Parts {
     /// Puts one piece behind what is there: `=` and a name, or bytes, or bytes, `*` and how often.
     fn append(&self, alloc: Global, piece: &str, whole: &mut Bytes) -> Result<(), RowError> {
         if let Some(name) = piece.strip_prefix('=') {
-            whole.append(self.named(name)?)?;
-            return Ok(());
+            return append_often(self.named(name)?, 1, whole);
         }
         match piece.split_once('*') {
-            Some((bytes, count)) => append_often(alloc, bytes, count, whole),
-            None => append_once(alloc, piece, whole),
+            Some((bytes, count)) => append_read(alloc, bytes, often(count)?, whole),
+            None => append_read(alloc, piece, 1, whole),
         }
+    }
+
+    fn append_all(&self, alloc: Global, word: &str, whole: &mut Bytes) -> Result<(), RowError> {
+        for piece in word.split('+') {
+            self.append(alloc, piece, whole)?;
+        }
+        Ok(())
     }
 
     /// The bytes that a word writes: pieces with `+` between two.
     pub fn joined(&self, alloc: Global, word: &str) -> Result<Bytes, RowError> {
         let mut whole = Bytes::new(alloc);
-        for piece in word.split('+') {
-            self.append(alloc, piece, &mut whole)?;
+        match self.append_all(alloc, word, &mut whole) {
+            Ok(()) => Ok(whole),
+            Err(error) => Err(error),
         }
-        Ok(whole)
     }
 }
 
-fn append_once(alloc: Global, piece: &str, whole: &mut Bytes) -> Result<(), RowError> {
-    let row = Row::of(alloc, piece)?;
-    let bytes = row.bytes(alloc, 0)?;
-    whole.append(bytes.as_slice())?;
-    Ok(())
+/// How often a piece is put.
+fn often(count: &str) -> Result<u64, RowError> {
+    match count.parse::<u64>() {
+        Ok(count) => Ok(count),
+        Err(_) => Err(RowError::Number(0)),
+    }
 }
 
-fn append_often(
-    alloc: Global,
-    piece: &str,
-    count: &str,
-    whole: &mut Bytes,
-) -> Result<(), RowError> {
-    let count = Row::of(alloc, count)?.number(0)?;
-    let row = Row::of(alloc, piece)?;
-    let bytes = row.bytes(alloc, 0)?;
+/// Puts the bytes that a word of `trial_rows` writes so often behind what is there.
+fn append_read(alloc: Global, piece: &str, count: u64, whole: &mut Bytes) -> Result<(), RowError> {
+    let Ok(row) = Row::of(alloc, piece) else {
+        return Err(RowError::OutOfMemory);
+    };
+    match row.bytes(alloc, 0) {
+        Ok(bytes) => append_often(bytes.as_slice(), count, whole),
+        Err(error) => Err(error),
+    }
+}
+
+fn append_often(bytes: &[u8], count: u64, whole: &mut Bytes) -> Result<(), RowError> {
     for _ in 0..count {
-        whole.append(bytes.as_slice())?;
+        whole.append(bytes)?;
     }
     Ok(())
 }

@@ -2,10 +2,10 @@
 
 use crate::base::Base;
 use jb_base::Bytes;
-use jb_disk::MemDisk;
 use jb_tool::{Tool, ToolError, run};
 use std::alloc::Global;
-use trial_rows::{Row, RowError, shown};
+use std::fmt::Debug;
+use trial_rows::{Row, RowError, Words};
 
 /// The tool that a word names.
 pub fn tool_named(row: &Row, place: usize) -> Result<Tool, RowError> {
@@ -19,33 +19,38 @@ pub fn tool_named(row: &Row, place: usize) -> Result<Tool, RowError> {
     }
 }
 
-/// What a tool answered: the bytes to print, or its refusal.
-pub fn outcome(alloc: Global, answer: &Result<Bytes, ToolError>) -> Result<String, RowError> {
-    match answer {
-        Ok(text) => {
-            let text = shown(alloc, text.as_slice())?;
-            Ok(format!(in alloc; "done {text}")?)
-        }
-        Err(error) => Ok(format!(in alloc; "{error:?}")?),
+/// Puts what an error is.
+pub fn put_debug<E: Debug>(alloc: Global, error: &E, words: &mut Words) {
+    match format!(in alloc; "{error:?}") {
+        Ok(text) => words.word(text.as_str()),
+        Err(_) => words.word("no memory for the error"),
     }
 }
 
-/// What a tool answered. The base takes the files of its disk.
-fn used(
-    alloc: Global,
-    disk: &MemDisk,
-    answer: &Result<Bytes, ToolError>,
-    base: &mut Base,
-) -> Result<String, RowError> {
-    base.take(alloc, disk)?;
-    outcome(alloc, answer)
+/// Puts what a tool answered: the bytes to print, or its refusal.
+pub fn put_outcome(alloc: Global, answer: &Result<Bytes, ToolError>, words: &mut Words) {
+    match answer {
+        Ok(text) => {
+            words.word("done");
+            words.shown(text.as_slice());
+        }
+        Err(error) => put_debug(alloc, error, words),
+    }
 }
 
-/// `tool NAME MOMENT FAILING`: uses a tool on the base.
-pub fn tool(alloc: Global, row: &Row, base: &mut Base) -> Result<String, RowError> {
+/// `tool NAME MOMENT FAILING`: uses a tool on the base, which takes the files of its disk.
+pub fn put_tool(
+    alloc: Global,
+    row: &Row,
+    base: &mut Base,
+    words: &mut Words,
+) -> Result<(), RowError> {
     let tool = tool_named(row, 1)?;
     let moment = row.u32(2)?;
-    let disk = base.disk(alloc, row, 3)?;
+    let Ok(disk) = base.disk(alloc, row, 3) else {
+        return Err(RowError::Number(3));
+    };
     let (disk, answer) = run(alloc, disk, tool, moment);
-    used(alloc, &disk, &answer, base)
+    put_outcome(alloc, &answer, words);
+    base.take(alloc, &disk)
 }

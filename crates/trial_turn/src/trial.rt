@@ -1,45 +1,50 @@
 //! The rows.
-ghost use Rattle.std.specs.Prelude.{◌<◌, ◌≤◌, All, IfOk};
+ghost use Rattle.std.specs.Prelude.{◌<◌, ◌≤◌, All};
 ghost use Rattle.jb_turn.specs.Seats.{Rests};
 
 use crate::adding::{Adder, Adders, Total, add_often};
 use std::alloc::Global;
 use std::sync::Wait;
 use std::thread::{Threads, join};
-use trial_rows::{Row, RowError};
+use trial_rows::{Row, RowError, Words};
 
 /// The seats of a turn, at most.
 const MOST_SEATS: u32 = 33;
 
 /// Closes a turn without this seat, and then with it.
-fn closed(
-    alloc: Global,
+fn put_closed(
     turn: Adders,
     seats: Vec<Adder>,
     missing: Adder,
-) -> Result<String, RowError>
+    words: &mut Words,
+) -> Result<(), RowError>
     requires seats { All (Rests turn) seats.items }
     requires missing { Rests turn missing }
 {
     let Err((turn, mut seats, number)) = turn.close(seats) else {
-        return Ok(String::from_str(alloc, "closed without a seat")?);
+        words.word("closed without a seat");
+        return Ok(());
     };
-    seats.push(missing)?;
-    let end = end(alloc, turn, seats)?;
-    Ok(format!(in alloc; "missing {number}, then {end}")?)
+    words.word("missing");
+    words.number(u64::from(number));
+    words.put(", then");
+    let Ok(()) = seats.push(missing) else {
+        return Err(RowError::OutOfMemory);
+    };
+    put_end(turn, seats, words);
+    Ok(())
 }
 
 /// Closes a turn with these seats.
-fn end(alloc: Global, turn: Adders, seats: Vec<Adder>) -> Result<String, RowError>
+fn put_end(turn: Adders, seats: Vec<Adder>, words: &mut Words)
     requires { All (Rests turn) seats.items }
 {
-    match turn.close(seats) {
-        Ok(total) => {
-            let sum = total.sum;
-            Ok(format!(in alloc; "sum {sum}")?)
-        }
-        Err((_turn, _seats, number)) => Ok(format!(in alloc; "missing {number}")?),
-    }
+    let (what, number) = match turn.close(seats) {
+        Ok(total) => ("sum", total.sum),
+        Err((_turn, _seats, number)) => ("missing", u64::from(number)),
+    };
+    words.word(what);
+    words.number(number);
 }
 
 /// `threads OPENING TIMES`: in two threads the first and the second of three seats add 1 to a number so many times each; the
@@ -49,11 +54,18 @@ fn threads<R: Threads + Wait + Sync>(
     alloc: Global,
     opening: u64,
     times: u32,
-) -> Result<String, RowError> {
+    words: &mut Words,
+) -> Result<(), RowError> {
     let Ok((turn, mut seats)) = Adders::new(alloc, Total { sum: opening }, 3) else {
         return Err(RowError::OutOfMemory);
     };
-    let (Some(third), Some(second), Some(first)) = (seats.pop(), seats.pop(), seats.pop()) else {
+    let Some(third) = seats.pop() else {
+        return Err(RowError::OutOfMemory);
+    };
+    let Some(second) = seats.pop() else {
+        return Err(RowError::OutOfMemory);
+    };
+    let Some(first) = seats.pop() else {
         return Err(RowError::OutOfMemory);
     };
     let (first, second) = join(
@@ -67,27 +79,23 @@ fn threads<R: Threads + Wait + Sync>(
             ensures { Rests turn result }
         { add_often(rt, &turn, second, times) },
     );
-    seats.push(first)?;
-    seats.push(third)?;
-    closed(alloc, turn, seats, second)
+    let Ok(()) = seats.push(first) else {
+        return Err(RowError::OutOfMemory);
+    };
+    let Ok(()) = seats.push(third) else {
+        return Err(RowError::OutOfMemory);
+    };
+    put_closed(turn, seats, second, words)
 }
 
 /// Adds 1 so many times, lets the seat rest and wake, and writes its node.
-fn visited<R: Wait>(
-    rt: &R,
-    alloc: Global,
-    turn: &Adders,
-    seat: Adder,
-    times: u32,
-    words: &mut String,
-) -> Result<Adder, RowError>
+fn visited<R: Wait>(rt: &R, turn: &Adders, seat: Adder, times: u32, words: &mut Words) -> Adder
     requires { Rests turn.now seat }
-    ensures { IfOk result (λ seat. Rests turn.now seat) }
+    ensures { Rests turn.now result }
 {
     let resting = add_often(rt, turn, seat, times).rest();
-    let node = resting.node();
-    words.push_str(format!(in alloc; "{node} ")?.as_str())?;
-    Ok(resting.wake())
+    words.number(u64::from(resting.node()));
+    resting.wake()
 }
 
 /// `seats OPENING COUNT TIMES`: so many seats, the last one first, add 1 to a number so many times each, rest and wake, and the
@@ -98,34 +106,54 @@ fn seats<R: Wait>(
     opening: u64,
     count: u32,
     times: u32,
-) -> Result<String, RowError>
+    words: &mut Words,
+) -> Result<(), RowError>
     requires { (0 < count) × (count ≤ 33) }
 {
     let Ok((turn, mut seats)) = Adders::new(alloc, Total { sum: opening }, count) else {
         return Err(RowError::OutOfMemory);
     };
-    let mut done = Vec::with_capacity(alloc, count as usize)?;
-    let mut words = String::new(alloc);
+    let mut done = Vec::new(alloc);
     for _ in 0..count {
         let Some(seat) = seats.pop() else {
             return Err(RowError::OutOfMemory);
         };
-        let seat = visited(rt, alloc, &turn, seat, times, &mut words)?;
-        done.push(seat)?;
+        let Ok(()) = done.push(visited(rt, &turn, seat, times, words)) else {
+            return Err(RowError::OutOfMemory);
+        };
     }
-    words.push_str(end(alloc, turn, done)?.as_str())?;
-    Ok(words)
+    put_end(turn, done, words);
+    Ok(())
 }
 
 /// `seats OPENING COUNT TIMES`, where a turn may have so many seats.
-fn some_seats<R: Wait>(rt: &R, alloc: Global, row: &Row) -> Result<String, RowError> {
+fn some_seats<R: Wait>(
+    rt: &R,
+    alloc: Global,
+    row: &Row,
+    words: &mut Words,
+) -> Result<(), RowError> {
     let opening = row.number(1)?;
     let count = row.u32(2)?;
     let times = row.u32(3)?;
     if count == 0 || count > MOST_SEATS {
         return Err(RowError::Unknown(2));
     }
-    seats(rt, alloc, opening, count, times)
+    seats(rt, alloc, opening, count, times, words)
+}
+
+/// What is written for this row.
+fn put<R: Threads + Wait + Sync>(
+    rt: &R,
+    alloc: Global,
+    row: &Row,
+    words: &mut Words,
+) -> Result<(), RowError> {
+    match row.word(0)? {
+        "threads" => threads(rt, alloc, row.number(1)?, row.u32(2)?, words),
+        "seats" => some_seats(rt, alloc, row, words),
+        _ => Err(RowError::Unknown(0)),
+    }
 }
 
 /// The line that is written for this row.
@@ -134,10 +162,12 @@ pub fn answer<R: Threads + Wait + Sync>(
     alloc: Global,
     line: &str,
 ) -> Result<String, RowError> {
-    let row = Row::of(alloc, line)?;
-    match row.word(0)? {
-        "threads" => threads(rt, alloc, row.number(1)?, row.u32(2)?),
-        "seats" => some_seats(rt, alloc, &row),
-        _ => Err(RowError::Unknown(0)),
+    let Ok(row) = Row::of(alloc, line) else {
+        return Err(RowError::OutOfMemory);
+    };
+    let mut words = Words::new(alloc);
+    match put(rt, alloc, &row, &mut words) {
+        Ok(()) => words.end(),
+        Err(error) => Err(error),
     }
 }
