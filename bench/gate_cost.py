@@ -6,7 +6,10 @@ seconds of its proof, of the proofs of its tests and of its must-fail edits, and
 
 With -p the run gets that many processors; with names, these crates and those below them alone. It takes as long as the gate. The
 seconds are read from /proc twice a second, so of each process up to half a second is missing; what is attributed to no crate is
-shown beside what the system counted."""
+shown beside what the system counted.
+
+How fast the processors were is shown too: beside the run a fixed loop is timed on them every twenty seconds. Where others use the
+cores, as on most virtual machines, its mean is well above its quickest, and two runs compare only by what it took."""
 import argparse
 import os
 import re
@@ -15,6 +18,7 @@ import shutil
 import subprocess
 import sys
 import tempfile
+import threading
 import time
 from collections import defaultdict
 
@@ -80,6 +84,31 @@ class Watch:
         return found
 
 
+class Speed:
+    """What a fixed loop takes beside a run, in processor seconds."""
+
+    EVERY = 20
+
+    def __init__(self):
+        self.took, self.ended = [], threading.Event()
+        self.thread = threading.Thread(target=self.run, daemon=True)
+        self.thread.start()
+
+    def run(self):
+        while not self.ended.is_set():
+            began, x = time.thread_time(), 0
+            for i in range(1_000_000):
+                x += i * i % 7
+            self.took.append(time.thread_time() - began)
+            self.ended.wait(self.EVERY)
+
+    def end(self):
+        self.ended.set()
+        self.thread.join()
+        took = sorted(self.took)
+        return took[0], took[len(took) // 2], sum(took) / len(took)
+
+
 def uses_of(path):
     with open(path) as file:
         lines = [line.split("#")[0] for line in file]
@@ -113,11 +142,12 @@ def main():
         uses, began = uses_of(f"{copy}/crates.txt"), time.monotonic()
         with open(f"{room}/log", "w+") as log:
             gate = subprocess.Popen(["rt", "ci", "--anew", *given.names], cwd=copy, stdin=subprocess.DEVNULL, stdout=log, stderr=log)
-            watch = Watch(gate.pid)
+            watch, speed = Watch(gate.pid), Speed()
             while gate.poll() is None:
                 watch.look()
                 time.sleep(0.5)
             took = time.monotonic() - began
+            quickest, middle, mean = speed.end()
             log.seek(0)
             said = log.read()
     verdict = said.rstrip().rpartition("\n")[2]
@@ -130,6 +160,7 @@ def main():
     sums = {kind: sum(row[kind] for _, row in rows) for kind in KINDS}
     print(f"{'all crates':<16}" + "".join(f"{sums[kind]:>8.0f}" for kind in KINDS) + f"{sum(sums.values()):>8.0f}")
     print(f"counted by the system: {counted.ru_utime + counted.ru_stime:.0f} processor seconds in {took:.0f} s on {given.p} processors")
+    print(f"a loop beside it: quickest {quickest:.3f} s, middle {middle:.3f} s, mean {mean:.3f} s: {mean / quickest:.2f} times its quickest")
     most, chain = longest_chain(uses, lambda name: 1)
     print(f"longest chain: {most} crates, {' '.join(chain)}")
     most, chain = longest_chain(uses, lambda name: table[name]["proof"] if name in table else 0)
