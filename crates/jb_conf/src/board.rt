@@ -4,7 +4,6 @@ use crate::{BoardAreas, BoardUsers, Text};
 use jb_base::{AreaRules, Bytes, Name, User};
 
 /// A board, as its settings file says it.
-#[derive(Drop)]
 pub struct Board {
     /// What it calls itself: 1 to 36 printable bytes.
     pub name: Name,
@@ -24,8 +23,23 @@ pub struct Board {
     pub users: BoardUsers,
 }
 
+// Whoever lets go of one does so in one call.
+impl Drop for Board {
+    fn drop(self) {
+        let Board {
+            name: _name,
+            address: _address,
+            port: _port,
+            nodes: _nodes,
+            offset: _offset,
+            pack_minutes: _pack_minutes,
+            areas: _areas,
+            users: _users,
+        } = self;
+    }
+}
+
 /// An area of a board.
-#[derive(Drop)]
 pub struct BoardArea {
     /// What the menus call it: 1 to 24 printable bytes.
     pub name: Name,
@@ -37,8 +51,19 @@ pub struct BoardArea {
     pub rules: AreaRules,
 }
 
+// Whoever lets go of one does so in one call.
+impl Drop for BoardArea {
+    fn drop(self) {
+        let BoardArea {
+            name: _name,
+            dir: _dir,
+            base: _base,
+            rules: _rules,
+        } = self;
+    }
+}
+
 /// Someone who may log in.
-#[derive(Drop)]
 pub struct BoardUser {
     /// The name, the number and the level.
     pub user: User,
@@ -46,4 +71,15 @@ pub struct BoardUser {
     pub salt: Bytes,
     /// The SHA-256 of salt and password.
     pub digest: [u8; 32],
+}
+
+// Whoever lets go of one does so in one call.
+impl Drop for BoardUser {
+    fn drop(self) {
+        let BoardUser {
+            user: _user,
+            salt: _salt,
+            digest: _digest,
+        } = self;
+    }
 }

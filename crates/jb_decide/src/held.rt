@@ -23,12 +23,23 @@ use std::marker::Model;
 /// how many messages are live, the places of the marks by their users, four bytes each, and the replies by what they answer,
 /// with room for as many marks and slots as an area may have, so that a change takes no memory. The marks themselves stand once,
 /// in what is loaded.
-#[derive(Drop)]
 pub struct Held {
     loaded: Loaded,
     live: u32,
     mark_index: MarkIndex,
     replies: Replies,
+}
+
+// Whoever lets go of one does so in one call.
+impl Drop for Held {
+    fn drop(self) {
+        let Held {
+            loaded: _loaded,
+            live: _live,
+            mark_index: _mark_index,
+            replies: _replies,
+        } = self;
+    }
 }
 
 impl Model for Held {

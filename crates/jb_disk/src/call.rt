@@ -3,7 +3,6 @@
 use crate::FileId;
 
 /// A call of a disk, as far as it may have changed a file. One that is not `done` changed nothing of what is read.
-#[derive(Drop)]
 pub enum Call {
     /// A length, a read, a call past an end, or a sync that failed.
     NoChange,
@@ -24,4 +23,25 @@ pub enum Call {
     Synced {
         file: FileId,
     },
+}
+
+// Whoever lets go of one does so in one call.
+impl Drop for Call {
+    fn drop(self) {
+        match self {
+            Call::NoChange => {}
+            Call::Wrote {
+                file: _file,
+                at: _at,
+                bytes: _bytes,
+                done: _done,
+            } => {}
+            Call::Resized {
+                file: _file,
+                len: _len,
+                done: _done,
+            } => {}
+            Call::Synced { file: _file } => {}
+        }
+    }
 }

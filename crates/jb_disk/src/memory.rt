@@ -18,7 +18,6 @@ use std::marker::Model;
 /// Six files in memory. The disk keeps all its calls, so that it tells every image that the trait allows, and it fails
 /// those whose numbers it was given: such a call changes nothing of what is read, and a crash may leave it half made.
 /// Want of memory is a fault of the device.
-#[derive(Drop)]
 pub struct MemDisk {
     alloc: Global,
     first: [Bytes; 6],
@@ -26,6 +25,20 @@ pub struct MemDisk {
     calls: Vec<Call>,
     failing: Vec<u64>,
     faults: u64,
+}
+
+// Whoever lets go of one does so in one call.
+impl Drop for MemDisk {
+    fn drop(self) {
+        let MemDisk {
+            alloc: _alloc,
+            first: _first,
+            present: _present,
+            calls: _calls,
+            failing: _failing,
+            faults: _faults,
+        } = self;
+    }
 }
 
 impl Model for MemDisk {

@@ -11,7 +11,6 @@ pub struct Length {
 }
 
 /// Bytes that are written into a file: given ones, or some that another file holds.
-#[derive(Drop)]
 pub enum Piece {
     Bytes {
         file: FileId,
@@ -25,6 +24,26 @@ pub enum Piece {
         to_at: u32,
         len: u32,
     },
+}
+
+// Whoever lets go of one does so in one call.
+impl Drop for Piece {
+    fn drop(self) {
+        match self {
+            Piece::Bytes {
+                file: _file,
+                at: _at,
+                bytes: _bytes,
+            } => {}
+            Piece::Copy {
+                from: _from,
+                from_at: _from_at,
+                to: _to,
+                to_at: _to_at,
+                len: _len,
+            } => {}
+        }
+    }
 }
 
 /// A piece without its bytes. Where it is no copy, `from` is `to` and `from_at` is 0.

@@ -11,11 +11,21 @@ use std::marker::Model;
 
 /// New lengths and pieces, with spare room for more. The bytes of all pieces stand in one buffer, one after another, so
 /// that a change made anew in the same room takes no memory.
-#[derive(Drop)]
 pub struct Redo {
     lengths: Vec<Length>,
     kept: Vec<Kept>,
     buffer: Vec<u8>,
+}
+
+// Whoever lets go of one does so in one call.
+impl Drop for Redo {
+    fn drop(self) {
+        let Redo {
+            lengths: _lengths,
+            kept: _kept,
+            buffer: _buffer,
+        } = self;
+    }
 }
 
 /// A piece, and where its bytes begin in the buffer.

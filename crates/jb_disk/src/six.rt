@@ -8,7 +8,6 @@ use jb_base::{Bytes, OutOfMemory};
 use std::alloc::Global;
 
 /// The bytes of each file.
-#[derive(Drop)]
 pub(crate) struct Six {
     jhr: Vec<u8>,
     jdt: Vec<u8>,
@@ -16,6 +15,20 @@ pub(crate) struct Six {
     jlr: Vec<u8>,
     jnl: Vec<u8>,
     ndt: Vec<u8>,
+}
+
+// Whoever lets go of one does so in one call.
+impl Drop for Six {
+    fn drop(self) {
+        let Six {
+            jhr: _jhr,
+            jdt: _jdt,
+            jdx: _jdx,
+            jlr: _jlr,
+            jnl: _jnl,
+            ndt: _ndt,
+        } = self;
+    }
 }
 
 impl Six {

@@ -18,12 +18,23 @@ const SPOILT: u8 = 0xA5;
 
 /// A file as it was last synced, as it is read now, and as it was synced but with 0xA5 in each byte that was written since
 /// and cut to the least length since; with the greatest length since.
-#[derive(Drop)]
 pub(crate) struct Trace {
     synced: Vec<u8>,
     written: Vec<u8>,
     marred: Vec<u8>,
     greatest: usize,
+}
+
+// Whoever lets go of one does so in one call.
+impl Drop for Trace {
+    fn drop(self) {
+        let Trace {
+            synced: _synced,
+            written: _written,
+            marred: _marred,
+            greatest: _greatest,
+        } = self;
+    }
 }
 
 impl Trace {

@@ -9,7 +9,6 @@ use std::rt::Files;
 use std::{fs, io};
 
 /// A file of the system, which may not be there.
-#[derive(Drop)]
 pub(crate) struct RealFile {
     path: String,
     open: Open,
@@ -18,12 +17,34 @@ pub(crate) struct RealFile {
     has_failed_sync: bool,
 }
 
+// Whoever lets go of one does so in one call.
+impl Drop for RealFile {
+    fn drop(self) {
+        let RealFile {
+            path: _path,
+            open: _open,
+            known_len: _known_len,
+            has_failed_sync: _has_failed_sync,
+        } = self;
+    }
+}
+
 // How far it is open.
-#[derive(Drop)]
 enum Open {
     Closed,
     ToRead(File),
     ToWrite(File),
+}
+
+// Whoever lets go of one does so in one call.
+impl Drop for Open {
+    fn drop(self) {
+        match self {
+            Open::Closed => {}
+            Open::ToRead(_held) => {}
+            Open::ToWrite(_held) => {}
+        }
+    }
 }
 
 impl RealFile {

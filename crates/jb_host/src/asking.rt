@@ -57,11 +57,21 @@ pub(crate) fn settings_call(alloc: Global, path: &str) -> Result<Call, HostError
 
 /// The calls that a host answered other than for want of memory, in order, those of them that it is to fail, and how often it has
 /// failed.
-#[derive(Drop)]
 pub struct Asking {
     calls: Vec<Call>,
     failing: Failing,
     faults: u64,
+}
+
+// Whoever lets go of one does so in one call.
+impl Drop for Asking {
+    fn drop(self) {
+        let Asking {
+            calls: _calls,
+            failing: _failing,
+            faults: _faults,
+        } = self;
+    }
 }
 
 impl Asking {

@@ -7,11 +7,20 @@ use jb_base::OutOfMemory;
 use std::alloc::Global;
 
 /// The doors that wait to be handed out, in order, and those that were, the last one first. It keeps a place for each that waits.
-#[derive(Drop)]
 pub struct Entrances {
     waiting: Vec<MemDoor>,
     handed: Vec<HandedOut>,
     ghost roomy: { vec_len waiting + vec_len handed ≤ vec_capacity handed },
+}
+
+// Whoever lets go of one does so in one call.
+impl Drop for Entrances {
+    fn drop(self) {
+        let Entrances {
+            waiting: _waiting,
+            handed: _handed,
+        } = self;
+    }
 }
 
 impl Entrances {

@@ -8,7 +8,6 @@ use std::alloc::Global;
 
 /// A link with an input that is there from the start, and an output that is kept. It fails the calls whose numbers, from 1,
 /// it was given; such a call takes and sends nothing. Want of memory for the output is a failure of the link.
-#[derive(Drop)]
 pub struct MemLink {
     input: Bytes,
     at: usize,
@@ -18,6 +17,21 @@ pub struct MemLink {
     ends: u64,
     unsent: u64,
     ghost within: { at ≤ length input },
+}
+
+// Whoever lets go of one does so in one call.
+impl Drop for MemLink {
+    fn drop(self) {
+        let MemLink {
+            input: _input,
+            at: _at,
+            output: _output,
+            failing: _failing,
+            faults: _faults,
+            ends: _ends,
+            unsent: _unsent,
+        } = self;
+    }
 }
 
 /// Puts as many bytes as there is place for into a slice, and answers how many.

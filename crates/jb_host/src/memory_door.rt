@@ -9,7 +9,6 @@ use std::alloc::Global;
 
 /// A door that gives its links in order and is then shut, and keeps those that are hung up. It fails the calls of `accept` whose
 /// numbers, from 1, it was given; such a call gives nothing.
-#[derive(Drop)]
 pub struct MemDoor {
     links: Vec<MemLink>,
     hung: Vec<MemLink>,
@@ -17,6 +16,19 @@ pub struct MemDoor {
     faults: u64,
     is_shut: bool,
     ghost roomy: { vec_len links + vec_len hung ≤ vec_capacity hung },
+}
+
+// Whoever lets go of one does so in one call.
+impl Drop for MemDoor {
+    fn drop(self) {
+        let MemDoor {
+            links: _links,
+            hung: _hung,
+            failing: _failing,
+            faults: _faults,
+            is_shut: _is_shut,
+        } = self;
+    }
 }
 
 impl MemDoor {

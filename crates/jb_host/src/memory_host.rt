@@ -21,7 +21,6 @@ use std::alloc::Global;
 /// A host with a console, disks, settings, doors, a bell and clocks in memory. It fails the calls for a disk, settings, a door or the
 /// bell whose numbers, from 1, it was given, and those for a base, a file, a door or a bell that it does not have; it tells all that a
 /// host may tell.
-#[derive(Drop)]
 pub struct MemHost {
     alloc: Global,
     console: Option<MemLink>,
@@ -31,6 +30,22 @@ pub struct MemHost {
     entrances: Entrances,
     belfry: Belfry,
     asking: Asking,
+}
+
+// Whoever lets go of one does so in one call.
+impl Drop for MemHost {
+    fn drop(self) {
+        let MemHost {
+            alloc: _alloc,
+            console: _console,
+            reading: _reading,
+            shelves: _shelves,
+            pages: _pages,
+            entrances: _entrances,
+            belfry: _belfry,
+            asking: _asking,
+        } = self;
+    }
 }
 
 impl MemHost {

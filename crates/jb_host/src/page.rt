@@ -7,10 +7,19 @@ use jb_base::Bytes;
 use std::alloc::Global;
 
 /// A settings file.
-#[derive(Drop)]
 pub struct Page {
     pub(crate) path: Bytes,
     pub(crate) bytes: Bytes,
+}
+
+// Whoever lets go of one does so in one call.
+impl Drop for Page {
+    fn drop(self) {
+        let Page {
+            path: _path,
+            bytes: _bytes,
+        } = self;
+    }
 }
 
 /// The bytes of the first page with this path.

@@ -8,11 +8,21 @@ use jb_base::Bytes;
 use jb_disk::MemDisk;
 
 /// A place for the disk of one base.
-#[derive(Drop)]
 pub struct Shelf {
     pub(crate) dir: Bytes,
     pub(crate) name: Bytes,
     pub(crate) disk: Option<MemDisk>,
+}
+
+// Whoever lets go of one does so in one call.
+impl Drop for Shelf {
+    fn drop(self) {
+        let Shelf {
+            dir: _dir,
+            name: _name,
+            disk: _disk,
+        } = self;
+    }
 }
 
 /// The place of the first shelf with this folder and name.

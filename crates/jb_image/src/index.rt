@@ -41,10 +41,19 @@ pub(crate) fn read_entry<D: Disk>(
 }
 
 /// The slots whose headers were read, in the order of the index, and what is wrong with the next one, if something is.
-#[derive(Drop)]
 pub(crate) struct Seen {
     pub(crate) slots: Vec<SeenSlot>,
     pub(crate) damage: Option<Damage>,
+}
+
+// Whoever lets go of one does so in one call.
+impl Drop for Seen {
+    fn drop(self) {
+        let Seen {
+            slots: _slots,
+            damage: _damage,
+        } = self;
+    }
 }
 
 /// The slots of the index up to the first whose header is damaged, as far as that is seen without the subfields. At

@@ -24,7 +24,6 @@ use std::marker::Model;
 
 /// The summaries of an area's live messages in rising order of their numbers, its marks, its base number and next number,
 /// and its rules. There is room for as many summaries as the rules have slots, and for 65,000 marks.
-#[derive(Drop)]
 pub struct Index {
     summaries: Tiered<Summary>,
     marks: Marks,
@@ -32,6 +31,20 @@ pub struct Index {
     next: u32,
     rules: AreaRules,
     alloc: Global,
+}
+
+// Whoever lets go of one does so in one call.
+impl Drop for Index {
+    fn drop(self) {
+        let Index {
+            summaries: _summaries,
+            marks: _marks,
+            base: _base,
+            next: _next,
+            rules: _rules,
+            alloc: _alloc,
+        } = self;
+    }
 }
 
 impl Model for Index {

@@ -9,7 +9,6 @@ use std::marker::Model;
 
 /// One edit of an index. It changes what it names and moves no other summary; what does not fit the room of the index
 /// changes nothing.
-#[derive(Drop)]
 pub enum OpEdit {
     /// The summary of a message: it takes the place of the one with its number, or comes between the others. The next
     /// number is then above its number.
@@ -26,6 +25,27 @@ pub enum OpEdit {
     Mark(Mark),
     /// All summaries, all marks and both numbers are those of another index.
     Reset(Index),
+}
+
+// Whoever lets go of one does so in one call.
+impl Drop for OpEdit {
+    fn drop(self) {
+        match self {
+            OpEdit::Put(_held) => {}
+            OpEdit::Drop { number: _number } => {}
+            OpEdit::Parent {
+                number: _number,
+                parent: _parent,
+            } => {}
+            OpEdit::Attribute {
+                number: _number,
+                attribute: _attribute,
+            } => {}
+            OpEdit::Base { base: _base } => {}
+            OpEdit::Mark(_held) => {}
+            OpEdit::Reset(_held) => {}
+        }
+    }
 }
 
 /// What a change of an area does to its index: edits, in order. Contracts see the list of them.

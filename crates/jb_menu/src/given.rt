@@ -4,7 +4,6 @@ use jb_line::Line;
 use jb_model::{Answer, Reply, SharedFault};
 
 /// What a menu is given: a line, or what came of its last move.
-#[derive(Drop)]
 pub enum Given {
     /// A line that was typed, without its end.
     Line(Line),
@@ -16,4 +15,17 @@ pub enum Given {
     Count(u32),
     /// In place of each of these answers, why there is none.
     Fault(SharedFault),
+}
+
+// Whoever lets go of one does so in one call.
+impl Drop for Given {
+    fn drop(self) {
+        match self {
+            Given::Line(_held) => {}
+            Given::Reply(_held) => {}
+            Given::Answer(_held) => {}
+            Given::Count(_held) => {}
+            Given::Fault(_held) => {}
+        }
+    }
 }

@@ -1,9 +1,12 @@
 //! Where a menu is.
 
+ghost use Rattle.std.specs.Prelude.{◌≡◌};
+ghost use Rattle.jb_model.specs.declared.command.Command.TheVariants.{Post};
+
 use jb_base::{Bytes, Name};
+use jb_model::Command;
 
 /// What is kept of the message that was shown last, to answer it.
-#[derive(Drop)]
 pub struct Shown {
     pub number: u32,
     pub from: Name,
@@ -11,21 +14,75 @@ pub struct Shown {
     pub private: bool,
 }
 
+// Whoever lets go of one does so in one call.
+impl Drop for Shown {
+    fn drop(self) {
+        let Shown {
+            number: _number,
+            from: _from,
+            subject: _subject,
+            private: _private,
+        } = self;
+    }
+}
+
 /// A user in an area, each by its place on the board, and the message that was shown last since the user entered it.
-#[derive(Drop)]
 pub struct Visit {
     pub user: u32,
     pub area: u32,
     pub shown: Option<Shown>,
 }
 
+// Whoever lets go of one does so in one call.
+impl Drop for Visit {
+    fn drop(self) {
+        let Visit {
+            user: _user,
+            area: _area,
+            shown: _shown,
+        } = self;
+    }
+}
+
 /// A message that is written: all of it but its text. It answers no message where that number is 0.
-#[derive(Drop)]
 pub struct Draft {
     pub to: Name,
     pub subject: Bytes,
     pub reply_to: u32,
     pub private: bool,
+}
+
+// Whoever lets go of one does so in one call.
+impl Drop for Draft {
+    fn drop(self) {
+        let Draft {
+            to: _to,
+            subject: _subject,
+            reply_to: _reply_to,
+            private: _private,
+        } = self;
+    }
+}
+
+impl Draft {
+    /// The command that posts it with this text.
+    pub(crate) fn posted(self, text: Bytes) -> Command
+        ensures { result ≡ Post self.to self.subject text self.reply_to self.private }
+    {
+        let Draft {
+            to,
+            subject,
+            reply_to,
+            private,
+        } = self;
+        Command::Post {
+            to,
+            subject,
+            text,
+            reply_to,
+            private,
+        }
+    }
 }
 
 /// What a menu waits for in an area.

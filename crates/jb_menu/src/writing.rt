@@ -12,7 +12,6 @@ use crate::moves::Moved;
 use crate::state::{Draft, Shown, Stage, State, Visit};
 use jb_base::{Bytes, MOST_POSTED_TEXT_BYTES, MOST_SUBJECT_BYTES, Name, OutOfMemory};
 use jb_conf::Board;
-use jb_model::Command;
 use jb_text::{Fixed, fixed, replying};
 use std::alloc::Global;
 
@@ -178,14 +177,7 @@ pub fn private(
 fn post(visit: Visit, draft: Draft, text: Bytes) -> Moved
     ensures { result ≡ post_row visit draft text }
 {
-    let command = Command::Post {
-        to: draft.to,
-        subject: draft.subject,
-        text,
-        reply_to: draft.reply_to,
-        private: draft.private,
-    };
-    ask(visit, command, Stage::Acting)
+    ask(visit, draft.posted(text), Stage::Acting)
 }
 
 /// A text with this line behind it.

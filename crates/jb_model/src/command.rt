@@ -3,7 +3,7 @@
 use jb_base::{Bytes, Name, User};
 
 /// One act on an area. Numbers are message numbers; 0 names no message.
-#[derive(Debug, Drop)]
+#[derive(Debug)]
 pub enum Command {
     /// A new message to this receiver, in reply to a message or to none, with PRIVATE where it is private.
     Post {
@@ -35,6 +35,27 @@ pub enum Command {
     Relink,
 }
 
+// Whoever lets go of one does so in one call.
+impl Drop for Command {
+    fn drop(self) {
+        match self {
+            Command::Post {
+                to: _to,
+                subject: _subject,
+                text: _text,
+                reply_to: _reply_to,
+                private: _private,
+            } => {}
+            Command::Read { number: _number } => {}
+            Command::Peek { number: _number } => {}
+            Command::Kill { number: _number } => {}
+            Command::SetMark { number: _number } => {}
+            Command::Pack => {}
+            Command::Relink => {}
+        }
+    }
+}
+
 /// A part of a message that is posted.
 #[derive(Clone, Copy, Debug, PartialEq, Eq)]
 pub enum Field {
@@ -44,9 +65,19 @@ pub enum Field {
 }
 
 /// A command with the user who asks and the moment at which it is asked, in seconds since 1970.
-#[derive(Drop)]
 pub struct Asked {
     pub user: User,
     pub moment: u32,
     pub command: Command,
+}
+
+// Whoever lets go of one does so in one call.
+impl Drop for Asked {
+    fn drop(self) {
+        let Asked {
+            user: _user,
+            moment: _moment,
+            command: _command,
+        } = self;
+    }
 }

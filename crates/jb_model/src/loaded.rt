@@ -11,7 +11,7 @@ use std::marker::Model;
 
 /// A live message: the UserCRC of its index record, its header and subfields, the place of its header in .JHR, and the
 /// place and length of its text in .JDT, in bytes.
-#[derive(Debug, Drop)]
+#[derive(Debug)]
 pub struct LoadedMessage {
     pub owner: u32,
     pub head: Head,
@@ -21,13 +21,40 @@ pub struct LoadedMessage {
     pub text_len: u32,
 }
 
+// Whoever lets go of one does so in one call.
+impl Drop for LoadedMessage {
+    fn drop(self) {
+        let LoadedMessage {
+            owner: _owner,
+            head: _head,
+            subfields: _subfields,
+            header_at: _header_at,
+            text_at: _text_at,
+            text_len: _text_len,
+        } = self;
+    }
+}
+
 /// What a number of the area names: nothing, a killed message, of which only the place of its header is known, or a live
 /// one.
-#[derive(Debug, Drop)]
+#[derive(Debug)]
 pub enum LoadedSlot {
     Empty,
     Killed { header_at: u32 },
     Live(LoadedMessage),
+}
+
+// Whoever lets go of one does so in one call.
+impl Drop for LoadedSlot {
+    fn drop(self) {
+        match self {
+            LoadedSlot::Empty => {}
+            LoadedSlot::Killed {
+                header_at: _header_at,
+            } => {}
+            LoadedSlot::Live(_held) => {}
+        }
+    }
 }
 
 /// The slots of an area; the slot at place i has the number base plus i. Contracts see the list of them. There is always
@@ -120,7 +147,6 @@ impl LoadedSlots {
 
 /// An area without its texts: the fields of the fixed header (datecreated, modcounter, activemsgs, passwordcrc, the
 /// reserved bytes, basemsgnum), the slots, the marks, and the lengths of .JHR and .JDT in bytes.
-#[derive(Drop)]
 pub struct Loaded {
     pub created: u32,
     pub counter: u32,
@@ -132,4 +158,22 @@ pub struct Loaded {
     pub marks: LoadedMarks,
     pub headers_len: u64,
     pub texts_len: u64,
+}
+
+// Whoever lets go of one does so in one call.
+impl Drop for Loaded {
+    fn drop(self) {
+        let Loaded {
+            created: _created,
+            counter: _counter,
+            active: _active,
+            password: _password,
+            reserved: _reserved,
+            base: _base,
+            slots: _slots,
+            marks: _marks,
+            headers_len: _headers_len,
+            texts_len: _texts_len,
+        } = self;
+    }
 }

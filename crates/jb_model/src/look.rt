@@ -19,10 +19,19 @@ pub enum Question {
 }
 
 /// The answer to a question: figures to [`Question::Figures`], else summaries.
-#[derive(Drop)]
 pub enum Answer {
     Summaries(Summaries),
     Figures(Figures),
+}
+
+// Whoever lets go of one does so in one call.
+impl Drop for Answer {
+    fn drop(self) {
+        match self {
+            Answer::Summaries(_held) => {}
+            Answer::Figures(_held) => {}
+        }
+    }
 }
 
 /// Why a call on a shared area has no reply.

@@ -5,7 +5,7 @@ use jb_base::{Bytes, Name, Rule};
 
 /// A message as it is shown. Sender, receiver, subject, MSGID and REPLYID are the data of the first subfield of their kind,
 /// empty where there is none; the links are the fields of the header, 0 for none; dates are seconds since 1970.
-#[derive(Debug, Drop)]
+#[derive(Debug)]
 pub struct Letter {
     pub number: u32,
     pub from: Name,
@@ -21,8 +21,28 @@ pub struct Letter {
     pub text: Bytes,
 }
 
+// Whoever lets go of one does so in one call.
+impl Drop for Letter {
+    fn drop(self) {
+        let Letter {
+            number: _number,
+            from: _from,
+            to: _to,
+            subject: _subject,
+            msgid: _msgid,
+            reply: _reply,
+            written: _written,
+            attribute: _attribute,
+            reply_to: _reply_to,
+            reply_first: _reply_first,
+            reply_next: _reply_next,
+            text: _text,
+        } = self;
+    }
+}
+
 /// The answer to a command. From `Denied` on it is a refusal, and the area is as it was.
-#[derive(Debug, Drop)]
+#[derive(Debug)]
 pub enum Reply {
     /// The new message has this number.
     Posted { number: u32 },
@@ -54,4 +74,37 @@ pub enum Reply {
     NumbersSpent { next: u32 },
     /// The user has no mark, and there are as many as an area may have.
     MarksFull { marks: u32 },
+}
+
+// Whoever lets go of one does so in one call.
+impl Drop for Reply {
+    fn drop(self) {
+        match self {
+            Reply::Posted { number: _number } => {}
+            Reply::Text { letter: _letter } => {}
+            Reply::Killed { number: _number } => {}
+            Reply::Marked {
+                last: _last,
+                high: _high,
+            } => {}
+            Reply::Packed {
+                base: _base,
+                live: _live,
+                dropped: _dropped,
+            } => {}
+            Reply::Relinked { changed: _changed } => {}
+            Reply::Denied { rule: _rule } => {}
+            Reply::NoMessage { number: _number } => {}
+            Reply::TooLong {
+                field: _field,
+                length: _length,
+            } => {}
+            Reply::EmptyName { field: _field } => {}
+            Reply::SlotsFull { slots: _slots } => {}
+            Reply::HeadersFull { length: _length } => {}
+            Reply::TextFull { length: _length } => {}
+            Reply::NumbersSpent { next: _next } => {}
+            Reply::MarksFull { marks: _marks } => {}
+        }
+    }
 }

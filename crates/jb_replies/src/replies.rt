@@ -22,12 +22,23 @@ use std::alloc::Global;
 use std::marker::Model;
 
 /// The index of an area's replies, and room for so many messages more.
-#[derive(Drop)]
 pub struct Replies {
     ids: Tiered<u32>,
     answers: Tiered<u32>,
     kept: Tiered<(u32, u32)>,
     room: u32,
+}
+
+// Whoever lets go of one does so in one call.
+impl Drop for Replies {
+    fn drop(self) {
+        let Replies {
+            ids: _ids,
+            answers: _answers,
+            kept: _kept,
+            room: _room,
+        } = self;
+    }
 }
 
 impl Model for Replies {

@@ -3,7 +3,6 @@
 use jb_model::{Command, Question};
 
 /// What an area is asked.
-#[derive(Drop)]
 pub enum Act {
     /// To do this; the answer is a reply.
     Ask(Command),
@@ -13,10 +12,31 @@ pub enum Act {
     Count,
 }
 
+// Whoever lets go of one does so in one call.
+impl Drop for Act {
+    fn drop(self) {
+        match self {
+            Act::Ask(_held) => {}
+            Act::Look(_held) => {}
+            Act::Count => {}
+        }
+    }
+}
+
 /// What an area is asked for a user, each by its place on the board, counted from 0.
-#[derive(Drop)]
 pub struct Request {
     pub user: u32,
     pub area: u32,
     pub act: Act,
+}
+
+// Whoever lets go of one does so in one call.
+impl Drop for Request {
+    fn drop(self) {
+        let Request {
+            user: _user,
+            area: _area,
+            act: _act,
+        } = self;
+    }
 }

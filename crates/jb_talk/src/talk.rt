@@ -26,7 +26,6 @@ use std::marker::Model;
 
 /// A talk with one caller. Contracts see the unit that its decoder is in, how many bytes it has taken, where it is, and what
 /// is to be sent.
-#[derive(Drop)]
 pub struct Talk {
     pub(crate) decoder: Decoder,
     pub(crate) taken: u64,
@@ -35,6 +34,21 @@ pub struct Talk {
     pub(crate) menu: Menu,
     pub(crate) standing: Standing,
     pub(crate) owed: Vec<u8>,
+}
+
+// Whoever lets go of one does so in one call.
+impl Drop for Talk {
+    fn drop(self) {
+        let Talk {
+            decoder: _decoder,
+            taken: _taken,
+            options: _options,
+            editor: _editor,
+            menu: _menu,
+            standing: _standing,
+            owed: _owed,
+        } = self;
+    }
 }
 
 impl Model for Talk {
