@@ -2,7 +2,7 @@
 
 use crate::asking::{Act, Way};
 use crate::quiet::Quiet;
-use crate::showing::{put_figures, put_memory, put_reply, put_shape};
+use crate::showing::{put_figures, put_memory, put_reply};
 use crate::stage::{Closed, End, Outcome, Stage, Staged, not_asked, not_open, opened};
 use jb_area::OpenArea;
 use jb_area_open::OpeningError;
@@ -250,7 +250,8 @@ impl Area {
             put_figures(words, loaded);
             return Ok(());
         }
-        put_shape(alloc, words, &self.refusal()?)
+        words.debug(alloc, &self.refusal()?);
+        Ok(())
     }
 
     /// All that is loaded, to be compared, or that it is not open; and the bytes of its texts. It is closed then.

@@ -1,6 +1,5 @@
 //! The plain area and the open one in the same words.
 
-use crate::showing::put_shape;
 use jb_base::Subfields;
 use jb_model::{Area, Head, Loaded, LoadedMessage, LoadedSlot, Mark, Slot};
 use std::alloc::Global;
@@ -14,7 +13,7 @@ fn put_message(
     subfields: &Subfields,
     text: &[u8],
 ) -> Result<(), RowError> {
-    put_shape(alloc, words, head)?;
+    words.debug(alloc, head);
     words.shown(subfields.as_bytes());
     words.shown(text);
     words.put(";");
@@ -29,7 +28,8 @@ fn put_numbers(
     marks: &[Mark],
 ) -> Result<(), RowError> {
     words.number(u64::from(base));
-    put_shape(alloc, words, &marks)
+    words.debug(alloc, &marks);
+    Ok(())
 }
 
 /// The plain area.

@@ -2,23 +2,7 @@
 
 use jb_model::{Head, Letter, Loaded, LoadedSlot, Reply};
 use std::alloc::Global;
-use std::fmt::Debug;
 use trial_rows::{RowError, Words};
-
-/// This as it shows itself to those who look for faults.
-pub(crate) fn put_shape<T: Debug>(
-    alloc: Global,
-    words: &mut Words,
-    this: &T,
-) -> Result<(), RowError> {
-    match format!(in alloc; "{this:?}") {
-        Ok(text) => {
-            words.word(text.as_str());
-            Ok(())
-        }
-        Err(_) => Err(RowError::OutOfMemory),
-    }
-}
 
 // Three links.
 fn put_links(words: &mut Words, to: u32, first: u32, next: u32) {
@@ -65,7 +49,10 @@ fn put_letter(alloc: Global, words: &mut Words, letter: &Letter) -> Result<(), R
 pub(crate) fn put_reply(alloc: Global, words: &mut Words, reply: &Reply) -> Result<(), RowError> {
     match reply {
         Reply::Text { letter } => put_letter(alloc, words, letter),
-        _ => put_shape(alloc, words, reply),
+        _ => {
+            words.debug(alloc, reply);
+            Ok(())
+        }
     }
 }
 
@@ -114,6 +101,7 @@ pub(crate) fn put_memory(
     words.number(u64::from(loaded.password));
     words.number(u64::from(loaded.headers_len));
     words.shown(&loaded.reserved);
-    put_shape(alloc, words, &loaded.slots.as_slice())?;
-    put_shape(alloc, words, &loaded.marks.as_slice())
+    words.debug(alloc, &loaded.slots.as_slice());
+    words.debug(alloc, &loaded.marks.as_slice());
+    Ok(())
 }

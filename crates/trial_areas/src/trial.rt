@@ -214,9 +214,10 @@ impl Trial {
             _ => self.about_base(alloc, row, words),
         }
     }
+}
 
-    // Puts what comes of a row behind the words.
-    fn put(&mut self, alloc: Global, row: &Row, words: &mut Words) -> Result<(), RowError> {
+impl Answers for Trial {
+    fn answer(&mut self, alloc: Global, row: &Row, words: &mut Words) -> Result<(), RowError> {
         match row.word(0)? {
             "files" | "base" | "marks" | "limits" => self.base(alloc, row, words),
             "append" => self.base.append(alloc, row, words),
@@ -230,16 +231,6 @@ impl Trial {
                 Ok(())
             }
             _ => self.about_area(alloc, row, words),
-        }
-    }
-}
-
-impl Answers for Trial {
-    fn answer(&mut self, alloc: Global, row: &Row) -> Result<String, RowError> {
-        let mut words = Words::new(alloc);
-        match self.put(alloc, row, &mut words) {
-            Ok(()) => words.end(),
-            Err(error) => Err(error),
         }
     }
 }

@@ -42,20 +42,6 @@ impl Bases {
         Ok(Bases { disk, opened, redo })
     }
 
-    /// The answer to a row that makes files or a change of them.
-    fn put(&mut self, alloc: Global, row: &Row, words: &mut Words) -> Result<(), RowError> {
-        let (disk, redo) = (&mut self.disk, &mut self.redo);
-        match row.word(0)? {
-            "new" => files::begin(alloc, disk, words),
-            "append" => files::append(alloc, disk, row, words),
-            "write" => changes::write(disk, redo, words),
-            "post" => appending::post(alloc, disk, redo, row, words),
-            "new-mark" => appending::put_mark(redo, row, words),
-            "plan" => packing::put_plan(alloc, disk, redo, words),
-            _ => self.put_read(alloc, row, words),
-        }
-    }
-
     /// The answer to a row that reads the files as those of an area.
     fn put_read(&mut self, alloc: Global, row: &Row, words: &mut Words) -> Result<(), RowError> {
         let (disk, opened) = (&mut self.disk, &mut self.opened);
@@ -81,10 +67,17 @@ impl Bases {
 }
 
 impl Answers for Bases {
-    fn answer(&mut self, alloc: Global, row: &Row) -> Result<String, RowError> {
-        let mut words = Words::new(alloc);
-        self.put(alloc, row, &mut words)?;
-        words.end()
+    fn answer(&mut self, alloc: Global, row: &Row, words: &mut Words) -> Result<(), RowError> {
+        let (disk, redo) = (&mut self.disk, &mut self.redo);
+        match row.word(0)? {
+            "new" => files::begin(alloc, disk, words),
+            "append" => files::append(alloc, disk, row, words),
+            "write" => changes::write(disk, redo, words),
+            "post" => appending::post(alloc, disk, redo, row, words),
+            "new-mark" => appending::put_mark(redo, row, words),
+            "plan" => packing::put_plan(alloc, disk, redo, words),
+            _ => self.put_read(alloc, row, words),
+        }
     }
 }
 

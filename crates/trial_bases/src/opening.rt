@@ -63,10 +63,7 @@ pub(crate) fn put_refusal(
     error: OpenError,
     words: &mut Words,
 ) -> Result<(), RowError> {
-    let Ok(text) = format!(in alloc; "{error:?}") else {
-        return Err(RowError::OutOfMemory);
-    };
-    words.word(text.as_str());
+    words.debug(alloc, &error);
     Ok(())
 }
 

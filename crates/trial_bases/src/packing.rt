@@ -28,9 +28,6 @@ pub(crate) fn put_plan(
     words: &mut Words,
 ) -> Result<(), RowError> {
     let packing = planned(alloc, disk, redo)?;
-    let Ok(text) = format!(in alloc; "{packing:?}") else {
-        return Err(RowError::OutOfMemory);
-    };
-    words.word(text.as_str());
+    words.debug(alloc, &packing);
     Ok(())
 }

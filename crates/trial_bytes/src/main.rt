@@ -61,13 +61,9 @@ fn put_of_file(alloc: Global, word: &str, row: &Row, words: &mut Words) -> Resul
 }
 
 impl Answers for Calls {
-    fn answer(&mut self, alloc: Global, row: &Row) -> Result<String, RowError> {
+    fn answer(&mut self, alloc: Global, row: &Row, words: &mut Words) -> Result<(), RowError> {
         let word = row.word(0)?;
-        let mut words = Words::new(alloc);
-        match put_answer(alloc, word, row, &mut words) {
-            Ok(()) => words.end(),
-            Err(error) => Err(error),
-        }
+        put_answer(alloc, word, row, words)
     }
 }
 

@@ -125,12 +125,8 @@ fn open_rules(address: Bytes) -> AreaRules {
 }
 
 impl Answers for Commands {
-    fn answer(&mut self, alloc: Global, row: &Row) -> Result<String, RowError> {
+    fn answer(&mut self, alloc: Global, row: &Row, words: &mut Words) -> Result<(), RowError> {
         let word = row.word(0)?;
-        let mut words = Words::new(alloc);
-        match self.put_answer(alloc, word, row, &mut words) {
-            Ok(()) => words.end(),
-            Err(error) => Err(error),
-        }
+        self.put_answer(alloc, word, row, words)
     }
 }

@@ -1,6 +1,6 @@
 //! The plain, slow program: commands are collected and then run over the area as a plain value.
 
-use crate::showing::{put_debug, put_header, put_reply};
+use crate::showing::{put_header, put_reply};
 use crate::words::{self, Written};
 use jb_base::{AreaRules, Bytes, MSGID, REPLYID, Subfield, Subfields};
 use jb_model::{Area, Asked, Command, Head, Marks, Message, Slot, Slots};
@@ -305,6 +305,7 @@ impl Plain {
 
     /// The marks.
     pub(crate) fn put_marks(&self, alloc: Global, words: &mut Words) -> Result<(), RowError> {
-        put_debug(alloc, &self.area.marks.as_slice(), words)
+        words.put_debug(alloc, &self.area.marks.as_slice());
+        Ok(())
     }
 }

@@ -3,21 +3,7 @@
 use jb_base::Subfields;
 use jb_model::{Head, Letter, Reply};
 use std::alloc::Global;
-use std::fmt::Debug;
 use trial_rows::{RowError, Words, listed};
-
-/// Puts a value as its `Debug` writes it.
-pub(crate) fn put_debug<T: Debug>(
-    alloc: Global,
-    value: &T,
-    words: &mut Words,
-) -> Result<(), RowError> {
-    match format!(in alloc; "{value:?}") {
-        Ok(text) => words.put(text.as_str()),
-        Err(_) => return Err(RowError::OutOfMemory),
-    }
-    Ok(())
-}
 
 /// Puts LoID, HiID and data of each subfield behind the other words.
 fn put_fields(alloc: Global, subfields: &Subfields, words: &mut Words) -> Result<(), RowError> {
@@ -40,7 +26,7 @@ pub(crate) fn put_header(
     subfields: &Subfields,
     words: &mut Words,
 ) -> Result<(), RowError> {
-    put_debug(alloc, head, words)?;
+    words.put_debug(alloc, head);
     put_fields(alloc, subfields, words)
 }
 
@@ -65,7 +51,7 @@ pub(crate) fn put_letter(letter: &Letter, words: &mut Words) {
 pub(crate) fn put_reply(alloc: Global, reply: &Reply, words: &mut Words) -> Result<(), RowError> {
     match reply {
         Reply::Text { letter } => put_letter(letter, words),
-        _ => return put_debug(alloc, reply, words),
+        _ => words.put_debug(alloc, reply),
     }
     Ok(())
 }

@@ -2,7 +2,7 @@
 //! after it has written.
 ghost use Rattle.std.specs.Prelude.{◌+◌, ◌≤◌, length, IsTrue};
 
-use crate::showing::{put_debug, put_header, put_letter, put_reply};
+use crate::showing::{put_header, put_letter, put_reply};
 use crate::words::{self, Written};
 use jb_base::{AreaRules, MOST_MARKS, User};
 use jb_crc::jam_crc;
@@ -125,7 +125,8 @@ fn put_decided<T: Debug + Drop>(
     decided: Result<T, Reply>,
     words: &mut Words,
 ) -> Result<(), RowError> {
-    put_debug(alloc, &decided, words)
+    words.put_debug(alloc, &decided);
+    Ok(())
 }
 
 fn step_relink(
@@ -186,7 +187,8 @@ fn put_mark(
     if let Ok(mark) = decided {
         keep_mark(loaded, *mark)?;
     }
-    put_debug(alloc, decided, words)
+    words.put_debug(alloc, decided);
+    Ok(())
 }
 
 /// What is written, as a draft.

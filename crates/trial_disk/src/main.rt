@@ -102,13 +102,9 @@ impl Trial {
 }
 
 impl Answers for Trial {
-    fn answer(&mut self, alloc: Global, row: &Row) -> Result<String, RowError> {
+    fn answer(&mut self, alloc: Global, row: &Row, words: &mut Words) -> Result<(), RowError> {
         let call = row.word(1)?;
-        let mut words = Words::new(alloc);
-        match self.put(alloc, call, row, &mut words) {
-            Ok(()) => words.end(),
-            Err(error) => Err(error),
-        }
+        self.put(alloc, call, row, words)
     }
 }
 

@@ -38,20 +38,6 @@ impl Trial {
         Ok(Trial { base, tried, done })
     }
 
-    /// The answer to a row on the record in the journal.
-    fn put(&mut self, alloc: Global, row: &Row, words: &mut Words) -> Result<(), RowError> {
-        let (base, tried) = (&self.base, &mut self.tried);
-        match row.word(0)? {
-            "test" => testing::changed(alloc, base, row, tried, words),
-            "cuts" => testing::cuts(alloc, base, row, tried, words),
-            "failing" => testing::failing(alloc, base, row, tried, words),
-            "apply" => applying::apply(alloc, base, tried, words),
-            "long" => applying::long(alloc, base, row, tried, words),
-            "stopped" => applying::stopped(alloc, base, row, tried, words),
-            _ => self.put_committed(alloc, row, words),
-        }
-    }
-
     /// The answer to a row on commits and openings.
     fn put_committed(
         &mut self,
@@ -83,10 +69,17 @@ impl Trial {
 }
 
 impl Answers for Trial {
-    fn answer(&mut self, alloc: Global, row: &Row) -> Result<String, RowError> {
-        let mut words = Words::new(alloc);
-        self.put(alloc, row, &mut words)?;
-        words.end()
+    fn answer(&mut self, alloc: Global, row: &Row, words: &mut Words) -> Result<(), RowError> {
+        let (base, tried) = (&self.base, &mut self.tried);
+        match row.word(0)? {
+            "test" => testing::changed(alloc, base, row, tried, words),
+            "cuts" => testing::cuts(alloc, base, row, tried, words),
+            "failing" => testing::failing(alloc, base, row, tried, words),
+            "apply" => applying::apply(alloc, base, tried, words),
+            "long" => applying::long(alloc, base, row, tried, words),
+            "stopped" => applying::stopped(alloc, base, row, tried, words),
+            _ => self.put_committed(alloc, row, words),
+        }
     }
 }
 

@@ -86,13 +86,9 @@ impl Lists {
 }
 
 impl Answers for Lists {
-    fn answer(&mut self, alloc: Global, row: &Row) -> Result<String, RowError> {
+    fn answer(&mut self, alloc: Global, row: &Row, words: &mut Words) -> Result<(), RowError> {
         let word = row.word(0)?;
-        let mut words = Words::new(alloc);
-        match self.put_answer(alloc, word, row, &mut words) {
-            Ok(()) => words.end(),
-            Err(error) => Err(error),
-        }
+        self.put_answer(alloc, word, row, words)
     }
 }
 

@@ -81,15 +81,6 @@ fn put_post(
     put_quoted(alloc, words, subject)
 }
 
-/// Puts the fields of a move, as it writes them itself.
-fn put_fields(alloc: Global, words: &mut Words, step: &Move) -> Result<(), RowError> {
-    let Ok(text) = format!(in alloc; "{step:?}") else {
-        return Err(RowError::OutOfMemory);
-    };
-    words.put(text.as_str());
-    Ok(())
-}
-
 /// Puts what the menus ask for, as the move writes its own fields; a post in words.
 fn put_asked(alloc: Global, words: &mut Words, step: &Move) -> Result<(), RowError> {
     match step {
@@ -112,7 +103,10 @@ fn put_asked(alloc: Global, words: &mut Words, step: &Move) -> Result<(), RowErr
                 text.as_slice(),
             )
         }
-        other => put_fields(alloc, words, other),
+        other => {
+            words.put_debug(alloc, other);
+            Ok(())
+        }
     }
 }
 

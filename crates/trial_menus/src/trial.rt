@@ -155,18 +155,6 @@ impl Trial {
         Ok(())
     }
 
-    /// The answer to a row that writes the settings file, or is no single gift to the session.
-    fn put(&mut self, alloc: Global, row: &Row, words: &mut Words) -> Result<(), RowError> {
-        match row.word(0)? {
-            "file" => self.begin_file(alloc),
-            "toml" => self.add_line(alloc, row),
-            "start" => self.start(alloc, words),
-            "who" => self.who(words),
-            "each" | "again" => self.type_many(alloc, row, words),
-            _ => self.put_read(alloc, row, words),
-        }
-    }
-
     /// The answer to a row that reads the settings file, or gives something to the session.
     fn put_read(&mut self, alloc: Global, row: &Row, words: &mut Words) -> Result<(), RowError> {
         let file = self.file.as_slice();
@@ -179,9 +167,14 @@ impl Trial {
 }
 
 impl Answers for Trial {
-    fn answer(&mut self, alloc: Global, row: &Row) -> Result<String, RowError> {
-        let mut words = Words::new(alloc);
-        self.put(alloc, row, &mut words)?;
-        words.end()
+    fn answer(&mut self, alloc: Global, row: &Row, words: &mut Words) -> Result<(), RowError> {
+        match row.word(0)? {
+            "file" => self.begin_file(alloc),
+            "toml" => self.add_line(alloc, row),
+            "start" => self.start(alloc, words),
+            "who" => self.who(words),
+            "each" | "again" => self.type_many(alloc, row, words),
+            _ => self.put_read(alloc, row, words),
+        }
     }
 }

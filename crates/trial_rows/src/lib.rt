@@ -18,5 +18,5 @@ pub use error::RowError;
 pub use listing::listed;
 pub use row::Row;
 pub use running::{Answers, run};
-pub use showing::{hexed, said, shown};
+pub use showing::{hexed, shown};
 pub use words::Words;

@@ -1,12 +1,12 @@
 //! The loop of a program of trials.
 
-use crate::{Row, RowError};
+use crate::{Row, RowError, Words};
 use std::alloc::Global;
 
 /// What answers the rows of a program, one after another.
 pub trait Answers {
-    /// The line, or the lines, that are written for this row.
-    fn answer(&mut self, alloc: Global, row: &Row) -> Result<String, RowError>;
+    /// Puts the line, or the lines, that are written for this row.
+    fn answer(&mut self, alloc: Global, row: &Row, words: &mut Words) -> Result<(), RowError>;
 }
 
 /// Reads the rows of the standard input and writes what each comes to. A row without an answer is written with the reason,
@@ -29,5 +29,9 @@ pub fn run<A: Answers>(rt: &HostRuntime, answers: &mut A) -> std::io::Result<()>
 
 fn answered<A: Answers>(alloc: Global, answers: &mut A, line: &str) -> Result<String, RowError> {
     let row = Row::of(alloc, line)?;
-    answers.answer(alloc, &row)
+    let mut words = Words::new(alloc);
+    match answers.answer(alloc, &row, &mut words) {
+        Ok(()) => words.end(),
+        Err(error) => Err(error),
+    }
 }

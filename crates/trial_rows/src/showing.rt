@@ -9,11 +9,6 @@ pub(crate) fn escaped() -> AsciiSet {
     percent_encoding::CONTROLS.add(b' ').add(b'%')
 }
 
-/// These words, as the whole answer to a row or as its beginning.
-pub fn said(alloc: Global, words: &str) -> Result<String, RowError> {
-    Ok(String::from_str(alloc, words)?)
-}
-
 /// The bytes as a word of text: `-` for none, a byte that is no graphic character of ASCII as `%` and two hex digits.
 pub fn shown(alloc: Global, bytes: &[u8]) -> Result<String, RowError> {
     let mut text = String::new(alloc);

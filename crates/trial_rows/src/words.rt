@@ -5,6 +5,7 @@ use crate::showing::escaped;
 use itoa::Buffer;
 use percent_encoding::percent_encode;
 use std::alloc::Global;
+use std::fmt::Debug;
 
 /// What is put together for a row. Want of memory is told once, at the end, so that nobody asks for it at each word.
 #[derive(Drop)]
@@ -36,7 +37,7 @@ impl Words {
     }
 
     /// A space, where there are characters already.
-    pub fn space(&mut self) {
+    fn space(&mut self) {
         if !self.text.is_empty() {
             self.put(" ");
         }
@@ -72,6 +73,20 @@ impl Words {
             Ok(digits) => self.put(digits.as_str()),
             Err(_) => self.is_whole = false,
         }
+    }
+
+    /// The value as its `Debug` writes it, right behind the last character.
+    pub fn put_debug<T: Debug>(&mut self, alloc: Global, value: &T) {
+        match format!(in alloc; "{value:?}") {
+            Ok(text) => self.put(text.as_str()),
+            Err(_) => self.is_whole = false,
+        }
+    }
+
+    /// The value as its `Debug` writes it, behind the other words.
+    pub fn debug<T: Debug>(&mut self, alloc: Global, value: &T) {
+        self.space();
+        self.put_debug(alloc, value);
     }
 
     /// All of it, unless memory was wanting.

@@ -1,6 +1,5 @@
 //! The files of a base.
 
-use crate::showing::put_debugged;
 use jb_base::{Bytes, OutOfMemory};
 use jb_disk::{FileId, MemDisk};
 use jb_tool::{list, make};
@@ -64,12 +63,10 @@ pub(crate) fn put_list(alloc: Global, base: &MemDisk, words: &mut Words) -> Resu
     };
     let (_disk, listed) = list(alloc, disk);
     match &listed {
-        Ok(lines) => {
-            words.shown(lines.as_slice());
-            Ok(())
-        }
-        Err(error) => put_debugged(alloc, words, error),
+        Ok(lines) => words.shown(lines.as_slice()),
+        Err(error) => words.debug(alloc, error),
     }
+    Ok(())
 }
 
 // The file with this extension.

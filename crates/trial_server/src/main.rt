@@ -9,7 +9,6 @@ mod held;
 mod keeping;
 mod rows;
 mod serving;
-mod showing;
 mod signals;
 
 use crate::rows::{Trial, answer};

@@ -5,7 +5,6 @@ use crate::callers::{Caller, caller_in, door_of, lines_from};
 use crate::held::{HeldDoor, Side};
 use crate::keeping::{Keeps, Worked};
 use crate::serving::{Ended, board_of, run};
-use crate::showing::put_debugged;
 use crate::signals::Signals;
 use jb_base::{Bytes, OutOfMemory};
 use jb_disk::MemDisk;
@@ -259,7 +258,8 @@ impl Trial {
     /// `tally NODE`: what it has counted.
     fn put_tally(&self, alloc: Global, row: &Row, words: &mut Words) -> Result<(), RowError> {
         let worked = self.worked_in(row)?;
-        put_debugged(alloc, words, &worked.tally)
+        words.debug(alloc, &worked.tally);
+        Ok(())
     }
 
     /// `sent NODE CALL`: what was sent to this caller of the node.

@@ -7,7 +7,6 @@ use crate::base::{empty, open, open_on};
 use crate::noted::{Noted, Plan};
 use crate::replay::{replays, stopped_among};
 use crate::shared::Shared;
-use crate::showing::put_debugged;
 use crate::witness::verdict;
 use jb_area::OpenArea;
 use jb_disk::{Disk, MemDisk};
@@ -149,7 +148,7 @@ pub(crate) fn put_held(
     words: &mut Words,
 ) -> Result<(), RowError> {
     for one in noted {
-        put_debugged(alloc, words, &one.told)?;
+        words.debug(alloc, &one.told);
         words.put(";");
     }
     words.word("a record between two copies:");

@@ -22,10 +22,14 @@ fn seen<D: Disk>(area: &SharedArea<D>, pass: &mut Pass, caller: &Caller) -> Resu
     let Ok(unread) = area.unread_count(pass, &caller.user) else {
         return Err(RowError::OutOfMemory);
     };
-    match area.look(pass, &caller.user, &Question::Figures) {
-        Ok(Answer::Figures(figures)) => Ok(Told::Saw { figures, unread }),
-        _ => Err(RowError::OutOfMemory),
-    }
+    let answer = area.look(pass, &caller.user, &Question::Figures);
+    let Ok(Answer::Figures(figures)) = &answer else {
+        return Err(RowError::OutOfMemory);
+    };
+    Ok(Told::Saw {
+        figures: *figures,
+        unread,
+    })
 }
 
 // A call about a number.

@@ -7,7 +7,6 @@ use crate::following::{area_in, followed_in, followed_on, in_order, judged, plan
 use crate::held::{HeldDisk, Meeting};
 use crate::noted::{NODES, Noted, Plan};
 use crate::shared::{Ask, Shared};
-use crate::showing::put_debugged;
 use jb_area::OpenArea;
 use jb_base::OutOfMemory;
 use jb_disk::MemDisk;
@@ -232,7 +231,10 @@ impl<'a, R: Threads + Wait + Sync> Trial<'a, R> {
             Err((shared, refusal)) => {
                 self.set_shared(Some(shared));
                 match refusal {
-                    Some(missing) => put_debugged(alloc, words, &missing),
+                    Some(missing) => {
+                        words.debug(alloc, &missing);
+                        Ok(())
+                    }
                     None => Err(RowError::OutOfMemory),
                 }
             }

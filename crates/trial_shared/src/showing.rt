@@ -20,15 +20,6 @@ fn put_made(words: &mut Words, made: Result<String, AllocError>) -> Result<(), R
     Ok(())
 }
 
-/// This as `Debug` has it, behind the other words.
-pub(crate) fn put_debugged<T: Debug>(
-    alloc: Global,
-    words: &mut Words,
-    this: &T,
-) -> Result<(), RowError> {
-    put_made(words, debugged(alloc, this))
-}
-
 // Whether a text has many bytes, which are all this one.
 fn is_all(text: &[u8], first: u8) -> bool {
     for byte in text {
@@ -93,10 +84,11 @@ pub(crate) fn put_reply(
     reply: &Result<Reply, SharedError>,
 ) -> Result<(), RowError> {
     match reply {
-        Ok(Reply::Text { letter }) => put_letter(alloc, words, letter),
-        Ok(reply) => put_debugged(alloc, words, reply),
-        Err(error) => put_debugged(alloc, words, error),
+        Ok(Reply::Text { letter }) => return put_letter(alloc, words, letter),
+        Ok(reply) => words.debug(alloc, reply),
+        Err(error) => words.debug(alloc, error),
     }
+    Ok(())
 }
 
 /// What a look is answered, or why there is no answer, in one line: the figures, or the numbers of the messages.
@@ -106,13 +98,11 @@ pub(crate) fn put_answer(
     answer: &Result<Answer, LookError>,
 ) -> Result<(), RowError> {
     match answer {
-        Ok(Answer::Figures(figures)) => put_debugged(alloc, words, figures),
-        Ok(Answer::Summaries(summaries)) => {
-            put_numbers(words, summaries.as_slice());
-            Ok(())
-        }
-        Err(error) => put_debugged(alloc, words, error),
+        Ok(Answer::Figures(figures)) => words.debug(alloc, figures),
+        Ok(Answer::Summaries(summaries)) => put_numbers(words, summaries.as_slice()),
+        Err(error) => words.debug(alloc, error),
     }
+    Ok(())
 }
 
 /// What a count comes to, or why there is none, in one line.
@@ -125,8 +115,8 @@ pub(crate) fn put_count(
         Ok(count) => {
             words.number(u64::from(count));
             words.word("unread");
-            Ok(())
         }
-        Err(error) => put_debugged(alloc, words, &error),
+        Err(error) => words.debug(alloc, &error),
     }
+    Ok(())
 }

@@ -20,29 +20,20 @@ use trial_rows::{Answers, Row, RowError, Words};
 struct Calls {}
 
 impl Answers for Calls {
-    fn answer(&mut self, alloc: Global, row: &Row) -> Result<String, RowError> {
-        let mut words = Words::new(alloc);
-        match put(alloc, row, &mut words) {
-            Ok(()) => words.end(),
-            Err(error) => Err(error),
+    fn answer(&mut self, alloc: Global, row: &Row, words: &mut Words) -> Result<(), RowError> {
+        match row.word(0)? {
+            "events" => telnet::put_events(alloc, row, words),
+            "verb" => telnet::put_verb(row, words),
+            "encode" => telnet::put_encoded(alloc, row, words),
+            "greeting" => options::put_greeting(alloc, words),
+            "answers" => options::put_answers(alloc, row, words),
+            "echoing" => options::put_echoing(row, words),
+            "lines" => editing::put_lines(alloc, row, words),
+            "type" => editing::put_typed(alloc, row, words),
+            "at" => editing::put_at(alloc, row, words),
+            "hear" => hearing::put_heard(alloc, row, words),
+            _ => put_text(alloc, row, words),
         }
-    }
-}
-
-/// Puts what a row about what a terminal sends, or about a text, comes to.
-fn put(alloc: Global, row: &Row, words: &mut Words) -> Result<(), RowError> {
-    match row.word(0)? {
-        "events" => telnet::put_events(alloc, row, words),
-        "verb" => telnet::put_verb(row, words),
-        "encode" => telnet::put_encoded(alloc, row, words),
-        "greeting" => options::put_greeting(alloc, words),
-        "answers" => options::put_answers(alloc, row, words),
-        "echoing" => options::put_echoing(row, words),
-        "lines" => editing::put_lines(alloc, row, words),
-        "type" => editing::put_typed(alloc, row, words),
-        "at" => editing::put_at(alloc, row, words),
-        "hear" => hearing::put_heard(alloc, row, words),
-        _ => put_text(alloc, row, words),
     }
 }
 

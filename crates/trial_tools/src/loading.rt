@@ -1,7 +1,6 @@
 //! Workloads.
 
 use crate::base::Base;
-use crate::using::put_debug;
 use jb_disk::SteadyDisk;
 use std::alloc::Global;
 use trial_rows::{Row, RowError, Words};
@@ -41,7 +40,7 @@ pub fn put_load_on_disk(
     let (disk, answer) = jb_load::load(alloc, disk, seed, count);
     match &answer {
         Ok(text) => words.shown(text.as_slice()),
-        Err(error) => put_debug(alloc, error, words),
+        Err(error) => words.debug(alloc, error),
     }
     base.files.take_steady_disk(alloc, &disk)
 }

@@ -4,7 +4,6 @@ use crate::base::Base;
 use jb_base::Bytes;
 use jb_tool::{Tool, ToolError, run};
 use std::alloc::Global;
-use std::fmt::Debug;
 use trial_rows::{Row, RowError, Words};
 
 /// The tool that a word names.
@@ -19,14 +18,6 @@ pub fn tool_named(row: &Row, place: usize) -> Result<Tool, RowError> {
     }
 }
 
-/// Puts what an error is.
-pub fn put_debug<E: Debug>(alloc: Global, error: &E, words: &mut Words) {
-    match format!(in alloc; "{error:?}") {
-        Ok(text) => words.word(text.as_str()),
-        Err(_) => words.word("no memory for the error"),
-    }
-}
-
 /// Puts what a tool answered: the bytes to print, or its refusal.
 pub fn put_outcome(alloc: Global, answer: &Result<Bytes, ToolError>, words: &mut Words) {
     match answer {
@@ -34,7 +25,7 @@ pub fn put_outcome(alloc: Global, answer: &Result<Bytes, ToolError>, words: &mut
             words.word("done");
             words.shown(text.as_slice());
         }
-        Err(error) => put_debug(alloc, error, words),
+        Err(error) => words.debug(alloc, error),
     }
 }
 
