@@ -1,0 +1,154 @@
+#!/usr/bin/env python3
+"""Tries `./board` where a source of the program is another than it was when the kept program was built: it has to run no program that these
+sources do not build.
+
+usage: build.py
+
+A copy of what the program is made of is run as it stands, then with a wrong body in one crate, which is one of the edits that the gate
+wants refused, then without the kit, then stopped while it proves, then as it stood at first. What an earlier run of the gate kept of the
+other crates is used.
+"""
+import os
+import re
+import shutil
+import signal
+import subprocess
+import sys
+import tempfile
+import time
+
+from trial import Trial
+
+TOP = os.path.dirname(os.path.dirname(os.path.realpath(__file__)))
+EDIT = "crates/jb_access/must-fail/always_refuses.edit"
+CRATE = EDIT.split("/")[1]
+LIMIT = 3000
+# in the environment of a build, so that its processes are found
+MARK = "BOARD_TRIED_IN"
+NOT_BUILT = 70
+
+
+def copy_of(folder):
+    """What `./board` reads, without what was built or kept beside it."""
+    for name in ("board", "crates.txt", "HANDLES"):
+        shutil.copy(f"{TOP}/{name}", folder)
+    for name in (".ci", "built", "crates"):
+        shutil.copytree(f"{TOP}/{name}", f"{folder}/{name}", symlinks=True, ignore=shutil.ignore_patterns("out", "__pycache__"))
+
+
+def edit_of(folder):
+    """The file that the edit changes, as it stands and with the edit."""
+    with open(f"{folder}/{EDIT}") as file:
+        lines = file.read().splitlines()
+    path, old, new = (next(line[len(word):] for line in lines if line.startswith(word)) for word in ("file: ", "old: ", "new: "))
+    path = f"{folder}/crates/{CRATE}/{path}"
+    with open(path) as file:
+        text = file.read()
+    return path, text, text.replace(old, new)
+
+
+def put(path, text):
+    with open(path, "w") as file:
+        file.write(text)
+
+
+def path_without(name, folder):
+    """A folder in which all programs of the search path can be called but one."""
+    os.mkdir(folder)
+    for place in os.environ["PATH"].split(":"):
+        for it in os.listdir(place) if os.path.isdir(place) else ():
+            if it != name and not os.path.lexists(f"{folder}/{it}"):
+                os.symlink(f"{place}/{it}", f"{folder}/{it}")
+    return folder
+
+
+def marked(folder):
+    """The words of each process of a build that has this mark."""
+    found = {}
+    for pid in filter(str.isdigit, os.listdir("/proc")):
+        try:
+            with open(f"/proc/{pid}/environ", "rb") as file, open(f"/proc/{pid}/cmdline", "rb") as words:
+                if f"{MARK}={folder}".encode() in file.read().split(b"\0"):
+                    found[pid] = words.read().split(b"\0")
+        except OSError:
+            continue
+    return found
+
+
+class Copy(Trial):
+    """A copy of the repository, and what running it comes to."""
+
+    def starts(self, **environment):
+        return subprocess.Popen([self.program, "help"], stdin=subprocess.DEVNULL, stdout=subprocess.PIPE, stderr=subprocess.PIPE, text=True,
+                                start_new_session=True, env=os.environ | environment)
+
+    def runs(self, **environment):
+        run = self.starts(**environment)
+        printed, told = run.communicate(timeout=LIMIT)
+        return run.returncode, printed, told.splitlines()
+
+    def serves(self, when, wanted):
+        self.is_so(f"{when}, the kept program is run", self.runs(), (0, wanted, []))
+
+    def builds_nothing(self, when, status, printed, told):
+        """What each run that comes to no program shows."""
+        self.is_so(f"{when}, status and what is printed", (status, printed), (NOT_BUILT, ""))
+        self.is_so(f"{when}, why it builds", told[:1], ["board: the sources are not those of the program that is kept in built/"])
+        begins = next((line for line in told if line.startswith("board: proving the ")), "")
+        self.holds(f"{when}, what is begun: {begins}", re.fullmatch(r"board: proving the \d+ crates of the program on \d+ processors, and building it; .*", begins))
+        self.holds(f"{when}, no program stands there", not os.path.exists(f"{self.folder}/crates/board/out/board"))
+
+    def refuses(self):
+        """A crate that is not proved: its name, the place of what is wrong, and where the whole log is."""
+        status, printed, told = self.runs()
+        self.builds_nothing("a wrong body", status, printed, told)
+        last = re.fullmatch(rf"board: {CRATE} was not proved, so the program was not built; the whole log is (.*)", told[-1] if told else "")
+        self.holds(f"the crate that is refused: {told[-1:]}", last)
+        self.holds(f"the place of what is wrong: {told[2:]}", any(re.search(rf"\bcrates/{CRATE}/src/\w+\.rt:\d+", line) for line in told))
+        if last:
+            with open(last[1]) as file:
+                self.holds("the log has what was said of the crate", f"rt: {CRATE} NOT PROVED\n" in file.read())
+            os.remove(last[1])
+
+    def lacks_the_kit(self, folder):
+        status, printed, told = self.runs(PATH=folder)
+        self.builds_nothing("no kit", status, printed, told)
+        self.is_so("no kit", told[-1:], ["board: the command rt of the Rattle kit was not found, and the program is not built without it"])
+
+    def is_stopped(self):
+        """Interrupted while it proves, as by ^C, it leaves nothing at work and no file. The shell that it is ends by the signal."""
+        run, told = self.starts(**{MARK: self.folder}), []
+        for line in run.stderr:
+            told.append(line.rstrip("\n"))
+            if line.startswith("board: proving the "):
+                while run.poll() is None and not any(b"--crate-name" in words for words in marked(self.folder).values()):
+                    time.sleep(0.2)
+                self.is_so("a build is at work when it is stopped", run.poll(), None)
+                os.killpg(run.pid, signal.SIGINT)
+        printed = run.communicate(timeout=LIMIT)[0]
+        self.builds_nothing("stopped", NOT_BUILT if run.returncode == -signal.SIGINT else run.returncode, printed, told)
+        self.is_so("stopped, what is said", told[-1:], ["board: stopped; what was proved is kept"])
+        self.is_so("stopped, what is still at work", marked(self.folder), {})
+        self.is_so("stopped, what is left beside the note of what serves", os.listdir(f"{self.folder}/crates/board/out"), ["board.serves"])
+
+
+def main():
+    with tempfile.TemporaryDirectory(prefix="board-tried-") as room:
+        folder = f"{os.path.realpath(room)}/copy"
+        os.mkdir(folder)
+        copy_of(folder)
+        trial = Copy(f"{folder}/board", folder)
+        wanted = subprocess.run([f"{TOP}/built/board", "help"], stdin=subprocess.DEVNULL, stdout=subprocess.PIPE, text=True, check=True).stdout
+        path, right, wrong = edit_of(folder)
+        trial.holds(f"{EDIT} changes something", right != wrong)
+        trial.serves("at first", wanted)
+        put(path, wrong)
+        trial.refuses()
+        trial.lacks_the_kit(path_without("rt", f"{room}/path"))
+        trial.is_stopped()
+        put(path, right)
+        trial.serves("as it stood again", wanted)
+        sys.exit(trial.tells("a program that is kept, and sources that are others"))
+
+
+main()
