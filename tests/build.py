@@ -5,8 +5,9 @@ sources do not build.
 usage: build.py
 
 A copy of what the program is made of is run as it stands, then with a wrong body in one crate, which is one of the edits that the gate
-wants refused, then without the kit, then stopped while it proves, then as it stood at first. What an earlier run of the gate kept of the
-other crates is used.
+wants refused, then without the kit, then stopped while it proves, then as it stood at first, and at last with another sum beside the kept
+program, so that it is built. What an earlier run of the gate kept of the crates is used; where it kept nothing no whole build is tried, and
+a line says so.
 """
 import os
 import re
@@ -26,6 +27,8 @@ LIMIT = 3000
 # in the environment of a build, so that its processes are found
 MARK = "BOARD_TRIED_IN"
 NOT_BUILT = 70
+# said of a crate of which nothing was kept
+IS_PROVED = re.compile(r"board: \d+ of \d+: \w+ is proved ")
 
 
 def copy_of(folder):
@@ -131,6 +134,25 @@ class Copy(Trial):
         self.is_so("stopped, what is still at work", marked(self.folder), {})
         self.is_so("stopped, what is left beside the note of what serves", os.listdir(f"{self.folder}/crates/board/out"), ["board.serves"])
 
+    def builds(self, wanted):
+        """Where the sum of the sources is another and all crates are proved, the program is built and run, and at once the next time."""
+        put(f"{self.folder}/built/sources", "another sum\n")
+        run, told = self.starts(), []
+        for line in run.stderr:
+            told.append(line.rstrip("\n"))
+            if IS_PROVED.match(line):
+                os.killpg(run.pid, signal.SIGINT)
+        printed = run.communicate(timeout=LIMIT)[0]
+        if any(map(IS_PROVED.match, told)):
+            print("nothing is kept of the crates, so no build of the whole program was tried", flush=True)
+            return
+        self.is_so("a build, status and what is printed", (run.returncode, printed), (0, wanted))
+        self.holds(f"a build, what is said of it: {told}", told and re.fullmatch(r"board: built in \d+ s", told[-1]))
+        with open(f"{self.folder}/crates/board/out/board", "rb") as built, open(f"{self.folder}/built/board", "rb") as kept:
+            self.holds("the program that is built is the one that is kept", built.read() == kept.read())
+        os.chmod(f"{self.folder}/built/board", 0o644)
+        self.is_so("behind a build, its program is run at once, and no other", self.runs(), (0, wanted, []))
+
 
 def main():
     with tempfile.TemporaryDirectory(prefix="board-tried-") as room:
@@ -148,6 +170,7 @@ def main():
         trial.is_stopped()
         put(path, right)
         trial.serves("as it stood again", wanted)
+        trial.builds(wanted)
         sys.exit(trial.tells("a program that is kept, and sources that are others"))
 
 
