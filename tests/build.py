@@ -27,8 +27,8 @@ LIMIT = 3000
 # in the environment of a build, so that its processes are found
 MARK = "BOARD_TRIED_IN"
 NOT_BUILT = 70
-# said of a crate of which nothing was kept
-IS_PROVED = re.compile(r"board: \d+ of \d+: \w+ is proved ")
+# said of the first crate where nothing was kept of any
+NONE_IS_KEPT = re.compile(r"board: 1 of \d+: \w+ is proved ")
 
 
 def copy_of(folder):
@@ -140,10 +140,10 @@ class Copy(Trial):
         run, told = self.starts(), []
         for line in run.stderr:
             told.append(line.rstrip("\n"))
-            if IS_PROVED.match(line):
+            if NONE_IS_KEPT.match(line):
                 os.killpg(run.pid, signal.SIGINT)
         printed = run.communicate(timeout=LIMIT)[0]
-        if any(map(IS_PROVED.match, told)):
+        if any(map(NONE_IS_KEPT.match, told)):
             print("nothing is kept of the crates, so no build of the whole program was tried", flush=True)
             return
         self.is_so("a build, status and what is printed", (run.returncode, printed), (0, wanted))
