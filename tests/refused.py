@@ -24,7 +24,7 @@ import sys
 import tempfile
 
 import jam
-from local import ANSWERED, FIRST, PIECE_BYTES, lines, one_message
+from local import ANSWERED, FIRST, PIECE_BYTES, lines
 from trial import Trial, memory_folder, settings
 
 TOP = os.path.dirname(os.path.dirname(os.path.realpath(__file__)))
@@ -61,10 +61,8 @@ class Rows:
 
 
 PROGRAMS = {
-    "trial_bytes": Rows(),
-    "trial_lists": Rows(anew=("marks", "drawn-marks", "area", "even"), several=("set", "front", "ends")),
+    "trial_values": Rows(anew=("file",), several=("toml",)),
     "trial_bases": Rows(anew=("new",), faults=r"StoreFault|the disk failed|no answer to '(plan|post)\b.*': word 0 is not known"),
-    "trial_terminal": Rows(),
     "trial_areas": Rows(("try", "stops", "parts", "behind", "opening", "drawn"), ("base", "files"), ("ask", "call"), r"Stopped|(Base\()?StoreFault"),
     "trial_shared": Rows(("drawn", "crowd", "packers", "lookers"), ("base",), (), "StoreFault|no answer to 'share .*': word 0 is not known", ("between",)),
 }
@@ -221,9 +219,7 @@ class Board:
         self.typed = b"".join(lines([word]).ljust(PIECE_BYTES, b"\0") for word in ANSWERED)
 
     def has_base(self):
-        shutil.rmtree(self.areas, ignore_errors=True)
-        os.mkdir(self.areas)
-        jam.write(self.areas, "general", one_message())
+        jam.write_only(self.areas, general=jam.one_message())
         return self.files()
 
     def files(self):

@@ -2,3 +2,4 @@ pub mod Access
 mod Heads
 pub mod Numbers
 pub mod Spelled
+mod StandardFacts

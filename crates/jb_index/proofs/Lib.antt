@@ -10,3 +10,4 @@ pub mod PostLemmas
 pub mod KillLemmas
 pub mod OrphanLemmas
 pub mod StepLemmas
+mod StandardFacts

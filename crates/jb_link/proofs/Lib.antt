@@ -10,4 +10,5 @@ pub mod EachLemmas
 pub mod PostLemmas
 pub mod PostingLemmas
 pub mod SpliceLemmas
+mod StandardFacts
 pub mod Theorems

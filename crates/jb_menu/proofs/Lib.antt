@@ -1,4 +1,5 @@
 pub mod Digits
 pub mod Keeping
 mod Rows
+mod StandardFacts
 pub mod Spaces

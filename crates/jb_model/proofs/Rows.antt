@@ -1,12 +1,13 @@
 -- Worked rows: what the definitions answer, computed.
-use Rattle.std.proofs.Common.{◌≡◌, ℕ, List, [], ◌∷◌, Option, Some, None, true, false, refl, length, map, replicate, codes, option_to_list, None}
+use Rattle.std.proofs.Common.{◌≡◌, ℕ, ◌+◌, List, [], ◌∷◌, ◌++◌, Option, Some, None, true, false, refl, length, map, replicate, codes, option_to_list, None}
 use Rattle.jb_base.specs.Crc.{jam_crc_of}
 use Rattle.jb_base.specs.declared.area.AreaRules.{AreaRules}
 use Rattle.jb_base.specs.declared.area.Kind.TheVariants.{Local}
-use Rattle.jb_base.specs.declared.area.Rule.TheVariants.{A4, A5}
+use Rattle.jb_base.specs.declared.area.Rule.TheVariants.{A1, A2, A4, A5}
 use Rattle.jb_base.specs.declared.user.User.{User}
 use Rattle.jb_model.specs.Links.{linkables_of, thread_root}
 use Rattle.jb_model.specs.Live.{Numbered, live_in}
+use Rattle.jb_model.specs.Marks.{mark_of, with_mark}
 use Rattle.jb_model.specs.Run.{Ran, run_of}
 use Rattle.jb_model.specs.State.{AreaState}
 use Rattle.jb_model.specs.Tight.{tight_state}
@@ -17,7 +18,9 @@ use Rattle.jb_model.specs.declared.command.Field.TheVariants.{To, Subject, Text}
 use Rattle.jb_model.specs.declared.command.Asked.{Asked}
 use Rattle.jb_model.specs.declared.command.Command.{Command}
 use Rattle.jb_model.specs.declared.command.Command.TheVariants.{Post, Read, Peek, Kill, SetMark, Pack, Relink}
-use Rattle.jb_model.specs.declared.reply.Reply.TheVariants.{Posted, Killed, Marked, Packed, Relinked, Denied, NoMessage, NumbersSpent, EmptyName, TooLong}
+use Rattle.jb_model.specs.declared.mark.Mark.{Mark}
+use Rattle.jb_model.specs.declared.reply.Reply.{Reply}
+use Rattle.jb_model.specs.declared.reply.Reply.TheVariants.{Posted, Text as Shown, Killed, Marked, Packed, Relinked, Denied, NoMessage, NumbersSpent, SlotsFull, HeadersFull, TextFull, EmptyName, TooLong}
 
 -- the rules of an area, and three users of it
 abbrev pub general : AreaRules
@@ -231,3 +234,101 @@ long_id_copied = refl
 -- one of 4,097 bytes
 long_id_left_out : map fields_and_parent (answer_to_long 4097) ≡ (1 ∷ 0 ∷ []) ∷ (4 ∷ 1 ∷ []) ∷ []
 long_id_left_out = refl
+
+-- a mark: the CRC of the user's name, the user's number, the message read last and the highest one read
+abbrev pub marked : ℕ → ℕ → ℕ → ℕ → Mark
+marked user_crc user_id last high = record { user_crc = user_crc; user_id = user_id; last = last; high = high }
+
+-- marks of Test, of two users of the name Hello, and a second one of a pair twice
+abbrev pub some_marks : List Mark
+some_marks =
+    marked 0x278081F3 7 1 1 ∷ marked 0xC9EF5979 7 2 2 ∷ marked 0xC9EF5979 8 3 3 ∷ marked 0xC9EF5979 7 4 4 ∷ marked 0x278081F3 7 5 5 ∷ []
+
+-- the first mark of a pair is the user's; a set changes it where it stands, and puts that of a new pair behind the others
+mark_rows : (mark_of 0x278081F3 7 some_marks ≡ Some (marked 0x278081F3 7 1 1)) × (mark_of 0xC9EF5979 7 some_marks ≡ Some (marked 0xC9EF5979 7 2 2))
+    × (mark_of 0x278081F3 8 some_marks ≡ None) × (mark_of 0 0 some_marks ≡ None)
+    × (with_mark (marked 0xC9EF5979 7 0 2) some_marks ≡
+    marked 0x278081F3 7 1 1 ∷ marked 0xC9EF5979 7 0 2 ∷ marked 0xC9EF5979 8 3 3 ∷ marked 0xC9EF5979 7 4 4 ∷ marked 0x278081F3 7 5 5 ∷ [])
+    × (with_mark (marked 0 4294967295 9 9) some_marks ≡ some_marks ++ marked 0 4294967295 9 9 ∷ [])
+mark_rows = (refl, refl, refl, refl, refl, refl)
+
+-- a message, a reading by its sender, a look, and a reading by its receiver
+abbrev pub readings : Ran
+readings = ran (by test_user post ∷ by test_user (Read 1) ∷ by test_user (Peek 1) ∷ by hello_user (Read 1) ∷ [])
+
+-- the message as it is shown, with this attribute
+abbrev pub shown_with : ℕ → Reply
+shown_with attribute = Shown (record {
+  number = 1;
+  from = codes "Test";
+  to = codes "Hello";
+  subject = codes "abc";
+  msgid = codes "2:5020/1042 01000001";
+  reply = [];
+  written = 1000000000;
+  attribute = attribute;
+  reply_to = 0;
+  reply_first = 0;
+  reply_next = 0;
+  text = 0x47 ∷ 0x6F ∷ 0x6F ∷ 0x64 ∷ 0x0D ∷ [];
+})
+
+-- a reading is shown with the marks that it sets
+reading_replies : readings.replies ≡ Posted 1 ∷ shown_with 0x00800001 ∷ shown_with 0x00800001 ∷ shown_with 0x00800009 ∷ []
+reading_replies = refl
+
+-- how often a message was read, when its receiver got it, and its attribute
+abbrev pub read_fields : Numbered → List ℕ
+read_fields one = one.message.head.times_read ∷ one.message.head.received ∷ one.message.head.attribute ∷ []
+
+-- readings are counted, and the receiver's is dated
+reading_fields : map read_fields (live_in readings.state) ≡ (2 ∷ 1000000000 ∷ 0x00800009 ∷ []) ∷ []
+reading_fields = refl
+
+-- two answers to a message, of which the first is killed
+abbrev pub two_answers : Ran
+two_answers = ran (by test_user post ∷ by test_user (post_to (codes "Hello") 1) ∷ by test_user (post_to (codes "Hello") 1) ∷ [])
+
+-- their CRCs, those of the MSGID that they answer, and the lengths of the files
+answer_crcs : (map (λ (one : Numbered). one.message.head.msgid_crc ∷ one.message.head.reply_crc ∷ []) (live_in two_answers.state) ≡
+    (3419873107 ∷ 4294967295 ∷ []) ∷ (1390300905 ∷ 3419873107 ∷ []) ∷ (635010687 ∷ 3419873107 ∷ []) ∷ []) × (two_answers.state.headers_len ≡ 1024 + 140 + 168 + 168)
+answer_crcs = (refl, refl)
+
+-- a relink after a kill changes the one message that named the killed one
+relinked_after_kill : (run_of general two_answers.state (by sysop_user Relink ∷ by test_user (Kill 2) ∷ by sysop_user Relink ∷ [])).replies ≡ Relinked 0 ∷ Killed 2 ∷ Relinked 1 ∷ []
+relinked_after_kill = refl
+
+-- an area whose next number is this one, with files of these lengths
+abbrev pub almost_full : ℕ → ℕ → ℕ → AreaState
+almost_full base headers_len texts_len = record (empty_area base) { headers_len = headers_len; texts_len = texts_len }
+
+-- the reply to a post of the greatest lengths there
+abbrev pub greatest_post_in : ℕ → ℕ → ℕ → List Reply
+greatest_post_in base headers_len texts_len =
+    (run_of general (almost_full base headers_len texts_len) (by test_user (Post (replicate 36 97) (replicate 72 97) (replicate 16384 97) 0 true) ∷ [])).replies
+
+-- a post that just fits the files and the numbers, and one number or byte more
+full_replies : (greatest_post_in 16777215 134217488 67092480 ≡ Posted 16777215 ∷ []) × (greatest_post_in 16777216 134217728 67092480 ≡ NumbersSpent 16777216 ∷ [])
+    × (greatest_post_in 16777215 134217489 67108864 ≡ HeadersFull 134217729 ∷ []) × (greatest_post_in 16777215 134217488 67092481 ≡ TextFull 67108865 ∷ [])
+full_replies = (refl, refl, refl, refl)
+
+-- an area with one slot, where 10 reads, 20 posts and 200 is the sysop
+abbrev pub one_slot : AreaRules
+one_slot = record { ordinal = 1; address = codes "2:5020/1042"; kind = Local; read = 10; post = 20; sysop = 200; slots = 1 }
+
+-- a user of this name and level
+abbrev pub named : List ℕ → ℕ → User
+named name level = record { name = name; id = 7; level = level }
+
+-- the only slot is taken, and levels one below those that read, post and tend
+one_slot_replies : (run_of one_slot (empty_area 1) (
+    by (named (codes "Test") 9) post ∷ by (named (codes "Test") 19) post ∷ by (named (codes "Test") 20) post ∷ by (named (codes "Test") 20) post
+    ∷ by (named (codes "Other") 199) (Kill 1) ∷ by (named (codes "Other") 199) Relink ∷ by (named (codes "Other") 200) (Kill 1) ∷ [])).replies ≡
+    Denied A1 ∷ Denied A2 ∷ Posted 1 ∷ SlotsFull 1 ∷ Denied A4 ∷ Denied A5 ∷ Killed 1 ∷ []
+one_slot_replies = refl
+
+-- where a MSGID is too long to be copied, an answer is linked by the number that it keeps, and a second one behind a kill likewise
+long_id_links : map links_of (live_in (run_of general (tight_state (record { base = 1; slots = with_ids (replicate 4097 97) None ∷ []; marks = [] })) (
+    by sysop_user (post_to (codes "Hello") 1) ∷ by sysop_user (post_to (codes "Hello") 2) ∷ by sysop_user (Kill 2) ∷ by sysop_user (post_to (codes "Hello") 1) ∷ [])).state) ≡
+    (1 ∷ 0 ∷ 4 ∷ 0 ∷ []) ∷ (3 ∷ 2 ∷ 0 ∷ 0 ∷ []) ∷ (4 ∷ 1 ∷ 0 ∷ 0 ∷ []) ∷ []
+long_id_links = refl

@@ -3,4 +3,5 @@ pub mod Beginnings
 pub mod Doubling
 pub mod OneAnswer
 pub mod Serials
+mod StandardFacts
 pub mod Written

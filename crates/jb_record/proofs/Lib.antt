@@ -1,3 +1,4 @@
 pub mod PrefixFree
 pub mod ReadAgain
 pub mod Spelled
+mod StandardFacts

@@ -1,2 +1,3 @@
 pub mod Spelling
+mod StandardFacts
 mod Walked

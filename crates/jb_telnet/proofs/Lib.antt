@@ -1,3 +1,4 @@
 pub mod Fronts
 pub mod Cuts
 pub mod Readings
+mod StandardFacts

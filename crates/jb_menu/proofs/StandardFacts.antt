@@ -1,0 +1,290 @@
+-- Sessions step by step, worked by hand from the table of the menus and the texts of a session: beside what is given stands what
+-- is done then. A caret in a text is the end of a line.
+use Rattle.std.proofs.Common.{◌≡◌, ℕ, ◌==◌, true, false, List, [], ◌∷◌, ◌++◌, Some, None, map, flat_map, replicate, codes, pos, refl, if◌then◌else◌}
+use Rattle.std.specs.Fmt.{digits}
+use Rattle.jb_base.specs.declared.area.Kind.TheVariants.{Local}
+use Rattle.jb_base.specs.declared.area.Rule.TheVariants.{A4}
+use Rattle.jb_conf.specs.declared.board.Board.{Board}
+use Rattle.jb_conf.specs.declared.board.BoardArea.{BoardArea}
+use Rattle.jb_model.specs.Short.{short_of}
+use Rattle.jb_model.specs.declared.command.Command.TheVariants as command
+use Rattle.jb_model.specs.declared.command.Field.TheVariants as field
+use Rattle.jb_model.specs.declared.look.Answer.TheVariants.{Summaries, Figures as TheFigures}
+use Rattle.jb_model.specs.declared.look.Question.TheVariants as question
+use Rattle.jb_model.specs.declared.look.Question.TheVariants.{Figures}
+use Rattle.jb_model.specs.declared.look.SharedFault.TheVariants.{StoreFault, Gap, RunSpent, Barred}
+use Rattle.jb_model.specs.declared.reply.Reply.TheVariants as reply
+use Rattle.jb_model.specs.declared.summary.Summary.{Summary}
+use Rattle.jb_text.specs.Date.{clock_of, date_text, month_and_day, year_and_day}
+use Rattle.jb_text.specs.Letter.{heading_text}
+use Rattle.jb_menu.specs.CommandLines.{command_of}
+use Rattle.jb_menu.specs.LogIn.{login_row}
+use Rattle.jb_menu.specs.Menu.{menu_turn, stage_turn, user_in}
+use Rattle.jb_menu.specs.declared.given.Given.{Given}
+use Rattle.jb_menu.specs.declared.given.Given.TheVariants.{Line, Reply, Answer, Count, Fault}
+use Rattle.jb_menu.specs.declared.moves.MenuEnd.{MenuEnd}
+use Rattle.jb_menu.specs.declared.moves.MenuEnd.TheVariants.{Quit, LoginRefused}
+use Rattle.jb_menu.specs.declared.moves.Move.{Move}
+use Rattle.jb_menu.specs.declared.moves.Move.TheVariants as move
+use Rattle.jb_menu.specs.declared.moves.Move.TheVariants.{Ask, Look}
+use Rattle.jb_menu.specs.declared.state.Stage.TheVariants.{Text}
+use Rattle.jb_menu.specs.declared.state.State.{State}
+use Rattle.jb_menu.specs.declared.state.State.TheVariants.{Area, Ended, Name, Top}
+
+-- an area with this ordinal, name and reading level
+abbrev area : ℕ → List ℕ → ℕ → BoardArea
+area ordinal name read = record {
+  name = name;
+  dir = codes "areas";
+  base = name;
+  rules = record { ordinal = ordinal; address = codes "2:5020/1042"; kind = Local; read = read; post = 0; sysop = 255; slots = 16000 };
+}
+
+-- a board with three areas, of which the second is not for its one user
+abbrev board : Board
+board = record {
+  name = codes "Test Board";
+  address = codes "2:5020/1042";
+  port = 2323;
+  nodes = 1;
+  offset = pos 0;
+  pack_minutes = 60;
+  areas = area 1 (codes "general") 10 ∷ area 2 (codes "staff") 200 ∷ area 3 (codes "news") 50 ∷ [];
+  users = record {
+    user = record { name = codes "Hello"; id = 8; level = 50 };
+    salt = [];
+    digest = [];
+  } ∷ [];
+}
+
+-- a text with the ends of its lines
+abbrev lines : List ℕ → List ℕ
+lines text = flat_map (λ byte. if byte == 94 then 13 ∷ 10 ∷ [] else byte ∷ []) text
+
+-- what is said, and what is said where the next line is typed unseen or the session is over
+abbrev says : List ℕ → Move
+says text = move.Say (lines text) false
+
+abbrev unseen : Move
+unseen = move.Say (codes "Password: ") true
+
+abbrev ends : List ℕ → MenuEnd → Move
+ends text end = move.End (lines text) end
+
+-- figures, a list of messages with these numbers, and a message that was read, from Test to Hello
+abbrev counted : ℕ → ℕ → Given
+counted visible unread = Answer (TheFigures (record { base = 1; next = 100; visible = visible; unread = unread; last = 0; high = 0 }))
+
+abbrev summary : ℕ → Summary
+summary number = record {
+  number = number;
+  from = short_of 36 (codes "Test");
+  to = short_of 36 (codes "Hello");
+  subject = short_of 72 (codes "abc");
+  written = 1000000000;
+  attribute = 0x00800001;
+  parent = 0;
+}
+
+abbrev listed : List ℕ → Given
+listed numbers = Answer (Summaries (map summary numbers))
+
+abbrev read : ℕ → ℕ → List ℕ → Given
+read number attribute subject = Reply (reply.Text (record {
+  number = number;
+  from = codes "Test";
+  to = codes "Hello";
+  subject = subject;
+  msgid = [];
+  reply = [];
+  written = 1000000000;
+  attribute = attribute;
+  reply_to = 0;
+  reply_first = 0;
+  reply_next = 0;
+  text = codes "Good" ++ 13 ∷ [];
+}))
+
+-- a line of each of these letters and what stands behind it comes to the same
+abbrev each : List ℕ → List ℕ → Move → List (Given × Move)
+each letters behind step = map (λ letter. (Line (letter ∷ behind), step)) letters
+
+-- what is done in this state with what is given, one after another
+abbrev moves : State → List (Given × Move) → List Move
+moves state [] = []
+moves state (one ∷ rest) = (menu_turn board state one.0).step ∷ moves (menu_turn board state one.0).state rest
+
+-- it is what stands beside it
+abbrev Follows : State → List (Given × Move) → Type 0
+Follows state script = moves state script ≡ map (λ one. one.1) script
+
+-- a log-in: any line is a name, and what was not asked for is passed over
+abbrev log_in : List (Given × Move)
+log_in = (Count 1, says []) ∷ (listed (1 ∷ []), says []) ∷ (Line [], unseen) ∷ (Fault StoreFault, says []) ∷ []
+
+log_in_steps : Follows (Name 0) log_in
+unfolding menu_turn stage_turn
+log_in_steps = refl
+
+-- the user is greeted by the name of the settings; a log-in is refused three times, whatever the names are
+log_ins : (login_row board 0 (Some 0) ≡ record { step = says (codes "Welcome, Hello.^Top> "); state = Top 0 })
+    × (map (λ refused. login_row board refused None) (0 ∷ 1 ∷ 2 ∷ []) ≡ record { step = says (codes "Login incorrect.^Name: "); state = Name 1 }
+    ∷ record { step = says (codes "Login incorrect.^Name: "); state = Name 2 } ∷ record { step = ends (codes "Login incorrect.^Goodbye.^") LoginRefused; state = Ended } ∷ [])
+log_ins = (refl, refl)
+
+-- commands outside of the areas; the second area is not for this user
+abbrev top_commands : List (Given × Move)
+top_commands =
+    ((Line [], says (codes "Top> ")) ∷ (Line (codes "   "), says (codes "Top> ")) ∷ (counted 1 1, says []) ∷ (Reply (reply.Posted 2), says []) ∷ [])
+    ++ each (codes "BCDEFGHIJKLMNOPRSTUVWXYZbcdefghijklmnoprstuvwxyz") [] (says (codes "Unknown command.^Top> "))
+    ++ each (codes "ABCDEFGHIJKLMNOPQRSTUVWXYZabcdefghijklmnopqrstuvwxyz") (codes " 7") (says (codes "Unknown command.^Top> "))
+    ++ each (codes "!?.-+") [] (says (codes "Unknown command.^Top> "))
+    ++ ((Line (codes "AA"), says (codes "Unknown command.^Top> ")) ∷ (Line (codes "A1"), says (codes "Unknown command.^Top> "))
+    ∷ (Line (codes "1A"), says (codes "Unknown command.^Top> ")) ∷ (Line (codes "1 1"), says (codes "Unknown command.^Top> "))
+    ∷ (Line (codes "+1"), says (codes "Unknown command.^Top> ")) ∷ (Line (codes "-1"), says (codes "Unknown command.^Top> "))
+    ∷ (Line (codes "0"), says (codes "No such area.^Top> ")) ∷ (Line (codes "2"), says (codes "No such area.^Top> "))
+    ∷ (Line (codes "4"), says (codes "No such area.^Top> ")) ∷ (Line (codes "257"), says (codes "No such area.^Top> "))
+    ∷ (Line (codes "4294967295"), says (codes "No such area.^Top> ")) ∷ (Line (codes "4294967296"), says (codes "Unknown command.^Top> "))
+    ∷ (Line (codes "4294967297"), says (codes "Unknown command.^Top> ")) ∷ (Line (codes "9999999999"), says (codes "Unknown command.^Top> "))
+    ∷ (Line (codes "00000000001"), says (codes "Unknown command.^Top> ")) ∷ (Line (codes "0000000001"), Look 0 Figures)
+    ∷ (Fault Barred, says (codes "Index not open, try again.^Top> ")) ∷ (Line (codes "  3 "), Look 2 Figures) ∷ (Line (codes "1"), says [])
+    ∷ (listed (1 ∷ []), says []) ∷ (Fault RunSpent, says (codes "History full.^Top> ")) ∷ (Line (codes "A"), move.Count 0) ∷ (Reply (reply.Posted 2), says [])
+    ∷ (Count 1, move.Count 2) ∷ (Line (codes "q"), says [])
+    ∷ (Count 1234567, says (codes "  1  general" ++ replicate 22 32 ++ codes "1 unread^  3  news                    1234567 unread^Top> "))
+    ∷ (Line (codes " a "), move.Count 0) ∷ (Fault StoreFault, says (codes "Store fault: the change is in doubt.^Top> ")) ∷ (Line (codes "a"), move.Count 0)
+    ∷ (Count 0, move.Count 2) ∷ (Fault (Gap 9 7), says (codes "  1  general" ++ replicate 22 32 ++ codes "0 unread^Gap: shown 9, held 7.^Top> "))
+    ∷ (Line (codes "Q"), ends (codes "Goodbye.^") Quit) ∷ [])
+
+top_commands_steps : Follows (Top 0) top_commands
+unfolding menu_turn stage_turn command_of digits heading_text date_text clock_of year_and_day month_and_day
+top_commands_steps = refl
+
+-- commands of an area, lists among them, and what is said of each reply and each fault
+abbrev area_commands : List (Given × Move)
+area_commands =
+    ((Line (codes "1"), Look 0 Figures) ∷ (counted 3 2, says (codes "3 visible, 2 unread.^[general] ")) ∷ (Line [], says (codes "[general] "))
+    ∷ (Line (codes "  "), says (codes "[general] ")) ∷ (Count 1, says []) ∷ (Reply (reply.Killed 3), says []) ∷ [])
+    ++ each (codes "ACDEFGHIJKMOSTUVWacdefghijkmostuvw!?.-+") [] (says (codes "Unknown command.^[general] "))
+    ++ each (codes "ABCDEFGHIJNOPQRSUVWXZabcdefghijnopqrsuvwxz!?.") (codes " 7") (says (codes "Unknown command.^[general] "))
+    ++ ((Line (codes "LL"), says (codes "Unknown command.^[general] ")) ∷ (Line (codes "L7"), says (codes "Unknown command.^[general] "))
+    ∷ (Line (codes "7L"), says (codes "Unknown command.^[general] ")) ∷ (Line (codes "L 7 8"), says (codes "Unknown command.^[general] "))
+    ∷ (Line (codes "L -7"), says (codes "Unknown command.^[general] ")) ∷ (Line (codes "L +7"), says (codes "Unknown command.^[general] "))
+    ∷ (Line (codes "K 4294967296"), says (codes "Unknown command.^[general] ")) ∷ (Line (codes "K 00000000007"), says (codes "Unknown command.^[general] "))
+    ∷ (Line (codes "4294967296"), says (codes "Unknown command.^[general] ")) ∷ (Line (codes "00000000007"), says (codes "Unknown command.^[general] "))
+    ∷ (Line (codes "7 7"), says (codes "Unknown command.^[general] ")) ∷ (Line (codes "L"), Look 0 (question.List 0 20)) ∷ (Line (codes "L"), says [])
+    ∷ (Count 1, says []) ∷ (counted 1 1, says []) ∷ (listed [], says (codes "Nothing.^[general] ")) ∷ (Line (codes "  l "), Look 0 (question.List 0 20))
+    ∷ (Fault Barred, says (codes "Index not open, try again.^[general] ")) ∷ (Line (codes "l   0000000007 "), Look 0 (question.List 7 20))
+    ∷ (listed (7 ∷ 9 ∷ []), says (codes "       7  Test > Hello  abc^       9  Test > Hello  abc^[general] "))
+    ∷ (Line (codes "L 4294967295"), Look 0 (question.List 4294967295 20)) ∷ (Fault (Gap 9 7), says (codes "Gap: shown 9, held 7.^[general] "))
+    ∷ (Line (codes "Y"), Look 0 (question.To 0 20)) ∷ (listed (1 ∷ []), says (codes "       1  Test > Hello  abc^[general] "))
+    ∷ (Line (codes "y 4"), Look 0 (question.To 4 20)) ∷ (listed [], says (codes "Nothing.^[general] ")) ∷ (Line (codes "T 9"), Look 0 (question.Thread 9 100))
+    ∷ (listed (9 ∷ []), says (codes "       9  Test > Hello  abc^[general] ")) ∷ (Line (codes "t 0"), Look 0 (question.Thread 0 100))
+    ∷ (Fault StoreFault, says (codes "Store fault: the change is in doubt.^[general] ")) ∷ (Line (codes "k 7"), Ask 0 (command.Kill 7)) ∷ (Line (codes "k 7"), says [])
+    ∷ (listed (1 ∷ []), says []) ∷ (Reply (reply.Killed 3), says (codes "Killed 3.^[general] ")) ∷ (Line (codes "K 0"), Ask 0 (command.Kill 0))
+    ∷ (Reply (reply.NoMessage 9), says (codes "No such message.^[general] ")) ∷ (Line (codes "K  4294967295"), Ask 0 (command.Kill 4294967295))
+    ∷ (Reply (reply.Denied A4), says (codes "Denied by rule A4.^[general] ")) ∷ (Line (codes "M 4"), Ask 0 (command.SetMark 4))
+    ∷ (Reply (reply.Marked 4 5), says (codes "Mark is 4, high 5.^[general] ")) ∷ (Line (codes "m 0"), Ask 0 (command.SetMark 0))
+    ∷ (Reply (reply.MarksFull 65000), says (codes "Marks full.^[general] ")) ∷ (Line (codes "X"), Ask 0 command.Pack)
+    ∷ (Reply (reply.Packed 1 2 3), says (codes "Packed: base 1, live 2, dropped 3.^[general] ")) ∷ (Line (codes "x"), Ask 0 command.Pack)
+    ∷ (Fault RunSpent, says (codes "History full.^[general] ")) ∷ (Line (codes "Z"), Ask 0 command.Relink)
+    ∷ (Reply (reply.Relinked 4), says (codes "Relinked: 4 changed.^[general] ")) ∷ (Line (codes "z"), Ask 0 command.Relink)
+    ∷ (Fault Barred, says (codes "Index not open, try again.^[general] ")) ∷ (Line (codes "b"), says (codes "Top> ")) ∷ (Line (codes "3"), Look 2 Figures)
+    ∷ (counted 0 0, says (codes "0 visible, 0 unread.^[news] ")) ∷ (Line (codes "B"), says (codes "Top> ")) ∷ (Line (codes "1"), Look 0 Figures)
+    ∷ (counted 3 2, says (codes "3 visible, 2 unread.^[general] ")) ∷ (Line (codes "q"), ends (codes "Goodbye.^") Quit) ∷ [])
+
+area_commands_steps : Follows (Top 0) area_commands
+unfolding menu_turn stage_turn command_of digits heading_text date_text clock_of year_and_day month_and_day
+area_commands_steps = refl
+
+-- reading by number and by N, and what R answers
+abbrev reading : List (Given × Move)
+reading =
+    (Line (codes "1"), Look 0 Figures) ∷ (counted 3 2, says (codes "3 visible, 2 unread.^[general] "))
+    ∷ (Line (codes "R"), says (codes "No message shown.^[general] ")) ∷ (Line (codes "5"), Ask 0 (command.Read 5)) ∷ (Line (codes "5"), says [])
+    ∷ (Reply (reply.NoMessage 9), says (codes "No such message.^[general] ")) ∷ (Line (codes "r"), says (codes "No message shown.^[general] "))
+    ∷ (Line (codes "0"), Ask 0 (command.Read 0)) ∷ (Fault StoreFault, says (codes "Store fault: the change is in doubt.^[general] "))
+    ∷ (Line (codes "N"), Look 0 (question.Unread 0 1)) ∷ (Line (codes "n"), says []) ∷ (counted 1 1, says [])
+    ∷ (listed [], says (codes "No unread messages.^[general] ")) ∷ (Line (codes "n"), Look 0 (question.Unread 0 1))
+    ∷ (Fault (Gap 9 7), says (codes "Gap: shown 9, held 7.^[general] ")) ∷ (Line (codes "n"), Look 0 (question.Unread 0 1))
+    ∷ (listed (6 ∷ 7 ∷ []), Ask 0 (command.Read 6)) ∷ (Reply (reply.Denied A4), says (codes "Denied by rule A4.^[general] "))
+    ∷ (Line (codes "n"), Look 0 (question.Unread 0 1)) ∷ (listed (6 ∷ []), Ask 0 (command.Read 6)) ∷ (Fault RunSpent, says (codes "History full.^[general] "))
+    ∷ (Line (codes "R"), says (codes "No message shown.^[general] ")) ∷ (Line (codes " 0000000001"), Ask 0 (command.Read 1))
+    ∷ (read 1 0x00800001 (codes "abc"), says (codes "Message 1^From: Test^To: Hello^Subject: abc^Date: 2001-09-09 01:46:40^^Good^^[general] "))
+    ∷ (Line (codes "R"), says (codes "Reply to Test, subject Re: abc^Text, . ends, ! cancels^")) ∷ (Line (codes "!"), says (codes "Cancelled.^[general] "))
+    ∷ (Line (codes "2"), Ask 0 (command.Read 2)) ∷ (Reply (reply.NoMessage 9), says (codes "No such message.^[general] "))
+    ∷ (Line (codes "r"), says (codes "Reply to Test, subject Re: abc^Text, . ends, ! cancels^")) ∷ (Line (codes "Good"), says [])
+    ∷ (Line (codes "."), Ask 0 (command.Post (codes "Test") (codes "Re: abc") (codes "Good" ++ 13 ∷ []) 1 false))
+    ∷ (Reply (reply.Posted 2), says (codes "Posted as 2.^[general] ")) ∷ (Line (codes "n"), Look 0 (question.Unread 0 1)) ∷ (listed (7 ∷ []), Ask 0 (command.Read 7))
+    ∷ (read 7 0x00800005 (codes "Re: x"), Ask 0 (command.SetMark 7)) ∷ (Line (codes "q"), says [])
+    ∷ (Reply (reply.Marked 4 5), says (codes "Message 7^From: Test^To: Hello^Subject: Re: x^Date: 2001-09-09 01:46:40^^Good^^[general] "))
+    ∷ (Line (codes "R"), says (codes "Reply to Test, subject Re: x^Text, . ends, ! cancels^"))
+    ∷ (Line (codes "."), Ask 0 (command.Post (codes "Test") (codes "Re: x") [] 7 true)) ∷ (Reply (reply.Denied A4), says (codes "Denied by rule A4.^[general] "))
+    ∷ (Line (codes "N"), Look 0 (question.Unread 0 1)) ∷ (listed (8 ∷ []), Ask 0 (command.Read 8)) ∷ (read 8 0x00800001 (codes "re: y"), Ask 0 (command.SetMark 8))
+    ∷ (Reply (reply.MarksFull 65000), says (codes "Message 8^From: Test^To: Hello^Subject: re: y^Date: 2001-09-09 01:46:40^^Good^^Marks full.^[general] "))
+    ∷ (Line (codes "R"), says (codes "Reply to Test, subject Re: re: y^Text, . ends, ! cancels^")) ∷ (Line (codes "!"), says (codes "Cancelled.^[general] "))
+    ∷ (Line (codes "N"), Look 0 (question.Unread 0 1)) ∷ (listed (9 ∷ []), Ask 0 (command.Read 9)) ∷ (read 9 0x00800001 (codes "z"), Ask 0 (command.SetMark 9))
+    ∷ (Fault Barred, says (codes "Message 9^From: Test^To: Hello^Subject: z^Date: 2001-09-09 01:46:40^^Good^^Index not open, try again.^[general] "))
+    ∷ (Line (codes "1"), Ask 0 (command.Read 1))
+    ∷ (read 1 0x00800001 (replicate 72 97), says (codes "Message 1^From: Test^To: Hello^Subject: " ++ replicate 72 97 ++ codes "^Date: 2001-09-09 01:46:40^^Good^^[general] "))
+    ∷ (Line (codes "R"), says (codes "Reply to Test, subject Re: " ++ replicate 68 97 ++ codes "^Text, . ends, ! cancels^"))
+    ∷ (Line (codes "."), Ask 0 (command.Post (codes "Test") (codes "Re: " ++ replicate 68 97) [] 1 false))
+    ∷ (Reply (reply.Posted 2), says (codes "Posted as 2.^[general] ")) ∷ (Line (codes "1"), Ask 0 (command.Read 1))
+    ∷ (read 1 0x00800001 (codes "Re: " ++ replicate 69 98), says (codes "Message 1^From: Test^To: Hello^Subject: Re: " ++ replicate 69 98 ++ codes "^Date: 2001-09-09 01:46:40^^Good^^[general] "))
+    ∷ (Line (codes "R"), says (codes "Reply to Test, subject Re: " ++ replicate 68 98 ++ codes "^Text, . ends, ! cancels^"))
+    ∷ (Line (codes "!"), says (codes "Cancelled.^[general] ")) ∷ (Line (codes "B"), says (codes "Top> ")) ∷ (Line (codes "1"), Look 0 Figures)
+    ∷ (counted 3 2, says (codes "3 visible, 2 unread.^[general] ")) ∷ (Line (codes "R"), says (codes "No message shown.^[general] "))
+    ∷ (Line (codes "Q"), ends (codes "Goodbye.^") Quit) ∷ []
+
+reading_steps : Follows (Top 0) reading
+unfolding menu_turn stage_turn command_of digits heading_text date_text clock_of year_and_day month_and_day
+reading_steps = refl
+
+-- writing a message, and what is said of each reply to it
+abbrev writing : List (Given × Move)
+writing =
+    (Line (codes "1"), Look 0 Figures) ∷ (counted 3 2, says (codes "3 visible, 2 unread.^[general] ")) ∷ (Line (codes "P"), says (codes "To: ")) ∷ (Count 1, says [])
+    ∷ (Line [], says (codes "Cancelled.^[general] ")) ∷ (Line (codes "p"), says (codes "To: ")) ∷ (Line (codes " "), says (codes "Subject: "))
+    ∷ (Reply (reply.Posted 2), says []) ∷ (Line [], says (codes "Private (Y/N): ")) ∷ (listed (1 ∷ []), says []) ∷ (Line [], says (codes "Text, . ends, ! cancels^"))
+    ∷ (Fault StoreFault, says []) ∷ (Line (codes "!"), says (codes "Cancelled.^[general] ")) ∷ (Line (codes "p"), says (codes "To: "))
+    ∷ (Line (codes "!"), says (codes "Subject: ")) ∷ (Line (codes "."), says (codes "Private (Y/N): ")) ∷ (Line (codes "Yes"), says (codes "Text, . ends, ! cancels^"))
+    ∷ (Line [], says []) ∷ (Line (codes " a b "), says []) ∷ (Line (codes ". "), says []) ∷ (Line (codes "!!"), says [])
+    ∷ (Line (codes "."), Ask 0 (command.Post (codes "!") (codes ".") (13 ∷ [] ++ codes " a b " ++ 13 ∷ [] ++ codes ". " ++ 13 ∷ [] ++ codes "!!" ++ 13 ∷ []) 0 false))
+    ∷ (Line (codes "x"), says []) ∷ (Reply (reply.Posted 2), says (codes "Posted as 2.^[general] ")) ∷ (Line (codes "P"), says (codes "To: "))
+    ∷ (Line (codes " Test "), says (codes "Subject: ")) ∷ (Line (codes " abc "), says (codes "Private (Y/N): "))
+    ∷ (Line (codes "Y"), says (codes "Text, . ends, ! cancels^")) ∷ (Line (codes "."), Ask 0 (command.Post (codes " Test ") (codes " abc ") [] 0 true))
+    ∷ (Reply (reply.EmptyName field.To), says (codes "Field To is empty.^[general] ")) ∷ (Line (codes "P"), says (codes "To: "))
+    ∷ (Line (codes "q"), says (codes "Subject: ")) ∷ (Line (codes "q"), says (codes "Private (Y/N): ")) ∷ (Line (codes "y"), says (codes "Text, . ends, ! cancels^"))
+    ∷ (Line (codes "q"), says []) ∷ (Line (codes "."), Ask 0 (command.Post (codes "q") (codes "q") (codes "q" ++ 13 ∷ []) 0 true))
+    ∷ (Reply (reply.TooLong field.Subject 73), says (codes "Field Subject too long: 73 bytes.^[general] ")) ∷ (Line (codes "P"), says (codes "To: "))
+    ∷ (Line (codes "a"), says (codes "Subject: ")) ∷ (Line (codes "b"), says (codes "Private (Y/N): ")) ∷ (Line (codes " y"), says (codes "Text, . ends, ! cancels^"))
+    ∷ (Line (codes "."), Ask 0 (command.Post (codes "a") (codes "b") [] 0 false)) ∷ (Reply (reply.SlotsFull 16000), says (codes "Area full: 16000 slots.^[general] "))
+    ∷ (Line (codes "P"), says (codes "To: ")) ∷ (Line (codes "a"), says (codes "Subject: ")) ∷ (Line (codes "b"), says (codes "Private (Y/N): "))
+    ∷ (Line (codes "n"), says (codes "Text, . ends, ! cancels^")) ∷ (Line (codes "."), Ask 0 (command.Post (codes "a") (codes "b") [] 0 false))
+    ∷ (Reply (reply.HeadersFull 9), says (codes "Headers full.^[general] ")) ∷ (Line (codes "P"), says (codes "To: ")) ∷ (Line (codes "a"), says (codes "Subject: "))
+    ∷ (Line (codes "b"), says (codes "Private (Y/N): ")) ∷ (Line (codes "n"), says (codes "Text, . ends, ! cancels^"))
+    ∷ (Line (codes "."), Ask 0 (command.Post (codes "a") (codes "b") [] 0 false)) ∷ (Reply (reply.TextFull 9), says (codes "Texts full.^[general] "))
+    ∷ (Line (codes "P"), says (codes "To: ")) ∷ (Line (codes "a"), says (codes "Subject: ")) ∷ (Line (codes "b"), says (codes "Private (Y/N): "))
+    ∷ (Line (codes "n"), says (codes "Text, . ends, ! cancels^")) ∷ (Line (codes "."), Ask 0 (command.Post (codes "a") (codes "b") [] 0 false))
+    ∷ (Reply (reply.NumbersSpent 16777216), says (codes "Numbers spent at 16777216.^[general] ")) ∷ (Line (codes "P"), says (codes "To: "))
+    ∷ (Line (codes "a"), says (codes "Subject: ")) ∷ (Line (codes "b"), says (codes "Private (Y/N): ")) ∷ (Line (codes "n"), says (codes "Text, . ends, ! cancels^"))
+    ∷ (Line (codes "."), Ask 0 (command.Post (codes "a") (codes "b") [] 0 false)) ∷ (Fault (Gap 9 7), says (codes "Gap: shown 9, held 7.^[general] ")) ∷ []
+
+writing_steps : Follows (Top 0) writing
+unfolding menu_turn stage_turn command_of digits heading_text date_text clock_of year_and_day month_and_day
+writing_steps = refl
+
+-- a text of 207 lines of 79 bytes with their ends; 31 bytes more with their end make it 16,384
+abbrev long_text : List ℕ
+long_text = flat_map (λ (line : List ℕ). line ++ 13 ∷ []) (replicate 207 (replicate 78 120))
+
+abbrev long : List (Given × Move)
+long = (Line (replicate 31 121), says (codes "Text full, line dropped.^")) ∷ (Line (replicate 30 121), says []) ∷ (Line [], says (codes "Text full, line dropped.^"))
+    ∷ (Line (codes "."), Ask 0 (command.Post (codes "a") (codes "b") (long_text ++ replicate 30 121 ++ 13 ∷ []) 0 false)) ∷ []
+
+long_steps : Follows (Area (record { user = 0; area = 0; shown = None }) (Text (record { to = codes "a"; subject = codes "b"; reply_to = 0; private = false }) long_text)) long
+unfolding menu_turn stage_turn command_of digits heading_text date_text clock_of year_and_day month_and_day
+long_steps = refl
+
+-- the user is told from the log-in to the end
+users : (user_in (Name 2) ≡ None) × (user_in (Top 0) ≡ Some 0)
+users = (refl, refl)

@@ -1,0 +1,78 @@
+//! The thread of a message, in an area of which each message keeps the number two before its own as its parent.
+
+use jb_base::Subfields;
+use jb_link::{is_live, thread};
+use jb_model::{Head, Loaded, LoadedMarks, LoadedMessage, LoadedSlot, LoadedSlots};
+use std::alloc::Global;
+use trial_rows::{Row, RowError, Words};
+
+/// `thread COUNT NUMBER`: the numbers of the thread of this message, in an area of so many messages.
+pub fn put_thread(alloc: Global, row: &Row, words: &mut Words) -> Result<(), RowError> {
+    let count = row.u8(1)?;
+    let number = row.u32(2)?;
+    let mut slots = LoadedSlots::new(alloc)?;
+    for parent in 0..u32::from(count) {
+        slots.push(message(alloc, parent.saturating_sub(1)))?;
+    }
+    let loaded = area(slots, LoadedMarks::new(alloc)?);
+    put_numbers(alloc, &loaded, number, words)
+}
+
+fn message(alloc: Global, parent: u32) -> LoadedSlot {
+    LoadedSlot::Live(LoadedMessage {
+        owner: 0,
+        head: Head {
+            reserved: 0,
+            times_read: 0,
+            msgid_crc: 0,
+            reply_crc: 0,
+            reply_to: parent,
+            reply_first: 0,
+            reply_next: 0,
+            written: 0,
+            received: 0,
+            processed: 0,
+            attribute: 0,
+            attribute2: 0,
+            password: 0,
+            cost: 0,
+        },
+        subfields: Subfields::new(alloc),
+        header_at: 1_024,
+        text_at: 0,
+        text_len: 0,
+    })
+}
+
+fn area(slots: LoadedSlots, marks: LoadedMarks) -> Loaded {
+    Loaded {
+        created: 0,
+        counter: 0,
+        active: 0,
+        password: 0,
+        reserved: [0; 1000],
+        base: 1,
+        slots,
+        marks,
+        headers_len: 1_024,
+        texts_len: 0,
+    }
+}
+
+fn put_numbers(
+    alloc: Global,
+    loaded: &Loaded,
+    number: u32,
+    words: &mut Words,
+) -> Result<(), RowError> {
+    if loaded.base != 1 || loaded.slots.as_slice().len() > 255 || !is_live(loaded, number) {
+        return Err(RowError::Unknown(2));
+    }
+    let Ok(numbers) = thread(alloc, loaded, number) else {
+        return Err(RowError::OutOfMemory);
+    };
+    for number in numbers.as_slice() {
+        words.number(u64::from(*number));
+    }
+    Ok(())
+}
