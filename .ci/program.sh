@@ -14,14 +14,12 @@ crates_of() {
         }' "$1/crates.txt" | LC_ALL=C sort
 }
 
-# files_of TOP: the files that decide what the program is and that it is proved, each name ended by a zero byte
+# files_of TOP: the files of which the program is built, each name ended by a zero byte. What specs/ and proofs/ hold proves it and is in no byte of it
 files_of() {
     (
         cd "$1" || exit 1
         for crate in $(crates_of .); do
-            for folder in src specs proofs; do
-                [ -d "crates/$crate/$folder" ] && find "crates/$crate/$folder" -type f -print0
-            done
+            find "crates/$crate/src" -type f -print0
         done | LC_ALL=C sort -z
     )
 }

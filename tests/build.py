@@ -4,11 +4,12 @@ sources do not build.
 
 usage: build.py
 
-A copy of what the program is made of is run as it stands, then with a wrong body in one crate, which is one of the edits that the gate
-wants refused, then without the kit, then stopped while it proves, then as it stood at first, and at last with another sum beside the kept
-program, so that it is built. What an earlier run of the gate kept of the crates is used; where it kept nothing no whole build is tried, and
-a line says so.
+A copy of what the program is made of is run as it stands, then with another definition and another proof, which are in no byte of it, then
+with a wrong body in the lowest crate, which is one of the edits that the gate wants refused, then without the kit, then stopped while it
+proves, then as it stood at first, and at last with another sum beside the kept program, so that it is built. What the kit kept of the crates
+is used; where it kept nothing no whole build is tried, and a line says so.
 """
+import glob
 import os
 import re
 import shutil
@@ -21,7 +22,8 @@ import time
 from trial import Trial
 
 TOP = os.path.dirname(os.path.dirname(os.path.realpath(__file__)))
-EDIT = "crates/jb_access/must-fail/always_refuses.edit"
+# of a crate that uses no other, so that nothing has to be proved before it is refused
+EDIT = "crates/jb_base/must-fail/reads_the_highest_byte_first.edit"
 CRATE = EDIT.split("/")[1]
 LIMIT = 3000
 # in the environment of a build, so that its processes are found
@@ -93,12 +95,24 @@ class Copy(Trial):
     def serves(self, when, wanted):
         self.is_so(f"{when}, the kept program is run", self.runs(), (0, wanted, []))
 
+    def proves_otherwise(self, wanted):
+        """Another definition and another proof change no byte of the program, so no build begins: by the time of the sources, nor by their sum."""
+        for part in ("specs", "proofs"):
+            path = min(glob.glob(f"{self.folder}/crates/{CRATE}/{part}/*.antt"))
+            with open(path) as file:
+                text = file.read()
+            put(path, f"{text}-- another line\n")
+            self.serves(f"with others in {part}", wanted)
+            os.remove(f"{self.folder}/crates/board/out/board.serves")
+            self.serves(f"with others in {part}, by the sum", wanted)
+            put(path, text)
+
     def builds_nothing(self, when, status, printed, told):
         """What each run that comes to no program shows."""
         self.is_so(f"{when}, status and what is printed", (status, printed), (NOT_BUILT, ""))
         self.is_so(f"{when}, why it builds", told[:1], ["board: the sources are not those of the program that is kept in built/"])
         begins = next((line for line in told if line.startswith("board: proving the ")), "")
-        self.holds(f"{when}, what is begun: {begins}", re.fullmatch(r"board: proving the \d+ crates of the program on \d+ processors, and building it; .*", begins))
+        self.holds(f"{when}, what is begun: {begins}", re.fullmatch(r"board: proving the \d+ crates of the program on \d+ processors, and building it", begins))
         self.holds(f"{when}, no program stands there", not os.path.exists(f"{self.folder}/crates/board/out/board"))
 
     def refuses(self):
@@ -130,7 +144,7 @@ class Copy(Trial):
                 os.killpg(run.pid, signal.SIGINT)
         printed = run.communicate(timeout=LIMIT)[0]
         self.builds_nothing("stopped", NOT_BUILT if run.returncode == -signal.SIGINT else run.returncode, printed, told)
-        self.is_so("stopped, what is said", told[-1:], ["board: stopped; what was proved is kept"])
+        self.is_so("stopped, what is said", told[-1:], ["board: stopped; what was proved until now is used again where the kit keeps it"])
         self.is_so("stopped, what is still at work", marked(self.folder), {})
         self.is_so("stopped, what is left beside the note of what serves", os.listdir(f"{self.folder}/crates/board/out"), ["board.serves"])
 
@@ -164,6 +178,7 @@ def main():
         path, right, wrong = edit_of(folder)
         trial.holds(f"{EDIT} changes something", right != wrong)
         trial.serves("at first", wanted)
+        trial.proves_otherwise(wanted)
         put(path, wrong)
         trial.refuses()
         trial.lacks_the_kit(path_without("rt", f"{room}/path"))
