@@ -132,6 +132,10 @@ class Caller:
 
     def posts(self, to, subject, text, is_private=False, prompt=b"[general] "):
         """Posts a message, and gives its number once that is acknowledged."""
+        return self.number_of(self.writes(to, subject, text, is_private, prompt))
+
+    def writes(self, to, subject, text, is_private=False, prompt=b"[general] "):
+        """Writes a message, and gives what comes upon its end."""
         self.answers(b"p", b"", b"To: ")
         self.answers(to, b"", b"Subject: ")
         self.answers(subject, b"", b"Private (Y/N): ")
@@ -139,11 +143,14 @@ class Caller:
         return self.ends_text(text, prompt)
 
     def ends_text(self, text, prompt):
-        """Types the lines of a text and its end, and gives the number under which it is posted."""
+        """Types the lines of a text and its end, and gives what comes upon it."""
         self.reads(b"Text, . ends, ! cancels\r\n")
         for line in text:
             self.enters(line)
-        found = self.enters(b".", prompt)
+        return self.enters(b".", prompt)
+
+    def number_of(self, found):
+        """The number under which a message was posted."""
         if not (found.startswith(b"Posted as ") and found.endswith(b".\r\n") and found[10:-3].isdigit()):
             raise Otherwise(f"{self.what}: {found!r} came upon a post")
         return int(found[10:-3])

@@ -103,27 +103,18 @@ def waiting_base(draw):
     files, places = whole_base(draw)
     answer = header(named(b"Sysop", b"Hedy", b"Re: first", msgid(21), (5, msgid(8)[1])), number=21, offset=3107, length=50, reply_to=8)
     entry = struct.pack("<II", jam.crc(b"Hedy"), len(files["jhr"]))
-    lengths = [len(files["jhr"]) + len(answer), 3157, len(files["jdx"]) + 8, 32]
+    lengths = enumerate((len(files["jhr"]) + len(answer), 3157, len(files["jdx"]) + 8, 32))
     pieces = [
-        (0, 0, 0, len(files["jhr"]), answer), (0, 2, 0, len(files["jdx"]), entry), (1, 1, 5, 3107, 50), (0, 1, 0, 3000, b"moved"),
-        (0, 0, 0, places[8] + 28, struct.pack("<I", 21)), (0, 0, 0, places[16] + 52, struct.pack("<I", jam.DELETED)),
-        (0, 3, 0, 16, bytes(16)), (0, 0, 0, 8, struct.pack("<II", 41, 8)),
+        (0, len(files["jhr"]), answer), (2, len(files["jdx"]), entry), (1, 3107, (9, 50)), (1, 3000, b"moved"),
+        (0, places[8] + 28, struct.pack("<I", 21)), (0, places[16] + 52, struct.pack("<I", jam.DELETED)),
+        (3, 16, bytes(16)), (0, 8, struct.pack("<II", 41, 8)),
     ]
-    record = b"JBJ1" + struct.pack("<I", 4) + b"".join(struct.pack("<II", file, length) for file, length in enumerate(lengths))
-    record += struct.pack("<I", len(pieces))
-    for kind, file, source, place, data in pieces:
-        size, behind = (data, struct.pack("<I", 9)) if kind else (len(data), data)
-        record += struct.pack("<4BII", kind, file, source, 0, place, size) + behind
-    return files | {"jnl": b"\1" + bytes(15) + record + b"JBJE" + b"old bytes", "ndt": draw.randbytes(70)}
+    return files | {"jnl": reader.journal_of(pieces, list(lengths)) + b"old bytes", "ndt": draw.randbytes(70)}
 
 
 def small_base():
     """The files of a base with one message."""
-    fields = subfields((2, b"Test"), (3, b"Hello"), msgid(0x01000001), (6, b"abc"))
-    fixed = b"JAM\0" + struct.pack("<5I", 10**9, 1, 1, jam.EMPTY, 1) + bytes(1000)
-    head = header(fields, number=1, length=5, attribute=0x00800001, written=10**9)
-    index = struct.pack("<II", jam.crc(b"Hello"), len(fixed))
-    return {"jhr": fixed + head, "jdt": b"Good\r", "jdx": index, "jlr": b"", "jnl": b"", "ndt": b""}
+    return jam.files_of(jam.one_message()) | {"jnl": b"", "ndt": b""}
 
 
 def small_damages():

@@ -21,7 +21,6 @@ import threading
 
 import jam
 from caller import GUARD
-from local import one_message
 from served import Served, resets, together
 from trial import memory_folder, settings
 from visits import AREAS, COUNT, NAMES, password_of, users
@@ -259,10 +258,9 @@ def try_deaf(trial, many):
 def of_large_letter(trial, **run):
     """A run over a base with one letter as long as a base may hold."""
     trial.is_gone()
-    trial.has_bases()
-    base = one_message()
+    base = jam.one_message()
     base.slots[0].text = b"x" * LETTER_BYTES
-    jam.write(f"{trial.folder}/areas", "large", base)
+    jam.write_only(f"{trial.folder}/areas", large=base)
     trial.has_settings(settings(("large",), users(), port=trial.port, nodes=4))
     Served.begins(trial, areas=("large",), nodes=4, **run)
 

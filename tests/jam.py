@@ -3,6 +3,7 @@
 """
 import os
 import re
+import shutil
 import struct
 import zlib
 
@@ -49,6 +50,17 @@ class Base:
         return {self.number + n: m for n, m in enumerate(self.slots) if m is not None and m.is_live()}
 
 
+def one_message():
+    """A base with one message, from Test to Hello."""
+    fields = b"".join(struct.pack("<HHI", kind, 0, len(data)) + data for kind, data in (
+        (2, b"Test"), (3, b"Hello"), (4, b"2:5020/1042 01000001"), (6, b"abc")))
+    head = dict.fromkeys(FIELDS, 0)
+    head.update(subfields=len(fields), msgid_crc=crc(b"2:5020/1042 01000001"), reply_crc=EMPTY, written=1_000_000_000, number=1,
+                attribute=0x00800001, password=EMPTY)
+    fixed = b"JAM\0" + struct.pack("<5I", 1_000_000_000, 1, 1, EMPTY, 1) + bytes(1000)
+    return Base(fixed, [Message(head, fields, b"Good\r", crc(b"Hello"))], b"")
+
+
 def path_of(folder, name, extension):
     """The path of a file of the base, whose extensions are in upper case where its header file's is, else in lower case."""
     is_upper = os.path.exists(f"{folder}/{name}.JHR")
@@ -66,14 +78,18 @@ def read_files(folder, name):
 
 def read(folder, name):
     """The base in these files, and how many bytes of .JHR and .JDT no message has."""
-    files = read_files(folder, name)
+    return base_in(read_files(folder, name))
+
+
+def base_in(files):
+    """The same of files that hold together, by their bytes."""
     headers, texts = files["jhr"], files["jdt"]
     slots, header_bytes, text_bytes = [], 1024, 0
     for owner, at in struct.iter_unpack("<II", files["jdx"]):
         if at == EMPTY:
             slots.append(None)
             continue
-        assert headers[at:at + 6] == b"JAM\0\1\0", (name, len(slots))
+        assert headers[at:at + 6] == b"JAM\0\1\0", len(slots)
         values = struct.unpack_from("<HIIIIIIIIIIIIIIIII", headers, at + 6)
         head = dict(zip(FIELDS, values))
         fields = headers[at + 76:at + 76 + head["subfields"]]
@@ -85,8 +101,8 @@ def read(folder, name):
     return base, len(headers) - header_bytes, len(texts) - text_bytes
 
 
-def write(folder, name, base, draw=None):
-    """Writes the base one message behind another, or in a drawn order with dead bytes between."""
+def files_of(base, draw=None):
+    """The bytes of each file of the base, one message behind another, or in a drawn order with dead bytes between."""
     headers, texts, index = [base.fixed], [], [struct.pack("<II", EMPTY, EMPTY)] * len(base.slots)
     at, text_at = 1024, 0
     places = [n for n, message in enumerate(base.slots) if message is not None]
@@ -108,9 +124,22 @@ def write(folder, name, base, draw=None):
         index[n] = struct.pack("<II", message.owner, at)
         at += 76 + len(message.fields)
         text_at += len(message.text)
-    for extension, parts in zip(FILES, (headers, texts, index, [base.marks])):
+    return {extension: b"".join(parts) for extension, parts in zip(FILES, (headers, texts, index, [base.marks]))}
+
+
+def write(folder, name, base, draw=None):
+    """Writes the files of the base, with extensions in lower case."""
+    for extension, data in files_of(base, draw).items():
         with open(f"{folder}/{name}.{extension}", "wb") as file:
-            file.write(b"".join(parts))
+            file.write(data)
+
+
+def write_only(folder, **bases):
+    """Writes these bases, by their names, into a folder that has nothing else."""
+    shutil.rmtree(folder, ignore_errors=True)
+    os.mkdir(folder)
+    for name, base in bases.items():
+        write(folder, name, base)
 
 
 def crc(name):

@@ -16,8 +16,8 @@ import sys
 import tempfile
 import time
 
-from jam import EMPTY, FIELDS, PRIVATE, Base, Message, crc, read, read_files, write
-from trial import OFFERS, Trial, memory_folder, settings, with_limit
+from jam import PRIVATE, crc, one_message, read, read_files, write_only
+from trial import OFFERS, Trial, is_told, memory_folder, settings, with_limit
 
 TOP = os.path.dirname(os.path.dirname(os.path.realpath(__file__)))
 START = OFFERS + b"Test Board\r\nName: "
@@ -42,17 +42,6 @@ def lines(words):
     return "".join(word + "\r\n" for word in words).encode()
 
 
-def one_message():
-    """A base with one message, from Test to Hello."""
-    fields = b"".join(struct.pack("<HHI", kind, 0, len(data)) + data for kind, data in (
-        (2, b"Test"), (3, b"Hello"), (4, b"2:5020/1042 01000001"), (6, b"abc")))
-    head = dict.fromkeys(FIELDS, 0)
-    head.update(subfields=len(fields), msgid_crc=crc(b"2:5020/1042 01000001"), reply_crc=EMPTY, written=1_000_000_000, number=1,
-                attribute=0x00800001, password=EMPTY)
-    fixed = b"JAM\0" + struct.pack("<5I", 1_000_000_000, 1, 1, EMPTY, 1) + bytes(1000)
-    return Base(fixed, [Message(head, fields, b"Good\r", crc(b"Hello"))], b"")
-
-
 class Sessions(Trial):
     """Runs of the program in one folder, each with what it must send and its status."""
 
@@ -67,10 +56,7 @@ class Sessions(Trial):
 
     def has_base(self, *names):
         """Only these bases, each with one message."""
-        shutil.rmtree(self.areas)
-        os.mkdir(self.areas)
-        for name in names:
-            write(self.areas, name, one_message())
+        write_only(self.areas, **{name: one_message() for name in names})
 
     def base(self, name="general"):
         return read(self.areas, name)[0]
@@ -91,9 +77,9 @@ class Sessions(Trial):
             return
         self.is_so(f"{what}: what is sent", done.stdout, text)
         self.is_so(f"{what}: the status", done.returncode, status)
-        # a refusal is told in words too, in a line of its own
-        told = done.stderr.startswith(b"board: ") and done.stderr.count(b"\n")
-        self.is_so(f"{what}: the error output", told if done.stderr else 0, 1 if text and text.startswith(b"fault ") else 0)
+        # a refusal is told in words too
+        is_refused = text is not None and text.startswith(b"fault ")
+        self.holds(f"{what}: the error output: {done.stderr}", is_told(done.stderr) if is_refused else not done.stderr)
 
 
 class Caller:

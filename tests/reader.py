@@ -1,16 +1,15 @@
-"""Reads the files of a base as docs/FORMATS.md says, with each test that they must pass, in their order: what is printed of a base that
-is damaged, and what its files then are. Plain and slow, and with nothing of the program.
+"""Tests the files of a base as docs/FORMATS.md says, with each test that they must pass, in their order, and does what waits in the journal:
+what is printed of a base that is damaged, and what its files then are. Plain and slow, and with nothing of the program. What is printed of a base
+that holds together is told by jam.py.
 """
-import re
 import struct
 
-DELETED = 0x80000000
-NOTHING = 0xFFFFFFFF
+import jam
+from jam import DELETED, EMPTY
+
 FILES = ("jhr", "jdt", "jdx", "jlr", "jnl", "ndt")
 CEILINGS = (134_217_728, 67_108_864, 520_000, 1_040_000)
 MOST_SLOTS, MOST_SUBFIELD_BYTES, MOST_TEXT_BYTES = 65_000, 262_144, 1_048_576
-SENDER, RECEIVER, MSGID, REPLYID, SUBJECT = 2, 3, 4, 5, 6
-MSGID_TEXT = re.compile(rb'([^" ][^ ]*|"([^"]|"")+") [0-9A-Fa-f]{8}', re.DOTALL)
 
 
 class Refused(Exception):
@@ -89,36 +88,33 @@ def replayed(files):
     return {extension: bytes(data) for extension, data in now.items()}
 
 
-class Message:
-    """A message that is live, by its number."""
+def journal_of(pieces, lengths=()):
+    """A journal whose gate is open. Its record gives these files, by their numbers, new lengths, and writes these pieces: the number of a file, a place
+    in it and the bytes, or for these the place in .NDT from which they are copied and their count."""
+    record = b"JBJ1" + struct.pack("<I", len(lengths)) + b"".join(struct.pack("<II", *it) for it in lengths) + struct.pack("<I", len(pieces))
+    for file, place, data in pieces:
+        if isinstance(data, bytes):
+            record += struct.pack("<4BII", 0, file, 0, 0, place, len(data)) + data
+        else:
+            record += struct.pack("<4BIII", 1, file, FILES.index("ndt"), 0, place, data[1], data[0])
+    return b"\1" + bytes(15) + record + b"JBJE"
 
-    def __init__(self, number, head, subfields):
-        self.number, self.subfields = number, subfields
-        self.links = struct.unpack_from("<III", head, 24)
 
-    def first(self, kind):
-        """The data of the first subfield of this kind, or None."""
-        return next((data for found, data in self.subfields if found == kind), None)
-
-
-class Base:
-    """A base whose files hold together: its number, how many slots it has, which are empty, and the messages that are live."""
+class Tests:
+    """The tests of the files of a base."""
 
     def __init__(self, files):
         self.headers, self.texts = files["jhr"], files["jdt"]
-        self.number, self.count = self.tested_whole(files["jdx"], files["jlr"])
-        self.empty, self.live, self.extents = 0, {}, []
-        for number, (_, at) in enumerate(struct.iter_unpack("<II", files["jdx"]), self.number):
-            if at == NOTHING:
-                self.empty += 1
-            else:
-                self.extents.append((number, at, self.end_of(number, at)))
-        for b, (second, start, end) in enumerate(self.extents):
-            for first, low, high in self.extents[:b]:
+        base = self.tested_whole(files["jdx"], files["jlr"])
+        slots = enumerate(struct.iter_unpack("<II", files["jdx"]), base)
+        extents = [(number, at, self.end_of(number, at)) for number, (_, at) in slots if at != EMPTY]
+        for b, (second, start, end) in enumerate(extents):
+            for first, low, high in extents[:b]:
                 if start < high and low < end:
                     raise Refused(f"3.13 HeadersOverlap {first} {second}")
 
     def tested_whole(self, index, marks):
+        """The tests of the files as a whole, and the base number."""
         if len(self.headers) < 1024:
             raise Refused("3.1 ShortHeader")
         if self.headers[:4] != b"JAM\0":
@@ -134,10 +130,10 @@ class Base:
             raise Refused("3.6 TooManySlots")
         if number + count > 0xFFFFFFFF:
             raise Refused("3.7 NumberRange")
-        return number, count
+        return number
 
     def end_of(self, number, at):
-        """Where the header at this place ends, with its subfields where it is live; a live message is kept."""
+        """Where the header at this place ends, with its subfields where it is live."""
         most = min(len(self.headers), CEILINGS[0])
         if at < 1024 or at + 76 > most:
             raise Refused(f"3.8 HeaderPlace {number}")
@@ -151,51 +147,19 @@ class Base:
         size = ulong(head, 8)
         if size > MOST_SUBFIELD_BYTES or at + 76 + size > most:
             raise Refused(f"3.8 HeaderPlace {number}")
-        subfields = self.subfields_of(number, self.headers[at + 76:at + 76 + size])
+        self.test_subfields(number, self.headers[at + 76:at + 76 + size])
         offset, length = ulong(head, 60), ulong(head, 64)
         if length > MOST_TEXT_BYTES or length and offset + length > min(len(self.texts), CEILINGS[1]):
             raise Refused(f"3.12 TextPlace {number}")
-        self.live[number] = Message(number, head, subfields)
         return at + 76 + size
 
     @staticmethod
-    def subfields_of(number, data):
-        at, found = 0, []
+    def test_subfields(number, data):
+        at = 0
         while at < len(data):
             if at + 8 > len(data) or at + 8 + ulong(data, at + 4) > len(data):
                 raise Refused(f"3.11 Subfields {number} {at}")
-            size = ulong(data, at + 4)
-            found.append((struct.unpack_from("<H", data, at)[0], data[at + 8:at + 8 + size]))
-            at += 8 + size
-        return found
-
-    def parent(self, message):
-        wanted = message.first(REPLYID)
-        if wanted is None:
-            return message.links[0] if message.links[0] in self.live and message.links[0] < message.number else 0
-        return min((it.number for it in self.live.values() if it.number < message.number and it.first(MSGID) == wanted), default=0)
-
-    def is_linked(self):
-        parents = {number: self.parent(message) for number, message in self.live.items()}
-        return all(message.links == (
-            parents[number],
-            min((it for it in parents if parents[it] == number), default=0),
-            min((it for it in parents if it > number and parents[it] == parents[number]), default=0) if parents[number] else 0,
-        ) for number, message in self.live.items())
-
-    def listing(self):
-        return b"".join(b"%8d  %s > %s  %s\n" % (number, *(shown(message.first(kind)) for kind in (SENDER, RECEIVER, SUBJECT)))
-                        for number, message in self.live.items())
-
-    def figures(self):
-        ids = sum(MSGID_TEXT.fullmatch(message.first(MSGID) or b"") is not None for message in self.live.values())
-        return b"base %d\nnext %d\nlive %d\nkilled %d\nempty %d\nmsgids %d\nlinked %s\n" % (
-            self.number, self.number + self.count, len(self.live), len(self.extents) - len(self.live), self.empty, ids,
-            b"yes" if self.is_linked() else b"no")
-
-
-def shown(text):
-    return bytes(63 if byte < 32 or byte == 127 else byte for byte in text or b"")
+            at += 8 + ulong(data, at + 4)
 
 
 def read(files):
@@ -203,7 +167,8 @@ def read(files):
     now = files
     try:
         now = replayed(files)
-        base = Base(now)
-        return base.listing(), base.figures(), 0, now
+        Tests(now)
+        base, _, _ = jam.base_in(now)
+        return jam.listing(base), jam.figures(base), 0, now
     except Refused as refused:
         return refused.line, refused.line, 3, now

@@ -18,11 +18,11 @@ import sys
 import tempfile
 import time
 
-from jam import DELETED, EMPTY, FIELDS, FILES, LINKS, figures, held_links, links_of, listing, read, read_files, write
-from trial import Trial
+from jam import DELETED, EMPTY, FIELDS, FILES, LINKS, figures, held_links, links_of, listing, path_of, read, read_files, write
+from reader import journal_of
+from trial import BY_ANOTHER, Trial
 
 PEER = os.path.join(os.path.dirname(os.path.abspath(__file__)), "peer")
-NOBODY = 65534
 ALREADY_THERE = b"fault 3.17 AlreadyThere\n"
 SHORT_HEADER = b"fault 3.1 ShortHeader\n"
 STORE_FAULT = b"fault 4 StoreFault\n"
@@ -121,14 +121,6 @@ def drawn_base(seed, draw):
     return base
 
 
-def record_of(pieces):
-    """A journal whose gate is open, with a record of these pieces: the file's number, the place and the bytes of each."""
-    record = b"JBJ1" + struct.pack("<II", 0, len(pieces))
-    for file, at, data in pieces:
-        record += struct.pack("<III", file, at, len(data)) + data
-    return b"\1" + bytes(15) + record + b"JBJE"
-
-
 def try_journal(trial):
     """A change that waits in the journal is done first, and a journal that holds none is refused."""
     base, _, _ = read(PEER, "PLAIN")
@@ -138,7 +130,7 @@ def try_journal(trial):
         name = f"waiting_{word}"
         copy(trial, name)
         with open(f"{trial.folder}/{name}.jnl", "wb") as file:
-            file.write(record_of([(0, at + 52, killed)]))
+            file.write(journal_of([(0, at + 52, killed)]))
         base, _, _ = read(PEER, "PLAIN")
         base.slots[9].head["attribute"] |= DELETED
         changed = sum(held_links(base)[n] != links for n, links in links_of(base).items())
@@ -150,7 +142,7 @@ def try_journal(trial):
         name = f"refused_{word}"
         copy(trial, name)
         with open(f"{trial.folder}/{name}.jnl", "wb") as file:
-            file.write(record_of([(0, at + 52, killed)])[:-5])
+            file.write(journal_of([(0, at + 52, killed)])[:-5])
         before = read_files(trial.folder, name)
         place = 16 + 12
         trial.uses(word, name, b"fault 3.14 BadJournal %d\n" % place, 3)
@@ -169,17 +161,16 @@ def try_kept(trial):
     before = [(name, open(f"{trial.folder}/{name}", "rb").read()) for name in sorted(os.listdir(trial.folder))]
     os.chmod(f"{trial.folder}/shut.jhr", 0)
     os.chmod(trial.folder, 0o555)
-    by_another = {"user": NOBODY, "group": NOBODY, "extra_groups": []} if os.geteuid() == 0 else {}
-    trial.uses("list", "kept", listing(base), **by_another)
-    trial.uses("check", "kept", figures(base), **by_another)
-    trial.uses("make", "kept", ALREADY_THERE, 3, **by_another)
+    trial.uses("list", "kept", listing(base), **BY_ANOTHER)
+    trial.uses("check", "kept", figures(base), **BY_ANOTHER)
+    trial.uses("make", "kept", ALREADY_THERE, 3, **BY_ANOTHER)
     for word in ("relink", "pack"):
-        trial.uses(word, "kept", STORE_FAULT, 4, **by_another)
+        trial.uses(word, "kept", STORE_FAULT, 4, **BY_ANOTHER)
     for word in ("list", "check", "relink", "pack"):
-        trial.uses(word, "nothing", SHORT_HEADER, 3, **by_another)
-    trial.uses("make", "nothing", STORE_FAULT, 4, **by_another)
+        trial.uses(word, "nothing", SHORT_HEADER, 3, **BY_ANOTHER)
+    trial.uses("make", "nothing", STORE_FAULT, 4, **BY_ANOTHER)
     for word in ("list", "check", "relink", "pack", "make"):
-        trial.uses(word, "shut", STORE_FAULT, 4, **by_another)
+        trial.uses(word, "shut", STORE_FAULT, 4, **BY_ANOTHER)
     os.chmod(trial.folder, 0o755)
     os.chmod(f"{trial.folder}/shut.jhr", 0o644)
     trial.holds("what may not be written is as it was", is_as_before(trial, before))
@@ -189,11 +180,11 @@ def try_made(trial):
     """A base that is made is empty and whole, and is not made over another."""
     since = int(time.time())
     trial.uses("make", "made", b"")
-    found = {extension: open(f"{trial.folder}/made.{extension}", "rb").read() for extension in ("JHR", "JDT", "JDX", "JLR")}
-    created = struct.unpack_from("<I", found["JHR"], 4)[0]
-    trial.holds("make writes a fixed header", found["JHR"] == b"JAM\0" + struct.pack("<5I", created, 0, 0, EMPTY, 1) + bytes(1000)
+    found = read_files(trial.folder, "made")
+    created = struct.unpack_from("<I", found["jhr"], 4)[0]
+    trial.holds("make writes a fixed header", found["jhr"] == b"JAM\0" + struct.pack("<5I", created, 0, 0, EMPTY, 1) + bytes(1000)
                 and since <= created <= time.time())
-    trial.holds("make leaves three empty files", (found["JDT"], found["JDX"], found["JLR"]) == (b"", b"", b""))
+    trial.holds("make leaves three empty files", all(os.path.exists(path_of(trial.folder, "made", it)) and not found[it] for it in FILES[1:]))
     trial.uses("list", "made", b"")
     trial.uses("check", "made", b"base 1\nnext 1\nlive 0\nkilled 0\nempty 0\nmsgids 0\nlinked yes\n")
     trial.uses("make", "made", ALREADY_THERE, 3)

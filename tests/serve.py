@@ -24,12 +24,11 @@ import time
 
 import jam
 from caller import GUARD, PLAIN, TALKATIVE, Otherwise
-from served import Served, free_port, has_version_6, is_quiet, resets, together
-from trial import settings, with_files, with_limit
+from served import Served, free_port, has_version_6, is_quiet, low_port, resets, together
+from trial import BY_ANOTHER, settings, with_files, with_limit
 from visits import AREAS, CLIENTS, COUNT, NAMES, SYSOP, Hall, Post, Visit, password_of, users
 
 TOP = os.path.dirname(os.path.dirname(os.path.realpath(__file__)))
-NOBODY = 65534
 MOST_SESSION_BYTES = 16_777_216
 HOST_FAULT = b"fault 5 HostFault\n"
 GREETING = b"Test Board\r\nName: "
@@ -251,7 +250,7 @@ def try_refusals(trial):
     if low is not None:
         trial.has_settings(settings(AREAS, users(), port=low, nodes=COUNT))
         trial.opens_to_all()
-        trial.is_so(f"port {low}, without the right", trial.ended(*words, user=NOBODY, group=NOBODY, extra_groups=[]), (HOST_FAULT, 5))
+        trial.is_so(f"port {low}, without the right", trial.ended(*words, **BY_ANOTHER), (HOST_FAULT, 5))
     after = [jam.read_files(f"{trial.folder}/areas", area) for area in AREAS]
     trial.holds("where a port is refused the areas are as they were", all(
         was[file] == now[file] for was, now in zip(before, after) for file in jam.FILES) and all(now["jnl"][:1] == b"\0" for now in after))
@@ -267,12 +266,6 @@ def try_refusals(trial):
         trial.is_so(f"the words {behind}", trial.ended("serve", *behind), (b"fault 1 Words\n", 1))
 
 
-def low_port():
-    """A port that a user without rights may not open, if there is one and this user has the right to try."""
-    with open("/proc/sys/net/ipv4/ip_unprivileged_port_start") as file:
-        return 79 if os.geteuid() == 0 and int(file.read()) > 79 else None
-
-
 def try_doubt(trial):
     """A disk that fails while callers are served: each is told so, and goes on, and the run ends with status 4."""
     trial.has_bases()
@@ -280,13 +273,7 @@ def try_doubt(trial):
     trial.begins("--calls", "0000000001", nodes=2, preexec_fn=with_limit(40))
     callers = together((lambda n=n: trial.guest(n)) for n in range(2))
     for caller in callers:
-        caller.answers(b"p", b"", b"To: ")
-        caller.answers(b"All", b"", b"Subject: ")
-        caller.answers(b"it fails", b"", b"Private (Y/N): ")
-        caller.enters(b"n")
-        caller.reads(b"Text, . ends, ! cancels\r\n")
-        caller.enters(b"a line")
-        caller.answers(b".", b"Store fault: the change is in doubt.\r\n", b"[general] ")
+        trial.is_so("a post into it", caller.writes(b"All", b"it fails", [b"a line"]), b"Store fault: the change is in doubt.\r\n")
     for caller in callers:
         caller.quits()
     trial.ends("a journal that does not grow", 4)

@@ -1,5 +1,6 @@
 """Runs of `board serve CONF` in a folder, and what several callers of them do at once."""
 import os
+import re
 import shutil
 import socket
 import struct
@@ -8,14 +9,19 @@ from concurrent.futures import ThreadPoolExecutor
 
 import jam
 from caller import BARE, GUARD, Caller, Otherwise, connected
-from trial import Trial, settings
+from trial import Trial, is_told, placed, settings
 from visits import AREAS, COUNT, NAMES, password_of, users
-
 
 def free_port():
     with socket.socket() as held:
         held.bind(("127.0.0.1", 0))
         return held.getsockname()[1]
+
+
+def low_port():
+    """A port that a user without rights may not open, if there is one and this user has the right to try."""
+    with open("/proc/sys/net/ipv4/ip_unprivileged_port_start") as file:
+        return 79 if os.geteuid() == 0 and int(file.read()) > 79 else None
 
 
 def together(tries):
@@ -65,23 +71,43 @@ class Served(Trial):
             self.is_so(f"a base is made, {area}", self.ended("make", "areas", area), (b"", 0))
         self.has_settings(settings(AREAS, users(), port=self.port, nodes=COUNT))
 
-    def ended(self, *words, **run):
-        """What a run prints and its status; the operator is told why it is refused, and nothing else."""
+    def has_letters(self, *names, **head):
+        """Only these bases, each with one message, whose header has these values."""
+        base = jam.one_message()
+        base.slots[0].head.update(head)
+        jam.write_only(f"{self.folder}/areas", **{name: base for name in names})
+
+    def done(self, *words, under=(), **run):
+        """What a run prints, its status, and what the operator is told; under a tracer, where one is given."""
         run = {"cwd": self.folder, "stdin": subprocess.DEVNULL, "stdout": subprocess.PIPE, "stderr": subprocess.PIPE, "timeout": GUARD, **run}
         try:
-            done = subprocess.run([self.program, *words], check=False, **run)
+            done = subprocess.run([*under, self.program, *words], check=False, **run)
         except subprocess.TimeoutExpired:
-            return b"no end", None
-        told = done.stderr.count(b"\n") if done.stderr.startswith(b"board: ") else done.stderr
-        self.is_so(f"{words}: what the operator is told", told, 1 if done.stdout.startswith(b"fault ") else b"")
-        return done.stdout, done.returncode
+            return b"no end", None, b""
+        return done.stdout, done.returncode, done.stderr
 
-    def begins(self, *words, areas=AREAS, nodes=COUNT, **run):
-        """Begins to serve these areas, whose journals hold no change, with so many nodes."""
-        live = {area: len(jam.read(f"{self.folder}/areas", area)[0].live()) for area in areas}
+    def ended(self, *words, **run):
+        """What a run prints and its status; the operator is told why it is refused, and nothing else."""
+        printed, status, told = self.done(*words, **run)
+        self.holds(f"{words}: what the operator is told: {told}", is_told(told) if printed.startswith(b"fault ") else not told)
+        return printed, status
+
+    def are_refused(self, what, status, runs):
+        """Looks whether these runs, all at once, are refused with this status, and the operator is told why: each is given as its words, the
+        expressions that one of the lines has to fit in lower case, and how it is run."""
+        ends = together(lambda words=words, run=run: self.done(*words, **run) for words, _, run in runs)
+        for (words, said, _), (printed, ended, told) in zip(runs, ends):
+            self.is_so(f"{what}, {' '.join(words)}: the status", ended, status)
+            self.holds(f"{what}, {' '.join(words)}: what is printed: {printed}", re.fullmatch(rb"fault %d\b.*\n" % status, printed))
+            is_said = any(all(re.search(it, line) for it in said) for line in told.lower().split(b"\n"))
+            self.holds(f"{what}, {' '.join(words)}: what the operator is told: {told}, where {said} are wanted", is_said and is_told(told))
+
+    def begins(self, *words, areas=AREAS, nodes=COUNT, under=(), **run):
+        """Begins to serve these areas, whose journals hold no change, with so many nodes; under a tracer, where one is given."""
+        live = [(name, len(jam.read(f"{self.folder}/{path}", base)[0].live())) for name, path, base in map(placed, areas)]
         self.opening = b"listening port %d nodes %d\n" % (self.port, nodes) + b"".join(
-            b"area %s live %d\n" % (area.encode(), live[area]) for area in areas)
-        self.process = subprocess.Popen([self.program, "serve", "board.toml", *words], cwd=self.folder, stdin=subprocess.DEVNULL,
+            b"area %s live %d\n" % (name.encode(), count) for name, count in live)
+        self.process = subprocess.Popen([*under, self.program, "serve", "board.toml", *words], cwd=self.folder, stdin=subprocess.DEVNULL,
                                         stdout=subprocess.PIPE, stderr=subprocess.PIPE, **run)
 
     def caller(self, name, client=BARE, host="127.0.0.1"):

@@ -23,7 +23,8 @@ import tempfile
 import time
 
 import jam
-from local import GUARD, LIMIT, lines, one_message
+from jam import one_message
+from local import GUARD, LIMIT, lines
 from trial import Trial, settings
 
 # all calls that write, sync or rename; the bytes that are told of each are enough to know them by
@@ -39,7 +40,7 @@ POST_CALLS = ("jnl len 1, jnl write 1, jnl sync 3, gate opened 1, gate closed 1,
 ANSWER_CALLS = POST_CALLS.replace("jhr write 2", "jhr write 3")
 PACK_CALLS = POST_CALLS.replace("jhr write 2", "jhr write 1")
 # what a pack copies before its commit, into a file that it makes
-COPIES = "ndt len, folder sync, ndt sync, ndt len, ndt write, ndt sync, "
+COPIES = "ndt len, folder sync, ndt write, ndt sync, "
 RECOVERY_CALLS = "jhr len 1, jhr write 2, jdt len 1, jdt write 1, jdx len 1, jdx write 1, jhr sync 1, jdt sync 1, jdx sync 1, jlr sync 1, " \
                  "gate closed 1, jnl sync 1"
 LOCAL, LIST, PACK = ("local", "board.toml"), ("list", "areas", "general"), ("pack", "areas", "general")
@@ -87,9 +88,7 @@ class Calls(Trial):
 
     def has_base(self, base=None):
         """Only this base, or one with one message, and a journal with a head and a byte behind."""
-        shutil.rmtree(self.areas, ignore_errors=True)
-        os.mkdir(self.areas)
-        jam.write(self.areas, "general", base or one_message())
+        jam.write_only(self.areas, general=base or one_message())
         self.has_files({"jnl": bytes(17)})
 
     def has_files(self, files):

@@ -21,12 +21,13 @@ import termios
 import time
 
 import local
-from jam import PRIVATE, crc, read_files, write
+from jam import PRIVATE, crc, one_message, read_files, write_only
 from local import FIRST, START, ANSWERED, lines
 from trial import USERS, settings
 
 TOP = os.path.dirname(os.path.dirname(os.path.realpath(__file__)))
 LIMIT = 60
+LOCAL = ("local", "board.toml")
 PASSWORD = b"Zq9#vault"
 SHELL = """
 stty -a >before
@@ -45,7 +46,7 @@ HUNG_UP = b"\nboard: hung up\n"
 class Terminal:
     """A terminal with a shell that runs the launcher with these words, and what it shows."""
 
-    def __init__(self, trial, what, words=("local", "board.toml")):
+    def __init__(self, trial, what, words=LOCAL):
         self.trial, self.what, self.shown, self.is_well = trial, what, b"", True
         for name in ("before", "after", "status", "pid", "line"):
             if os.path.exists(f"{trial.folder}/{name}"):
@@ -129,10 +130,9 @@ class Terminal:
 def has_letter(trial, text=b"Good\r"):
     """A base with one letter to Hello, who has a password of their own."""
     trial.has_settings(settings().replace(USERS[1][3], hashlib.sha256(PASSWORD).hexdigest()))
-    trial.has_base("general")
-    base = local.one_message()
+    base = one_message()
     base.slots[0].text = text
-    write(trial.areas, "general", base)
+    write_only(trial.areas, general=base)
 
 
 def try_session(trial):
@@ -223,13 +223,21 @@ def try_refusals(trial):
             if not well:
                 break
     seen.ends(7)
-    Terminal(trial, "no settings", ("local", "nothing.toml")).ends(5, b"fault 5 HostFault\nboard: nothing.toml: the settings file could not be read\n")
-    Terminal(trial, "no path", ("local",)).ends(1, b"fault 1 Words\nboard: these words are no command line; the word help alone shows the forms\n")
+    refuses(trial, "no settings", ("local", "nothing.toml"), 5, b"fault 5 HostFault\n", b"nothing.toml: ")
+    refuses(trial, "no path", ("local",), 1, b"fault 1 Words\n", b"board: these words are no command line; the word help alone shows the forms\n")
     trial.has_settings("x =")
-    Terminal(trial, "settings that are none").ends(2, b"fault 2.1 NotToml\nboard: board.toml: the settings are no TOML document\n")
+    refuses(trial, "settings that are none", LOCAL, 2, b"fault 2.1 NotToml\n", b"board: board.toml: the settings are no TOML document\n")
     trial.has_settings(settings(["general", "other"]))
-    Terminal(trial, "an area that is not there").ends(3, b"fault 3.1 ShortHeader area.2\nboard: board.toml: the base of area 2, looked for from the folder of this start: there is no base here: its header file, "
-                                                           b".JHR or .jhr, is not there, or has fewer than 1,024 bytes\n")
+    refuses(trial, "an area that is not there", LOCAL, 3, b"fault 3.1 ShortHeader area.2\n", b"the base of area 2, looked for from the folder of this start: ",
+            b": there is no base here: its header file, .JHR or .jhr, is not there, or has fewer than 1,024 bytes\n")
+
+
+def refuses(trial, what, words, status, *said):
+    """Looks whether a run is refused so: it shows what it does without a terminal, and all of this is said there."""
+    done = subprocess.run([trial.launcher, *words], cwd=trial.folder, stdin=subprocess.DEVNULL, stdout=subprocess.PIPE, stderr=subprocess.STDOUT,
+                          timeout=LIMIT, check=False)
+    trial.holds(f"{what}: {done.stdout}, where {said} are wanted", all(it in done.stdout for it in said))
+    Terminal(trial, what, words).ends(status, done.stdout)
 
 
 def try_pipes(trial):

@@ -2,6 +2,7 @@
 that cannot grow or of which there are few.
 """
 import os
+import re
 import resource
 import signal
 
@@ -10,9 +11,9 @@ BOARD = """name = "Test Board"
 address = "2:5020/1042"
 """
 AREA = """[[area]]
-name = "{name}"
-dir = "areas"
-base = "{name}"
+name = "{}"
+dir = "{}"
+base = "{}"
 read = 10
 post = 10
 sysop = 200
@@ -26,12 +27,24 @@ digest = "{}"
 USERS = (("Test", 7, 50, "ba7816bf8f01cfea414140de5dae2223b00361a396177a9cb410ff61f20015ad"),
          ("Hello", 8, 50, "9f86d081884c7d659a2feaa0c55ad015a3bf4f1b2b0b822cd15d6c15b0f00a08"),
          ("Sysop", 9, 255, "2cf24dba5fb0a30e26e83b2ac5b9e29e1b161e5c1fa7425e73043362938b9824"))
+# who runs a program as a user without rights, where this one has any
+BY_ANOTHER = {"user": 65534, "group": 65534, "extra_groups": []} if os.geteuid() == 0 else {}
+
+
+def placed(area):
+    """The name, folder and base of an area: all three are given, or the name of one whose base is so named and lies in `areas`."""
+    return (area, "areas", area) if isinstance(area, str) else area
 
 
 def settings(areas=("general",), users=USERS, **numbers):
     """A settings file with these areas and users, and these numbers of the board, as nodes=2."""
-    return (BOARD + "".join(f"{key} = {value}\n" for key, value in numbers.items()) + "".join(AREA.format(name=area) for area in areas)
+    return (BOARD + "".join(f"{key} = {value}\n" for key, value in numbers.items()) + "".join(AREA.format(*placed(area)) for area in areas)
             + "".join(USER.format(*user) for user in users))
+
+
+def is_told(told):
+    """Whether this is what the operator is told of a refusal: one line, on what is refused and why."""
+    return re.fullmatch(rb"board: [^\n]+\n", told) is not None
 
 
 def with_limit(most):
@@ -68,8 +81,8 @@ class Trial:
     def is_so(self, what, found, wanted):
         return self.holds(f"{what}: {str(found)[-300:]}, where {str(wanted)[-300:]} is wanted", found == wanted)
 
-    def has_settings(self, text):
-        with open(f"{self.folder}/board.toml", "w") as file:
+    def has_settings(self, text, name="board.toml"):
+        with open(f"{self.folder}/{name}", "w") as file:
             file.write(text)
 
     def tells(self, what):

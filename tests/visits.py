@@ -173,7 +173,8 @@ class Visit:
                 self.caller.enters(b"r")
                 self.caller.reads(b"Reply to %s, subject %s\r\n" % (NAMES[other], subject))
                 text = [b"%s answers in %s" % (self.name, area.encode())]
-                self.hall.adds(area, self.caller.ends_text(text, prompt), Post(self.name, NAMES[other], subject, text, False, number))
+                self.hall.adds(area, self.caller.number_of(self.caller.ends_text(text, prompt)),
+                               Post(self.name, NAMES[other], subject, text, False, number))
             number = self.hall.own(area, self.n, b"dropped")
             self.caller.answers(b"k %d" % number, b"Killed %d.\r\n" % number, prompt)
             self.hall.posts[area][number].is_killed = True

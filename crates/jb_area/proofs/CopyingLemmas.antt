@@ -3,7 +3,7 @@ use Rattle.std.proofs.Common.{◌≡◌, ◌≢◌, ◌⊎◌, inl, inr, ℕ, �
 use Rattle.std.specs.Option.{ForSome}
 use Rattle.std.specs.Prelude.{slice_index}
 use Rattle.jb_disk.specs.Change.{Change}
-use Rattle.jb_disk.specs.Device.{Device, OnlyReads, Syncs, TellsAlike, TellsAnImage, Turns}
+use Rattle.jb_disk.specs.Device.{Device, OnlyReads, Resizes, Syncs, TellsAlike, TellsAnImage, Turns}
 use Rattle.jb_disk.specs.FileLaws.{same_file, same_files}
 use Rattle.jb_disk.specs.Files.{Files, number_of}
 use Rattle.jb_disk.specs.Memory.{of_length}
@@ -17,7 +17,7 @@ use Rattle.jb_model.specs.declared.command.Command.{Command}
 use Rattle.jb_model.specs.declared.command.Command.TheVariants.{Post, Read, Peek, Kill, SetMark, Pack, Relink}
 use Rattle.jb_model.specs.declared.loaded.Loaded.{Loaded}
 use Rattle.jb_pack.proofs.CopiesLemmas.{stays_copied}
-use Rattle.jb_pack.proofs.TouchLemmas.{leaves_both, leaves_map, only_told, touches-read, touches-sync, turns-alike}
+use Rattle.jb_pack.proofs.TouchLemmas.{leaves_both, leaves_map, only_told, touches-read, touches-resize, touches-sync, touches-then, turns-alike}
 use Rattle.jb_pack.specs.Shadow.{Shadow}
 use Rattle.jb_pack.specs.Touching.{AgreeButShadow, TouchesShadow}
 use Rattle.jb_redo.proofs.ApplyLemmas.{turns_from, turns_on}
@@ -105,25 +105,32 @@ copying_opens loaded texts device copying files there = rest_opens loaded texts 
 pub alike_by : (old new : Device) → TouchesShadow old new → TellsAlike old new
 alike_by old new touches = turns-alike AgreeButShadow old.contents new.contents touches.others
 
--- once .NDT is synced the area is settled
-pub synced_copies : {T E : Type 0} (loaded : Loaded) (texts : List ℕ) (old new : Device) (result : Result T E) → TellsAnImage old → TellsAnImage new → Syncs Ndt old new result
+-- .NDT is cut to nothing and synced, done or not
+pub clearing_touches : {T U E F : Type 0} (old mid new : Device) (cut : Result T E) (result : Result U F) → TellsAnImage old → TellsAnImage mid → TellsAnImage new → Resizes Ndt 0 old mid cut
+    → Syncs Ndt mid new result → TouchesShadow old new
+clearing_touches old mid new cut result tells_old tells_mid tells_new resizes syncs =
+    touches-then old mid new (touches-resize 0 old mid cut tells_old tells_mid resizes) (touches-sync mid new result tells_mid tells_new syncs)
+
+-- once .NDT is synced, behind a call that touched it alone, the area is settled
+pub synced_copies : {T E : Type 0} (loaded : Loaded) (texts : List ℕ) (old mid new : Device) (result : Result T E) → TouchesShadow old mid → TellsAnImage mid → TellsAnImage new → Syncs Ndt mid new result
     → OnOk result (IsCopyingAs loaded texts old → IsSettledAs loaded texts new)
-synced_copies loaded texts old new (Err error) tells_old tells_new syncs = tt
-synced_copies {T} {E} loaded texts old new (Ok value) tells_old tells_new syncs = λ copying.
+synced_copies loaded texts old mid new (Err error) touches tells_mid tells_new syncs = tt
+synced_copies {T} {E} loaded texts old mid new (Ok value) before tells_mid tells_new syncs = λ was.
     let result : Result T E = Ok value in
-    let touches = touches-sync old new result tells_old tells_new syncs in
+    let copying = copying_by loaded texts old mid before was in
+    let touches = touches-sync mid new result tells_mid tells_new syncs in
     record {
-      rests = (copying_by loaded texts old new touches copying).rests;
+      rests = (copying_by loaded texts mid new touches copying).rests;
       synced = λ now there.
-          let told : old.contents ≡ Some now = sym syncs.kept ∙ there in
-          let shows = (touches.keeps now).shows (shows_own now old told copying.synced) in
+          let told : mid.contents ≡ Some now = sym syncs.kept ∙ there in
+          let shows = (touches.keeps now).shows (shows_own now mid told copying.synced) in
           leaves_both (AgreeButShadow now) (λ left. left Ndt ≡ now Ndt) (λ left. left ≡ now) new.moments
           (λ left agree shadow. same_files left now (λ file. elim (same_file file Ndt) [
             | inl same ↦ subst (λ (f : FileId). left f ≡ now f) (sym same) shadow
             | inr other ↦ agree file other
           ]))
           shows.left
-          (durable Ndt now old new told syncs.done);
+          (durable Ndt now mid new told syncs.done);
     }
 
 -- what each command does to the device before its change, as what touches .NDT alone

@@ -60,7 +60,7 @@ module _ {D : Type 0} (shown : D → Device) (area : OpenArea D) (is : area.stag
   half_copied texts None (inr half) = (half, refl)
   half_copied texts (Some coming) doubt = absurd (no_copying doubt.stopped doubt.pending (sym is ∙ doubt.stage))
 
-  -- once .NDT is synced it is at rest, and keeps no copies
+  -- once .NDT is empty and synced it is at rest, and keeps no copies
   pub copying_settles : (disk : D) (large : Option Change) (packer : Option Shadow) (stage : Stage) → large ≡ None → packer ≡ None → stage ≡ Resting
       → ((loaded : Loaded) (texts : List ℕ) → IsCopyingAs loaded texts (shown area.disk) → IsSettledAs loaded texts (shown disk))
       → (texts : List ℕ) (coming : Option Coming) → IsDoubtful shown area texts coming
@@ -80,7 +80,7 @@ module _ {D : Type 0} (shown : D → Device) (area : OpenArea D) (is : area.stag
         is = refl;
       }
 
-  -- where the sync was stopped it is in doubt as before
+  -- where that was stopped it is in doubt as before
   pub copying_still : (disk : D) → ((loaded : Loaded) (texts : List ℕ) → IsCopyingAs loaded texts (shown area.disk) → IsCopyingAs loaded texts (shown disk))
       → (texts : List ℕ) (coming : Option Coming) → IsDoubtful shown area texts coming → IsDoubtful shown (record area { disk = disk }) texts coming
   copying_still disk still texts coming doubt =

@@ -1,7 +1,7 @@
 //! The open area, and what becomes of a call that is begun.
 
 use crate::committing::{commit_change, in_use, settle_change};
-use crate::copying::{keep_after, sync_copies};
+use crate::copying::{clear_copies, keep_after};
 use crate::places::{drop_both, drop_pending, drop_stage, put_redo, put_stage};
 use crate::stage::Stage;
 use jb_base::AreaRules;
@@ -28,16 +28,17 @@ pub struct OpenArea<D: Disk> {
 }
 
 impl<D: Disk> OpenArea<D> {
-    ghost use Rattle.std.specs.Prelude.{◌≡◌, ◌≤◌, List, ℕ, Option, None, Some, IfOk, IfErr, IsOk, IsTrue, OnOk, OnErr, false};
+    ghost use Rattle.std.specs.Prelude.{◌≡◌, ◌≤◌, List, [], ℕ, Option, None, Some, IfOk, IfErr, IsOk, IsTrue, OnOk, OnErr, false};
     ghost use Rattle.std.specs.Option.{ForSome};
     ghost use Rattle.jb_base.specs.Fault.{Rose};
     ghost use Rattle.jb_disk.specs.Device.{Device, TellsAlike};
     ghost use Rattle.jb_disk.specs.Runs.{LeavesOnly};
+    ghost use Rattle.jb_disk.specs.declared.file.FileId.TheVariants.{Ndt as shadow_file};
     ghost use Rattle.jb_model.specs.declared.reply.Reply.{Reply};
     ghost use Rattle.jb_area.specs.Holds.{OpensToEither};
     ghost use Rattle.jb_decide.specs.Coming.{Coming};
     ghost use Rattle.jb_decide.specs.Packs.{IsPacked};
-    ghost use Rattle.jb_area.specs.Area.{copied_of, copies_after, device_of, loaded_of, rules_of, small_redo_of, DoubtOpens, HasBegun, HasDoubt, HasMade, HasNoChange, HasPacked, IsBegun, IsDoubtful, IsResting, RestsAt, SettlesAt};
+    ghost use Rattle.jb_area.specs.Area.{copied_of, copies_after, device_of, loaded_of, rules_of, small_redo_of, DoubtOpens, HasBegun, HasDoubt, HasMade, HasNoChange, HasPacked, IsBegun, IsDoubtful, IsHalfCopied, IsResting, RestsAt, SettlesAt};
 
     /// The area without its texts; while a call is begun or in doubt, as it was before that call.
     pub fn loaded(&self) -> &Loaded
@@ -150,7 +151,7 @@ impl<D: Disk> OpenArea<D> {
 
     /// Settles the call that was stopped, and answers whether its change stands; a call that had no change answers false.
     /// Takes no memory, and gives back what the call took for its change, and what was copied of the texts. After a copying of
-    /// texts it syncs .NDT alone. Where it is stopped again, the area stays in doubt.
+    /// texts it empties .NDT and syncs it, two calls of the device. Where it is stopped again, the area stays in doubt.
     pub fn reopen(&mut self) -> Result<bool, Stopped>
         requires doubt { HasDoubt D.device self.old }
 
@@ -158,6 +159,8 @@ impl<D: Disk> OpenArea<D> {
         ensures settled { IfOk result (λ stands. (texts : List ℕ) (coming : Option Coming) → IsDoubtful D.device self.old texts coming
             → SettlesAt D.device stands (loaded_of self.old) texts coming self.new) }
         ensures dropped { OnOk result (copied_of self.new ≡ None) }
+        ensures emptied { OnOk result ((texts : List ℕ) → IsHalfCopied D.device self.old texts
+            → ForSome (device_of D.device self.new).contents (λ files. files shadow_file ≡ [])) }
 
         // Stopped: only by a fault, and in doubt as before.
         ensures still { OnErr result ((texts : List ℕ) (coming : Option Coming) → IsDoubtful D.device self.old texts coming
@@ -177,7 +180,7 @@ impl<D: Disk> OpenArea<D> {
         ensures room { small_redo_of self.new ≡ small_redo_of self.old }
     {
         if let Stage::Copying = self.stage {
-            return match sync_copies(&mut self.disk) {
+            return match clear_copies(&mut self.disk) {
                 Ok(()) => {
                     drop_both(&mut self.large, &mut self.packer);
                     put_stage(&mut self.stage, Stage::Resting);

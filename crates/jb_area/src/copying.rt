@@ -1,11 +1,11 @@
 //! Texts are copied into .NDT, for a pack that comes later.
-ghost use Rattle.std.specs.Prelude.{◌≡◌, ◌≤◌, ℕ, List, Option, Some, IfErr, IfOk, OnErr, OnOk, length};
+ghost use Rattle.std.specs.Prelude.{◌≡◌, ◌≤◌, ℕ, List, [], Option, Some, IfErr, IfOk, OnErr, OnOk, length};
 ghost use Rattle.std.specs.Option.{ForSome};
 ghost use Rattle.jb_base.specs.Fault.{Rose};
 ghost use Rattle.jb_base.specs.declared.limits.TheConstants.{MOST_SLOTS, TEXTS_CEILING};
 ghost use Rattle.jb_disk.specs.Device.{TellsAlike};
 ghost use Rattle.jb_disk.specs.Runs.{IsAllSynced, LeavesOnly};
-ghost use Rattle.jb_disk.specs.declared.file.FileId.TheVariants.{Jdt as texts_file};
+ghost use Rattle.jb_disk.specs.declared.file.FileId.TheVariants.{Jdt as texts_file, Ndt as shadow_file};
 ghost use Rattle.jb_model.specs.Sound.{IsSound};
 ghost use Rattle.jb_model.specs.declared.loaded.Loaded.{Loaded};
 ghost use Rattle.jb_pack.specs.Copying.{PackFaultRose};
@@ -105,9 +105,10 @@ pub(crate) fn copy_some<D: Disk>(
     }
 }
 
-/// Syncs .NDT, after a copying was stopped.
-pub(crate) fn sync_copies<D: Disk>(disk: &mut D) -> Result<(), Stopped>
+/// Empties .NDT and syncs it, after a copying was stopped: then nothing is left in it that a failed sync may have lost.
+pub(crate) fn clear_copies<D: Disk>(disk: &mut D) -> Result<(), Stopped>
     ensures settled { OnOk result ((loaded : Loaded) (texts : List ℕ) → IsCopyingAs loaded texts (D.device disk.old) → IsSettledAs loaded texts (D.device disk.new)) }
+    ensures empty { OnOk result (ForSome (D.device disk.new).contents (λ files. files shadow_file ≡ [])) }
     ensures still { OnErr result ((loaded : Loaded) (texts : List ℕ) → IsCopyingAs loaded texts (D.device disk.old) → IsCopyingAs loaded texts (D.device disk.new)) }
     ensures crash { (loaded : Loaded) (texts : List ℕ) → IsCopyingAs loaded texts (D.device disk.old)
         → ForSome (D.device disk.old).contents (λ _. LeavesOnly (D.device disk.old) (D.device disk.new) (Opens loaded texts)) }
@@ -116,8 +117,11 @@ pub(crate) fn sync_copies<D: Disk>(disk: &mut D) -> Result<(), Stopped>
     ensures later { (D.device disk.old).faults ≤ (D.device disk.new).faults }
     ensures alike { TellsAlike (D.device disk.old) (D.device disk.new) }
 {
-    match disk.sync(FileId::Ndt) {
-        Ok(()) => Ok(()),
+    match disk.set_len(FileId::Ndt, 0) {
+        Ok(()) => match disk.sync(FileId::Ndt) {
+            Ok(()) => Ok(()),
+            Err(DiskFailed) => Err(Stopped::Early),
+        },
         Err(DiskFailed) => Err(Stopped::Early),
     }
 }

@@ -4,6 +4,7 @@ pub mod DeskLemmas
 pub mod WholeLemmas
 pub mod OpenLemmas
 pub mod StoppedLemmas
+pub mod ClaimLemmas
 pub mod LifeLemmas
 pub mod EndLemmas
 pub mod CloseLemmas

@@ -6,12 +6,15 @@
 //! disk is back.
 #![tactic(auto)]
 
+mod claiming;
 mod closing;
 mod dealing;
 mod error;
 mod opening;
 mod sharing;
+mod telling;
 
 pub use closing::{abandon_areas, close_areas};
 pub use error::AreasError;
 pub use opening::{SharedAreas, open_areas};
+pub use telling::meaning;

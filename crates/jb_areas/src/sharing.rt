@@ -12,9 +12,10 @@ ghost use Rattle.jb_areas.specs.Errors.{RefusesArea};
 ghost use Rattle.jb_areas.specs.Lives.{Ends, OpensOver, SharesArea};
 
 use crate::AreasError;
+use crate::claiming::open_claimed;
 use crate::error::refused;
+use crate::telling::tell;
 use jb_area::OpenArea;
-use jb_area_open::open_area;
 use jb_base::AreaRules;
 use jb_conf::BoardArea;
 use jb_disk::Disk;
@@ -43,7 +44,8 @@ fn count_live(slots: &[LoadedSlot]) -> usize
         .count()
 }
 
-/// Opens an area by these rules over the disk that the host has for it; where that is refused the disk is back.
+/// Opens an area by these rules over the disk that the host has for it; where that is refused the disk is back, and the operator is
+/// told.
 fn open_disk<H: Host>(
     alloc: Global,
     host: &mut H,
@@ -59,11 +61,15 @@ fn open_disk<H: Host>(
     ensures err { IfErr result (RefusesArea place area.now (H.desk host.old) (H.desk host.new)) }
 {
     let disk = host.disk(area.dir.as_str(), area.base.as_str())?;
-    match open_area(alloc, disk, rules) {
+    match open_claimed(alloc, disk, rules) {
         Ok(opened) => Ok(opened),
         Err((disk, error)) => {
             host.put_back(area.dir.as_str(), area.base.as_str(), disk);
-            Err(refused(place, error))
+            let refusal = refused(place, error);
+            if let AreasError::Area { .. } = refusal {
+                tell(alloc, host, area, place, error);
+            }
+            Err(refusal)
         }
     }
 }

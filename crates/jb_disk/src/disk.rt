@@ -74,6 +74,14 @@ pub trait Disk {
         ensures listed { fails_next self.old → IsRefused (device self.old) (device self.new) result }
         ensures cause { FailsBy ⊥ (device self.old) (device self.new) result };
 
+    /// Sees that each file that is there can be written from now on. It changes nothing.
+    fn claim(&mut self) -> Result<(), DiskFailed>
+        ensures kept { OnlyReads (device self.old) (device self.new) }
+        ensures cause { FailsBy ⊥ (device self.old) (device self.new) result }
+    {
+        Ok(())
+    }
+
     /// What is read now is one of the images, a disk that tells images tells its contents, and each moment has an image.
     ghost told: { (disk : Self) → TellsAnImage (device disk) };
 }

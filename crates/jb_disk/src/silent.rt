@@ -110,6 +110,10 @@ impl<D: Disk + Drop> Disk for SilentDisk<D> {
         counted(&mut self.faults, self.disk.sync(file))
     }
 
+    fn claim(&mut self) -> Result<(), DiskFailed> {
+        counted(&mut self.faults, self.disk.claim())
+    }
+
     ghost told = { λ silent. tells_nothing silent.faults };
 }
 

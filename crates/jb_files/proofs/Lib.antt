@@ -1,1 +1,2 @@
+mod FailuresLemmas
 mod WholeLemmas

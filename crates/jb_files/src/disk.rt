@@ -1,8 +1,8 @@
 //! The disk over real files.
 ghost use Rattle.std.specs.Prelude.{◌≡◌, IfOk};
 
+use crate::OpenFault;
 use crate::folder::Folder;
-use jb_base::OutOfMemory;
 use jb_disk::{Disk, DiskFailed, FileId, counted};
 use std::alloc::Global;
 use std::fs::File;
@@ -19,7 +19,7 @@ pub struct FolderDisk<R: Files<File = File> + Drop> {
 impl<R: Files<File = File> + Drop> FolderDisk<R> {
     /// The base of this name in a folder, which is the current one where its text is empty. Neither has to be there. The
     /// extensions are spelled as those of the header file that is there, upper case before lower case.
-    pub fn new(rt: R, alloc: Global, dir: &str, name: &str) -> Result<FolderDisk<R>, OutOfMemory>
+    pub fn new(rt: R, alloc: Global, dir: &str, name: &str) -> Result<FolderDisk<R>, OpenFault>
         ensures { IfOk result (λ disk. disk.faults ≡ 0) }
     {
         let folder = Folder::new(rt, alloc, dir, name)?;
@@ -50,6 +50,10 @@ impl<R: Files<File = File> + Drop> Disk for FolderDisk<R> {
 
     fn sync(&mut self, file: FileId) -> Result<(), DiskFailed> {
         counted(&mut self.faults, self.folder.sync(file))
+    }
+
+    fn claim(&mut self) -> Result<(), DiskFailed> {
+        counted(&mut self.faults, self.folder.claim())
     }
 
     ghost told = { λ disk. tells_nothing disk.faults };

@@ -5,9 +5,14 @@
 #![tactic(auto)]
 
 mod disk;
+mod fault;
 mod folder;
+mod identity;
+mod lock;
+mod names;
 mod real;
 mod spelling;
 mod whole;
 
 pub use disk::FolderDisk;
+pub use fault::OpenFault;

@@ -1,17 +1,21 @@
 //! One file of the system: opened to be read, and anew to be written where that is first asked.
-ghost use Rattle.std.specs.Prelude.{◌≡◌, ◌↔◌, ◌+◌, ◌≤◌, IsTrue, IsErr, IsOk};
+ghost use Rattle.std.specs.Prelude.{◌≡◌, ◌≢◌, ◌↔◌, ◌+◌, ◌≤◌, false, IsTrue, IsErr, IsOk, OnOk, OnErr};
 
+use crate::identity::{Identity, found_at};
+use crate::lock;
 use crate::whole::{OpenFile, write_whole};
 use std::fs::{File, OpenOptions};
+use std::io;
 use std::os::fd::AsRawFd;
 use std::os::unix::fs::FileExt;
 use std::rt::Files;
-use std::{fs, io};
 
 /// A file of the system, which may not be there.
 pub(crate) struct RealFile {
     path: String,
     open: Open,
+    // Which file was opened. No other one is from then on.
+    identity: Option<Identity>,
     // The length that the last change gave it, or that was found by a write.
     known_len: Option<u64>,
     has_failed_sync: bool,
@@ -23,6 +27,7 @@ impl Drop for RealFile {
         let RealFile {
             path: _path,
             open: _open,
+            identity: _identity,
             known_len: _known_len,
             has_failed_sync: _has_failed_sync,
         } = self;
@@ -52,21 +57,35 @@ impl RealFile {
         RealFile {
             path,
             open: Open::Closed,
+            identity: None,
             known_len: None,
             has_failed_sync: false,
         }
     }
 
-    /// Whether something has its name, whether it can be read or not.
-    pub(crate) fn has_name<R: Files>(&self, rt: &R) -> bool {
-        match fs::metadata(rt, self.path.as_str()) {
-            Ok(_) => true,
-            Err(error) => !is_absent(error.kind()),
+    /// Which file has its name, if any has, whether it can be read or not.
+    pub(crate) fn standing<R: Files>(&self, rt: &R) -> io::Result<Option<Identity>> {
+        match found_at(rt, self.path.as_str())? {
+            Some(found) => Ok(Some(Identity::of(&found, None)?)),
+            None => Ok(None),
         }
+    }
+
+    /// A handle of its own that keeps other programs out until it is closed, where the file is there.
+    pub(crate) fn lock<R: Files<File = File>>(&mut self, rt: &R) -> io::Result<Option<File>>
+        ensures named { self.new.path ≡ self.old.path }
+        ensures kept { self.new.has_failed_sync ≡ self.old.has_failed_sync }
+    {
+        if !self.is_there(rt)? {
+            return Ok(None);
+        }
+        let file = lock::take(rt, self.path.as_str())?;
+        Ok(Some(self.admitted(file)?))
     }
 
     /// Its length, or 0 where it is not there.
     pub(crate) fn len<R: Files<File = File>>(&mut self, rt: &R) -> io::Result<u64>
+        ensures named { self.new.path ≡ self.old.path }
         ensures kept { self.new.has_failed_sync ≡ self.old.has_failed_sync }
     {
         self.open_to_read(rt)?;
@@ -83,6 +102,7 @@ impl RealFile {
         at: u64,
         into: &mut [u8],
     ) -> io::Result<()>
+        ensures named { self.new.path ≡ self.old.path }
         ensures kept { self.new.has_failed_sync ≡ self.old.has_failed_sync }
     {
         if into.is_empty() {
@@ -103,6 +123,7 @@ impl RealFile {
         at: u64,
         bytes: &[u8],
     ) -> io::Result<()>
+        ensures named { self.new.path ≡ self.old.path }
         ensures kept { self.new.has_failed_sync ≡ self.old.has_failed_sync }
     {
         self.open_to_write(rt)?;
@@ -122,6 +143,7 @@ impl RealFile {
 
     /// Makes an empty file where none is there, and says whether it did.
     pub(crate) fn make<R: Files<File = File>>(&mut self, rt: &R) -> io::Result<bool>
+        ensures named { self.new.path ≡ self.old.path }
         ensures kept { self.new.has_failed_sync ≡ self.old.has_failed_sync }
     {
         self.open_to_read(rt)?;
@@ -133,13 +155,16 @@ impl RealFile {
             .write(true)
             .create_new(true)
             .open(rt, self.path.as_str())?;
-        self.open = Open::ToWrite(apart(file)?);
+        self.open = Open::ToWrite(self.admitted(file)?);
         Ok(true)
     }
 
-    /// Sets the length of a file that is there.
+    /// Sets the length of a file that is there. Of one that was emptied nothing is left that a failed sync can have lost.
     pub(crate) fn set_len<R: Files<File = File>>(&mut self, rt: &R, len: u64) -> io::Result<()>
-        ensures kept { self.new.has_failed_sync ≡ self.old.has_failed_sync }
+        ensures named { self.new.path ≡ self.old.path }
+        ensures kept { len ≢ 0 → self.new.has_failed_sync ≡ self.old.has_failed_sync }
+        ensures emptied { OnOk result (len ≡ 0 → self.new.has_failed_sync ≡ false) }
+        ensures failed { OnErr result (self.new.has_failed_sync ≡ self.old.has_failed_sync) }
     {
         self.known_len = None;
         self.open_to_write(rt)?;
@@ -148,12 +173,15 @@ impl RealFile {
         };
         file.set_len(len)?;
         self.known_len = Some(len);
+        self.has_failed_sync = self.has_failed_sync && len > 0;
         Ok(())
     }
 
-    /// Sends what it holds to the device, and says whether it is there. The system may have dropped what a failed sync did
-    /// not write, and would call the next one done; so each later one fails too.
+    /// Sends what it holds to the device, and says whether it is there, which is an error where its name has come to lead to
+    /// another file or to none. The system may have dropped what a failed sync did not write, and would call the next one done;
+    /// so each later one fails too.
     pub(crate) fn sync<R: Files<File = File>>(&mut self, rt: &R) -> io::Result<bool>
+        ensures named { self.new.path ≡ self.old.path }
         ensures stays { IsTrue self.old.has_failed_sync → IsErr result × IsTrue self.new.has_failed_sync }
         ensures failed { IsTrue self.new.has_failed_sync → IsErr result }
     {
@@ -166,32 +194,61 @@ impl RealFile {
         };
         let answer = file.sync_all();
         noted(&mut self.has_failed_sync, answer)?;
-        Ok(true)
+        self.is_there(rt)
     }
 
     // Opens the file to be read, where it is there and is not open.
     fn open_to_read<R: Files<File = File>>(&mut self, rt: &R) -> io::Result<()>
+        ensures named { self.new.path ≡ self.old.path }
         ensures kept { self.new.has_failed_sync ≡ self.old.has_failed_sync }
     {
-        if matches!(self.open, Open::Closed) && is_there(rt, self.path.as_str())? {
-            self.open = Open::ToRead(apart(File::open(rt, self.path.as_str())?)?);
+        if matches!(self.open, Open::Closed) && self.is_there(rt)? {
+            let file = File::open(rt, self.path.as_str())?;
+            self.open = Open::ToRead(self.admitted(file)?);
         }
         Ok(())
     }
 
-    // Opens the file to be written too, where it is there and is not open so.
-    fn open_to_write<R: Files<File = File>>(&mut self, rt: &R) -> io::Result<()>
+    /// Opens the file to be written too, where it is there and is not open so.
+    pub(crate) fn open_to_write<R: Files<File = File>>(&mut self, rt: &R) -> io::Result<()>
+        ensures named { self.new.path ≡ self.old.path }
         ensures kept { self.new.has_failed_sync ≡ self.old.has_failed_sync }
     {
         let is_open = matches!(self.open, Open::ToWrite(_));
-        if !is_open && is_there(rt, self.path.as_str())? {
+        if !is_open && self.is_there(rt)? {
             let file = OpenOptions::new()
                 .read(true)
                 .write(true)
                 .open(rt, self.path.as_str())?;
-            self.open = Open::ToWrite(apart(file)?);
+            self.open = Open::ToWrite(self.admitted(file)?);
         }
         Ok(())
+    }
+
+    // Whether a regular file has its name: the one that was opened, where one was. Anything else there is an error, since opening
+    // it might wait or read nothing.
+    pub(crate) fn is_there<R: Files>(&self, rt: &R) -> io::Result<bool> {
+        let Some(found) = found_at(rt, self.path.as_str())? else {
+            return match self.identity {
+                Some(_) => Err(io::ErrorKind::NotFound.into()),
+                None => Ok(false),
+            };
+        };
+        if !found.is_file() {
+            return Err(io::ErrorKind::Unsupported.into());
+        }
+        let _ = Identity::of(&found, self.identity)?;
+        Ok(true)
+    }
+
+    // A handle that was opened, where it is of the file that was opened before.
+    fn admitted(&mut self, file: File) -> io::Result<File>
+        ensures named { self.new.path ≡ self.old.path }
+        ensures kept { self.new.has_failed_sync ≡ self.old.has_failed_sync }
+    {
+        let file = apart(file)?;
+        self.identity = Some(Identity::of(&file.metadata()?, self.identity)?);
+        Ok(file)
     }
 
     // The file, where it is open.
@@ -203,28 +260,13 @@ impl RealFile {
     }
 }
 
-// Notes whether a sync of the system failed, and hands its answer on.
-fn noted(has_failed: &mut bool, answer: io::Result<()>) -> io::Result<()>
+/// Notes whether a sync of the system failed, and hands its answer on.
+pub(crate) fn noted(has_failed: &mut bool, answer: io::Result<()>) -> io::Result<()>
     ensures noted { IsTrue has_failed.new ↔ IsErr answer }
     ensures same { result ≡ answer }
 {
     *has_failed = answer.is_err();
     answer
-}
-
-// Whether nothing has this name: it is not there, or what is called its folder is none.
-fn is_absent(kind: io::ErrorKind) -> bool {
-    matches!(kind, io::ErrorKind::NotFound | io::ErrorKind::NotADirectory)
-}
-
-// Whether a regular file has this name. Anything else there is an error, since opening it might wait or read nothing.
-fn is_there<R: Files>(rt: &R, path: &str) -> io::Result<bool> {
-    match fs::metadata(rt, path) {
-        Ok(found) if found.is_file() => Ok(true),
-        Ok(_) => Err(io::ErrorKind::Unsupported.into()),
-        Err(error) if is_absent(error.kind()) => Ok(false),
-        Err(error) => Err(error),
-    }
 }
 
 // What is meant for a standard stream that was closed must not land in a file of the base.

@@ -7,8 +7,8 @@ use std::fs::File;
 use std::io;
 use std::os::unix::fs::FileExt;
 
-/// How often a write that a signal interrupted is tried.
-const MOST_TRIES: u32 = 64;
+/// How often a call that a signal interrupted is tried.
+pub(crate) const MOST_TRIES: u32 = 64;
 
 /// A file that may take a part of what it is given.
 pub(crate) trait TakesParts {

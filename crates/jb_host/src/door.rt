@@ -38,4 +38,9 @@ pub trait Door {
     /// Ends a link that it gave.
     fn hang_up(&mut self, link: Self::Link)
         ensures { HangsUp (Self.Link.wire link) (gate self.old) (gate self.new) };
+
+    /// The port at which callers reach it, where it has one.
+    fn port(&self) -> Option<u16> {
+        None
+    }
 }

@@ -23,8 +23,10 @@ mod memory_host;
 mod page;
 mod port;
 mod real;
+mod refusals;
 mod sending;
 mod shelf;
+mod synch;
 mod tcp;
 mod timed;
 

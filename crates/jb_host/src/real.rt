@@ -1,23 +1,26 @@
 //! The real surroundings: standard input and output, bases in folders, settings in files, ports of TCP, and the clock of the system.
 //! Nothing is assumed of them: they tell no bytes and no reading.
-ghost use Rattle.std.specs.Prelude.{◌≡◌, IsSome, Some};
+ghost use Rattle.std.specs.Prelude.{◌≡◌, ◌≤◌, IsSome, Some};
 ghost use Rattle.std.specs.Option.{option_map};
+ghost use Rattle.jb_host.specs.Desk.{HasHostCause};
 ghost use Rattle.jb_host.specs.Real.{silent_wire, silent_desk};
 
 use crate::clock::SystemClock;
 use crate::host::{Host, HostError};
 use crate::link::{Link, LinkFailed};
 use crate::port::{Port, listener_at};
+use crate::refusals::{tell_base, tell_port, tell_settings};
 use crate::tcp::TcpDoor;
 use crate::timed::TimedBell;
 use jb_base::Bytes;
-use jb_files::FolderDisk;
+use jb_files::{FolderDisk, OpenFault};
 use std::alloc::Global;
 use std::fs::File;
-use std::io::Read;
+use std::io::{ErrorKind, Read};
 use std::net::{Net, TcpListener, TcpStream};
 use std::rt::Files;
-use std::time;
+use std::time::Duration;
+use std::{io, thread, time};
 
 /// Standard input and output as a link.
 #[derive(Drop)]
@@ -75,39 +78,64 @@ impl<R: Input + Print> Link for ConsoleLink<R> {
 /// Bytes of a settings file; a longer one is refused as a fault of the host.
 pub const MOST_SETTINGS_BYTES: usize = 1_048_576;
 /// Bytes that are read of it at once.
-const PIECE_BYTES: usize = 65_536;
+const PIECE_BYTES: usize = 16_384;
+/// How often a base that another program has is asked for again, and the pause before: five seconds together.
+const BUSY_TRIES: u32 = 50;
+
+const BUSY_MILLISECONDS: u64 = 100;
 
 /// Puts what comes next of a file behind what was read of it, and says how much that was; 0 only at its end.
-fn read_more(file: &mut File, bytes: &mut Bytes) -> Result<usize, HostError> {
+fn read_more(file: &mut File, bytes: &mut Bytes) -> io::Result<usize> {
     let mut piece = [0u8; PIECE_BYTES];
-    let n = match file.read(&mut piece) {
-        Ok(n) => n,
-        Err(_) => return Err(HostError::Failed),
-    };
-    bytes.append(&piece[..n])?;
-    Ok(n)
+    let n = file.read(&mut piece)?;
+    match bytes.append(&piece[..n]) {
+        Ok(()) => Ok(n),
+        Err(_) => Err(ErrorKind::OutOfMemory.into()),
+    }
 }
 
 /// The bytes of a file, where it is not longer than a settings file may be.
-fn read_whole<R: Files<File = File>>(
-    rt: &R,
-    alloc: Global,
-    path: &str,
-) -> Result<Bytes, HostError> {
+fn read_whole<R: Files<File = File>>(rt: &R, alloc: Global, path: &str) -> io::Result<Bytes> {
     let mut bytes = Bytes::new(alloc);
-    let Ok(mut file) = File::open(rt, path) else {
-        return Err(HostError::Failed);
-    };
+    let mut file = File::open(rt, path)?;
     for _ in 0..=MOST_SETTINGS_BYTES {
         let n = read_more(&mut file, &mut bytes)?;
         if bytes.len() > MOST_SETTINGS_BYTES {
-            return Err(HostError::Failed);
+            break;
         }
         if n == 0 {
             return Ok(bytes);
         }
     }
-    Err(HostError::Failed)
+    Err(ErrorKind::FileTooLarge.into())
+}
+
+/// The disk of a base. One that another program has is waited for a while, so that tools that are started together each get it.
+fn opened<R: Files<File = File> + time::Clock + Copy + Drop>(
+    rt: R,
+    alloc: Global,
+    dir: &str,
+    name: &str,
+) -> Result<FolderDisk<R>, OpenFault> {
+    for _ in 0..BUSY_TRIES {
+        match FolderDisk::new(rt, alloc, dir, name) {
+            Err(OpenFault::Busy) => thread::sleep(&rt, Duration::from_millis(BUSY_MILLISECONDS)),
+            answer => return answer,
+        }
+    }
+    FolderDisk::new(rt, alloc, dir, name)
+}
+
+/// What a refusal of the system is for a host, which counts it where not memory was wanting.
+fn counted(faults: &mut u64, error: &io::Error) -> HostError
+    ensures later { faults.old ≤ faults.new }
+    ensures cause { HasHostCause result faults.old faults.new }
+{
+    if error.kind() == ErrorKind::OutOfMemory {
+        return HostError::OutOfMemory;
+    }
+    *faults = faults.saturating_add(1);
+    HostError::Failed
 }
 
 /// The host of a process: bases in folders and settings in files of its file system, its standard input and output, and its ports.
@@ -126,6 +154,7 @@ pub struct RealHost<
     alloc: Global,
     console: Option<ConsoleLink<R>>,
     ports: Vec<Port>,
+    disks_out: u32,
     faults: u64,
 }
 
@@ -149,6 +178,7 @@ impl<
             alloc,
             console: Some(ConsoleLink::new(console)),
             ports: Vec::new(alloc),
+            disks_out: 0,
             faults: 0,
         }
     }
@@ -177,20 +207,32 @@ impl<
     ghost desk = { λ host. silent_desk host.faults (option_map (λ link. silent_wire link.faults link.ends link.unsent) host.console) };
 
     fn disk(&mut self, dir: &str, name: &str) -> Result<FolderDisk<R>, HostError> {
-        match FolderDisk::new(self.rt, self.alloc, dir, name) {
-            Ok(disk) => Ok(disk),
-            Err(_) => Err(HostError::OutOfMemory),
+        match opened(self.rt, self.alloc, dir, name) {
+            Ok(disk) => {
+                self.disks_out = self.disks_out.saturating_add(1);
+                Ok(disk)
+            }
+            Err(OpenFault::OutOfMemory) => Err(HostError::OutOfMemory),
+            Err(fault) => {
+                tell_base(&self.rt, dir, name, fault, self.disks_out > 0);
+                self.faults = self.faults.saturating_add(1);
+                Err(HostError::Failed)
+            }
         }
     }
 
-    fn put_back(&mut self, _dir: &str, _name: &str, _disk: FolderDisk<R>) {}
+    fn put_back(&mut self, _dir: &str, _name: &str, _disk: FolderDisk<R>) {
+        self.disks_out = self.disks_out.saturating_sub(1);
+    }
 
     fn settings(&mut self, path: &str) -> Result<Bytes, HostError> {
-        let read = read_whole(&self.rt, self.alloc, path);
-        if matches!(&read, Err(HostError::Failed)) {
-            self.faults = self.faults.saturating_add(1);
+        match read_whole(&self.rt, self.alloc, path) {
+            Ok(bytes) => Ok(bytes),
+            Err(error) => {
+                tell_settings(&self.rt, path, &error);
+                Err(counted(&mut self.faults, &error))
+            }
         }
-        read
     }
 
     fn console(&mut self) -> ConsoleLink<R> {
@@ -205,10 +247,8 @@ impl<
         match listener_at(&self.rt, &mut self.ports, port) {
             Ok(listener) => Ok(TcpDoor::new(self.rt, listener, calls)),
             Err(error) => {
-                if error == HostError::Failed {
-                    self.faults = self.faults.saturating_add(1);
-                }
-                Err(error)
+                tell_port(&self.rt, port, &error);
+                Err(counted(&mut self.faults, &error))
             }
         }
     }

@@ -4,8 +4,10 @@ ghost use Rattle.jb_host.specs.Real.{silent_gate, silent_wire};
 
 use crate::door::{Accepted, Door, DoorFailed};
 use crate::link::{Link, LinkFailed};
+use crate::synch::{IAC, read_behind_iac};
 use std::io::{ErrorKind, Read, Write};
 use std::net::{Shutdown, TcpListener, TcpStream};
+use std::os::fd::AsRawFd;
 use std::time::Duration;
 use std::{io, thread, time};
 
@@ -18,7 +20,7 @@ const LAST_SECONDS: u64 = 1;
 
 const LAST_READS: u32 = 8;
 /// How often a call is made again where a signal came between, and a caller is waited for where one went at once.
-const TRIES: u32 = 16;
+pub(crate) const TRIES: u32 = 16;
 /// How often a door that has found no caller is opened again, and the pause before.
 const PAUSES: u32 = 6_000;
 
@@ -28,6 +30,8 @@ const PAUSE_MILLISECONDS: u64 = 100;
 #[derive(Drop)]
 pub struct TcpLink {
     stream: TcpStream,
+    // What was given ends in an IAC of Telnet that is not half of a doubled one; the mark of a Synch may come.
+    is_behind_iac: bool,
     faults: u64,
     ends: u64,
     unsent: u64,
@@ -38,11 +42,18 @@ impl TcpLink {
     pub fn new(stream: TcpStream) -> io::Result<TcpLink>
         ensures { IfOk result (λ link. silent_wire link.faults link.ends link.unsent ≡ silent_wire 0 0 0) }
     {
+        // As for a port, the numbers of the standard streams are left alone.
+        let stream = if stream.as_raw_fd() <= 2 {
+            stream.try_clone()?
+        } else {
+            stream
+        };
         stream.set_nodelay(true)?;
         stream.set_read_timeout(Some(Duration::from_secs(MOST_SILENT_SECONDS)))?;
         stream.set_write_timeout(Some(Duration::from_secs(MOST_STUCK_SECONDS)))?;
         Ok(TcpLink {
             stream,
+            is_behind_iac: false,
             faults: 0,
             ends: 0,
             unsent: 0,
@@ -65,7 +76,7 @@ impl TcpLink {
 }
 
 /// Reads, again where a signal came between.
-fn read_some(stream: &mut TcpStream, into: &mut [u8]) -> io::Result<usize>
+pub(crate) fn read_some(stream: &mut TcpStream, into: &mut [u8]) -> io::Result<usize>
     ensures { IfOk result (λ n. n ≤ length into.old) }
 {
     for _ in 0..TRIES {
@@ -75,6 +86,18 @@ fn read_some(stream: &mut TcpStream, into: &mut [u8]) -> io::Result<usize>
         }
     }
     Err(io::Error::from(ErrorKind::Interrupted))
+}
+
+/// Whether bytes end in an IAC that is not half of a doubled one, where those before them did or not.
+fn ends_in_iac(bytes: &[u8], did: bool) -> bool {
+    let mut does = false;
+    for byte in bytes.iter().rev() {
+        if *byte != IAC {
+            return does;
+        }
+        does = !does;
+    }
+    does != did
 }
 
 /// Writes, again where a signal came between.
@@ -94,10 +117,16 @@ impl Link for TcpLink {
     ghost wire = { λ link. silent_wire link.faults link.ends link.unsent };
 
     fn read(&mut self, into: &mut [u8]) -> Result<usize, LinkFailed> {
-        let Ok(n) = read_some(&mut self.stream, into) else {
+        let read = if self.is_behind_iac {
+            read_behind_iac(&mut self.stream, into)
+        } else {
+            read_some(&mut self.stream, into)
+        };
+        let Ok(n) = read else {
             self.faults = self.faults.saturating_add(1);
             return Err(LinkFailed);
         };
+        self.is_behind_iac = ends_in_iac(&into[..n], self.is_behind_iac);
         let is_end = n == 0 && !into.is_empty();
         if is_end {
             self.ends = self.ends.saturating_add(1);
@@ -200,5 +229,12 @@ impl<R: time::Clock + Drop> Door for TcpDoor<R> {
 
     fn hang_up(&mut self, link: TcpLink) {
         link.close();
+    }
+
+    fn port(&self) -> Option<u16> {
+        match self.listener.local_addr() {
+            Ok(address) => Some(address.port()),
+            Err(_) => None,
+        }
     }
 }

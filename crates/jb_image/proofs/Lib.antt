@@ -8,4 +8,5 @@ pub mod FileBytes
 pub mod RisingSoFar
 pub mod SlotsSoFar
 pub mod Theorems
+pub mod WholeAt
 pub mod WindowLemmas

@@ -71,15 +71,20 @@ below_next P k below here j low = elim (cases_lt j k) [
       subst P same here
 ]
 
--- one slot more
-pub AreWholeSoFar-next : (old mid new : Device) (k : ℕ) (slot : LoadedSlot) → AreWholeSoFar old mid k → OnlyReads mid new → new.faults ≡ mid.faults
-    → ForSome old.contents (λ files. HasSlot files (entry_in files k) slot) → AreWholeSoFar old new (k + 1)
-AreWholeSoFar-next old mid new k slot so_far kept quiet told = record {
+-- one slot more, which is whole
+pub AreWholeSoFar-with : (old mid new : Device) (k : ℕ) → AreWholeSoFar old mid k → OnlyReads mid new → new.faults ≡ mid.faults
+    → ForSome old.contents (λ files. IsWholeSlot files (entry_in files k)) → AreWholeSoFar old new (k + 1)
+AreWholeSoFar-with old mid new k so_far kept quiet here = record {
   kept = reads_on old mid new so_far.kept kept;
   quiet = quiet ∙ so_far.quiet;
-  told = λ files contents_is.
-      below_next (λ j. IsWholeSlot files (entry_in files j)) k (so_far.told files contents_is) (has_slot_whole files (entry_in files k) slot (told files contents_is));
+  told = λ files contents_is. below_next (λ j. IsWholeSlot files (entry_in files j)) k (so_far.told files contents_is) (here files contents_is);
 }
+
+-- one slot more, which is loaded
+pub AreWholeSoFar-next : (old mid new : Device) (k : ℕ) (slot : LoadedSlot) → AreWholeSoFar old mid k → OnlyReads mid new → new.faults ≡ mid.faults
+    → ForSome old.contents (λ files. HasSlot files (entry_in files k) slot) → AreWholeSoFar old new (k + 1)
+AreWholeSoFar-next old mid new k slot so_far kept quiet told =
+    AreWholeSoFar-with old mid new k so_far kept quiet (λ files contents_is. has_slot_whole files (entry_in files k) slot (told files contents_is))
 
 -- slots are loaded from those that were seen, each from the one at its place
 abbrev pub LoadedSoFar : ℕ → List SeenSlot → List LoadedSlot → Type 0

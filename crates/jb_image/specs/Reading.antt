@@ -1,5 +1,7 @@
 -- What is known of the slots of a base once their headers are read, whether the disk tells its contents or not.
-use Rattle.std.specs.Prelude.{◌≡◌, ◌≢◌, ℕ, ◌+◌, ◌*◌, ◌/◌, ◌%◌, ◌<◌, ◌≤◌, List, length, slice_index_or, map, Option, Some, None}
+use Rattle.std.specs.Prelude.{◌≡◌, ◌≢◌, ℕ, ◌+◌, ◌*◌, ◌/◌, ◌%◌, ◌<◌, ◌≤◌, IsTrue, List, length, slice_index_or, map, Option, Some, None}
+use Rattle.std.specs.BTreeSet.{BTreeSet, contains}
+use Rattle.std.specs.Ordering.{nat_cmp}
 use Rattle.jb_base.specs.declared.limits.TheConstants.{LASTREAD_CEILING, MOST_SUBFIELD_BYTES}
 use Rattle.jb_base.specs.declared.subfield.Subfield.{Subfield}
 use Rattle.jb_base.specs.Subfields.{IsCutAt, IsSubfieldList, subfield_bytes}
@@ -27,7 +29,7 @@ use Rattle.jb_image.specs.declared.seen.SeenSlot.TheVariants as seen
 use Rattle.jb_image.specs.Answers.{AreFirstOverlap, IsFirstDamaged, refusal_of}
 use Rattle.jb_image.specs.Places.{bytes_at, entry_in, header_in}
 use Rattle.jb_image.specs.Stands.{HasHeader, HasSlot, IsKilledAt, mark_record}
-use Rattle.jb_image.specs.Tests.{IsUndeleted, slots_in}
+use Rattle.jb_image.specs.Tests.{IsUndeleted, IsWholeSlot, slots_in}
 
 -- a header that was read lies, with the subfields of a message that is not killed, within .JHR of this length
 abbrev pub IsSeenWithin : ℕ → SeenSlot → Type 0
@@ -76,6 +78,10 @@ IsSeenAs files entry (seen.Live message) = IsSeenLive files entry message
 pub record AreSeen (files : Files) (slots : List SeenSlot) : Type 0 where
   pub few : length slots ≤ slots_in files
   pub each : (k : ℕ) (d : SeenSlot) → k < length slots → IsSeenAs files (entry_in files k) (slice_index_or slots k d)
+
+-- each slot whose index record names one of these places is whole
+abbrev pub AreWholeAt : Files → BTreeSet ℕ → Type 0
+AreWholeAt files places = (entry : IndexRecord) → IsTrue (contains nat_cmp places entry.offset) → IsWholeSlot files entry
 
 -- the slot is loaded: at the same place, with the same attribute, subfields of as many bytes, and a text within .JDT of this length
 abbrev pub IsLoadedFrom : ℕ → SeenSlot → LoadedSlot → Type 0

@@ -1,16 +1,18 @@
 //! The second look at the slots: their tests in order, and their loading.
-ghost use Rattle.std.specs.Prelude.{◌≡◌, ◌+◌, ◌<◌, ◌≤◌, ℕ, IfOk, IfErr, OnOk, All, length};
+ghost use Rattle.std.specs.Prelude.{◌≡◌, ◌+◌, ◌<◌, ◌≤◌, ℕ, IfOk, IfErr, IfSome, IfNone, OnOk, All, length};
 ghost use Rattle.std.specs.Option.{ForSome};
 ghost use Rattle.jb_disk.specs.Device.{OnlyReads};
 ghost use Rattle.jb_disk.specs.declared.file.FileId.TheVariants.{Jhr as headers_file};
-ghost use Rattle.jb_image.specs.Answers.{OpenFaultRose};
+ghost use Rattle.jb_record.specs.declared.index.IndexRecord.{IndexRecord};
+ghost use Rattle.jb_image.specs.Answers.{IsDamaged, OpenFaultRose, ReadFaultRose};
 ghost use Rattle.jb_image.specs.Lengths.{AreLengths};
 ghost use Rattle.jb_image.specs.Places.{entry_in, fixed_in};
-ghost use Rattle.jb_image.specs.Reading.{AreLoadedFrom, AreSeen, AreSlotsOf, IsRefusedBySlot, IsSeenWithin};
+ghost use Rattle.jb_image.specs.Reading.{AreLoadedFrom, AreSeen, AreSlotsOf, AreWholeAt, IsRefusedBySlot, IsSeenAs, IsSeenWithin};
 ghost use Rattle.jb_image.specs.Tests.{IsWholeSlot};
 ghost use Rattle.jb_image.specs.Windows.{IsWindowOn};
 
 use crate::OpenError;
+use crate::error::{Damage, ReadError};
 use crate::lengths::Lengths;
 use crate::message::load_slot;
 use crate::seen::SeenSlot;
@@ -18,9 +20,53 @@ use crate::window::Window;
 use jb_disk::Disk;
 use jb_model::LoadedSlots;
 use std::alloc::Global;
+use std::collections::BTreeSet;
 
-/// Tests the subfields and the place of the text of each slot that was seen, and keeps nothing of them. At most one
-/// device read a slot.
+/// What is wrong with the subfields or the place of the text of a slot that was seen, if something is. A header that is
+/// among those at which slots are whole is not tested again, and else it comes to them. At most one device read.
+fn test_slot<D: Disk>(
+    alloc: Global,
+    disk: &mut D,
+    window: &mut Window,
+    slot: &SeenSlot,
+    lengths: &Lengths,
+    whole: &mut BTreeSet<u32>,
+) -> Result<Option<Damage>, ReadError>
+    requires lengths { ForSome (D.device disk.old).contents (AreLengths lengths.now) }
+    requires window { IsWindowOn headers_file lengths.now.headers (D.device disk.old).contents window.old }
+    requires within { IsSeenWithin lengths.now.headers slot.now }
+    requires whole { ForSome (D.device disk.old).contents (λ files. AreWholeAt files whole.old) }
+
+    // Nothing, or the first test that it fails.
+    ensures passed { IfOk result (λ some. IfNone some (ForSome (D.device disk.old).contents (λ files.
+        (entry : IndexRecord) → IsSeenAs files entry slot.now → IsWholeSlot files entry))) }
+    ensures damaged { IfOk result (λ some. IfSome some (λ damage. ForSome (D.device disk.old).contents (λ files.
+        (entry : IndexRecord) → IsSeenAs files entry slot.now → IsDamaged files entry damage))) }
+    ensures whole { ForSome (D.device disk.old).contents (λ files.
+        (entry : IndexRecord) → IsSeenAs files entry slot.now → AreWholeAt files whole.new) }
+
+    // The disk is only read.
+    ensures window { IsWindowOn headers_file lengths.now.headers (D.device disk.new).contents window.new }
+    ensures kept { OnlyReads (D.device disk.old) (D.device disk.new) }
+    ensures quiet { OnOk result ((D.device disk.new).faults ≡ (D.device disk.old).faults) }
+    ensures later { (D.device disk.old).faults ≤ (D.device disk.new).faults }
+    ensures cause { IfErr result (ReadFaultRose (D.device disk.old).faults (D.device disk.new).faults) }
+{
+    let place = slot.named();
+    if whole.contains(&place) {
+        return Ok(None);
+    }
+    match load_slot(alloc, disk, window, slot, lengths)? {
+        Ok(_loaded) => {
+            whole.insert(place)?;
+            Ok(None)
+        }
+        Err(damage) => Ok(Some(damage)),
+    }
+}
+
+/// Tests the subfields and the place of the text of each slot that was seen, once a header, however many slots name it, and
+/// keeps nothing of them. At most one device read a slot.
 pub(crate) fn test_slots<D: Disk>(
     alloc: Global,
     disk: &mut D,
@@ -48,11 +94,12 @@ pub(crate) fn test_slots<D: Disk>(
     ensures later { (D.device disk.old).faults ≤ (D.device disk.new).faults }
     ensures cause { IfErr result (OpenFaultRose (D.device disk.old).faults (D.device disk.new).faults) }
 {
+    let mut whole = BTreeSet::new(alloc);
     let mut number = base;
     for slot in seen {
-        match load_slot(alloc, disk, window, slot, lengths)? {
-            Ok(_whole) => number += 1,
-            Err(damage) => return Err(damage.of_number(number)),
+        match test_slot(alloc, disk, window, slot, lengths, &mut whole)? {
+            None => number += 1,
+            Some(damage) => return Err(damage.of_number(number)),
         }
     }
     Ok(())

@@ -1,10 +1,12 @@
 //! What is kept of a slot from the first look at its header.
 
 ghost use Rattle.std.specs.Prelude.{◌≡◌, IfSome};
-ghost use Rattle.jb_image.specs.Reading.{IsEndBehind, extent_seen};
+ghost use Rattle.jb_disk.specs.Files.{Files};
+ghost use Rattle.jb_record.specs.declared.index.IndexRecord.{IndexRecord};
+ghost use Rattle.jb_image.specs.Reading.{IsEndBehind, IsSeenAs, extent_seen};
 
 use jb_extent::Extent;
-use jb_record::{MESSAGE_HEADER_BYTES, MessageHeader};
+use jb_record::{EMPTY_SLOT, MESSAGE_HEADER_BYTES, MessageHeader};
 
 /// A live message whose header was read, and whose subfields lie where they must: the UserCRC of its index record, and
 /// the place and the fields of its header.
@@ -24,6 +26,17 @@ pub(crate) enum SeenSlot {
 }
 
 impl SeenSlot {
+    /// The place of .JHR that its index record names.
+    pub(crate) fn named(&self) -> u32
+        ensures { (files : Files) (entry : IndexRecord) → IsSeenAs files entry self.now → entry.offset ≡ result }
+    {
+        match self {
+            SeenSlot::Empty => EMPTY_SLOT,
+            SeenSlot::Killed { header_at } => *header_at,
+            SeenSlot::Live(message) => message.header_at,
+        }
+    }
+
     /// The bytes of .JHR that its header takes.
     pub(crate) fn extent(&self) -> Extent
         ensures { result ≡ extent_seen self.now }

@@ -19,7 +19,9 @@ use crate::gate::set_gate;
 use crate::recording::write_record;
 use jb_disk::{Disk, DiskFailed, Redo};
 
-// Stages 1 and 2: the record, and then the gate open, each synced.
+// Stages 1 and 2: the record, and then the gate open, each synced. Its buffer is in a frame of its own, as the one of
+// stages 3 and 4 is: where the stack cannot grow so far the program ends before the gate is open, and not behind it.
+#[inline(never)]
 fn record_and_open<D: Disk>(disk: &mut D, redo: &Redo) -> Result<(), DiskFailed>
     requires writable { IsWritable redo.now }
     requires ready { ForSome (D.device disk.old).contents (IsReady redo.now) }
@@ -48,6 +50,7 @@ fn record_and_open<D: Disk>(disk: &mut D, redo: &Redo) -> Result<(), DiskFailed>
 }
 
 /// Stages 3 and 4: the change in the files of the base, and then the gate closed, each synced.
+#[inline(never)]
 pub(crate) fn write_and_close<D: Disk>(disk: &mut D, redo: &Redo) -> Result<(), DiskFailed>
     requires lengths { AreLegalLengths redo.now.lengths }
     requires going { ForSome (D.device disk.old).contents (IsUnderWay redo.now) }

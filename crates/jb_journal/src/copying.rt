@@ -11,10 +11,8 @@ ghost use Rattle.jb_journal.specs.Coming.{ComeBy};
 ghost use Rattle.jb_journal.specs.Filing.{IsWrittenBy};
 ghost use Rattle.jb_journal.specs.Writing.{Reaches, copied};
 
+use crate::gathering::MOST_BYTES;
 use jb_disk::{Disk, DiskFailed, FileId};
-
-/// Bytes that go from file to file at once, at most.
-const CHUNK_BYTES: u32 = 65_536;
 
 /// Bytes to be copied from one file into another.
 #[derive(Clone, Copy)]
@@ -44,8 +42,13 @@ fn copy_part<D: Disk>(disk: &mut D, part: Copying, bytes: &mut [u8]) -> Result<(
     disk.write_at(part.to, part.to_at, bytes)
 }
 
-/// Copies so many bytes, through one buffer of 65,536.
-pub(crate) fn copy<D: Disk>(disk: &mut D, whole: Copying, len: u32) -> Result<(), DiskFailed>
+/// Copies so many bytes, as many at once as the buffer has.
+pub(crate) fn copy<D: Disk>(
+    disk: &mut D,
+    whole: Copying,
+    len: u32,
+    buffer: &mut [u8; MOST_BYTES],
+) -> Result<(), DiskFailed>
     requires apart { ForSome (D.device disk.old).contents (λ files. whole.from ≢ whole.to) }
     requires from_fits { whole.from_at < 2 ^ 32 }
     requires to_fits { whole.to_at < 2 ^ 32 }
@@ -59,10 +62,9 @@ pub(crate) fn copy<D: Disk>(disk: &mut D, whole: Copying, len: u32) -> Result<()
     ensures come { OnOk result (ComeBy [] [] (D.device disk.old).moments (D.device disk.new).moments) }
     ensures cause { FailsBy ⊥ (D.device disk.old) (D.device disk.new) result }
 {
-    let mut buffer = [0; CHUNK_BYTES as usize];
     let mut moved = 0;
     while moved < len {
-        let count = (len - moved).min(CHUNK_BYTES);
+        let count = (len - moved).min(MOST_BYTES as u32);
         let part = Copying {
             from_at: whole.from_at + moved as u64,
             to_at: whole.to_at + moved as u64,

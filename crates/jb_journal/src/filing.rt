@@ -16,7 +16,7 @@ ghost use Rattle.jb_journal.specs.Filing.{AreResized, AgreeBelow, with_piece, wi
 ghost use Rattle.jb_journal.specs.Pending.{seen, IsHeld, IsFrom};
 ghost use Rattle.jb_journal.specs.Spelling.{nth_piece};
 
-use crate::copying::{Copying, copy};
+use crate::copying::Copying;
 use crate::gathering::Gathering;
 use jb_disk::{Disk, DiskFailed, FileId, Length, Redo};
 
@@ -66,7 +66,7 @@ fn put_piece<D: Disk>(
             to: head.to,
             to_at: head.to_at as u64,
         };
-        copy(disk, whole, head.len)
+        gathering.copy(disk, whole, head.len)
     } else {
         gathering.put(disk, head.to, head.to_at as u64, redo.bytes(k))
     }

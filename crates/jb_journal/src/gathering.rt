@@ -1,13 +1,23 @@
 //! Bytes that follow each other in a file are gathered, and written by one call.
-ghost use Rattle.std.specs.Prelude.{◌≡◌, ◌+◌, ◌<◌, ◌≤◌, ◌^◌, ◌++◌, [], length, IsTrue};
+ghost use Rattle.std.specs.Prelude.{◌≡◌, ◌≢◌, ◌+◌, ◌<◌, ◌≤◌, ◌^◌, ◌++◌, List, [], length, IsTrue, OnOk};
+ghost use Rattle.std.specs.Option.{ForSome, option_map};
+ghost use Rattle.jb_disk.specs.declared.piece.Length.{Length};
+ghost use Rattle.jb_disk.specs.declared.piece.Piece.{Piece};
+ghost use Rattle.jb_disk.specs.Device.{FailsBy};
+ghost use Rattle.jb_disk.specs.Files.{Files};
+ghost use Rattle.jb_disk.specs.Runs.{Keeps};
+ghost use Rattle.jb_redo.specs.OnTheWay.{IsOnTheWay};
+ghost use Rattle.jb_journal.specs.Coming.{ComeBy};
+ghost use Rattle.jb_journal.specs.Filing.{IsWrittenBy};
 ghost use Rattle.jb_journal.specs.Pending.{seen, IsHeld, Flushes, Gathers};
-ghost use Rattle.jb_journal.specs.Writing.{Reaches};
+ghost use Rattle.jb_journal.specs.Writing.{Reaches, copied};
 
+use crate::copying::{Copying, copy};
 use jb_disk::{Disk, DiskFailed, FileId};
 use std::marker::Model;
 
-/// So many bytes are gathered at most.
-const MOST_BYTES: usize = 16_384;
+/// So many bytes are gathered at most, and go from file to file at once.
+pub(crate) const MOST_BYTES: usize = 16_384;
 
 /// Bytes on their way into a file, which are still to be written there.
 #[derive(Drop)]
@@ -103,5 +113,31 @@ impl Gathering {
         }
         self.append(bytes);
         Ok(())
+    }
+
+    /// Copies bytes from one file into another, where none are gathered. They go through the buffer, so that the stack
+    /// needs no other.
+    pub(crate) fn copy<D: Disk>(
+        &mut self,
+        disk: &mut D,
+        whole: Copying,
+        len: u32,
+    ) -> Result<(), DiskFailed>
+        requires free { self.old.bytes ≡ [] }
+        requires apart { ForSome (D.device disk.old).contents (λ files. whole.from ≢ whole.to) }
+        requires from_fits { whole.from_at < 2 ^ 32 }
+        requires to_fits { whole.to_at < 2 ^ 32 }
+        requires source { Reaches (D.device disk.old).contents whole.from (whole.from_at + len) }
+        requires target { Reaches (D.device disk.old).contents whole.to (whole.to_at + len) }
+        ensures same { self.new ≡ self.old }
+        ensures told { OnOk result ((D.device disk.new).contents ≡ option_map (copied whole.from
+            whole.from_at whole.to whole.to_at len) (D.device disk.old).contents) }
+        ensures keeps { (lengths : List Length) (pieces : List Piece) (start : Files)
+            → IsWrittenBy start pieces whole.to whole.to_at len
+            → Keeps (IsOnTheWay lengths pieces start) (D.device disk.old) (D.device disk.new) }
+        ensures come { OnOk result (ComeBy [] [] (D.device disk.old).moments (D.device disk.new).moments) }
+        ensures cause { FailsBy ⊥ (D.device disk.old) (D.device disk.new) result }
+    {
+        copy(disk, whole, len, &mut self.buffer)
     }
 }

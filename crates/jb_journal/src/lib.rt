@@ -4,12 +4,12 @@
 //! behind the 16 bytes of its head stands the record of the last change. A crash at any moment leaves files that the record
 //! behind an open gate, done once more, takes to what they were before the change or to what they are after it. [`recover`]
 //! does that when an area is opened. After a fault [`settle`] tells which of the two, and takes the files there. [`prepare`]
-//! gives a journal its head. None of them takes memory: what is written goes through a buffer of 16,384 bytes on the stack, and
-//! what is copied through one of 65,536.
+//! gives a journal its head. None of them takes memory: what is written or copied goes through a buffer of 16,384 bytes on the
+//! stack, as large behind the open gate as before it: where the stack cannot grow so far, the program ends before the gate is open.
 //!
 //! A commit of n lengths and c changed files makes 6 + n + r + w + c calls of the disk, 3 + c of them syncs. The record is
 //! written by r calls and the pieces by w: one for each run of parts that follow each other in one file and have at most 16,384
-//! bytes together, one for each longer part, and two for each 65,536 bytes that are copied. So r is 1 for a small change, and w
+//! bytes together, one for each longer part, and two for each 16,384 bytes that are copied. So r is 1 for a small change, and w
 //! is how many places of the files it changes. A settling makes three calls, and stages 3 and 4 of the commit once more where the
 //! gate is open; a preparing of a journal that has its head makes one. Opening makes six syncs and two calls for the gate; where
 //! that is open, the calls of `test_record` and `apply_record`, four syncs more and four calls that close it.

@@ -12,7 +12,7 @@ ghost use Rattle.jb_nodes.specs.Working.{AreAllOf, GivesUp, RunsOn, WorkToTheEnd
 use crate::ending::NodesEnd;
 use crate::lines::{Room, open_lines, room_for, take_passes};
 use crate::parting::{part_nodes, part_packer};
-use crate::telling::tell_open;
+use crate::telling::{port_of, tell_open};
 use jb_areas::{SharedAreas, abandon_areas, close_areas, open_areas};
 use jb_conf::Board;
 use jb_host::{Door, Host, HostError};
@@ -110,7 +110,8 @@ where
                 nodes: workers,
                 packer,
             };
-            tell_open(host, board, shared.live.as_slice());
+            let port = port_of(board, &crew.nodes);
+            tell_open(host, board, port, shared.live.as_slice());
             let door_failed = work(rt, alloc, host, board, &mut shared, crew);
             let is_doubtful = close_areas(rt, host, board.areas.as_slice(), shared);
             host.note("closed");

@@ -8,7 +8,8 @@ ghost use Rattle.jb_nodes.specs.Telling.{AreNamed, area_line, listening_line};
 use arrayvec::ArrayString;
 use itoa::Buffer;
 use jb_conf::{Board, BoardArea};
-use jb_host::Host;
+use jb_host::{Door, Host};
+use jb_server::Worker;
 
 /// A line of at most 64 bytes; it takes no memory.
 type Line = ArrayString<64>;
@@ -55,12 +56,20 @@ fn tell_areas<H: Host>(host: &mut H, areas: &[BoardArea], live: &[usize])
     }
 }
 
-/// Tells where callers may come and how many at once, and each area with its number of live messages.
-pub(crate) fn tell_open<H: Host>(host: &mut H, board: &Board, live: &[usize])
+/// The port of the board; where that is 0 the system has picked one, which the doors know.
+pub(crate) fn port_of<D: Door, B, C>(board: &Board, nodes: &Vec<Worker<D, B, C>>) -> u16 {
+    match nodes.as_slice().first() {
+        Some(Worker::Node(slot)) => slot.door.port().unwrap_or(board.port),
+        _ => board.port,
+    }
+}
+
+/// Tells at which port callers may come and how many at once, and each area with its number of live messages.
+pub(crate) fn tell_open<H: Host>(host: &mut H, board: &Board, port: u16, live: &[usize])
     requires board { IsInRange board.now }
     ensures { H.desk host.new ≡ H.desk host.old }
 {
-    let line = listening_line(board.port, board.nodes);
+    let line = listening_line(port, board.nodes);
     host.note(line.as_str());
     tell_areas(host, board.areas.as_slice(), live);
 }

@@ -1,5 +1,5 @@
 pub mod Fronts
 pub mod Growing
 pub mod Places
-pub mod Editing
+pub mod Copies
 pub mod Showing

@@ -1,13 +1,11 @@
 -- What contracts see of the writer's end.
-use Rattle.std.specs.Prelude.{List, [], ◌∷◌, ◌++◌, Option, drop, fold}
+use Rattle.std.specs.Prelude.{List, [], ◌∷◌, ◌++◌, Option, fold}
 use Rattle.left_right.specs.Sides.{view}
 use Rattle.left_right.specs.declared.Absorb as Copying
 use Rattle.jb_publish.specs.declared.meaning.Absorbs as Changing
 use Rattle.jb_publish.specs.declared.edition.Edition.{Edition}
-use Rattle.jb_publish.specs.declared.edition.Op.{Op}
 use Rattle.jb_publish.specs.declared.known.Mark.{Mark}
 use Rattle.jb_publish.specs.declared.ends.Shower.{Shower}
-use Rattle.jb_publish.specs.Editions.{changes_in}
 
 -- which pair it is of, the list that was published, the changes that no look sees yet, and the value that looks see
 pub record Publication (T K O E : Type 0) : Type 0 where
@@ -17,8 +15,8 @@ pub record Publication (T K O E : Type 0) : Type 0 where
   pub value : T
 
 -- what the writer publishes
-abbrev pub publication_of : {T K O E S : Type 0} {a : Changing.Ghosts T K} {g : Copying.Ghosts (Edition T E) (Op K E) S} → Shower T K O E S a g → Publication T K O E
-publication_of s = record { mark = (view s.writer.desk.place).mark; list = s.front.seen.log; queued = changes_in (drop s.writer.behind s.writer.log.items); value = s.writer.desk.shown.value.value }
+abbrev pub publication_of : {T K O E S : Type 0} {a : Changing.Ghosts T K} {g : Copying.Ghosts (Edition T E) (Unit {0}) S} → Shower T K O E S a g → Publication T K O E
+publication_of s = record { mark = (view s.writer.desk.place).mark; list = s.front.seen.log; queued = s.queued.items; value = s.writer.desk.shown.value.value }
 
 module _ {T K O E : Type 0} where
   -- with one change more in the queue

@@ -1,6 +1,5 @@
-//! A copy of the value beside the list that it stands for, and what both copies take in.
+//! A copy of the value beside the list that it stands for.
 use crate::front::Front;
-use crate::meaning::Absorbs;
 use left_right::Absorb;
 use std::alloc::AllocError;
 
@@ -13,38 +12,33 @@ pub struct Edition<T, E> {
     pub(crate) begun: bool,
 }
 
-/// What a copy takes in.
-#[derive(Drop)]
-pub enum Op<K, E> {
-    /// A change of the value.
-    Change(K),
-    /// The value stands for the list of this front.
-    Settle(Front<E>),
-    /// The pair has its mark. It also takes room in the queue, which never shrinks.
-    Begin,
-}
+/// `left_right` is given no operations, since its contracts tell nothing of the room for them: the writer has queues of its own. Until the
+/// pair has its mark, both copies have the same value.
+impl<T, E> Absorb<()> for Edition<T, E> {
+    ghost use Rattle.jb_publish.specs.Editions.{in_common};
 
-impl<T: Absorbs<K>, K: Drop, E> Absorb<Op<K, E>> for Edition<T, E> {
-    ghost use Rattle.jb_publish.specs.Editions.{absorbed};
+    type State = Option<T>;
 
-    type State = Edition<T, E>;
+    ghost state = { in_common };
 
-    ghost state = { λ x. x };
-
-    ghost applied = { absorbed T.changed };
+    ghost applied = { λ s operation. s };
 
     ghost never_fails = { Unit {0} };
 
-    fn absorb_first(
-        &mut self,
-        operation: &Op<K, E>,
-        _other: &Edition<T, E>,
-    ) -> Result<(), AllocError> {
-        match operation {
-            Op::Change(change) => self.value.absorb(change),
-            Op::Settle(front) => self.front = front.again(),
-            Op::Begin => self.begun = true,
-        }
+    fn absorb_first(&mut self, _operation: &(), _other: &Edition<T, E>) -> Result<(), AllocError> {
         Ok(())
+    }
+}
+
+impl<T, E> Edition<T, E> {
+    ghost use Rattle.std.specs.Prelude.{◌≡◌, true};
+    ghost use Rattle.jb_publish.specs.Editions.{edition};
+
+    /// The value stands for the list of this front, of a pair that has its mark.
+    pub(crate) fn settle(&mut self, front: &Front<E>)
+        ensures { self.new ≡ edition self.old.value front.now true }
+    {
+        self.front = front.again();
+        self.begun = true;
     }
 }

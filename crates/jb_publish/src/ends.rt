@@ -1,10 +1,11 @@
 //! The writer's end, a reader's end, and a look. Their fields are the crate's own.
-ghost use Rattle.std.specs.Prelude.{◌≡◌, true, is_some};
+ghost use Rattle.std.specs.Prelude.{◌≡◌, ◌≤◌, true, fold, is_some, vec_capacity};
 ghost use Rattle.left_right.specs.Sides.{view};
 ghost use Rattle.jb_publish.specs.Books.{head_of};
 ghost use Rattle.jb_publish.specs.Marks.{book_at};
+ghost use Rattle.jb_publish.specs.declared.ends.TheConstants.{ROOM};
 
-use crate::edition::{Edition, Op};
+use crate::edition::Edition;
 use crate::front::Front;
 use crate::known::Known;
 use crate::list::ListWord;
@@ -18,22 +19,31 @@ pub(crate) type EditionReader<T, O, E> = Reader<Edition<T, E>, Known<O>, Edition
 
 pub(crate) type EditionReading<T, O, E> = Reading<Edition<T, E>, Known<O>, EditionLaw>;
 
-pub(crate) type EditionWriter<T, K, O, E> = Writer<Edition<T, E>, Op<K, E>, Known<O>, EditionLaw>;
+pub(crate) type EditionWriter<T, O, E> = Writer<Edition<T, E>, (), Known<O>, EditionLaw>;
+
+/// So many changes can be queued between two showings without memory.
+pub const ROOM: usize = 3;
 
 /// The writer's end. It is not `Drop`: end it by `close`.
 pub struct Shower<T: Published<O, E> + Absorbs<K> + Drop, K: Drop, O, E>
 where
-    Edition<T, E>: Absorb<Op<K, E>>,
+    Edition<T, E>: Absorb<()>,
 {
-    pub(crate) writer: EditionWriter<T, K, O, E>,
+    pub(crate) writer: EditionWriter<T, O, E>,
+    /// The changes that the spare copy lacks of the one that is shown.
+    pub(crate) lacking: Vec<K>,
+    /// The changes that neither copy has.
+    pub(crate) queued: Vec<K>,
     pub(crate) word: ListWord<E>,
     /// All that was published.
     pub(crate) front: Front<E>,
     ghost bound: { is_some (view writer.desk.place).mark ≡ true },
     ghost tied: { front.seen.book ≡ book_at (view writer.desk.place).mark },
     ghost named: { word ≡ head_of front.seen.book },
-    ghost begun: { writer.desk.shown.value.begun ≡ true },
+    ghost begun: { (writer.desk.shown.value.begun ≡ true) × (writer.desk.spare.value.begun ≡ true) },
     ghost current: { writer.desk.shown.value.front.count ≡ front.count },
+    ghost lacks: { fold T.changed writer.desk.spare.value.value lacking.items ≡ writer.desk.shown.value.value },
+    ghost room: { (ROOM ≤ vec_capacity lacking) × (ROOM ≤ vec_capacity queued) },
 }
 
 /// A reader's end, for one thread at a time. It may be sent to a thread and dropped.

@@ -21,7 +21,7 @@ mod reader;
 mod rule;
 mod writer;
 
-pub use ends::{Shower, Shown, Sight};
+pub use ends::{ROOM, Shower, Shown, Sight};
 pub use front::Front;
 pub use known::{Known, Mark};
 pub use meaning::{Absorbs, NamesList, NamesOpening, Published};

@@ -1,59 +1,43 @@
 //! What the writer does.
-ghost use Rattle.std.specs.Prelude.{◌≡◌, ◌≤◌, ◌<◌, [], ◌∷◌, ◌++◌, drop, fold, length, MatchBool, MatchResult};
+ghost use Rattle.std.specs.Prelude.{◌≡◌, ◌≤◌, ◌<◌, true, fold, length, MatchBool, MatchResult, OnErr};
 ghost use mathlib.Core.List.{IsPrefix};
-ghost use Rattle.left_right.specs.Register.{TurnsAt};
-ghost use Rattle.left_right.specs.Sides.{view};
 ghost use Rattle.jb_publish.specs.Accounts.{account_of};
-ghost use Rattle.jb_publish.specs.Editions.{absorbed};
+ghost use Rattle.jb_publish.specs.Editions.{edition};
 ghost use Rattle.jb_publish.specs.Fronts.{list_of};
 ghost use Rattle.jb_publish.specs.Marks.{StandsFrom, opening_at};
 ghost use Rattle.jb_publish.specs.Pairs.{IsIn};
 ghost use Rattle.jb_publish.specs.Publications.{publication_of, queued_with, shown_with};
-ghost use Rattle.jb_publish.specs.Shows.{Shows};
-ghost use Rattle.jb_publish.specs.declared.edition.Edition.{Edition};
-ghost use Rattle.jb_publish.specs.declared.edition.Op.TheVariants.{Settle};
+ghost use Rattle.jb_publish.specs.declared.ends.TheConstants.{ROOM};
 
-use crate::edition::{Edition, Op};
-use crate::ends::{EditionWriter, Shower, Shown};
+use crate::edition::Edition;
+use crate::ends::{Shower, Shown};
 use crate::front::Front;
 use crate::list::go_on;
 use crate::meaning::{Absorbs, NamesList, Published};
 use crate::rule::Publish;
-use crossbeam_utils::Backoff;
 use std::sync::Wait;
 
-// Queues that the value then stands for the list of this front. It waits where there is no memory.
-fn settle<T: Published<O, E> + Absorbs<K> + Drop, K: Drop, O, E, R: Wait>(
-    rt: &R,
-    writer: &mut EditionWriter<T, K, O, E>,
-    front: &Front<E>,
-)
-    ensures desk { writer.new.desk ≡ writer.old.desk }
-    ensures pending { drop writer.new.behind writer.new.log.items ≡ drop writer.old.behind writer.old.log.items ++ Settle front.now ∷ [] }
+// The value takes in these changes.
+fn absorb_all<T: Absorbs<K>, K>(value: &mut T, changes: &[K])
+    ensures { value.new ≡ fold T.changed value.old changes.now }
 {
-    let backoff = Backoff::new();
-    for _ in rt.forever() {
-        if writer.append(Op::Settle(front.again())).is_ok() {
-            return;
-        }
-        backoff.snooze();
+    for change in changes {
+        value.absorb(change);
     }
-    unreachable!()
 }
 
-// Shows the copy with all that is queued, of which the caller shows that the rule holds.
-fn publish<T: Published<O, E> + Absorbs<K> + Drop, K: Drop, O, E, R: Wait>(
-    rt: &R,
-    writer: EditionWriter<T, K, O, E>,
-) -> EditionWriter<T, K, O, E>
-    requires { (next : Edition T E) → next ≡ fold (absorbed T.changed) writer.desk.shown.value (drop writer.behind writer.log.items) → TurnsAt (Shows T.stands) writer.desk.place.id (view writer.desk.place) writer.desk.shown.value next (λ v x y w. w ≡ v) }
-    ensures same { view result.desk.place ≡ view writer.desk.place }
-    ensures value { result.desk.shown.value ≡ fold (absorbed T.changed) writer.desk.shown.value (drop writer.behind writer.log.items) }
-    ensures queued { drop result.behind result.log.items ≡ [] }
+// The copy takes in what it lacks and what is queued, and stands for the list of this front.
+fn bring_up<T: Absorbs<K>, K, E>(
+    copy: &mut Edition<T, E>,
+    lacking: &[K],
+    queued: &[K],
+    front: &Front<E>,
+)
+    ensures { copy.new ≡ edition (fold T.changed (fold T.changed copy.old.value lacking.now) queued.now) front.now true }
 {
-    let (writer, done) = writer.publish_as::<Publish, R>(rt);
-    let Ok(()) = done else { unreachable!() };
-    writer
+    absorb_all(&mut copy.value, lacking);
+    absorb_all(&mut copy.value, queued);
+    copy.settle(front);
 }
 
 impl<T: Published<O, E> + Absorbs<K> + Drop, K: Drop, O, E> Shower<T, K, O, E> {
@@ -64,36 +48,28 @@ impl<T: Published<O, E> + Absorbs<K> + Drop, K: Drop, O, E> Shower<T, K, O, E> {
         self.front.count
     }
 
-    /// Queues a change, which no look sees before it is shown. It comes back where there is no memory.
+    /// Queues a change, which no look sees before it is shown. It comes back where there is no memory, and so never while fewer than
+    /// `ROOM` are queued.
     pub fn queue(&mut self, change: K) -> Result<(), K>
-        ensures { MatchResult result (λ _. publication_of self.new ≡ queued_with (publication_of self.old) change) (λ back. (back ≡ change) × (publication_of self.new ≡ publication_of self.old)) }
+        ensures queued { MatchResult result (λ _. publication_of self.new ≡ queued_with (publication_of self.old) change) (λ back. (back ≡ change) × (publication_of self.new ≡ publication_of self.old)) }
+        ensures room { OnErr result (ROOM ≤ length (publication_of self.old).queued) }
     {
-        match self.writer.append(Op::Change(change)) {
+        match self.queued.push(change) {
             Ok(()) => Ok(()),
-            Err(Op::Change(change)) => Err(change),
-            Err(_) => unreachable!(),
+            Err(failed) => Err(failed.value),
         }
     }
 
-    /// Queues a change that may not come back, which no look sees before it is shown. It waits where there is no memory, and so
-    /// never while no more than three changes are queued between two showings: a pair has taken the room for them.
-    pub fn put<R: Wait>(&mut self, rt: &R, change: K)
+    /// Queues a change for which there is room. It takes no memory.
+    pub fn put(&mut self, change: K)
+        requires room { length (publication_of self.old).queued < ROOM }
         ensures { publication_of self.new ≡ queued_with (publication_of self.old) change }
     {
-        let backoff = Backoff::new();
-        let mut change = change;
-        for _ in rt.forever() {
-            match self.queue(change) {
-                Ok(()) => return,
-                Err(back) => change = back,
-            }
-            backoff.snooze();
-        }
-        unreachable!()
+        self.queued.push_reserved(change);
     }
 
-    /// Shows all changes that are queued, as the list with so many entries that `J` names. It waits for the looks that still
-    /// see the copy from before the last showing.
+    /// Shows all changes that are queued, as the list with so many entries that `J` names. It takes no memory, and waits for the looks
+    /// that still see the copy from before the last showing.
     pub fn show<J: NamesList<E>, R: Wait>(self, rt: &R, count: u64) -> Shower<T, K, O, E>
         requires longer { IsPrefix (publication_of self).list J.items × (count ≡ length J.items) }
         requires stands { StandsFrom T.stands (opening_at (publication_of self).mark) (fold T.changed (publication_of self).value (publication_of self).queued) J.items }
@@ -101,14 +77,21 @@ impl<T: Published<O, E> + Absorbs<K> + Drop, K: Drop, O, E> Shower<T, K, O, E> {
     {
         let Shower {
             mut writer,
+            mut lacking,
+            queued,
             word,
             front,
         } = self;
         let seen = go_on::<T, O, E, J, R>(rt, &word, &front.seen, front.count, count);
         let front = Front { count, seen };
-        settle(rt, &mut writer, &front);
+        let (open, mut spare) = writer.desk.open(rt);
+        bring_up(&mut *spare, lacking.as_slice(), queued.as_slice(), &front);
+        writer.desk = open.show_as::<Publish>(spare);
+        lacking.clear();
         Shower {
-            writer: publish(rt, writer),
+            writer,
+            lacking: queued,
+            queued: lacking,
             word,
             front,
         }
@@ -139,6 +122,8 @@ impl<T: Published<O, E> + Absorbs<K> + Drop, K: Drop, O, E> Shower<T, K, O, E> {
     {
         let Shower {
             writer,
+            lacking: _lacking,
+            queued: _queued,
             word: _word,
             front: _front,
         } = self;

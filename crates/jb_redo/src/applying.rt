@@ -27,7 +27,7 @@ use crate::testing::END;
 use jb_disk::{Disk, DiskFailed, FileId};
 
 /// Bytes that go from file to file at once, at most.
-const CHUNK_BYTES: usize = 65_536;
+const CHUNK_BYTES: usize = 16_384;
 
 /// Copies so many bytes of a part as the chunk has, behind those that are copied.
 fn copy_chunk<D: Disk>(
@@ -223,13 +223,13 @@ fn apply<D: Disk>(disk: &mut D) -> Result<(), RecordError>
 }
 
 /// Does what the journal's record says: sets the new lengths, then writes the pieces in order, through one buffer of
-/// 65,536 bytes. It takes no memory, syncs nothing and leaves the gate as it is.
+/// 16,384 bytes on the stack. It takes no memory, syncs nothing and leaves the gate as it is.
 ///
 /// Where the disk tells its files they are to hold a record, as [`test_record`](crate::test_record) answers.
 /// `StoreFault` may come at any point. After it, and after a crash at any moment, the journal still holds the record,
 /// and applying it again comes to the same files, where each byte past an old end is written by some piece. `Bad` comes
 /// only from a disk that tells nothing, when it reads otherwise than before. Six questions for a length; a read for each
-/// field and two for a copy; a change of each new length; a read and a write for each 65,536 bytes of a piece.
+/// field and two for a copy; a change of each new length; a read and a write for each 16,384 bytes of a piece.
 pub fn apply_record<D: Disk>(disk: &mut D) -> Result<(), RecordError>
     requires { ForSome (D.device disk.old).contents HasRecord }
 

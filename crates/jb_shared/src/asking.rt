@@ -148,7 +148,7 @@ impl<D: Disk> SharedArea<D> {
     /// the copies. An area in doubt has no steps: one turn ends the doubt and packs.
     ///
     /// A step that the device stops ends the call, which is recorded as stopped, in doubt without a change: .NDT may hold anything
-    /// then, nothing else is other than before, and the next call reopens the area, for which .NDT is synced. A step that wants memory
+    /// then, nothing else is other than before, and the next call reopens the area, which empties .NDT. A step that wants memory
     /// ends the call without an entry; what was copied stays for the next pack.
     pub fn call<R: Wait>(
         &self,

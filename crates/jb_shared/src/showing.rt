@@ -64,7 +64,7 @@ pub(crate) fn show<D: Disk, R: Wait>(
         doubted,
     } = state;
     if done {
-        shower.put(rt, doubted);
+        shower.put(doubted);
     }
     let shower = show_front::<D, Brand, R>(rt, seat, shower, count);
     Held {

@@ -177,5 +177,9 @@ impl Disk for Quiet {
         self.disk.sync(file)
     }
 
+    fn claim(&mut self) -> Result<(), DiskFailed> {
+        self.disk.claim()
+    }
+
     ghost told = { tells_nothing };
 }

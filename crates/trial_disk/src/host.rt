@@ -55,16 +55,8 @@ fn make(alloc: Global, host: &mut MemHost, row: &Row, words: &mut Words) -> Resu
     Ok(())
 }
 
-// A word of a row that is a folder or a name, where `-` is an empty text.
-fn named(row: &Row, place: usize) -> Result<&str, RowError> {
-    match row.word(place)? {
-        "-" => Ok(""),
-        word => Ok(word),
-    }
-}
-
 fn add(alloc: Global, host: &mut MemHost, row: &Row, words: &mut Words) -> Result<(), RowError> {
-    let (dir, name) = (named(row, 2)?, named(row, 3)?);
+    let (dir, name) = (row.word(2)?, row.word(3)?);
     let Ok(disk) = disk_of(alloc, row, 4, 5) else {
         return Err(RowError::Bytes(4));
     };
@@ -89,7 +81,7 @@ fn hand_out(
     row: &Row,
     words: &mut Words,
 ) -> Result<(), RowError> {
-    match host.disk(named(row, 2)?, named(row, 3)?) {
+    match host.disk(row.word(2)?, row.word(3)?) {
         Ok(disk) => {
             words.word("out");
             keep(out, disk)
@@ -104,7 +96,7 @@ fn put_back(
     row: &Row,
     words: &mut Words,
 ) -> Result<(), RowError> {
-    let (dir, name) = (named(row, 2)?, named(row, 3)?);
+    let (dir, name) = (row.word(2)?, row.word(3)?);
     match out.pop() {
         Some(disk) => {
             host.put_back(dir, name, disk);
@@ -116,7 +108,7 @@ fn put_back(
 }
 
 fn put_at(host: &MemHost, row: &Row, words: &mut Words) -> Result<(), RowError> {
-    match host.disk_at(named(row, 2)?, named(row, 3)?) {
+    match host.disk_at(row.word(2)?, row.word(3)?) {
         Some(disk) => words.shown(disk.file(FileId::Jhr)),
         None => words.word("none"),
     }
@@ -124,7 +116,7 @@ fn put_at(host: &MemHost, row: &Row, words: &mut Words) -> Result<(), RowError> 
 }
 
 fn write(alloc: Global, host: &mut MemHost, row: &Row, words: &mut Words) -> Result<(), RowError> {
-    let path = named(row, 2)?;
+    let path = row.word(2)?;
     let Ok(bytes) = row.bytes(alloc, 3) else {
         return Err(RowError::Bytes(3));
     };
@@ -133,7 +125,7 @@ fn write(alloc: Global, host: &mut MemHost, row: &Row, words: &mut Words) -> Res
 }
 
 fn put_settings(host: &mut MemHost, row: &Row, words: &mut Words) -> Result<(), RowError> {
-    match host.settings(named(row, 2)?) {
+    match host.settings(row.word(2)?) {
         Ok(bytes) => {
             words.shown(bytes.as_slice());
             Ok(())

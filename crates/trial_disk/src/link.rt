@@ -1,7 +1,6 @@
 //! A link in memory.
 
-use crate::spelling::put_done;
-use jb_host::{Link, MemLink, send};
+use jb_host::{Link, MemLink};
 use std::alloc::Global;
 use trial_rows::{Row, RowError, Words};
 
@@ -17,8 +16,6 @@ pub(crate) fn put(
     match call {
         "new" => return make(alloc, link, row, words),
         "read" => put_read(link, into, words),
-        "write" | "send" => return put_written(alloc, link, call, row, words),
-        "sent" => words.shown(link.sent()),
         _ => return Err(RowError::Unknown(1)),
     }
     Ok(())
@@ -55,29 +52,4 @@ fn put_read(link: &mut MemLink, into: &mut [u8; 3], words: &mut Words) {
         Err(_) => words.word("failed"),
     }
     words.shown(into);
-}
-
-fn put_written(
-    alloc: Global,
-    link: &mut MemLink,
-    call: &str,
-    row: &Row,
-    words: &mut Words,
-) -> Result<(), RowError> {
-    let Ok(bytes) = row.bytes(alloc, 2) else {
-        return Err(RowError::Bytes(2));
-    };
-    if call == "send" {
-        put_done(send(link, bytes.as_slice()).is_ok(), words);
-    } else {
-        put_count(link, bytes.as_slice(), words);
-    }
-    Ok(())
-}
-
-fn put_count(link: &mut MemLink, bytes: &[u8], words: &mut Words) {
-    match link.write(bytes) {
-        Ok(count) => words.number(count as u64),
-        Err(_) => words.word("failed"),
-    }
 }

@@ -1,9 +1,8 @@
 //! A silent disk over one in memory.
 
-use crate::calling::put_called;
 use crate::memory::disk_of;
-use crate::spelling::file;
-use jb_disk::{MemDisk, SilentDisk};
+use crate::spelling::{file, put_done};
+use jb_disk::{Disk, MemDisk, SilentDisk};
 use std::alloc::Global;
 use trial_rows::{Row, RowError, Words};
 
@@ -23,8 +22,9 @@ pub(crate) fn put(
     };
     match call {
         "calls" => put_calls(silent, words),
-        "file" => words.shown(silent.disk.file(file(row, 2)?)),
-        _ => return put_called(alloc, silent, call, row, words),
+        "len" => put_done(silent.len(file(row, 2)?).is_ok(), words),
+        "sync" => put_done(silent.sync(file(row, 2)?).is_ok(), words),
+        _ => return Err(RowError::Unknown(1)),
     }
     Ok(())
 }

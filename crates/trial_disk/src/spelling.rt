@@ -1,11 +1,5 @@
-//! The words of a row for a file, for the calls that fail, and for an answer.
-ghost use Rattle.std.specs.Prelude.{◌≡◌};
-ghost use Rattle.jb_disk.specs.Files.{ceiling_of};
+//! The words of a row for a file and for an answer.
 
-use jb_base::{
-    HEADERS_CEILING, INDEX_CEILING, JOURNAL_CEILING, LASTREAD_CEILING, SHADOW_CEILING,
-    TEXTS_CEILING,
-};
 use jb_disk::FileId;
 use trial_rows::{Row, RowError, Words};
 
@@ -19,32 +13,6 @@ pub(crate) fn file(row: &Row, place: usize) -> Result<FileId, RowError> {
         "JNL" => Ok(FileId::Jnl),
         "NDT" => Ok(FileId::Ndt),
         _ => Err(RowError::Unknown(place)),
-    }
-}
-
-/// The word of a file.
-pub(crate) fn name(file: FileId) -> &'static str {
-    match file {
-        FileId::Jhr => "JHR",
-        FileId::Jdt => "JDT",
-        FileId::Jdx => "JDX",
-        FileId::Jlr => "JLR",
-        FileId::Jnl => "JNL",
-        FileId::Ndt => "NDT",
-    }
-}
-
-/// The greatest length that a file is given.
-pub(crate) fn ceiling(file: FileId) -> u64
-    ensures { result ≡ ceiling_of file }
-{
-    match file {
-        FileId::Jhr => HEADERS_CEILING,
-        FileId::Jdt => TEXTS_CEILING,
-        FileId::Jdx => INDEX_CEILING,
-        FileId::Jlr => LASTREAD_CEILING,
-        FileId::Jnl => JOURNAL_CEILING,
-        FileId::Ndt => SHADOW_CEILING,
     }
 }
 

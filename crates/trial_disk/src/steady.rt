@@ -1,6 +1,5 @@
 //! A steady disk.
 
-use crate::calling::put_called;
 use crate::spelling::file;
 use jb_disk::SteadyDisk;
 use std::alloc::Global;
@@ -22,7 +21,7 @@ pub(crate) fn put(
     };
     match call {
         "file" => words.shown(disk.file(file(row, 2)?)),
-        _ => return put_called(alloc, disk, call, row, words),
+        _ => return Err(RowError::Unknown(1)),
     }
     Ok(())
 }

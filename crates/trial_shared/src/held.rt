@@ -124,5 +124,9 @@ impl<'a> Disk for HeldDisk<'a> {
         self.disk.sync(file)
     }
 
+    fn claim(&mut self) -> Result<(), DiskFailed> {
+        self.disk.claim()
+    }
+
     ghost told = { λ held. tells_an_image held.disk };
 }

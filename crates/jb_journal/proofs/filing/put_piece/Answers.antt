@@ -19,7 +19,7 @@ returns-in_ok-flush-clause-told g c =
     let was = c.args.gathering.now in
     let is = head-nth c.args.redo.now.pieces c.args.k c.head-head.result c.requires.within c.head-head.ensures in
     on_ok c.copy.result _ _ (λ told.
-    ap (λ (p : Pending). seen p (g.D.Disk.device c.copy.new.disk).contents) c.flush.ensures.none ∙ seen-none was.file was.at (g.D.Disk.device c.copy.new.disk).contents
+    ap (λ (p : Pending). seen p (g.D.Disk.device c.copy.new.disk).contents) (c.copy.ensures.same ∙ c.flush.ensures.none) ∙ seen-none was.file was.at (g.D.Disk.device c.copy.new.disk).contents
     ∙ told ∙ option_map-same _ _ _ (λ files there. copy-written piece c.head-head.result is c.if-head.true files) ∙ ap (option_map (with_piece piece)) c.in_ok-flush.ensures.told) c.copy.ensures.told
 
 pub returns-in_ok-flush-clause-held : goal.returns-in_ok-flush-clause-held
@@ -30,7 +30,7 @@ returns-in_ok-flush-clause-held g c =
     let new = (g.D.Disk.device c.copy.new.disk).contents in
     let is = head-nth c.args.redo.now.pieces c.args.k c.head-head.result c.requires.within c.head-head.ensures in
     let room : Reaches (seen was old) was.file (was.at + 0) = Reaches-written old (seen was old) was.file was.file was.at (was.at + 0) was.bytes refl c.requires.held (λ files there. omega (arith, c.requires.held files there)) in
-    on_ok c.copy.result _ _ (λ told. subst (λ (p : Pending). IsHeld p new) (sym c.flush.ensures.none)
+    on_ok c.copy.result _ _ (λ told. subst (λ (p : Pending). IsHeld p new) (sym (c.copy.ensures.same ∙ c.flush.ensures.none))
     (reaches-with piece (seen was old) new was.file (was.at + 0)
     (told ∙ option_map-same _ _ _ (λ files there. copy-written piece c.head-head.result is c.if-head.true files) ∙ ap (option_map (with_piece piece)) c.in_ok-flush.ensures.told) c.requires.place room)) c.copy.ensures.told
 
@@ -38,7 +38,7 @@ pub returns-in_ok-flush-clause-keeps : goal.returns-in_ok-flush-clause-keeps
 returns-in_ok-flush-clause-keeps g c = λ lengths start legal from.
     let pieces = c.args.redo.now.pieces in
     let is = head-nth pieces c.args.k c.head-head.result c.requires.within c.head-head.ensures in (
-      none_from start pieces c.args.gathering.now _ c.flush.ensures.none,
+      none_from start pieces c.args.gathering.now _ (c.copy.ensures.same ∙ c.flush.ensures.none),
       keeps-then (IsOnTheWay lengths pieces start) _ _ _ (c.flush.ensures.way lengths pieces start from)
           (c.copy.ensures.keeps lengths pieces start (covered-head start lengths pieces c.args.k c.head-head.result legal c.requires.within is)),
     )

@@ -6,7 +6,7 @@ use Rattle.jb_redo.proofs.applying.apply_pieces.Given as goal
 
 abbrev pub invariant-loop : goal.invariant-loop
 invariant-loop g l = record {
-  size : length l.buffer ≡ 65536;
+  size : length l.buffer ≡ 16384;
   quiet : (g.D.Disk.device l.disk).faults ≡ (g.D.Disk.device l.initial.disk).faults;
   alike : TellsAlike (g.D.Disk.device l.initial.disk) (g.D.Disk.device l.disk);
   told : Turns (AppliedSoFar l.count l.counter l.at l.lengths.ends) (g.D.Disk.device l.initial.disk).contents (g.D.Disk.device l.disk).contents;

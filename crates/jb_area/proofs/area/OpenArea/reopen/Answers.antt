@@ -13,22 +13,34 @@ unreachable-requires g c =
 
 pub returns-in-Ok-clause-settled : goal.returns-in-Ok-clause-settled
 returns-in-Ok-clause-settled g c =
-    copying_settles g.D.Disk.device c.args.self.now c.in-Copying.is c.sync_copies.new.disk c.drop_both.new.large c.drop_both.new.packer c.put_stage.new.place c.drop_both.ensures.large c.drop_both.ensures.packer c.put_stage.ensures c.in-Ok.ensures.settled
+    copying_settles g.D.Disk.device c.args.self.now c.in-Copying.is c.clear_copies.new.disk c.drop_both.new.large c.drop_both.new.packer c.put_stage.new.place c.drop_both.ensures.large c.drop_both.ensures.packer c.put_stage.ensures c.in-Ok.ensures.settled
 
 pub returns-in-Ok-clause-crash : goal.returns-in-Ok-clause-crash
 returns-in-Ok-clause-crash g c =
-    copying_crashes g.D.Disk.device c.args.self.now c.in-Copying.is (g.D.Disk.device c.sync_copies.new.disk) c.sync_copies.ensures.crash
+    copying_crashes g.D.Disk.device c.args.self.now c.in-Copying.is (g.D.Disk.device c.clear_copies.new.disk) c.clear_copies.ensures.crash
+
+pub returns-in-Ok-clause-emptied : goal.returns-in-Ok-clause-emptied
+returns-in-Ok-clause-emptied g c = λ texts half. c.in-Ok.ensures.empty
+
+pub returns-in-Nothing-clause-emptied : goal.returns-in-Nothing-clause-emptied
+returns-in-Nothing-clause-emptied g c = λ texts half. absurd (c.in_default.not-Copying half.stage)
+
+pub returns-in-Ok-true-clause-emptied : goal.returns-in-Ok-true-clause-emptied
+returns-in-Ok-true-clause-emptied g c = λ texts half. absurd (c.in_default.not-Copying half.stage)
+
+pub returns-in-Ok-false-clause-emptied : goal.returns-in-Ok-false-clause-emptied
+returns-in-Ok-false-clause-emptied g c = λ texts half. absurd (c.in_default.not-Copying half.stage)
 
 pub returns-in-Err-clause-still : goal.returns-in-Err-clause-still
 returns-in-Err-clause-still g c =
-    copying_still g.D.Disk.device c.args.self.now c.in-Copying.is c.sync_copies.new.disk c.in-Err.ensures.still
+    copying_still g.D.Disk.device c.args.self.now c.in-Copying.is c.clear_copies.new.disk c.in-Err.ensures.still
 
 pub returns-in-Err-clause-opens : goal.returns-in-Err-clause-opens
 returns-in-Err-clause-opens g c = λ texts coming doubt. doubt_reads g.D.Disk.device _ texts coming (returns-in-Err-clause-still g c texts coming doubt)
 
 pub returns-in-Err-clause-crash : goal.returns-in-Err-clause-crash
 returns-in-Err-clause-crash g c =
-    copying_crashes g.D.Disk.device c.args.self.now c.in-Copying.is (g.D.Disk.device c.sync_copies.new.disk) c.sync_copies.ensures.crash
+    copying_crashes g.D.Disk.device c.args.self.now c.in-Copying.is (g.D.Disk.device c.clear_copies.new.disk) c.clear_copies.ensures.crash
 
 pub returns-in-Nothing-clause-settled : goal.returns-in-Nothing-clause-settled
 returns-in-Nothing-clause-settled g c =

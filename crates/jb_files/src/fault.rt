@@ -1,0 +1,24 @@
+//! Why the files of a base are not opened.
+ghost use Rattle.std.specs.Prelude.{◌≡◌};
+ghost use Rattle.jb_files.specs.declared.fault.OpenFault.TheVariants.{OutOfMemory as no_memory};
+
+use jb_base::OutOfMemory;
+
+/// Why a base is not opened. None of its files is changed.
+#[derive(Clone, Copy, Debug, PartialEq, Eq)]
+pub enum OpenFault {
+    /// Another program, or another disk of this one, has the base open.
+    Busy,
+    /// Its header file is there twice: in capitals and in lower case.
+    TwoSpellings,
+    /// The allocator gave no memory.
+    OutOfMemory,
+}
+
+impl From<OutOfMemory> for OpenFault {
+    ghost from_gives = { λ _ error. error ≡ no_memory };
+
+    fn from(_: OutOfMemory) -> OpenFault {
+        OpenFault::OutOfMemory
+    }
+}
