@@ -23,7 +23,7 @@ import time
 TOP = os.path.dirname(os.path.dirname(os.path.realpath(__file__)))
 sys.path.insert(0, f"{TOP}/tests")
 from caller import BARE, Caller, connected  # noqa: E402
-from served import free_port  # noqa: E402
+from harness import free_port  # noqa: E402
 
 START = """name = "Bench"
 address = "2:5020/1042"

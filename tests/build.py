@@ -19,9 +19,8 @@ import sys
 import tempfile
 import time
 
-from trial import Trial
+from harness import TOP, Trial
 
-TOP = os.path.dirname(os.path.dirname(os.path.realpath(__file__)))
 # of a crate that uses no other, so that nothing has to be proved before it is refused
 EDIT = "crates/jb_base/must-fail/reads_the_highest_byte_first.edit"
 CRATE = EDIT.split("/")[1]
@@ -189,4 +188,5 @@ def main():
         sys.exit(trial.tells("a program that is kept, and sources that are others"))
 
 
-main()
+if __name__ == "__main__":
+    main()

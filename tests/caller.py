@@ -1,5 +1,11 @@
-"""A caller of a board over a socket: a Telnet client as there are some, and what it is sent."""
+"""A caller of a board: over a socket, as one of several Telnet clients, over pipes, or at a terminal; and what it is sent."""
+import fcntl
+import os
+import pty
+import select
 import socket
+import subprocess
+import termios
 import time
 
 IAC, WILL, WONT, DO, DONT = 255, 251, 252, 253, 254
@@ -29,6 +35,14 @@ SAID = [(WILL, 31), (WILL, 32), (WILL, 24), (WILL, 39), (DO, ECHO), (WILL, AHEAD
 TALKATIVE = Client("a talkative client", [byte for command in SAID for byte in (IAC, *command)], False, b"\r\n",
                    [(DONT, 31), (DONT, 32), (DONT, 24), (DONT, 39), (DO, AHEAD)])
 BARE = Client("netcat", b"", False, b"\n", [])
+# a shell on a terminal that runs what it is told to, and writes down what `stty -a` tells before and after, the status, and which line it reads then
+SHELL = """
+stty -a >before
+sh -c 'echo $$ >pid; exec "$@"' sh "$@"
+echo $? >status
+stty -a >after
+read -r line && printf %s "$line" >line
+"""
 
 
 def connected(port, host="127.0.0.1", is_going=lambda: True, limit=GUARD):
@@ -164,3 +178,125 @@ class Caller:
         if self.seen or self.raw:
             raise Otherwise(f"{self.what}: {self.seen!r} came behind the end")
         self.line.close()
+
+
+def end_of(process, typed=None, limit=GUARD):
+    """What a program prints to which this is typed, its status, and what it tells the operator; where it does not end in time, that it does not."""
+    with process:
+        try:
+            printed, told = process.communicate(typed, timeout=limit)
+        except subprocess.TimeoutExpired:
+            process.kill()
+            return b"no end", None, b""
+    return printed, process.returncode, told
+
+
+class Piped:
+    """One who types over pipes to a program that runs, and what it has printed."""
+
+    def __init__(self, process):
+        self.process, self.seen = process, b""
+
+    def takes(self, is_enough):
+        """Takes what is printed until it is enough, or no more comes."""
+        end = time.monotonic() + GUARD
+        while not is_enough(self.seen):
+            ready, _, _ = select.select([self.process.stdout], [], [], max(0, end - time.monotonic()))
+            more = os.read(self.process.stdout.fileno(), 65536) if ready else b""
+            if not more:
+                break
+            self.seen += more
+
+    def types(self, text):
+        """Types this, and tells whether it could be."""
+        try:
+            self.process.stdin.write(text)
+            self.process.stdin.flush()
+            return True
+        except BrokenPipeError:
+            return False
+
+    def leaves(self, limit=GUARD):
+        """Types nothing more, and gives all that is printed, and the status."""
+        printed, status, _ = end_of(self.process, limit=limit)
+        return self.seen + printed, status
+
+
+class Terminal:
+    """A terminal with a shell that runs the launcher with these words, and what it shows."""
+
+    def __init__(self, trial, what, words):
+        self.trial, self.what, self.shown, self.is_well = trial, what, b"", True
+        for name in ("before", "after", "status", "pid", "line"):
+            if os.path.exists(f"{trial.folder}/{name}"):
+                os.remove(f"{trial.folder}/{name}")
+        self.keyboard, side = pty.openpty()
+        self.shell = subprocess.Popen(["sh", "-c", SHELL, "sh", trial.launcher, *words], cwd=trial.folder, stdin=side, stdout=side,
+                                      stderr=side, start_new_session=True, preexec_fn=lambda: fcntl.ioctl(0, termios.TIOCSCTTY, 0))
+        os.close(side)
+
+    def told(self, name):
+        """What the shell wrote down, or None."""
+        path = f"{self.trial.folder}/{name}"
+        return open(path, encoding="utf-8", errors="replace").read() if os.path.exists(path) else None
+
+    def shows(self, text):
+        """Reads until as much is shown as this text has, and looks whether it is the text; the terminal puts a CR before each LF."""
+        end, seen, wanted = time.monotonic() + GUARD, b"", text.replace(b"\n", b"\r\n")
+        while len(seen) < len(wanted) and select.select([self.keyboard], [], [], max(0, end - time.monotonic()))[0]:
+            try:
+                seen += os.read(self.keyboard, len(wanted) - len(seen))
+            except OSError:
+                break
+        self.shown += seen
+        self.is_well = self.is_well and self.trial.is_so(f"{self.what}: what is shown", seen, wanted)
+        return self.is_well
+
+    def types(self, keys, echoes, then=b""):
+        """Types these keys, each with its echo before the next, and looks whether this is shown behind the last."""
+        for n, (key, echo) in enumerate(zip(keys, echoes)):
+            os.write(self.keyboard, key)
+            if not self.shows(echo + (then if n == len(keys) - 1 else b"")):
+                return False
+        return True
+
+    def enters(self, line, then=b"", mask=None):
+        """Types a line and the key that ends it."""
+        keys = [line[n:n + 1] for n in range(len(line))]
+        return self.types(keys + [b"\r"], [mask or key for key in keys] + [b"\r\n"], then)
+
+    def process(self):
+        """The launcher's, which the shell runs."""
+        return int(self.told("pid"))
+
+    def program(self):
+        """The program's, which the launcher runs."""
+        for name in filter(str.isdigit, os.listdir("/proc")):
+            try:
+                if os.readlink(f"/proc/{name}/exe") == self.trial.program:
+                    return int(name)
+            except OSError:
+                continue
+        raise ProcessLookupError
+
+    def waits(self, is_so):
+        end = time.monotonic() + GUARD
+        while not is_so() and time.monotonic() < end:
+            time.sleep(0.01)
+        return is_so()
+
+    def ends(self, status, then=b""):
+        """Looks whether the launcher ends so with this shown behind all, and leaves the terminal, and the next line, to the shell."""
+        if not self.is_well or not self.shows(then):
+            self.shell.kill()
+        elif not self.trial.holds(f"{self.what}: no end in {GUARD} seconds", self.waits(lambda: self.told("after"))):
+            self.shell.kill()
+        else:
+            os.write(self.keyboard, b"what comes next\n")
+            self.waits(lambda: self.shell.poll() is not None)
+            self.shell.kill()
+            self.trial.is_so(f"{self.what}: the status", self.told("status"), f"{status}\n")
+            self.trial.is_so(f"{self.what}: the terminal", self.told("after"), self.told("before"))
+            self.trial.is_so(f"{self.what}: what the shell reads then", self.told("line"), "what comes next")
+        self.shell.wait()
+        os.close(self.keyboard)

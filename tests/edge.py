@@ -14,24 +14,18 @@ import signal
 import socket
 import struct
 import subprocess
-import sys
-import tempfile
 import time
 
 import jam
 from caller import GUARD, Caller, Otherwise, connected
-from local import lines
-from served import Served, free_port, has_version_6, low_port
-from system import may_trace
-from trial import BY_ANOTHER, memory_folder, settings, with_files
-from visits import AREAS, NAMES, SYSOP, password_of, users
+from harness import (AREAS, BY_ANOTHER, GREETING, IN_DOUBT, LOCAL, NAMES, SHORT_HEADER, STORE_FAULT, SYSOP, TOOLS, Served, free_port, goes_through,
+                     has_version_6, inject, lines, low_port, password_of, settings, users, with_files)
+from visits import LISTED
 
-STORE_FAULT = b"Store fault: the change is in doubt.\r\n"
 PROMPT = b"[general] "
 # what the operator is told of a port that is taken, of one that wants a right, of a settings file that is not there, and of an area
 SAYS_TAKEN, SAYS_NO_RIGHT, SAYS_NO_FILE, SAYS_AREA = rb"in use", rb"not allowed|permi|right", rb"not there|no such|not found", rb"area 1\b"
-FILES = ("JHR", "JDT", "JDX", "JLR", "JNL", "NDT")
-TOOLS = ("list", "check", "pack", "relink", "make")
+FILES = tuple(map(str.upper, jam.ALL_FILES))
 # what may have a file's name and is none, and how it is made at a path
 NO_FILES = (("folder", os.mkdir), ("pipe", os.mkfifo), ("link", lambda path: os.symlink(os.path.basename(path), path)))
 # a session that posts a text of seven bytes and marks it as read, and how long each file is that it and then a pack make: at first, and at last
@@ -56,22 +50,9 @@ CALLED, ACCEPTED = re.compile(r"\d+ +(\w+)\((\w*)(.*)"), re.compile(r".*\baccept
 class Edge(Served):
     """Runs of `serve` in one folder, also under strace."""
 
-    def strace(self, *words):
-        """The words that run a program as a child of this one, seen by strace."""
-        return "strace", "-D", "-f", "-o", f"{self.folder}/trace", *words
-
-    def traced(self, words, calls, **run):
-        """What a run prints and its status, and the lines of a trace of these calls with the paths of their files."""
-        found = self.done(*words, under=("strace", "-f", "-y", "-o", f"{self.folder}/trace", "-e", f"trace={calls}"), **run)
-        return *found[:2], self.trace()
-
-    def trace(self):
-        with open(f"{self.folder}/trace", encoding="latin1") as file:
-            return list(file)
-
     def standing(self):
         """What stands in the folder of the areas: each name, what it is, and how long."""
-        found = [(name, os.lstat(f"{self.folder}/areas/{name}")) for name in sorted(os.listdir(f"{self.folder}/areas"))]
+        found = [(name, os.lstat(f"{self.areas}/{name}")) for name in sorted(os.listdir(self.areas))]
         return [(name, it.st_mode, it.st_size) for name, it in found]
 
 
@@ -82,16 +63,16 @@ def try_read_only(trial):
     for n, which in enumerate((*((it,) for it in FILES), FILES, ())):
         for word in ("serve", "local"):
             name = f"{word}{n}"
-            os.mkdir(f"{trial.folder}/areas/{name}")
+            os.mkdir(f"{trial.areas}/{name}")
             trial.is_so("a base is made", trial.ended("make", f"areas/{name}", "base"), (b"", 0))
             for extension in FILES:
-                path = f"{trial.folder}/areas/{name}/base.{extension}"
+                path = f"{trial.areas}/{name}/base.{extension}"
                 open(path, "ab").close()
                 os.chmod(path, 0o444 if extension in which else 0o666)
             # where all files may be written, one of them has to be made, and may not be
             if not which:
-                os.remove(f"{trial.folder}/areas/{name}/base.JNL")
-            os.chmod(f"{trial.folder}/areas/{name}", 0o777 if which else 0o555)
+                os.remove(f"{trial.areas}/{name}/base.JNL")
+            os.chmod(f"{trial.areas}/{name}", 0o777 if which else 0o555)
             trial.has_settings(settings([(name, f"areas/{name}", "base")], users(), port=free_port()), f"{name}.toml")
             runs.append(((word, f"{name}.toml"), (SAYS_AREA,), BY_ANOTHER))
     trial.are_refused("what may not be written", 4, runs)
@@ -106,7 +87,7 @@ def try_no_files(trial):
         for extension in FILES:
             names.append(f"{what}{extension}")
             trial.is_so("a base is made", trial.ended("make", "areas", names[-1]), (b"", 0))
-            path = f"{trial.folder}/areas/{names[-1]}.{extension}"
+            path = f"{trial.areas}/{names[-1]}.{extension}"
             if os.path.exists(path):
                 os.remove(path)
             makes(path)
@@ -114,9 +95,9 @@ def try_no_files(trial):
     for word in TOOLS:
         trial.are_refused("what is no file", 4, [((word, "areas", name), (rb"areas/%s\b" % name.lower().encode(),), {}) for name in names])
     trial.is_so("what stands there then", trial.standing(), before)
-    for folder in ("board", "areas/nothing"):
+    for folder in ("../board", "areas/nothing"):
         for word in TOOLS:
-            wanted = (b"fault 4 StoreFault\n", 4) if word == "make" else (b"fault 3.1 ShortHeader\n", 3)
+            wanted = STORE_FAULT if word == "make" else SHORT_HEADER
             trial.is_so(f"{word} in {folder}", trial.ended(word, folder, "general"), wanted)
 
 
@@ -126,35 +107,33 @@ def try_cut(trial):
     for extension, length, asked, listed in (("jdt", 2, b"1", True), ("jhr", 1030, b"k 1", False)):
         trial.has_letters(*AREAS)
         trial.has_settings(settings(AREAS, users(), port=trial.port, nodes=1))
-        what, path, letter = f"a .{extension} that was cut", f"{trial.folder}/areas/general.{extension}", jam.listing(jam.one_message())
+        what, path = f"a .{extension} that was cut", f"{trial.areas}/general.{extension}"
         trial.begins(nodes=1)
         caller = trial.guest(SYSOP)
         with open(path, "r+b") as file:
             data = file.read()
             file.truncate(length)
-            trial.is_so(f"{what}: what is told", caller.enters(asked, PROMPT), STORE_FAULT)
+            trial.is_so(f"{what}: what is told", caller.enters(asked, PROMPT), IN_DOUBT)
             trial.is_so(f"{what}: how long it is then", os.path.getsize(path), length)
-            trial.ends(what, -signal.SIGTERM, signal.SIGTERM)
+            trial.is_ended(what)
             file.seek(0)
             file.write(data)
-        trial.is_so(f"{what}: a list once it is whole", trial.ended("list", "areas", "general"), (letter if listed else b"", 0))
+        trial.is_so(f"{what}: a list once it is whole", trial.ended("list", "areas", "general"), (LISTED if listed else b"", 0))
 
 
 def try_made(trial):
     """A base that is its header file: a list makes no other; a post, a mark and a pack make them in its spelling, each with its name for good before it
     is written to."""
-    fixed = jam.files_of(jam.one_message())["jhr"][:1024]
     trial.has_settings(settings())
     for spelled in (str.lower, str.upper):
         trial.has_letters()
-        with open(f"{trial.folder}/areas/general.{spelled('jhr')}", "wb") as file:
-            file.write(fixed)
+        jam.write_files(trial.areas, "general", {"jhr": jam.fixed_header(counter=1, live=1)}, spelled)
         before = trial.standing()
         trial.is_so("a list of a header file", (trial.ended("list", "areas", "general"), trial.standing()), ((b"", 0), before))
-        calls = "openat,ftruncate,pwrite64,fsync"
-        posted, status, trace = trial.traced(("local", "board.toml"), calls, stdin=None, input=lines(POSTS))
+        calls = ("-e", "trace=openat,ftruncate,pwrite64,fsync")
+        posted, status, trace = trial.traced(*LOCAL, by=calls, typed=lines(POSTS))
         trial.holds(f"what is posted: {status} {posted}", status == 0 and b"\r\nPosted as 1.\r\n" in posted)
-        packed, status, more = trial.traced(("pack", "areas", "general"), calls)
+        packed, status, more = trial.traced("pack", "areas", "general", by=calls)
         trial.is_so("a pack of it", (packed, status), (b"Packed: base 1, live 1, dropped 0.\n", 0))
         steps = [f"{made[1]} made" if made else " ".join(filter(None, done.groups())) for made, done in
                  ((MAKES.search(line), CHANGES.search(line)) for line in trace + more) if made or done]
@@ -172,14 +151,13 @@ def try_making(trial):
     for extension in ("JNL", "JHR"):
         folder, trace = f"areas/{extension}", f"{trial.folder}/{extension}.trace"
         os.mkdir(f"{trial.folder}/{folder}")
-        stops = ("-P", f"{trial.folder}/{folder}/new.{extension}", "-e", "trace=ftruncate", "-e", "inject=ftruncate:signal=STOP:when=1")
-        makers.append(subprocess.Popen(["strace", "-D", "-o", trace, *stops, trial.program, "make", folder, "new"], cwd=trial.folder,
-                                       stdin=subprocess.DEVNULL, stdout=subprocess.PIPE))
+        stops = ("-P", f"{trial.folder}/{folder}/new.{extension}", "-e", "trace=ftruncate", *inject("ftruncate", "signal=STOP", 1))
+        makers.append(trial.starts("make", folder, "new", under=("strace", "-D", "-o", trace, *stops)))
         end = time.monotonic() + GUARD
         while not (os.path.exists(trace) and b"stopped by SIGSTOP" in open(trace, "rb").read()) and time.monotonic() < end:
             time.sleep(0.05)
         runs += [((word, folder, "new"), (SAYS_TAKEN, rb"\bnew\b"), {}) for word in TOOLS]
-    trial.is_so("whose header file is there", [os.path.exists(f"{trial.folder}/areas/{it}/new.JHR") for it in ("JNL", "JHR")], [False, True])
+    trial.is_so("whose header file is there", [os.path.exists(f"{trial.areas}/{it}/new.JHR") for it in ("JNL", "JHR")], [False, True])
     trial.are_refused("a base that another program makes", 5, runs)
     for maker in makers:
         maker.send_signal(signal.SIGCONT)
@@ -207,11 +185,11 @@ def try_ports(trial):
         trial.are_refused("a port that wants a right", 5, [(("serve", "board.toml"), (b"%d" % low, SAYS_NO_RIGHT), BY_ANOTHER)])
     trial.are_refused("settings that are not there", 5, [((word, "nothing.toml"), (rb"nothing\.toml", SAYS_NO_FILE), {}) for word in ("serve", "local")])
     trial.has_settings(settings(port=0))
-    with subprocess.Popen([trial.program, "serve", "board.toml"], cwd=trial.folder, stdin=subprocess.DEVNULL, stderr=subprocess.PIPE) as child:
+    with trial.starts("serve", "board.toml") as child:
         told = child.stderr.readline()
         found = re.fullmatch(rb"listening port ([1-9]\d*) nodes 1\n", told)
         if trial.holds(f"a port that the system picks: {told}", found):
-            Caller(connected(int(found[1]), limit=5)).reads(b"Test Board\r\nName: ")
+            Caller(connected(int(found[1]), limit=5)).reads(GREETING)
         child.kill()
 
 
@@ -219,32 +197,32 @@ def try_one_version(trial):
     """Where the system has no IPv6 callers come by IPv4."""
     trial.has_letters("general")
     trial.has_settings(settings(users=users(), port=trial.port, nodes=1))
-    trial.begins(areas=("general",), nodes=1, under=trial.strace("-e", "trace=socket", "-e", "inject=socket:error=EAFNOSUPPORT:when=1"))
+    trial.begins(areas=("general",), nodes=1, under=trial.tracer("-e", "trace=socket", *inject("socket", "error=EAFNOSUPPORT", 1)))
     trial.guest(0).quits()
     try:
         connected(trial.port, "::1", limit=0)
         trial.holds("a port for IPv4 alone", False)
     except (Otherwise, OSError):
         pass
-    trial.ends("no IPv6", -signal.SIGTERM, signal.SIGTERM)
+    trial.is_ended("no IPv6")
 
 
 def try_packs(trial):
     """A pack whose copies cannot be written, or not be kept for good, is a fault of the store, and nothing else: posts go on, and the next pack is done."""
     for call, error in (("fsync", "EIO"), ("fsync", "ENOSPC"), ("pwrite64", "ENOSPC"), ("ftruncate", "ENOSPC")):
         trial.has_bases()
-        what, path = f"a pack, {call} with {error}", f"{trial.folder}/areas/general.NDT"
-        trial.begins(under=trial.strace("-P", path, "-e", f"trace={call}", "-e", f"inject={call}:error={error}:when=1"))
+        what, path = f"a pack, {call} with {error}", f"{trial.areas}/general.NDT"
+        trial.begins(under=trial.tracer("-P", path, "-e", f"trace={call}", *inject(call, f"error={error}", 1)))
         caller = trial.guest(SYSOP)
         for n in (1, 2):
             trial.is_so(f"{what}: post {n}", caller.posts(b"All", b"post", [b"a line"]), n)
         caller.answers(b"k 1", b"Killed 1.\r\n", PROMPT)
-        trial.is_so(f"{what}: what is told of it", caller.enters(b"x", PROMPT), STORE_FAULT)
+        trial.is_so(f"{what}: what is told of it", caller.enters(b"x", PROMPT), IN_DOUBT)
         trial.holds(f"{what}: it is this file", any(call in line and "INJECTED" in line for line in trial.trace()))
         for n in (3, 4):
             trial.is_so(f"{what}: the next post", caller.writes(b"All", b"post", [b"a line"]), b"Posted as %d.\r\n" % n)
         trial.is_so(f"{what}: the next pack", caller.enters(b"x", PROMPT), b"Packed: base 2, live 3, dropped 1.\r\n")
-        trial.ends(what, -signal.SIGTERM, signal.SIGTERM)
+        trial.is_ended(what)
         trial.checks(what)
 
 
@@ -258,7 +236,7 @@ def try_waiting(trial):
     trial.has_bases()
     trial.has_settings(settings(AREAS, users(), port=trial.port, nodes=2, pack_minutes=PACK_MINUTES))
     calls = "accept,accept4,setsockopt,sendto,sendmsg,write,shutdown,close,nanosleep,clock_nanosleep"
-    trial.begins(nodes=2, under=trial.strace("-xx", "-s", "65536", "-e", f"trace={calls}"))
+    trial.begins(nodes=2, under=trial.tracer("-xx", "-s", "65536", "-e", f"trace={calls}"))
     # both are there at once, so that each connection has a number of its own
     callers = [trial.guest(n) for n in range(2)]
     callers[0].posts(b"All", b"first", [b"a line"])
@@ -269,9 +247,9 @@ def try_waiting(trial):
     callers[1].reads(b"Goodbye.\r\n")
     while not callers[1].is_over:
         callers[1].take()
-    written = [message.head["written"] for message in jam.read(f"{trial.folder}/areas", "general")[0].slots]
+    written = [message.head["written"] for message in trial.base().slots]
     trial.holds(f"two posts with two seconds between have two dates: {written}", len(written) == 2 and 1 <= written[1] - written[0] <= 60)
-    trial.ends("a board that is traced", -signal.SIGTERM, signal.SIGTERM)
+    trial.is_ended("a board that is traced")
     looks_at(trial, trial.trace())
 
 
@@ -305,7 +283,7 @@ def try_packed(trial):
     trial.begins("--calls", "1", areas=("general",), nodes=1)
     trial.caller("who leaves").line.close()
     trial.ends("a run over one call", 0)
-    base, _, _ = jam.read(f"{trial.folder}/areas", "general")
+    base = trial.base()
     trial.is_so("a base with a killed message behind it", (base.number, base.slots), (2, []))
 
 
@@ -320,7 +298,7 @@ def try_synch(trial):
             "twice": (name[:1] + iac, MARK, PAUSE, name[1:2] + iac, MARK, name[2:]), "sent as any byte": (name[:1] + iac + MARK + name[1:],), "twice at once": (name[:1] + iac, MARK, iac, MARK, name[1:])}
     for what, parts in ways.items():
         caller = trial.caller(f"a caller, {what}")
-        caller.reads(b"Test Board\r\nName: ")
+        caller.reads(GREETING)
         for part in parts:
             if part is PAUSE:
                 time.sleep(PAUSE)
@@ -331,44 +309,42 @@ def try_synch(trial):
         found = caller.enters(password_of(name), b"Top> ")
         trial.is_so(f"a Synch {what}: the log-in", found, b"Welcome, %s.\r\n" % name)
         caller.quits()
-    trial.ends("a board that is interrupted", -signal.SIGTERM, signal.SIGTERM)
+    trial.is_ended("a board that is interrupted")
 
 
 def try_late_make(trial):
     """A make that is late with its lock takes no base from who has posted into it meanwhile, by whatever path it came to the folder."""
-    program, name = trial.program, NAMES[0]
+    name = NAMES[0]
     typed = b"\r".join((name, password_of(name), b"1", b"p", b"All", b"first", b"n", b"a line", b".", b"q", b"q", b""))
     for n, words in enumerate((("areas", "late0"), (".", "areas/late1"), ("areas/..", "areas/late2"))):
         base = f"late{n}"
         trial.has_settings(settings([(base, "areas", base)], users()), "late.toml")
-        late = ("-e", "trace=flock", "-e", f"inject=flock:delay_enter={LATE}:when=2", program, "make", *words)
-        making = subprocess.Popen(trial.strace(*late), cwd=trial.folder, stdin=subprocess.DEVNULL, stdout=subprocess.DEVNULL, stderr=subprocess.DEVNULL)
-        while making.poll() is None and not os.path.exists(f"{trial.folder}/areas/{base}.JHR"):
+        late = trial.tracer("-e", "trace=flock", "-e", f"inject=flock:delay_enter={LATE}:when=2")
+        making = trial.starts("make", *words, under=late, stdout=subprocess.DEVNULL, stderr=subprocess.DEVNULL)
+        while making.poll() is None and not os.path.exists(f"{trial.areas}/{base}.JHR"):
             time.sleep(0.01)
-        done = subprocess.run([program, "local", "late.toml"], cwd=trial.folder, input=typed, stdout=subprocess.PIPE, stderr=subprocess.PIPE, check=False)
+        printed, _, told = trial.done("local", "late.toml", typed=typed)
         making.wait()
         listed = trial.ended("list", "areas", base)
-        trial.holds(f"a late make, {words}: the post: {done.stdout[-200:]} {done.stderr}", b"Posted as 1." in done.stdout)
+        trial.holds(f"a late make, {words}: the post: {printed[-200:]} {told}", b"Posted as 1." in printed)
         trial.is_so(f"a late make, {words}: what is listed", listed, (b"       1  %s > All  first\n" % name, 0))
 
 
 def try_put_back(trial):
     """Files of a backup that were put in the place of those of a served area are left as they are."""
     trial.has_letters("general")
-    shutil.copytree(f"{trial.folder}/areas", f"{trial.folder}/backup")
+    shutil.copytree(trial.areas, f"{trial.folder}/backup")
     trial.has_settings(settings(["general"], users(), port=trial.port, nodes=1))
     trial.begins(areas=["general"], nodes=1)
-    caller = trial.caller("who posts")
-    caller.logs_in(NAMES[0], password_of(NAMES[0]))
-    caller.enters(b"1", PROMPT)
+    caller = trial.guest(0)
     trial.is_so("a post before", caller.posts(b"All", b"post", [b"a line"], False, PROMPT), 2)
     backup = {name: open(f"{trial.folder}/backup/{name}", "rb").read() for name in os.listdir(f"{trial.folder}/backup")}
     for name in backup:
-        os.rename(f"{trial.folder}/backup/{name}", f"{trial.folder}/areas/{name}")
-    trial.is_so("a post then", caller.writes(b"All", b"post", [b"a line"], False, PROMPT), STORE_FAULT)
-    trial.ends("a board whose files were put back", -signal.SIGTERM, signal.SIGTERM)
-    trial.is_so("what was put back, as it is listed", trial.ended("list", "areas", "general"), (b"       1  Test > Hello  abc\n", 0))
-    found = {name: open(f"{trial.folder}/areas/{name}", "rb").read() for name in backup}
+        os.rename(f"{trial.folder}/backup/{name}", f"{trial.areas}/{name}")
+    trial.is_so("a post then", caller.writes(b"All", b"post", [b"a line"], False, PROMPT), IN_DOUBT)
+    trial.is_ended("a board whose files were put back")
+    trial.is_so("what was put back, as it is listed", trial.ended("list", "areas", "general"), (LISTED, 0))
+    found = {name: open(f"{trial.areas}/{name}", "rb").read() for name in backup}
     trial.holds("what was put back is as it was", found == backup)
     shutil.rmtree(f"{trial.folder}/backup")
 
@@ -380,10 +356,9 @@ def try_many(trial):
     trial.has_settings(settings(names, users(), port=trial.port, nodes=1))
     most = MOST_AREAS * AREA_FILES + NODE_FILES + OTHER_FILES
     trial.begins("--calls", "1", areas=names, nodes=1, preexec_fn=with_files(most))
-    caller = trial.caller("who posts")
-    caller.logs_in(NAMES[0], password_of(NAMES[0]))
+    caller = trial.user(0)
     end = time.monotonic() + MOST_PACKING
-    while not all(os.path.exists(f"{trial.folder}/areas/{name}.ndt") for name in names) and time.monotonic() < end:
+    while not all(os.path.exists(f"{trial.areas}/{name}.ndt") for name in names) and time.monotonic() < end:
         time.sleep(0.05)
     trial.holds("each area is packed", time.monotonic() < end)
     for n in (1, MOST_AREAS // 2, MOST_AREAS):
@@ -397,29 +372,9 @@ def try_many(trial):
     trial.holds(f"{count} open files, where {most} are the most", count <= most)
     caller.quits()
     trial.ends("as many areas as there may be", 0)
-    trial.is_so("the last of them", len(jam.read(f"{trial.folder}/areas", names[-1])[0].live()), 2)
-
-
-def main(program):
-    folder = os.path.realpath(tempfile.mkdtemp(dir=memory_folder()))
-    tries = [try_read_only, try_no_files, try_ports, try_cut, try_put_back, try_packed, try_synch, try_many]
-    try:
-        os.chmod(folder, 0o755)
-        shutil.copy(program, f"{folder}/board")
-        trial = Edge(f"{folder}/board", folder)
-        if may_trace():
-            tries += [try_made, try_making, try_late_make, try_one_version, try_packs, try_waiting]
-        else:
-            print("the calls of the system were not looked at: strace is not installed, or may not be used")
-        for tried in tries:
-            trial.tells_wrong(tried.__name__, lambda: tried(trial))
-            trial.is_gone()
-    finally:
-        shutil.rmtree(folder)
-    return trial.tells("what a board asks of the system")
+    trial.is_so("the last of them", len(trial.base(names[-1]).live()), 2)
 
 
 if __name__ == "__main__":
-    if len(sys.argv) != 2:
-        sys.exit(__doc__)
-    sys.exit(main(sys.argv[1]))
+    goes_through(Edge, "what a board asks of the system", (try_read_only, try_no_files, try_ports, try_cut, try_put_back, try_packed, try_synch, try_many),
+                 (try_made, try_making, try_late_make, try_one_version, try_packs, try_waiting))

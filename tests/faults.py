@@ -8,20 +8,18 @@ posts, replies, reads, kills, marks, relinks or packs while the first call of th
 has to be told of a store fault. Until another node's call ends the doubt looks show the area as it was, and from then on all that is answered,
 and what the closed area holds when it is opened anew, is as if the node had asked nothing, or as if that had been done: the one up to some
 call of the disk, behind which the gate was open, and the other from there on. The same where the area is closed in doubt. What has to be
-answered is told by a plain area that stands here, made from docs/FORMATS.md, "The rules of an area". With --all a call of the disk fails
-besides in what comes next.
+answered is told by the model of an area (area.py). With --all a call of the disk fails besides in what comes next.
 """
 import copy
 import re
 import subprocess
 import sys
 
-from trial import Trial
+from area import Area, Message, User
+from harness import LIMIT, Trial, goes_through
 
-LIMIT = 600
 # more than the calls of the disk that any change here makes, and that a reopening makes with a change behind it
 MOST_CALLS, MOST_CALLS_BEHIND = 40, 40
-SYSOP_LEVEL = 200
 FAULT = "StoreFault"
 FIVE = ["call 1 Test 20 post 0"] * 5
 THREAD = [f"call 1 Test 20 post {n}" for n in (0, 1, 1, 3, 3)] + ["call 1 Test 20 mark 3"] + [f"call 1 Test 20 kill {n}" for n in (1, 2, 4)]
@@ -40,136 +38,63 @@ LOOKS = ["list {} Sysop 200", "unread {} Test 20", "to {} Hello 20", "figures {}
 PEEKS = ["call {} Sysop 200 peek %d" % number for number in range(9)]
 
 
-class Message:
-    def __init__(self, sender, receiver, answers):
-        self.sender, self.receiver, self.answers, self.links = sender, receiver, answers, [answers, 0, 0]
-        self.is_read = self.is_killed = False
-
-    def is_seen_by(self, name, level):
-        return self.receiver != "Sysop" or level >= SYSOP_LEVEL or name == self.sender
-
-    def letter(self, number):
-        """It in the words of the program: all posts are about `abc`, have their sender's name as text, and are of one moment."""
-        attribute = 0x800001 | 4 * (self.receiver == "Sysop") | 8 * self.is_read
-        return (f"Text {number} {self.sender} {self.receiver} abc {self.sender} {msgid(number)} {msgid(self.answers) if self.answers else '-'} "
-                f"1000000000 {attribute:x} {'/'.join(map(str, self.links))}")
+def letter(area, number):
+    """A message in the words of the program: all posts are about `abc`, have their sender's name as text, and are of one moment."""
+    message = area.messages[number]
+    msgid, reply_id = (area.msgid(it).decode().replace(" ", "%20") if it else "-" for it in (number, message.answers))
+    return (f"Text {number} {message.sender} {message.receiver} abc {message.sender} {msgid} {reply_id} 1000000000 {message.attribute():x} "
+            f"{'/'.join(map(str, message.links))}")
 
 
-def msgid(number):
-    return f"2:5020/1042%20{0x1000000 + number:08x}"
+def reply(found):
+    """A reply of the model in the words of the program."""
+    return f"{type(found).__name__} {{ {', '.join(f'{name}: {value}' for name, value in found._asdict().items())} }}"
 
 
-def missing(number):
-    return f"NoMessage {{ number: {number} }}"
+def called(area, user, word, number):
+    """What is answered to a call. A private post is to Sysop, any other to Hello."""
+    if word in ("post", "private"):
+        message = Message(user.name, "Sysop" if word == "private" else "Hello", "abc", [user.name], word == "private", number)
+        return reply(area.post(user, message))
+    if word in ("relink", "pack"):
+        return reply(getattr(area, word)(user))
+    if word in ("kill", "mark"):
+        return reply(getattr(area, word)(user, number))
+    # a peek is a look at a copy, which is not counted
+    found = (area if word == "read" else copy.deepcopy(area)).read(user, number)
+    return letter(area, number) if isinstance(found, Message) else reply(found)
 
 
-class Area:
-    """A plain area, which answers the rows of those who may ask what they ask. A private post is to Sysop, any other to Hello."""
-
-    def __init__(self):
-        self.base, self.slots, self.marks = 1, [], {}
-
-    def answer(self, row):
-        """What the program has to write for a row."""
-        word, *words = row.split()
-        if word in ("base", "share"):
-            return {"base": "base", "share": "shared"}[word]
-        if word == "close":
-            return f"at rest, {len(self.live())} live"
-        name, level = words[1], int(words[2])
-        if word == "call":
-            return getattr(self, words[3])(name, level, int(words[4]))
-        seen, (last, high) = self.seen(name, level), self.marks.get(name, (0, 0))
-        unread = [number for number in seen if number > last]
-        if word == "figures":
-            return (f"Figures {{ base: {self.base}, next: {self.next()}, visible: {len(seen)}, unread: {len(unread)}, "
-                    f"last: {last}, high: {high} }}")
-        if word == "count":
-            return f"{len(unread)} unread"
-        shown = {"list": seen, "unread": unread, "to": [number for number in seen if self.at(number).receiver == name]}[word]
-        return " ".join(["numbers", *map(str, shown)])
-
-    def at(self, number):
-        return self.slots[number - self.base]
-
-    def next(self):
-        return self.base + len(self.slots)
-
-    def live(self):
-        return [number for number, slot in enumerate(self.slots, self.base) if slot is not None and not slot.is_killed]
-
-    def seen(self, name, level):
-        return [number for number in self.live() if self.at(number).is_seen_by(name, level)]
-
-    def answers_of(self, number):
-        return [other for other in self.live() if number and self.at(other).answers == number]
-
-    def post(self, name, level, number, receiver="Hello"):
-        if number and number not in self.seen(name, level):
-            return missing(number)
-        new, others = self.next(), self.answers_of(number)
-        if others:
-            self.at(others[-1]).links[2] = new
-        elif number:
-            self.at(number).links[1] = new
-        self.slots.append(Message(name, receiver, number))
-        return f"Posted {{ number: {new} }}"
-
-    def private(self, name, level, number):
-        return self.post(name, level, number, "Sysop")
-
-    def peek(self, name, level, number):
-        return self.at(number).letter(number) if number in self.seen(name, level) else missing(number)
-
-    def read(self, name, level, number):
-        if number in self.seen(name, level):
-            self.at(number).is_read |= name == self.at(number).receiver
-        return self.peek(name, level, number)
-
-    def kill(self, name, level, number):
-        if number not in self.seen(name, level):
-            return missing(number)
-        self.at(number).is_killed = True
-        return f"Killed {{ number: {number} }}"
-
-    def mark(self, name, _level, number):
-        if number >= self.next():
-            return missing(number)
-        self.marks[name] = number, max(number, self.marks.get(name, (0, 0))[1])
-        return "Marked {{ last: {}, high: {} }}".format(*self.marks[name])
-
-    def relink(self, _name, _level, _number):
-        changed = 0
-        for number in self.live():
-            message, beside = self.at(number), self.answers_of(self.at(number).answers)
-            parent = message.answers if message.answers in self.live() else 0
-            after = [other for other in beside if parent and other > number]
-            links = [parent, (self.answers_of(number) or [0])[0], (after or [0])[0]]
-            changed, message.links = changed + (links != message.links), links
-        return f"Relinked {{ changed: {changed} }}"
-
-    def pack(self, name, level, number):
-        self.relink(name, level, number)
-        live = self.live()
-        dropped = sum(slot is not None and slot.is_killed for slot in self.slots)
-        base = live[0] if live else self.next()
-        self.slots = [slot if slot and not slot.is_killed else None for slot in self.slots[base - self.base:]]
-        self.base = base
-        return f"Packed {{ base: {base}, live: {len(live)}, dropped: {dropped} }}"
+def answer(area, row):
+    """What the program has to write for a row, and what that does to the area; those ask who may."""
+    word, *words = row.split()
+    if word in ("base", "share"):
+        return {"base": "base", "share": "shared"}[word]
+    if word == "close":
+        return f"at rest, {len(area.live())} live"
+    user = User(words[1], int(words[2]))
+    if word == "call":
+        return called(area, user, words[3], int(words[4]))
+    if word == "figures":
+        return reply(area.figures(user))
+    if word == "count":
+        return f"{len(area.unread(user))} unread"
+    numbers = {"list": area.seen, "unread": area.unread, "to": area.addressed}[word](user)
+    return " ".join(["numbers", *map(str, numbers)])
 
 
 def after(area, rows):
     """The area behind these rows."""
     area = copy.deepcopy(area)
     for row in rows:
-        area.answer(row)
+        answer(area, row)
     return area
 
 
 def told(area, rows):
     """What is answered to these rows, by a copy of the area."""
     area = copy.deepcopy(area)
-    return [area.answer(row) for row in rows]
+    return [answer(area, row) for row in rows]
 
 
 def looks(nodes):
@@ -276,7 +201,7 @@ def try_case(trial, case, found):
 
 
 def try_faults(trial):
-    """Each change with each call of the disk failing. Gives the fate of each."""
+    """Each change with each call of the disk failing, and where that is asked for with a second one behind it."""
     fates, all_cases = {}, list(cases())
     runs = [[case.rows()] + [case.rows(call) for call in range(1, MOST_CALLS + 1)] for case in all_cases]
     found = run(trial.program, [rows for one in runs for rows in one])
@@ -288,7 +213,9 @@ def try_faults(trial):
         kinds = {fate for _, fate in told_of if "?" not in fate}
         trial.is_so(f"{told_of[0][0].what}: whatever comes next, one fate", len(kinds), 1)
         trial.is_so(f"{told_of[0][0].what}: how many calls fail", len({fate.count(".") for _, fate in told_of}), 1)
-    return [case_and_fate for told_of in fates.values() for case_and_fate in told_of]
+        for case, fate in told_of if trial.option else ():
+            if case.behind:
+                try_two_faults(trial, case, fate)
 
 
 def try_two_faults(trial, case, fate):
@@ -317,15 +244,5 @@ def try_two_faults(trial, case, fate):
                     found == sorted(found) and 0 < len(found) < MOST_CALLS_BEHIND)
 
 
-def main(program, is_all):
-    trial = Trial(program, None)
-    for case, fate in try_faults(trial):
-        if is_all and case.behind:
-            try_two_faults(trial, case, fate)
-    return trial.tells("faults of a shared area's disk")
-
-
 if __name__ == "__main__":
-    if len(sys.argv) < 2 or sys.argv[2:] not in ([], ["--all"]):
-        sys.exit(__doc__)
-    sys.exit(main(sys.argv[1], bool(sys.argv[2:])))
+    goes_through(Trial, "faults of a shared area's disk", [try_faults], option="--all")

@@ -9,24 +9,20 @@ takes, who are silent, close one half of the line or break off, or who ask on an
 their own. Then one asks for the longest letter again and again, and one for more than there is memory for. The bytes are drawn from fixed
 seeds, and with --all there are ten times as many.
 """
+import errno
 import os
 import random
 import resource
-import shutil
-import signal
 import socket
-import sys
-import tempfile
 import threading
+import time
 
 import jam
+from area import Area, Message
 from caller import GUARD
-from served import Served, resets, together
-from trial import memory_folder, settings
-from visits import AREAS, COUNT, NAMES, password_of, users
+from harness import AREAS, CALLERS, COUNT, GREETING, IDS, MOST_SESSION_BYTES, NAMES, Served, goes_through, password_of, resets, settings, together, users
 
 NODES = 32
-MOST_SESSION_BYTES = 16_777_216
 # the commands in what is heard at once, at most, and what is owed at most before another is done
 PIECE_COMMANDS, OWED_BYTES = 2048, 65_536
 # what a caller costs in memory besides, and what the program may have more or less of it by itself
@@ -69,6 +65,11 @@ def drawn_commands(draw, size):
 class Hostile(Served):
     """Runs of `serve` with 32 nodes, and what they take of memory."""
 
+    @property
+    def times(self):
+        """How often each kind of harm is done."""
+        return 10 if self.option else 1
+
     def begins(self, *words, **run):
         """A run over empty bases, in which each node had a caller who left; what it has of memory then is what the rest is measured by."""
         self.has_bases()
@@ -76,19 +77,12 @@ class Hostile(Served):
         super().begins(*words, nodes=NODES, **run)
         for caller in together((lambda n=n: self.guest(n % COUNT)) for n in range(NODES)):
             caller.quits()
-        self.before, self.posted = self.of_memory(), {}
+        self.before, self.own, self.since = self.of_memory(), Area(AREAS.index(OWN) + 1), int(time.time())
 
     def of_memory(self, name="VmHWM"):
         """The most bytes of memory that the run has had, or of addresses."""
         with open(f"/proc/{self.process.pid}/status", encoding="ascii") as file:
             return next(int(line.split()[1]) * 1024 for line in file if line.startswith(name + ":"))
-
-    def user(self, n):
-        """One of the users, in the one area that there is."""
-        caller = self.caller(NAMES[n].decode())
-        caller.logs_in(NAMES[n], password_of(NAMES[n]))
-        caller.enters(b"1", b"[large] ")
-        return caller
 
     def takes_at_most(self, what, size):
         grown = self.of_memory() - self.before
@@ -99,10 +93,10 @@ class Hostile(Served):
         """Posts and lists in an area where nobody else does, so often at least and while the others go on, and leaves."""
         turn = 0
         while turn < least or is_going():
-            number = caller.posts(b"All", b"post %d" % turn, [b"a line"], False, b"[%s] " % OWN.encode())
-            self.posted[number] = b"post %d" % turn
-            listed = b"".join(b"%8d  Ada > All  %s\r\n" % it for it in sorted(self.posted.items())[-3:])
-            caller.answers(b"l %d" % max(1, number - 2), listed, b"[%s] " % OWN.encode())
+            message, prompt = Message(NAMES[0], b"All", b"post %d" % turn, [b"a line"]), b"[%s] " % OWN.encode()
+            number = caller.posts(message.receiver, message.subject, message.text, False, prompt)
+            self.own.adds(number, message)
+            caller.answers(b"l %d" % max(1, number - 2), self.own.listed(self.own.seen(CALLERS[0])[-3:]), prompt)
             turn += 1
         caller.quits()
 
@@ -110,10 +104,9 @@ class Hostile(Served):
         """Ends the run, and looks whether all bases hold together and what was posted is there."""
         for caller in together((lambda n=n: self.guest(n)) for n in range(COUNT)):
             caller.quits()
-        self.ends(what, -signal.SIGTERM, signal.SIGTERM)
+        self.is_ended(what)
         self.checks(what)
-        live = jam.read(f"{self.folder}/areas", OWN)[0].live()
-        self.is_so(f"{what}: what was posted", {number: message.first(6) for number, message in live.items()}, self.posted)
+        self.own.compares(self, f"{what}, {OWN}", self.base(OWN), self.since, IDS)
 
     def with_others(self, what, does):
         """Does all of these at once, each in a thread, while one behaves; gives what each answers."""
@@ -144,8 +137,10 @@ def pours(line, data, draw):
             line.shutdown(socket.SHUT_WR)
             while line.recv(65536):
                 pass
-    except ConnectionError:
-        pass
+    except OSError as fault:
+        # what the board has broken off meanwhile cannot be shut any more
+        if not isinstance(fault, ConnectionError) and fault.errno != errno.ENOTCONN:
+            raise
     finally:
         line.close()
     return at
@@ -158,21 +153,21 @@ def tried(does, otherwise):
         return otherwise
 
 
-def try_noise(trial, many):
+def try_noise(trial):
     """Drawn bytes, drawn commands of Telnet and drawn commands of the menus, by 31 at once, one after another at each node."""
     trial.begins()
 
     def one(seed):
         draw = random.Random(seed)
         made, size = ((drawn_bytes, 40_000), (drawn_telnet, 40_000), (drawn_commands, 3000))[seed % 3]
-        for _ in range(many):
+        for _ in range(trial.times):
             pours(trial.caller("one who sends noise").line, made(draw, size), draw)
     trial.with_others("noise", [lambda seed=seed: one(seed) for seed in range(NODES - 1)])
     trial.takes_at_most("noise", (NODES - 1) * (CALLER_BYTES + 2 * OWED_BYTES))
     trial.ends_well("noise")
 
 
-def try_limit(trial, many):
+def try_limit(trial):
     """As much as a session takes, of bytes that make no line, at several nodes."""
     trial.begins()
     kinds = (b"\xff\xfa" + bytes(65534), b"\0" * 65536, b"a" * 65536, b"a\x08" * 32768, b"\xff\xfd\x63" * 21845)
@@ -189,7 +184,7 @@ def try_limit(trial, many):
         reader.join(GUARD)
         line.close()
         return sent
-    sent = trial.with_others("the limit", [lambda kind=kind: one(kind) for kind in kinds * min(many, 5)])
+    sent = trial.with_others("the limit", [lambda kind=kind: one(kind) for kind in kinds * min(trial.times, 5)])
     trial.holds(f"the limit: hung up when a session is spent: {sent}", all(MOST_SESSION_BYTES <= it < 2 * MOST_SESSION_BYTES for it in sent))
     trial.takes_at_most("the limit", len(sent) * CALLER_BYTES)
     trial.ends_well("the limit")
@@ -207,12 +202,12 @@ def drains(line):
     return True
 
 
-def try_half_open(trial, many):
+def try_half_open(trial):
     """Callers who are silent at all nodes but one, and others who wait, of whom some have closed one half, some all, some broke off."""
     trial.begins()
     silent = [trial.caller("one who says nothing") for _ in range(NODES - 1)]
     for caller in silent:
-        caller.reads(b"Test Board\r\nName: ")
+        caller.reads(GREETING)
     polite, waiting = trial.guest(0, OWN), []
     for n in range(100):
         caller = trial.caller("one who waits")
@@ -230,7 +225,7 @@ def try_half_open(trial, many):
     trial.ends_well("half-open lines")
 
 
-def try_deaf(trial, many):
+def try_deaf(trial):
     """Callers who ask for lists again and again and never read; a node is kept by each, and no other by them."""
     trial.begins()
     full = trial.guest(1, "general")
@@ -248,7 +243,7 @@ def try_deaf(trial, many):
                 caller.line.sendall(b"l\n" * PIECE_COMMANDS)
         except OSError:
             return caller
-    callers = trial.with_others("who never reads", [lambda n=n: one(n) for n in range(NODES - 1 if many > 1 else 8)])
+    callers = trial.with_others("who never reads", [lambda n=n: one(n) for n in range(NODES - 1 if trial.option else 8)])
     trial.takes_at_most("who never reads", len(callers) * (CALLER_BYTES + 2 * (OWED_BYTES + page)))
     for caller in callers:
         caller.line.close()
@@ -260,63 +255,49 @@ def of_large_letter(trial, **run):
     trial.is_gone()
     base = jam.one_message()
     base.slots[0].text = b"x" * LETTER_BYTES
-    jam.write_only(f"{trial.folder}/areas", large=base)
+    jam.write_only(trial.areas, large=base)
     trial.has_settings(settings(("large",), users(), port=trial.port, nodes=4))
     Served.begins(trial, areas=("large",), nodes=4, **run)
 
 
-def try_hoarder(trial, many):
+def try_hoarder(trial):
     """One who asks for the longest letter again and again, in one piece, costs no more than one who asks once: who reads gets all of them, and who
     does not is waited for."""
     of_large_letter(trial)
     trial.before = trial.of_memory()
-    hoarder, deaf = trial.user(0), trial.user(1)
+    hoarder, deaf = trial.guest(0, "large", place=1), trial.guest(1, "large", place=1)
     deaf.line.setsockopt(socket.SOL_SOCKET, socket.SO_RCVBUF, 4096)
     deaf.types(b"1\n" * PIECE_COMMANDS)
-    hoarder.types(b"1\n" * 100 * many + b"q\n")
+    hoarder.types(b"1\n" * 100 * trial.times + b"q\n")
     size = 0
     while part := hoarder.line.recv(1 << 20):
         size += len(part)
-    trial.holds(f"a hoarder is given all: {size} bytes", size > 100 * many * LETTER_BYTES)
+    trial.holds(f"a hoarder is given all: {size} bytes", size > 100 * trial.times * LETTER_BYTES)
     trial.takes_at_most("a hoarder and one who does not read", 2 * ANSWER_LETTERS * LETTER_BYTES)
     deaf.line.close()
-    trial.ends("a hoarder", -signal.SIGTERM, signal.SIGTERM)
+    trial.is_ended("a hoarder")
 
 
-def try_no_memory(trial, many):
+def try_no_memory(trial):
     """One who asks for more than there is memory for is hung up, and nobody else: the addresses of the program are limited to what it needs
     and some more."""
     # with one heap for all threads, else each has addresses of its own in store
     heap = {"env": {**os.environ, "MALLOC_ARENA_MAX": "1"}}
     of_large_letter(trial, **heap)
-    for caller in [trial.user(n) for n in range(4)]:
+    for caller in [trial.guest(n, "large", place=1) for n in range(4)]:
         caller.quits()
     most = trial.of_memory("VmPeak") + LETTER_BYTES // 2
     of_large_letter(trial, preexec_fn=lambda: resource.setrlimit(resource.RLIMIT_AS, (most, most)), **heap)
-    others = together((lambda n=n: trial.user(n)) for n in range(3))
-    wanting = trial.user(3)
+    others = together((lambda n=n: trial.guest(n, "large", place=1)) for n in range(3))
+    wanting = trial.guest(3, "large", place=1)
     wanting.types(b"1\n")
     trial.holds("who wants more than there is memory for is hung up", drains(wanting.line))
     found = [caller.posts(b"All", b"post", [b"a line"], False, b"[large] ") for caller in others]
     trial.is_so("beside them the others post", found, [2, 3, 4])
-    for caller in others + [trial.user(3)]:
+    for caller in others + [trial.guest(3, "large", place=1)]:
         caller.quits()
-    trial.ends("want of memory", -signal.SIGTERM, signal.SIGTERM)
-
-
-def main(program, is_all):
-    folder = tempfile.mkdtemp(dir=memory_folder())
-    try:
-        trial = Hostile(os.path.realpath(program), folder)
-        for tried_ in (try_noise, try_limit, try_half_open, try_deaf, try_hoarder, try_no_memory):
-            trial.tells_wrong(tried_.__name__, lambda: tried_(trial, 10 if is_all else 1))
-            trial.is_gone()
-    finally:
-        shutil.rmtree(folder)
-    return trial.tells("callers who mean harm")
+    trial.is_ended("want of memory")
 
 
 if __name__ == "__main__":
-    if len(sys.argv) < 2 or sys.argv[2:] not in ([], ["--all"]):
-        sys.exit(__doc__)
-    sys.exit(main(sys.argv[1], bool(sys.argv[2:])))
+    goes_through(Hostile, "callers who mean harm", (try_noise, try_limit, try_half_open, try_deaf, try_hoarder, try_no_memory), option="--all")

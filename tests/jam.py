@@ -1,5 +1,6 @@
-"""Reads and writes the files of a JAM base by the tables of the JAM proposal ("Header file", "Message header", "Index file",
-"Lastread file"), with nothing of the program: what the scripts here compare the program with.
+"""Reads and writes the files of a base by the tables of the JAM proposal ("Header file", "Message header", "Index file", "Lastread file"), tests them as
+docs/FORMATS.md says, each test in its order, and does what waits in the journal. Plain and slow, and with nothing of the program: what the scripts here
+compare it with.
 """
 import os
 import re
@@ -10,10 +11,62 @@ import zlib
 DELETED = 0x80000000
 PRIVATE = 4
 EMPTY = 0xFFFFFFFF
+# the files of a base, and with them those that the board has beside: the journal numbers them so
 FILES = ("jhr", "jdt", "jdx", "jlr")
+ALL_FILES = FILES + ("jnl", "ndt")
+JHR, JDT, JDX, JLR = range(4)
 FIELDS = ("reserved subfields read msgid_crc reply_crc reply_to reply_first reply_next written received processed number "
           "attribute attribute2 offset length password cost").split()
 LINKS = ("reply_to", "reply_first", "reply_next")
+CEILINGS = (134_217_728, 67_108_864, 520_000, 1_040_000)
+MOST_SLOTS, MOST_SUBFIELD_BYTES, MOST_TEXT_BYTES = 65_000, 262_144, 1_048_576
+
+
+def crc(name):
+    """The CRC of a name by the JAM proposal: that of zlib without its last complement, over lower-case letters."""
+    return zlib.crc32(name.lower()) ^ 0xFFFFFFFF
+
+
+def ulong(data, at):
+    return struct.unpack_from("<I", data, at)[0]
+
+
+def fixed_header(number=1, counter=0, live=0, created=10**9):
+    """The fixed header of a base from this number on."""
+    return b"JAM\0" + struct.pack("<5I", created, counter, live, EMPTY, number) + bytes(1000)
+
+
+def subfields(*fields):
+    """Subfields of a kind, an upper half and data each; a pair has the upper half 0."""
+    return b"".join(struct.pack("<HHI", field[0], field[1] if len(field) > 2 else 0, len(field[-1])) + field[-1] for field in fields)
+
+
+def named(sender, receiver, subject, *more):
+    return subfields((2, sender), (3, receiver), (6, subject), *more)
+
+
+def head_of(fields, **values):
+    """The fields of a header with these subfields behind it."""
+    return dict.fromkeys(FIELDS, 0) | {"subfields": len(fields), "reply_crc": EMPTY, "password": EMPTY} | values
+
+
+def header_bytes(head, fields):
+    return b"JAM\0\1\0" + struct.pack("<H17I", *(head[field] for field in FIELDS)) + fields
+
+
+def header(fields, **values):
+    """A header with these subfields behind it, as bytes."""
+    return header_bytes(head_of(fields, **values), fields)
+
+
+def head_at(headers, at):
+    """The fields of the header at this place."""
+    return dict(zip(FIELDS, struct.unpack_from("<H17I", headers, at + 6)))
+
+
+def mark(name, user, last, high):
+    """What is read by the user of this name and number, as .JLR has it."""
+    return struct.pack("<4I", crc(name), user, last, high)
 
 
 class Message:
@@ -44,21 +97,17 @@ class Base:
 
     @property
     def number(self):
-        return struct.unpack_from("<I", self.fixed, 20)[0]
+        return ulong(self.fixed, 20)
 
     def live(self):
         return {self.number + n: m for n, m in enumerate(self.slots) if m is not None and m.is_live()}
 
 
-def one_message():
-    """A base with one message, from Test to Hello."""
-    fields = b"".join(struct.pack("<HHI", kind, 0, len(data)) + data for kind, data in (
-        (2, b"Test"), (3, b"Hello"), (4, b"2:5020/1042 01000001"), (6, b"abc")))
-    head = dict.fromkeys(FIELDS, 0)
-    head.update(subfields=len(fields), msgid_crc=crc(b"2:5020/1042 01000001"), reply_crc=EMPTY, written=1_000_000_000, number=1,
-                attribute=0x00800001, password=EMPTY)
-    fixed = b"JAM\0" + struct.pack("<5I", 1_000_000_000, 1, 1, EMPTY, 1) + bytes(1000)
-    return Base(fixed, [Message(head, fields, b"Good\r", crc(b"Hello"))], b"")
+def one_message(**values):
+    """A base with one message, from Test to Hello, whose header has these values."""
+    fields = subfields((2, b"Test"), (3, b"Hello"), (4, b"2:5020/1042 01000001"), (6, b"abc"))
+    head = head_of(fields, **{"msgid_crc": crc(b"2:5020/1042 01000001"), "written": 10**9, "number": 1, "attribute": 0x00800001, **values})
+    return Base(fixed_header(counter=1, live=1), [Message(head, fields, b"Good\r", crc(b"Hello"))], b"")
 
 
 def path_of(folder, name, extension):
@@ -84,54 +133,49 @@ def read(folder, name):
 def base_in(files):
     """The same of files that hold together, by their bytes."""
     headers, texts = files["jhr"], files["jdt"]
-    slots, header_bytes, text_bytes = [], 1024, 0
+    slots, used, text_bytes = [], 1024, 0
     for owner, at in struct.iter_unpack("<II", files["jdx"]):
         if at == EMPTY:
             slots.append(None)
             continue
         assert headers[at:at + 6] == b"JAM\0\1\0", len(slots)
-        values = struct.unpack_from("<HIIIIIIIIIIIIIIIII", headers, at + 6)
-        head = dict(zip(FIELDS, values))
+        head = head_at(headers, at)
         fields = headers[at + 76:at + 76 + head["subfields"]]
         text = texts[head["offset"]:head["offset"] + head["length"]]
         slots.append(Message(head, fields, text, owner))
-        header_bytes += 76 + len(fields)
+        used += 76 + len(fields)
         text_bytes += len(text)
-    base = Base(headers[:1024], slots, files["jlr"])
-    return base, len(headers) - header_bytes, len(texts) - text_bytes
+    return Base(headers[:1024], slots, files["jlr"]), len(headers) - used, len(texts) - text_bytes
 
 
 def files_of(base, draw=None):
     """The bytes of each file of the base, one message behind another, or in a drawn order with dead bytes between."""
-    headers, texts, index = [base.fixed], [], [struct.pack("<II", EMPTY, EMPTY)] * len(base.slots)
-    at, text_at = 1024, 0
+    headers, texts, index = base.fixed, b"", [struct.pack("<II", EMPTY, EMPTY)] * len(base.slots)
     places = [n for n, message in enumerate(base.slots) if message is not None]
     if draw:
         draw.shuffle(places)
     for n in places:
         message = base.slots[n]
         if draw:
-            dead = draw.randbytes(draw.randrange(0, 90))
-            headers.append(dead)
-            at += len(dead)
-            dead = draw.randbytes(draw.randrange(0, 90))
-            texts.append(dead)
-            text_at += len(dead)
-        message.head["offset"], message.head["length"] = text_at, len(message.text)
-        values = [message.head[field] for field in FIELDS]
-        headers.append(b"JAM\0\1\0" + struct.pack("<HIIIIIIIIIIIIIIIII", *values) + message.fields)
-        texts.append(message.text)
-        index[n] = struct.pack("<II", message.owner, at)
-        at += 76 + len(message.fields)
-        text_at += len(message.text)
-    return {extension: b"".join(parts) for extension, parts in zip(FILES, (headers, texts, index, [base.marks]))}
+            headers += draw.randbytes(draw.randrange(0, 90))
+            texts += draw.randbytes(draw.randrange(0, 90))
+        message.head["offset"], message.head["length"] = len(texts), len(message.text)
+        index[n] = struct.pack("<II", message.owner, len(headers))
+        headers += header_bytes(message.head, message.fields)
+        texts += message.text
+    return dict(zip(FILES, (headers, texts, b"".join(index), base.marks)))
+
+
+def write_files(folder, name, files, spelled=str.lower):
+    """Writes these bytes as files of the base, with extensions so spelled."""
+    for extension, data in files.items():
+        with open(f"{folder}/{name}.{spelled(extension)}", "wb") as file:
+            file.write(data)
 
 
 def write(folder, name, base, draw=None):
     """Writes the files of the base, with extensions in lower case."""
-    for extension, data in files_of(base, draw).items():
-        with open(f"{folder}/{name}.{extension}", "wb") as file:
-            file.write(data)
+    write_files(folder, name, files_of(base, draw))
 
 
 def write_only(folder, **bases):
@@ -142,26 +186,25 @@ def write_only(folder, **bases):
         write(folder, name, base)
 
 
-def crc(name):
-    """The CRC of a name by the JAM proposal: that of zlib without its last complement, over lower-case letters."""
-    return zlib.crc32(name.lower()) ^ 0xFFFFFFFF
+def linked(parents):
+    """The three links of each live message, by the numbers of their parents: 0 is none."""
+    replies = {}
+    for number, parent in sorted(parents.items()):
+        replies.setdefault(parent, []).append(number)
+    behind = {number: after for parent, found in replies.items() if parent for number, after in zip(found, found[1:])}
+    return {number: (parent, replies.get(number, [0])[0], behind.get(number, 0)) for number, parent in parents.items()}
 
 
 def links_of(base):
     """The three link fields that each live message has in a linked base."""
     live = base.live()
-    numbers = sorted(live)
-    parents = {}
-    for n in numbers:
-        wanted = live[n].first(5)
-        if wanted is None:
-            kept = live[n].head["reply_to"]
-            parents[n] = kept if kept in live and kept < n else 0
-        else:
-            parents[n] = next((m for m in numbers if m < n and live[m].first(4) == wanted), 0)
-    firsts = {n: next((m for m in numbers if parents[m] == n), 0) for n in numbers}
-    nexts = {n: next((m for m in numbers if m > n and parents[m] == parents[n]), 0) if parents[n] else 0 for n in numbers}
-    return {n: (parents[n], firsts[n], nexts[n]) for n in numbers}
+    parents, first = {}, {}
+    for n, message in sorted(live.items()):
+        wanted, kept = message.first(5), message.head["reply_to"]
+        # an id of its own may not stand yet, so that the parent has a lower number
+        parents[n] = (kept if kept in live and kept < n else 0) if wanted is None else first.get(wanted, 0)
+        first.setdefault(message.first(4), n)
+    return linked(parents)
 
 
 def held_links(base):
@@ -179,13 +222,150 @@ def shown(text):
 
 
 def listing(base):
-    return b"".join(b"%8d  %s > %s  %s\n" % (n, shown(m.first(2)), shown(m.first(3)), shown(m.first(6)))
-                    for n, m in sorted(base.live().items()))
+    return b"".join(b"%8d  %s > %s  %s\n" % (n, *(shown(m.first(kind)) for kind in (2, 3, 6))) for n, m in sorted(base.live().items()))
 
 
 def figures(base):
     live, slots = base.live(), base.slots
-    linked = b"yes" if held_links(base) == links_of(base) else b"no"
+    is_linked = b"yes" if held_links(base) == links_of(base) else b"no"
     return (b"base %d\nnext %d\nlive %d\nkilled %d\nempty %d\nmsgids %d\nlinked %s\n"
             % (base.number, base.number + len(slots), len(live), sum(m is not None for m in slots) - len(live),
-               slots.count(None), sum(has_id(m) for m in live.values()), linked))
+               slots.count(None), sum(has_id(m) for m in live.values()), is_linked))
+
+
+class Refused(Exception):
+    """The files fail a test: the line that names it, with its number and place."""
+
+    @property
+    def line(self):
+        return b"fault %s\n" % self.args[0].encode()
+
+
+class Record:
+    """The record of a change, read field by field from byte 16 of the journal on."""
+
+    def __init__(self, files):
+        self.files, self.journal, self.at = files, files["jnl"], 16
+
+    def field(self, size):
+        """The next field, of so many bytes."""
+        self.breaks(self.at + size > len(self.journal))
+        return self.journal[self.at:self.at + size]
+
+    def breaks(self, is_broken):
+        """The field that begins here is cut off or breaks a rule."""
+        if is_broken:
+            raise Refused(f"3.14 BadJournal {self.at}")
+
+    def changes(self):
+        """The new lengths by file, and the pieces as file, place and bytes."""
+        self.breaks(self.field(4) != b"JBJ1")
+        self.at += 4
+        count = ulong(self.field(4), 0)
+        self.breaks(count > 4)
+        self.at += 4
+        lengths, least = {}, 0
+        for _ in range(count):
+            file, a, b, c, length = struct.unpack("<4BI", self.field(8))
+            self.breaks(not least <= file < 4 or (a, b, c) != (0, 0, 0) or length > CEILINGS[file])
+            lengths[FILES[file]], least = length, file + 1
+            self.at += 8
+        count = ulong(self.field(4), 0)
+        self.at += 4
+        pieces = [self.piece(lengths) for _ in range(count)]
+        self.breaks(self.field(4) != b"JBJE")
+        return lengths, pieces
+
+    def piece(self, lengths):
+        kind, file, source, last, place, size = struct.unpack("<4BII", self.field(12))
+        self.breaks(kind > 1 or file > 3 or last != 0 or (file, source) != (1, 5) and kind == 1 or source != 0 and kind == 0)
+        whole = self.field(12 + (size if kind == 0 else 4))
+        self.breaks(place + size > lengths.get(FILES[file], len(self.files[FILES[file]])))
+        data = whole[12:]
+        if kind == 1:
+            start = ulong(whole, 12)
+            self.breaks(start + size > len(self.files["ndt"]))
+            data = self.files["ndt"][start:start + size]
+        self.at += len(whole)
+        return FILES[file], place, data
+
+
+def replayed(files):
+    """The files after what waits in the journal was done."""
+    if len(files["jnl"]) <= 16 or files["jnl"][0] != 1:
+        return files
+    lengths, pieces = Record(files).changes()
+    now = {extension: bytearray(data) for extension, data in files.items()}
+    for extension, length in lengths.items():
+        now[extension] = now[extension][:length] + bytes(max(0, length - len(now[extension])))
+    for extension, place, data in pieces:
+        now[extension][place:place + len(data)] = data
+    now["jnl"][0] = 0
+    return {extension: bytes(data) for extension, data in now.items()}
+
+
+def journal_of(pieces, lengths=()):
+    """A journal whose gate is open. Its record gives these files, by their numbers, new lengths, and writes these pieces: the number of a file, a place
+    in it and the bytes, or for these the place in .NDT from which they are copied and their count."""
+    record = b"JBJ1" + struct.pack("<I", len(lengths)) + b"".join(struct.pack("<II", *it) for it in lengths) + struct.pack("<I", len(pieces))
+    for file, place, data in pieces:
+        if isinstance(data, bytes):
+            record += struct.pack("<4BII", 0, file, 0, 0, place, len(data)) + data
+        else:
+            record += struct.pack("<4BIII", 1, file, ALL_FILES.index("ndt"), 0, place, data[1], data[0])
+    return b"\1" + bytes(15) + record + b"JBJE"
+
+
+def test(files):
+    """Tests the files of a base: first as a whole, then each header, then whether two of them share a byte."""
+    headers, index, marks = files["jhr"], files["jdx"], files["jlr"]
+    number = ulong(headers.ljust(24, b"\0"), 20)
+    for line, is_wrong in (("3.1 ShortHeader", len(headers) < 1024), ("3.2 BadSignature", headers[:4] != b"JAM\0"), ("3.3 BaseZero", number == 0),
+                           ("3.4 IndexLength", len(index) % 8), ("3.5 LastreadLength", len(marks) % 16 or len(marks) > CEILINGS[3]),
+                           ("3.6 TooManySlots", len(index) // 8 > MOST_SLOTS), ("3.7 NumberRange", number + len(index) // 8 > 0xFFFFFFFF)):
+        if is_wrong:
+            raise Refused(line)
+    slots = enumerate(struct.iter_unpack("<II", index), number)
+    extents = [(number, at, end_of(files, number, at)) for number, (_, at) in slots if at != EMPTY]
+    for b, (second, start, end) in enumerate(extents):
+        for first, low, high in extents[:b]:
+            if start < high and low < end:
+                raise Refused(f"3.13 HeadersOverlap {first} {second}")
+
+
+def end_of(files, number, at):
+    """Where the header at this place ends, with its subfields where it is live."""
+    headers, texts = files["jhr"], min(len(files["jdt"]), CEILINGS[1])
+    most = min(len(headers), CEILINGS[0])
+    if at < 1024 or at + 76 > most:
+        raise Refused(f"3.8 HeaderPlace {number}")
+    if headers[at:at + 4] != b"JAM\0":
+        raise Refused(f"3.9 HeaderSignature {number}")
+    if headers[at + 4:at + 6] != b"\1\0":
+        raise Refused(f"3.10 HeaderRevision {number}")
+    head = head_at(headers, at)
+    if head["attribute"] & DELETED:
+        return at + 76
+    end = at + 76 + head["subfields"]
+    if head["subfields"] > MOST_SUBFIELD_BYTES or end > most:
+        raise Refused(f"3.8 HeaderPlace {number}")
+    place = at + 76
+    while place < end:
+        if place + 8 > end or place + 8 + ulong(headers, place + 4) > end:
+            raise Refused(f"3.11 Subfields {number} {place - at - 76}")
+        place += 8 + ulong(headers, place + 4)
+    if head["length"] > MOST_TEXT_BYTES or head["length"] and head["offset"] + head["length"] > texts:
+        raise Refused(f"3.12 TextPlace {number}")
+    return end
+
+
+def told(files):
+    """What a list and a check print of these files, the status of both, and the files then."""
+    now = files
+    try:
+        now = replayed(files)
+        test(now)
+        base, _, _ = base_in(now)
+        return listing(base), figures(base), 0, now
+    except Refused as refused:
+        return refused.line, refused.line, 3, now

@@ -12,23 +12,18 @@ import fcntl
 import os
 import shutil
 import signal
-import sys
-import tempfile
 import threading
 import time
 
 import jam
-from caller import Caller, connected
-from served import Served, free_port, together
-from trial import BY_ANOTHER, memory_folder, settings
-from visits import AREAS, NAMES, SYSOP, password_of, users
+from harness import ALREADY_THERE, AREAS, BY_ANOTHER, SYSOP, TOOLS, Served, free_port, goes_through, settings, together, users
+from visits import LISTED
 
 # the status, and what the operator is told, where another program has a base
 IN_USE, SAYS_IN_USE = 5, b"in use"
 # the status where both spellings of a header file are there
 BOTH_SPELLINGS = 5
 STORE_FAULT = b"Store fault"
-TOOLS = ("list", "check", "pack", "relink", "make")
 # the seconds for which another program is waited for at most, with some for a busy machine; for which it holds a base where it is waited for; and in
 # which a program ends that waits for none
 MOST_SECONDS, HELD_SECONDS, AT_ONCE = 10, 2, 2
@@ -57,16 +52,16 @@ class Locks(Served):
     """Runs in one folder, of which several want the same base."""
 
     def path(self, name="general", extension="jhr"):
-        return jam.path_of(f"{self.folder}/areas", name, extension)
+        return jam.path_of(self.areas, name, extension)
 
     def links(self, name, other):
         """Has this base under another name too."""
         for extension in jam.FILES + ("jnl",):
             path = self.path(name, extension)
-            os.link(path, f"{self.folder}/areas/{other}{os.path.splitext(path)[1]}")
+            os.link(path, f"{self.areas}/{other}{os.path.splitext(path)[1]}")
 
-    def bytes_of(self, folder="areas"):
-        return {name: open(f"{self.folder}/{folder}/{name}", "rb").read() for name in sorted(os.listdir(f"{self.folder}/{folder}"))}
+    def bytes_of(self):
+        return {name: open(f"{self.areas}/{name}", "rb").read() for name in sorted(os.listdir(self.areas))}
 
     def timed(self, what, does, most=MOST_SECONDS):
         """Does this, and looks whether it takes no more than so many seconds."""
@@ -95,7 +90,7 @@ def try_served(trial):
     trial.is_so("the first post", caller.posts(b"All", b"first", [b"a line"]), 1)
     before, said = trial.bytes_of(), (SAYS_IN_USE, b"general")
     runs = [((word, "areas", "general"), said, {}) for word in TOOLS] + [((word, "second.toml"), said, {}) for word in ("serve", "local")]
-    runs += [(("list", folder, "general"), said, {}) for folder in ("./areas", "linked", f"{trial.folder}/areas")]
+    runs += [(("list", folder, "general"), said, {}) for folder in ("./areas", "linked", trial.areas)]
     runs += [(("list", "areas", "other"), (SAYS_IN_USE, b"other"), {}), (("list", "areas", "general"), said, BY_ANOTHER)]
     trial.timed("what is refused is refused in time", lambda: trial.are_refused("an area that is served", IN_USE, runs))
     trial.holds("what is refused changes nothing", trial.bytes_of() == before)
@@ -103,7 +98,7 @@ def try_served(trial):
     trial.is_so("the second post", caller.posts(b"All", b"second", [b"a line"]), 2)
     caller.answers(b"x", b"Packed: base 1, live 2, dropped 0.\r\n", b"[general] ")
     trial.is_so("who has locks when the board has packed", may_lock(trial.path()), [False] * 4)
-    trial.ends("a board that is killed", -signal.SIGKILL, signal.SIGKILL)
+    trial.is_ended("a board that is killed", signal.SIGKILL)
     listed = b"".join(b"%8d  Sysop > All  %s\n" % it for it in ((1, b"first"), (2, b"second")))
     found = trial.timed("behind a board that was killed", lambda: trial.ended("list", "areas", "general"), most=AT_ONCE)
     trial.is_so("a list behind a board that was killed", found, (listed, 0))
@@ -133,7 +128,7 @@ def try_one_base(trial):
     for n, word in enumerate(("serve", "local") * 4):
         name = f"base{n}"
         trial.is_so("a base is made", trial.ended("make", "areas", name), (b"", 0))
-        folder, base = (("./areas", name), ("linked", name), (f"{trial.folder}/areas", name), ("areas", f"other{n}"))[n // 2]
+        folder, base = (("./areas", name), ("linked", name), (trial.areas, name), ("areas", f"other{n}"))[n // 2]
         trial.links(name, f"other{n}")
         trial.has_settings(settings((name, ("again", folder, base)), port=free_port()), f"{name}.toml")
         runs.append(((word, f"{name}.toml"), (SAYS_IN_USE, base.encode()), {}))
@@ -145,7 +140,7 @@ def try_together(trial):
     trial.has_letters(*AREAS)
     trial.has_settings(settings(AREAS, users(), port=trial.port))
     words = ("list",) * 4 + ("check", "relink", "pack")
-    wanted = {"list": b"       1  Test > Hello  abc\n", "check": jam.figures(jam.one_message()), "relink": b"Relinked: 0 changed.\n",
+    wanted = {"list": LISTED, "check": jam.figures(jam.one_message()), "relink": b"Relinked: 0 changed.\n",
               "pack": b"Packed: base 1, live 1, dropped 0.\n"}
     had = {name: trial.has_for_a_while(name, call) for name, call in (("general", "lockf"), ("letters", "flock"))}
 
@@ -159,11 +154,11 @@ def try_together(trial):
     trial.begins(nodes=1)
     trial.timed("a board that waits", lambda: trial.guest(0).quits())
     trial.holds("a board waits for who has a base", had.closed)
-    trial.ends("a board that waited", -signal.SIGTERM, signal.SIGTERM)
+    trial.is_ended("a board that waited")
     for n in range(3):
         made = together(lambda: trial.ended("make", "areas", f"made{n}") for _ in range(4))
-        trial.is_so("four who make a base at once", sorted(made), [(b"", 0)] + [(b"fault 3.17 AlreadyThere\n", 3)] * 3)
-    trial.is_so("a base that four made at once", trial.ended("check", "areas", "made0"), (jam.figures(jam.read(f"{trial.folder}/areas", "made0")[0]), 0))
+        trial.is_so("four who make a base at once", sorted(made), [(b"", 0)] + [ALREADY_THERE] * 3)
+    trial.is_so("a base that four made at once", trial.ended("check", "areas", "made0"), (jam.figures(trial.base("made0")), 0))
     trial.checks("who waited")
 
 
@@ -174,13 +169,13 @@ def try_read_only(trial):
         file.write(bytes(17))
     before = trial.bytes_of()
     for name in before:
-        os.chmod(f"{trial.folder}/areas/{name}", 0o444)
-    os.chmod(f"{trial.folder}/areas", 0o555)
-    wanted = [(b"       1  Test > Hello  abc\n", 0), (jam.figures(jam.one_message()), 0)]
+        os.chmod(f"{trial.areas}/{name}", 0o444)
+    os.chmod(trial.areas, 0o555)
+    wanted = [(LISTED, 0), (jam.figures(jam.one_message()), 0)]
     for name in ("general", "bare"):
         found = together(lambda word=word: trial.ended(word, "areas", name, **BY_ANOTHER) for word in ("list", "check") * 3)
         trial.is_so(f"a base that may only be read, {name}", found, wanted * 3)
-    os.chmod(f"{trial.folder}/areas", 0o755)
+    os.chmod(trial.areas, 0o755)
     trial.holds("what may only be read is as it was", trial.bytes_of() == before)
 
 
@@ -214,8 +209,7 @@ def try_replaced(trial):
         trial.is_so("a base is made", trial.ended("make", folder, "base"), (b"", 0))
     trial.has_settings(settings(areas, users(), port=trial.port, nodes=1))
     trial.begins(areas=areas, nodes=1)
-    caller = Caller(connected(trial.port, is_going=lambda: trial.process.poll() is None))
-    caller.logs_in(NAMES[0], password_of(NAMES[0]))
+    caller = trial.user(0)
 
     def within(k, does):
         prompt = b"[%s] " % areas[k][0].encode()
@@ -239,7 +233,7 @@ def try_replaced(trial):
         for turn, found in zip(("what comes next", "one more post"), found):
             trial.holds(f"{name}: {turn} is not acknowledged: {found}", found.startswith(STORE_FAULT))
     trial.is_so("an area beside them: the next post", post(0, b"second"), b"Posted as 2.\r\n")
-    trial.ends("a board whose files were replaced", -signal.SIGTERM, signal.SIGTERM)
+    trial.is_ended("a board whose files were replaced")
     for (extension, how), (_, folder, _) in zip(cases, areas[1:]):
         places = [f"{folder}.kept"] + [folder] * (how == "another") + [f"{folder}.copied"] * (extension is None and how == "none")
         # two of them may have a journal in common, which the first list closes
@@ -256,16 +250,14 @@ def try_spelling(trial):
     for what, names, is_lower in cases:
         trial.has_letters()
         for name in names:
-            for extension, data in jam.files_of(jam.one_message()).items():
-                with open(f"{trial.folder}/areas/{name}.{extension.upper() if name.isupper() else extension}", "wb") as file:
-                    file.write(data)
-        before = set(os.listdir(f"{trial.folder}/areas"))
+            jam.write_files(trial.areas, name, jam.files_of(jam.one_message()), str.upper if name.isupper() else str.lower)
+        before = set(os.listdir(trial.areas))
         trial.is_so(f"{what}: a base is made", trial.ended("make", "areas", "new"), (b"", 0))
-        found = {name.split(".")[1] for name in set(os.listdir(f"{trial.folder}/areas")) - before}
+        found = {name.split(".")[1] for name in set(os.listdir(trial.areas)) - before}
         trial.holds(f"{what}: the names that are made: {found}", found and all(it.islower() == is_lower for it in found))
         trial.is_so(f"{what}: a list", trial.ended("list", "areas", "new"), (b"", 0))
     trial.has_bases()
-    jam.write(f"{trial.folder}/areas", "general", jam.one_message())
+    jam.write(trial.areas, "general", jam.one_message())
     trial.has_settings(settings(port=free_port()))
     before, said = trial.bytes_of(), (b"general",)
     runs = [((word, "areas", "general"), said, {}) for word in TOOLS] + [((word, "board.toml"), said, {}) for word in ("serve", "local")]
@@ -274,21 +266,5 @@ def try_spelling(trial):
     trial.holds("a base in both spellings is as it was", trial.bytes_of() == before)
 
 
-def main(program):
-    folder = os.path.realpath(tempfile.mkdtemp(dir=memory_folder()))
-    try:
-        os.chmod(folder, 0o755)
-        shutil.copy(program, f"{folder}/board")
-        trial = Locks(f"{folder}/board", folder)
-        for tried in (try_served, try_outsiders, try_one_base, try_together, try_read_only, try_replaced, try_spelling):
-            trial.tells_wrong(tried.__name__, lambda: tried(trial))
-            trial.is_gone()
-    finally:
-        shutil.rmtree(folder)
-    return trial.tells("who has an area")
-
-
 if __name__ == "__main__":
-    if len(sys.argv) != 2:
-        sys.exit(__doc__)
-    sys.exit(main(sys.argv[1]))
+    goes_through(Locks, "who has an area", (try_served, try_outsiders, try_one_base, try_together, try_read_only, try_replaced, try_spelling))

@@ -9,43 +9,29 @@ it tells none, a line says so.
 import itertools
 import os
 import random
-import shutil
 import struct
-import subprocess
-import sys
-import tempfile
 
-import jam
-from damage import header, named, subfields
-from trial import Trial, memory_folder
+from harness import Runs, goes_through
+from jam import MOST_SUBFIELD_BYTES, fixed_header, header, named, subfields, write_files
 
-MOST_SUBFIELD_BYTES = 262_144
 NAMES = named(b"Test", b"Hello", b"abc")
 # what is read of a program's own: it and the C library
 BESIDES = 65_536
 
 
-def counts():
-    return os.access("/proc/self/io", os.R_OK)
-
-
-class Readings(Trial):
+class Readings(Runs):
     """Lists of bases in one folder, and the bytes that they read."""
 
     def has_base(self, headers, slots):
         """These headers one behind another, and slots that name them by their place among these; gives the bytes of all files."""
         starts = list(itertools.accumulate(map(len, headers), initial=1024))
-        fixed = b"JAM\0" + struct.pack("<5I", 10**9, 1, 1, jam.EMPTY, 1) + bytes(1000)
-        files = {"jhr": fixed + b"".join(headers), "jdx": b"".join(struct.pack("<II", 0, starts[at]) for at in slots), "jdt": b"", "jlr": b""}
-        for extension, data in files.items():
-            with open(f"{self.folder}/read.{extension}", "wb") as file:
-                file.write(data)
+        files = {"jhr": fixed_header(1, 1, 1) + b"".join(headers), "jdx": b"".join(struct.pack("<II", 0, starts[at]) for at in slots), "jdt": b"", "jlr": b""}
+        write_files(self.folder, "read", files)
         return sum(map(len, files.values()))
 
     def lists(self):
         """What a list prints, its status, and how many bytes it reads."""
-        with subprocess.Popen([self.program, "list", ".", "read"], cwd=self.folder, stdin=subprocess.DEVNULL, stdout=subprocess.PIPE,
-                              stderr=subprocess.DEVNULL) as child:
+        with self.starts("list", ".", "read") as child:
             printed = child.stdout.read()
             os.waitid(os.P_PID, child.pid, os.WEXITED | os.WNOWAIT)
             with open(f"/proc/{child.pid}/io", encoding="ascii") as file:
@@ -78,20 +64,7 @@ def try_readings(trial):
     trial.reads("small headers in a drawn order", [small] * 30_000, places, None, 3)
 
 
-def main(program):
-    if not counts():
-        print("the bytes that are read were not counted: the system does not tell them")
-        return 0
-    folder = tempfile.mkdtemp(dir=memory_folder())
-    try:
-        trial = Readings(os.path.realpath(program), folder)
-        try_readings(trial)
-    finally:
-        shutil.rmtree(folder)
-    return trial.tells("bytes that are read")
-
-
 if __name__ == "__main__":
-    if len(sys.argv) != 2:
-        sys.exit(__doc__)
-    sys.exit(main(sys.argv[1]))
+    if os.access("/proc/self/io", os.R_OK):
+        goes_through(Readings, "bytes that are read", [try_readings])
+    print("the bytes that are read were not counted: the system does not tell them")

@@ -13,29 +13,23 @@ import os
 import random
 import shutil
 import struct
-import subprocess
-import sys
-import tempfile
 import time
 
-from jam import DELETED, EMPTY, FIELDS, FILES, LINKS, figures, held_links, links_of, listing, path_of, read, read_files, write
-from reader import journal_of
-from trial import BY_ANOTHER, Trial
+from harness import ALREADY_THERE, BY_ANOTHER, SHORT_HEADER, STORE_FAULT, TOOLS, Runs, goes_through
+from jam import (DELETED, EMPTY, FIELDS, FILES, LINKS, figures, fixed_header, held_links, journal_of, links_of, listing, path_of, read, read_files,
+                 ulong, write, write_files)
 
 PEER = os.path.join(os.path.dirname(os.path.abspath(__file__)), "peer")
-ALREADY_THERE = b"fault 3.17 AlreadyThere\n"
-SHORT_HEADER = b"fault 3.1 ShortHeader\n"
-STORE_FAULT = b"fault 4 StoreFault\n"
 
 
-class Tools(Trial):
+class Tools(Runs):
     """Uses of the program's tools in one folder, each with what it must print and its status."""
 
     def uses(self, word, name, text, status=0, **run):
-        done = subprocess.run([self.program, word, self.folder, name], stdin=subprocess.DEVNULL, capture_output=True,
-                              check=False, **run)
-        self.holds(f"{word} {name}: status {done.returncode} and {done.stdout[:200]!r}, where {status} and {text[:200]!r} are wanted",
-                   (done.returncode, done.stdout) == (status, text))
+        self.is_so(f"{word} {name}", self.ended(word, self.folder, name, **run), (text, status))
+
+    def all_files(self):
+        return [(name, open(f"{self.folder}/{name}", "rb").read()) for name in sorted(os.listdir(self.folder))]
 
 
 def same_but_links(old, new, kept_numbers):
@@ -121,36 +115,41 @@ def drawn_base(seed, draw):
     return base
 
 
+def try_whole(trial):
+    """The base as it is, and the copies."""
+    trial.holds("the listing is the stored one", listing(read(PEER, "PLAIN")[0]) == open(f"{PEER}/PLAIN.list", "rb").read())
+    copy(trial, "plain")
+    try_tools(trial, "plain")
+    for seed in range(24):
+        draw = random.Random(seed)
+        write(trial.folder, f"drawn{seed}", drawn_base(seed, draw), draw)
+        try_tools(trial, f"drawn{seed}")
+
+
 def try_journal(trial):
     """A change that waits in the journal is done first, and a journal that holds none is refused."""
     base, _, _ = read(PEER, "PLAIN")
     at = struct.unpack_from("<II", read_files(PEER, "PLAIN")["jdx"], 8 * 9)[1]
     killed = struct.pack("<I", base.slots[9].head["attribute"] | DELETED)
-    for word in ("list", "check", "relink", "pack", "make"):
+    for word in TOOLS:
         name = f"waiting_{word}"
         copy(trial, name)
-        with open(f"{trial.folder}/{name}.jnl", "wb") as file:
-            file.write(journal_of([(0, at + 52, killed)]))
+        write_files(trial.folder, name, {"jnl": journal_of([(0, at + 52, killed)])})
         base, _, _ = read(PEER, "PLAIN")
         base.slots[9].head["attribute"] |= DELETED
         changed = sum(held_links(base)[n] != links for n, links in links_of(base).items())
         trial.uses(word, name, {"list": listing(base), "check": figures(base), "relink": b"Relinked: %d changed.\n" % changed,
-                                "pack": b"Packed: base 1, live 59, dropped 1.\n", "make": ALREADY_THERE}[word],
+                                "pack": b"Packed: base 1, live 59, dropped 1.\n", "make": ALREADY_THERE[0]}[word],
                    3 if word == "make" else 0)
         trial.holds(f"{name}: the gate is closed", read_files(trial.folder, name)["jnl"][0] == 0)
         trial.uses("list", name, listing(base))
         name = f"refused_{word}"
         copy(trial, name)
-        with open(f"{trial.folder}/{name}.jnl", "wb") as file:
-            file.write(journal_of([(0, at + 52, killed)])[:-5])
+        write_files(trial.folder, name, {"jnl": journal_of([(0, at + 52, killed)])[:-5]})
         before = read_files(trial.folder, name)
         place = 16 + 12
         trial.uses(word, name, b"fault 3.14 BadJournal %d\n" % place, 3)
         trial.holds(f"{name}: the files are as they were", read_files(trial.folder, name) == before)
-
-
-def is_as_before(trial, before):
-    return [(name, open(f"{trial.folder}/{name}", "rb").read()) for name in sorted(os.listdir(trial.folder))] == before
 
 
 def try_kept(trial):
@@ -158,22 +157,22 @@ def try_kept(trial):
     copy(trial, "kept")
     copy(trial, "shut")
     base, _, _ = read(PEER, "PLAIN")
-    before = [(name, open(f"{trial.folder}/{name}", "rb").read()) for name in sorted(os.listdir(trial.folder))]
+    before = trial.all_files()
     os.chmod(f"{trial.folder}/shut.jhr", 0)
     os.chmod(trial.folder, 0o555)
     trial.uses("list", "kept", listing(base), **BY_ANOTHER)
     trial.uses("check", "kept", figures(base), **BY_ANOTHER)
-    trial.uses("make", "kept", ALREADY_THERE, 3, **BY_ANOTHER)
+    trial.uses("make", "kept", *ALREADY_THERE, **BY_ANOTHER)
     for word in ("relink", "pack"):
-        trial.uses(word, "kept", STORE_FAULT, 4, **BY_ANOTHER)
-    for word in ("list", "check", "relink", "pack"):
-        trial.uses(word, "nothing", SHORT_HEADER, 3, **BY_ANOTHER)
-    trial.uses("make", "nothing", STORE_FAULT, 4, **BY_ANOTHER)
-    for word in ("list", "check", "relink", "pack", "make"):
-        trial.uses(word, "shut", STORE_FAULT, 4, **BY_ANOTHER)
+        trial.uses(word, "kept", *STORE_FAULT, **BY_ANOTHER)
+    for word in TOOLS[:-1]:
+        trial.uses(word, "nothing", *SHORT_HEADER, **BY_ANOTHER)
+    trial.uses("make", "nothing", *STORE_FAULT, **BY_ANOTHER)
+    for word in TOOLS:
+        trial.uses(word, "shut", *STORE_FAULT, **BY_ANOTHER)
     os.chmod(trial.folder, 0o755)
     os.chmod(f"{trial.folder}/shut.jhr", 0o644)
-    trial.holds("what may not be written is as it was", is_as_before(trial, before))
+    trial.holds("what may not be written is as it was", trial.all_files() == before)
 
 
 def try_made(trial):
@@ -181,19 +180,17 @@ def try_made(trial):
     since = int(time.time())
     trial.uses("make", "made", b"")
     found = read_files(trial.folder, "made")
-    created = struct.unpack_from("<I", found["jhr"], 4)[0]
-    trial.holds("make writes a fixed header", found["jhr"] == b"JAM\0" + struct.pack("<5I", created, 0, 0, EMPTY, 1) + bytes(1000)
-                and since <= created <= time.time())
+    created = ulong(found["jhr"], 4)
+    trial.holds("make writes a fixed header", found["jhr"] == fixed_header(created=created) and since <= created <= time.time())
     trial.holds("make leaves three empty files", all(os.path.exists(path_of(trial.folder, "made", it)) and not found[it] for it in FILES[1:]))
     trial.uses("list", "made", b"")
     trial.uses("check", "made", b"base 1\nnext 1\nlive 0\nkilled 0\nempty 0\nmsgids 0\nlinked yes\n")
-    trial.uses("make", "made", ALREADY_THERE, 3)
+    trial.uses("make", "made", *ALREADY_THERE)
     for extension in ("JHR", "JDT", "JDX", "JLR"):
-        path = f"{trial.folder}/only_{extension}.{extension}"
-        with open(path, "wb") as file:
-            file.write(b"J")
-        trial.uses("make", f"only_{extension}", ALREADY_THERE, 3)
-        trial.holds(f"make keeps a .{extension}", open(path, "rb").read() == b"J")
+        name = f"only_{extension}"
+        write_files(trial.folder, name, {extension: b"J"}, str.upper)
+        trial.uses("make", name, *ALREADY_THERE)
+        trial.holds(f"make keeps a .{extension}", open(f"{trial.folder}/{name}.{extension}", "rb").read() == b"J")
 
 
 def try_damaged(trial):
@@ -215,43 +212,14 @@ def try_damaged(trial):
         "3.13 HeadersOverlap 3 5": ("jdx", lambda data: data[:36] + data[20:24] + data[40:]),
     }
     for text, (extension, damage) in damages.items():
-        for word in ("list", "check", "relink", "pack", "make"):
+        for word in TOOLS:
             name = "damaged"
             copy(trial, name)
-            path = f"{trial.folder}/{name}.{extension}"
-            data = damage(open(path, "rb").read())
-            with open(path, "wb") as file:
-                file.write(data)
+            write_files(trial.folder, name, {extension: damage(read_files(trial.folder, name)[extension])})
             before = read_files(trial.folder, name)
-            trial.uses(word, name, ALREADY_THERE if word == "make" else f"fault {text}\n".encode(), 3)
+            trial.uses(word, name, ALREADY_THERE[0] if word == "make" else f"fault {text}\n".encode(), 3)
             trial.holds(f"{word} of {text} leaves the files", read_files(trial.folder, name) == before)
 
 
-def main(program):
-    folder = tempfile.mkdtemp()
-    try:
-        os.chmod(folder, 0o755)
-        shutil.copy(program, f"{folder}/board")
-        os.mkdir(f"{folder}/bases")
-        trial = Tools(f"{folder}/board", f"{folder}/bases")
-        base, _, _ = read(PEER, "PLAIN")
-        trial.holds("the listing is the stored one", listing(base) == open(f"{PEER}/PLAIN.list", "rb").read())
-        copy(trial, "plain")
-        try_tools(trial, "plain")
-        for seed in range(24):
-            draw = random.Random(seed)
-            write(trial.folder, f"drawn{seed}", drawn_base(seed, draw), draw)
-            try_tools(trial, f"drawn{seed}")
-        try_journal(trial)
-        try_made(trial)
-        try_kept(trial)
-        try_damaged(trial)
-    finally:
-        shutil.rmtree(folder)
-    return trial.tells("tools on a real base")
-
-
 if __name__ == "__main__":
-    if len(sys.argv) != 2:
-        sys.exit(__doc__)
-    sys.exit(main(sys.argv[1]))
+    goes_through(Tools, "tools on a real base", (try_whole, try_journal, try_made, try_kept, try_damaged), in_memory=False)

@@ -18,34 +18,13 @@ beginning of what is to be sent, and what it has done goes as far.
 import os
 import random
 import re
-import shutil
 import subprocess
 import sys
 import tempfile
 
-import jam
-from local import ANSWERED, FIRST, PIECE_BYTES, lines
-from trial import Trial, memory_folder, settings
+from harness import LIMIT, LOCAL, NO_MEMORY, TOP, Runs, memory_folder, one_by_one, settings
+from visits import ANSWERED, goes_as_far
 
-TOP = os.path.dirname(os.path.dirname(os.path.realpath(__file__)))
-LIMIT = 600
-ALLOCATOR = r"""
-#include <fcntl.h>
-#include <stdatomic.h>
-#include <stdlib.h>
-#include <unistd.h>
-extern void *__libc_malloc(size_t);
-extern void *__libc_realloc(void *, size_t);
-static atomic_long calls;
-static int is_refused(void) {
-    const char *number = getenv("REFUSED"), *path = getenv("REFUSED_FILE");
-    if (number == NULL || atomic_fetch_add(&calls, 1) + 1 != atol(number)) return 0;
-    close(open(path, O_CREAT | O_WRONLY, 0600));
-    return 1;
-}
-void *malloc(size_t size) { return is_refused() ? NULL : __libc_malloc(size); }
-void *realloc(void *old, size_t size) { return is_refused() ? NULL : __libc_realloc(old, size); }
-"""
 # that the digits of a word are no bytes is said too where there was no memory for them
 WANTING = re.compile(r"(Base\()?OutOfMemory\b|NoMemory\b|out of memory|no answer to '.*': (out of memory|word \d+ is no bytes)")
 LOST = re.compile(r"no answer to '.*': word 0 is not known|no area is shared|not open|NotAsked|none")
@@ -62,20 +41,13 @@ class Rows:
 
 PROGRAMS = {
     "trial_values": Rows(anew=("file",), several=("toml",)),
-    "trial_bases": Rows(anew=("new",), faults=r"StoreFault|the disk failed|no answer to '(plan|post)\b.*': word 0 is not known"),
+    "trial_bases": Rows(anew=("files",), faults=r"StoreFault|the disk failed|no answer to '(plan|post)\b.*': word 0 is not known"),
     "trial_areas": Rows(("try", "stops", "parts", "behind", "opening", "drawn"), ("base", "files"), ("ask", "call"), r"Stopped|(Base\()?StoreFault"),
     "trial_shared": Rows(("drawn", "crowd", "packers", "lookers"), ("base",), (), "StoreFault|no answer to 'share .*': word 0 is not known", ("between",)),
 }
 
 
-def has_allocator(folder):
-    """Makes the allocator that refuses."""
-    with open(f"{folder}/refusing.c", "w") as file:
-        file.write(ALLOCATOR)
-    subprocess.run(["cc", "-O2", "-shared", "-fPIC", "-o", f"{folder}/refusing.so", f"{folder}/refusing.c"], check=True)
-
-
-class Refusals(Trial):
+class Refusals(Runs):
     """Runs of a program in which an allocation is refused, in a folder."""
 
     def __init__(self, name, folder, is_built):
@@ -84,26 +56,11 @@ class Refusals(Trial):
         if not os.access(self.program, os.X_OK):
             sys.exit(f"{self.program} is not there: `rt run` in crates/{name} builds it")
         if is_built:
-            has_allocator(folder)
+            self.has_allocator()
 
-    def plain(self, words=(), given=b""):
-        return self.runs({}, words, given)
-
-    def runs(self, environment, words, given):
-        done = subprocess.run([self.program, *words], cwd=self.folder, input=given, stdout=subprocess.PIPE, stderr=subprocess.PIPE,
-                              env=environment, timeout=LIMIT, check=False)
-        return done.stdout, done.returncode
-
-    def refused(self, number, words=(), given=b""):
+    def looks_at(self, number, *words, given=b""):
         """What a run prints and its status, and whether the allocation came, where that is known."""
-        if not self.is_built:
-            return (*self.by_the_kit(number, given), True)
-        mark = f"{self.folder}/came"
-        found = self.runs({"LD_PRELOAD": f"{self.folder}/refusing.so", "REFUSED": str(number), "REFUSED_FILE": mark}, words, given)
-        is_come = os.path.exists(mark)
-        if is_come:
-            os.remove(mark)
-        return (*found, is_come)
+        return self.refused(number, *words, typed=given, limit=LIMIT) if self.is_built else (*self.by_the_kit(number, given), True)
 
     def by_the_kit(self, number, given):
         """The same by the kit, which says last how the program ended. Its own interpreter is not waited for."""
@@ -148,7 +105,7 @@ class Table:
             sys.exit(f"{trial.program} answers otherwise than its table, without a refusal")
 
     def told(self, rows):
-        return self.trial.plain(given="".join(row + "\n" for row in rows).encode())[0].decode().split("\n")[:-1]
+        return self.trial.done(typed="".join(row + "\n" for row in rows).encode(), limit=LIMIT)[0].decode().split("\n")[:-1]
 
     def left_out(self, at):
         """The answers where this row is not asked; its own is none."""
@@ -160,7 +117,7 @@ class Table:
     def looks(self, number):
         """Looks at a run, and tells whether the allocation came."""
         given = "".join(row + "\n" for row in self.rows).encode()
-        text, status, is_come = self.trial.refused(number, given=given)
+        text, status, is_come = self.trial.looks_at(number, given=given)
         found, what = text.decode(errors="replace").split("\n")[:-1], f"allocation {number}"
         at = next((n for n, pair in enumerate(zip(found, self.answers)) if pair[0] != pair[1]), len(found))
         self.trial.is_changed(found != self.answers)
@@ -210,60 +167,29 @@ class Table:
         return None
 
 
-class Board:
-    """Whole runs of the board over a base with one message."""
+def looks_at_board(trial, words, typed):
+    """All numbers of one command of the board, each over a base with one message anew."""
+    def look(number):
+        trial.has_letters("general")
+        before = [trial.files(name) for name in ("general", "other")]
+        found, status, is_come = trial.looks_at(number, *words, given=typed)
+        what = f"{' '.join(words)}, allocation {number}"
+        trial.is_changed((found, status) != whole)
+        if words == LOCAL:
+            goes_as_far(trial, what, found, status)
+        elif (found, status) != whole:
+            trial.is_so(what, (found, status), NO_MEMORY)
+            trial.holds(f"{what}: the base is as it was", all(map(trial.keeps, before, ("general", "other"))))
+        return is_come
 
-    def __init__(self, trial):
-        self.trial, self.areas = trial, f"{trial.folder}/areas"
-        trial.has_settings(settings())
-        self.typed = b"".join(lines([word]).ljust(PIECE_BYTES, b"\0") for word in ANSWERED)
-
-    def has_base(self):
-        jam.write_only(self.areas, general=jam.one_message())
-        return self.files()
-
-    def files(self):
-        return {name: jam.read_files(self.areas, name) for name in ("general", "other")}
-
-    def runs(self, words, typed=b""):
-        """All numbers of one command, each over the base anew."""
-        def look(number):
-            before = self.has_base()
-            found, status, is_come = self.trial.refused(number, words, typed)
-            what = f"{' '.join(words)}, allocation {number}"
-            self.trial.is_changed((found, status) != whole)
-            if words[0] == "local":
-                self.session(what, found, status)
-            elif (found, status) != whole:
-                self.trial.is_so(what, (found, status), (b"fault 6 OutOfMemory\n", 6))
-                same = [now[file] == was[file] for now, was in zip(self.files().values(), before.values()) for file in jam.FILES]
-                self.trial.holds(f"{what}: the base is as it was", all(same))
-            return is_come
-
-        self.has_base()
-        whole = self.trial.plain(words, typed)
-        self.trial.is_so(f"{' '.join(words)}: its status", whole[1], 0)
-        return look
-
-    def session(self, what, found, status):
-        """What was sent of a session, and how far it came: the letter read, then marked, then answered."""
-        base = jam.read(self.areas, "general")[0]
-        done = [base.slots[0].head["read"] == 1, len(base.marks) == 16, len(base.slots) == 2]
-        if found == b"fault 6 OutOfMemory\n":
-            self.trial.is_so(f"{what}: nothing is done", (done, status), ([False] * 3, 6))
-            return
-        shown, posted = FIRST.index(b"Message 1"), FIRST.index(b"Posted")
-        steps = sum(done)
-        # what is done was said, or was to be said next
-        least = 3 if len(found) > posted else 2 if len(found) > shown else 0
-        most = 3 if len(found) >= posted else 2 if len(found) >= shown else 0
-        self.trial.is_so(f"{what}: the status of {found!r}", status, 0 if found == FIRST else 6)
-        self.trial.holds(f"{what}: {found!r} is sent", FIRST.startswith(found))
-        self.trial.holds(f"{what}: {found!r} is sent, and {done} done", done == [n < steps for n in range(3)] and least <= steps <= most)
+    trial.has_letters("general")
+    whole = trial.done(*words, typed=typed, limit=LIMIT)[:2]
+    trial.is_so(f"{' '.join(words)}: its status", whole[1], 0)
+    return look
 
 
 COMMANDS = (("help",), ("list", "areas", "general"), ("check", "areas", "general"), ("make", "areas", "other"), ("pack", "areas", "general"),
-            ("relink", "areas", "general"), ("load", "7", "40"), ("local", "board.toml"))
+            ("relink", "areas", "general"), ("load", "7", "40"), LOCAL)
 
 
 def numbers_of(words):
@@ -276,17 +202,14 @@ def numbers_of(words):
 
 
 def main(name, is_built, words):
-    folder = tempfile.mkdtemp(dir=memory_folder())
-    try:
+    with tempfile.TemporaryDirectory(dir=memory_folder()) as folder:
         trial = Refusals(name, folder, is_built)
         if name == "board":
-            board = Board(trial)
+            trial.has_settings(settings())
             for command in COMMANDS:
-                trial.goes_through(numbers_of(words), board.runs(command, board.typed if command[0] == "local" else b""))
+                trial.goes_through(numbers_of(words), looks_at_board(trial, command, one_by_one(ANSWERED) if command == LOCAL else b""))
         else:
             trial.goes_through(numbers_of(words), Table(trial, name).looks)
-    finally:
-        shutil.rmtree(folder)
     print(f"{name}: {trial.numbers} refused allocations were tried, of which {trial.changed} changed what is printed")
     return trial.tells("want of memory")
 

@@ -16,22 +16,15 @@ import re
 import shutil
 import signal
 import socket
-import struct
 import sys
-import tempfile
 import threading
 import time
 
-import jam
+from area import Message, shown
 from caller import GUARD, PLAIN, TALKATIVE, Otherwise
-from served import Served, free_port, has_version_6, is_quiet, low_port, resets, together
-from trial import BY_ANOTHER, settings, with_files, with_limit
-from visits import AREAS, CLIENTS, COUNT, NAMES, SYSOP, Hall, Post, Visit, password_of, users
-
-TOP = os.path.dirname(os.path.dirname(os.path.realpath(__file__)))
-MOST_SESSION_BYTES = 16_777_216
-HOST_FAULT = b"fault 5 HostFault\n"
-GREETING = b"Test Board\r\nName: "
+from harness import (AREAS, BY_ANOTHER, CALLERS, COUNT, GREETING, HOST_FAULT, IN_DOUBT, MOST_SESSION_BYTES, NAMES, NO_WORDS, SYSOP, TOP, Served,
+                     free_port, goes_through, has_version_6, is_quiet, low_port, password_of, resets, settings, together, users, with_files, with_limit)
+from visits import CLIENTS, Hall, Visit
 
 
 def try_callers(trial):
@@ -52,16 +45,10 @@ def try_callers(trial):
     together(visit.caller.quits for visit in visits)
     ninth.reads(b"Test Board\r\nName: Password: Welcome, Grace.\r\nTop> ")
     figures = ninth.reads_to(b"[general] Goodbye.\r\n")
-    seen = len(hall.seen("general", b"Grace"))
-    trial.holds(f"who waited is served: {figures}", figures.startswith(b"%d visible, " % seen))
+    trial.is_so("who waited is served", figures, shown(hall.areas["general"].figures(CALLERS[NAMES.index(b"Grace")])))
     try_ends(trial)
     trial.ends("each node has served two", 0)
-    hall.compares(trial, "eight callers", f"{trial.folder}/areas", since)
-    for k, area in enumerate(AREAS):
-        marks = jam.read(f"{trial.folder}/areas", area)[0].marks
-        wanted = {(jam.crc(visit.name), 11 + visit.n, *visit.marks[area]) for visit in visits}
-        found = list(struct.iter_unpack("<4I", marks))
-        trial.is_so(f"what has been read of {area}", (len(found), set(found)), (COUNT, wanted))
+    hall.compares(trial, "eight callers", since)
     trial.checks("eight callers")
 
 
@@ -112,15 +99,18 @@ class Poster:
 
     def posts(self):
         text = [b"%d of %s" % (self.draw.randrange(10**9), NAMES[self.n]), b"x" * self.draw.randrange(70)]
-        self.under_way = Post(NAMES[self.n], b"All", b"post %d" % self.draw.randrange(10**9), text)
+        self.under_way = Message(NAMES[self.n], b"All", b"post %d" % self.draw.randrange(10**9), text)
         number = self.caller.posts(b"All", self.under_way.subject, text, False, self.prompt)
-        self.hall.adds(self.area, number, self.under_way)
-        self.under_way = None
+        self.is_posted(number)
         self.count += 1
         return number
 
+    def is_posted(self, number):
+        self.hall.adds(self.area, number, self.under_way)
+        self.under_way = None
+
     def kills(self, number):
-        self.killing = self.hall.posts[self.area][number]
+        self.killing = self.hall.areas[self.area].messages[number]
         self.caller.answers(b"k %d" % number, b"Killed %d.\r\n" % number, self.prompt)
         self.killing.is_killed, self.killing = True, None
         if not self.caller.enters(b"x", self.prompt).startswith(b"Packed: "):
@@ -130,24 +120,24 @@ class Poster:
         """What was acknowledged in the last text that came, of which the rest was lost."""
         posted = re.search(rb"Posted as (\d+)\.", self.caller.seen)
         if self.under_way is not None and posted:
-            self.hall.adds(self.area, int(posted[1]), self.under_way)
-            self.under_way = None
+            self.is_posted(int(posted[1]))
         if self.killing is not None and b"Killed " in self.caller.seen:
             self.killing.is_killed, self.killing = True, None
 
     def settles(self, live):
         """Finds out whether what was under way came to be: it did whole, or not at all."""
-        known = self.hall.posts[self.area]
+        known = self.hall.areas[self.area].messages
         if self.under_way is not None:
-            found = [number for number in live if number not in known and live[number].first(6) == self.under_way.subject]
-            known.update((number, self.under_way) for number in found[:1])
+            for number in [it for it in live if it not in known and live[it].first(6) == self.under_way.subject][:1]:
+                self.is_posted(number)
         if self.killing is not None:
             self.killing.is_killed = not any(known[number] is self.killing for number in live if number in known)
 
 
-def try_kills(trial, runs=4):
+def try_kills(trial):
     """The program is ended at drawn moments while callers post, and begun again over the same bases: what was acknowledged is there. The bases
     are new in every tenth run."""
+    runs = int(trial.option.split()[1]) if trial.option else 4
     draw, since = random.Random(16 + runs), int(time.time())
     for turn in range(runs):
         if turn % 10 == 0:
@@ -166,14 +156,14 @@ def try_kills(trial, runs=4):
             time.sleep(0.0005)
         time.sleep(rest)
         is_broken.set()
-        trial.ends(what, -how, how)
+        trial.is_ended(what, how)
         for thread in threads:
             thread.join()
         trial.holds(f"{what}: {many} posts were acknowledged", sum(it.count for it in posters) >= many)
         trial.checks(what)
         for poster in posters:
-            poster.settles(jam.read(f"{trial.folder}/areas", poster.area)[0].live())
-        hall.compares(trial, what, f"{trial.folder}/areas", since)
+            poster.settles(trial.base(poster.area).live())
+        hall.compares(trial, what, since)
 
 
 def try_rude(trial):
@@ -196,9 +186,10 @@ def try_rude(trial):
                 resets(rude.line)
             else:
                 rude.line.close()
-        post = Post(b"Ada", b"All", b"post %d" % n, [b"a line"])
-        hall.adds("general", polite.posts(b"All", post.subject, post.text), post)
-    polite.answers(b"l", b"".join(post.line(number) for number, post in hall.seen("general", b"Ada")[:20]), b"[general] ")
+        message = Message(b"Ada", b"All", b"post %d" % n, [b"a line"])
+        hall.adds("general", polite.posts(b"All", message.subject, message.text), message)
+    area = hall.areas["general"]
+    polite.answers(b"l", area.listed(area.seen(CALLERS[0])[:20]), b"[general] ")
     for thread in (stuffed, flood):
         thread.join(3 * GUARD)
     trial.holds(f"bytes 255 are taken up to the most of a session: {sent}", bool(sent) and sent[0] >= MOST_SESSION_BYTES)
@@ -210,9 +201,9 @@ def try_rude(trial):
     waits.reads(GREETING)
     for caller in [polite] + five:
         caller.quits()
-    trial.ends("after rude callers", -signal.SIGTERM, signal.SIGTERM)
+    trial.is_ended("after rude callers")
     trial.checks("after rude callers")
-    hall.compares(trial, "after rude callers", f"{trial.folder}/areas", since)
+    hall.compares(trial, "after rude callers", since)
 
 
 def stuffs(caller):
@@ -239,23 +230,21 @@ def try_refusals(trial):
     """What keeps a board from being served, by its status and its line; the areas are then as they were."""
     trial.port = free_port()
     trial.has_bases()
-    before = [jam.read_files(f"{trial.folder}/areas", area) for area in AREAS]
+    before = {area: trial.files(area) for area in AREAS}
     words = ("serve", "board.toml")
     for family, host in [(socket.AF_INET, "0.0.0.0"), (socket.AF_INET, "127.0.0.1")] + [(socket.AF_INET6, "::")] * has_version_6():
         with socket.socket(family) as held:
             held.bind((host, trial.port))
             held.listen()
-            trial.is_so(f"a port that another has at {host}", trial.ended(*words), (HOST_FAULT, 5))
+            trial.is_so(f"a port that another has at {host}", trial.ended(*words), HOST_FAULT)
     low = low_port()
     if low is not None:
         trial.has_settings(settings(AREAS, users(), port=low, nodes=COUNT))
         trial.opens_to_all()
-        trial.is_so(f"port {low}, without the right", trial.ended(*words, **BY_ANOTHER), (HOST_FAULT, 5))
-    after = [jam.read_files(f"{trial.folder}/areas", area) for area in AREAS]
-    trial.holds("where a port is refused the areas are as they were", all(
-        was[file] == now[file] for was, now in zip(before, after) for file in jam.FILES) and all(now["jnl"][:1] == b"\0" for now in after))
+        trial.is_so(f"port {low}, without the right", trial.ended(*words, **BY_ANOTHER), HOST_FAULT)
+    trial.holds("where a port is refused the areas are as they were", all(trial.keeps(before[area], area) and trial.is_shut(area) for area in AREAS))
     for path in ("nothing.toml", "areas"):
-        trial.is_so(f"the settings file {path}", trial.ended("serve", path), (HOST_FAULT, 5))
+        trial.is_so(f"the settings file {path}", trial.ended("serve", path), HOST_FAULT)
     trial.has_settings(settings(AREAS, users(), port=trial.port, nodes=33))
     trial.is_so("33 nodes", trial.ended(*words), (b"fault 2.4 OutOfRange nodes\n", 2))
     trial.has_settings(settings(AREAS + ("more",), users(), port=trial.port))
@@ -263,7 +252,7 @@ def try_refusals(trial):
     counts = ("0", "1000001", "+1", "00000000001", "one", "")
     for behind in ((), ("",), ("board.toml", "--calls"), *(("board.toml", "--calls", count) for count in counts), ("board.toml", "--call", "1"),
                    ("board.toml", "1"), ("--calls", "1", "board.toml"), ("board.toml", "--calls", "1", "more")):
-        trial.is_so(f"the words {behind}", trial.ended("serve", *behind), (b"fault 1 Words\n", 1))
+        trial.is_so(f"the words {behind}", trial.ended("serve", *behind), NO_WORDS)
 
 
 def try_doubt(trial):
@@ -273,12 +262,12 @@ def try_doubt(trial):
     trial.begins("--calls", "0000000001", nodes=2, preexec_fn=with_limit(40))
     callers = together((lambda n=n: trial.guest(n)) for n in range(2))
     for caller in callers:
-        trial.is_so("a post into it", caller.writes(b"All", b"it fails", [b"a line"]), b"Store fault: the change is in doubt.\r\n")
+        trial.is_so("a post into it", caller.writes(b"All", b"it fails", [b"a line"]), IN_DOUBT)
     for caller in callers:
         caller.quits()
     trial.ends("a journal that does not grow", 4)
     trial.checks("a journal that does not grow")
-    trial.is_so("nothing was posted", jam.read(f"{trial.folder}/areas", "general")[0].slots, [])
+    trial.is_so("nothing was posted", trial.base().slots, [])
 
 
 def try_few_files(trial):
@@ -290,7 +279,7 @@ def try_few_files(trial):
     served.reads(GREETING)
     files = len(os.listdir(f"/proc/{trial.process.pid}/fd")) - 1
     served.line.close()
-    trial.ends("a run whose files are counted", -signal.SIGTERM, signal.SIGTERM)
+    trial.is_ended("a run whose files are counted")
     trial.begins(preexec_fn=with_files(files + 3))
     callers = [trial.caller(f"caller {n + 1} of 12") for n in range(12)]
     for n in range(0, len(callers), 3):
@@ -303,14 +292,14 @@ def try_few_files(trial):
         last = trial.caller("one who comes when all have left")
         last.reads(GREETING)
         last.line.close()
-    trial.ends("few files", -signal.SIGTERM, signal.SIGTERM)
+    trial.is_ended("few files")
     trial.checks("few files")
 
 
 def try_example(trial):
     """The settings that are shown to an operator, at another port."""
-    shutil.rmtree(f"{trial.folder}/areas")
-    os.mkdir(f"{trial.folder}/areas")
+    shutil.rmtree(trial.areas)
+    os.mkdir(trial.areas)
     trial.is_so("a base is made", trial.ended("make", "areas", "general"), (b"", 0))
     with open(f"{TOP}/examples/board.toml") as file:
         text = file.read()
@@ -322,33 +311,14 @@ def try_example(trial):
     caller.enters(b"1", b"[general] ")
     trial.is_so("the first post", caller.posts(b"Sysop", b"A question", [b"When is the next pack?"]), 1)
     caller.quits()
-    trial.ends("the settings that are shown", -signal.SIGTERM, signal.SIGTERM)
+    trial.is_ended("the settings that are shown")
     trial.is_so("what is then listed", trial.ended("list", "areas", "general"), (b"       1  Ada > Sysop  A question\n", 0))
     trial.begins("--calls", "1", areas=("general",), nodes=4)
     together(lambda: trial.caller("who leaves").line.close() for _ in range(4))
     trial.ends("the same, of which one message is live", 0)
 
 
-def main(program, kills=None):
-    folder = tempfile.mkdtemp()
-    tries = (try_callers, try_kills, try_rude, try_refusals, try_doubt, try_few_files, try_example)
-    if kills is not None:
-        tries = (lambda trial: try_kills(trial, kills),)
-    try:
-        shutil.copy(program, f"{folder}/board")
-        trial = Served(f"{folder}/board", folder)
-        for tried in tries:
-            trial.tells_wrong(tried.__name__, lambda: tried(trial))
-            trial.is_gone()
-    finally:
-        shutil.rmtree(folder)
-    return trial.tells("callers at a port")
-
+TRIES = (try_callers, try_kills, try_rude, try_refusals, try_doubt, try_few_files, try_example)
 
 if __name__ == "__main__":
-    words = sys.argv[1:]
-    if len(words) == 3 and words[1] == "--kills" and words[2].isdigit():
-        sys.exit(main(words[0], int(words[2])))
-    if len(words) != 1:
-        sys.exit(__doc__)
-    sys.exit(main(words[0]))
+    goes_through(Served, "callers at a port", [try_kills] if sys.argv[2:] else TRIES, option=r"--kills \d+", in_memory=False)

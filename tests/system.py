@@ -6,7 +6,7 @@ a pack of texts that are too long together, over files with holes.
 usage: system.py PROGRAM [--all]
 
 The calls are seen by strace; where that is not installed, or may not be used, a line says so, and the rest is tried. The order is that of
-docs/ARCHITECTURE.md, "The way of a key press", and the counts those of crates/jb_journal. Without --all a stop and a failure are tried at
+calls.py, and the counts those of crates/jb_journal. Without --all a stop and a failure are tried at
 the calls of a post alone, and no base with 64 MB of texts is packed.
 """
 import collections
@@ -14,27 +14,15 @@ import fcntl
 import os
 import random
 import re
-import select
-import shutil
 import signal
 import subprocess
-import sys
-import tempfile
-import time
 
 import jam
-from jam import one_message
-from local import GUARD, LIMIT, lines
-from trial import Trial, settings
+from caller import Piped
+from calls import CHANGE, COMMIT, OPENING, TRACED, words_of
+from harness import LIMIT, LOCAL, Runs, goes_through, inject, lines, settings
 
-# all calls that write, sync or rename; the bytes that are told of each are enough to know them by
-TRACED = ("-f", "-y", "-s", "64", "-e", "trace=write,writev,pwrite64,pwritev,pwritev2,ftruncate,truncate,fallocate,fsync,fdatasync,"
-          "sync_file_range,syncfs,sync,msync,rename,renameat,renameat2,unlink,unlinkat,link,linkat,copy_file_range,sendfile,splice")
-CALL = re.compile(r"(?:\d+ +)?(\w+)\((?:\d+<([^>]*)>)?(?:, )?(.*)\) += (-?\d+)")
 DISK_CALLS = ("fsync", "ftruncate", "pwrite64")
-OPENING = "jhr sync, folder sync, jdt sync, jdx sync, jlr sync, jnl sync, "
-CHANGE = r"((?:\w+ (?:len|write), )+)((?:\w+ sync, )+)gate closed, jnl sync, "
-COMMIT = r"jnl len, (?:jnl write, )+jnl sync, gate opened, jnl sync, " + CHANGE
 POST_CALLS = ("jnl len 1, jnl write 1, jnl sync 3, gate opened 1, gate closed 1, jhr len 1, jhr write 2, jhr sync 1, jdt len 1, jdt write 1, "
               "jdt sync 1, jdx len 1, jdx write 1, jdx sync 1")
 ANSWER_CALLS = POST_CALLS.replace("jhr write 2", "jhr write 3")
@@ -43,7 +31,7 @@ PACK_CALLS = POST_CALLS.replace("jhr write 2", "jhr write 1")
 COPIES = "ndt len, folder sync, ndt write, ndt sync, "
 RECOVERY_CALLS = "jhr len 1, jhr write 2, jdt len 1, jdt write 1, jdx len 1, jdx write 1, jhr sync 1, jdt sync 1, jdx sync 1, jlr sync 1, " \
                  "gate closed 1, jnl sync 1"
-LOCAL, LIST, PACK = ("local", "board.toml"), ("list", "areas", "general"), ("pack", "areas", "general")
+LIST, PACK = ("list", "areas", "general"), ("pack", "areas", "general")
 POSTED = ("Test", "abc", "1", "p", "Hello", "more", "n", "a line")
 ANSWERED = ("Hello", "test", "1", "1", "r", "a line")
 PROMPT, ASKED, FAULT = b"[general] ", b"Text, . ends, ! cancels\r\n", b"Store fault"
@@ -52,70 +40,34 @@ MOST_TEXTS, MOST_TEXT = 67_108_864, 1_048_576
 PIPE_BYTES = 4096
 
 
-def may_trace():
-    """Whether strace is there and may be used."""
-    return shutil.which("strace") is not None and subprocess.run(
-        ["strace", "-y", "-o", os.devnull, "true"], stdout=subprocess.DEVNULL, stderr=subprocess.DEVNULL, check=False).returncode == 0
-
-
-def told(line):
-    """A line of strace as a word on a file and what was done to it; none where no call was done."""
-    found = CALL.match(line)
-    if not found:
-        return None
-    call, path, rest, answer = found.groups()
-    if call == "write":
-        return "printed"
-    extension = os.path.splitext(path or "")[1][1:].lower()
-    if answer == "-1":
-        return f"{extension} {call} failed"
-    if call == "fsync":
-        return f"{extension or 'folder'} sync"
-    if call == "ftruncate":
-        return f"{extension} len"
-    if call == "pwrite64" and extension == "jnl" and rest.endswith(", 1, 0"):
-        return {r'"\1"': "gate opened", r'"\0"': "gate closed"}.get(rest[:4], "gate otherwise")
-    return f"{extension} write" if call == "pwrite64" and rest.split(", ")[-2] == answer else f"{extension} {call}"
-
-
-class Calls(Trial):
-    """Runs of the program in one folder, also under strace."""
+class Calls(Runs):
+    """Runs of the program over one base in one folder, also under strace."""
 
     def __init__(self, program, folder):
         super().__init__(program, folder)
-        self.areas = f"{folder}/areas"
         self.has_settings(settings())
 
     def has_base(self, base=None):
         """Only this base, or one with one message, and a journal with a head and a byte behind."""
-        jam.write_only(self.areas, general=base or one_message())
+        jam.write_only(self.areas, general=base or jam.one_message())
         self.has_files({"jnl": bytes(17)})
 
     def has_files(self, files):
-        for extension, data in files.items():
-            with open(f"{self.areas}/general.{extension}", "wb") as file:
-                file.write(data)
-
-    def files(self):
-        return jam.read_files(self.areas, "general")
+        jam.write_files(self.areas, "general", files)
 
     def plain(self, words):
         """What a run prints and its status."""
-        done = subprocess.run([self.program, *words], cwd=self.folder, stdin=subprocess.DEVNULL, stdout=subprocess.PIPE,
-                              stderr=subprocess.DEVNULL, timeout=LIMIT, check=False)
-        return done.stdout, done.returncode
+        return self.done(*words, limit=LIMIT)[:2]
 
-    def traced(self, words, typed=(), inject=()):
+    def session(self, words, typed=(), inject=()):
         """What is printed, the status, and the calls; a session gets its lines, and the end of a text when all before was answered."""
-        trace = f"{self.folder}/trace"
-        with subprocess.Popen(["strace", *TRACED, "-o", trace, *inject, self.program, *words], cwd=self.folder, stdin=subprocess.PIPE,
-                              stdout=subprocess.PIPE, stderr=subprocess.DEVNULL) as child:
-            printed = b""
-            if typed:
-                printed = asks(child, typed, ASKED) + asks(child, (".",), PROMPT)
-            printed += child.communicate(timeout=LIMIT)[0]
-        with open(trace, encoding="latin1") as file:
-            return printed, child.returncode, list(file)
+        caller = Piped(self.starts(*words, under=("strace", "-f", "-y", "-o", f"{self.folder}/trace", *TRACED, *inject), stdin=subprocess.PIPE))
+        for part, end in ((typed, ASKED), ((".",), PROMPT)) if typed else ():
+            begin = len(caller.seen)
+            if caller.types(lines(part)):
+                # where the disk has failed what was asked for need not come
+                caller.takes(lambda seen: seen.endswith(end) or FAULT in seen[begin:])
+        return *caller.leaves(LIMIT), self.trace()
 
     def follows(self, what, calls, order, counts, synced=None):
         """Looks whether these calls come in this order and number, and each file that is changed, or each of these, is synced."""
@@ -127,78 +79,60 @@ class Calls(Trial):
             self.is_so(f"{what}: how many calls", dict(collections.Counter(calls.split(", ")[:-1])), wanted)
 
 
-def asks(child, typed, end):
-    """Types these lines, and gives what comes, up to this end where it comes at all."""
-    try:
-        child.stdin.write(lines(typed))
-        child.stdin.flush()
-    except BrokenPipeError:
-        return b""
-    found, limit = b"", time.monotonic() + GUARD
-    while not found.endswith(end):
-        if FAULT in found:
-            # what was asked for need not come then
-            limit = min(limit, time.monotonic() + 1)
-        ready, _, _ = select.select([child.stdout], [], [], max(0, limit - time.monotonic()))
-        more = os.read(child.stdout.fileno(), 65536) if ready else b""
-        if not more:
-            break
-        found += more
-    return found
-
-
-def words_of(trace):
-    """The calls of a trace, each with a comma behind it."""
-    return "".join(f"{call}, " for call in map(told, trace) if call)
-
-
 def try_calls(trial):
     """A post, an answer, a list, a pack and a recovery make the calls that are told of them, and no others that write."""
     for what, typed, counts in (("an answer", ANSWERED, ANSWER_CALLS), ("a post", POSTED, POST_CALLS)):
         trial.has_base()
         before = trial.files()
-        printed, status, trace = trial.traced(LOCAL, typed)
+        printed, status, trace = trial.session(LOCAL, typed)
         trial.is_so(f"{what}: how it ends", (printed[-25:], status), (b"\nPosted as 2.\r\n" + PROMPT, 0))
         trial.follows(what, words_of(trace).rsplit("printed, ", 2)[1], COMMIT, counts)
-    printed, status, trace = trial.traced(LIST)
+    printed, status, trace = trial.session(LIST)
     trial.is_so("a list", (printed.count(b"\n"), status, words_of(trace)), (2, 0, OPENING + "printed, "))
     done = trial.files()
     trial.has_files(before | {"jnl": b"\1" + done["jnl"][1:]})
-    printed, status, trace = trial.traced(LIST)
+    printed, status, trace = trial.session(LIST)
     trial.is_so("a recovery: how it ends", (printed.count(b"\n"), status), (2, 0))
     trial.follows("a recovery", words_of(trace).removeprefix(OPENING).removesuffix("printed, "), CHANGE, RECOVERY_CALLS, jam.FILES)
     trial.is_so("what a recovery leaves", trial.files(), done)
-    printed, status, trace = trial.traced(PACK)
+    printed, status, trace = trial.session(PACK)
     trial.is_so("a pack: how it ends", (printed, status), (b"Packed: base 1, live 2, dropped 0.\n", 0))
     calls = words_of(trace).removeprefix(OPENING).removesuffix("printed, ")
     trial.is_so("a pack: what it copies first", calls[:len(COPIES)], COPIES)
     trial.follows("a pack", calls[len(COPIES):], COMMIT, PACK_CALLS)
 
 
+def try_all_stops(trial):
+    try_stops(trial, "a post", LOCAL, POSTED, b"Posted as 2.")
+    if trial.option:
+        try_stops(trial, "an answer", LOCAL, ANSWERED, b"Posted as 2.")
+        try_stops(trial, "a pack", PACK, (), b"Packed: ")
+
+
 def try_stops(trial, what, words, typed, printed_after):
     """A run is killed before each of its calls of the disk, or this call fails: what was acknowledged is there, and nothing by half."""
     trial.has_base()
     before, start = trial.plain(LIST)[0], trial.files()
-    printed, _, trace = trial.traced(words, typed)
+    printed, _, trace = trial.session(words, typed)
     trial.holds(f"{what}: it is done", printed_after in printed)
     after, gates = trial.plain(LIST)[0], words_of(trace).count("gate opened, ")
     for call in DISK_CALLS:
         for at in range(1, 1 + sum(call + "(" in line for line in trace)):
             for how in ("signal=KILL", "error=EIO"):
                 trial.has_files(start)
-                printed, status, calls = trial.traced(words, typed, ("-e", f"inject={call}:{how}:when={at}"))
+                printed, status, calls = trial.session(words, typed, inject(call, how, at))
                 where = f"{what}, {call} {at} with {how}"
                 trial.holds(f"{where}: the status {status}", status == (-signal.SIGKILL if how == "signal=KILL" else 4))
                 trial.holds(f"{where}: nothing is acknowledged", printed_after not in printed)
                 # a mark has a gate of its own, before that of the answer
                 wanted = after if words_of(calls).count("gate opened, ") == gates else before
                 trial.is_so(f"{where}: what is listed then", trial.plain(LIST), (wanted, 0))
-                trial.is_so(f"{where}: a check", trial.plain(("check", *LIST[1:])), (jam.figures(jam.read(trial.areas, "general")[0]), 0))
+                trial.is_so(f"{where}: a check", trial.plain(("check", *LIST[1:])), (jam.figures(trial.base()), 0))
 
 
 def many(count, base=None):
     """A base with so many messages."""
-    base = base or one_message()
+    base = base or jam.one_message()
     base.slots = [jam.Message(dict(base.slots[0].head), base.slots[0].fields, b"", 0) for _ in range(count)]
     return base
 
@@ -209,7 +143,7 @@ def try_slow_console(trial):
     trial.has_base(base)
     draw, (taken, given) = random.Random(3), os.pipe()
     fcntl.fcntl(given, fcntl.F_SETPIPE_SZ, PIPE_BYTES)
-    with subprocess.Popen([trial.program, *LIST], cwd=trial.folder, stdin=subprocess.DEVNULL, stdout=given) as child:
+    with trial.starts(*LIST, stdout=given) as child:
         os.close(given)
         found = b""
         while more := os.read(taken, draw.randrange(1, 2000)):
@@ -236,7 +170,7 @@ def has_texts(trial, base, texts, length):
     os.truncate(f"{trial.areas}/general.jdt", length)
 
 
-def try_long_texts(trial, is_all):
+def try_long_texts(trial):
     """A pack of texts that are too long together is refused with their length, and the files stay; one byte less is packed."""
     whole = [(at * MOST_TEXT, MOST_TEXT) for at in range(64)]
     for what, texts, length in (("one byte too many", whole + [(5, 1)], MOST_TEXTS), ("one text for many", [(0, MOST_TEXT)] * 5000, MOST_TEXT)):
@@ -244,33 +178,12 @@ def try_long_texts(trial, is_all):
         before = trial.files()
         trial.is_so(f"a pack, {what}", trial.plain(PACK), (b"fault 3.18 TextFull %d\n" % sum(size for _, size in texts), 3))
         trial.holds(f"a pack, {what}: the files stay", trial.files() == before)
-    if is_all:
+    if trial.option:
         has_texts(trial, many(64), whole, MOST_TEXTS)
         trial.is_so("a pack of all that texts may have", trial.plain(PACK), (b"Packed: base 1, live 64, dropped 0.\n", 0))
         trial.is_so("the texts then", os.path.getsize(f"{trial.areas}/general.jdt"), MOST_TEXTS)
         trial.is_so("a check of them", trial.plain(("check", *LIST[1:]))[1], 0)
 
 
-def main(program, is_all):
-    folder = tempfile.mkdtemp()
-    try:
-        trial = Calls(os.path.realpath(program), folder)
-        if may_trace():
-            try_calls(trial)
-            try_stops(trial, "a post", LOCAL, POSTED, b"Posted as 2.")
-            if is_all:
-                try_stops(trial, "an answer", LOCAL, ANSWERED, b"Posted as 2.")
-                try_stops(trial, "a pack", PACK, (), b"Packed: ")
-        else:
-            print("the calls of the system were not looked at: strace is not installed, or may not be used")
-        try_slow_console(trial)
-        try_long_texts(trial, is_all)
-    finally:
-        shutil.rmtree(folder)
-    return trial.tells("between the program and the system")
-
-
 if __name__ == "__main__":
-    if len(sys.argv) < 2 or sys.argv[2:] not in ([], ["--all"]):
-        sys.exit(__doc__)
-    sys.exit(main(sys.argv[1], bool(sys.argv[2:])))
+    goes_through(Calls, "between the program and the system", (try_slow_console, try_long_texts), (try_calls, try_all_stops), option="--all", in_memory=False)

@@ -7,35 +7,21 @@ The terminal is a pseudo-terminal, on which a shell runs the launcher as a user'
 the status, and which line it reads itself then. Each key is typed when all that the keys before it lead to is shown, and not before. What is to be
 shown is written out here. The files are read by jam.py.
 """
-import fcntl
 import hashlib
 import os
 import pty
-import select
 import shutil
 import signal
 import subprocess
-import sys
-import tempfile
-import termios
 import time
 
-import local
-from jam import PRIVATE, crc, one_message, read_files, write_only
-from local import FIRST, START, ANSWERED, lines
-from trial import USERS, settings
+import jam
+from caller import GUARD, Terminal
+from harness import LOCAL, TOP, USERS, Runs, goes_through, lines, settings
+from jam import PRIVATE, mark
+from visits import ANSWERED, FIRST, START
 
-TOP = os.path.dirname(os.path.dirname(os.path.realpath(__file__)))
-LIMIT = 60
-LOCAL = ("local", "board.toml")
 PASSWORD = b"Zq9#vault"
-SHELL = """
-stty -a >before
-sh -c 'echo $$ >pid; exec "$@"' sh "$@"
-echo $? >status
-stty -a >after
-read -r line && printf %s "$line" >line
-"""
 ERASED = b"\x08 \x08"
 ENTERED = b"Welcome, Hello.\r\nTop> "
 OPENED = b"1 visible, 1 unread.\r\n[general] "
@@ -43,103 +29,44 @@ LETTER = b"Message 1\r\nFrom: Test\r\nTo: Hello\r\nSubject: abc\r\nDate: 2001-09
 HUNG_UP = b"\nboard: hung up\n"
 
 
-class Terminal:
-    """A terminal with a shell that runs the launcher with these words, and what it shows."""
+class Launched(Runs):
+    """Runs of the launcher on a terminal, in a copy of the repository with nothing but it, for which this program serves the sources."""
+
+    def __init__(self, program, folder):
+        top = f"{folder}-top"
+        super().__init__(f"{top}/crates/board/out/board", folder)
+        self.launcher = f"{top}/board"
+        for path in ("board", "crates.txt", ".ci/on_terminal", ".ci/program.sh", "crates/board/out/board"):
+            os.makedirs(os.path.dirname(f"{top}/{path}"), exist_ok=True)
+            shutil.copy(program if path.startswith("crates/") else f"{TOP}/{path}", f"{top}/{path}")
+        with open(f"{self.program}.serves", "w") as file:
+            file.write("crates/board/out/board\n")
+
+
+class Seen(Terminal):
+    """A session on a terminal of the user Hello."""
 
     def __init__(self, trial, what, words=LOCAL):
-        self.trial, self.what, self.shown, self.is_well = trial, what, b"", True
-        for name in ("before", "after", "status", "pid", "line"):
-            if os.path.exists(f"{trial.folder}/{name}"):
-                os.remove(f"{trial.folder}/{name}")
-        self.keyboard, side = pty.openpty()
-        self.shell = subprocess.Popen(["sh", "-c", SHELL, "sh", trial.launcher, *words], cwd=trial.folder, stdin=side, stdout=side,
-                                      stderr=side, start_new_session=True, preexec_fn=lambda: fcntl.ioctl(0, termios.TIOCSCTTY, 0))
-        os.close(side)
-
-    def told(self, name):
-        """What the shell wrote down, or None."""
-        path = f"{self.trial.folder}/{name}"
-        return open(path, encoding="utf-8", errors="replace").read() if os.path.exists(path) else None
-
-    def shows(self, text):
-        """Reads until as much is shown as this text has, and looks whether it is the text; the terminal puts a CR before each LF."""
-        end, seen, wanted = time.monotonic() + LIMIT, b"", text.replace(b"\n", b"\r\n")
-        while len(seen) < len(wanted) and select.select([self.keyboard], [], [], max(0, end - time.monotonic()))[0]:
-            try:
-                seen += os.read(self.keyboard, len(wanted) - len(seen))
-            except OSError:
-                break
-        self.shown += seen
-        self.is_well = self.is_well and self.trial.is_so(f"{self.what}: what is shown", seen, wanted)
-        return self.is_well
-
-    def types(self, keys, echoes, then=b""):
-        """Types these keys, each with its echo before the next, and looks whether this is shown behind the last."""
-        for n, (key, echo) in enumerate(zip(keys, echoes)):
-            os.write(self.keyboard, key)
-            if not self.shows(echo + (then if n == len(keys) - 1 else b"")):
-                return False
-        return True
-
-    def enters(self, line, then=b"", mask=None):
-        """Types a line and the key that ends it."""
-        keys = [line[n:n + 1] for n in range(len(line))]
-        return self.types(keys + [b"\r"], [mask or key for key in keys] + [b"\r\n"], then)
+        super().__init__(trial, what, words)
 
     def logs_in(self):
         return (self.shows(START[6:]) and self.enters(b"Hello", b"Password: ") and self.enters(PASSWORD, ENTERED, b"*")
                 and self.enters(b"1", OPENED))
 
-    def process(self):
-        """The launcher's, which the shell runs."""
-        return int(self.told("pid"))
-
-    def program(self):
-        """The program's, which the launcher runs."""
-        for name in filter(str.isdigit, os.listdir("/proc")):
-            try:
-                if os.readlink(f"/proc/{name}/exe") == self.trial.program:
-                    return int(name)
-            except OSError:
-                continue
-        raise ProcessLookupError
-
-    def waits(self, is_so):
-        end = time.monotonic() + LIMIT
-        while not is_so() and time.monotonic() < end:
-            time.sleep(0.01)
-        return is_so()
-
-    def ends(self, status, then=b""):
-        """Looks whether the launcher ends so with this shown behind all, and leaves the terminal, and the next line, to the shell."""
-        if not self.is_well or not self.shows(then):
-            self.shell.kill()
-        elif not self.trial.holds(f"{self.what}: no end in {LIMIT} seconds", self.waits(lambda: self.told("after"))):
-            self.shell.kill()
-        else:
-            os.write(self.keyboard, b"what comes next\n")
-            self.waits(lambda: self.shell.poll() is not None)
-            self.shell.kill()
-            self.trial.is_so(f"{self.what}: the status", self.told("status"), f"{status}\n")
-            self.trial.is_so(f"{self.what}: the terminal", self.told("after"), self.told("before"))
-            self.trial.is_so(f"{self.what}: what the shell reads then", self.told("line"), "what comes next")
-        self.shell.wait()
-        os.close(self.keyboard)
-
 
 def has_letter(trial, text=b"Good\r"):
     """A base with one letter to Hello, who has a password of their own."""
     trial.has_settings(settings().replace(USERS[1][3], hashlib.sha256(PASSWORD).hexdigest()))
-    base = one_message()
+    base = jam.one_message()
     base.slots[0].text = text
-    write_only(trial.areas, general=base)
+    jam.write_only(trial.areas, general=base)
 
 
 def try_session(trial):
     """A caller logs in, lists, reads, answers, posts, marks and leaves."""
     has_letter(trial)
     since = int(time.time())
-    seen = Terminal(trial, "a session")
+    seen = Seen(trial, "a session")
     well = (seen.shows(START[6:])
             and seen.types([b"H", b"o", b"\x7f", b"e", b"l", b"\x08", b"l", b"l", b"o", b"\r"],
                            [b"H", b"o", ERASED, b"e", b"l", ERASED, b"l", b"l", b"o", b"\r\n"], b"Password: ")
@@ -168,13 +95,13 @@ def try_session(trial):
                 ([third.first(kind) for kind in (2, 3, 6)], third.text, third.head["reply_to"], third.head["attribute"] & PRIVATE),
                 ([b"Hello", b"Sysop", b"secret"], b"hush\r", 0, PRIVATE))
     trial.holds("they were written now", all(since <= letter.head["written"] <= time.time() for letter in (second, third)))
-    trial.is_so("the mark", base.marks, b"".join(n.to_bytes(4, "little") for n in (crc(b"Hello"), 8, 3, 3)))
+    trial.is_so("the mark", base.marks, mark(b"Hello", 8, 3, 3))
 
 
 def try_bytes(trial):
     """Bytes 255 are shown and typed as they are."""
     has_letter(trial, b"a\xffb\xff\xffc\xff\xff\xff\r")
-    seen = Terminal(trial, "bytes 255")
+    seen = Seen(trial, "bytes 255")
     if (seen.logs_in() and seen.enters(b"1", LETTER % b"a\xffb\xff\xffc\xff\xff\xff")
             and seen.enters(b"r", b"Reply to Test, subject Re: abc\r\nText, . ends, ! cancels\r\n")
             and seen.enters(b"\xff\xff\xf6 \xff") and seen.enters(b".", b"Posted as 2.\r\n[general] ")):
@@ -193,30 +120,28 @@ def try_ends(trial):
             ("HUP", lambda seen: os.kill(seen.process(), signal.SIGHUP), 0, HUNG_UP),
             ("a killed program", lambda seen: os.kill(seen.program(), signal.SIGKILL), 137, b"")):
         has_letter(trial)
-        before = read_files(trial.areas, "general")
-        seen = Terminal(trial, what)
+        before = trial.files()
+        seen = Seen(trial, what)
         if (seen.logs_in() and seen.enters(b"p", b"To: ") and seen.enters(b"Sysop", b"Subject: ") and seen.enters(b"all", b"Private (Y/N): ")
                 and seen.enters(b"n", b"Text, . ends, ! cancels\r\n") and seen.enters(b"a line") and seen.types([b"x"], [b"x"])):
             end(seen)
         seen.ends(status, then)
-        after = read_files(trial.areas, "general")
-        trial.holds(f"{what}: the base is as it was",
-                    all(before[file] == after[file] for file in ("jhr", "jdt", "jdx", "jlr")) and after["jnl"][:1] == b"\0")
+        trial.holds(f"{what}: the base is as it was", trial.keeps(before) and trial.is_shut())
 
     has_letter(trial)
-    seen = Terminal(trial, "a window that is closed")
+    seen = Seen(trial, "a window that is closed")
     if seen.logs_in() and seen.enters(b"k 1", b"Killed 1.\r\n[general] "):
         trial.is_so("a window that is closed: how many letters are left", len(trial.base().live()), 0)
     os.close(seen.keyboard)
     seen.shell.wait()
     gone = seen.waits(lambda: not os.path.exists(f"/proc/{seen.process()}"))
-    trial.holds("a window that is closed: the end", gone and read_files(trial.areas, "general")["jnl"][:1] == b"\0")
+    trial.holds("a window that is closed: the end", gone and trial.is_shut())
 
 
 def try_refusals(trial):
     """What is refused, with its status."""
     has_letter(trial)
-    seen = Terminal(trial, "three wrong passwords")
+    seen = Seen(trial, "three wrong passwords")
     if seen.shows(START[6:]):
         for then in (b"Name: ", b"Name: ", b"Goodbye.\r\n"):
             well = seen.enters(b"Hello", b"Password: ") and seen.enters(b"wrong", b"Login incorrect.\r\n" + then, b"*")
@@ -235,16 +160,16 @@ def try_refusals(trial):
 def refuses(trial, what, words, status, *said):
     """Looks whether a run is refused so: it shows what it does without a terminal, and all of this is said there."""
     done = subprocess.run([trial.launcher, *words], cwd=trial.folder, stdin=subprocess.DEVNULL, stdout=subprocess.PIPE, stderr=subprocess.STDOUT,
-                          timeout=LIMIT, check=False)
+                          timeout=GUARD, check=False)
     trial.holds(f"{what}: {done.stdout}, where {said} are wanted", all(it in done.stdout for it in said))
-    Terminal(trial, what, words).ends(status, done.stdout)
+    Seen(trial, what, words).ends(status, done.stdout)
 
 
 def try_pipes(trial):
     """Where one side is no terminal, what is read and sent is the program's alone."""
     trial.has_settings(settings())
-    trial.has_base("general")
-    words, run = [trial.launcher, "local", "board.toml"], {"cwd": trial.folder, "timeout": LIMIT, "check": False}
+    trial.has_letters("general")
+    words, run = [trial.launcher, "local", "board.toml"], {"cwd": trial.folder, "timeout": GUARD, "check": False}
     done = subprocess.run(words, input=lines(ANSWERED), capture_output=True, **run)
     trial.is_so("pipes", (done.stdout, done.stderr, done.returncode), (FIRST, b"", 0))
     keyboard, side = pty.openpty()
@@ -257,31 +182,5 @@ def try_pipes(trial):
     os.close(keyboard)
 
 
-def launch(folder, program):
-    """A copy of the repository with nothing but the launcher, for which this program serves the sources."""
-    for path in ("board", "crates.txt", ".ci/on_terminal", ".ci/program.sh", "crates/board/out/board"):
-        os.makedirs(os.path.dirname(f"{folder}/{path}"), exist_ok=True)
-        shutil.copy(program if path.startswith("crates/") else f"{TOP}/{path}", f"{folder}/{path}")
-    with open(f"{folder}/crates/board/out/board.serves", "w") as file:
-        file.write("crates/board/out/board\n")
-    return f"{folder}/board", f"{folder}/crates/board/out/board"
-
-
-def main(program):
-    folder = os.path.realpath(tempfile.mkdtemp())
-    try:
-        launcher, copied = launch(f"{folder}/top", program)
-        os.mkdir(f"{folder}/run")
-        trial = local.Sessions(copied, f"{folder}/run")
-        trial.launcher = launcher
-        for tried in (try_session, try_bytes, try_ends, try_refusals, try_pipes):
-            tried(trial)
-    finally:
-        shutil.rmtree(folder)
-    return trial.tells("a session on a terminal")
-
-
 if __name__ == "__main__":
-    if len(sys.argv) != 2:
-        sys.exit(__doc__)
-    sys.exit(main(sys.argv[1]))
+    goes_through(Launched, "a session on a terminal", (try_session, try_bytes, try_ends, try_refusals, try_pipes), in_memory=False)

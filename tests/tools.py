@@ -12,26 +12,20 @@ import re
 import shutil
 import signal
 import struct
-import subprocess
-import sys
-import tempfile
 import time
 from random import Random
 
 import jam
-import reader
+from bases import small_base, waiting_base, whole_base
+from calls import COMMIT, OPENING, words_of
 from caller import GUARD
-from damage import header, small_base, subfields, waiting_base, whole_base
-from local import ANSWERED, FIRST, PIECE_BYTES, START, WRONG, lines
-from served import Served, resets
-from system import COMMIT, OPENING, may_trace, words_of
-from trial import OFFERS, memory_folder, settings
+from harness import (ALREADY_THERE, GREETING, HOST_FAULT, LOCAL, NO_WORDS, OFFERS, SHORT_HEADER, STORE_FAULT, TOOLS, Served, goes_through, inject, lines,
+                     one_by_one, resets, settings)
+from jam import EMPTY, JDT, JDX, JHR, JLR, crc, fixed_header, header, journal_of, subfields
+from visits import ANSWERED, FIRST, LISTED, LISTED_ANSWER, START, WRONG
 
-TOOLS = ("list", "check", "pack", "relink")
-LISTED, WAYS = b"       1  Test > Hello  abc\n", ("signal=KILL", "error=EIO")
+WAYS = ("signal=KILL", "error=EIO")
 FIGURES = b"base %d\nnext %d\nlive %d\nkilled %d\nempty %d\nmsgids %d\nlinked %s\n"
-STORE_FAULT, HOST_FAULT, NO_WORDS = (b"fault 4 StoreFault\n", 4), (b"fault 5 HostFault\n", 5), (b"fault 1 Words\n", 1)
-SHORT, THERE = (b"fault 3.1 ShortHeader\n", 3), (b"fault 3.17 AlreadyThere\n", 3)
 # the seconds for which a door asks the system for a caller that it cannot let in
 SECONDS = 600
 HELP = b"".join(b"board %s\n" % form for form in (
@@ -60,46 +54,32 @@ DAMAGES = (
     ("jhr", 20, b"\xff" * 4, "3.7 NumberRange"), ("jdx", 5, b"\3", "3.8 HeaderPlace 1"), ("jhr", 1024, b"X", "3.9 HeaderSignature 1"),
     ("jhr", 1028, b"\2", "3.10 HeaderRevision 1"), ("jhr", 1032, b"\x3f", "3.11 Subfields 1 53"), ("jhr", 1088, b"\6", "3.12 TextPlace 1"),
     ("jdx", 8, b"yY\xef\xc9\0\4\0\0", "3.13 HeadersOverlap 1 2"), ("jnl", 0, b"\1" + bytes(16), "3.14 BadJournal 16"))
-
-
-def record(lengths, *pieces):
-    """A journal with an open gate and a record: new lengths by file, and pieces of a file, a place and bytes."""
-    return (b"\1" + bytes(15) + b"JBJ1" + struct.pack("<I", len(lengths)) + b"".join(struct.pack("<II", *it) for it in lengths)
-            + struct.pack("<I", len(pieces)) + b"".join(struct.pack("<4BII", 0, file, 0, 0, at, len(data)) + data for file, at, data in pieces) + b"JBJE")
-
-
-JHR, JDT, JDX, JLR = range(4)
-NEW_SUBJECT = record((), (JHR, 1161, b"xyz"))
-FILLING, EMPTYING, ODD_INDEX = record([(JLR, 4)], (JLR, 0, b"mark")), record([(JDT, 0)]), record([(JDX, 4)], (JDX, 0, b"\xff" * 4))
-
-
-def fixed(counter, live, number):
-    return b"JAM\0" + struct.pack("<5I", 10**9, counter, live, jam.EMPTY, number) + bytes(1000)
+NEW_SUBJECT, EMPTYING = journal_of([(JHR, 1161, b"xyz")]), journal_of([], [(JDT, 0)])
+FILLING, ODD_INDEX = journal_of([(JLR, 0, b"mark")], [(JLR, 4)]), journal_of([(JDX, 0, b"\xff" * 4)], [(JDX, 4)])
 
 
 def message(**values):
     """The message of the small base, or one that differs in these fields."""
-    fields = subfields((2, b"Test"), (3, b"Hello"), (4, b"2:5020/1042 01000001"), (6, b"abc"))
-    return header(fields, **{"number": 1, "length": 5, "attribute": 0x00800001, "written": 10**9} | values)
+    return jam.files_of(jam.one_message(**values))["jhr"][1024:]
 
 
 def four_slots(**values):
     """Numbers 5 to 8: a message behind a killed one, the killed one, and two that are empty."""
-    killed = header(b"", number=2, length=5, attribute=0x80800001, subfields=jam.EMPTY, offset=jam.EMPTY, written=10**9)
-    index = struct.pack("<IIII", jam.crc(b"Hello"), 1100, 2, 1024) + b"\xff" * 16
-    return {"jhr": fixed(1, 1, 5) + killed + message(**values), "jdt": b"Good\r", "jdx": index}
+    killed = header(b"", number=2, length=5, attribute=0x80800001, subfields=EMPTY, offset=EMPTY, written=10**9)
+    index = struct.pack("<IIII", crc(b"Hello"), 1100, 2, 1024) + b"\xff" * 16
+    return {"jhr": fixed_header(5, 1, 1) + killed + message(**values), "jdt": b"Good\r", "jdx": index}
 
 
 def two_messages(is_mixed):
     """The message and one from a name with a control character and UTF-8, without a subject; mixed, these are the numbers 4 and 1, behind one another
     in the other order, with an empty slot and a killed message between."""
     second = header(subfields((2, b"A\x07\xc3\xa9"), (3, b"Bob")), number=2, attribute=0x00800001, written=10**9)
-    first, other = jam.crc(b"Hello"), jam.crc(b"Bob")
+    first, other = crc(b"Hello"), crc(b"Bob")
     if not is_mixed:
-        return {"jhr": fixed(2, 2, 1) + message() + second, "jdt": b"Good\r", "jdx": struct.pack("<4I", first, 1024, other, 1164)}
+        return {"jhr": fixed_header(1, 2, 2) + message() + second, "jdt": b"Good\r", "jdx": struct.pack("<4I", first, 1024, other, 1164)}
     killed = header(b"", number=3, length=5, attribute=0x80800001, subfields=64, written=10**9)
-    return {"jhr": fixed(2, 2, 1) + message() + b"dead" + second + killed, "jdt": b"Good\r",
-            "jdx": struct.pack("<8I", other, 1168, 0, jam.EMPTY, 0, 1267, first, 1024)}
+    return {"jhr": fixed_header(1, 2, 2) + message() + b"dead" + second + killed, "jdt": b"Good\r",
+            "jdx": struct.pack("<8I", other, 1168, 0, EMPTY, 0, 1267, first, 1024)}
 
 
 def put(files, extension, place, data):
@@ -110,7 +90,7 @@ def put(files, extension, place, data):
 
 def whole(files):
     """All six files, of which those that are not there are empty."""
-    return {extension: files.get(extension, b"") for extension in reader.FILES}
+    return {extension: files.get(extension, b"") for extension in jam.ALL_FILES}
 
 
 def of_base(files):
@@ -122,31 +102,29 @@ class Tools(Served):
     """Runs of the tools on one base in one folder, also under strace."""
 
     def path(self, extension):
-        return f"{self.folder}/areas/general.{extension.upper()}"
+        return f"{self.areas}/general.{extension.upper()}"
 
     def has(self, files):
         """Only a base of these files."""
-        shutil.rmtree(f"{self.folder}/areas", ignore_errors=True)
-        os.mkdir(f"{self.folder}/areas")
-        for extension, data in files.items():
-            with open(self.path(extension), "wb") as file:
-                file.write(data)
+        jam.write_only(self.areas)
+        jam.write_files(self.areas, "general", files, str.upper)
 
     def there(self):
         """The files that are there."""
-        return {it: open(self.path(it), "rb").read() for it in reader.FILES if os.path.exists(self.path(it))}
+        return {it: open(self.path(it), "rb").read() for it in jam.ALL_FILES if os.path.exists(self.path(it))}
 
-    def files(self):
+    def held(self):
         """What all six files hold."""
         return whole(self.there())
 
-    def base(self):
+    def held_base(self):
         """What the four files of the base hold."""
-        return of_base(self.files())
+        return of_base(self.there())
 
-    def paths(self):
-        """All that a tool may sync."""
-        return [f"{self.folder}/areas", *map(self.path, reader.FILES)]
+    def upon(self, calls, *paths):
+        """The words of strace for these calls upon these paths, or all that a tool may sync."""
+        paths = paths or (self.areas, *map(self.path, jam.ALL_FILES))
+        return *(word for path in paths for word in ("-P", path)), "-e", f"trace={calls}"
 
     def tool(self, word):
         return self.ended(word, "areas", "general")
@@ -155,30 +133,17 @@ class Tools(Served):
         """Looks whether a tool prints this and has this status: what it prints, if it is done."""
         return self.is_so(f"{what}: {word}", self.tool(word), answer if isinstance(answer, tuple) else (answer, 0))
 
-    def traced(self, words, paths, calls, inject=(), **run):
-        """What is printed, the status, and the lines of a trace of these calls upon these paths."""
-        paths = [word for path in paths for word in ("-P", path)]
-        run = {"cwd": self.folder, "stdin": subprocess.DEVNULL, "stdout": subprocess.PIPE, "stderr": subprocess.DEVNULL, "timeout": GUARD, **run}
-        done = subprocess.run(["strace", "-f", "-y", "-o", f"{self.folder}/trace", *paths, "-e", f"trace={calls}", *inject, self.program, *words],
-                              check=False, **run)
-        return done.stdout, done.returncode, self.trace()
-
-    def trace(self):
-        with open(f"{self.folder}/trace", encoding="latin1") as file:
-            return list(file)
-
     def stopped(self, word, calls, hows):
         """A tool over the files as they are now, once for each of these calls that it makes of them and each of these ways: it is killed before the call,
         or the call fails. Each run with what is printed and its status; the files are then as it left them."""
         start = self.there()
-        trace = self.traced((word, "areas", "general"), self.paths(), ",".join(calls))[2]
+        trace = self.traced(word, "areas", "general", by=self.upon(",".join(calls)))[2]
         for call in calls:
             made = [line for line in trace if re.match(rf"\d+ +{call}\(", line)]
             for at in range(1, len(made) + 1):
                 for how in hows:
                     self.has(start)
-                    inject = ("-e", f"inject={call}:{how}:when={at}")
-                    printed, status, _ = self.traced((word, "areas", "general"), self.paths(), call, inject)
+                    printed, status, _ = self.traced(word, "areas", "general", by=(*self.upon(call), *inject(call, how, at)))
                     yield f"{word}, {call} {at} with {how}", printed, status
 
 
@@ -199,7 +164,7 @@ def try_words(trial):
     with open("/dev/full", "wb") as full:
         for name, status in (("general", 5), ("nothing", 3)):
             trial.is_so(f"a list of {name} that cannot be printed", trial.done("list", "areas", name, stdout=full)[1], status)
-    trial.holds("they leave the base", trial.files() == whole(small_base()))
+    trial.holds("they leave the base", trial.held() == whole(small_base()))
 
 
 def try_tools(trial):
@@ -208,11 +173,11 @@ def try_tools(trial):
     both = LISTED + b"       2  A?\xc3\xa9 > Bob  \n"
     mixed = b"       1  A?\xc3\xa9 > Bob  \n       4  Test > Hello  abc\n"
     wrong = four_slots(reply_to=9)
-    packed = fixed(2, 1, 5) + message(number=5), jam.crc(b"Hello").to_bytes(4, "little") + b"\0\4\0\0" + b"\xff" * 24
+    packed = fixed_header(5, 2, 1) + message(number=5), crc(b"Hello").to_bytes(4, "little") + b"\0\4\0\0" + b"\xff" * 24
     for what, files, runs, then in (
             ("one message", small_base(), [("list", LISTED), ("check", one), ("relink", b"Relinked: 0 changed.\n")], {}),
             ("one message", small_base(), [("pack", b"Packed: base 1, live 1, dropped 0.\n"), ("check", one), ("list", LISTED)], None),
-            ("no message", {"jhr": fixed(0, 0, 1)}, [("list", b""), ("check", FIGURES % (1, 1, 0, 0, 0, 0, b"yes"))], {}),
+            ("no message", {"jhr": fixed_header()}, [("list", b""), ("check", FIGURES % (1, 1, 0, 0, 0, 0, b"yes"))], {}),
             ("two messages", two_messages(False), [("list", both)], {}), ("mixed messages", two_messages(True), [("list", mixed)], {}),
             ("four slots", four_slots(), [("list", LISTED.replace(b"1", b"5", 1)), ("check", FIGURES % (*four, 1, 2, 1, b"yes"))], {}),
             ("a wrong link", wrong, [("check", FIGURES % (*four, 1, 2, 1, b"no")), ("relink", b"Relinked: 1 changed.\n"),
@@ -227,7 +192,7 @@ def try_tools(trial):
             trial.answers(what, word, text)
         if then is not None:
             wanted = of_base(files | then)
-            trial.is_so(f"{what}: which files are others", [it for it, data in trial.base().items() if data != wanted[it]], [])
+            trial.is_so(f"{what}: which files are others", [it for it, data in trial.held_base().items() if data != wanted[it]], [])
 
 
 def try_refusals(trial):
@@ -235,35 +200,35 @@ def try_refusals(trial):
     cases = [(f".{extension} at {place}", put(small_base(), extension, place, data), line) for extension, place, data, line in DAMAGES]
     cases += [("no header file", {"jdt": b"Good\r"}, "3.1 ShortHeader"), ("an empty header file", {"jlr": b"12345"}, "3.1 ShortHeader"),
               ("a journal alone", {"jnl": b"\1" * 17}, "3.14 BadJournal 16"),
-              ("a record that is cut off", {"jhr": fixed(0, 0, 1), "jnl": ODD_INDEX[:-1]}, "3.14 BadJournal 52"),
-              ("a cut of all files", {"jhr": fixed(0, 0, 1)[:20], "jdt": b"text", "jdx": b"index!!", "jlr": b"x"}, "3.1 ShortHeader")]
+              ("a record that is cut off", {"jhr": fixed_header(), "jnl": ODD_INDEX[:-1]}, "3.14 BadJournal 52"),
+              ("a cut of all files", {"jhr": fixed_header()[:20], "jdt": b"text", "jdx": b"index!!", "jlr": b"x"}, "3.1 ShortHeader")]
     for what, files, line in cases:
-        for word in (*TOOLS, "make"):
+        for word in TOOLS:
             trial.has(files)
-            answer = THERE if word == "make" and "Journal" not in line else (f"fault {line}\n".encode(), 3)
+            answer = ALREADY_THERE if word == "make" and "Journal" not in line else (f"fault {line}\n".encode(), 3)
             trial.answers(what, word, answer)
-            trial.holds(f"{what}: {word} leaves the files", trial.files() == whole(files))
+            trial.holds(f"{what}: {word} leaves the files", trial.held() == whole(files))
 
 
 def try_waiting(trial):
     """Each tool does first what waits in the journal, and leaves the gate closed; also where the base is refused then."""
-    answers = {"list": LISTED.replace(b"abc", b"xyz"), "check": FIGURES % (1, 2, 1, 0, 0, 1, b"yes"), "make": THERE,
+    answers = {"list": LISTED.replace(b"abc", b"xyz"), "check": FIGURES % (1, 2, 1, 0, 0, 1, b"yes"), "make": ALREADY_THERE,
                "pack": b"Packed: base 1, live 1, dropped 0.\n", "relink": b"Relinked: 0 changed.\n"}
     for word, answer in answers.items():
         trial.has(small_base() | {"jnl": NEW_SUBJECT})
         trial.answers("a new subject waits", word, answer)
-        then = trial.files()
+        then = trial.held()
         trial.is_so(f"a new subject waits: what {word} leaves", (then["jhr"][1161:], then["jnl"][:1]), (b"xyz", b"\0"))
-        trial.has({"jhr": fixed(0, 0, 1), "jnl": ODD_INDEX})
-        trial.answers("an odd index waits", word, THERE if word == "make" else (b"fault 3.4 IndexLength\n", 3))
-        trial.is_so(f"an odd index waits: what {word} leaves", (trial.files()["jdx"], trial.files()["jnl"][:1]), (b"\xff" * 4, b"\0"))
+        trial.has({"jhr": fixed_header(), "jnl": ODD_INDEX})
+        trial.answers("an odd index waits", word, ALREADY_THERE if word == "make" else (b"fault 3.4 IndexLength\n", 3))
+        trial.is_so(f"an odd index waits: what {word} leaves", (trial.held()["jdx"], trial.held()["jnl"][:1]), (b"\xff" * 4, b"\0"))
 
 
 def is_new(trial, what, since):
     """Looks whether the base is one that was made now: .JHR by its bytes, and the others empty, but for the journal behind a closed gate."""
-    found = trial.files()
+    found = trial.held()
     made = struct.unpack_from("<I", found["jhr"].ljust(8, b"\0"), 4)[0]
-    wanted = put({"jhr": fixed(0, 0, 1)}, "jhr", 4, struct.pack("<I", made))
+    wanted = put({"jhr": fixed_header()}, "jhr", 4, struct.pack("<I", made))
     trial.holds(f"{what}: when it was made: {made}", since <= made <= time.time())
     trial.holds(f"{what}: the files of a new base", {**found, "jnl": b""} == whole(wanted))
     trial.is_so(f"{what}: the gate", found["jnl"][:1], b"\0")
@@ -272,30 +237,30 @@ def is_new(trial, what, since):
 def try_make(trial):
     """A base is made where nothing is, or where a record takes away what is there, is used, and is not made again."""
     since = int(time.time())
-    shutil.rmtree(f"{trial.folder}/areas")
+    shutil.rmtree(trial.areas)
     trial.answers("no folder", "make", STORE_FAULT)
     for what, files in (("nothing", {}), ("empty files", whole({})), ("a record that empties", {"jdt": b"text", "jnl": EMPTYING})):
         trial.has(files)
         trial.answers(what, "make", b"")
         is_new(trial, what, since)
-        for word, answer in (("list", b""), ("relink", b"Relinked: 0 changed.\n"), ("make", THERE)):
+        for word, answer in (("list", b""), ("relink", b"Relinked: 0 changed.\n"), ("make", ALREADY_THERE)):
             trial.answers(what, word, answer)
         is_new(trial, what, since)
         trial.answers(what, "pack", b"Packed: base 1, live 0, dropped 0.\n")
     for extension in jam.FILES:
         trial.has({extension: b"x"})
-        trial.answers(f"a byte in .{extension}", "make", THERE)
-        trial.holds(f"a byte in .{extension}: nothing is written", trial.files() == whole({extension: b"x"}))
+        trial.answers(f"a byte in .{extension}", "make", ALREADY_THERE)
+        trial.holds(f"a byte in .{extension}: nothing is written", trial.held() == whole({extension: b"x"}))
     trial.has({"jnl": FILLING})
-    trial.answers("a record that fills", "make", THERE)
-    trial.is_so("a record that fills: what it leaves", trial.base(), {"jhr": b"", "jdt": b"", "jdx": b"", "jlr": b"mark"})
+    trial.answers("a record that fills", "make", ALREADY_THERE)
+    trial.is_so("a record that fills: what it leaves", trial.held_base(), {"jhr": b"", "jdt": b"", "jdx": b"", "jlr": b"mark"})
 
 
 def try_calls(trial):
     """The calls of a make that sync, set a length or write, as many as they are told to be and in their order; where it is refused it only syncs."""
-    for what, files, wanted in (("a base is made", {}, b""), ("a base is there", {"jlr": b"x"}, THERE[0])):
+    for what, files, wanted in (("a base is made", {}, b""), ("a base is there", {"jlr": b"x"}, ALREADY_THERE[0])):
         trial.has(whole(files))
-        printed, status, trace = trial.traced(("make", "areas", "general"), trial.paths(), "fsync,ftruncate,pwrite64")
+        printed, status, trace = trial.traced("make", "areas", "general", by=trial.upon("fsync,ftruncate,pwrite64"))
         trial.is_so(f"{what}: how it ends", (printed, status), (wanted, 3 if wanted else 0))
         calls = words_of(trace).replace("folder sync, ", "")
         opening = OPENING.replace("folder sync, ", "") + "ndt sync, "
@@ -319,8 +284,8 @@ def try_faults(trial):
     trial.has(files)
     count = 0
     for what, printed, status in trial.stopped("list", ("fsync", "statx", "pread64"), WAYS[1:]):
-        trial.is_so(f"{what}: how it ends", (printed, status), (b"       1  Test > Hello  abc\n", 0) if LOOKS.search(what) else STORE_FAULT)
-        trial.holds(f"{what}: the files stay", trial.files() == whole(files))
+        trial.is_so(f"{what}: how it ends", (printed, status), (LISTED, 0) if LOOKS.search(what) else STORE_FAULT)
+        trial.holds(f"{what}: the files stay", trial.held() == whole(files))
         count += 1
     trial.holds(f"a list: {count} calls were made to fail, where it has 13 of the disk at least", count >= 13)
 
@@ -334,8 +299,8 @@ def try_stopped_makes(trial):
             if not LOOKS.search(what) or status:
                 trial.is_so(f"{what}: how it ends", (printed, status), STORE_FAULT if "error" in what else (b"", -signal.SIGKILL))
             found = trial.tool("list")
-            if trial.holds(f"{what}: what is listed then: {found}", found in ((b"", 0), SHORT)):
-                trial.answers(what, "make", b"" if found == SHORT else THERE)
+            if trial.holds(f"{what}: what is listed then: {found}", found in ((b"", 0), SHORT_HEADER)):
+                trial.answers(what, "make", b"" if found == SHORT_HEADER else ALREADY_THERE)
             is_new(trial, what, since)
 
 
@@ -345,10 +310,10 @@ def try_stopped(trial):
     relinked = put(four_slots(), "jhr", 8, b"\2")
     for word, files, text, then in (("list", waiting_base(Random(25)), None, None), ("pack", texts, b"Packed: base 7, live 8, dropped 2.\n", None),
                                     ("relink", four_slots(reply_to=9), b"Relinked: 1 changed.\n", relinked)):
-        listed, _, _, now = reader.read(whole(files))
+        listed, _, _, now = jam.told(whole(files))
         trial.has(files)
         trial.answers("without a fault", word, text or listed)
-        after = trial.base()
+        after = trial.held_base()
         if word != "pack":
             trial.holds(f"{word}: what it leaves", after == of_base(then or now))
         before = of_base(now)
@@ -356,40 +321,38 @@ def try_stopped(trial):
         for what, printed, status in trial.stopped(word, ("fsync", "ftruncate", "pwrite64"), WAYS):
             trial.is_so(f"{what}: how it ends", (printed, status), STORE_FAULT if "error" in what else (b"", -signal.SIGKILL))
             trial.answers(what, "list", listed)
-            trial.holds(f"{what}: the files are those before or behind it", trial.base() in (before, after))
-            if trial.base() == before:
+            trial.holds(f"{what}: the files are those before or behind it", trial.held_base() in (before, after))
+            if trial.held_base() == before:
                 trial.answers(what, word, text or listed)
-            trial.holds(f"{what}: the files once it is done", trial.base() == after)
+            trial.holds(f"{what}: the files once it is done", trial.held_base() == after)
 
 
 def try_console(trial):
     """A console that fails at each of its reads and writes: what was sent is all before, and what was asked by then is done."""
     trial.has_settings(settings())
     with open(f"{trial.folder}/typed", "wb") as file:
-        # each line comes in a read of its own: the zeros behind it are no keys
-        file.write(b"".join(lines([word]).ljust(PIECE_BYTES, b"\0") for word in ANSWERED))
+        file.write(one_by_one(ANSWERED))
     sent = [FIRST[:FIRST.index(end) + len(end)] for end in ENDS]
-    answered = LISTED + b"       2  Hello > Test  Re: abc\n"
+    answered = LISTED + LISTED_ANSWER
     faults = [("write", at + 1, ([b""] + sent)[at], at >= 6) for at in range(9)]
     faults += [("read", at + 1, sent[sum(n <= at for n in READS_BEFORE) - 1], at >= 7) for at in range(9)]
     for call, at, wanted, is_done in faults:
         trial.has(small_base())
         with open(f"{trial.folder}/typed", "rb") as typed, open(f"{trial.folder}/sent", "w+b") as given:
-            inject = ("-e", f"inject={call}:error=EIO:when={at}")
-            _, status, _ = trial.traced(("local", "board.toml"), (typed.name, given.name), call, inject, stdin=typed, stdout=given)
+            by = (*trial.upon(call, typed.name, given.name), *inject(call, WAYS[1], at))
+            _, status, _ = trial.traced(*LOCAL, by=by, stdin=typed, stdout=given)
             given.seek(0)
             trial.is_so(f"{call} {at} of a console: what is sent, and the status", (given.read(), status), (wanted, 0 if at == 9 else 5))
         trial.answers(f"{call} {at} of a console", "list", answered if is_done else LISTED)
     trial.has(small_base())
-    printed, status, _ = trial.done("local", "board.toml", stdin=None, input=b"\xff\xfa" + bytes(5000))
+    printed, status, _ = trial.done(*LOCAL, typed=b"\xff\xfa" + bytes(5000))
     trial.is_so("a command of Telnet that is cut off", (printed, status), (START, 0))
 
 
-def serves(trial, *words, nodes=1, inject=(), minutes=0):
+def serves(trial, *words, nodes=1, by=(), minutes=0):
     """Begins to serve the area, and packs it as it begins where minutes are given; where calls are to fail, under strace."""
     trial.has_settings(settings(port=trial.port, nodes=nodes, pack_minutes=minutes))
-    under = ("strace", "-D", "-f", "-o", f"{trial.folder}/trace", *inject) if inject else ()
-    trial.begins(*words, areas=("general",), nodes=nodes, under=under)
+    trial.begins(*words, areas=("general",), nodes=nodes, under=trial.tracer(*by) if by else ())
 
 
 def hears(trial, typed, sent):
@@ -403,18 +366,18 @@ def hears(trial, typed, sent):
 
 def try_node(trial):
     """One node and its callers, one after another: who posts, and then five who guess, break off twice, leave and hang up; each call is counted."""
-    trial.has({"jhr": fixed(0, 0, 1)})
+    trial.has({"jhr": fixed_header()})
     serves(trial, "--calls", "1")
     into = START + b"Password: Welcome, %s.\r\nTop> %d visible, %d unread.\r\n[general] "
     posted = b"To: Subject: Private (Y/N): Text, . ends, ! cancels\r\nPosted as 1.\r\n[general] Goodbye.\r\n"
     hears(trial, lines(["Test", "abc", "1", "P", "Hello", "abc", "N", "Good", ".", "Q"]), into % (b"Test", 0, 0) + posted)
     trial.ends("one call", 0)
-    trial.is_so("one call: what is listed, and the index", (trial.tool("list"), trial.base()["jdx"]), ((LISTED, 0), b"yY\xef\xc9\0\4\0\0"))
+    trial.is_so("one call: what is listed, and the index", (trial.tool("list"), trial.held_base()["jdx"]), ((LISTED, 0), b"yY\xef\xc9\0\4\0\0"))
     serves(trial, "--calls", "5")
     hears(trial, lines(["x", "y"] * 3), WRONG)
     for typed in (b"", b"Hello\r\n"):
         caller = trial.caller("who breaks off")
-        caller.reads(START[len(OFFERS):])
+        caller.reads(GREETING)
         caller.types(typed)
         resets(caller.line)
     hears(trial, lines(["Hello", "test", "1", "R", "Q"]), into % (b"Hello", 1, 1) + b"No message shown.\r\n[general] Goodbye.\r\n")
@@ -430,31 +393,31 @@ def try_nodes(trial):
     trial.has(small_base())
     serves(trial, "--calls", "1", nodes=2, minutes=1)
     idle = trial.caller("who is gone at once")
-    idle.reads(START[len(OFFERS):])
+    idle.reads(GREETING)
     hears(trial, lines(ANSWERED), FIRST)
     idle.line.close()
     trial.ends("two nodes", 0)
-    trial.answers("two nodes", "list", LISTED + b"       2  Hello > Test  Re: abc\n")
-    found = trial.base()
-    trial.is_so("two nodes: texts and marks", (found["jdt"], found["jlr"]), (b"Good\rThanks\r", struct.pack("<4I", jam.crc(b"Hello"), 8, 1, 1)))
+    trial.answers("two nodes", "list", LISTED + LISTED_ANSWER)
+    found = trial.held_base()
+    trial.is_so("two nodes: texts and marks", (found["jdt"], found["jlr"]), (b"Good\rThanks\r", jam.mark(b"Hello", 8, 1, 1)))
     serves(trial, "--calls", "1")
     hears(trial, lines(["Sysop", "hello", "1", "K 1", "Q"]), START + b"Password: Welcome, Sysop.\r\nTop> 2 visible, 2 unread.\r\n[general] "
           b"Killed 1.\r\n[general] Goodbye.\r\n")
     trial.ends("a letter is killed", 0)
-    trial.is_so("a letter is killed: its text stays until a pack", trial.base()["jdt"], b"Good\rThanks\r")
+    trial.is_so("a letter is killed: its text stays until a pack", trial.held_base()["jdt"], b"Good\rThanks\r")
     serves(trial, "--calls", "1", minutes=1)
     trial.caller("who leaves").line.close()
     trial.ends("a pack", 0)
-    found = trial.base()
-    trial.is_so("a pack: texts and index", (found["jdt"], found["jdx"]), (b"Thanks\r", struct.pack("<II", jam.crc(b"Test"), 1024)))
-    trial.answers("a pack", "list", b"       2  Hello > Test  Re: abc\n")
+    found = trial.held_base()
+    trial.is_so("a pack: texts and index", (found["jdt"], found["jdx"]), (b"Thanks\r", struct.pack("<II", crc(b"Test"), 1024)))
+    trial.answers("a pack", "list", LISTED_ANSWER)
 
 
 def try_links(trial):
     """A line that fails at its first read, or at its second write, ends this session alone: its node serves the next caller, and the run ends with 0."""
     for call, at in (("recvfrom", 1), ("sendto", 2)):
         trial.has(small_base())
-        serves(trial, "--calls", "2", inject=("-e", f"trace={call}", "-e", f"inject={call}:error=ECONNRESET:when={at}"))
+        serves(trial, "--calls", "2", by=("-e", f"trace={call}", *inject(call, "error=ECONNRESET", at)))
         hears(trial, lines(["Hello"]), START)
         trial.holds(f"{call} {at} fails", any("INJECTED" in line for line in trial.trace()))
         hears(trial, lines(ANSWERED), FIRST)
@@ -468,21 +431,20 @@ def try_packers(trial):
     second = b"       2  A?\xc3\xa9 > Bob  \n"
     for what, path, call, at, is_done in (("the first call", "ndt", "ftruncate", 1, False), ("the last call", "jnl", "fsync", 3, True)):
         trial.has(killed)
-        inject = ("-P", trial.path(path), "-e", f"trace={call}", "-e", f"inject={call}:error=EIO:when={at}")
-        serves(trial, "--calls", "1", minutes=1, inject=inject)
+        serves(trial, "--calls", "1", minutes=1, by=(*trial.upon(call, trial.path(path)), *inject(call, WAYS[1], at)))
         trial.caller("who leaves").line.close()
         trial.ends(f"a pack, {what}", 4)
         failed = [line.split("(")[0].split()[-1] for line in trial.trace() if "INJECTED" in line]
         trial.is_so(f"a pack, {what}: which calls fail", failed, [call])
         trial.answers(f"a pack, {what}", "list", second)
-        trial.is_so(f"a pack, {what}: the texts", trial.base()["jdt"], b"" if is_done else b"Good\r")
+        trial.is_so(f"a pack, {what}: the texts", trial.held_base()["jdt"], b"" if is_done else b"Good\r")
 
 
 def try_door(trial):
     """A door at which no caller may be let in any more ends its node, and the other one goes on; the status tells. Nothing is waited for between tries."""
     trial.has(small_base())
-    serves(trial, nodes=2, inject=("-e", "trace=accept,accept4,nanosleep,clock_nanosleep", "-e", "inject=accept,accept4:error=EMFILE:when=2+",
-                                   "-e", "inject=nanosleep,clock_nanosleep:retval=0"))
+    serves(trial, nodes=2, by=("-e", "trace=accept,accept4,nanosleep,clock_nanosleep", *inject("accept,accept4", "error=EMFILE", "2+"),
+                               "-e", "inject=nanosleep,clock_nanosleep:retval=0"))
     hears(trial, lines(["Hello", "test", "Q"]), START + b"Password: Welcome, Hello.\r\nTop> Goodbye.\r\n")
     end = time.monotonic() + GUARD
     while "exited with" not in "".join(trial.trace()) and time.monotonic() < end:
@@ -493,28 +455,9 @@ def try_door(trial):
     trial.is_so("for how long a caller is tried for", sum(int(it[1]) * 10**9 + int(it[2]) for it in pauses if it), SECONDS * 10**9)
     hears(trial, lines(ANSWERED), FIRST)
     trial.ends("two doors that fail", 5)
-    trial.answers("two doors that fail", "list", LISTED + b"       2  Hello > Test  Re: abc\n")
-
-
-def main(program):
-    folder = tempfile.mkdtemp(dir=memory_folder())
-    tries = [try_words, try_tools, try_refusals, try_waiting, try_make, try_node, try_nodes]
-    try:
-        shutil.copy(program, f"{folder}/board")
-        trial = Tools(f"{folder}/board", folder)
-        if may_trace():
-            tries += [try_calls, try_faults, try_stopped_makes, try_stopped, try_console, try_links, try_packers, try_door]
-        else:
-            print("no call of the system was made to fail: strace is not installed, or may not be used")
-        for tried in tries:
-            trial.tells_wrong(tried.__name__, lambda: tried(trial))
-            trial.is_gone()
-    finally:
-        shutil.rmtree(folder)
-    return trial.tells("the tools of an operator")
+    trial.answers("two doors that fail", "list", LISTED + LISTED_ANSWER)
 
 
 if __name__ == "__main__":
-    if len(sys.argv) != 2:
-        sys.exit(__doc__)
-    sys.exit(main(sys.argv[1]))
+    goes_through(Tools, "the tools of an operator", (try_words, try_tools, try_refusals, try_waiting, try_make, try_node, try_nodes),
+                 (try_calls, try_faults, try_stopped_makes, try_stopped, try_console, try_links, try_packers, try_door))

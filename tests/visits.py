@@ -1,113 +1,80 @@
-"""Eight callers of one board, what each does there, and what it must be shown: made from what all of them posted."""
-import hashlib
+"""What sessions do that several scripts have, and what must be sent to them: one that answers a letter, and eight callers of one board, made from what all
+of them did.
+"""
 import random
 import re
 import threading
-import time
 
-import jam
+from area import Area, Message, shown
 from caller import BARE, PLAIN, TALKATIVE, Otherwise
+from harness import AREAS, CALLERS, COUNT, GREETING, IDS, NAMES, NO_MEMORY, OFFERS, SYSOP, password_of
 
-AREAS = ("general", "letters", "trade")
-NAMES = [b"Ada", b"Barbara", b"Edsger", b"Grace", b"Hedy", b"John", b"Tony", b"Sysop"]
 CLIENTS = [PLAIN, TALKATIVE, BARE, PLAIN, PLAIN, TALKATIVE, BARE, PLAIN]
-COUNT = len(NAMES)
-SYSOP = COUNT - 1
-DATE = "%Y-%m-%d %H:%M:%S"
+# one who answers the letter of a base with one message, and what is sent then; and what to one who guesses
+START = OFFERS + GREETING
+ANSWERED = ["Hello", "test", "1", "N", "R", "Thanks", ".", "Q"]
+FIRST = START + (
+    b"Password: Welcome, Hello.\r\nTop> 1 visible, 1 unread.\r\n[general] "
+    b"Message 1\r\nFrom: Test\r\nTo: Hello\r\nSubject: abc\r\nDate: 2001-09-09 01:46:40\r\n\r\nGood\r\n\r\n[general] "
+    b"Reply to Test, subject Re: abc\r\nText, . ends, ! cancels\r\nPosted as 2.\r\n[general] Goodbye.\r\n")
+WRONG = START + b"Password: Login incorrect.\r\nName: " * 2 + b"Password: Login incorrect.\r\nGoodbye.\r\n"
+LISTED, LISTED_ANSWER = b"       1  Test > Hello  abc\n", b"       2  Hello > Test  Re: abc\n"
 
 
-def password_of(name):
-    return name.lower() + b" at home"
-
-
-def users():
-    return [(name.decode(), 11 + n, 255 if n == SYSOP else 50, hashlib.sha256(password_of(name)).hexdigest())
-            for n, name in enumerate(NAMES)]
-
-
-def msgid(k, number):
-    """The id of a message of the area at this place."""
-    return b"2:5020/1042 %08x" % ((k + 1 << 24) + number)
-
-
-class Post:
-    """A message as it was posted, and what became of it."""
-
-    def __init__(self, sender, receiver, subject, text, is_private=False, answers=0):
-        self.sender, self.receiver, self.subject, self.text = sender, receiver, subject, text
-        self.is_private, self.answers, self.is_killed, self.date = is_private, answers, False, None
-
-    def is_seen_by(self, name):
-        return not self.is_killed and (not self.is_private or name in (self.sender, self.receiver, NAMES[SYSOP]))
-
-    def line(self, number):
-        return b"%8d  %s > %s  %s\r\n" % (number, self.sender, self.receiver, self.subject)
-
-    def letter(self, number):
-        """How it is shown, before and behind its date."""
-        body = b"".join(line + b"\r\n" for line in self.text)
-        return (b"Message %d\r\nFrom: %s\r\nTo: %s\r\nSubject: %s\r\nDate: " % (number, self.sender, self.receiver, self.subject),
-                b"\r\n\r\n" + body + b"\r\n")
+def goes_as_far(trial, what, found, status):
+    """Looks at what was sent of the answer to a letter where memory was refused, and how far the base came: the letter read, then marked, then answered."""
+    base = trial.base()
+    done = [base.slots[0].head["read"] == 1, len(base.marks) == 16, len(base.slots) == 2]
+    if found == NO_MEMORY[0]:
+        trial.is_so(f"{what}: nothing is done", (done, status), ([False] * 3, NO_MEMORY[1]))
+        return
+    shown_at, posted_at = FIRST.index(b"Message 1"), FIRST.index(b"Posted")
+    steps = sum(done)
+    # what is done was said, or was to be said next
+    least = 3 if len(found) > posted_at else 2 if len(found) > shown_at else 0
+    most = 3 if len(found) >= posted_at else 2 if len(found) >= shown_at else 0
+    trial.is_so(f"{what}: the status of {found!r}", status, 0 if found == FIRST else 6)
+    trial.holds(f"{what}: {found!r} is sent", FIRST.startswith(found))
+    trial.holds(f"{what}: {found!r} is sent, and {done} done", done == [n < steps for n in range(3)] and least <= steps <= most)
 
 
 class Hall:
-    """What all callers have done so far: the messages of each area by their numbers."""
+    """The areas of the board, with what all callers have done in them so far."""
 
     def __init__(self):
-        self.posts, self.lock = {area: {} for area in AREAS}, threading.Lock()
+        self.areas, self.lock = {name: Area(k + 1) for k, name in enumerate(AREAS)}, threading.Lock()
 
-    def adds(self, area, number, post):
+    def adds(self, name, number, message):
         with self.lock:
-            if number in self.posts[area]:
-                raise Otherwise(f"{number} of {area} was given to two messages")
-            self.posts[area][number] = post
+            if number in self.areas[name].messages:
+                raise Otherwise(f"{number} of {name} was given to two messages")
+            self.areas[name].adds(number, message)
 
-    def seen(self, area, name, of=lambda post: True):
-        return [(number, post) for number, post in sorted(self.posts[area].items()) if post.is_seen_by(name) and of(post)]
-
-    def compares(self, trial, what, folder, since):
-        """Looks whether the files of each area hold these messages, each once, with its number, links and date, and nothing else."""
-        for k, area in enumerate(AREAS):
-            base, posts = jam.read(folder, area)[0], self.posts[area]
-            live = base.live()
-            trial.is_so(f"{what}: which messages are in {area}", sorted(live),
-                        [number for number, post in sorted(posts.items()) if not post.is_killed])
-            trial.is_so(f"{what}: the reply links of {area}", jam.held_links(base), jam.links_of(base))
-            trial.holds(f"{what}: {area} counts its messages", int.from_bytes(base.fixed[12:16], "little") == len(live))
-            for number in live.keys() & posts.keys():
-                found, post = live[number], posts[number]
-                trial.is_so(f"{what}: message {number} of {area}",
-                            [found.first(kind) for kind in (2, 3, 4, 5, 6)] + [found.text, found.owner],
-                            [post.sender, post.receiver, msgid(k, number), msgid(k, post.answers) if post.answers else None, post.subject,
-                             b"".join(line + b"\r" for line in post.text), jam.crc(post.receiver)])
-                head = found.head
-                trial.is_so(f"{what}: the header of message {number} of {area}",
-                            (head["number"], head["reply_to"], bool(head["attribute"] & jam.PRIVATE)),
-                            (number, post.answers, post.is_private))
-                trial.holds(f"{what}: the date of message {number} of {area}", since <= head["written"] <= time.time()
-                            and post.date in (None, time.strftime(DATE, time.gmtime(head["written"])).encode()))
-
-    def own(self, area, n, kind):
-        """The number of a message that this caller posted in this area."""
-        return next(number for number, post in self.posts[area].items() if post.sender == NAMES[n] and post.subject.startswith(kind))
+    def compares(self, trial, what, since):
+        """Looks whether the files of each area hold what was done."""
+        for name, area in self.areas.items():
+            area.compares(trial, f"{what}, {name}", trial.base(name), since, IDS)
 
 
 class Visit:
     """One of the eight, with what it does in each of the three areas."""
 
     def __init__(self, hall, n, caller):
-        self.hall, self.n, self.name, self.caller, self.draw = hall, n, NAMES[n], caller, random.Random(n)
-        self.marks = dict.fromkeys(AREAS, (0, 0))
+        self.hall, self.n, self.user, self.name, self.caller, self.draw = hall, n, CALLERS[n], NAMES[n], caller, random.Random(n)
 
     def in_each(self, done):
         """Enters each area in a drawn order, does this there, and leaves it."""
-        for area in self.draw.sample(AREAS, len(AREAS)):
-            prompt = b"[%s] " % area.encode()
-            figures = self.caller.enters(b"%d" % (AREAS.index(area) + 1), prompt)
+        for name in self.draw.sample(AREAS, len(AREAS)):
+            prompt = b"[%s] " % name.encode()
+            figures = self.caller.enters(b"%d" % (AREAS.index(name) + 1), prompt)
             if not re.fullmatch(rb"\d+ visible, \d+ unread\.\r\n", figures):
                 raise Otherwise(f"{self.name}: {figures!r} came upon an area")
-            done(area, prompt, figures)
+            done(name, self.hall.areas[name], prompt, figures)
             self.caller.answers(b"b", b"", b"Top> ")
+
+    def own(self, area, n, kind):
+        """The number of a message of this kind that the caller with this place posted in an area."""
+        return next(number for number, message in sorted(area.messages.items()) if message.sender == NAMES[n] and message.subject.startswith(kind))
 
     def logs_in(self):
         self.caller.logs_in(self.name, password_of(self.name))
@@ -115,77 +82,75 @@ class Visit:
 
     def posts(self):
         """Two public messages and a private one in each area; a byte 255 is in each."""
-        def done(area, prompt, _figures):
+        def done(name, _area, prompt, _figures):
             for kind, receiver, is_private in ((b"asked", b"All", False), (b"dropped", NAMES[(self.n + 2) % COUNT], False),
                                                (b"secret", NAMES[(self.n + 1) % COUNT], True)):
-                text = [b"%s of %s in %s" % (kind, self.name, area.encode()), b"", b"\xff %d" % self.draw.randrange(10**9)]
-                post = Post(self.name, receiver, b"%s by %s" % (kind, self.name), text, is_private)
-                self.hall.adds(area, self.caller.posts(receiver, post.subject, text, is_private, prompt), post)
+                text = [b"%s of %s in %s" % (kind, self.name, name.encode()), b"", b"\xff %d" % self.draw.randrange(10**9)]
+                message = Message(self.name, receiver, b"%s by %s" % (kind, self.name), text, is_private)
+                self.hall.adds(name, self.caller.posts(receiver, message.subject, text, is_private, prompt), message)
         self.in_each(done)
 
-    def lists(self, area, prompt, letter, of=lambda post: True):
-        """Looks whether the pages of this list show all that this caller sees, twenty at once."""
-        seen, start = self.hall.seen(area, self.name, of), b""
+    def lists(self, area, prompt, letter, seen):
+        """Looks whether the pages of this list show all of these, twenty at once."""
+        start = b""
         while True:
             page, seen = seen[:20], seen[20:]
-            self.caller.answers(letter + start, b"".join(post.line(number) for number, post in page) or b"Nothing.\r\n", prompt)
+            self.caller.answers(letter + start, area.listed(page) or b"Nothing.\r\n", prompt)
             if not seen:
                 return
-            start = b" %d" % seen[0][0]
+            start = b" %d" % seen[0]
 
     def shows(self, area, prompt, number, key=None):
         """Looks whether a message is shown as it is."""
-        before, behind = self.hall.posts[area][number].letter(number)
+        with self.hall.lock:
+            message = area.read(self.user, number)
+        before, behind = message.letter(number)
         found = self.caller.enters(key or b"%d" % number, prompt)
         date = found[len(before):-len(behind)]
         if found != before + date + behind or not re.fullmatch(rb"\d{4}-\d\d-\d\d \d\d:\d\d:\d\d", date):
-            raise Otherwise(f"{self.name}: {found!r} came upon message {number} of {area}")
-        self.hall.posts[area][number].date = date
+            raise Otherwise(f"{self.name}: {found!r} came upon message {number}")
+        message.date = date
+
+    def enters(self, name, area, figures):
+        """Looks at what is told of an area as it is entered where nobody posts."""
+        wanted = shown(area.figures(self.user))
+        if figures != wanted:
+            raise Otherwise(f"{self.name}: {figures!r} came, where {wanted!r} is wanted of {name}")
 
     def looks(self):
         """Lists and reads where nobody posts, so that all of it is known; the sysop packs and relinks meanwhile."""
-        def done(area, prompt, figures):
-            seen = self.hall.seen(area, self.name)
-            if figures != b"%d visible, %d unread.\r\n" % (len(seen), len(seen)):
-                raise Otherwise(f"{self.name}: {figures!r} came, where {len(seen)} are seen in {area}")
-            self.lists(area, prompt, b"L")
-            self.lists(area, prompt, b"y", lambda post: post.receiver == self.name)
-            self.shows(area, prompt, seen[0][0], b"n")
-            self.marks[area] = (seen[0][0], seen[0][0])
+        def done(name, area, prompt, figures):
+            self.enters(name, area, figures)
+            self.lists(area, prompt, b"L", area.seen(self.user))
+            self.lists(area, prompt, b"y", area.addressed(self.user))
+            first = area.unread(self.user)[0]
+            self.shows(area, prompt, first, b"n")
+            area.mark(self.user, first)
+            self.caller.answers(b"x", shown(area.pack(self.user)), prompt)
             if self.n == SYSOP:
-                self.caller.answers(b"x", b"Packed: base 1, live %d, dropped 0.\r\n" % (3 * COUNT), prompt)
-                self.caller.answers(b"z", b"Relinked: 0 changed.\r\n", prompt)
-            else:
-                self.caller.answers(b"x", b"Denied by rule A5.\r\n", prompt)
+                self.caller.answers(b"z", shown(area.relink(self.user)), prompt)
         self.in_each(done)
-        unread = [len([number for number, _ in self.hall.seen(area, self.name) if number > self.marks[area][0]]) for area in AREAS]
-        lines = [b"%3d  %-24s%6d unread\r\n" % (k + 1, area.encode(), unread[k]) for k, area in enumerate(AREAS)]
+        lines = [b"%3d  %-24s%6d unread\r\n" % (k + 1, name.encode(), len(area.unread(self.user))) for k, (name, area) in enumerate(self.hall.areas.items())]
         self.caller.answers(b"a", b"".join(lines), b"Top> ")
 
     def answers(self):
         """Answers two messages, kills and marks, while the others do and the sysop packs."""
-        def done(area, prompt, _figures):
+        def done(name, area, prompt, _figures):
             for other in ((self.n + 1) % COUNT, (self.n + 3) % COUNT):
-                number = self.hall.own(area, other, b"asked")
-                asked = self.hall.posts[area][number]
+                number = self.own(area, other, b"asked")
                 self.shows(area, prompt, number)
-                subject = b"Re: " + asked.subject
+                subject = b"Re: " + area.messages[number].subject
                 self.caller.enters(b"r")
                 self.caller.reads(b"Reply to %s, subject %s\r\n" % (NAMES[other], subject))
-                text = [b"%s answers in %s" % (self.name, area.encode())]
-                self.hall.adds(area, self.caller.number_of(self.caller.ends_text(text, prompt)),
-                               Post(self.name, NAMES[other], subject, text, False, number))
-            number = self.hall.own(area, self.n, b"dropped")
-            self.caller.answers(b"k %d" % number, b"Killed %d.\r\n" % number, prompt)
-            self.hall.posts[area][number].is_killed = True
-            self.caller.answers(b"k %d" % number, b"No such message.\r\n", prompt)
+                text = [b"%s answers in %s" % (self.name, name.encode())]
+                self.hall.adds(name, self.caller.number_of(self.caller.ends_text(text, prompt)),
+                               Message(self.name, NAMES[other], subject, text, False, number))
+            for number in [self.own(area, self.n, b"dropped")] * 2 + [self.own(area, (self.n + 1) % COUNT, b"asked")] * (self.n != SYSOP):
+                self.caller.answers(b"k %d" % number, shown(area.kill(self.user, number)), prompt)
             if self.n == SYSOP:
                 self.packs(prompt)
-            else:
-                self.caller.answers(b"k %d" % self.hall.own(area, (self.n + 1) % COUNT, b"asked"), b"Denied by rule A4.\r\n", prompt)
-            low = self.hall.own(area, self.n, b"asked")
-            self.marks[area] = (low, max(low, self.marks[area][1]))
-            self.caller.answers(b"m %d" % low, b"Mark is %d, high %d.\r\n" % self.marks[area], prompt)
+            low = self.own(area, self.n, b"asked")
+            self.caller.answers(b"m %d" % low, shown(area.mark(self.user, low)), prompt)
         self.in_each(done)
 
     def packs(self, prompt):
@@ -196,13 +161,9 @@ class Visit:
 
     def lists_again(self):
         """Looks whether all that was done is seen, and a thread."""
-        def done(area, prompt, figures):
-            seen = self.hall.seen(area, self.name)
-            unread = sum(number > self.marks[area][0] for number, _ in seen)
-            if figures != b"%d visible, %d unread.\r\n" % (len(seen), unread):
-                raise Otherwise(f"{self.name}: {figures!r} came, where {len(seen)} are seen and {unread} unread in {area}")
-            self.lists(area, prompt, b"l")
-            number = self.hall.own(area, (self.n + 1) % COUNT, b"asked")
-            thread = [(number, self.hall.posts[area][number])] + self.hall.seen(area, self.name, lambda post: post.answers == number)
-            self.caller.answers(b"t %d" % number, b"".join(post.line(it) for it, post in thread), prompt)
+        def done(name, area, prompt, figures):
+            self.enters(name, area, figures)
+            self.lists(area, prompt, b"l", area.seen(self.user))
+            number = self.own(area, (self.n + 1) % COUNT, b"asked")
+            self.caller.answers(b"t %d" % number, area.listed(area.thread(self.user, number)), prompt)
         self.in_each(done)
