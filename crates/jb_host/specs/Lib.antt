@@ -6,4 +6,5 @@ pub mod Memory
 pub mod Real
 pub mod Rings
 pub mod Shelves
+pub mod Telnet
 pub mod Wire

@@ -1,9 +1,6 @@
-//! The trait of a clock, one in memory and that of the system.
-ghost use Rattle.std.specs.Prelude.{◌≡◌, ℕ, Option, None, Some};
+//! The trait of a clock, and one in memory.
+ghost use Rattle.std.specs.Prelude.{◌≡◌, ℕ, Option, Some};
 ghost use Rattle.std.specs.Option.{ForSome};
-
-use std::time;
-use std::time::{SystemTime, UNIX_EPOCH};
 
 /// What gives the moment.
 pub trait Clock {
@@ -36,35 +33,5 @@ impl Clock for MemClock {
 
     fn now(&mut self) -> u32 {
         self.reading
-    }
-}
-
-/// The clock of the system. Where that fails, or shows a moment that four bytes do not hold, it gives its last reading, at
-/// first 0.
-#[derive(Drop)]
-pub struct SystemClock<R: time::Clock + Drop> {
-    rt: R,
-    last: u32,
-}
-
-impl<R: time::Clock + Drop> SystemClock<R> {
-    /// The clock that this runtime reaches.
-    pub fn new(rt: R) -> SystemClock<R>
-        ensures { result.last ≡ 0 }
-    {
-        SystemClock { rt, last: 0 }
-    }
-}
-
-impl<R: time::Clock + Drop> Clock for SystemClock<R> {
-    ghost reading = { λ clock. None };
-
-    fn now(&mut self) -> u32 {
-        if let Ok(time) = SystemTime::now(&self.rt) {
-            if let Ok(since) = time.duration_since(UNIX_EPOCH) {
-                self.last = u32::try_from(since.as_secs()).unwrap_or(self.last);
-            }
-        }
-        self.last
     }
 }

@@ -4,8 +4,11 @@
 //! The layers above are generic over [`Link`], [`Door`], [`Bell`], [`Clock`] and [`Host`] and are proved once. [`MemLink`],
 //! [`MemDoor`], [`MemBell`], [`MemClock`] and [`MemHost`] tell all that there is to tell. Clauses on bytes, links, areas, readings,
 //! calls, settings, disks, doors and the bell hold where they are told, clauses on faults always.
+//!
+//! The real ones stand in `real.rt` and its folder, and are trusted. Nothing outside of these files asks the system for anything.
 #![tactic(auto)]
 
+mod answers;
 mod asking;
 mod belfry;
 mod bell;
@@ -21,17 +24,15 @@ mod memory_bell;
 mod memory_door;
 mod memory_host;
 mod page;
-mod port;
 mod real;
 mod refusals;
+mod rounds;
 mod sending;
 mod shelf;
-mod synch;
-mod tcp;
-mod timed;
+mod telnet;
 
 pub use bell::{Bell, Ring};
-pub use clock::{Clock, MemClock, SystemClock};
+pub use clock::{Clock, MemClock};
 pub use door::{Accepted, Door, DoorFailed};
 pub use host::{Host, HostError};
 pub use link::{Link, LinkFailed};
@@ -39,7 +40,8 @@ pub use memory::MemLink;
 pub use memory_bell::MemBell;
 pub use memory_door::MemDoor;
 pub use memory_host::MemHost;
-pub use real::{ConsoleLink, MOST_SETTINGS_BYTES, RealHost};
+pub use real::{
+    ConsoleLink, MOST_SETTINGS_BYTES, MOST_SILENT_SECONDS, MOST_STUCK_SECONDS, RealHost,
+    SystemClock, TcpDoor, TcpLink, TimedBell,
+};
 pub use sending::send;
-pub use tcp::{MOST_SILENT_SECONDS, MOST_STUCK_SECONDS, TcpDoor, TcpLink};
-pub use timed::TimedBell;

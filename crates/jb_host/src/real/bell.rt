@@ -1,8 +1,11 @@
-//! A bell that rings by the clock of the system. It tells no areas.
-ghost use Rattle.std.specs.Prelude.{◌≡◌, ◌==◌, ℕ, Some, Option, None, false, if◌then◌else◌};
+//! Trusted: the bell of a process.
+//!
+//! It lets its thread sleep between two rings. A contract knows how many rings are left and whether it is shut, and neither the areas
+//! nor the time.
 ghost use Rattle.jb_host.specs.Real.{silent_rings};
 
 use crate::bell::{Bell, Ring};
+use crate::rounds::{area_behind, rings_of};
 use std::time::Duration;
 use std::{thread, time};
 
@@ -16,14 +19,6 @@ pub struct TimedBell<R: time::Clock + Drop> {
     last: u32,
     left: Option<u32>,
     is_shut: bool,
-}
-
-/// How often a bell rings, where that has an end.
-fn rings_of(areas: u32, minutes: u32, calls: Option<u32>) -> Option<u32> {
-    if minutes == 0 || areas == 0 {
-        return Some(0);
-    }
-    calls.map(|_| areas)
 }
 
 impl<R: time::Clock + Drop> TimedBell<R> {
@@ -52,11 +47,7 @@ impl<R: time::Clock + Drop> Bell for TimedBell<R> {
             Some(left) => self.left = Some(left - 1),
             None => thread::sleep(&self.rt, Duration::from_secs(u64::from(self.minutes) * 60)),
         }
-        self.last = if self.last < self.areas {
-            self.last + 1
-        } else {
-            1
-        };
+        self.last = area_behind(self.last, self.areas);
         Ring::Pack(self.last)
     }
 }

@@ -1,4 +1,7 @@
-//! The ports of a process.
+//! Trusted: the ports of a process.
+//!
+//! It binds a socket at a port once, and gives further handles of it. A contract knows nothing of what it gives.
+
 use std::io;
 use std::io::ErrorKind;
 use std::net::{Ipv4Addr, Ipv6Addr, Net, TcpListener, TcpStream};

@@ -1,4 +1,7 @@
-//! The mark of Telnet's Synch, which comes as urgent data.
+//! Trusted: the mark of Telnet's Synch, which comes as urgent data.
+//!
+//! It asks the system what is to be read of a connection (`poll`), and reads it. A contract knows how long the bytes are, and not that
+//! the mark stands where it was sent.
 //!
 //! A caller sends IAC and then, as urgent, the data mark. The system takes an urgent byte out of what it gives, and would join the IAC
 //! with whatever comes next; the option that leaves the byte in its place (SO_OOBINLINE) cannot be had here. But a read ends before
@@ -6,18 +9,14 @@
 //! What the urgent byte was is not told: another command that is sent so is read as a mark, too.
 ghost use Rattle.std.specs.Prelude.{◌≤◌, ℕ, IfOk, length};
 
-use crate::tcp::{MOST_SILENT_SECONDS, TRIES, read_some};
+use crate::real::tcp::{MOST_SILENT_SECONDS, TRIES, read_some};
+use crate::telnet::{DATA_MARK, IAC, put_dropped_mark, put_mark};
 use libc::net::{POLLIN, POLLPRI, poll};
 use libc::types::pollfd;
 use std::io;
 use std::io::ErrorKind;
 use std::net::TcpStream;
 use std::os::fd::AsRawFd;
-
-/// What stands before each command of Telnet.
-pub(crate) const IAC: u8 = 255;
-/// The command that is the mark of a Synch.
-const DATA_MARK: u8 = 242;
 
 /// What the system tells of a connection: that there are bytes to read, or its end, and that an urgent byte is to come. Waits for one of
 /// these for so long, again where a signal came between, and tells nothing where none came.
@@ -56,8 +55,7 @@ pub(crate) fn read_behind_iac(stream: &mut TcpStream, into: &mut [u8]) -> io::Re
     let told = told_of(stream, 0);
     let is_iac = into[0] == IAC;
     if told & POLLPRI == 0 || is_iac && told & POLLIN == 0 {
-        into[1] = into[0];
-        into[0] = DATA_MARK;
+        put_mark(into);
         return Ok(n + 1);
     }
     if !is_iac || into.len() < 4 {
@@ -68,8 +66,6 @@ pub(crate) fn read_behind_iac(stream: &mut TcpStream, into: &mut [u8]) -> io::Re
         into[1] = into[3];
         return Ok(n + more);
     }
-    into[0] = DATA_MARK;
-    into[1] = IAC;
-    into[2] = DATA_MARK;
+    put_dropped_mark(into);
     Ok(3 + more)
 }
