@@ -1,36 +1,23 @@
 //! An area in whatever stage, that is asked in its place.
 
-use crate::asking::{Act, Way};
+use crate::asking::{Deed, Way};
 use crate::quiet::Quiet;
-use crate::showing::{put_figures, put_memory, put_reply};
+use crate::showing::{put_figures, put_memory};
 use crate::stage::{Closed, End, Outcome, Stage, Staged, not_asked, not_open, opened};
 use jb_area::OpenArea;
 use jb_area_open::OpeningError;
-use jb_base::{AreaRules, Bytes, Kind, OutOfMemory, User};
+use jb_base::User;
 use jb_disk::FileId;
 use jb_image::OpenError;
 use jb_model::{Asked, Loaded};
 use std::alloc::Global;
 use std::mem;
-use trial_rows::{RowError, Words};
+use trial_rows::{Words, put_reply, rules_of};
 
 /// An area in its stage, and what came of the last thing that was asked of it.
 #[derive(Drop)]
 pub(crate) struct Area {
     now: Staged,
-}
-
-/// A local area of at most so many slots, read from level 10 on, posted in from 20 on, and tended from 200 on.
-pub(crate) fn rules_of(alloc: Global, slots: u32) -> Result<AreaRules, OutOfMemory> {
-    Ok(AreaRules {
-        ordinal: 1,
-        address: Bytes::copy(alloc, b"2:5020/1042")?,
-        kind: Kind::Local,
-        read: 10,
-        post: 20,
-        sysop: 200,
-        slots,
-    })
 }
 
 impl Area {
@@ -52,19 +39,13 @@ impl Area {
     }
 
     /// Opens the area of the disk, which may have so many slots, in the place of the one that is there.
-    pub(crate) fn open(
-        &mut self,
-        alloc: Global,
-        disk: Result<Quiet, RowError>,
-        slots: u32,
-    ) -> Result<(), RowError> {
-        let disk = disk?;
-        match rules_of(alloc, slots) {
-            Ok(rules) => {
-                self.put(opened(alloc, disk, rules));
-                Ok(())
-            }
-            Err(_) => Err(RowError::OutOfMemory),
+    pub(crate) fn open(&mut self, disk: Option<Quiet>, slots: u32, words: &mut Words) {
+        let Some(disk) = disk else {
+            return words.unknown(0);
+        };
+        match rules_of(words.alloc, slots) {
+            Ok(rules) => self.put(opened(words.alloc, disk, rules)),
+            Err(_) => words.lack(),
         }
     }
 
@@ -91,10 +72,10 @@ impl Area {
     }
 
     /// Asks this, in this way. A command in two parts is finished where its beginning is not stopped; a step of a pack has one way alone.
-    pub(crate) fn act(&mut self, alloc: Global, act: &Act, way: Way) {
-        match act {
-            Act::Copy { user, budget } => self.copy(alloc, user, *budget),
-            Act::Command(asked) => {
+    pub(crate) fn act(&mut self, alloc: Global, deed: &Deed, way: Way) {
+        match deed {
+            Deed::Copy { user, budget } => self.copy(alloc, user, *budget),
+            Deed::Command(asked) => {
                 self.ask(alloc, asked, way);
                 if matches!(way, Way::Parts) && !self.is_stopped() {
                     self.end(End::Finish);
@@ -114,57 +95,60 @@ impl Area {
     }
 
     /// The disk, taken out.
-    pub(crate) fn give(&mut self) -> Result<Quiet, RowError> {
+    pub(crate) fn give(&mut self) -> Option<Quiet> {
         match self.take() {
-            Stage::Resting(area) => Ok(area.close()),
-            Stage::Begun(area) => Ok(area.close()),
-            Stage::Doubtful(area) => Ok(area.close()),
-            Stage::Closed(closed) => Ok(closed.disk),
-            Stage::None => Err(RowError::Unknown(0)),
+            Stage::Resting(area) => Some(area.close()),
+            Stage::Begun(area) => Some(area.close()),
+            Stage::Doubtful(area) => Some(area.close()),
+            Stage::Closed(closed) => Some(closed.disk),
+            Stage::None => None,
         }
     }
 
     /// Closes it. Its disk stays.
     pub(crate) fn close(&mut self) {
-        if let Ok(disk) = self.give() {
+        if let Some(disk) = self.give() {
             self.put(not_open(disk, None));
         }
     }
 
     // The disk and the reason, where it is not open.
-    fn closed(&self) -> Result<&Closed, RowError> {
+    fn closed(&self) -> Option<&Closed> {
         match &self.now.stage {
-            Stage::Closed(closed) => Ok(closed),
-            _ => Err(RowError::Unknown(0)),
+            Stage::Closed(closed) => Some(closed),
+            _ => None,
         }
     }
 
     /// The disk, where it is not open.
-    pub(crate) fn disk(&self) -> Result<&Quiet, RowError> {
-        Ok(&self.closed()?.disk)
+    pub(crate) fn disk(&self) -> Option<&Quiet> {
+        match self.closed() {
+            Some(closed) => Some(&closed.disk),
+            None => None,
+        }
     }
 
     /// What a file of the disk holds, where it is not open.
     pub(crate) fn file(&self, file: FileId) -> &[u8] {
         match self.disk() {
-            Ok(disk) => disk.file(file),
-            Err(_) => b"",
+            Some(disk) => disk.memory().file(file),
+            None => b"",
         }
     }
 
     /// How many calls the disk has had, where it is not open.
     pub(crate) fn calls(&self) -> u64 {
         match self.disk() {
-            Ok(disk) => disk.calls(),
-            Err(_) => 0,
+            Some(disk) => disk.memory().calls(),
+            None => 0,
         }
     }
 
-    /// Why its opening was refused.
-    pub(crate) fn refusal(&self) -> Result<OpeningError, RowError> {
-        match self.closed()?.error {
-            Some(error) => Ok(error),
-            None => Err(RowError::Unknown(0)),
+    // Why its opening was refused.
+    fn refusal(&self) -> Option<OpeningError> {
+        match self.closed() {
+            Some(closed) => closed.error,
+            None => None,
         }
     }
 
@@ -172,7 +156,7 @@ impl Area {
     pub(crate) fn is_fault(&self) -> bool {
         matches!(
             self.refusal(),
-            Ok(OpeningError::Base(OpenError::StoreFault))
+            Some(OpeningError::Base(OpenError::StoreFault))
         )
     }
 
@@ -187,9 +171,9 @@ impl Area {
     }
 
     /// The same in words.
-    pub(crate) fn put_words(&self, alloc: Global, words: &mut Words) -> Result<(), RowError> {
+    pub(crate) fn put_words(&self, words: &mut Words) {
         let word = match &self.now.outcome {
-            Outcome::Replied(reply) => return put_reply(alloc, words, reply),
+            Outcome::Replied(reply) => return put_reply(words, reply),
             Outcome::Copied(true) => "true",
             Outcome::Copied(false) => "false",
             Outcome::Opened => "Opened",
@@ -202,16 +186,14 @@ impl Area {
             Outcome::NotAsked => "NotAsked",
         };
         words.word(word);
-        Ok(())
     }
 
     /// The reply that is coming.
-    pub(crate) fn put_coming(&self, alloc: Global, words: &mut Words) -> Result<(), RowError> {
+    pub(crate) fn put_coming(&self, words: &mut Words) {
         match &self.now.stage {
-            Stage::Begun(begun) => return put_reply(alloc, words, begun.coming()),
+            Stage::Begun(begun) => put_reply(words, begun.coming()),
             _ => words.word("none"),
         }
-        Ok(())
     }
 
     // The area that is open.
@@ -245,23 +227,21 @@ impl Area {
     }
 
     /// What it has where it is open; else why it was refused.
-    pub(crate) fn put_figures(&self, alloc: Global, words: &mut Words) -> Result<(), RowError> {
-        if let Some(loaded) = self.loaded() {
-            put_figures(words, loaded);
-            return Ok(());
+    pub(crate) fn put_figures(&self, words: &mut Words) {
+        match (self.loaded(), self.refusal()) {
+            (Some(loaded), _) => put_figures(words, loaded),
+            (None, Some(error)) => words.debug(&error),
+            (None, None) => words.unknown(0),
         }
-        words.debug(alloc, &self.refusal()?);
-        Ok(())
     }
 
     /// All that is loaded, to be compared, or that it is not open; and the bytes of its texts. It is closed then.
-    pub(crate) fn put_stood(&mut self, alloc: Global, words: &mut Words) -> Result<(), RowError> {
+    pub(crate) fn put_stood(&mut self, words: &mut Words) {
         match self.loaded() {
-            Some(loaded) => put_memory(alloc, words, loaded)?,
+            Some(loaded) => put_memory(words, loaded),
             None => words.word("not open"),
         }
         self.close();
-        words.hexed(alloc, self.file(FileId::Jdt));
-        Ok(())
+        words.hexed(self.file(FileId::Jdt));
     }
 }

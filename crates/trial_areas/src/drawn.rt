@@ -1,18 +1,15 @@
 //! Commands that are drawn by lot, asked of one open area and of the plain, slow program beside it.
 
-use crate::area::rules_of;
-use crate::asking::{Way, asked_by, command_of, sized_post};
+use crate::asking::{TEXT, Way, asked_by, sized_post};
 use crate::base::Base;
 use crate::copied::Copied;
-use crate::plain::{put_loaded, put_plain};
-use crate::showing::put_reply;
-use jb_base::MOST_TEXT_BYTES;
+use jb_base::{MOST_TEXT_BYTES, OutOfMemory};
 use jb_disk::FileId;
-use jb_model::{Area, Asked, Command, Marks, Reply, Slots};
+use jb_model::{Area, Asked, Command, Reply};
 use jb_plain::{Replies, may_run, run_slow};
 use std::alloc::Global;
 use std::mem;
-use trial_rows::{RowError, Words};
+use trial_rows::{Act, Row, Words, command_of, plain_area, put_reply, rules_of, same_area};
 
 /// How many commands are asked between two openings.
 const ROUND: u32 = 50;
@@ -57,7 +54,7 @@ impl Lot {
     }
 
     // A post of any size, in reply to this number.
-    fn sized(&mut self, alloc: Global, number: u32) -> Result<Command, RowError> {
+    fn sized(&mut self, alloc: Global, number: u32) -> Result<Command, OutOfMemory> {
         let to = self.draw(40);
         let subject = self.draw(80);
         let text = self.draw(20_000);
@@ -65,53 +62,34 @@ impl Lot {
     }
 
     // What is done, where the numbers go from this one to below that one.
-    fn command(&mut self, alloc: Global, base: u32, next: u32) -> Result<Command, RowError> {
+    fn command(&mut self, alloc: Global, base: u32, next: u32) -> Result<Command, OutOfMemory> {
         let number = self.number(base, next);
-        let (what, number) = match self.draw(40) {
-            0..=3 => ("post", 0),
-            4..=11 => ("post", number),
-            12 | 13 => ("private", 0),
+        let (act, number) = match self.draw(40) {
+            0..=3 => (Act::Post, 0),
+            4..=11 => (Act::Post, number),
+            12 | 13 => (Act::Private, 0),
             14 | 15 => return self.sized(alloc, number),
-            16..=20 => ("read", number),
-            21 | 22 => ("peek", number),
-            23..=31 => ("kill", number),
-            32..=34 => ("mark", number),
-            35 | 36 => return Ok(Command::Relink),
-            _ => return Ok(Command::Pack),
+            16..=20 => (Act::Read, number),
+            21 | 22 => (Act::Peek, number),
+            23..=31 => (Act::Kill, number),
+            32..=34 => (Act::Mark, number),
+            35 | 36 => (Act::Relink, 0),
+            _ => (Act::Pack, 0),
         };
-        command_of(alloc, what, number)
-    }
-
-    // Who asks what.
-    fn asked(&mut self, alloc: Global, base: u32, next: u32) -> Result<Asked, RowError> {
-        let who = self.who();
-        asked_by(alloc, who, self.command(alloc, base, next))
+        command_of(alloc, act, number, TEXT)
     }
 
     // A round of commands, where the numbers go from this one to below that one, and a third of them may be posts.
-    fn put_round(
-        &mut self,
-        alloc: Global,
-        base: u32,
-        next: u32,
-        list: &mut Vec<Asked>,
-    ) -> Result<(), RowError> {
+    fn round(&mut self, base: u32, next: u32, words: &mut Words) -> Vec<Asked> {
+        let mut list = Vec::new(words.alloc);
         for count in 0..ROUND {
-            match self.asked(alloc, base, next.saturating_add(count / 3)) {
-                Ok(asked) => list.push(asked)?,
-                Err(error) => return Err(error),
+            let who = self.who();
+            let command = self.command(words.alloc, base, next.saturating_add(count / 3));
+            if let Some(asked) = asked_by(who, command, words) {
+                words.done(list.push(asked));
             }
         }
-        Ok(())
-    }
-}
-
-// An area from number 1 on without a slot.
-fn empty(alloc: Global) -> Area {
-    Area {
-        base: 1,
-        slots: Slots::new(alloc),
-        marks: Marks::new(alloc),
+        list
     }
 }
 
@@ -121,58 +99,33 @@ fn put_area(area: &mut Area, new: Area) {
 }
 
 // Asks these of the plain area, and gives its replies.
-fn run_plain(alloc: Global, area: &mut Area, list: &[Asked]) -> Result<Replies, RowError> {
-    let Ok(rules) = rules_of(alloc, 65_000) else {
-        return Err(RowError::OutOfMemory);
+fn run_plain(area: &mut Area, list: &[Asked], words: &mut Words) -> Option<Replies> {
+    let Ok(rules) = rules_of(words.alloc, 65_000) else {
+        words.lack();
+        return None;
     };
     if !may_run(area, rules.slots) {
-        return Err(RowError::Unknown(0));
+        words.unknown(0);
+        return None;
     }
-    let old = mem::replace(area, empty(alloc));
-    match run_slow(alloc, &rules, old, list) {
+    let old = mem::replace(area, plain_area(words.alloc));
+    match run_slow(words.alloc, &rules, old, list) {
         Ok((new, replies)) => {
             put_area(area, new);
-            Ok(replies)
+            Some(replies)
         }
-        Err(_) => Err(RowError::OutOfMemory),
-    }
-}
-
-// A reply in words.
-fn words_of(alloc: Global, reply: &Reply) -> Result<String, RowError> {
-    let mut words = Words::new(alloc);
-    match put_reply(alloc, &mut words, reply) {
-        Ok(()) => words.end(),
-        Err(error) => Err(error),
-    }
-}
-
-// The plain area in words.
-fn plain_words(alloc: Global, area: &Area) -> Result<String, RowError> {
-    let mut words = Words::new(alloc);
-    match put_plain(alloc, &mut words, area) {
-        Ok(()) => words.end(),
-        Err(error) => Err(error),
-    }
-}
-
-// What the other area of a copy has loaded, in the words of the plain one, with the texts on the disk of the first.
-fn loaded_words(copy: &Copied<'_>) -> Result<String, RowError> {
-    let mut words = Words::new(copy.alloc);
-    let Some(loaded) = copy.look.loaded() else {
-        return Err(RowError::Unknown(0));
-    };
-    let texts = copy.area.file(FileId::Jdt);
-    match put_loaded(copy.alloc, &mut words, loaded, texts) {
-        Ok(()) => words.end(),
-        Err(error) => Err(error),
+        Err(_) => {
+            words.lack();
+            None
+        }
     }
 }
 
 // Whether the area answered this last.
 fn is_reply(copy: &mut Copied<'_>, reply: &Reply) -> bool {
-    let wanted = words_of(copy.alloc, reply);
-    let wanted = copy.noted(wanted);
+    let mut words = Words::new(copy.alloc);
+    put_reply(&mut words, reply);
+    let wanted = copy.wrong.text_of(words);
     copy.reply().as_str() == wanted.as_str()
 }
 
@@ -198,11 +151,11 @@ fn is_plain(copy: &mut Copied<'_>, plain: &Area) -> bool {
     let stood = copy.stood();
     let calls = copy.area.calls();
     copy.look_at(calls, 1);
-    let came = loaded_words(copy);
-    let came = copy.noted(came);
-    let wanted = plain_words(copy.alloc, plain);
-    let wanted = copy.noted(wanted);
-    came.as_str() == wanted.as_str() && copy.looks().as_str() == stood.as_str()
+    let is_so = match copy.look.loaded() {
+        Some(loaded) => same_area(plain, loaded, copy.area.file(FileId::Jdt)),
+        None => false,
+    };
+    copy.looks().as_str() == stood.as_str() && is_so
 }
 
 // The number that the next message gets.
@@ -215,67 +168,38 @@ fn next_of(plain: &Area) -> u32 {
 
 // How many of these are answered as by the plain program, on a base that is closed and opened anew for them; none where the area is
 // not the plain one then.
-fn run(
-    copy: &mut Copied<'_>,
-    lot: &mut Lot,
-    plain: &mut Area,
-    list: &[Asked],
-) -> Result<u64, RowError> {
-    match run_plain(copy.alloc, plain, list) {
-        Ok(replies) => {
-            copy.open_anew();
-            let same = ask_all(copy, lot, list, replies.as_slice());
-            Ok(if is_plain(copy, plain) { same } else { 0 })
-        }
-        Err(error) => Err(error),
-    }
+fn run(copy: &mut Copied<'_>, lot: &mut Lot, plain: &mut Area, list: &[Asked]) -> u64 {
+    let Some(replies) = run_plain(plain, list, &mut copy.wrong) else {
+        return 0;
+    };
+    copy.open_anew();
+    let same = ask_all(copy, lot, list, replies.as_slice());
+    if is_plain(copy, plain) { same } else { 0 }
 }
 
-// The same of a round of commands that are drawn by lot.
-fn next_round(copy: &mut Copied<'_>, lot: &mut Lot, plain: &mut Area) -> Result<u64, RowError> {
-    let mut list = Vec::new(copy.alloc);
-    lot.put_round(copy.alloc, plain.base, next_of(plain), &mut list)?;
-    run(copy, lot, plain, list.as_slice())
-}
-
-// The same of so many rounds.
-fn rounds(copy: &mut Copied<'_>, seed: u32, rounds: u32) -> Result<u64, RowError> {
+// The same of so many rounds of commands that are drawn by lot.
+fn rounds(copy: &mut Copied<'_>, seed: u32, rounds: u32) -> u64 {
     let mut lot = Lot {
         state: u64::from(seed),
     };
-    let mut plain = empty(copy.alloc);
+    let mut plain = plain_area(copy.alloc);
     let mut count = 0_u64;
     copy.open(&[]);
     for _ in 0..rounds {
-        count = count.saturating_add(next_round(copy, &mut lot, &mut plain)?);
+        let list = lot.round(plain.base, next_of(&plain), &mut copy.wrong);
+        count = count.saturating_add(run(copy, &mut lot, &mut plain, list.as_slice()));
     }
-    copy.end()?;
-    Ok(count)
-}
-
-// The same over a copy of this base, in words.
-fn raced(
-    alloc: Global,
-    base: &Base,
-    seed: u32,
-    many: u32,
-    words: &mut Words,
-) -> Result<(), RowError> {
-    let mut copy = Copied::new(alloc, base);
-    words.number(rounds(&mut copy, seed, many)?);
-    words.word("the same");
-    Ok(())
+    count
 }
 
 /// `drawn SEED ROUNDS`: how many commands are answered as by the plain program, in rounds of fifty, each of them on a base that was closed
 /// and opened anew; those of a round whose area is not that of the program do not count.
-pub(crate) fn put_drawn(
-    alloc: Global,
-    seed: u32,
-    many: u32,
-    words: &mut Words,
-) -> Result<(), RowError> {
-    let mut base = Base::new(alloc);
-    base.begin(1)?;
-    raced(alloc, &base, seed, many, words)
+pub(crate) fn put_drawn(row: &Row, words: &mut Words) {
+    let (seed, many) = (row.u32(1, words), row.u32(2, words));
+    let mut base = Base::new(words.alloc);
+    base.begin(1, words);
+    let mut copy = Copied::new(words.alloc, &base);
+    words.number(rounds(&mut copy, seed, many));
+    words.word("the same");
+    words.heed(&copy.wrong);
 }

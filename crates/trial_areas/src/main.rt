@@ -10,7 +10,6 @@ mod copied;
 mod drawn;
 mod opening;
 mod parts;
-mod plain;
 mod quiet;
 mod showing;
 mod stage;

@@ -1,9 +1,7 @@
 //! Openings, stopped at each of their device calls.
 
-use crate::base::Base;
 use crate::copied::Copied;
-use std::alloc::Global;
-use trial_rows::{RowError, Words};
+use trial_rows::Words;
 
 // Whether the opening is told this failing call as a fault, and the disk then opens to the same.
 fn faults(copy: &mut Copied<'_>, call: u64, wanted: &str) -> bool {
@@ -36,8 +34,9 @@ fn images(copy: &mut Copied<'_>, wanted: &str) -> u64 {
     count
 }
 
-// The same as `opening`, of this copy.
-fn put_openings(copy: &mut Copied<'_>, words: &mut Words) -> Result<(), RowError> {
+/// `opening`: how many device calls the opening makes; how many of them are told as a fault where they fail, and leave what opens to
+/// the same; and how many images of crashes, four of each moment, open to the same.
+pub(crate) fn put_opening(copy: &mut Copied<'_>, words: &mut Words) {
     copy.open(&[]);
     let stood = copy.stood();
     let calls = copy.area.calls();
@@ -48,12 +47,5 @@ fn put_openings(copy: &mut Copied<'_>, words: &mut Words) -> Result<(), RowError
     words.word("faults,");
     words.number(images);
     words.word("images");
-    copy.end()
-}
-
-/// `opening`: how many device calls the opening makes; how many of them are told as a fault where they fail, and leave what opens to
-/// the same; and how many images of crashes, four of each moment, open to the same.
-pub(crate) fn put_opening(alloc: Global, base: &Base, words: &mut Words) -> Result<(), RowError> {
-    let mut copy = Copied::new(alloc, base);
-    put_openings(&mut copy, words)
+    words.heed(&copy.wrong);
 }

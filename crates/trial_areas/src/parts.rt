@@ -1,12 +1,10 @@
 //! Calls in two parts: begun, with the reply that is coming, and finished, abandoned or stopped.
 
-use crate::asking::{Act, Way};
-use crate::base::Base;
+use crate::asking::{Deed, Way};
 use crate::copied::Copied;
 use crate::stage::End;
 use crate::stops::Case;
-use std::alloc::Global;
-use trial_rows::{RowError, Words};
+use trial_rows::Words;
 
 // Whether the call in one piece is answered so too, and leaves the same.
 fn is_as_whole(case: &mut Case<'_>) -> bool {
@@ -29,42 +27,40 @@ fn is_dropped(case: &mut Case<'_>) -> bool {
 
 /// `parts USER COMMAND`: the reply; how many device calls the beginning makes and how many the finishing; what a crash at each moment
 /// leaves; and what becomes of the command when it is stopped at each.
-pub(crate) fn put_parts(case: &mut Case<'_>, words: &mut Words) -> Result<(), RowError> {
+pub(crate) fn put_parts(case: &mut Case<'_>, words: &mut Words) {
     if !is_as_whole(case) || !is_coming(case) {
-        words.word("otherwise than in one piece");
-        return case.copy.end();
+        return words.word("otherwise than in one piece");
     }
     if !is_dropped(case) {
-        words.word("abandoned, it leaves something");
-        return case.copy.end();
+        return words.word("abandoned, it leaves something");
     }
     let reads = case.calls();
     words.word(case.reply.as_str());
     words.put(",");
     words.number(reads);
     words.word("+");
-    case.put_fate(words, reads)
+    case.put_fate(words, reads);
 }
 
 // Whether what is asked behind a call that was begun and abandoned is answered as without it, and leaves the same.
-fn is_alone(copy: &mut Copied<'_>, dropped: &Act, act: &Act) -> bool {
+fn is_alone(copy: &mut Copied<'_>, dropped: &Deed, deed: &Deed) -> bool {
     let alloc = copy.alloc;
     copy.open(&[]);
-    copy.area.act(alloc, act, Way::All);
+    copy.area.act(alloc, deed, Way::All);
     let reply = copy.reply();
     let after = copy.stood();
     copy.open(&[]);
     copy.area.act(alloc, dropped, Way::Begun);
     copy.area.end(End::Abandon);
-    copy.area.act(alloc, act, Way::All);
+    copy.area.act(alloc, deed, Way::All);
     copy.answers(reply.as_str(), after.as_str())
 }
 
 // How many of these are answered as ever behind the first.
-fn count_alone(copy: &mut Copied<'_>, first: &Act, all: &[Act]) -> u64 {
+fn count_alone(copy: &mut Copied<'_>, first: &Deed, all: &[Deed]) -> u64 {
     let mut count = 0_u64;
-    for act in all {
-        if is_alone(copy, first, act) {
+    for deed in all {
+        if is_alone(copy, first, deed) {
             count = count.saturating_add(1);
         }
     }
@@ -72,16 +68,10 @@ fn count_alone(copy: &mut Copied<'_>, first: &Act, all: &[Act]) -> u64 {
 }
 
 /// `behind USER COMMAND ; ..`: how many of these are answered as ever behind the first, which is begun and abandoned.
-pub(crate) fn put_behind(
-    alloc: Global,
-    base: &Base,
-    all: &[Act],
-    words: &mut Words,
-) -> Result<(), RowError> {
-    let Some(first) = all.first() else {
-        return Err(RowError::Missing(1));
-    };
-    let mut copy = Copied::new(alloc, base);
-    words.number(count_alone(&mut copy, first, all));
-    copy.end()
+pub(crate) fn put_behind(copy: &mut Copied<'_>, all: &[Deed], words: &mut Words) {
+    match all.first() {
+        Some(first) => words.number(count_alone(copy, first, all)),
+        None => words.unknown(1),
+    }
+    words.heed(&copy.wrong);
 }

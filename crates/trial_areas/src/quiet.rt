@@ -2,11 +2,9 @@
 ghost use Rattle.std.specs.Prelude.{◌≡◌, ◌≤◌, OnErr, OnOk};
 ghost use Rattle.jb_base.specs.Fault.{Rose};
 
-use jb_base::Bytes;
 use jb_disk::{Disk, DiskFailed, FileId, MemDisk, SilentDisk};
-use std::alloc::Global;
 use std::marker::Model;
-use trial_rows::RowError;
+use trial_rows::Words;
 
 /// Dead bytes that take no memory: so many behind the fixed header of .JHR, and so many at the beginning of .JDT.
 #[derive(Clone, Copy)]
@@ -105,47 +103,32 @@ impl Model for Quiet {
 }
 
 impl Quiet {
-    /// A disk with these files and dead bytes, that fails the calls with these numbers.
-    pub(crate) fn new(
-        alloc: Global,
-        files: [Bytes; 6],
-        holes: Holes,
-        failing: &[u64],
-    ) -> Result<Quiet, RowError> {
-        let Ok(failing) = failing.to_vec(alloc) else {
-            return Err(RowError::OutOfMemory);
-        };
-        match MemDisk::new(alloc, files, failing) {
-            Ok(disk) => Ok(Quiet {
-                disk: SilentDisk::new(disk),
-                holes,
-            }),
-            Err(_) => Err(RowError::OutOfMemory),
+    /// This disk, with dead bytes.
+    pub(crate) fn new(disk: MemDisk, holes: Holes) -> Quiet {
+        Quiet {
+            disk: SilentDisk::new(disk),
+            holes,
         }
     }
 
-    /// What the file holds, without dead bytes.
-    pub(crate) fn file(&self, file: FileId) -> &[u8] {
-        self.disk.disk.file(file)
-    }
-
-    /// How many calls the disk has had.
-    pub(crate) fn calls(&self) -> u64 {
-        self.disk.disk.calls()
+    /// The disk in memory, without dead bytes.
+    pub(crate) fn memory(&self) -> &MemDisk {
+        &self.disk.disk
     }
 
     /// What a crash after so many calls may leave, by the pick from 0 to 3.
-    pub(crate) fn crashed(&self, calls: u64, pick: u8) -> Result<Quiet, RowError> {
+    pub(crate) fn crashed(&self, calls: u64, pick: u8, words: &mut Words) -> Option<Quiet> {
         let disk = &self.disk.disk;
         if calls > disk.calls() || pick > 3 {
-            return Err(RowError::Unknown(0));
+            words.unknown(0);
+            return None;
         }
         match disk.crashed(calls, pick) {
-            Ok(disk) => Ok(Quiet {
-                disk: SilentDisk::new(disk),
-                holes: self.holes,
-            }),
-            Err(_) => Err(RowError::OutOfMemory),
+            Ok(disk) => Some(Quiet::new(disk, self.holes)),
+            Err(_) => {
+                words.lack();
+                None
+            }
         }
     }
 }

@@ -1,11 +1,11 @@
 //! Commands that are stopped at each of their device calls, with what a crash then leaves and what reopening finds.
 
-use crate::asking::{Act, Way};
+use crate::asking::{Deed, Way};
 use crate::base::Base;
 use crate::copied::Copied;
 use crate::stage::{End, Outcome};
 use std::alloc::Global;
-use trial_rows::{RowError, Words};
+use trial_rows::Words;
 
 /// More than the device calls of any command.
 const MOST_CALLS: u64 = 500;
@@ -15,8 +15,8 @@ const MOST_CALLS: u64 = 500;
 #[derive(Drop)]
 pub(crate) struct Case<'a> {
     pub copy: Copied<'a>,
-    first: &'a [Act],
-    act: &'a Act,
+    first: &'a [Deed],
+    deed: &'a Deed,
     way: Way,
     pub opening: u64,
     pub before: String,
@@ -52,14 +52,14 @@ impl<'a> Case<'a> {
     pub(crate) fn new(
         alloc: Global,
         base: &'a Base,
-        first: &'a [Act],
-        act: &'a Act,
+        first: &'a [Deed],
+        deed: &'a Deed,
         way: Way,
     ) -> Case<'a> {
         Case {
             copy: Copied::new(alloc, base),
             first,
-            act,
+            deed,
             way,
             opening: 0,
             before: String::new(alloc),
@@ -82,16 +82,16 @@ impl<'a> Case<'a> {
     fn reach(&mut self, failing: &[u64]) {
         self.copy.open(failing);
         let alloc = self.copy.alloc;
-        for act in self.first {
-            self.copy.area.act(alloc, act, Way::All);
+        for deed in self.first {
+            self.copy.area.act(alloc, deed, Way::All);
         }
     }
 
     /// The area behind the act, that is asked in this way.
     pub(crate) fn ask(&mut self, failing: &[u64], way: Way) {
         self.reach(failing);
-        let (alloc, act) = (self.copy.alloc, self.act);
-        self.copy.area.act(alloc, act, way);
+        let (alloc, deed) = (self.copy.alloc, self.deed);
+        self.copy.area.act(alloc, deed, way);
     }
 
     /// How many calls the closed disk has had since the beginning of the act.
@@ -163,8 +163,8 @@ impl<'a> Case<'a> {
         if !matches!(self.copy.area.outcome(), Outcome::Falls) {
             return true;
         }
-        let (alloc, act, way) = (self.copy.alloc, self.act, self.way);
-        self.copy.area.act(alloc, act, way);
+        let (alloc, deed, way) = (self.copy.alloc, self.deed, self.way);
+        self.copy.area.act(alloc, deed, way);
         self.copy.answers(self.reply.as_str(), self.after.as_str())
     }
 
@@ -221,24 +221,24 @@ impl<'a> Case<'a> {
     }
 
     /// How many device calls the command makes behind so many others, and what becomes of it.
-    pub(crate) fn put_fate(&mut self, words: &mut Words, others: u64) -> Result<(), RowError> {
+    pub(crate) fn put_fate(&mut self, words: &mut Words, others: u64) {
         let mut letters = Words::new(self.copy.alloc);
         let calls = self.put_stops(&mut letters);
+        let letters = words.text_of(letters);
         words.number(calls.saturating_sub(others));
         words.word("calls, left ");
         self.put_crashes(words);
         words.put(", stopped");
-        match letters.end() {
-            Ok(letters) if letters.is_empty() => words.word("never"),
-            Ok(letters) => words.word(letters.as_str()),
-            Err(error) => return Err(error),
-        }
-        self.copy.end()
+        words.word(if letters.is_empty() {
+            "never"
+        } else {
+            letters.as_str()
+        });
     }
 }
 
 /// `try USER COMMAND`: the reply, how many device calls were made, and whether area and files are as they were.
-pub(crate) fn put_tried(case: &mut Case<'_>, words: &mut Words) -> Result<(), RowError> {
+pub(crate) fn put_tried(case: &mut Case<'_>, words: &mut Words) {
     case.ask(&[], Way::All);
     case.copy.area.close();
     let is_same = case.copy.is_kept(6) && case.before.as_str() == case.after.as_str();
@@ -247,5 +247,4 @@ pub(crate) fn put_tried(case: &mut Case<'_>, words: &mut Words) -> Result<(), Ro
     words.number(case.calls());
     words.word("calls,");
     words.word(if is_same { "as it was" } else { "changed" });
-    case.copy.end()
 }

@@ -1,61 +1,52 @@
 //! Small changes of an area, put into one change of its files, and the writing of it.
 ghost use Rattle.std.specs.Prelude.{◌≡◌};
 
-use crate::mark::mark_at;
+use crate::loaded::mark_at;
 use jb_base::{DELETED, MOST_MARKS};
-use jb_change::{put_counts, put_kill, put_links, put_mark, put_reading};
+use jb_change::{put_counts, put_kill, put_links, put_mark, put_new_mark, put_reading};
 use jb_disk::{Disk, DiskFailed, MemDisk, Redo};
 use jb_model::Head;
-use trial_rows::{Row, RowError, Words};
+use trial_rows::{Files, Row, Words};
 
 /// Behind this place of .JHR nothing is changed here.
-const LAST_AT: u32 = 1_000_000;
+const LAST_AT: u64 = 1_000_000;
 
 /// The answer to a row that puts a piece behind the others, if it gives one: how many there are then.
-pub(crate) fn answer(redo: &mut Redo, row: &Row, words: &mut Words) -> Result<(), RowError> {
-    put(redo, row)?;
+pub(crate) fn answer(redo: &mut Redo, row: &Row, words: &mut Words) {
+    match row.word(0) {
+        "counts" => counts(redo, row, words),
+        "links" => links(redo, row, words),
+        "reading" => reading(redo, row, words),
+        "mark" => mark(redo, row, words),
+        "kill" => kill(redo, row, words),
+        "pieces" => {}
+        _ => words.unknown(0),
+    }
     words.number(u64::from(redo.pieces()));
     words.word("pieces");
-    Ok(())
 }
 
-/// Puts the piece of a row behind the others, if it gives one.
-fn put(redo: &mut Redo, row: &Row) -> Result<(), RowError> {
-    match row.word(0)? {
-        "counts" => counts(redo, row),
-        "links" => links(redo, row),
-        "reading" => reading(redo, row),
-        "mark" => mark(redo, row),
-        "kill" => kill(redo, row),
-        "pieces" => Ok(()),
-        _ => Err(RowError::Unknown(0)),
+// `counts COUNTER ACTIVE`.
+fn counts(redo: &mut Redo, row: &Row, words: &mut Words) {
+    let (counter, active) = (row.u32(1, words), row.u32(2, words));
+    match redo.reserve(0, 1, 8) {
+        Ok(()) => put_counts(redo, counter, active),
+        Err(_) => words.lack(),
     }
 }
 
-/// `counts COUNTER ACTIVE`.
-fn counts(redo: &mut Redo, row: &Row) -> Result<(), RowError> {
-    let counter = row.u32(1)?;
-    let active = row.u32(2)?;
-    redo.reserve(0, 1, 8)?;
-    put_counts(redo, counter, active);
-    Ok(())
-}
-
-/// `links AT TO FIRST NEXT`.
-fn links(redo: &mut Redo, row: &Row) -> Result<(), RowError> {
-    let at = row.u32(1)?;
-    let to = row.u32(2)?;
-    let first = row.u32(3)?;
-    let next = row.u32(4)?;
-    if at > LAST_AT {
-        return Err(RowError::Unknown(1));
+// `links AT TO FIRST NEXT`.
+fn links(redo: &mut Redo, row: &Row, words: &mut Words) {
+    let at = row.at_most(LAST_AT, 1, words) as u32;
+    let (to, first) = (row.u32(2, words), row.u32(3, words));
+    let next = row.u32(4, words);
+    match redo.reserve(0, 1, 12) {
+        Ok(()) => put_links(redo, at, to, first, next),
+        Err(_) => words.lack(),
     }
-    redo.reserve(0, 1, 12)?;
-    put_links(redo, at, to, first, next);
-    Ok(())
 }
 
-/// A header of which three fields count in a reading; the others are 1.
+// A header of which three fields count in a reading; the others are 1.
 fn read_head(times_read: u32, received: u32, attribute: u32) -> Head
     ensures { result.attribute ≡ attribute }
 {
@@ -77,45 +68,59 @@ fn read_head(times_read: u32, received: u32, attribute: u32) -> Head
     }
 }
 
-/// `reading AT TIMES RECEIVED ATTRIBUTE`.
-fn reading(redo: &mut Redo, row: &Row) -> Result<(), RowError> {
-    let at = row.u32(1)?;
-    let times = row.u32(2)?;
-    let received = row.u32(3)?;
-    let attribute = row.u32(4)?;
-    if at > LAST_AT || attribute & DELETED != 0 {
-        return Err(RowError::Unknown(4));
+// `reading AT TIMES RECEIVED ATTRIBUTE`.
+fn reading(redo: &mut Redo, row: &Row, words: &mut Words) {
+    let at = row.at_most(LAST_AT, 1, words) as u32;
+    let (times, received) = (row.u32(2, words), row.u32(3, words));
+    let attribute = row.u32(4, words);
+    if attribute & DELETED != 0 {
+        return words.unknown(4);
     }
-    redo.reserve(0, 3, 12)?;
-    put_reading(redo, at, &read_head(times, received, attribute));
-    Ok(())
+    match redo.reserve(0, 3, 12) {
+        Ok(()) => put_reading(redo, at, &read_head(times, received, attribute)),
+        Err(_) => words.lack(),
+    }
 }
 
-/// `mark PLACE CRC USER LAST HIGH`.
-fn mark(redo: &mut Redo, row: &Row) -> Result<(), RowError> {
-    let place = row.u32(1)?;
-    let mark = mark_at(row, 2)?;
+// `mark PLACE CRC USER LAST HIGH`.
+fn mark(redo: &mut Redo, row: &Row, words: &mut Words) {
+    let place = row.u32(1, words);
+    let mark = mark_at(row, 2, words);
     if place >= MOST_MARKS {
-        return Err(RowError::Unknown(1));
+        return words.unknown(1);
     }
-    redo.reserve(0, 1, 16)?;
-    put_mark(redo, place, &mark);
-    Ok(())
+    match redo.reserve(0, 1, 16) {
+        Ok(()) => put_mark(redo, place, &mark),
+        Err(_) => words.lack(),
+    }
 }
 
-/// `kill AT ATTRIBUTE`.
-fn kill(redo: &mut Redo, row: &Row) -> Result<(), RowError> {
-    let at = row.u32(1)?;
-    let attribute = row.u32(2)?;
-    if at > LAST_AT {
-        return Err(RowError::Unknown(1));
+/// `new-mark COUNT CRC USER LAST HIGH`: a mark behind so many.
+pub(crate) fn new_mark(redo: &mut Redo, row: &Row, words: &mut Words) {
+    let count = row.u32(1, words);
+    let mark = mark_at(row, 2, words);
+    if count >= MOST_MARKS {
+        return words.unknown(1);
     }
-    redo.reserve(0, 1, 4)?;
-    put_kill(redo, at, attribute);
-    Ok(())
+    redo.clear();
+    match redo.reserve(1, 1, 16) {
+        Ok(()) => put_new_mark(redo, count, &mark),
+        Err(_) => words.lack(),
+    }
+    words.word("put");
 }
 
-/// Sets the lengths, which are small here, and writes the pieces, in order.
+// `kill AT ATTRIBUTE`.
+fn kill(redo: &mut Redo, row: &Row, words: &mut Words) {
+    let at = row.at_most(LAST_AT, 1, words) as u32;
+    let attribute = row.u32(2, words);
+    match redo.reserve(0, 1, 4) {
+        Ok(()) => put_kill(redo, at, attribute),
+        Err(_) => words.lack(),
+    }
+}
+
+// Sets the lengths, which are small here, and writes the pieces, in order.
 fn apply(disk: &mut MemDisk, redo: &Redo) -> Result<(), DiskFailed> {
     for entry in redo.lengths() {
         let len = u64::from(entry.len.min(520_000));
@@ -128,16 +133,28 @@ fn apply(disk: &mut MemDisk, redo: &Redo) -> Result<(), DiskFailed> {
     Ok(())
 }
 
-/// Does the change that was put together; then there is none.
-pub(crate) fn write(
-    disk: &mut MemDisk,
-    redo: &mut Redo,
-    words: &mut Words,
-) -> Result<(), RowError> {
-    match apply(disk, redo) {
-        Ok(()) => words.word("written"),
+// Puts the changed disk's files in the place of these; then there is no change.
+fn put_changed(files: &mut Files, disk: &MemDisk, redo: &mut Redo, words: &mut Words) {
+    match Files::of(words.alloc, disk) {
+        Ok(changed) => {
+            *files = changed;
+            redo.clear();
+        }
+        Err(_) => words.lack(),
+    }
+}
+
+/// `write`: does the change that was put together.
+pub(crate) fn write(files: &mut Files, redo: &mut Redo, words: &mut Words) {
+    let made = files.disk(words.alloc, &[]);
+    let Some(mut disk) = words.made(made) else {
+        return;
+    };
+    match apply(&mut disk, redo) {
+        Ok(()) => {
+            words.word("written");
+            put_changed(files, &disk, redo, words);
+        }
         Err(DiskFailed) => words.word("the disk failed"),
     }
-    redo.clear();
-    Ok(())
 }

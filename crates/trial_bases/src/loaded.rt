@@ -1,54 +1,77 @@
-//! The area for which files stand.
+//! The area for which files stand, and slots and marks in words.
+ghost use Rattle.std.specs.Prelude.{◌+◌, ◌<◌, ◌^◌};
 
-use crate::mark;
-use crate::opening::put_refusal;
-use jb_base::Subfields;
-use jb_disk::MemDisk;
+use jb_base::{Subfields, first_part};
 use jb_image::decode;
-use jb_model::{Loaded, LoadedMessage, LoadedSlot};
-use std::alloc::Global;
-use trial_rows::{Row, RowError, Words, listed, shown};
+use jb_model::{Loaded, LoadedMessage, LoadedSlot, Mark};
+use trial_rows::{Files, Row, Words};
 
-/// The answer to a row that shows the area.
-pub(crate) fn answer(
-    alloc: Global,
-    disk: &mut MemDisk,
-    row: &Row,
-    words: &mut Words,
-) -> Result<(), RowError> {
-    match decode(alloc, disk, 65_000) {
-        Ok(loaded) => put_part(alloc, &loaded, row, words),
-        Err(error) => put_refusal(alloc, error, words),
+/// `area`, `marks`, `slots` and `message PLACE`: what is loaded of the files.
+pub(crate) fn answer(files: &Files, row: &Row, words: &mut Words) {
+    let made = files.disk(words.alloc, &[]);
+    let Some(mut disk) = words.made(made) else {
+        return;
+    };
+    match decode(words.alloc, &mut disk, 65_000) {
+        Ok(loaded) => put_part(&loaded, row, words),
+        Err(error) => words.debug(&error),
     }
 }
 
-fn put_part(alloc: Global, loaded: &Loaded, row: &Row, words: &mut Words) -> Result<(), RowError> {
-    match row.word(0)? {
+fn put_part(loaded: &Loaded, row: &Row, words: &mut Words) {
+    match row.word(0) {
         "area" => put_numbers(words, loaded),
-        "marks" => mark::put_marks(words, loaded.marks.as_slice()),
+        "marks" => put_marks(words, loaded.marks.as_slice()),
         "slots" => put_slots(words, loaded.slots.as_slice()),
-        _ => return put_message_at(alloc, loaded.slots.as_slice(), row.number(1)?, words),
+        _ => {
+            let place = row.u32(1, words) as usize;
+            match loaded.slots.as_slice().get(place) {
+                Some(LoadedSlot::Live(message)) => put_message(message, words),
+                _ => words.word("not live"),
+            }
+        }
     }
-    Ok(())
 }
 
-/// Puts a number and what it is.
-fn put_named(words: &mut Words, name: &str, number: u64) {
-    words.word(name);
-    words.number(number);
-}
-
-/// The numbers of the fixed header, and the lengths of .JHR and .JDT.
+// The numbers of the fixed header, and the lengths of .JHR and .JDT.
 fn put_numbers(words: &mut Words, loaded: &Loaded) {
-    put_named(words, "created", u64::from(loaded.created));
-    put_named(words, "counter", u64::from(loaded.counter));
-    put_named(words, "active", u64::from(loaded.active));
-    put_named(words, "base", u64::from(loaded.base));
-    put_named(words, "headers", loaded.headers_len);
-    put_named(words, "texts", loaded.texts_len);
+    words.named("created", u64::from(loaded.created));
+    words.named("counter", u64::from(loaded.counter));
+    words.named("active", u64::from(loaded.active));
+    words.named("base", u64::from(loaded.base));
+    words.named("headers", loaded.headers_len);
+    words.named("texts", loaded.texts_len);
 }
 
-/// What each number names, and the place of its header.
+// What is read of a live message: the numbers of its index record and of its header, and its subfields.
+fn put_message(message: &LoadedMessage, words: &mut Words) {
+    words.named("owner", u64::from(message.owner));
+    words.named("header", u64::from(message.header_at));
+    words.named("text", u64::from(message.text_at));
+    words.put("+");
+    words.put_number(u64::from(message.text_len));
+    words.named("read", u64::from(message.head.times_read));
+    words.named("id", u64::from(message.head.msgid_crc));
+    words.named("attribute", u64::from(message.head.attribute));
+    put_fields(&message.subfields, words);
+}
+
+fn put_fields(fields: &Subfields, words: &mut Words) {
+    let mut rest = fields.as_bytes();
+    while let Some(part) = first_part(rest) {
+        put_numbered(u64::from(part.id), part.content, words);
+        rest = part.behind;
+    }
+}
+
+/// Puts a number, and bytes behind a colon.
+pub(crate) fn put_numbered(number: u64, bytes: &[u8], words: &mut Words) {
+    words.number(number);
+    words.put(":");
+    words.put_shown(bytes);
+}
+
+/// What each of these slots names, and the place of its header.
 pub(crate) fn put_slots(words: &mut Words, slots: &[LoadedSlot]) {
     words.word("slots");
     for slot in slots {
@@ -57,68 +80,35 @@ pub(crate) fn put_slots(words: &mut Words, slots: &[LoadedSlot]) {
 }
 
 fn put_slot(words: &mut Words, slot: &LoadedSlot) {
-    match slot {
-        LoadedSlot::Empty => words.word("empty"),
-        LoadedSlot::Killed { header_at } => put_placed(words, "killed@", *header_at),
-        LoadedSlot::Live(message) => put_placed(words, "live@", message.header_at),
-    }
-}
-
-fn put_placed(words: &mut Words, kind: &str, header_at: u32) {
+    let (kind, header_at) = match slot {
+        LoadedSlot::Empty => return words.word("empty"),
+        LoadedSlot::Killed { header_at } => ("killed@", *header_at),
+        LoadedSlot::Live(message) => ("live@", message.header_at),
+    };
     words.word(kind);
     words.put_number(u64::from(header_at));
 }
 
-fn put_message_at(
-    alloc: Global,
-    slots: &[LoadedSlot],
-    place: u64,
-    words: &mut Words,
-) -> Result<(), RowError> {
-    match slots.get(place as usize) {
-        Some(LoadedSlot::Live(message)) => put_message(alloc, message, words),
-        _ => {
-            words.word("not live");
-            Ok(())
+/// These marks, in order.
+pub(crate) fn put_marks(words: &mut Words, marks: &[Mark]) {
+    words.word("marks");
+    for mark in marks {
+        words.number(u64::from(mark.user_crc));
+        for number in [mark.user_id, mark.last, mark.high] {
+            words.put(":");
+            words.put_number(u64::from(number));
         }
     }
 }
 
-/// What is read of a live message: the numbers of its index record and of its header, and its subfields.
-fn put_message(alloc: Global, message: &LoadedMessage, words: &mut Words) -> Result<(), RowError> {
-    put_named(words, "owner", u64::from(message.owner));
-    put_named(words, "header", u64::from(message.header_at));
-    put_named(words, "text", u64::from(message.text_at));
-    words.put("+");
-    words.put_number(u64::from(message.text_len));
-    put_named(words, "read", u64::from(message.head.times_read));
-    put_named(words, "id", u64::from(message.head.msgid_crc));
-    put_named(words, "attribute", u64::from(message.head.attribute));
-    put_fields(alloc, &message.subfields, words)
-}
-
-fn put_fields(alloc: Global, fields: &Subfields, words: &mut Words) -> Result<(), RowError> {
-    let Ok(list) = listed(alloc, fields) else {
-        return Err(RowError::OutOfMemory);
-    };
-    for field in list.as_slice() {
-        put_numbered(alloc, u64::from(field.id), field.bytes.as_slice(), words)?;
+/// The mark of the four words from a place on: the CRC of the user's name, the user's number, the last message, the highest.
+pub(crate) fn mark_at(row: &Row, place: usize, words: &mut Words) -> Mark
+    requires { place + 4 < 2 ^ 64 }
+{
+    Mark {
+        user_crc: row.u32(place, words),
+        user_id: row.u32(place + 1, words),
+        last: row.u32(place + 2, words),
+        high: row.u32(place + 3, words),
     }
-    Ok(())
-}
-
-/// Puts a number, and bytes behind a colon.
-pub(crate) fn put_numbered(
-    alloc: Global,
-    number: u64,
-    bytes: &[u8],
-    words: &mut Words,
-) -> Result<(), RowError> {
-    let Ok(text) = shown(alloc, bytes) else {
-        return Err(RowError::OutOfMemory);
-    };
-    words.number(number);
-    words.put(":");
-    words.put(text.as_str());
-    Ok(())
 }

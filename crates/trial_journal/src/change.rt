@@ -1,6 +1,6 @@
 //! The change that is committed.
 ghost use Rattle.std.specs.Prelude.{IfOk};
-ghost use Rattle.jb_journal.specs.Commit.{IsWritable};
+ghost use Rattle.jb_redo.specs.Changes.{IsWritable};
 
 use jb_base::OutOfMemory;
 use jb_disk::{FileId, Length, Redo};

@@ -1,91 +1,200 @@
-//! Tries the journal's record, commits, settling and opening by rows: small files, a journal, and what each call answers.
+//! Tries what lies below a base by rows: the journal's record, commits, settling and opening, on small files and a journal, and what
+//! each call answers; and disks, links, doors, bells and hosts in memory that nothing else runs.
 #![tactic(auto)]
 
-mod applying;
-mod base;
 mod change;
 mod committing;
 mod copying;
 mod crashing;
+mod edge;
+mod entrance;
+mod host;
+mod record;
 mod showing;
-mod testing;
 
-use base::Base;
-use jb_base::OutOfMemory;
-use jb_disk::{MemDisk, SilentDisk};
+use jb_base::Bytes;
+use jb_disk::{FileId, MemDisk, SilentDisk, SteadyDisk};
+use jb_host::{MemBell, MemDoor, MemHost, MemLink};
 use std::alloc::Global;
 use std::io;
-use trial_rows::{Answers, Row, RowError, Words};
+use trial_rows::{Answers, Files, Row, Words, file_of};
 
-/// The files that the rows gave, the disk on which a row is tried, and the one on which a commit was done last.
+/// The files that the rows gave, the disk on which a commit was done last, and what else the rows made.
 #[derive(Drop)]
 struct Trial {
-    base: Base,
-    tried: SilentDisk<MemDisk>,
-    done: SilentDisk<MemDisk>,
+    files: Files,
+    done: Option<SilentDisk<MemDisk>>,
+    steady: Option<SteadyDisk>,
+    silent: Option<SilentDisk<MemDisk>>,
+    link: MemLink,
+    into: [u8; 3],
+    outside: Outside,
+}
+
+/// A host, and the disks, doors and bells that it has handed out, in order.
+#[derive(Drop)]
+struct Outside {
+    host: MemHost,
+    disks: Vec<MemDisk>,
+    doors: Vec<MemDoor>,
+    bells: Vec<MemBell>,
+}
+
+// A link without input.
+fn no_link(alloc: Global) -> MemLink {
+    MemLink::new(alloc, Bytes::new(alloc), Vec::new(alloc))
+}
+
+impl Outside {
+    // A host that fails the calls with these numbers, without a disk.
+    fn new(alloc: Global, failing: Vec<u64>) -> Outside {
+        Outside {
+            host: MemHost::new(alloc, no_link(alloc), 0, failing),
+            disks: Vec::new(alloc),
+            doors: Vec::new(alloc),
+            bells: Vec::new(alloc),
+        }
+    }
+
+    fn answer(&mut self, row: &Row, words: &mut Words) {
+        match row.word(0) {
+            "host" if row.word(1) == "new" => {
+                *self = Outside::new(words.alloc, row.numbers(2, 0, words));
+                words.word("ok");
+            }
+            "host" => host::put(&mut self.host, &mut self.disks, row, words),
+            "entrance" => entrance::put_doors(&mut self.host, &mut self.doors, row, words),
+            "bell" => entrance::put_bells(&mut self.host, &mut self.bells, row, words),
+            "clock" => edge::put_clock(row, words),
+            "console" => edge::put_console(row, words),
+            _ => words.unknown(0),
+        }
+    }
 }
 
 impl Trial {
     /// No files, and disks without any.
-    fn new(alloc: Global) -> Result<Trial, OutOfMemory> {
-        let Ok(tried) = base::empty(alloc) else {
-            return Err(OutOfMemory);
-        };
-        let Ok(done) = base::empty(alloc) else {
-            return Err(OutOfMemory);
-        };
-        let base = Base::new(alloc);
-        Ok(Trial { base, tried, done })
-    }
-
-    /// The answer to a row on commits and openings.
-    fn put_committed(
-        &mut self,
-        alloc: Global,
-        row: &Row,
-        words: &mut Words,
-    ) -> Result<(), RowError> {
-        let (base, tried) = (&self.base, &mut self.tried);
-        match row.word(0)? {
-            "commit" => committing::commit_done(alloc, base, &mut self.done, words),
-            "copied" => copying::copied(alloc, row, tried, words),
-            "settled" => committing::settled(alloc, base, row, tried, words),
-            "crash" => crashing::crash(alloc, &self.done.disk, row, words),
-            "recover" => crashing::opened(alloc, base, tried, words),
-            _ => self.take(alloc, row, words),
+    fn new(alloc: Global) -> Trial {
+        Trial {
+            files: Files::new(alloc),
+            done: None,
+            steady: None,
+            silent: None,
+            link: no_link(alloc),
+            into: [0; 3],
+            outside: Outside::new(alloc, Vec::new(alloc)),
         }
     }
 
-    /// Takes the files or the journal of a row.
-    fn take(&mut self, alloc: Global, row: &Row, words: &mut Words) -> Result<(), RowError> {
+    // `files B B B B B B`: the six files, of which the one of .JNL is that of the next row.
+    fn set_files(&mut self, row: &Row, words: &mut Words) {
+        for number in 0..6 {
+            self.files
+                .set(file_of(number), row.bytes(number + 1, words));
+        }
+    }
+
+    // Puts the word at this place so many times behind the journal.
+    fn put_part(&mut self, row: &Row, place: usize, count: u32, words: &mut Words) {
+        let bytes = row.bytes(place, words);
+        let done = self
+            .files
+            .append(words.alloc, FileId::Jnl, count, bytes.as_slice());
+        words.done(done);
+    }
+
+    // `journal B..`: the journal from now on, its words one behind another.
+    fn set_journal(&mut self, row: &Row, words: &mut Words) {
+        self.files.set(FileId::Jnl, Bytes::new(words.alloc));
+        for place in 1..row.len() {
+            self.put_part(row, place, 1, words);
+        }
+    }
+
+    // Takes the files or the journal of a row.
+    fn take(&mut self, row: &Row, words: &mut Words) {
+        match row.word(0) {
+            "files" => self.set_files(row, words),
+            "journal" => self.set_journal(row, words),
+            _ => {
+                let count = row.u16(1, words);
+                self.put_part(row, 2, u32::from(count), words);
+                self.put_part(row, 3, 1, words);
+            }
+        }
         words.word("ok");
-        match row.word(0)? {
-            "files" => self.base.set_files(alloc, row),
-            "journal" => self.base.set_journal(alloc, row),
-            "more" => self.base.put_more(alloc, row),
-            _ => Err(RowError::Unknown(0)),
+    }
+
+    // The answer to a row on a disk with the files, which fails the calls that the row numbers.
+    fn on_disk(&mut self, failing: &[u64], row: &Row, words: &mut Words) {
+        let made = self.files.disk(words.alloc, failing);
+        let Some(mut disk) = words.made(made) else {
+            return;
+        };
+        match row.word(0) {
+            "failing" => record::put_failing(&mut disk, words),
+            "apply" => record::put_applied(&mut disk, words),
+            "long" => record::put_long(&mut disk, row, words),
+            "stopped" => record::put_stopped(&mut disk, words),
+            "recover" => showing::put_opening(words, jb_journal::recover(&mut disk)),
+            "settled" => committing::put_settled(&mut SilentDisk::new(disk), words),
+            _ => self.done = Some(committed(disk, words)),
+        }
+    }
+
+    // `link new BYTES N..`, `link read`.
+    fn put_link(&mut self, row: &Row, words: &mut Words) {
+        if row.word(1) == "read" {
+            return edge::put_read(&mut self.link, &mut self.into, words);
+        }
+        self.link = edge::link_of(row, 2, 3, words);
+        words.word("ok");
+    }
+
+    // A row about the silent disk.
+    fn put_silent(&mut self, row: &Row, words: &mut Words) {
+        match &mut self.silent {
+            Some(silent) if row.word(1) != "new" => edge::put_silent(silent, row, words),
+            _ => {
+                self.silent = edge::silent_of(row, words);
+                words.word("ok");
+            }
         }
     }
 }
 
+// `commit`: the disk on which the worked change was committed.
+fn committed(disk: MemDisk, words: &mut Words) -> SilentDisk<MemDisk> {
+    let mut silent = SilentDisk::new(disk);
+    committing::put_committed(&mut silent, words);
+    silent
+}
+
 impl Answers for Trial {
-    fn answer(&mut self, alloc: Global, row: &Row, words: &mut Words) -> Result<(), RowError> {
-        let (base, tried) = (&self.base, &mut self.tried);
-        match row.word(0)? {
-            "test" => testing::changed(alloc, base, row, tried, words),
-            "cuts" => testing::cuts(alloc, base, row, tried, words),
-            "failing" => testing::failing(alloc, base, row, tried, words),
-            "apply" => applying::apply(alloc, base, tried, words),
-            "long" => applying::long(alloc, base, row, tried, words),
-            "stopped" => applying::stopped(alloc, base, row, tried, words),
-            _ => self.put_committed(alloc, row, words),
+    fn answer(&mut self, row: &Row, words: &mut Words) {
+        match row.word(0) {
+            "files" | "journal" | "more" => self.take(row, words),
+            "test" => record::put_changed(&self.files, row, words),
+            "cuts" => record::put_cuts(&self.files, row, words),
+            "copied" => copying::put_copied(row, words),
+            "apply" | "long" | "commit" | "recover" => self.on_disk(&[], row, words),
+            "failing" | "stopped" | "settled" => {
+                let failing = row.numbers(1, 0, words);
+                self.on_disk(failing.as_slice(), row, words);
+            }
+            "crash" => match &self.done {
+                Some(silent) => crashing::put_crashes(&silent.disk, row, words),
+                None => words.unknown(0),
+            },
+            "link" => self.put_link(row, words),
+            "steady" => edge::put_steady(&mut self.steady, row, words),
+            "silent" => self.put_silent(row, words),
+            _ => self.outside.answer(row, words),
         }
     }
 }
 
 fn main(rt: HostRuntime) -> io::Result<()> {
-    match Trial::new(rt.alloc()) {
-        Ok(mut trial) => trial_rows::run(&rt, &mut trial),
-        Err(OutOfMemory) => println!(rt; "out of memory"),
-    }
+    let mut trial = Trial::new(rt.alloc());
+    trial_rows::run(&rt, &mut trial)
 }

@@ -3,15 +3,9 @@
 use jb_disk::{FileId, MemDisk};
 use jb_journal::{JournalError, Recovered, Stopped};
 use jb_redo::RecordError;
-use std::alloc::Global;
-use trial_rows::{RowError, Words, shown};
+use trial_rows::Words;
 
-/// Puts whether something is so.
-pub(crate) fn put_truth(words: &mut Words, is_so: bool) {
-    words.word(if is_so { "true" } else { "false" });
-}
-
-/// Puts the place where a record is refused.
+// Puts the place where a record is refused.
 fn put_bad(words: &mut Words, at: u64) {
     words.word("bad-");
     words.put_number(at);
@@ -44,20 +38,11 @@ pub(crate) fn stop(stopped: Stopped) -> &'static str {
     }
 }
 
-/// Puts a file behind those before it.
-fn put_file(alloc: Global, words: &mut Words, file: &[u8]) -> Result<(), RowError> {
-    let Ok(word) = shown(alloc, file) else {
-        return Err(RowError::OutOfMemory);
-    };
-    words.put("/");
-    words.put(word.as_str());
-    Ok(())
-}
-
 /// Puts the four files of the base behind the other words.
-pub(crate) fn put_files(alloc: Global, words: &mut Words, disk: &MemDisk) -> Result<(), RowError> {
+pub(crate) fn put_files(words: &mut Words, disk: &MemDisk) {
     words.shown(disk.file(FileId::Jhr));
-    put_file(alloc, words, disk.file(FileId::Jdt))?;
-    put_file(alloc, words, disk.file(FileId::Jdx))?;
-    put_file(alloc, words, disk.file(FileId::Jlr))
+    for file in [FileId::Jdt, FileId::Jdx, FileId::Jlr] {
+        words.put("/");
+        words.put_shown(disk.file(file));
+    }
 }

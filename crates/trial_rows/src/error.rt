@@ -3,15 +3,12 @@
 use jb_base::OutOfMemory;
 
 /// Why a row has no answer.
-#[derive(Debug, Drop, thiserror::Error)]
+#[derive(Clone, Copy, Debug, thiserror::Error)]
 pub enum RowError {
-    /// There is no word at this place, counted from 0.
-    #[error("no word {0}")]
-    Missing(usize),
-    /// The word at this place is no number, or a larger one than is meant.
+    /// There is no number at this place, counted from 0, or a larger one than is meant.
     #[error("word {0} is no such number")]
     Number(usize),
-    /// The word at this place is not bytes: an odd number of hex digits, or another character among them.
+    /// There are no bytes at this place: no word, an odd number of hex digits, or another character among them.
     #[error("word {0} is no bytes")]
     Bytes(usize),
     /// The word at this place is none of those that may stand there.
@@ -24,18 +21,6 @@ pub enum RowError {
 
 impl From<OutOfMemory> for RowError {
     fn from(_: OutOfMemory) -> RowError {
-        RowError::OutOfMemory
-    }
-}
-
-impl From<std::alloc::AllocError> for RowError {
-    fn from(_: std::alloc::AllocError) -> RowError {
-        RowError::OutOfMemory
-    }
-}
-
-impl<T: Drop> From<std::alloc::AllocFailed<T>> for RowError {
-    fn from(_failed: std::alloc::AllocFailed<T>) -> RowError {
         RowError::OutOfMemory
     }
 }

@@ -1,23 +1,33 @@
 //! One row, as words.
+ghost use Rattle.std.specs.Prelude.{◌≤◌};
 
-use crate::RowError;
-use jb_base::{Bytes, Name};
+use crate::{RowError, Words};
+use jb_base::Bytes;
 use std::alloc::Global;
 
-/// The words of a line.
+/// The words of a line. What is asked of it and is not there, the answer takes note of.
 #[derive(Debug, Drop)]
 pub struct Row {
     words: Vec<String>,
 }
 
+// Puts the words of this line behind the others.
+fn fill(alloc: Global, words: &mut Vec<String>, line: &str, answer: &mut Words) {
+    for word in line.split(' ') {
+        match String::from_str(alloc, word) {
+            Ok(word) => answer.done(words.push(word)),
+            Err(_) => answer.lack(),
+        }
+    }
+}
+
 impl Row {
     /// The words of this line. Two spaces in a row make a word of no characters.
-    pub fn of(alloc: Global, line: &str) -> Result<Row, RowError> {
+    pub fn of(line: &str, answer: &mut Words) -> Row {
+        let alloc = answer.alloc;
         let mut words = Vec::new(alloc);
-        for word in line.split(' ') {
-            words.push(String::from_str(alloc, word)?)?;
-        }
-        Ok(Row { words })
+        fill(alloc, &mut words, line, answer);
+        Row { words }
     }
 
     /// How many words there are.
@@ -25,75 +35,109 @@ impl Row {
         self.words.len()
     }
 
-    /// The word at this place.
-    pub fn word(&self, place: usize) -> Result<&str, RowError> {
+    /// The word at this place; none of any characters where the row ends before.
+    pub fn word(&self, place: usize) -> &str {
         match self.words.get(place) {
-            Some(word) => Ok(word.as_str()),
-            None => Err(RowError::Missing(place)),
+            Some(word) => word.as_str(),
+            None => "",
         }
     }
 
     /// The number at this place.
-    pub fn number(&self, place: usize) -> Result<u64, RowError> {
-        match self.word(place)?.parse::<u64>() {
-            Ok(number) => Ok(number),
-            Err(_) => Err(RowError::Number(place)),
+    pub fn number(&self, place: usize, answer: &mut Words) -> u64 {
+        match self.word(place).parse::<u64>() {
+            Ok(number) => number,
+            Err(_) => {
+                answer.refuse(RowError::Number(place));
+                0
+            }
         }
+    }
+
+    /// The number of at most so much at this place.
+    pub fn at_most(&self, most: u64, place: usize, answer: &mut Words) -> u64
+        ensures { result ≤ most }
+    {
+        let number = self.number(place, answer);
+        if number <= most {
+            return number;
+        }
+        answer.refuse(RowError::Number(place));
+        0
     }
 
     /// The number of at most 32 bits at this place.
-    pub fn u32(&self, place: usize) -> Result<u32, RowError> {
-        match u32::try_from(self.number(place)?) {
-            Ok(number) => Ok(number),
-            Err(_) => Err(RowError::Number(place)),
-        }
+    pub fn u32(&self, place: usize, answer: &mut Words) -> u32 {
+        self.at_most(0xFFFF_FFFF, place, answer) as u32
     }
 
     /// The number of at most 16 bits at this place.
-    pub fn u16(&self, place: usize) -> Result<u16, RowError> {
-        match u16::try_from(self.number(place)?) {
-            Ok(number) => Ok(number),
-            Err(_) => Err(RowError::Number(place)),
-        }
+    pub fn u16(&self, place: usize, answer: &mut Words) -> u16 {
+        self.at_most(0xFFFF, place, answer) as u16
     }
 
     /// The number of at most 8 bits at this place.
-    pub fn u8(&self, place: usize) -> Result<u8, RowError> {
-        match u8::try_from(self.number(place)?) {
-            Ok(number) => Ok(number),
-            Err(_) => Err(RowError::Number(place)),
-        }
+    pub fn u8(&self, place: usize, answer: &mut Words) -> u8 {
+        self.at_most(0xFF, place, answer) as u8
     }
 
-    /// The numbers from this place on.
-    pub fn numbers(&self, alloc: Global, from: usize) -> Result<Vec<u64>, RowError> {
-        let mut numbers = Vec::new(alloc);
+    /// The numbers from this place on, each raised by so many.
+    pub fn numbers(&self, from: usize, by: u64, answer: &mut Words) -> Vec<u64> {
+        let mut numbers = Vec::new(answer.alloc);
         for place in from..self.len() {
-            numbers.push(self.number(place)?)?;
+            let number = self.number(place, answer).saturating_add(by);
+            answer.done(numbers.push(number));
         }
-        Ok(numbers)
+        numbers
+    }
+
+    // The bytes at this place, where they are some.
+    fn read(&self, alloc: Global, place: usize) -> Result<Vec<u8>, RowError> {
+        let Some(word) = self.words.get(place) else {
+            return Err(RowError::Bytes(place));
+        };
+        if word.as_str() == "-" {
+            return Ok(Vec::new(alloc));
+        }
+        match word.strip_prefix("0x") {
+            Some(digits) => match hex::decode(alloc, digits) {
+                Ok(bytes) => Ok(bytes),
+                Err(_) => Err(RowError::Bytes(place)),
+            },
+            None => decoded(alloc, word.as_str()),
+        }
     }
 
     /// The bytes at this place.
-    pub fn bytes(&self, alloc: Global, place: usize) -> Result<Bytes, RowError> {
-        let word = self.word(place)?;
-        if word == "-" {
-            return Ok(Bytes::new(alloc));
-        }
-        let mut bytes = Vec::new(alloc);
-        match word.strip_prefix("0x") {
-            Some(digits) => match hex::decode(alloc, digits) {
-                Ok(read) => bytes = read,
-                Err(_) => return Err(RowError::Bytes(place)),
-            },
-            None => percent_encoding::percent_decode(word.as_bytes()).append_to(&mut bytes)?,
-        }
-        Ok(Bytes::from(bytes))
+    pub fn bytes(&self, place: usize, answer: &mut Words) -> Bytes {
+        let read = self.read(answer.alloc, place);
+        answer.bytes(read)
     }
 
-    /// The name at this place, in the words of [`Row::bytes`].
-    pub fn name(&self, alloc: Global, place: usize) -> Result<Name, RowError> {
-        let bytes = self.bytes(alloc, place)?;
-        Ok(Name::copy(alloc, bytes.as_slice())?)
+    /// The words from this place on, with the spaces between them.
+    pub fn rest(&self, from: usize, answer: &mut Words) -> String {
+        let mut rest = Words::new(answer.alloc);
+        for place in from..self.len() {
+            rest.put(if place > from { " " } else { "" });
+            rest.put(self.word(place));
+        }
+        answer.text_of(rest)
+    }
+
+    /// The bytes of these words, with `%` and two hex digits for one that does not stand for itself.
+    pub fn rest_bytes(&self, from: usize, answer: &mut Words) -> Bytes {
+        let rest = self.rest(from, answer);
+        let read = decoded(answer.alloc, rest.as_str());
+        answer.bytes(read)
+    }
+}
+
+// The bytes of a text, in which `%` and two hex digits stand for one.
+fn decoded(alloc: Global, text: &str) -> Result<Vec<u8>, RowError> {
+    let mut bytes = Vec::new(alloc);
+    let done = percent_encoding::percent_decode(text.as_bytes()).append_to(&mut bytes);
+    match done {
+        Ok(()) => Ok(bytes),
+        Err(_) => Err(RowError::OutOfMemory),
     }
 }

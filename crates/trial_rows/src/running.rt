@@ -1,12 +1,16 @@
 //! The loop of a program of trials.
 
-use crate::{Row, RowError, Words};
-use std::alloc::Global;
+use crate::{Row, Words};
 
 /// What answers the rows of a program, one after another.
 pub trait Answers {
     /// Puts the line, or the lines, that are written for this row.
-    fn answer(&mut self, alloc: Global, row: &Row, words: &mut Words) -> Result<(), RowError>;
+    fn answer(&mut self, row: &Row, words: &mut Words);
+}
+
+/// Whether the line is no row, and is written as it is.
+pub fn is_heading(line: &str) -> bool {
+    line.is_empty() || line.starts_with('#')
 }
 
 /// Reads the rows of the standard input and writes what each comes to. A row without an answer is written with the reason,
@@ -15,23 +19,14 @@ pub fn run<A: Answers>(rt: &HostRuntime, answers: &mut A) -> std::io::Result<()>
     for line in rt.lines(rt.alloc()) {
         let line = line?;
         let line = line.as_str();
-        if line.is_empty() || line.starts_with('#') {
-            println!(rt; "{line}")?;
-            continue;
+        let mut words = Words::new(rt.alloc());
+        if is_heading(line) {
+            words.put(line);
+        } else {
+            let row = Row::of(line, &mut words);
+            answers.answer(&row, &mut words);
         }
-        match answered(rt.alloc(), answers, line) {
-            Ok(text) => println!(rt; "{text}")?,
-            Err(error) => println!(rt; "no answer to '{line}': {error}")?,
-        }
+        words.print(rt, line)?;
     }
     Ok(())
-}
-
-fn answered<A: Answers>(alloc: Global, answers: &mut A, line: &str) -> Result<String, RowError> {
-    let row = Row::of(alloc, line)?;
-    let mut words = Words::new(alloc);
-    match answers.answer(alloc, &row, &mut words) {
-        Ok(()) => words.end(),
-        Err(error) => Err(error),
-    }
 }

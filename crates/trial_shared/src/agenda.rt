@@ -1,8 +1,8 @@
 //! What a node does next.
 
-use crate::asking::Act;
 use crate::noted::{Deed, Noted, Plan, Told};
 use jb_model::Reply;
+use trial_rows::Act;
 
 /// What a node has done of its plan. `last` is the number of its last post and `before` that of the one before, 0 for none; `next`
 /// is the next number that it was shown last.

@@ -5,66 +5,24 @@ ghost use Rattle.jb_disk.specs.Memory.{device_of};
 
 use jb_area::OpenArea;
 use jb_area_open::open_area;
-use jb_base::{AreaRules, Bytes, Kind, MOST_ADDRESS_BYTES, MOST_SLOTS, OutOfMemory};
+use jb_base::{Bytes, MOST_ADDRESS_BYTES, MOST_SLOTS, OutOfMemory};
 use jb_disk::{Disk, FileId, MemDisk};
 use std::alloc::Global;
-use trial_rows::RowError;
+use trial_rows::{Files, Row, RowError, Words, rules_of};
 
 /// Where a header has the place and the length of its text.
 const TEXT_AT: usize = 60;
 
-/// A local area, read from level 10 on, posted in from 20 on, and tended from 200 on.
-pub(crate) fn rules(alloc: Global) -> Result<AreaRules, OutOfMemory> {
-    let Ok(address) = Bytes::copy(alloc, b"2:5020/1042") else {
-        return Err(OutOfMemory);
-    };
-    Ok(AreaRules {
-        ordinal: 1,
-        address,
-        kind: Kind::Local,
-        read: 10,
-        post: 20,
-        sysop: 200,
-        slots: 65_000,
-    })
-}
+/// The most slots of the area.
+pub(crate) const SLOTS: u32 = 65_000;
 
-// Six files of no bytes.
-fn none(alloc: Global) -> [Bytes; 6] {
-    [
-        Bytes::new(alloc),
-        Bytes::new(alloc),
-        Bytes::new(alloc),
-        Bytes::new(alloc),
-        Bytes::new(alloc),
-        Bytes::new(alloc),
-    ]
-}
-
-// Puts the fixed header of a base without a message behind what stands in .JHR. Says whether there was memory.
-fn begin(headers: &mut Bytes) -> bool {
-    let fields = b"JAM\0\x00\xCA\x9A\x3B\0\0\0\0\0\0\0\0\xFF\xFF\xFF\xFF\x01\0\0\0";
-    headers.append(fields).is_ok() && headers.append(&[0; 1_000]).is_ok()
-}
-
-/// A base from number 1 on without a message: .JHR has its fixed header alone, which says when it was made, that no password is
-/// asked, and where the numbers begin.
-pub(crate) fn empty(alloc: Global) -> Result<MemDisk, OutOfMemory> {
-    let mut files = none(alloc);
-    if !begin(&mut files[0]) {
-        return Err(OutOfMemory);
+/// A base from number 1 on without a message.
+pub(crate) fn empty(alloc: Global) -> Result<Files, OutOfMemory> {
+    let mut files = Files::new(alloc);
+    match files.begin(alloc, 1) {
+        Ok(()) => Ok(files),
+        Err(error) => Err(error),
     }
-    MemDisk::new(alloc, files, Vec::new(alloc))
-}
-
-// Puts what the files of the base hold behind what stands in these. Says whether there was memory.
-fn fill(files: &mut [Bytes; 6], base: &MemDisk) -> bool {
-    files[0].append(base.file(FileId::Jhr)).is_ok()
-        && files[1].append(base.file(FileId::Jdt)).is_ok()
-        && files[2].append(base.file(FileId::Jdx)).is_ok()
-        && files[3].append(base.file(FileId::Jlr)).is_ok()
-        && files[4].append(base.file(FileId::Jnl)).is_ok()
-        && files[5].append(base.file(FileId::Ndt)).is_ok()
 }
 
 // Writes where the text of the header at this place begins, and how long it is.
@@ -103,47 +61,27 @@ fn texts_for(
     Ok(texts)
 }
 
-// Puts what the files of the base hold into these, but a text of so many bytes for each message. Says whether there was memory.
-fn fill_lengthened(alloc: Global, files: &mut [Bytes; 6], base: &MemDisk, len: u32) -> bool {
+/// The base with a text of so many bytes in each message: `a` again and again in that of the first, `b` in the next, and so on.
+pub(crate) fn lengthened(alloc: Global, base: &Files, len: u32) -> Result<Files, OutOfMemory> {
     let Ok(mut headers) = base.file(FileId::Jhr).to_vec(alloc) else {
-        return false;
+        return Err(OutOfMemory);
     };
     let Ok(texts) = texts_for(alloc, base.file(FileId::Jdx), headers.as_mut_slice(), len) else {
-        return false;
+        return Err(OutOfMemory);
     };
-    let is_filled = fill(files, base);
-    files[0] = Bytes::from(headers);
-    files[1] = Bytes::from(texts);
-    is_filled
-}
-
-/// The base with a text of so many bytes in each message: `a` again and again in that of the first, `b` in the next, and so on.
-pub(crate) fn lengthened(alloc: Global, base: &MemDisk, len: u32) -> Result<MemDisk, OutOfMemory> {
-    let mut files = none(alloc);
-    if !fill_lengthened(alloc, &mut files, base, len) {
+    let Ok(mut files) = base.copy(alloc) else {
         return Err(OutOfMemory);
-    }
-    MemDisk::new(alloc, files, Vec::new(alloc))
-}
-
-/// The files of the base on a disk of their own, which fails these of its calls.
-pub(crate) fn copied(
-    alloc: Global,
-    base: &MemDisk,
-    failing: Vec<u64>,
-) -> Result<MemDisk, OutOfMemory> {
-    let mut files = none(alloc);
-    if !fill(&mut files, base) {
-        return Err(OutOfMemory);
-    }
-    MemDisk::new(alloc, files, failing)
+    };
+    files.set(FileId::Jhr, Bytes::from(headers));
+    files.set(FileId::Jdt, Bytes::from(texts));
+    Ok(files)
 }
 
 /// Opens the area on this disk.
 pub(crate) fn open_on<D: Disk + Drop>(alloc: Global, disk: D) -> Result<OpenArea<D>, RowError>
     ensures { IfOk result (HasRest D.device) }
 {
-    let Ok(rules) = rules(alloc) else {
+    let Ok(rules) = rules_of(alloc, SLOTS) else {
         return Err(RowError::OutOfMemory);
     };
     if rules.slots > MOST_SLOTS || rules.address.len() > MOST_ADDRESS_BYTES {
@@ -155,58 +93,42 @@ pub(crate) fn open_on<D: Disk + Drop>(alloc: Global, disk: D) -> Result<OpenArea
     }
 }
 
-/// The disk of the base behind its area that was opened and closed.
-pub(crate) fn closed(alloc: Global, base: &MemDisk) -> Result<MemDisk, RowError> {
-    match open_failing(alloc, base, Vec::new(alloc)) {
-        Ok(area) => Ok(area.close()),
-        Err(error) => Err(error),
-    }
-}
-
-// Opens the area of the base, on a disk that fails these of its calls.
-fn open_failing(
+/// Opens the area of the base, on a disk that fails these of its calls.
+pub(crate) fn open(
     alloc: Global,
-    base: &MemDisk,
-    failing: Vec<u64>,
+    base: &Files,
+    failing: &[u64],
 ) -> Result<OpenArea<MemDisk>, RowError>
     ensures { IfOk result (HasRest device_of) }
 {
-    match copied(alloc, base, failing) {
+    match base.disk(alloc, failing) {
         Ok(disk) => open_on(alloc, disk),
         Err(_) => Err(RowError::OutOfMemory),
     }
 }
 
-// How many calls of the disk the opening of the area makes.
-fn calls_of_opening(alloc: Global, base: &MemDisk) -> Result<u64, RowError> {
-    match closed(alloc, base) {
-        Ok(disk) => Ok(disk.calls()),
+/// The disk of the base behind its area that was opened and closed.
+pub(crate) fn closed(alloc: Global, base: &Files) -> Result<MemDisk, RowError> {
+    match open(alloc, base, &[]) {
+        Ok(area) => Ok(area.close()),
         Err(error) => Err(error),
     }
 }
 
-// These numbers, each raised by so many.
-fn raised(alloc: Global, numbers: &[u64], by: u64) -> Result<Vec<u64>, OutOfMemory> {
-    let mut raised = Vec::new(alloc);
-    for number in numbers {
-        if raised.push(number.saturating_add(by)).is_err() {
-            return Err(OutOfMemory);
-        }
-    }
-    Ok(raised)
-}
-
-/// Opens the area of the base, on a disk that fails these of its calls, counted from 1 once the area is open.
-pub(crate) fn open(
-    alloc: Global,
-    base: &MemDisk,
-    failing: &[u64],
+/// Opens the area of the base, on a disk that fails the calls that stand from this place of the row on, counted from 1 once the area
+/// is open.
+pub(crate) fn area_in(
+    base: &Files,
+    row: &Row,
+    place: usize,
+    words: &mut Words,
 ) -> Result<OpenArea<MemDisk>, RowError>
     ensures { IfOk result (HasRest device_of) }
 {
-    let calls = calls_of_opening(alloc, base)?;
-    match raised(alloc, failing, calls) {
-        Ok(failing) => open_failing(alloc, base, failing),
-        Err(_) => Err(RowError::OutOfMemory),
-    }
+    let calls = match closed(words.alloc, base) {
+        Ok(disk) => disk.calls(),
+        Err(error) => return Err(error),
+    };
+    let failing = row.numbers(place, calls, words);
+    open(words.alloc, base, failing.as_slice())
 }

@@ -1,9 +1,7 @@
 //! Nodes follow a plan, and what is said of it.
-ghost use Rattle.std.specs.Prelude.{IfOk};
 ghost use Rattle.jb_area.specs.Calls.{HasRest};
-ghost use Rattle.jb_disk.specs.Memory.{device_of};
 
-use crate::base::{empty, open, open_on};
+use crate::base::{area_in, empty, open, open_on};
 use crate::noted::{Noted, Plan};
 use crate::replay::{replays, stopped_among};
 use crate::shared::Shared;
@@ -13,25 +11,26 @@ use jb_disk::{Disk, MemDisk};
 use std::alloc::Global;
 use std::sync::{Mutex, Wait};
 use std::thread::Threads;
-use trial_rows::{Row, RowError, Words};
+use trial_rows::{Files, Row, RowError, Words};
 
 /// The plan of a row.
-pub(crate) fn plan_in<'a>(row: &Row) -> Result<Plan<'a>, RowError> {
-    let first = row.u32(1)?;
-    match row.word(0)? {
-        "drawn" => Ok(Plan::Drawn(first, row.u32(2)?)),
-        "lookers" => Ok(Plan::Watch(first, row.u32(2)?)),
-        word => Ok(Plan::Crowd(first, word == "packers")),
+pub(crate) fn plan_in<'a>(row: &Row, words: &mut Words) -> Plan<'a> {
+    let first = row.u32(1, words);
+    match row.word(0) {
+        "drawn" => Plan::Drawn(first, row.u32(2, words)),
+        "lookers" => Plan::Watch(first, row.u32(2, words)),
+        word => Plan::Crowd(first, word == "packers"),
     }
 }
 
 /// What the nodes noted, in order.
-pub(crate) fn in_order(alloc: Global, log: Mutex<Vec<Noted>>) -> Result<Vec<Noted>, RowError> {
+pub(crate) fn in_order(log: Mutex<Vec<Noted>>, words: &mut Words) -> Vec<Noted> {
     let mut noted = log.into_inner();
-    match noted.as_mut_slice().sort_by_key(alloc, |one| one.order) {
-        Ok(()) => Ok(noted),
-        Err(_) => Err(RowError::OutOfMemory),
-    }
+    let done = noted
+        .as_mut_slice()
+        .sort_by_key(words.alloc, |one| one.order);
+    words.done(done);
+    noted
 }
 
 // The nodes follow the plan and note what they do. The disk behind it.
@@ -67,105 +66,69 @@ pub(crate) fn followed_on<D: Disk + Drop + Send + Sync, R: Threads + Wait + Sync
     }
 }
 
-/// The area of the base, on a disk that fails the calls that stand from this place of the row on.
-pub(crate) fn area_in(
-    alloc: Global,
-    base: &MemDisk,
+/// The nodes follow the plan of a row on an empty base, on a disk that fails the calls that stand behind it. The files behind it.
+pub(crate) fn followed_in<R: Threads + Wait + Sync>(
+    rt: &R,
     row: &Row,
-    place: usize,
-) -> Result<OpenArea<MemDisk>, RowError>
-    ensures { IfOk result (HasRest device_of) }
-{
-    match row.numbers(alloc, place) {
-        Ok(failing) => open(alloc, base, failing.as_slice()),
+    log: &Mutex<Vec<Noted>>,
+    plan: Plan,
+    words: &mut Words,
+) -> Result<Files, RowError> {
+    let Ok(base) = empty(words.alloc) else {
+        return Err(RowError::OutOfMemory);
+    };
+    match area_in(&base, row, 3, words) {
+        Ok(area) => files_of(words.alloc, followed(rt, words.alloc, area, log, plan)),
         Err(error) => Err(error),
     }
 }
 
-// The area of an empty base, on a disk that fails the calls that stand behind the plan of a row.
-fn empty_area(alloc: Global, row: &Row) -> Result<OpenArea<MemDisk>, RowError>
-    ensures { IfOk result (HasRest device_of) }
-{
-    match empty(alloc) {
-        Ok(base) => area_in(alloc, &base, row, 3),
-        Err(_) => Err(RowError::OutOfMemory),
-    }
-}
-
-/// The nodes follow the plan of a row on an empty base, on a disk that fails the calls that stand behind it. The disk behind it.
-pub(crate) fn followed_in<R: Threads + Wait + Sync>(
-    rt: &R,
-    alloc: Global,
-    row: &Row,
-    log: &Mutex<Vec<Noted>>,
-    plan: Plan,
-) -> Result<MemDisk, RowError> {
-    match empty_area(alloc, row) {
-        Ok(area) => followed(rt, alloc, area, log, plan),
+// The files of this disk.
+fn files_of(alloc: Global, disk: Result<MemDisk, RowError>) -> Result<Files, RowError> {
+    match disk {
+        Ok(disk) => Ok(Files::of(alloc, &disk)?),
         Err(error) => Err(error),
     }
 }
 
 // How much was done, how much of it the device stopped, and whether the plain program does the same.
-fn compared(
-    alloc: Global,
-    noted: &[Noted],
-    disk: &MemDisk,
-    words: &mut Words,
-) -> Result<(), RowError> {
-    let is_same = replays(alloc, noted, disk)?;
+fn put_compared(noted: &[Noted], base: &Files, words: &mut Words) {
     words.number(noted.len() as u64);
     words.word("done,");
     words.number(stopped_among(noted) as u64);
     words.word("stopped: the plain program answers");
-    words.word(if is_same { "the same" } else { "otherwise" });
-    Ok(())
+    match replays(words.alloc, noted, base) {
+        Ok(true) => words.word("the same"),
+        Ok(false) => words.word("otherwise"),
+        Err(error) => words.refuse(error),
+    }
 }
 
-// How the looks of so many nodes stand beside the area that the disk holds.
-fn watched(
-    alloc: Global,
-    noted: &[Noted],
-    nodes: u32,
-    disk: &MemDisk,
-    words: &mut Words,
-) -> Result<(), RowError> {
-    match open(alloc, disk, &[]) {
+// How the looks of so many nodes stand beside the area of the base.
+fn put_watched(noted: &[Noted], nodes: u32, base: &Files, words: &mut Words) {
+    match open(words.alloc, base, &[]) {
         Ok(area) => {
             verdict(words, noted, nodes, area.loaded());
             let _disk = area.close();
-            Ok(())
         }
-        Err(error) => Err(error),
+        Err(error) => words.refuse(error),
     }
 }
 
 /// What the nodes noted in words, and whether a record was written between two copies.
-pub(crate) fn put_held(
-    alloc: Global,
-    noted: &[Noted],
-    is_between: bool,
-    words: &mut Words,
-) -> Result<(), RowError> {
+pub(crate) fn put_held(noted: &[Noted], is_between: bool, words: &mut Words) {
     for one in noted {
-        words.debug(alloc, &one.told);
+        words.debug(&one.told);
         words.put(";");
     }
     words.word("a record between two copies:");
-    words.word(if is_between { "true" } else { "false" });
-    Ok(())
+    words.truth(is_between);
 }
 
-/// What is said of the plan, of what the nodes noted and of the disk behind it.
-pub(crate) fn judged(
-    alloc: Global,
-    plan: Plan,
-    noted: &[Noted],
-    disk: &MemDisk,
-    words: &mut Words,
-) -> Result<(), RowError> {
+/// What is said of the plan, of what the nodes noted and of the base behind it.
+pub(crate) fn put_judged(plan: Plan, noted: &[Noted], base: &Files, words: &mut Words) {
     match plan {
-        Plan::Watch(..) => watched(alloc, noted, plan.nodes(), disk, words),
-        _ => compared(alloc, noted, disk, words),
+        Plan::Watch(..) => put_watched(noted, plan.nodes(), base, words),
+        _ => put_compared(noted, base, words),
     }
 }

@@ -3,7 +3,7 @@ ghost use Rattle.std.specs.Prelude.{All};
 ghost use Rattle.jb_shared.specs.Areas.{IsOf};
 
 use crate::agenda::Agenda;
-use crate::asking::{Act, Caller, MOMENT, command_of};
+use crate::asking::{Caller, command_by};
 use crate::noted::{Deed, NODES, Noted, Plan, Told, caller_at};
 use jb_disk::Disk;
 use jb_model::{Answer, Question};
@@ -12,7 +12,7 @@ use std::alloc::Global;
 use std::sync::{Mutex, Wait};
 use std::thread;
 use std::thread::Threads;
-use trial_rows::RowError;
+use trial_rows::{Act, MOMENT, RowError};
 
 // A count and a look at the figures.
 fn seen<D: Disk>(area: &SharedArea<D>, pass: &mut Pass, caller: &Caller) -> Result<Told, RowError>
@@ -45,7 +45,7 @@ fn called<D: Disk, R: Wait>(
     requires { IsOf area.now pass.old }
     ensures { IsOf area.now pass.new }
 {
-    let Ok(command) = command_of(alloc, &caller.user, act, number) else {
+    let Ok(command) = command_by(alloc, &caller.user, act, number) else {
         return Err(RowError::OutOfMemory);
     };
     match area.call(rt, alloc, pass, &caller.user, MOMENT, &command) {

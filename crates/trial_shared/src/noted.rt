@@ -1,11 +1,11 @@
 //! What the nodes of a trial do in their threads, and what they note of it.
 ghost use Rattle.std.specs.Prelude.{◌<◌, ◌≤◌};
 
-use crate::asking::{Act, Caller, caller_named};
+use crate::asking::{Caller, caller_named};
 use crate::held::Meeting;
 use jb_model::{Figures, Reply};
 use std::alloc::Global;
-use trial_rows::{RowError, Words};
+use trial_rows::{Act, RowError, Words};
 
 /// As many nodes as there may be.
 pub(crate) const NODES: u32 = 33;
@@ -69,8 +69,7 @@ pub(crate) struct Noted {
 pub(crate) fn caller_at(alloc: Global, node: u32) -> Result<Caller, RowError> {
     let level = if node % 4 == 1 { 200 } else { 20 };
     let mut words = Words::new(alloc);
-    words.word("Node");
-    words.number(u64::from(node));
+    words.named("Node", u64::from(node));
     let Ok(name) = words.end() else {
         return Err(RowError::OutOfMemory);
     };

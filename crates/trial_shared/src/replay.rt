@@ -1,17 +1,15 @@
 //! What was noted is asked of the plain program again.
 
-use crate::asking::{Act, Caller, MOMENT, command_of};
-use crate::base::{closed, open, rules};
+use crate::asking::{Caller, command_by};
+use crate::base::{SLOTS, closed, open};
 use crate::noted::{Deed, Noted, Told, caller_at};
-use crate::same::same_area;
-use crate::showing::debugged;
 use jb_base::AreaRules;
-use jb_disk::{FileId, MemDisk};
-use jb_model::{Area, Asked, Figures, Loaded, Marks, Reply, Slots};
+use jb_disk::FileId;
+use jb_model::{Area, Asked, Figures, Loaded, Reply};
 use jb_plain::{Replies, may_run, run_slow};
 use std::alloc::Global;
 use std::mem;
-use trial_rows::RowError;
+use trial_rows::{Act, Files, MOMENT, RowError, Words, plain_area, rules_of, same_area};
 
 /// How many calls that the device stopped are replayed at most: each may stand or not.
 const MOST_STOPPED: usize = 8;
@@ -37,21 +35,12 @@ struct Again<'a> {
     doubt: bool,
 }
 
-// An area from number 1 on without a slot.
-fn empty(alloc: Global) -> Area {
-    Area {
-        base: 1,
-        slots: Slots::new(alloc),
-        marks: Marks::new(alloc),
-    }
-}
-
 // What is asked at this node.
 fn asked_at(alloc: Global, node: u32, act: Act, number: u32) -> Result<Asked, RowError> {
     let Ok(Caller { user }) = caller_at(alloc, node) else {
         return Err(RowError::OutOfMemory);
     };
-    let Ok(command) = command_of(alloc, &user, act, number) else {
+    let Ok(command) = command_by(alloc, &user, act, number) else {
         return Err(RowError::OutOfMemory);
     };
     Ok(Asked {
@@ -68,13 +57,13 @@ fn put_area(area: &mut Area, new: Area) {
 
 // Whether both are the same, with all fields of a letter.
 fn is_same(alloc: Global, one: &Reply, other: &Reply) -> Result<bool, RowError> {
-    let Ok(one) = debugged(alloc, one) else {
-        return Err(RowError::OutOfMemory);
-    };
-    let Ok(other) = debugged(alloc, other) else {
-        return Err(RowError::OutOfMemory);
-    };
-    Ok(one.as_str() == other.as_str())
+    let (mut here, mut there) = (Words::new(alloc), Words::new(alloc));
+    here.debug(one);
+    there.debug(other);
+    match (here.end(), there.end()) {
+        (Ok(here), Ok(there)) => Ok(here.as_str() == there.as_str()),
+        _ => Err(RowError::OutOfMemory),
+    }
 }
 
 impl<'a> Again<'a> {
@@ -83,7 +72,7 @@ impl<'a> Again<'a> {
         if !may_run(&self.area, self.rules.slots) {
             return Err(RowError::Unknown(0));
         }
-        let area = mem::replace(&mut self.area, empty(alloc));
+        let area = mem::replace(&mut self.area, plain_area(alloc));
         match run_slow(alloc, self.rules, area, &[asked]) {
             Ok((area, replies)) => {
                 put_area(&mut self.area, area);
@@ -189,7 +178,7 @@ fn comes_to(
     for standing in 0..1_u32 << stopped {
         let mut again = Again {
             rules,
-            area: empty(alloc),
+            area: plain_area(alloc),
             standing,
             doubt: false,
         };
@@ -201,8 +190,8 @@ fn comes_to(
 }
 
 // Whether it all agrees and comes to the area of the base.
-fn comes_to_base(alloc: Global, noted: &[Noted], base: &MemDisk) -> Result<bool, RowError> {
-    let Ok(rules) = rules(alloc) else {
+fn comes_to_base(alloc: Global, noted: &[Noted], base: &Files) -> Result<bool, RowError> {
+    let Ok(rules) = rules_of(alloc, SLOTS) else {
         return Err(RowError::OutOfMemory);
     };
     match open(alloc, base, &[]) {
@@ -218,9 +207,12 @@ fn comes_to_base(alloc: Global, noted: &[Noted], base: &MemDisk) -> Result<bool,
 
 /// Whether the plain program, asked the same one after another, answers the same and comes to the area of the base. A call that
 /// the device stopped may stand or not.
-pub(crate) fn replays(alloc: Global, noted: &[Noted], base: &MemDisk) -> Result<bool, RowError> {
+pub(crate) fn replays(alloc: Global, noted: &[Noted], base: &Files) -> Result<bool, RowError> {
     match closed(alloc, base) {
-        Ok(base) => comes_to_base(alloc, noted, &base),
+        Ok(disk) => match Files::of(alloc, &disk) {
+            Ok(base) => comes_to_base(alloc, noted, &base),
+            Err(_) => Err(RowError::OutOfMemory),
+        },
         Err(error) => Err(error),
     }
 }

@@ -1,12 +1,13 @@
 //! The rows.
 ghost use Rattle.std.specs.Prelude.{◌<◌, ◌≤◌, IfOk};
 
-use crate::asking::{Caller, act_of, caller_named, command_of};
-use crate::base::{copied, empty, lengthened};
-use crate::following::{area_in, followed_in, followed_on, in_order, judged, plan_in, put_held};
+use crate::asking::{Caller, caller_named, command_by};
+use crate::base::{area_in, empty, lengthened};
+use crate::following::{followed_in, followed_on, in_order, plan_in, put_held, put_judged};
 use crate::held::{HeldDisk, Meeting};
 use crate::noted::{NODES, Noted, Plan};
 use crate::shared::{Ask, Shared};
+use crate::turns;
 use jb_area::OpenArea;
 use jb_base::OutOfMemory;
 use jb_disk::MemDisk;
@@ -15,51 +16,49 @@ use std::alloc::Global;
 use std::mem;
 use std::sync::{Mutex, Wait};
 use std::thread::Threads;
-use trial_rows::{Row, RowError, Words};
+use trial_rows::{Files, Row, RowError, Words, act_of};
 
 /// A base, and the area that is shared, opened from it. It is not `Drop`: end it by `end`.
 pub(crate) struct Trial<'a, R: Threads + Wait + Sync> {
     rt: &'a R,
-    base: MemDisk,
+    base: Files,
     shared: Option<Shared<MemDisk>>,
 }
 
 // From 1 to 33 nodes.
-fn nodes_in(row: &Row) -> Result<u32, RowError>
+fn nodes_in(row: &Row, words: &mut Words) -> Result<u32, RowError>
     ensures { IfOk result (λ nodes. (0 < nodes) × (nodes ≤ 33)) }
 {
-    match row.u32(1)? {
+    match row.u32(1, words) {
         nodes @ 1..=NODES => Ok(nodes),
         _ => Err(RowError::Unknown(1)),
     }
 }
 
 // The user of a row.
-fn caller_in(alloc: Global, row: &Row) -> Result<Caller, RowError> {
-    let level = row.u8(3)?;
-    match row.bytes(alloc, 2) {
-        Ok(name) => caller_named(alloc, name.as_slice(), level),
-        Err(error) => Err(error),
-    }
+fn caller_in(row: &Row, words: &mut Words) -> Result<Caller, RowError> {
+    let level = row.u8(3, words);
+    let name = row.bytes(2, words);
+    caller_named(words.alloc, name.as_slice(), level)
 }
 
 // The command of a row.
-fn command_in(alloc: Global, row: &Row, caller: &Caller) -> Result<Ask, RowError> {
-    let Some(act) = act_of(row.word(4)?) else {
+fn command_in(row: &Row, caller: &Caller, words: &mut Words) -> Result<Ask, RowError> {
+    let Some(act) = act_of(row.word(4)) else {
         return Err(RowError::Unknown(4));
     };
-    let number = row.u32(5)?;
-    match command_of(alloc, &caller.user, act, number) {
+    let number = row.u32(5, words);
+    match command_by(words.alloc, &caller.user, act, number) {
         Ok(command) => Ok(Ask::Call(command)),
         Err(_) => Err(RowError::OutOfMemory),
     }
 }
 
 // What is asked in a row.
-fn ask_in(alloc: Global, row: &Row, caller: &Caller) -> Result<Ask, RowError> {
+fn ask_in(row: &Row, caller: &Caller, words: &mut Words) -> Result<Ask, RowError> {
     let (from, most) = (0, 100);
-    let question = match row.word(0)? {
-        "call" => return command_in(alloc, row, caller),
+    let question = match row.word(0) {
+        "call" => return command_in(row, caller, words),
         "count" => return Ok(Ask::Count),
         "list" => Question::List { from, most },
         "unread" => Question::Unread { from, most },
@@ -71,7 +70,7 @@ fn ask_in(alloc: Global, row: &Row, caller: &Caller) -> Result<Ask, RowError> {
 }
 
 // Puts this in the place of a base.
-fn put_base(base: &mut MemDisk, new: MemDisk) {
+fn put_base(base: &mut Files, new: Files) {
     *base = new;
 }
 
@@ -87,15 +86,12 @@ fn put_closed(area: &OpenArea<MemDisk>, words: &mut Words) {
 }
 
 impl<'a, R: Threads + Wait + Sync> Trial<'a, R> {
-    /// An empty base, and no area that is shared.
-    pub(crate) fn new(rt: &'a R, alloc: Global) -> Result<Trial<'a, R>, OutOfMemory> {
-        match empty(alloc) {
-            Ok(base) => Ok(Trial {
-                rt,
-                base,
-                shared: None,
-            }),
-            Err(error) => Err(error),
+    /// Six empty files, and no area that is shared.
+    pub(crate) fn new(rt: &'a R, alloc: Global) -> Trial<'a, R> {
+        Trial {
+            rt,
+            base: Files::new(alloc),
+            shared: None,
         }
     }
 
@@ -106,136 +102,126 @@ impl<'a, R: Threads + Wait + Sync> Trial<'a, R> {
         }
     }
 
+    // Takes the files of this disk.
+    fn take(&mut self, disk: &MemDisk, words: &mut Words) {
+        match Files::of(words.alloc, disk) {
+            Ok(files) => put_base(&mut self.base, files),
+            Err(_) => words.lack(),
+        }
+    }
+
     // `base` and `long LEN`: this is the base then, and no area is shared.
-    fn make(
-        &mut self,
-        made: Result<MemDisk, OutOfMemory>,
-        word: &str,
-        words: &mut Words,
-    ) -> Result<(), RowError> {
+    fn make(&mut self, made: Result<Files, OutOfMemory>, word: &str, words: &mut Words) {
         match made {
             Ok(made) => {
                 put_base(&mut self.base, made);
                 self.set_shared(None);
                 words.word(word);
-                Ok(())
             }
-            Err(_) => Err(RowError::OutOfMemory),
+            Err(_) => words.lack(),
         }
     }
 
     // The area of the base, shared as the row says.
-    fn shared_in(&self, alloc: Global, row: &Row) -> Result<Shared<MemDisk>, RowError> {
-        let nodes = nodes_in(row)?;
-        match area_in(alloc, &self.base, row, 2) {
-            Ok(area) => Shared::new(self.rt, alloc, area, nodes),
+    fn shared_in(&self, row: &Row, words: &mut Words) -> Result<Shared<MemDisk>, RowError> {
+        let Ok(nodes) = nodes_in(row, words) else {
+            return Err(RowError::Unknown(1));
+        };
+        match area_in(&self.base, row, 2, words) {
+            Ok(area) => Shared::new(self.rt, words.alloc, area, nodes),
             Err(error) => Err(error),
         }
     }
 
     // `share NODES FAILING..`: opens the area of the base and shares it, on a disk that fails these of its calls from then on.
-    fn share(&mut self, alloc: Global, row: &Row, words: &mut Words) -> Result<(), RowError> {
-        match self.shared_in(alloc, row) {
+    fn share(&mut self, row: &Row, words: &mut Words) {
+        match self.shared_in(row, words) {
             Ok(shared) => {
                 self.set_shared(Some(shared));
                 words.word("shared");
-                Ok(())
             }
-            Err(error) => Err(error),
+            Err(error) => words.refuse(error),
         }
     }
 
     // What the caller is answered at the node of a row.
-    fn ask_as(
-        &mut self,
-        alloc: Global,
-        row: &Row,
-        caller: &Caller,
-        words: &mut Words,
-    ) -> Result<(), RowError> {
-        match ask_in(alloc, row, caller) {
+    fn ask_as(&mut self, row: &Row, caller: &Caller, words: &mut Words) {
+        match ask_in(row, caller, words) {
+            Ok(_) if !words.is_right() => {}
             Ok(ask) => match &mut self.shared {
-                Some(shared) => shared.ask(self.rt, alloc, row, caller, &ask, words),
-                None => {
-                    words.word("no area is shared");
-                    Ok(())
-                }
+                Some(shared) => shared.ask(self.rt, row, caller, &ask, words),
+                None => words.word("no area is shared"),
             },
-            Err(error) => Err(error),
+            Err(error) => words.refuse(error),
         }
     }
 
     // `call NODE NAME LEVEL ACT NUMBER`, and the looks and counts: what the node is answered.
-    fn ask(&mut self, alloc: Global, row: &Row, words: &mut Words) -> Result<(), RowError> {
-        match caller_in(alloc, row) {
-            Ok(caller) => self.ask_as(alloc, row, &caller, words),
-            Err(error) => Err(error),
+    fn ask(&mut self, row: &Row, words: &mut Words) {
+        match caller_in(row, words) {
+            Ok(caller) => self.ask_as(row, &caller, words),
+            Err(error) => words.refuse(error),
         }
     }
 
     // `drawn SEED DEEDS FAILING..`, `crowd POSTS`, `packers POSTS` and `lookers POSTS LOOKS FAILING..`: nodes follow the plan on an
     // empty base, on a disk that fails these of its calls.
-    fn follow(&self, alloc: Global, row: &Row, words: &mut Words) -> Result<(), RowError> {
-        let plan = plan_in(row)?;
-        let log = Mutex::new(Vec::new(alloc));
-        let disk = match followed_in(self.rt, alloc, row, &log, plan) {
-            Ok(disk) => disk,
-            Err(error) => return Err(error),
-        };
-        match in_order(alloc, log) {
-            Ok(noted) => judged(alloc, plan, noted.as_slice(), &disk, words),
-            Err(error) => Err(error),
+    fn follow(&self, row: &Row, words: &mut Words) {
+        let plan = plan_in(row, words);
+        let log = Mutex::new(Vec::new(words.alloc));
+        match followed_in(self.rt, row, &log, plan, words) {
+            Ok(base) => {
+                let noted = in_order(log, words);
+                put_judged(plan, noted.as_slice(), &base, words);
+            }
+            Err(error) => words.refuse(error),
         }
     }
 
     // One node packs the area of the base, and another posts as soon as the first text is to be copied. Says whether a record was
     // written between two copies.
-    fn held(&mut self, alloc: Global, log: &Mutex<Vec<Noted>>) -> Result<bool, RowError> {
+    fn held(&mut self, log: &Mutex<Vec<Noted>>, words: &mut Words) -> Result<bool, RowError> {
         let meeting = Meeting::new();
-        let disk = match copied(alloc, &self.base, Vec::new(alloc)) {
+        let disk = match self.base.disk(words.alloc, &[]) {
             Ok(disk) => HeldDisk::new(disk, &meeting),
             Err(_) => return Err(RowError::OutOfMemory),
         };
-        match followed_on(self.rt, alloc, disk, log, Plan::Between(&meeting)) {
+        match followed_on(self.rt, words.alloc, disk, log, Plan::Between(&meeting)) {
             Ok(held) => {
-                let is_between = held.is_between;
-                put_base(&mut self.base, held.disk);
-                Ok(is_between)
+                self.take(&held.disk, words);
+                Ok(held.is_between)
             }
             Err(error) => Err(error),
         }
     }
 
     // `between`: so two nodes do, and what they noted is told.
-    fn pack_held(&mut self, alloc: Global, words: &mut Words) -> Result<(), RowError> {
-        let log = Mutex::new(Vec::new(alloc));
-        let is_between = self.held(alloc, &log)?;
-        match in_order(alloc, log) {
-            Ok(noted) => put_held(alloc, noted.as_slice(), is_between, words),
-            Err(error) => Err(error),
+    fn pack_held(&mut self, words: &mut Words) {
+        let log = Mutex::new(Vec::new(words.alloc));
+        match self.held(&log, words) {
+            Ok(is_between) => {
+                let noted = in_order(log, words);
+                put_held(noted.as_slice(), is_between, words);
+            }
+            Err(error) => words.refuse(error),
         }
     }
 
     // Closes the area with the passes of the nodes below this one. The base is then what its disk holds.
-    fn close(&mut self, alloc: Global, below: u32, words: &mut Words) -> Result<(), RowError> {
+    fn close(&mut self, below: u32, words: &mut Words) {
         let Some(shared) = self.shared.take() else {
-            words.word("no area is shared");
-            return Ok(());
+            return words.word("no area is shared");
         };
         match shared.close(self.rt, below) {
             Ok(area) => {
                 put_closed(&area, words);
-                put_base(&mut self.base, area.close());
-                Ok(())
+                self.take(&area.close(), words);
             }
             Err((shared, refusal)) => {
                 self.set_shared(Some(shared));
                 match refusal {
-                    Some(missing) => {
-                        words.debug(alloc, &missing);
-                        Ok(())
-                    }
-                    None => Err(RowError::OutOfMemory),
+                    Some(missing) => words.debug(&missing),
+                    None => words.lack(),
                 }
             }
         }
@@ -254,24 +240,25 @@ impl<'a, R: Threads + Wait + Sync> Trial<'a, R> {
     }
 
     /// Puts together the line that is written for this row.
-    pub(crate) fn answer(
-        &mut self,
-        alloc: Global,
-        row: &Row,
-        words: &mut Words,
-    ) -> Result<(), RowError> {
-        match row.word(0)? {
-            "base" => self.make(empty(alloc), "base", words),
+    pub(crate) fn answer(&mut self, row: &Row, words: &mut Words) {
+        match row.word(0) {
+            "base" => self.make(empty(words.alloc), "base", words),
             "long" => {
-                let made = lengthened(alloc, &self.base, row.u32(1)?);
-                self.make(made, "long", words)
+                let len = row.u32(1, words);
+                let made = lengthened(words.alloc, &self.base, len);
+                self.make(made, "long", words);
             }
-            "share" => self.share(alloc, row, words),
-            "close" => self.close(alloc, u32::MAX, words),
-            "close-below" => self.close(alloc, row.u32(1)?, words),
-            "drawn" | "crowd" | "packers" | "lookers" => self.follow(alloc, row, words),
-            "between" => self.pack_held(alloc, words),
-            _ => self.ask(alloc, row, words),
+            "share" => self.share(row, words),
+            "close" => self.close(u32::MAX, words),
+            "close-below" => {
+                let below = row.u32(1, words);
+                self.close(below, words);
+            }
+            "drawn" | "crowd" | "packers" | "lookers" => self.follow(row, words),
+            "between" => self.pack_held(words),
+            "threads" => turns::threads(self.rt, row, words),
+            "seats" => turns::some_seats(self.rt, row, words),
+            _ => self.ask(row, words),
         }
     }
 }

@@ -3,7 +3,7 @@ ghost use Rattle.std.specs.Prelude.{◌<◌, ◌≤◌, IfOk};
 ghost use Rattle.jb_area.specs.Calls.{HasRest};
 ghost use Rattle.jb_shared.specs.Areas.{IsOf};
 
-use crate::asking::{Caller, MOMENT};
+use crate::asking::Caller;
 use crate::nodes::follow_all;
 use crate::noted::{Noted, Plan};
 use crate::showing::{put_answer, put_count, put_reply};
@@ -15,7 +15,7 @@ use std::alloc::Global;
 use std::marker::Model;
 use std::sync::{Mutex, Wait};
 use std::thread::Threads;
-use trial_rows::{Row, RowError, Words};
+use trial_rows::{MOMENT, Row, RowError, Words};
 
 /// What is asked of a shared area.
 #[derive(Drop)]
@@ -43,36 +43,32 @@ impl<D: Disk> Model for Shared<D> {
 }
 
 // What is answered, or why there is no answer, in words.
-fn told<D: Disk, R: Wait>(
+fn put_told<D: Disk, R: Wait>(
     rt: &R,
-    alloc: Global,
     area: &SharedArea<D>,
     pass: &mut Pass,
     caller: &Caller,
     ask: &Ask,
     words: &mut Words,
-) -> Result<(), RowError>
+)
     requires { IsOf area.now pass.old }
     ensures { IsOf area.now pass.new }
 {
     match ask {
         Ask::Call(command) => {
-            let reply = area.call(rt, alloc, pass, &caller.user, MOMENT, command);
-            put_reply(alloc, words, &reply)
+            let reply = area.call(rt, words.alloc, pass, &caller.user, MOMENT, command);
+            put_reply(words, &reply);
         }
-        Ask::Look(question) => {
-            let answer = area.look(pass, &caller.user, question);
-            put_answer(alloc, words, &answer)
-        }
-        Ask::Count => put_count(alloc, words, area.unread_count(pass, &caller.user)),
+        Ask::Look(question) => put_answer(words, &area.look(pass, &caller.user, question)),
+        Ask::Count => put_count(words, area.unread_count(pass, &caller.user)),
     }
 }
 
-// The place of the node of a row among so many passes.
-fn place_in(row: &Row, count: usize) -> Result<usize, RowError>
+// The place of this node among so many passes.
+fn place_of(node: u32, count: usize) -> Result<usize, RowError>
     ensures { IfOk result (λ place. place < count) }
 {
-    match (row.u32(1)? as usize).checked_sub(1) {
+    match (node as usize).checked_sub(1) {
         Some(place) if place < count => Ok(place),
         _ => Err(RowError::Unknown(1)),
     }
@@ -102,15 +98,19 @@ impl<D: Disk + Drop> Shared<D> {
     pub(crate) fn ask<R: Wait>(
         &mut self,
         rt: &R,
-        alloc: Global,
         row: &Row,
         caller: &Caller,
         ask: &Ask,
         words: &mut Words,
-    ) -> Result<(), RowError> {
-        let place = place_in(row, self.passes.len())?;
-        let pass = &mut self.passes[place];
-        told(rt, alloc, &self.area, pass, caller, ask, words)
+    ) {
+        let node = row.u32(1, words);
+        match place_of(node, self.passes.len()) {
+            Ok(place) => {
+                let pass = &mut self.passes[place];
+                put_told(rt, &self.area, pass, caller, ask, words);
+            }
+            Err(error) => words.refuse(error),
+        }
     }
 
     /// Each node follows the plan in a thread of its own.

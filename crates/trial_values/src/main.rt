@@ -6,12 +6,10 @@
 mod settings;
 mod texts;
 mod threads;
-mod words;
 
 use jb_base::Bytes;
-use std::alloc::Global;
 use std::io;
-use trial_rows::{Answers, Row, RowError, Words};
+use trial_rows::{Answers, Row, Words};
 
 /// The settings file that was written so far.
 #[derive(Drop)]
@@ -20,41 +18,28 @@ struct Trial {
 }
 
 impl Trial {
-    /// `file`: a settings file without lines.
-    fn begin_file(&mut self, alloc: Global) -> Result<(), RowError> {
-        self.file = Bytes::new(alloc);
-        Ok(())
-    }
-
-    /// `toml LINE`: one more line of the settings file.
-    fn add_line(&mut self, alloc: Global, row: &Row) -> Result<(), RowError> {
-        let Ok(line) = words::rest(alloc, row, 1) else {
-            return Err(RowError::OutOfMemory);
-        };
-        settings::append_line(&mut self.file, line.as_bytes())?;
-        Ok(())
-    }
-
-    /// The answer to a row that reads the settings file.
-    fn put_read(&self, alloc: Global, row: &Row, words: &mut Words) -> Result<(), RowError> {
-        let file = self.file.as_slice();
-        match row.word(0)? {
-            "broken" => settings::broken(alloc, file, row, words),
-            "board" | "area" | "user" | "login" => settings::answer(alloc, file, row, words),
-            _ => Err(RowError::Unknown(0)),
+    // `toml LINE`: one more line of the settings file.
+    fn add_line(&mut self, row: &Row, words: &mut Words) {
+        let line = row.rest(1, words);
+        if words.is_right() {
+            words.done(settings::append_line(&mut self.file, line.as_bytes()));
         }
     }
 }
 
 impl Answers for Trial {
-    fn answer(&mut self, alloc: Global, row: &Row, words: &mut Words) -> Result<(), RowError> {
-        match row.word(0)? {
-            "no-memory" => texts::no_memory(alloc, words),
-            "msgid" => texts::msgid(alloc, row, words),
-            "thread" => threads::put_thread(alloc, row, words),
-            "file" => self.begin_file(alloc),
-            "toml" => self.add_line(alloc, row),
-            _ => self.put_read(alloc, row, words),
+    fn answer(&mut self, row: &Row, words: &mut Words) {
+        let file = self.file.as_slice();
+        match row.word(0) {
+            "no-memory" => texts::no_memory(words),
+            "msgid" => texts::msgid(row, words),
+            "thread" => threads::put_thread(row, words),
+            // a settings file without lines
+            "file" => self.file = Bytes::new(words.alloc),
+            "toml" => self.add_line(row, words),
+            "broken" => settings::broken(file, row, words),
+            "board" | "area" | "user" | "login" => settings::answer(file, row, words),
+            _ => words.unknown(0),
         }
     }
 }

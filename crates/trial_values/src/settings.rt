@@ -1,23 +1,21 @@
 //! The rows on the settings file.
 ghost use Rattle.jb_conf.specs.InRange.{IsInRange};
 
-use crate::words::{put_named, rest_bytes};
 use jb_base::{AreaRules, Bytes, Kind, OutOfMemory};
 use jb_conf::{Board, BoardArea, BoardUser, ConfError, check_login, read};
-use std::alloc::Global;
-use trial_rows::{Row, RowError, Words};
+use trial_rows::{Row, Words};
 
 fn is_line_feed(byte: &u8) -> bool {
     *byte == b'\n'
 }
 
 /// Puts a line and its end behind a file.
-pub fn append_line(file: &mut Bytes, line: &[u8]) -> Result<(), OutOfMemory> {
+pub(crate) fn append_line(file: &mut Bytes, line: &[u8]) -> Result<(), OutOfMemory> {
     file.append(line)?;
     file.append(b"\n")
 }
 
-/// Puts a file behind another, with this text in the place of so many lines, of which the first has this place, counted from 0.
+// Puts a file behind another, with this text in the place of so many lines, of which the first has this place, counted from 0.
 fn append_changed(
     changed: &mut Bytes,
     file: &[u8],
@@ -38,77 +36,63 @@ fn append_changed(
     Ok(())
 }
 
-/// The file of a row: with TEXT in the place of COUNT lines, of which the first is line FROM.
-fn changed(alloc: Global, file: &[u8], row: &Row) -> Result<Bytes, RowError> {
-    let from = row.number(1)?.saturating_sub(1);
-    let count = row.number(2)?;
-    let Ok(text) = rest_bytes(alloc, row, 3) else {
-        return Err(RowError::Bytes(3));
-    };
-    let mut changed = Bytes::new(alloc);
-    match append_changed(&mut changed, file, from, count, text.as_slice()) {
-        Ok(()) => Ok(changed),
-        Err(OutOfMemory) => Err(RowError::OutOfMemory),
-    }
-}
-
-/// Puts why a file is refused.
-fn put_refusal(alloc: Global, words: &mut Words, error: ConfError) -> Result<(), RowError> {
-    let Ok(text) = format!(in alloc; "{error}") else {
-        return Err(RowError::OutOfMemory);
-    };
-    words.put(text.as_str());
-    Ok(())
-}
-
-/// Puts what is said of a file.
-fn put_reading(alloc: Global, words: &mut Words, file: &[u8]) -> Result<(), RowError> {
-    match read(alloc, file) {
+// Puts what is said of a file.
+fn put_reading(words: &mut Words, file: &[u8]) {
+    match read(words.alloc, file) {
         Ok(_) => words.word("read"),
-        Err(error) => return put_refusal(alloc, words, error),
+        Err(error) => put_refusal(words, error),
     }
-    Ok(())
+}
+
+// Puts why a file is refused.
+fn put_refusal(words: &mut Words, error: ConfError) {
+    match format!(in words.alloc; "{error}") {
+        Ok(text) => words.put(text.as_str()),
+        Err(_) => words.lack(),
+    }
 }
 
 /// `broken FROM COUNT TEXT`: what is said of the file with TEXT in the place of COUNT lines, of which the first is line FROM.
-pub fn broken(alloc: Global, file: &[u8], row: &Row, words: &mut Words) -> Result<(), RowError> {
-    match changed(alloc, file, row) {
-        Ok(changed) => put_reading(alloc, words, changed.as_slice()),
-        Err(error) => Err(error),
-    }
+pub(crate) fn broken(file: &[u8], row: &Row, words: &mut Words) {
+    let from = row.number(1, words).saturating_sub(1);
+    let count = row.number(2, words);
+    let text = row.rest_bytes(3, words);
+    let mut changed = Bytes::new(words.alloc);
+    let done = append_changed(&mut changed, file, from, count, text.as_slice());
+    words.done(done);
+    put_reading(words, changed.as_slice());
 }
 
 /// The answer to a row on what was read of the file.
-pub fn answer(alloc: Global, file: &[u8], row: &Row, words: &mut Words) -> Result<(), RowError> {
-    match read(alloc, file) {
-        Ok(board) => put_part(alloc, &board, row, words),
-        Err(ConfError::OutOfMemory) => Err(RowError::OutOfMemory),
-        Err(_) => Err(RowError::Unknown(0)),
+pub(crate) fn answer(file: &[u8], row: &Row, words: &mut Words) {
+    match read(words.alloc, file) {
+        Ok(board) => put_part(&board, row, words),
+        Err(ConfError::OutOfMemory) => words.lack(),
+        Err(_) => words.unknown(0),
     }
 }
 
-fn put_part(alloc: Global, board: &Board, row: &Row, words: &mut Words) -> Result<(), RowError>
+fn put_part(board: &Board, row: &Row, words: &mut Words)
     requires { IsInRange board.now }
 {
-    match row.word(0)? {
+    match row.word(0) {
         "board" => put_board(words, board),
-        "area" => put_area(words, board.areas.as_slice(), row.u32(1)?),
-        "user" => put_user(words, board.users.as_slice(), row.u32(1)?),
-        _ => return login(alloc, board, row, words),
+        "area" => put_area(words, board.areas.as_slice(), row),
+        "user" => put_user(words, board.users.as_slice(), row),
+        _ => login(board, row, words),
     }
-    Ok(())
 }
 
-/// `board`: the fields of the board itself, and how many areas and users it has.
+// `board`: the fields of the board itself, and how many areas and users it has.
 fn put_board(words: &mut Words, board: &Board) {
     words.shown(board.name.as_slice());
     put_address(words, board.address.as_slice());
-    put_named(words, "port", u64::from(board.port));
-    put_named(words, "nodes", u64::from(board.nodes));
+    words.named("port", u64::from(board.port));
+    words.named("nodes", u64::from(board.nodes));
     put_offset(words, board.offset);
-    put_named(words, "pack", u64::from(board.pack_minutes));
-    put_named(words, "areas", board.areas.as_slice().len() as u64);
-    put_named(words, "users", board.users.as_slice().len() as u64);
+    words.named("pack", u64::from(board.pack_minutes));
+    words.named("areas", board.areas.as_slice().len() as u64);
+    words.named("users", board.users.as_slice().len() as u64);
 }
 
 fn put_address(words: &mut Words, address: &[u8]) {
@@ -122,9 +106,10 @@ fn put_offset(words: &mut Words, offset: i32) {
     words.put_number(u64::from(offset.unsigned_abs()));
 }
 
-/// `area PLACE`: the fields of an area, by its place from 0.
-fn put_area(words: &mut Words, areas: &[BoardArea], place: u32) {
-    let Some(area) = areas.get(place as usize) else {
+// `area PLACE`: the fields of an area, by its place from 0.
+fn put_area(words: &mut Words, areas: &[BoardArea], row: &Row) {
+    let place = row.u32(1, words) as usize;
+    let Some(area) = areas.get(place) else {
         return words.word("none");
     };
     words.shown(area.name.as_slice());
@@ -135,53 +120,41 @@ fn put_area(words: &mut Words, areas: &[BoardArea], place: u32) {
     put_rules(words, &area.rules);
 }
 
-/// Puts the rules of an area behind the other words.
+// Puts the rules of an area behind the other words.
 fn put_rules(words: &mut Words, rules: &AreaRules) {
     put_address(words, rules.address.as_slice());
     words.word(match rules.kind {
         Kind::Local => "kind Local",
         Kind::Echo => "kind Echo",
     });
-    put_named(words, "ordinal", u64::from(rules.ordinal));
-    put_named(words, "read", u64::from(rules.read));
-    put_named(words, "post", u64::from(rules.post));
-    put_named(words, "sysop", u64::from(rules.sysop));
-    put_named(words, "slots", u64::from(rules.slots));
+    words.named("ordinal", u64::from(rules.ordinal));
+    words.named("read", u64::from(rules.read));
+    words.named("post", u64::from(rules.post));
+    words.named("sysop", u64::from(rules.sysop));
+    words.named("slots", u64::from(rules.slots));
 }
 
-/// `user PLACE`: the fields of a user, by its place from 0.
-fn put_user(words: &mut Words, users: &[BoardUser], place: u32) {
-    let Some(user) = users.get(place as usize) else {
+// `user PLACE`: the fields of a user, by its place from 0.
+fn put_user(words: &mut Words, users: &[BoardUser], row: &Row) {
+    let place = row.u32(1, words) as usize;
+    let Some(user) = users.get(place) else {
         return words.word("none");
     };
     words.shown(user.user.name.as_slice());
-    put_named(words, "id", u64::from(user.user.id));
-    put_named(words, "level", u64::from(user.user.level));
+    words.named("id", u64::from(user.user.id));
+    words.named("level", u64::from(user.user.level));
     words.word("salt");
     words.shown(user.salt.as_slice());
 }
 
-/// `login NAME PASSWORD`: the place of the user who logs in.
-fn login(alloc: Global, board: &Board, row: &Row, words: &mut Words) -> Result<(), RowError>
+// `login NAME PASSWORD`: the place of the user who logs in, from 0.
+fn login(board: &Board, row: &Row, words: &mut Words)
     requires { IsInRange board.now }
 {
-    let Ok(name) = row.bytes(alloc, 1) else {
-        return Err(RowError::Bytes(1));
-    };
-    let Ok(password) = row.bytes(alloc, 2) else {
-        return Err(RowError::Bytes(2));
-    };
-    put_place(
-        words,
-        check_login(board, name.as_slice(), password.as_slice()),
-    );
-    Ok(())
-}
-
-/// Puts the place of a user, from 0.
-pub fn put_place(words: &mut Words, place: Option<u32>) {
-    match place {
-        Some(place) => put_named(words, "user", u64::from(place)),
+    let name = row.bytes(1, words);
+    let password = row.bytes(2, words);
+    match check_login(board, name.as_slice(), password.as_slice()) {
+        Some(place) => words.named("user", u64::from(place)),
         None => words.word("nobody"),
     }
 }

@@ -4,18 +4,22 @@ use jb_base::Subfields;
 use jb_link::{is_live, thread};
 use jb_model::{Head, Loaded, LoadedMarks, LoadedMessage, LoadedSlot, LoadedSlots};
 use std::alloc::Global;
-use trial_rows::{Row, RowError, Words};
+use trial_rows::{Row, Words};
 
 /// `thread COUNT NUMBER`: the numbers of the thread of this message, in an area of so many messages.
-pub fn put_thread(alloc: Global, row: &Row, words: &mut Words) -> Result<(), RowError> {
-    let count = row.u8(1)?;
-    let number = row.u32(2)?;
-    let mut slots = LoadedSlots::new(alloc)?;
+pub(crate) fn put_thread(row: &Row, words: &mut Words) {
+    let count = row.u8(1, words);
+    let Ok(mut slots) = LoadedSlots::new(words.alloc) else {
+        return words.lack();
+    };
     for parent in 0..u32::from(count) {
-        slots.push(message(alloc, parent.saturating_sub(1)))?;
+        let slot = message(words.alloc, parent.saturating_sub(1));
+        words.done(slots.push(slot));
     }
-    let loaded = area(slots, LoadedMarks::new(alloc)?);
-    put_numbers(alloc, &loaded, number, words)
+    match LoadedMarks::new(words.alloc) {
+        Ok(marks) => put_numbers(&area(slots, marks), row, words),
+        Err(_) => words.lack(),
+    }
 }
 
 fn message(alloc: Global, parent: u32) -> LoadedSlot {
@@ -59,20 +63,17 @@ fn area(slots: LoadedSlots, marks: LoadedMarks) -> Loaded {
     }
 }
 
-fn put_numbers(
-    alloc: Global,
-    loaded: &Loaded,
-    number: u32,
-    words: &mut Words,
-) -> Result<(), RowError> {
+fn put_numbers(loaded: &Loaded, row: &Row, words: &mut Words) {
+    let number = row.u32(2, words);
     if loaded.base != 1 || loaded.slots.as_slice().len() > 255 || !is_live(loaded, number) {
-        return Err(RowError::Unknown(2));
+        return words.unknown(2);
     }
-    let Ok(numbers) = thread(alloc, loaded, number) else {
-        return Err(RowError::OutOfMemory);
-    };
-    for number in numbers.as_slice() {
-        words.number(u64::from(*number));
+    match thread(words.alloc, loaded, number) {
+        Ok(numbers) => {
+            for number in numbers.as_slice() {
+                words.number(u64::from(*number));
+            }
+        }
+        Err(_) => words.lack(),
     }
-    Ok(())
 }
