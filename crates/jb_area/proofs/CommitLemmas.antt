@@ -8,7 +8,8 @@ use Rattle.jb_disk.specs.Images.{Images}
 use Rattle.jb_disk.specs.Runs.{IsAllSynced, LeavesNow, LeavesOnly, Shows}
 use Rattle.jb_disk.proofs.RunLemmas.{runs-refl, runs-weaken}
 use Rattle.jb_journal.proofs.SettleLemmas.{doubt_replays}
-use Rattle.jb_journal.specs.Commit.{AgreeButJournal, IsBeforeOrAfter, IsReady, changed, committed}
+use Rattle.jb_journal.specs.Commit.{AgreeButJournal, IsBeforeOrAfter, IsReady, committed}
+use Rattle.jb_redo.specs.Changes.{changed}
 use Rattle.jb_journal.specs.Doubt.{DoubtReplays, HasStopped, IsInDoubt, IsSettledAt, answered}
 use Rattle.jb_journal.specs.declared.stopped.Stopped.{Stopped}
 use Rattle.jb_journal.specs.declared.stopped.Stopped.TheVariants.{Early, Late}

@@ -12,7 +12,8 @@ use Rattle.jb_disk.specs.Steps.{Span, patched}
 use Rattle.jb_disk.specs.declared.file.FileId.{FileId}
 use Rattle.jb_disk.specs.declared.file.FileId.TheVariants.{Jhr, Jdt, Jdx, Jlr, Jnl, Ndt}
 use Rattle.jb_disk.proofs.RunLemmas.{durable, leaves_only}
-use Rattle.jb_journal.specs.Commit.{AgreeButJournal, changed}
+use Rattle.jb_journal.specs.Commit.{AgreeButJournal}
+use Rattle.jb_redo.specs.Changes.{changed}
 use Rattle.jb_model.specs.declared.command.Command.{Command}
 use Rattle.jb_model.specs.declared.command.Command.TheVariants.{Post, Read, Peek, Kill, SetMark, Pack, Relink}
 use Rattle.jb_model.specs.declared.loaded.Loaded.{Loaded}

@@ -6,7 +6,8 @@ use Rattle.jb_disk.specs.Change.{Change}
 use Rattle.jb_disk.specs.Files.{Files, number_of, overwritten, with_file}
 use Rattle.jb_disk.specs.declared.file.FileId.{FileId}
 use Rattle.jb_disk.specs.declared.file.FileId.TheVariants.{Jhr, Jdt, Jdx, Jlr, Jnl}
-use Rattle.jb_journal.specs.Commit.{AgreeButJournal, IsReady, ReplaysTo, IsBeforeOrAfter, changed, committed, journal_of}
+use Rattle.jb_journal.specs.Commit.{AgreeButJournal, IsReady, ReplaysTo, IsBeforeOrAfter, committed, journal_of}
+use Rattle.jb_redo.specs.Changes.{changed}
 use Rattle.jb_journal.specs.Doubt.{IsSettledAt}
 use Rattle.jb_disk.specs.FileLaws.{with_file-here, with_file-other, length-overwritten}
 use Rattle.jb_model.specs.declared.loaded.Loaded.{Loaded}

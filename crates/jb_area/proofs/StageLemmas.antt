@@ -11,7 +11,8 @@ use Rattle.jb_pack.specs.Shadow.{Shadow}
 use Rattle.jb_decide.specs.Coming.{BringsComing, Coming, IsChange}
 use Rattle.std.specs.Option.{ForSome}
 use Rattle.jb_disk.specs.Files.{Files}
-use Rattle.jb_journal.specs.Commit.{AgreeButJournal, changed}
+use Rattle.jb_journal.specs.Commit.{AgreeButJournal}
+use Rattle.jb_redo.specs.Changes.{changed}
 use Rattle.jb_decide.specs.Decided.{IsNoChange, IsPending, made}
 use Rattle.jb_decide.specs.Holds.{HasAll}
 use Rattle.jb_decide.specs.Packs.{IsPacked}

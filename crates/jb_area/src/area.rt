@@ -8,6 +8,7 @@ use jb_base::AreaRules;
 use jb_decide::{Held, Pending};
 use jb_disk::{Disk, Redo};
 use jb_journal::Stopped;
+use jb_link::Replies;
 use jb_model::{Loaded, Reply};
 use jb_pack::Packer;
 use std::mem;
@@ -34,6 +35,7 @@ impl<D: Disk> OpenArea<D> {
     ghost use Rattle.jb_disk.specs.Device.{Device, TellsAlike};
     ghost use Rattle.jb_disk.specs.Runs.{LeavesOnly};
     ghost use Rattle.jb_disk.specs.declared.file.FileId.TheVariants.{Ndt as shadow_file};
+    ghost use Rattle.jb_link.specs.Index.{IsIndexOf};
     ghost use Rattle.jb_model.specs.declared.reply.Reply.{Reply};
     ghost use Rattle.jb_area.specs.Holds.{OpensToEither};
     ghost use Rattle.jb_decide.specs.Coming.{Coming};
@@ -45,6 +47,13 @@ impl<D: Disk> OpenArea<D> {
         ensures { result.now ≡ loaded_of self.now }
     {
         self.held.loaded()
+    }
+
+    /// The index of the replies in that area.
+    pub fn replies(&self) -> &Replies
+        ensures { IsIndexOf result.now (loaded_of self.now) }
+    {
+        self.held.replies()
     }
 
     /// The rules of the area.

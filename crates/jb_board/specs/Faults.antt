@@ -5,8 +5,8 @@ use Rattle.jb_area_open.specs.declared.error.OpeningError.TheVariants.{BadJourna
 use Rattle.jb_conf.specs.Names.{field_name}
 use Rattle.jb_conf.specs.declared.error.ConfError.{ConfError}
 use Rattle.jb_conf.specs.declared.error.ConfError.TheVariants as conf
-use Rattle.jb_local.specs.declared.error.RunError.{RunError}
-use Rattle.jb_local.specs.declared.error.RunError.TheVariants as no_session
+use Rattle.jb_run.specs.declared.error.RunError.{RunError}
+use Rattle.jb_run.specs.declared.error.RunError.TheVariants as no_session
 use Rattle.jb_image.specs.declared.error.OpenError.{OpenError}
 use Rattle.jb_image.specs.declared.error.OpenError.TheVariants as refused
 use Rattle.jb_tool.specs.declared.error.ToolError.{ToolError}

@@ -5,15 +5,15 @@ use Rattle.jb_base.specs.Fault.{Rose}
 use Rattle.jb_disk.specs.Device.{Device}
 use Rattle.jb_host.specs.Desk.{Desk, Disks, KeepsRest, has_disk, with_place, asked_disk, and_call}
 use Rattle.jb_host.specs.Wire.{Wire, Begins, Sends}
-use Rattle.jb_load.specs.Summary.{summary_of}
-use Rattle.jb_load.specs.Workload.{load_run}
-use Rattle.jb_local.specs.Ending.{status_of as status_behind}
-use Rattle.jb_local.specs.Local.{RunsLocal}
-use Rattle.jb_local.specs.declared.ending.LocalEnd.{LocalEnd}
-use Rattle.jb_local.specs.declared.error.RunError.{RunError}
-use Rattle.jb_nodes.specs.Ending.{status_of as status_behind_nodes}
-use Rattle.jb_nodes.specs.Nodes.{RunsNodes}
-use Rattle.jb_nodes.specs.declared.ending.NodesEnd.{NodesEnd}
+use Rattle.jb_tool.specs.LoadSummary.{summary_of}
+use Rattle.jb_tool.specs.Workload.{load_run}
+use Rattle.jb_run.specs.LocalEnding.{status_of as status_behind}
+use Rattle.jb_run.specs.Local.{RunsLocal}
+use Rattle.jb_run.specs.declared.local_end.LocalEnd.{LocalEnd}
+use Rattle.jb_run.specs.declared.error.RunError.{RunError}
+use Rattle.jb_run.specs.NodesEnding.{status_of as status_behind_nodes}
+use Rattle.jb_run.specs.Nodes.{RunsNodes}
+use Rattle.jb_run.specs.declared.nodes_end.NodesEnd.{NodesEnd}
 use Rattle.jb_tool.specs.Answers.{AnswersTool, KeepsUnderTool}
 use Rattle.jb_tool.specs.declared.error.ToolError.{ToolError}
 use Rattle.jb_tool.specs.declared.tool.Tool.{Tool as ToolName}

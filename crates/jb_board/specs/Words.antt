@@ -1,8 +1,6 @@
 -- The words of a command line.
-use Rattle.std.specs.Prelude.{ℕ, ◌≤◌, bytes_eq, nat_le, ◌&&◌, ◌||◌, ◌==◌, Bool, List, [], ◌∷◌, ◌++◌, length, Option, Some, None, codes, if◌then◌else◌}
-use Rattle.std.specs.Char.{is_ascii_digit}
-use Rattle.std.specs.List.{list_all}
-use Rattle.std.specs.Str.Parse.{digits_value}
+use Rattle.std.specs.Prelude.{ℕ, ◌≤◌, bytes_eq, ◌&&◌, ◌||◌, ◌==◌, List, [], ◌∷◌, ◌++◌, length, Option, Some, None, codes, if◌then◌else◌}
+use Rattle.jb_text.specs.Digits.{number_up_to}
 use Rattle.jb_tool.specs.declared.tool.Tool.{Tool}
 use Rattle.jb_tool.specs.declared.tool.Tool.TheVariants.{List as Listing, Check, Make, Pack, Relink}
 use Rattle.jb_board.specs.declared.command.TheConstants.{MOST_CALLS, MOST_SEED, MOST_STEPS}
@@ -48,14 +46,6 @@ tool_named verb =
 abbrev pub tool_line : Option Tool → List ℕ → List ℕ → Option Words
 tool_line None dir name = None
 tool_line (Some tool) dir name = if (length dir == 0) || (length name == 0) then None else Some (use_tool tool dir name)
-
--- one to ten digits
-abbrev pub are_digits : List ℕ → Bool
-are_digits word = nat_le 1 (length word) && (nat_le (length word) 10 && list_all is_ascii_digit word)
-
--- the number that a word writes, at most this
-abbrev pub number_up_to : ℕ → List ℕ → Option ℕ
-number_up_to most word = if are_digits word && nat_le (digits_value 10 word) most then Some (digits_value 10 word) else None
 
 -- a seed and a count of steps
 abbrev pub load_line : Option ℕ → Option ℕ → Option Words

@@ -1,9 +1,10 @@
 //! The words of the command line.
 ghost use Rattle.std.specs.Prelude.{◌≡◌, ◌∷◌, [], IfNone, IfSome, None, Some, map};
 ghost use Rattle.std.specs.String.{string_bytes};
-ghost use Rattle.jb_board.specs.Words.{HasFewSteps, command_line_of, counted_line, load_line, local_line, number_up_to, serve_line, tool_line, tool_named, words_of};
+ghost use Rattle.jb_board.specs.Words.{HasFewSteps, command_line_of, counted_line, load_line, local_line, serve_line, tool_line, tool_named, words_of};
+ghost use Rattle.jb_text.specs.Digits.{number_up_to};
 
-use crate::number::number_up_to;
+use jb_text::number_up_to;
 use jb_tool::Tool;
 
 /// The greatest seed of a workload.
@@ -82,8 +83,8 @@ fn load_line<'a>(seed: &str, count: &str) -> Option<CommandLine<'a>>
     ensures none { IfNone result (load_line (number_up_to MOST_SEED seed.now) (number_up_to MOST_STEPS count.now) ≡ None) }
     ensures few { IfSome result (λ line. HasFewSteps (words_of line)) }
 {
-    let seed = number_up_to(MOST_SEED, seed)?;
-    let count = number_up_to(MOST_STEPS, count)?;
+    let seed = number_up_to(MOST_SEED, seed.as_bytes())?;
+    let count = number_up_to(MOST_STEPS, count.as_bytes())?;
     Some(CommandLine::Load { seed, count })
 }
 
@@ -117,7 +118,7 @@ fn counted_line<'a>(path: &'a str, calls: &str) -> Option<CommandLine<'a>>
     ensures none { IfNone result (counted_line path.now (number_up_to MOST_CALLS calls.now) ≡ None) }
     ensures few { IfSome result (λ line. HasFewSteps (words_of line)) }
 {
-    let calls = number_up_to(MOST_CALLS, calls)?;
+    let calls = number_up_to(MOST_CALLS, calls.as_bytes())?;
     if calls == 0 {
         return None;
     }

@@ -8,7 +8,7 @@ use itoa::Buffer;
 use jb_area_open::OpeningError;
 use jb_conf::{ConfError, Field};
 use jb_image::OpenError;
-use jb_local::RunError;
+use jb_run::RunError;
 use jb_tool::ToolError;
 
 /// A line of at most 96 bytes; it takes no memory.

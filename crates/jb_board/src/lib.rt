@@ -8,7 +8,6 @@
 mod command;
 mod fault;
 mod meaning;
-mod number;
 mod top;
 
 pub use fault::{Fault, Line};

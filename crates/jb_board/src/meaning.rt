@@ -4,9 +4,9 @@ ghost use Rattle.std.specs.Prelude.{◌≡◌};
 use crate::command::{CommandLine, command};
 use crate::fault::Fault;
 use jb_area_open::OpeningError;
-use jb_areas::meaning;
 use jb_base::OutOfMemory;
 use jb_host::Host;
+use jb_run::meaning;
 use jb_tool::ToolError;
 use std::alloc::Global;
 

@@ -29,7 +29,7 @@ use Rattle.jb_redo.specs.Rules.{sizes_of, IsLegal}
 use Rattle.jb_image.specs.Places.{bytes_at, fixed_in, entry_in, mark_in}
 use Rattle.jb_image.specs.Stands.{Loads, HasSlot, mark_record}
 use Rattle.jb_change.specs.Changing.{ChangesArea, ChangesMark, MakesNothing, Puts, WritesOnly}
-use Rattle.jb_change.specs.Makes.{done}
+use Rattle.jb_redo.specs.Changes.{changed}
 use Rattle.jb_change.proofs.ByteLemmas.{bytes_beside, bytes_inside, torn-overwritten}
 use Rattle.jb_change.proofs.HeaderLemmas.{still_fixed, fixed_put}
 use Rattle.jb_change.proofs.LoadsLemmas.{IsTornAt, torn-written, slot_same}
@@ -220,7 +220,7 @@ same_length bytes =
 -- a change of nothing makes of each area the same one
 pub makes_nothing : MakesNothing
 makes_nothing change loaded no_lengths no_pieces =
-    let nothing : (files : Files) → done change files ≡ files = λ files.
+    let nothing : (files : Files) → changed change files ≡ files = λ files.
     (λ i. applied (no_lengths i) (no_pieces i) files) ∙ same_files (applied [] [] files) files (λ file. same_length (files file)) in
     record {
       legal = λ files held. subst (λ (l : List Length). IsLegal (sizes_of files) l change.pieces) (sym no_lengths) (subst (IsLegal (sizes_of files) []) (sym no_pieces) (empty_legal files));

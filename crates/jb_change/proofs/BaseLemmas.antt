@@ -22,9 +22,9 @@ use Rattle.jb_redo.specs.Rules.{AreLegalLengths, IsBefore, IsLegal, IsLegalLengt
 use Rattle.jb_change.proofs.EndLemmas.{one_behind}
 use Rattle.jb_change.proofs.PostLemmas.{no_pairs}
 use Rattle.jb_change.proofs.SizeLemmas.{length-pieces, length-record}
-use Rattle.jb_change.specs.Makes.{done, record_size}
+use Rattle.jb_redo.specs.Changes.{changed, record_size}
 use Rattle.jb_change.specs.NewBase.{AreEmpty, AreNew, MakesBase, base_lengths, base_pieces, new_loaded}
-use Rattle.jb_change.specs.Records.{IsFixedReadAgain}
+use Rattle.jb_image.specs.Records.{IsFixedReadAgain}
 
 -- the header's bytes
 abbrev header : ℕ → List ℕ
@@ -152,7 +152,7 @@ module _ (moment : ℕ) (change : Change) (lengths_are : change.lengths ≡ base
               subst (λ (l : List Length). IsGrowthCovered l change.pieces files) (sym lengths_are)
               (subst (λ (p : List Piece). IsGrowthCovered base_lengths p files) (sym pieces_are) (covers_base files empty));
           made = λ files empty.
-              let made : done change files ≡ after files empty = λ i. applied (lengths_are i) (pieces_are i) files in
+              let made : changed change files ≡ after files empty = λ i. applied (lengths_are i) (pieces_are i) files in
               subst (AreNew moment) (sym made) (new_holds moment (after files empty) back (headers_after files empty) (others_after files empty));
         };
         lengths = subst AreLegalLengths (sym lengths_are) legal_lengths;

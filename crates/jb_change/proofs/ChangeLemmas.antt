@@ -19,7 +19,8 @@ use Rattle.jb_record.specs.Message.{message_header_of}
 use Rattle.jb_image.specs.Places.{bytes_at, header_in}
 use Rattle.jb_image.specs.Stands.{Loads, head_of, IsDeleted}
 use Rattle.jb_change.specs.Changing.{ChangesHead, ChangesHeader, ChangesMessage, LeavesIndex, WritesOnly, Puts, head_with_links, header_with_attribute, header_with_links}
-use Rattle.jb_change.specs.Makes.{Makes, done}
+use Rattle.jb_change.specs.Makes.{Makes}
+use Rattle.jb_redo.specs.Changes.{changed}
 use Rattle.jb_change.proofs.HeaderLemmas.{with_bytes, header_put}
 use Rattle.jb_change.proofs.LoadsLemmas.{slot_there, header_room, loads_head, loads_killed}
 use Rattle.jb_change.proofs.PieceLemmas.{put_done, put_only, put_makes}
@@ -49,8 +50,8 @@ module _ (at o : ℕ) (bytes : List ℕ) (old new : Change) (puts : Puts Jhr (at
   header_put_there files room =
       let high = inside.high in
       ap (λ (f : Files). header_in f at) (put_done Jhr (at + o) bytes old new puts files)
-      ∙ ap (λ (l : List ℕ). message_header_of (bytes_at at 76 l)) (with_file-here Jhr (overwritten (at + o) bytes (done old files Jhr)) (done old files))
-      ∙ header_put at o bytes (done old files Jhr) room inside.low (omega arith) inside.o_whole inside.whole
+      ∙ ap (λ (l : List ℕ). message_header_of (bytes_at at 76 l)) (with_file-here Jhr (overwritten (at + o) bytes (changed old files Jhr)) (changed old files))
+      ∙ header_put at o bytes (changed old files Jhr) room inside.low (omega arith) inside.o_whole inside.whole
 
   -- no byte outside the header is another
   pub header_only : WritesOnly old new Jhr at 76
@@ -112,7 +113,7 @@ module _ (at reply_to first next : ℕ) (old new : Change) (fits : at + 76 < 2 ^
 
   -- what the header is then
   pub links_header : ChangesHeader old new at (header_with_links reply_to first next)
-  links_header files room = header_put_there at 24 (links_bytes reply_to first next) old new puts links_inside files room ∙ links_are (header_in (done old files) at)
+  links_header files room = header_put_there at 24 (links_bytes reply_to first next) old new puts links_inside files room ∙ links_are (header_in (changed old files) at)
 
   -- no byte outside it is another
   pub links_only : WritesOnly old new Jhr at 76
@@ -147,7 +148,7 @@ module _ (at attribute : ℕ) (old new : Change) (fits : at + 76 < 2 ^ 32) (smal
 
   -- what the header is then
   pub kill_header : ChangesHeader old new at (header_with_attribute (bit_or attribute DELETED))
-  kill_header files room = header_put_there at 52 kill_bytes old new puts kill_inside files room ∙ kill_is (header_in (done old files) at)
+  kill_header files room = header_put_there at 52 kill_bytes old new puts kill_inside files room ∙ kill_is (header_in (changed old files) at)
 
   -- no byte outside it is another
   pub kill_only : WritesOnly old new Jhr at 76
@@ -161,7 +162,7 @@ module _ (at attribute : ℕ) (old new : Change) (fits : at + 76 < 2 ^ 32) (smal
   pub kill_index : LeavesIndex old new
   kill_index files =
       ap (λ (f : Files). f Jdx) (put_done Jhr (at + 52) kill_bytes old new puts files)
-      ∙ with_file-other Jhr Jdx (overwritten (at + 52) kill_bytes (done old files Jhr)) (done old files) (λ same. absurd (omega (arith, ap number_of same)))
+      ∙ with_file-other Jhr Jdx (overwritten (at + 52) kill_bytes (changed old files Jhr)) (changed old files) (λ same. absurd (omega (arith, ap number_of same)))
 
   -- what the change makes then
   pub kill_makes : ChangesMessage old new at with_killed_at

@@ -11,6 +11,5 @@ mod MarkLemmas
 mod PieceLemmas
 pub mod PostLemmas
 mod ReadingLemmas
-pub mod RecordLemmas
 pub mod SizeLemmas
 mod SoundLemmas

@@ -23,10 +23,10 @@ use Rattle.jb_record.specs.declared.message.MessageHeader.{MessageHeader}
 use Rattle.jb_image.specs.Places.{bytes_at, entry_in, header_in, mark_in}
 use Rattle.jb_image.specs.Stands.{HasSlot, IsLiveHeader, IsLiveIn, Loads, head_of, mark_record}
 use Rattle.jb_change.specs.Post.{IsNext, number_behind}
-use Rattle.jb_change.specs.Records.{IsEntryReadAgain, IsHeaderReadAgain, IsMarkReadAgain, entry_for, message_bytes, numbered_header}
+use Rattle.jb_image.specs.Records.{IsEntryReadAgain, IsHeaderReadAgain, IsMarkReadAgain, entry_for, message_bytes, numbered_header}
 use Rattle.jb_change.proofs.EndLemmas.{length-bytes_at, at_end, below_end, past_end}
 use Rattle.jb_change.proofs.KeptLemmas.{entry_kept, mark_kept, slot_kept}
-use Rattle.jb_change.proofs.RecordLemmas.{length-entry, length-mark, length-message, shaped_header}
+use Rattle.jb_image.proofs.RecordLemmas.{length-entry, length-mark, length-message, shaped_header}
 
 -- .JHR is no shorter than the fixed header
 pub fixed_whole : (files : Files) (loaded : Loaded) → Loads loaded files → 1024 ≤ length (files Jhr)

@@ -4,7 +4,7 @@ use Rattle.std.specs.List.{flat_map}
 use Rattle.std.proofs.lemmas.List.{append-nil}
 use Rattle.std.proofs.lemmas.List.Elements.{All-nil, All-cons}
 use Rattle.std.proofs.lemmas.List.Kept.{AllPairs-cons}
-use Rattle.jb_change.specs.Makes.{done, record_size}
+use Rattle.jb_redo.specs.Changes.{changed, record_size}
 use Rattle.jb_disk.specs.Change.{Change}
 use Rattle.jb_disk.specs.Files.{Files}
 use Rattle.jb_disk.specs.declared.file.FileId.{FileId}
@@ -22,11 +22,11 @@ use Rattle.jb_redo.specs.Replay.{IsGrowthCovered, applied}
 use Rattle.jb_redo.specs.Rules.{AreLegalLengths, IsBefore, IsLegal, IsLegalLength, IsLegalPiece, new_sizes, sizes_of}
 use Rattle.jb_change.specs.Behind.{AppendsOnly}
 use Rattle.jb_change.specs.NewMark.{MakesMark, mark_lengths, mark_pieces}
-use Rattle.jb_change.specs.Records.{IsMarkReadAgain}
+use Rattle.jb_image.specs.Records.{IsMarkReadAgain}
 use Rattle.jb_change.proofs.LongerLemmas.{marked}
 use Rattle.jb_change.proofs.EndLemmas.{kept_behind, kept_same, one_behind, same_length}
 use Rattle.jb_change.proofs.PostLemmas.{no_pairs}
-use Rattle.jb_change.proofs.RecordLemmas.{length-mark}
+use Rattle.jb_image.proofs.RecordLemmas.{length-mark}
 use Rattle.jb_change.proofs.SizeLemmas.{length-pieces, length-record}
 
 -- its length is legal
@@ -107,7 +107,7 @@ module _ (count : ℕ) (mark : Mark) (few : count < 65000) where
   -- it makes the area with the mark behind
   pub makes_mark : IsMarkReadAgain mark → (change : Change) → change.lengths ≡ mark_lengths count → change.pieces ≡ mark_pieces count mark → MakesMark change count mark
   makes_mark back change lengths_are pieces_are loaded counted =
-      let made : (files : Files) → done change files ≡ applied (mark_lengths count) (mark_pieces count mark) files = λ files i. applied (lengths_are i) (pieces_are i) files in
+      let made : (files : Files) → changed change files ≡ applied (mark_lengths count) (mark_pieces count mark) files = λ files i. applied (lengths_are i) (pieces_are i) files in
       record {
         legal = λ files loads.
             subst (λ (lengths : List Length). IsLegal (sizes_of files) lengths change.pieces) (sym lengths_are)
@@ -125,5 +125,5 @@ module _ (count : ℕ) (mark : Mark) (few : count < 65000) where
   -- it writes behind the files alone
   pub appends_mark : (change : Change) → change.lengths ≡ mark_lengths count → change.pieces ≡ mark_pieces count mark → (loaded : Loaded) → length loaded.marks ≡ count → AppendsOnly change loaded
   appends_mark change lengths_are pieces_are loaded counted files loads file =
-      let made : done change files ≡ applied (mark_lengths count) (mark_pieces count mark) files = λ i. applied (lengths_are i) (pieces_are i) files in
+      let made : changed change files ≡ applied (mark_lengths count) (mark_pieces count mark) files = λ i. applied (lengths_are i) (pieces_are i) files in
       ap (λ (now : Files). take (length (files file)) (now file)) made ∙ mark_behind loaded counted files loads file

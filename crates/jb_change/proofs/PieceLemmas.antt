@@ -21,7 +21,8 @@ use Rattle.jb_redo.specs.Record.{record_bytes, length_bytes, piece_bytes}
 use Rattle.jb_redo.specs.Replay.{applied, span_of, spans_in, writes, IsGrowthCovered}
 use Rattle.jb_redo.specs.Rules.{sizes_of, new_sizes, IsLegal, IsLegalPiece}
 use Rattle.jb_redo.proofs.SpanLemmas.{spans_in-here, spans_in-other, spans_within}
-use Rattle.jb_change.specs.Makes.{Makes, done, record_size}
+use Rattle.jb_change.specs.Makes.{Makes}
+use Rattle.jb_redo.specs.Changes.{changed, record_size}
 use Rattle.jb_change.specs.Changing.{Puts, WritesOnly}
 use Rattle.jb_change.proofs.ByteLemmas.{torn-overwritten, torn-then, torn-wider}
 
@@ -106,15 +107,15 @@ module _ (file : FileId) (at : ℕ) (bytes : List ℕ) where
 
   module _ (old new : Change) (puts : Puts file at bytes old new) where
     -- the files after the change
-    pub put_done : (files : Files) → done new files ≡ written file at bytes (done old files)
+    pub put_done : (files : Files) → changed new files ≡ written file at bytes (changed old files)
     put_done files = (λ i. applied (puts.lengths i) (puts.pieces i) files) ∙ applied_more old.lengths old.pieces files
 
     -- no byte outside a range in which it lies is another
     pub put_only : (from len : ℕ) → from ≤ at → at + length bytes ≤ from + len → WritesOnly old new file from len
     put_only from len low high files room =
-        let now = overwritten at bytes (done old files file) in
-        subst (InFile file (Torn from len) (done old files)) (sym (put_done files)) (InFile-with file now (done old files) (Torn from len)
-        (torn-wider at (length bytes) from len (done old files file) now low high (torn-overwritten at bytes (done old files file) (omega arith))))
+        let now = overwritten at bytes (changed old files file) in
+        subst (InFile file (Torn from len) (changed old files)) (sym (put_done files)) (InFile-with file now (changed old files) (Torn from len)
+        (torn-wider at (length bytes) from len (changed old files file) now low high (torn-overwritten at bytes (changed old files file) (omega arith))))
 
     -- the journal's record of it
     pub put_size : record_size new ≡ record_size old + 12 + length bytes
@@ -127,7 +128,7 @@ module _ (file : FileId) (at : ℕ) (bytes : List ℕ) where
         (λ i. length (record_bytes (puts.lengths i) (puts.pieces i))) ∙ omega (arith, more, before, after)
 
     -- it keeps the rules
-    legal_then : (files : Files) → number_of file < 4 → at < 2 ^ 32 → length bytes < 2 ^ 32 → at + length bytes ≤ length (done old files file)
+    legal_then : (files : Files) → number_of file < 4 → at < 2 ^ 32 → length bytes < 2 ^ 32 → at + length bytes ≤ length (changed old files file)
         → IsLegal (sizes_of files) old.lengths old.pieces → IsLegal (sizes_of files) new.lengths new.pieces
     legal_then files of_base place short within legal =
         let few : length (old.pieces ++ piece ∷ []) < 2 ^ 32 = subst (λ (l : List Piece). length l < 2 ^ 32) puts.pieces puts.few in
@@ -147,12 +148,12 @@ module _ (file : FileId) (at : ℕ) (bytes : List ℕ) where
         → ((files : Files) → Loads to files → at + length bytes ≤ length (files file)) → ((files : Files) → Loads to files → Loads then (written file at bytes files))
         → Makes new from then text
     put_makes from to then text makes of_base no_text place short within loads = record {
-      legal = λ files held. legal_then files of_base place short (within (done old files) (makes.made files held).loads) (makes.legal files held);
+      legal = λ files held. legal_then files of_base place short (within (changed old files) (makes.made files held).loads) (makes.legal files held);
       grown = λ files held. grown_then files (makes.grown files held);
       made = λ files held. record {
-        loads = subst (λ (f : Files). Loads then f) (sym (put_done files)) (loads (done old files) (makes.made files held).loads);
+        loads = subst (λ (f : Files). Loads then f) (sym (put_done files)) (loads (changed old files) (makes.made files held).loads);
         texts = ap (λ (f : Files). f Jdt) (put_done files)
-            ∙ with_file-other file Jdt (overwritten at bytes (done old files file)) (done old files) (λ is. no_text (sym is)) ∙ (makes.made files held).texts;
+            ∙ with_file-other file Jdt (overwritten at bytes (changed old files file)) (changed old files) (λ is. no_text (sym is)) ∙ (makes.made files held).texts;
       };
     }
 
@@ -162,6 +163,6 @@ only_then file at len old now new first second files room =
     let one = first files room in
     let two = second files (subst (λ (n : ℕ). at + len ≤ n) (sym one.here.size) room) in
     record {
-      here = torn-then at len (done old files file) (done now files file) (done new files file) one.here two.here;
+      here = torn-then at len (changed old files file) (changed now files file) (changed new files file) one.here two.here;
       others = λ other apart. two.others other apart ∙ one.others other apart;
     }

@@ -5,7 +5,8 @@ use Rattle.std.specs.Prelude.{AllPairs}
 use Rattle.std.proofs.lemmas.List.Elements.{All-nil, All-cons}
 use Rattle.std.proofs.lemmas.List.Kept.{AllPairs-cons}
 use Rattle.jb_base.specs.Subfields.{IsSubfield}
-use Rattle.jb_change.specs.Makes.{Makes, done, record_size}
+use Rattle.jb_change.specs.Makes.{Makes}
+use Rattle.jb_redo.specs.Changes.{changed, record_size}
 use Rattle.jb_disk.specs.Change.{Change}
 use Rattle.jb_disk.specs.Files.{Files}
 use Rattle.jb_disk.specs.declared.file.FileId.{FileId}
@@ -26,10 +27,10 @@ use Rattle.jb_redo.specs.Record.{piece_bytes}
 use Rattle.jb_redo.specs.Rules.{AreLegalLengths, IsBefore, IsLegal, IsLegalLength, IsLegalPiece, new_sizes, sizes_of}
 use Rattle.jb_change.specs.Behind.{AppendsOnly}
 use Rattle.jb_change.specs.Post.{HasNextNumber, IsNext, number_behind, post_lengths, post_pieces}
-use Rattle.jb_change.specs.Records.{entry_for, message_bytes}
+use Rattle.jb_image.specs.Records.{entry_for, message_bytes}
 use Rattle.jb_change.proofs.LongerLemmas.{AreReadAgain, header_there, posted}
 use Rattle.jb_change.proofs.EndLemmas.{kept_behind, kept_same, one_behind, same_length}
-use Rattle.jb_change.proofs.RecordLemmas.{length-entry, length-message}
+use Rattle.jb_image.proofs.RecordLemmas.{length-entry, length-message}
 use Rattle.jb_change.proofs.SizeLemmas.{length-pieces, length-record}
 
 -- no two of none
@@ -153,7 +154,7 @@ module _ (loaded : Loaded) (message : LoadedMessage) (text : List ℕ) (next : I
   module _ (back : AreReadAgain loaded message) (each : All IsSubfield message.subfields) (change : Change)
       (lengths_are : change.lengths ≡ post_lengths loaded message) (pieces_are : change.pieces ≡ post_pieces loaded message text) where
     -- what it makes of the files
-    pub made : (files : Files) → done change files ≡ applied (post_lengths loaded message) (post_pieces loaded message text) files
+    pub made : (files : Files) → changed change files ≡ applied (post_lengths loaded message) (post_pieces loaded message text) files
     made files = λ i. applied (lengths_are i) (pieces_are i) files
 
     -- it writes behind the files alone

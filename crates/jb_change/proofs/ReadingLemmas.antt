@@ -18,7 +18,8 @@ use Rattle.jb_record.specs.declared.message.MessageHeader.{MessageHeader}
 use Rattle.jb_image.specs.Places.{header_in}
 use Rattle.jb_image.specs.Stands.{head_of}
 use Rattle.jb_change.specs.Changing.{ChangesHead, ChangesHeader, WritesOnly, Puts, head_with_reading, header_with_attribute, header_with_reading}
-use Rattle.jb_change.specs.Makes.{Makes, done}
+use Rattle.jb_change.specs.Makes.{Makes}
+use Rattle.jb_redo.specs.Changes.{changed}
 use Rattle.jb_change.proofs.ChangeLemmas.{IsInHeader, one_inside, header_put_there, header_only, head_makes}
 use Rattle.jb_change.proofs.HeaderLemmas.{with_bytes}
 use Rattle.jb_change.proofs.PieceLemmas.{only_then}
@@ -135,9 +136,9 @@ module _ (at : ℕ) (reading : Head) (first second third fourth : Change) (fits 
   reading_header files room =
       let size = (times_only files room).here.size in
       let later_size = (date_only files room).here.size in
-      let one = header_put_there at 12 times first second puts_times times_inside files room ∙ times_are (header_in (done first files) at) in
-      let two = header_put_there at 40 date second third puts_date date_inside files (omega arith) ∙ date_is (header_in (done second files) at) in
-      let three = header_put_there at 52 bits third fourth puts_bits bits_inside files (omega arith) ∙ bits_are (header_in (done third files) at) in
+      let one = header_put_there at 12 times first second puts_times times_inside files room ∙ times_are (header_in (changed first files) at) in
+      let two = header_put_there at 40 date second third puts_date date_inside files (omega arith) ∙ date_is (header_in (changed second files) at) in
+      let three = header_put_there at 52 bits third fourth puts_bits bits_inside files (omega arith) ∙ bits_are (header_in (changed third files) at) in
       three ∙ ap (header_with_attribute reading.attribute) two ∙ ap (λ (h : MessageHeader). record h { received = reading.received; attribute = reading.attribute }) one
 
   -- what the change makes then

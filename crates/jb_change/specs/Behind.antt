@@ -1,6 +1,6 @@
 -- Changes that leave all that files hold, and only write behind it.
 use Rattle.std.specs.Prelude.{◌≡◌, length, take}
-use Rattle.jb_change.specs.Makes.{done}
+use Rattle.jb_redo.specs.Changes.{changed}
 use Rattle.jb_disk.specs.Change.{Change}
 use Rattle.jb_disk.specs.Files.{Files}
 use Rattle.jb_disk.specs.declared.file.FileId.{FileId}
@@ -9,4 +9,4 @@ use Rattle.jb_model.specs.declared.loaded.Loaded.{Loaded}
 
 -- every byte that files of this area have stays as it is, also one that no slot and no mark shows
 abbrev pub AppendsOnly : Change → Loaded → Type 0
-AppendsOnly change loaded = (files : Files) → Loads loaded files → (file : FileId) → take (length (files file)) (done change files file) ≡ files file
+AppendsOnly change loaded = (files : Files) → Loads loaded files → (file : FileId) → take (length (files file)) (changed change files file) ≡ files file

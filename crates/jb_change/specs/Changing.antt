@@ -13,7 +13,8 @@ use Rattle.jb_model.specs.declared.loaded.LoadedMessage.{LoadedMessage}
 use Rattle.jb_model.specs.declared.mark.Mark.{Mark}
 use Rattle.jb_model.specs.declared.message.Head.{Head}
 use Rattle.jb_record.specs.declared.message.MessageHeader.{MessageHeader}
-use Rattle.jb_change.specs.Makes.{Makes, done}
+use Rattle.jb_change.specs.Makes.{Makes}
+use Rattle.jb_redo.specs.Changes.{changed}
 
 -- where the change made an area, it now makes that area changed so
 abbrev pub ChangesArea : Change → Change → (Loaded → Loaded) → Type 0
@@ -35,17 +36,17 @@ ChangesMark old new place mark = (from to : Loaded) (text : List ℕ) → Makes 
 
 -- of the header at this place, where .JHR reaches so far, the numbers are changed so
 abbrev pub ChangesHeader : Change → Change → ℕ → (MessageHeader → MessageHeader) → Type 0
-ChangesHeader old new at act = (files : Files) → at + 76 ≤ length (done old files Jhr)
-    → header_in (done new files) at ≡ act (header_in (done old files) at)
+ChangesHeader old new at act = (files : Files) → at + 76 ≤ length (changed old files Jhr)
+    → header_in (changed new files) at ≡ act (header_in (changed old files) at)
 
 -- in the files that the change makes, no byte outside this range of this file is another
 abbrev pub WritesOnly : Change → Change → FileId → ℕ → ℕ → Type 0
-WritesOnly old new file at len = (files : Files) → at + len ≤ length (done old files file)
-    → InFile file (Torn at len) (done old files) (done new files)
+WritesOnly old new file at len = (files : Files) → at + len ≤ length (changed old files file)
+    → InFile file (Torn at len) (changed old files) (changed new files)
 
 -- in the files that the change makes, the index is as it was: each record of it, and how many there are
 abbrev pub LeavesIndex : Change → Change → Type 0
-LeavesIndex old new = (files : Files) → done new files Jdx ≡ done old files Jdx
+LeavesIndex old new = (files : Files) → changed new files Jdx ≡ changed old files Jdx
 
 -- a message's fields with other links
 abbrev pub head_with_links : ℕ → ℕ → ℕ → Head → Head
@@ -76,9 +77,3 @@ pub record Puts (file : FileId) (at : ℕ) (bytes : List ℕ) (old new : Change)
 -- a change of nothing makes of each area the same one
 abbrev pub MakesNothing : Type 0
 MakesNothing = (change : Change) (loaded : Loaded) → change.lengths ≡ [] → change.pieces ≡ [] → Makes change loaded loaded []
-
--- with nothing in it, the redo then has no less room than it had
-pub record KeepsRoom (old new : Change) : Type 0 where
-  pub for_lengths : old.spare_lengths + length old.lengths ≤ new.spare_lengths + length new.lengths
-  pub for_pieces : old.spare_pieces + length old.pieces ≤ new.spare_pieces + length new.pieces
-  pub for_bytes : old.spare_bytes + held_by old.pieces ≤ new.spare_bytes + held_by new.pieces

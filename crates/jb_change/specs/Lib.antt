@@ -5,4 +5,3 @@ pub mod Makes
 pub mod NewBase
 pub mod NewMark
 pub mod Post
-pub mod Records

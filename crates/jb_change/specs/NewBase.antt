@@ -1,6 +1,6 @@
 -- Files that hold no base, and those of a base that was just made.
 use Rattle.std.specs.Prelude.{◌≡◌, ◌≢◌, ℕ, ◌<◌, List, [], ◌∷◌, replicate}
-use Rattle.jb_change.specs.Makes.{Brings, record_size}
+use Rattle.jb_redo.specs.Changes.{Brings, record_size}
 use Rattle.jb_disk.specs.Change.{Change}
 use Rattle.jb_disk.specs.Files.{Files, number_of}
 use Rattle.jb_disk.specs.declared.file.FileId.{FileId}

@@ -3,7 +3,7 @@ use Rattle.std.specs.Prelude.{◌≡◌, ℕ, ◌+◌, ◌*◌, ◌<◌, ◌≤�
 use Rattle.jb_base.specs.declared.attribute.TheConstants.{DELETED}
 use Rattle.jb_base.specs.declared.limits.TheConstants.{HEADERS_CEILING, TEXTS_CEILING, MOST_SLOTS, MOST_SUBFIELD_BYTES, MOST_TEXT_BYTES}
 use Rattle.jb_base.specs.Subfields.{subfield_bytes}
-use Rattle.jb_change.specs.Makes.{done}
+use Rattle.jb_redo.specs.Changes.{changed}
 use Rattle.jb_disk.specs.Change.{Change}
 use Rattle.jb_disk.specs.Files.{Files}
 use Rattle.jb_disk.specs.declared.file.FileId.TheVariants.{Jhr, Jdt, Jdx}
@@ -15,7 +15,7 @@ use Rattle.jb_image.specs.Stands.{Loads}
 use Rattle.jb_model.specs.Loaded.{header_size}
 use Rattle.jb_model.specs.declared.loaded.Loaded.{Loaded}
 use Rattle.jb_model.specs.declared.loaded.LoadedMessage.{LoadedMessage}
-use Rattle.jb_change.specs.Records.{entry_for, message_bytes}
+use Rattle.jb_image.specs.Records.{entry_for, message_bytes}
 use Rattle.jb_model.specs.declared.loaded.LoadedSlot.TheVariants.{Live}
 use Rattle.jb_record.specs.Index.{index_record_bytes}
 
@@ -42,7 +42,7 @@ number_behind loaded = loaded.base + length loaded.slots
 -- the header that stands at the message's place after the change has the area's next number
 abbrev pub HasNextNumber : Change → Loaded → LoadedMessage → Type 0
 HasNextNumber change loaded message = (files : Files) → Loads loaded files
-    → (header_in (done change files) message.header_at).number ≡ number_behind loaded
+    → (header_in (changed change files) message.header_at).number ≡ number_behind loaded
 
 -- the lengths of .JHR, .JDT and .JDX with the message
 abbrev pub post_lengths : Loaded → LoadedMessage → List Length

@@ -1,15 +1,16 @@
 //! The counts of the fixed header, and the marks (JAM, "Header file", "Lastread file").
 ghost use Rattle.std.specs.Prelude.{◌≡◌, ◌+◌, ◌*◌, ◌<◌};
 ghost use Rattle.jb_base.specs.declared.limits.TheConstants.{MOST_MARKS};
-ghost use Rattle.jb_change.specs.Changing.{ChangesArea, ChangesMark, WritesOnly, KeepsRoom};
-ghost use Rattle.jb_change.specs.Makes.{record_size};
+ghost use Rattle.jb_change.specs.Changing.{ChangesArea, ChangesMark, WritesOnly};
+ghost use Rattle.jb_redo.specs.Changes.{KeepsRoom};
+ghost use Rattle.jb_redo.specs.Changes.{record_size};
 ghost use Rattle.jb_disk.specs.Change.{HasRoom, Spends};
 ghost use Rattle.jb_disk.specs.declared.file.FileId.TheVariants.{Jhr, Jlr};
 ghost use Rattle.jb_model.specs.Loaded.{with_counts};
 
 use crate::piece::{put_piece, two_numbers};
-use crate::records::mark_bytes;
 use jb_disk::{FileId, Redo};
+use jb_image::mark_bytes;
 use jb_model::Mark;
 use jb_record::MARK_RECORD_BYTES;
 

@@ -5,8 +5,7 @@
 //! small change puts itself behind, and the redo then makes files that hold that other area with the small change: other
 //! counts, other links, the traces of a reading, the bit of a kill, another mark. The small changes take no memory: the room
 //! that they spend is said, and is there before. [`put_post`] and [`put_new_mark`] begin an empty redo: they make the files
-//! longer, and leave each byte that these have. No piece of a redo is seen above. Each record is made here
-//! ([`write_message`], [`message_bytes`], [`entry_bytes`], [`mark_bytes`], [`fixed_of`]) for all that write one.
+//! longer, and leave each byte that these have. No piece of a redo is seen above.
 #![tactic(auto)]
 
 mod area;
@@ -16,7 +15,6 @@ mod laws;
 mod marking;
 mod piece;
 mod posting;
-mod records;
 
 pub use area::{put_counts, put_mark};
 pub use base::{NO_PASSWORD, new_loaded, put_base};
@@ -24,4 +22,3 @@ pub use header::{put_kill, put_links, put_reading};
 pub use laws::{appending_keeps_sound, makes_nothing};
 pub use marking::put_new_mark;
 pub use posting::{SPARE_BYTES, SPARE_PIECES, put_post};
-pub use records::{entry_bytes, fixed_of, mark_bytes, message_bytes, write_message};

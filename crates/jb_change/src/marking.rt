@@ -1,17 +1,17 @@
 //! A mark behind the others.
 ghost use Rattle.std.specs.Prelude.{◌≡◌, ◌<◌, [], length};
 ghost use Rattle.jb_base.specs.declared.limits.TheConstants.{MOST_MARKS};
-ghost use Rattle.jb_change.specs.Changing.{KeepsRoom};
-ghost use Rattle.jb_change.specs.Makes.{record_size};
+ghost use Rattle.jb_redo.specs.Changes.{KeepsRoom};
+ghost use Rattle.jb_redo.specs.Changes.{record_size};
 ghost use Rattle.jb_disk.specs.Change.{HasRoom, Spends};
 ghost use Rattle.jb_model.specs.declared.loaded.Loaded.{Loaded};
 ghost use Rattle.jb_redo.specs.Rules.{AreLegalLengths};
 ghost use Rattle.jb_change.specs.Behind.{AppendsOnly};
 ghost use Rattle.jb_change.specs.NewMark.{MakesMark, mark_lengths, mark_pieces};
-ghost use Rattle.jb_change.specs.Records.{IsMarkReadAgain};
+ghost use Rattle.jb_image.specs.Records.{IsMarkReadAgain};
 
-use crate::records::mark_bytes;
 use jb_disk::{FileId, Length, Redo};
+use jb_image::mark_bytes;
 use jb_model::Mark;
 use jb_record::MARK_RECORD_BYTES;
 

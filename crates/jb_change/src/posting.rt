@@ -1,20 +1,21 @@
 //! A message behind the others.
 ghost use Rattle.std.specs.Prelude.{◌≡◌, ◌<◌, ◌≤◌, ◌+◌, ◌*◌, [], OnOk, OnErr, length};
 ghost use Rattle.jb_base.specs.declared.limits.TheConstants.{HEADERS_CEILING, MOST_SLOTS, TEXTS_CEILING};
-ghost use Rattle.jb_change.specs.Changing.{KeepsRoom};
-ghost use Rattle.jb_change.specs.Makes.{Makes, record_size};
+ghost use Rattle.jb_redo.specs.Changes.{KeepsRoom};
+ghost use Rattle.jb_change.specs.Makes.{Makes};
+ghost use Rattle.jb_redo.specs.Changes.{record_size};
 ghost use Rattle.jb_disk.specs.Change.{HasRoom, SameLists, Spends};
 ghost use Rattle.jb_model.specs.Loaded.{header_size, with_message_behind};
 ghost use Rattle.jb_redo.specs.Rules.{AreLegalLengths};
 ghost use Rattle.jb_change.specs.declared.posting.TheConstants.{SPARE_BYTES, SPARE_PIECES};
 ghost use Rattle.jb_change.specs.Behind.{AppendsOnly};
 ghost use Rattle.jb_change.specs.Post.{HasNextNumber, IsNext, number_behind, post_lengths, post_pieces};
-ghost use Rattle.jb_change.specs.Records.{IsEntryReadAgain, entry_for, message_bytes};
+ghost use Rattle.jb_image.specs.Records.{IsEntryReadAgain, entry_for, message_bytes};
 ghost use Rattle.jb_model.specs.declared.loaded.LoadedSlot.TheVariants.{Live};
 
-use crate::records::{entry_bytes, message_bytes};
 use jb_base::OutOfMemory;
 use jb_disk::{FileId, Length, Redo};
+use jb_image::{entry_bytes, message_bytes};
 use jb_model::{Loaded, LoadedMessage};
 use jb_record::INDEX_RECORD_BYTES;
 use std::alloc::Global;

@@ -8,11 +8,11 @@ use Rattle.std.specs.Prelude.{AllPairs, IsSome, bit_and, slice_get, slice_set, i
 use Rattle.jb_base.specs.declared.area.AreaRules.{AreaRules}
 use Rattle.jb_base.specs.declared.limits.TheConstants.{JOURNAL_CEILING, MOST_MARKS}
 use Rattle.jb_base.specs.declared.user.User.{User}
-use Rattle.jb_change.specs.Makes.{record_size}
+use Rattle.jb_redo.specs.Changes.{record_size}
 use Rattle.std.specs.Option.{ForSome}
 use Rattle.jb_disk.specs.Change.{Change}
 use Rattle.jb_disk.specs.Files.{Files}
-use Rattle.jb_journal.specs.Commit.{IsWritable}
+use Rattle.jb_redo.specs.Changes.{IsWritable}
 use Rattle.jb_model.specs.Loaded.{IsMessageAt, slot_with_head, with_counts, with_head_at, with_killed_at, with_marks, with_slot_at}
 use Rattle.jb_model.specs.declared.loaded.LoadedSlot.TheVariants as slot
 use Rattle.jb_model.specs.Standing.{is_refusal}

@@ -8,7 +8,8 @@ use Rattle.std.proofs.lemmas.Option.{slice_get_within}
 use Rattle.jb_change.proofs.EndLemmas.{below_end, same_length}
 use Rattle.jb_change.specs.Behind.{AppendsOnly}
 use Rattle.jb_change.specs.Changing.{ChangesArea, ChangesHead, ChangesHeader, ChangesMark, ChangesMessage, WritesOnly, head_with_links, head_with_reading, header_with_attribute, header_with_links, header_with_reading}
-use Rattle.jb_change.specs.Makes.{Makes, done}
+use Rattle.jb_change.specs.Makes.{Makes}
+use Rattle.jb_redo.specs.Changes.{changed}
 use Rattle.jb_disk.specs.Change.{Change}
 use Rattle.jb_disk.specs.Files.{Files, number_of}
 use Rattle.jb_disk.specs.Steps.{Torn}
@@ -147,17 +148,17 @@ number_kept at len from old new torn apart = ap (λ (b : List ℕ). (message_hea
 module _ (old new : Change) (at : ℕ) (act : MessageHeader → MessageHeader) (same : (header : MessageHeader) → (act header).number ≡ header.number)
     (changes : ChangesHeader old new at act) (only : WritesOnly old new Jhr at 76) where
   -- keeps the numbers of the area that was made
-  numbers_put : (files : Files) (to : Loaded) (place : ℕ) → Loads to (done old files) → header_place_at to place ≡ Some at → KeepsNumbers to (done old files) (done new files)
+  numbers_put : (files : Files) (to : Loaded) (place : ℕ) → Loads to (changed old files) → header_place_at to place ≡ Some at → KeepsNumbers to (changed old files) (changed new files)
   numbers_put files to place loads here p from is =
-      let has = header_there (done old files) to place at loads here in
-      let room : at + 76 ≤ length (done old files Jhr) = has.placed.inside in
+      let has = header_there (changed old files) to place at loads here in
+      let room : at + 76 ≤ length (changed old files Jhr) = has.placed.inside in
       elim (cases_eq p place) [
         | inl one ↦
             let own : from ≡ at = one_place from at (sym is ∙ ap (header_place_at to) one ∙ here) in
-            ap (λ (n : ℕ). (header_in (done new files) n).number) own
-            ∙ ap (λ (h : MessageHeader). h.number) (changes files room) ∙ same (header_in (done old files) at)
-            ∙ ap (λ (n : ℕ). (header_in (done old files) n).number) (sym own)
-        | inr other ↦ number_kept at 76 from (done old files) (done new files) (only files room).here
+            ap (λ (n : ℕ). (header_in (changed new files) n).number) own
+            ∙ ap (λ (h : MessageHeader). h.number) (changes files room) ∙ same (header_in (changed old files) at)
+            ∙ ap (λ (n : ℕ). (header_in (changed old files) n).number) (sym own)
+        | inr other ↦ number_kept at 76 from (changed old files) (changed new files) (only files room).here
             (λ i a b c d. places_apart to.slots p place from at i loads.apart other is here a b c d)
       ]
 
@@ -174,12 +175,12 @@ module _ (old new : Change) (at : ℕ) (act : MessageHeader → MessageHeader) (
       }
 
 -- the counts keep the numbers
-pub numbers_counted : (old new : Change) → WritesOnly old new Jhr 8 8 → (files : Files) (to : Loaded) → Loads to (done old files) → KeepsNumbers to (done old files) (done new files)
+pub numbers_counted : (old new : Change) → WritesOnly old new Jhr 8 8 → (files : Files) (to : Loaded) → Loads to (changed old files) → KeepsNumbers to (changed old files) (changed new files)
 numbers_counted old new only files to loads p at is =
-    let has = header_there (done old files) to p at loads is in
+    let has = header_there (changed old files) to p at loads is in
     let after = has.placed.after in
     let inside = has.placed.inside in
-    number_kept 8 8 at (done old files) (done new files) (only files (omega (arith, after, inside))).here (λ i a b c d. omega (arith, after, a, d))
+    number_kept 8 8 at (changed old files) (changed new files) (only files (omega (arith, after, inside))).here (λ i a b c d. omega (arith, after, a, d))
 
 -- and update the area
 pub updates_counted : (old new : Change) (counter active : ℕ) → ChangesArea old new (with_counts counter active) → WritesOnly old new Jhr 8 8
@@ -191,22 +192,22 @@ updates_counted old new counter active changes only from to text was = record {
 }
 
 -- what is only put behind files keeps the numbers
-pub numbers_behind : (change : Change) (loaded : Loaded) → AppendsOnly change loaded → (files : Files) → Loads loaded files → KeepsNumbers loaded files (done change files)
+pub numbers_behind : (change : Change) (loaded : Loaded) → AppendsOnly change loaded → (files : Files) → Loads loaded files → KeepsNumbers loaded files (changed change files)
 numbers_behind change loaded appends files loads p at is =
     let has = header_there files loaded p at loads is in
     let old : List ℕ = files Jhr in
-    let new : List ℕ = done change files Jhr in
+    let new : List ℕ = changed change files Jhr in
     let whole : new ≡ old ++ drop (length old) new = sym (take-append-drop (length old) new) ∙ ap (λ (l : List ℕ). l ++ drop (length old) new) (appends files loads Jhr) in
     ap (λ (b : List ℕ). (message_header_of b).number) (below_end old new (drop (length old) new) at 76 whole has.placed.inside)
 
 -- a write into another file keeps them
-pub numbers_beside : (old new : Change) (at len : ℕ) → WritesOnly old new Jlr at len → (files : Files) → at + len ≤ length (done old files Jlr) → (loaded : Loaded)
-    → KeepsNumbers loaded (done old files) (done new files)
+pub numbers_beside : (old new : Change) (at len : ℕ) → WritesOnly old new Jlr at len → (files : Files) → at + len ≤ length (changed old files Jlr) → (loaded : Loaded)
+    → KeepsNumbers loaded (changed old files) (changed new files)
 numbers_beside old new at len only files room loaded p from is =
     ap (λ (b : List ℕ). (message_header_of (bytes_at from 76 b)).number) ((only files room).others Jhr (λ same. let number = ap number_of same in omega (arith, number)))
 
 -- a change of nothing leaves .JHR
-headers_left : (change : Change) (files : Files) → change.lengths ≡ [] → change.pieces ≡ [] → done change files Jhr ≡ files Jhr
+headers_left : (change : Change) (files : Files) → change.lengths ≡ [] → change.pieces ≡ [] → changed change files Jhr ≡ files Jhr
 headers_left change files no_lengths no_pieces =
     ap (λ (l : List Length). applied l change.pieces files Jhr) no_lengths ∙ ap (λ (p : List Piece). applied [] p files Jhr) no_pieces ∙ same_length (files Jhr)
 
@@ -245,7 +246,7 @@ updates_links old new at reply_to first next makes header only from to text plac
 
 -- and they keep the numbers
 pub numbers_linked : (old new : Change) (at reply_to first next : ℕ) → ChangesHeader old new at (header_with_links reply_to first next) → WritesOnly old new Jhr at 76
-    → (files : Files) (to : Loaded) (place : ℕ) → Loads to (done old files) → header_place_at to place ≡ Some at → KeepsNumbers to (done old files) (done new files)
+    → (files : Files) (to : Loaded) (place : ℕ) → Loads to (changed old files) → header_place_at to place ≡ Some at → KeepsNumbers to (changed old files) (changed new files)
 numbers_linked old new at reply_to first next header only = numbers_put old new at (header_with_links reply_to first next) (λ h. refl) header only
 
 -- so does a reading
@@ -293,7 +294,7 @@ last_message slots p message other past is = live_same other message (last_behin
 
 -- where there are no more slots than before, what updates the area keeps its headers
 pub keeps_headers : (reply : Reply) (change : Change) (from to : Loaded) (text : List ℕ) → Updates change from to text → length to.slots ≡ length from.slots
-    → (files : Files) → Loads from files → KeepsHeaders reply from to files (done change files)
+    → (files : Files) → Loads from files → KeepsHeaders reply from to files (changed change files)
 keeps_headers reply change from to text updates as_many files loads = record {
   places = updates.places;
   numbers = updates.numbers files loads;

@@ -7,11 +7,11 @@ use Rattle.jb_model.specs.Loaded.{with_slot_at}
 use Rattle.jb_model.specs.declared.loaded.Loaded.{Loaded}
 use Rattle.jb_model.specs.declared.loaded.LoadedSlot.TheVariants.{Killed}
 use Rattle.jb_model.specs.declared.message.Head.{Head}
-use Rattle.jb_replies.proofs.LawLemmas.{stays_under_heads}
-use Rattle.jb_replies.specs.Ids.{IsIdList}
-use Rattle.jb_replies.specs.Index.{HasSameLists, IsIndexOf, ReplyIndex}
-use Rattle.jb_replies.specs.Kept.{IsKeptList}
-use Rattle.jb_replies.specs.Laws.{IsIndexAfterKill}
+use Rattle.jb_link.proofs.LawLemmas.{stays_under_heads}
+use Rattle.jb_link.specs.IdLists.{IsIdList}
+use Rattle.jb_link.specs.Index.{HasSameLists, IsIndexOf, ReplyIndex}
+use Rattle.jb_link.specs.Kept.{IsKeptList}
+use Rattle.jb_link.specs.IndexLaws.{IsIndexAfterKill}
 use Rattle.jb_step.specs.declared.neighbours.Neighbour.{Neighbour}
 use Rattle.std.specs.Prelude.{Option, None, Some}
 

@@ -20,11 +20,11 @@ use Rattle.jb_model.specs.declared.loaded.LoadedSlot.TheVariants.{Empty, Killed,
 use Rattle.jb_pack.proofs.HeldLemmas.{length-packed}
 use Rattle.jb_pack.proofs.PlanLemmas.{base_within, new_base_at}
 use Rattle.jb_pack.specs.Packed.{is_live_slot, kept_slots, linked_head, new_base, packed, packed_from}
-use Rattle.jb_replies.proofs.LawLemmas.{stays_under_relink}
-use Rattle.jb_replies.specs.Ids.{IsIdList, id_at}
-use Rattle.jb_replies.specs.Index.{IsIndexOf, ReplyIndex}
-use Rattle.jb_replies.specs.Kept.{IsKeptList, Keeps}
-use Rattle.jb_replies.specs.Order.{IsRising, id_order}
+use Rattle.jb_link.proofs.LawLemmas.{stays_under_relink}
+use Rattle.jb_link.specs.IdLists.{IsIdList, id_at}
+use Rattle.jb_link.specs.Index.{IsIndexOf, ReplyIndex}
+use Rattle.jb_link.specs.Kept.{IsKeptList, Keeps}
+use Rattle.jb_link.specs.Order.{IsRising, id_order}
 
 -- a message and what it becomes: with the same subfields and the same ReplyTo
 abbrev Alike : Option LoadedMessage → Option LoadedMessage → Type 0

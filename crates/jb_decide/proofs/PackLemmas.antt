@@ -36,7 +36,7 @@ use Rattle.jb_pack.specs.Finish.{HoldsWithCopies, IsPackOfCopies}
 use Rattle.jb_pack.specs.Plan.{AnswersPack}
 use Rattle.jb_pack.specs.Shadow.{Shadow}
 use Rattle.jb_pack.specs.declared.packing.Packing.TheVariants.{Fits, TextFull}
-use Rattle.jb_replies.specs.Index.{IsIndexOf, ReplyIndex}
+use Rattle.jb_link.specs.Index.{IsIndexOf, ReplyIndex}
 use Rattle.jb_step.specs.After.{live_messages}
 use Rattle.jb_decide.specs.Decided.{IsDecided}
 use Rattle.jb_decide.specs.Holds.{HoldsWith}

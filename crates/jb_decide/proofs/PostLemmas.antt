@@ -7,10 +7,10 @@ use Rattle.jb_base.specs.declared.limits.TheConstants.{MOST_ADDRESS_BYTES, MOST_
 use Rattle.jb_base.specs.declared.user.User.{User}
 use Rattle.jb_change.specs.Changing.{head_with_links}
 use Rattle.jb_change.specs.Post.{HasNextNumber}
-use Rattle.jb_change.specs.Makes.{done}
+use Rattle.jb_redo.specs.Changes.{changed}
 use Rattle.jb_disk.specs.Change.{Change}
 use Rattle.jb_disk.specs.Files.{Files}
-use Rattle.jb_journal.specs.Commit.{IsWritable}
+use Rattle.jb_redo.specs.Changes.{IsWritable}
 use Rattle.jb_image.specs.Stands.{Loads}
 use Rattle.jb_model.specs.Loaded.{IsMessageAt, header_size, with_counts, with_head_at, with_message_behind}
 use Rattle.jb_model.specs.Post.{Draft}
@@ -106,9 +106,9 @@ linked_slots (Some one) from = length-set from.slots one.place _
 -- the new message stands behind the others
 stands : (from : Loaded) (posting : Posting) (linked : Loaded) (redo : Change) (files : Files) (message : LoadedMessage) → posting.number ≡ next_of from
     → posting.message.header_at ≡ from.headers_len → posting.message.text_at ≡ from.texts_len → HasNextNumber redo from posting.message → Loads from files
-    → message ≡ posting.message → StandsBehind (reply.Posted posting.number) message files (done redo files)
+    → message ≡ posting.message → StandsBehind (reply.Posted posting.number) message files (changed redo files)
 stands from posting linked redo files message number header_at text_at numbered loads same =
-    subst (λ (m : LoadedMessage). StandsBehind (reply.Posted posting.number) m files (done redo files)) (sym same) (record {
+    subst (λ (m : LoadedMessage). StandsBehind (reply.Posted posting.number) m files (changed redo files)) (sym same) (record {
       header_at = header_at ∙ loads.headers_len;
       text_at = text_at ∙ loads.texts_len;
       numbered = ap (λ (n : ℕ). reply.Posted n) (number ∙ sym (numbered files loads));

@@ -9,7 +9,7 @@ use Rattle.jb_change.specs.Changing.{ChangesHead, ChangesHeader, WritesOnly, hea
 use Rattle.jb_disk.specs.Change.{Change}
 use Rattle.jb_disk.specs.Files.{Files}
 use Rattle.jb_disk.specs.declared.file.FileId.TheVariants.{Jhr}
-use Rattle.jb_journal.specs.Commit.{IsWritable}
+use Rattle.jb_redo.specs.Changes.{IsWritable}
 use Rattle.jb_link.specs.Plan.{loaded_at}
 use Rattle.jb_link.specs.Slots.{message_in}
 use Rattle.jb_model.specs.Loaded.{with_counts}
@@ -22,8 +22,8 @@ use Rattle.jb_model.specs.declared.loaded.LoadedSlot.{LoadedSlot}
 use Rattle.jb_model.specs.declared.loaded.LoadedSlot.TheVariants.{Empty, Killed, Live}
 use Rattle.jb_model.specs.declared.message.Head.{Head}
 use Rattle.jb_model.specs.declared.reply.Reply.TheVariants as reply
-use Rattle.jb_replies.proofs.LawLemmas.{rests_on_slots}
-use Rattle.jb_replies.specs.Index.{IsIndexOf}
+use Rattle.jb_link.proofs.LawLemmas.{rests_on_slots}
+use Rattle.jb_link.specs.Index.{IsIndexOf}
 use Rattle.jb_step.proofs.NeighbourLemmas.{named_at_place}
 use Rattle.jb_step.specs.After.{live_messages, next_counter}
 use Rattle.jb_step.specs.Relink.{IsPlaced, IsRelinking, after_relink, with_links_in, with_links_of}

@@ -1,10 +1,10 @@
 -- What is to come of an area, and the change of its files that brings it.
 use Rattle.std.specs.Option.{ForSome}
 use Rattle.std.specs.Prelude.{ℕ, List, Option}
-use Rattle.jb_change.specs.Makes.{Brings}
+use Rattle.jb_redo.specs.Changes.{Brings}
 use Rattle.jb_disk.specs.Change.{Change}
 use Rattle.jb_disk.specs.Files.{Files}
-use Rattle.jb_journal.specs.Commit.{IsWritable}
+use Rattle.jb_redo.specs.Changes.{IsWritable}
 use Rattle.jb_model.specs.declared.loaded.Loaded.{Loaded}
 use Rattle.jb_pack.specs.Shadow.{Shadow}
 use Rattle.jb_decide.specs.Holds.{Holds, HoldsWith}

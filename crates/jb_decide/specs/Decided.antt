@@ -3,7 +3,7 @@ use Rattle.std.specs.Prelude.{◌≡◌, ◌≢◌, ◌⊎◌, ℕ, ◌+◌, ◌
 use Rattle.jb_base.specs.declared.area.AreaRules.{AreaRules}
 use Rattle.jb_base.specs.declared.limits.TheConstants.{MOST_SLOTS}
 use Rattle.jb_base.specs.declared.user.User.{User}
-use Rattle.jb_change.specs.Makes.{done, record_size}
+use Rattle.jb_redo.specs.Changes.{changed, record_size}
 use Rattle.jb_disk.specs.Change.{Change}
 use Rattle.jb_disk.specs.Files.{Files}
 use Rattle.jb_model.specs.Sound.{IsSound}
@@ -68,9 +68,9 @@ IsTold reply contents = (letter : Letter) → reply ≡ Text letter → IsSome c
 -- the files with what is pending done in them, by this redo
 abbrev pub made : Pending → Change → Files → Files
 made Nothing redo files = files
-made (Counted change counter active) redo files = done redo files
-made (Marked place mark) redo files = done redo files
-made (Packed plan base replies) redo files = done redo files
+made (Counted change counter active) redo files = changed redo files
+made (Marked place mark) redo files = changed redo files
+made (Packed plan base replies) redo files = changed redo files
 
 -- a command that leaves the files in their places, which is each but a pack
 abbrev pub IsNoPack : Command → Type 0

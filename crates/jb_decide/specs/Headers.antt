@@ -1,6 +1,7 @@
 -- Where the headers of an area stand, and the numbers in them.
 use Rattle.std.specs.Prelude.{◌≡◌, ℕ, ◌≤◌, List, Option, None, Some, length, option_and_then, slice_get}
-use Rattle.jb_change.specs.Makes.{Makes, done}
+use Rattle.jb_change.specs.Makes.{Makes}
+use Rattle.jb_redo.specs.Changes.{changed}
 use Rattle.jb_disk.specs.Change.{Change}
 use Rattle.jb_disk.specs.Files.{Files}
 use Rattle.jb_disk.specs.declared.file.FileId.TheVariants.{Jdt, Jhr}
@@ -55,4 +56,4 @@ PacksHeaders _ to files = Unit {0}
 pub record Updates (change : Change) (from to : Loaded) (text : List ℕ) : Type 0 where
   pub makes : Makes change from to text
   pub places : KeepsPlaces from to
-  pub numbers : (files : Files) → Loads from files → KeepsNumbers from files (done change files)
+  pub numbers : (files : Files) → Loads from files → KeepsNumbers from files (changed change files)

@@ -2,7 +2,7 @@
 use Rattle.std.specs.Prelude.{◌≡◌, ◌+◌, ◌≤◌, length}
 use Rattle.jb_base.specs.declared.limits.TheConstants.{MOST_MARKS, MOST_SLOTS}
 use Rattle.jb_marks.specs.Order.{IsOrdered}
-use Rattle.jb_replies.specs.Index.{IsIndexOf}
+use Rattle.jb_link.specs.Index.{IsIndexOf}
 use Rattle.jb_step.specs.After.{live_messages}
 use Rattle.jb_decide.specs.declared.held.Held.TheInside.{Inside}
 

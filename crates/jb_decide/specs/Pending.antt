@@ -13,7 +13,7 @@ use Rattle.jb_model.specs.declared.loaded.LoadedMessage.{LoadedMessage}
 use Rattle.jb_model.specs.declared.loaded.LoadedSlot.TheVariants as slot
 use Rattle.jb_model.specs.declared.message.Head.{Head}
 use Rattle.jb_pack.specs.Packed.{kept_slots, new_base, packed, texts_size}
-use Rattle.jb_replies.specs.Index.{IsIndexOf, ReplyIndex}
+use Rattle.jb_link.specs.Index.{IsIndexOf, ReplyIndex}
 use Rattle.jb_step.specs.After.{live_messages}
 use Rattle.jb_step.specs.Relink.{IsPlaced, with_links_of}
 use Rattle.jb_step.specs.declared.neighbours.Neighbour.{Neighbour}

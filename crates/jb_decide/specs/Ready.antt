@@ -1,6 +1,7 @@
 -- A redo into which a change may be put.
 use Rattle.std.specs.Prelude.{◌≡◌, ℕ, ◌+◌, ◌*◌, ◌≤◌, [], length}
-use Rattle.jb_change.specs.Makes.{Makes, record_size}
+use Rattle.jb_change.specs.Makes.{Makes}
+use Rattle.jb_redo.specs.Changes.{record_size}
 use Rattle.jb_disk.specs.Change.{Change, HasRoom, held_by}
 use Rattle.jb_model.specs.declared.loaded.Loaded.{Loaded}
 

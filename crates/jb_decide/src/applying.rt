@@ -6,14 +6,14 @@ ghost use Rattle.jb_model.specs.Marks.{with_mark};
 ghost use Rattle.jb_decide.specs.Pending.{IsFit, IsLinkFit, IsSlotFit, HasLengths, after, changed_by, headed_at, linked_by};
 ghost use Rattle.jb_decide.specs.declared.pending.Pending.TheVariants.{Marked};
 ghost use Rattle.jb_link.specs.Plan.{loaded_at};
-ghost use Rattle.jb_replies.specs.Index.{IsIndexOf};
+ghost use Rattle.jb_link.specs.Index.{IsIndexOf};
 ghost use Rattle.jb_step.specs.Relink.{IsPlaced, with_links_in, with_links_of};
 ghost use Rattle.jb_base.specs.declared.limits.TheConstants.{MOST_MARKS, MOST_SLOTS};
 
 use crate::pending::SlotChange;
+use jb_link::Replies;
 use jb_marks::MarkIndex;
 use jb_model::{Head, Links, Loaded, LoadedMessage, LoadedSlot, Mark};
-use jb_replies::Replies;
 use jb_step::Neighbour;
 
 /// Writes these fields into the header of the message at a place.

@@ -1,7 +1,8 @@
 //! Commands that take no memory are decided, and their changes put into the redo.
 ghost use Rattle.std.specs.Prelude.{◌≡◌, ◌<◌, ◌≤◌, ℕ, [], List, Option, None, bit_and, length, ◌+◌, ◌^◌};
 ghost use Rattle.jb_disk.specs.Files.{Files};
-ghost use Rattle.jb_change.specs.Changing.{KeepsRoom, head_with_reading};
+ghost use Rattle.jb_change.specs.Changing.{head_with_reading};
+ghost use Rattle.jb_redo.specs.Changes.{KeepsRoom};
 ghost use Rattle.jb_model.specs.declared.command.Command.TheVariants.{Kill, SetMark};
 ghost use Rattle.jb_base.specs.declared.attribute.TheConstants.{DELETED};
 ghost use Rattle.jb_model.specs.declared.loaded.Loaded.{Loaded};
@@ -9,7 +10,7 @@ ghost use Rattle.jb_model.specs.declared.loaded.LoadedMessage.{LoadedMessage};
 ghost use Rattle.jb_model.specs.Loaded.{IsMessageAt, with_counts, with_head_at, with_marks};
 ghost use Rattle.jb_model.specs.Marks.{with_mark};
 ghost use Rattle.jb_marks.specs.Places.{IsPlaceOf};
-ghost use Rattle.jb_journal.specs.Commit.{IsWritable};
+ghost use Rattle.jb_redo.specs.Changes.{IsWritable};
 ghost use Rattle.jb_base.specs.declared.limits.TheConstants.{MOST_MARKS};
 ghost use Rattle.jb_decide.specs.Decided.{IsDecided, IsKeptFor};
 ghost use Rattle.jb_decide.specs.Headers.{Updates};

@@ -3,7 +3,7 @@ ghost use Rattle.std.specs.Prelude.{◌≡◌, ◌≤◌, ◌+◌, length, IfOk}
 ghost use Rattle.jb_base.specs.declared.limits.TheConstants.{MOST_MARKS, MOST_SLOTS};
 ghost use Rattle.jb_marks.specs.Places.{IsPlaceOf};
 ghost use Rattle.jb_model.specs.Marks.{mark_of};
-ghost use Rattle.jb_replies.specs.Index.{IsIndexOf};
+ghost use Rattle.jb_link.specs.Index.{IsIndexOf};
 ghost use Rattle.jb_step.specs.After.{live_messages};
 ghost use Rattle.jb_decide.specs.Pending.{IsFit, MayApply, after};
 ghost use Rattle.jb_decide.specs.declared.pending.Pending.TheVariants.{Counted, Marked, Packed};
@@ -12,10 +12,10 @@ use crate::applying::{change_slots, set_loaded_mark};
 use crate::indexes::{count_live, mark_index_of, replies_of};
 use crate::pending::{Pending, SlotChange};
 use jb_base::OutOfMemory;
+use jb_link::Replies;
 use jb_marks::MarkIndex;
 use jb_model::{Links, Loaded, Mark};
 use jb_pack::pack_loaded;
-use jb_replies::Replies;
 use std::alloc::Global;
 use std::marker::Model;
 
@@ -105,7 +105,7 @@ impl Held {
     }
 
     /// The replies by what they answer.
-    pub(crate) fn replies(&self) -> &Replies
+    pub fn replies(&self) -> &Replies
         ensures { IsIndexOf result.now self.now }
     {
         &self.replies

@@ -4,12 +4,12 @@ ghost use Rattle.jb_base.specs.declared.limits.TheConstants.{MOST_MARKS, MOST_SL
 ghost use Rattle.jb_marks.specs.Order.{IsOrdered};
 ghost use Rattle.jb_model.specs.Live.{live_count};
 ghost use Rattle.jb_model.specs.State.{slot_state};
-ghost use Rattle.jb_replies.specs.Index.{IsIndexOf};
+ghost use Rattle.jb_link.specs.Index.{IsIndexOf};
 
 use jb_base::{MOST_MARKS, MOST_SLOTS, OutOfMemory};
+use jb_link::Replies;
 use jb_marks::MarkIndex;
 use jb_model::{Loaded, LoadedSlot};
-use jb_replies::Replies;
 use std::alloc::Global;
 
 /// How many messages are live.

@@ -6,7 +6,7 @@ ghost use Rattle.jb_base.specs.declared.area.Action.TheVariants.{Tend as Tending
 ghost use Rattle.jb_base.specs.declared.area.AreaRules.{AreaRules};
 ghost use Rattle.jb_base.specs.declared.limits.TheConstants.{MOST_SLOTS, TEXTS_CEILING};
 ghost use Rattle.jb_base.specs.declared.user.User.{User};
-ghost use Rattle.jb_change.specs.Changing.{KeepsRoom};
+ghost use Rattle.jb_redo.specs.Changes.{KeepsRoom};
 ghost use Rattle.jb_disk.specs.Change.{Change};
 ghost use Rattle.jb_disk.specs.Files.{Files};
 ghost use Rattle.jb_image.specs.Stands.{Loads};
@@ -14,7 +14,7 @@ ghost use Rattle.jb_model.specs.Sound.{IsSound};
 ghost use Rattle.jb_model.specs.declared.command.Command.TheVariants.{Pack};
 ghost use Rattle.jb_pack.specs.Packed.{new_base, packed, texts_size};
 ghost use Rattle.jb_pack.specs.Shadow.{HasCopies, left};
-ghost use Rattle.jb_replies.specs.Index.{IsIndexOf};
+ghost use Rattle.jb_link.specs.Index.{IsIndexOf};
 ghost use Rattle.jb_decide.specs.Decided.{IsDecided, IsKeptFor};
 ghost use Rattle.jb_decide.specs.Holds.{AreTexts};
 ghost use Rattle.jb_decide.specs.Packs.{MayPack, is_pack_refused};
@@ -27,10 +27,9 @@ use crate::pending::Pending;
 use jb_access::{Action, allowed};
 use jb_base::{AreaRules, MOST_SLOTS, OutOfMemory, Rule, User};
 use jb_disk::{Disk, Redo};
-use jb_link::relink_plan;
+use jb_link::{Replies, relink_plan};
 use jb_model::{Loaded, Reply};
 use jb_pack::{Packer, Packing, pack_comes_to};
-use jb_replies::Replies;
 use std::alloc::Global;
 
 /// The rule that keeps the user from packing the area, if one does.

@@ -1,8 +1,7 @@
 //! What a call that is begun will make of the area as it is loaded.
 
-use jb_link::Plan;
+use jb_link::{Plan, Replies};
 use jb_model::{Head, LoadedMessage, Mark};
-use jb_replies::Replies;
 use jb_step::Neighbour;
 
 /// What a call that is begun will change.

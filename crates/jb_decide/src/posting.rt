@@ -2,11 +2,12 @@
 ghost use Rattle.std.specs.Prelude.{◌≡◌, ◌≤◌, ◌+◌, ◌∷◌, ℕ, [], List, Option, IfOk, OnOk, length, None};
 ghost use Rattle.jb_change.specs.Post.{HasNextNumber, IsNext};
 ghost use Rattle.jb_base.specs.declared.limits.TheConstants.{MOST_ADDRESS_BYTES, MOST_NAME_BYTES};
-ghost use Rattle.jb_change.specs.Changing.{KeepsRoom};
-ghost use Rattle.jb_change.specs.Makes.{Makes, record_size};
+ghost use Rattle.jb_redo.specs.Changes.{KeepsRoom};
+ghost use Rattle.jb_change.specs.Makes.{Makes};
+ghost use Rattle.jb_redo.specs.Changes.{record_size};
 ghost use Rattle.jb_disk.specs.Change.{HasRoom, Spends};
 ghost use Rattle.jb_disk.specs.Files.{Files};
-ghost use Rattle.jb_journal.specs.Commit.{IsWritable};
+ghost use Rattle.jb_redo.specs.Changes.{IsWritable};
 ghost use Rattle.jb_model.specs.Loaded.{with_counts, with_message_behind};
 ghost use Rattle.jb_model.specs.declared.loaded.Loaded.{Loaded};
 ghost use Rattle.jb_model.specs.declared.loaded.LoadedMessage.{LoadedMessage};

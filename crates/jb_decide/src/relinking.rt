@@ -1,11 +1,11 @@
 //! The reply links of an area are computed anew.
 ghost use Rattle.std.specs.Prelude.{◌≡◌, ◌≤◌, ◌+◌, ◌*◌, ◌∷◌, ◌++◌, ℕ, [], not, All, List, Option, IfOk, OnOk, length, None};
 ghost use Rattle.jb_base.specs.declared.limits.TheConstants.{MOST_SLOTS};
-ghost use Rattle.jb_change.specs.Changing.{KeepsRoom};
-ghost use Rattle.jb_change.specs.Makes.{record_size};
+ghost use Rattle.jb_redo.specs.Changes.{KeepsRoom};
+ghost use Rattle.jb_redo.specs.Changes.{record_size};
 ghost use Rattle.jb_disk.specs.Change.{HasRoom, Spends};
 ghost use Rattle.jb_disk.specs.Files.{Files};
-ghost use Rattle.jb_journal.specs.Commit.{IsWritable};
+ghost use Rattle.jb_redo.specs.Changes.{IsWritable};
 ghost use Rattle.jb_link.specs.Plan.{differs, has_links, loaded_at};
 ghost use Rattle.jb_model.specs.Loaded.{with_counts};
 ghost use Rattle.jb_model.specs.declared.command.Command.TheVariants.{Relink};

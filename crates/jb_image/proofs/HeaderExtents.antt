@@ -1,25 +1,26 @@
 -- The bytes that headers take, as they were read and as they stand in the files.
-use Rattle.std.proofs.Common.{◌≡◌, ℕ, ◌+◌, ◌<◌, List, length, map, take, Option, Some, None, ap, sym, ◌∙◌, refl, subst, arith, length-take}
-use Rattle.std.specs.Prelude.{IfNone, IfSome, AllPairs, All, bit_and, slice_index_or}
+use Rattle.std.proofs.Common.{◌≡◌, ℕ, ◌+◌, ◌<◌, List, length, map, Option, Some, None, ap, sym, ◌∙◌, refl, subst, arith}
+use Rattle.std.specs.Prelude.{IfNone, IfSome, AllPairs, All, ◌≢◌, ◌==◌, bit_and, slice_index_or, if◌then◌else◌}
 use Rattle.jb_base.specs.declared.attribute.TheConstants.{DELETED}
 use Rattle.std.proofs.lemmas.Bool.Decides.{nat_tests}
-use Rattle.std.proofs.lemmas.List.{get_or-map, get_or-take, length-map}
+use Rattle.std.proofs.lemmas.List.{get_or-map, length-map}
+use Rattle.std.proofs.lemmas.List.FromFn.{fill_by_all}
 use Rattle.jb_disk.specs.Files.{Files}
-use Rattle.jb_extent.specs.Extents.{AreDisjoint, Holds, IsFirstOverlap}
-use Rattle.jb_extent.specs.declared.extent.Extent.{Extent}
-use Rattle.jb_extent.specs.declared.overlap.Overlap.{Overlap}
+use Rattle.jb_image.specs.Extents.{AreDisjoint, Holds, IsFirstOverlap}
+use Rattle.jb_image.specs.declared.extent.Extent.{Extent}
+use Rattle.jb_image.specs.declared.overlapping.Overlap.{Overlap}
 use Rattle.jb_model.specs.Sound.{AreApart, Covers, IsSlotWithin}
 use Rattle.jb_model.specs.declared.loaded.LoadedSlot.{LoadedSlot}
 use Rattle.jb_model.specs.declared.loaded.LoadedSlot.TheVariants as loaded
 use Rattle.jb_record.specs.declared.index.IndexRecord.{IndexRecord}
+use Rattle.jb_record.specs.declared.index.TheConstants.{EMPTY_SLOT}
 use Rattle.jb_record.specs.declared.message.MessageHeader.{MessageHeader}
 use Rattle.jb_image.specs.declared.error.Damage.{Damage}
 use Rattle.jb_image.specs.declared.error.OpenError.{OpenError}
 use Rattle.jb_image.specs.declared.seen.SeenSlot.{SeenSlot}
 use Rattle.jb_image.specs.declared.seen.SeenSlot.TheVariants as seen
 use Rattle.jb_image.specs.Answers.{AreFirstOverlap, IsDamaged}
-use Rattle.jb_image.specs.Overlaps as files_overlap
-use Rattle.jb_image.specs.Overlaps.{Takes, extent_of}
+use Rattle.jb_image.specs.Overlaps.{extent_in, extent_of, extents_in}
 use Rattle.jb_image.specs.Places.{entry_in, fixed_in, header_in}
 use Rattle.jb_image.specs.Reading.{AreLoadedFrom, AreSeen, IsLaterRefusal, IsLoadedFrom, IsRefusedAmongSlots, IsSeenAs, IsSeenWithin, extent_seen}
 use Rattle.jb_image.specs.Stands.{IsDeleted}
@@ -35,83 +36,57 @@ extent_killed header deleted = grind (arith, nat_tests)
 pub extent_live : (header : MessageHeader) → IsUndeleted header → extent_of header ≡ 76 + header.subfields
 extent_live header live = grind (arith, nat_tests)
 
--- a byte of the extent that was seen is one of the header in the files
-pub takes_held : (files : Files) (entry : IndexRecord) (slot : SeenSlot) (i : ℕ) → IsSeenAs files entry slot → Holds (extent_seen slot) i → Takes files entry i
-takes_held files entry seen.Empty i is held = absurd (omega (arith, held.0, held.1))
-takes_held files entry (seen.Killed header_at) i is held =
-    let killed = subst (λ (n : ℕ). IsDeleted (header_in files n)) is.at is.killed.deleted in
-    let extent_is = extent_killed (header_in files entry.offset) killed in
-    let at = is.at in
-    record { there = is.there; from = omega (arith, held.0); below = omega (arith, held.1) }
-takes_held files entry (seen.Live message) i is held =
-    let live = seen_live files entry message is in
-    let extent_is = extent_live (header_in files entry.offset) live.0 in
-    let at = is.at in
-    record { there = is.there; from = omega (arith, held.0); below = omega (arith, held.1, live.1) }
+-- these bytes
+extent : ℕ → ℕ → Extent
+extent start len = record { start = start; len = len }
 
--- and the other way round
-pub held_taken : (files : Files) (entry : IndexRecord) (slot : SeenSlot) (i : ℕ) → IsSeenAs files entry slot → Takes files entry i → Holds (extent_seen slot) i
-held_taken files entry seen.Empty i is taken = absurd (taken.there is)
-held_taken files entry (seen.Killed header_at) i is taken =
+-- the extent of an empty slot, and of another
+pub extent_empty : (n : ℕ) (one other : Extent) → n ≡ EMPTY_SLOT → (if n == EMPTY_SLOT then one else other) ≡ one
+extent_empty n one other empty = grind (arith, nat_tests)
+
+pub extent_full : (n : ℕ) (one other : Extent) → n ≢ EMPTY_SLOT → (if n == EMPTY_SLOT then one else other) ≡ other
+extent_full n one other full = grind (arith, nat_tests)
+
+-- the extent that was seen is that of the header in the files
+extent_same : (files : Files) (entry : IndexRecord) (slot : SeenSlot) → IsSeenAs files entry slot → extent_seen slot ≡ extent_in files entry
+unfolding extent
+extent_same files entry seen.Empty is = sym (extent_empty entry.offset (extent 0 0) (extent entry.offset (extent_of (header_in files entry.offset))) is)
+extent_same files entry (seen.Killed header_at) is =
     let killed = subst (λ (n : ℕ). IsDeleted (header_in files n)) is.at is.killed.deleted in
-    let extent_is = extent_killed (header_in files entry.offset) killed in
-    let at = is.at in
-    (omega (arith, taken.from), omega (arith, taken.below))
-held_taken files entry (seen.Live message) i is taken =
+    let size : 76 ≡ extent_of (header_in files entry.offset) = sym (extent_killed (header_in files entry.offset) killed) in
+    ap (λ (n : ℕ). extent n 76) is.at ∙ ap (extent entry.offset) size
+    ∙ sym (extent_full entry.offset (extent 0 0) (extent entry.offset (extent_of (header_in files entry.offset))) is.there)
+extent_same files entry (seen.Live message) is =
     let live = seen_live files entry message is in
-    let extent_is = extent_live (header_in files entry.offset) live.0 in
-    let at = is.at in
-    (omega (arith, taken.from), omega (arith, taken.below, live.1))
+    let size : 76 + message.header.subfields ≡ extent_of (header_in files entry.offset) =
+    ap (λ (n : ℕ). 76 + n) (sym live.1) ∙ sym (extent_live (header_in files entry.offset) live.0) in
+    ap (λ (n : ℕ). extent n (76 + message.header.subfields)) is.at ∙ ap (extent entry.offset) size
+    ∙ sym (extent_full entry.offset (extent 0 0) (extent entry.offset (extent_of (header_in files entry.offset))) is.there)
 
 -- an extent of the list is that of the slot at its place
 extent_at : (slots : List SeenSlot) (k : ℕ) (d : Extent) (e : SeenSlot) → k < length slots → slice_index_or (map extent_seen slots) k d ≡ extent_seen (slice_index_or slots k e)
 extent_at slots k d e low = get_or-map extent_seen slots k e d low
 
--- two slots that share a byte in the files have extents that share one
-shared_extents : (files : Files) (slots : List SeenSlot) (j k : ℕ) (d : Extent) → AreSeen files slots → j < length slots → k < length slots
-    → AreDisjoint (slice_index_or (map extent_seen slots) j d) (slice_index_or (map extent_seen slots) k d) → files_overlap.ShareByte files j k → ⊥
-shared_extents files slots j k d are low low' disjoint shares =
-    let held = held_taken files (entry_in files j) (slice_index_or slots j seen.Empty) shares.at (are.each j seen.Empty low) shares.in_one in
-    let held' = held_taken files (entry_in files k) (slice_index_or slots k seen.Empty) shares.at (are.each k seen.Empty low') shares.in_other in
-    disjoint shares.at (subst (λ (x : Extent). Holds x shares.at) (sym (extent_at slots j d seen.Empty low)) held)
-    (subst (λ (x : Extent). Holds x shares.at) (sym (extent_at slots k d seen.Empty low')) held')
+-- where all slots were seen, the extents are those of the headers in the files
+extents_same : (files : Files) (slots : List SeenSlot) → AreSeen files slots → length slots ≡ slots_in files → map extent_seen slots ≡ extents_in files
+extents_same files slots are count_is =
+    fill_by_all (λ k. extent_in files (entry_in files k)) (map extent_seen slots) (slots_in files) (record { start = 0; len = 0 }) (length-map slots extent_seen ∙ count_is)
+    (λ k low.
+    let inside : k < length slots = omega (arith, count_is) in
+    extent_at slots k (record { start = 0; len = 0 }) seen.Empty inside
+    ∙ extent_same files (entry_in files k) (slice_index_or slots k seen.Empty) (are.each k seen.Empty inside))
 
 -- the first overlap of the extents is that of the headers in the files
 pub first_overlap_in : (files : Files) (slots : List SeenSlot) (base : ℕ) (overlap : Overlap) → base ≡ (fixed_in files).base → AreSeen files slots
     → length slots ≡ slots_in files → ((k : ℕ) → k < length slots → IsWholeSlot files (entry_in files k)) → IsFirstOverlap (map extent_seen slots) overlap
     → AreFirstOverlap files (base + overlap.one) (base + overlap.other)
-first_overlap_in files slots base overlap base_is are count_is whole first =
-    let size = length-map slots extent_seen in
-    let d : Extent = record { start = 0; len = 0 } in
-    let order = first.before in
-    let inside : overlap.other < length slots = omega (arith, first.placed) in
-    let inside' : overlap.one < length slots = omega arith in
-    let shared = first.shared d in
-    record {
-      whole = λ k low. whole k (omega arith);
-      one = overlap.one;
-      other = overlap.other;
-      one_is = ap (λ (n : ℕ). n + overlap.one) base_is;
-      other_is = ap (λ (n : ℕ). n + overlap.other) base_is;
-      overlap = record {
-        order = order;
-        inside = omega arith;
-        shared = record {
-          at = shared.0;
-          in_one = takes_held files (entry_in files overlap.one) (slice_index_or slots overlap.one seen.Empty) shared.0 (are.each overlap.one seen.Empty inside')
-              (subst (λ (x : Extent). Holds x shared.0) (extent_at slots overlap.one d seen.Empty inside') shared.1);
-          in_other = takes_held files (entry_in files overlap.other) (slice_index_or slots overlap.other seen.Empty) shared.0 (are.each overlap.other seen.Empty inside)
-              (subst (λ (x : Extent). Holds x shared.0) (extent_at slots overlap.other d seen.Empty inside) shared.2);
-        };
-        lowest_other = λ j k less low shares.
-            let far : length (take overlap.other (map extent_seen slots)) ≡ overlap.other = omega (arith, length-take overlap.other (map extent_seen slots)) in
-            let pair = first.lowest_other j k d less (omega arith) in
-            shared_extents files slots j k d are (omega arith) (omega arith)
-            (subst (λ (x : Extent). AreDisjoint x (slice_index_or (map extent_seen slots) k d)) (get_or-take overlap.other (map extent_seen slots) j d (omega arith))
-            (subst (λ (x : Extent). AreDisjoint (slice_index_or (take overlap.other (map extent_seen slots)) j d) x) (get_or-take overlap.other (map extent_seen slots) k d low) pair)) shares;
-        lowest_one = λ k low shares. shared_extents files slots k overlap.other d are (omega arith) inside (first.lowest_one k d low) shares;
-      };
-    }
+first_overlap_in files slots base overlap base_is are count_is whole first = record {
+  whole = λ k low. whole k (omega (arith, count_is));
+  overlap = overlap;
+  one_is = ap (λ (n : ℕ). n + overlap.one) base_is;
+  other_is = ap (λ (n : ℕ). n + overlap.other) base_is;
+  first = subst (λ (extents : List Extent). IsFirstOverlap extents overlap) (extents_same files slots are count_is) first;
+}
 
 -- the refusal that comes where the slots that were seen are whole
 pub later_refused : (files : Files) (base count : ℕ) (slots : List SeenSlot) (damage : Option Damage) (error : OpenError) → base ≡ (fixed_in files).base

@@ -10,3 +10,7 @@ pub mod SlotsSoFar
 pub mod Theorems
 pub mod WholeAt
 pub mod WindowLemmas
+pub mod Neighbours
+pub mod Pairs
+pub mod Partners
+pub mod RecordLemmas

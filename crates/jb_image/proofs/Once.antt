@@ -7,14 +7,16 @@ use Rattle.jb_record.specs.declared.index.IndexRecord.{IndexRecord}
 use Rattle.jb_subfield.proofs.Spelling.{only_place}
 use Rattle.jb_subfield.specs.declared.error.SubfieldError.TheVariants.{Cut}
 use Rattle.jb_image.specs.declared.error.Damage.{Damage}
+use Rattle.jb_image.specs.declared.overlapping.Overlap.{Overlap}
 use Rattle.jb_image.specs.declared.error.Damage.TheVariants as damaged
 use Rattle.jb_image.specs.declared.error.OpenError.{OpenError}
 use Rattle.jb_image.specs.declared.error.OpenError.TheVariants as refused
 use Rattle.jb_image.specs.Answers.{AreFirstOverlap, AreWhole, FailsAsFiles, FailsAsSlot, IsDamaged, IsFirstDamaged, IsRefusedBy, refusal_of}
 use Rattle.jb_image.specs.Laws.{IsNotOfFiles, IsRefusedOnceAtMost}
-use Rattle.jb_image.specs.Overlaps.{ShareByte}
+use Rattle.jb_image.specs.Overlaps.{extents_in}
 use Rattle.jb_image.specs.Places.{entry_in, fixed_in, subfields_in}
 use Rattle.jb_image.specs.Tests.{FileTest, long_enough, signed, based, index_whole, marks_whole, few_slots, numbers_left, file_rank, SlotTest, header_placed, header_signed, header_revised, subfields_placed, subfields_whole, text_placed, slot_rank, IsFirstInSlot}
+use Rattle.jb_image.proofs.Partners.{one_first}
 use Rattle.jb_image.proofs.Theorems.{opened_undamaged}
 
 -- a refusal for what the files hold
@@ -198,30 +200,12 @@ slot_once files number other_number one other is is' = elim (cases_lt is.slot is
   ]
 ]
 
--- one slot is the lowest that shares a byte with another
-partner_once : (files : Files) (one one' other other' : ℕ) → other ≡ other' → ShareByte files one other → ShareByte files one' other'
-    → ((k : ℕ) → k < one → ShareByte files k other → ⊥) → ((k : ℕ) → k < one' → ShareByte files k other' → ⊥) → one ≡ one'
-partner_once files one one' other other' same shares shares' lowest lowest' = elim (cases_lt one one') [
-  | inl low ↦ absurd (lowest' one low (subst (ShareByte files one) same shares))
-  | inr high ↦ elim (cases_lt one' one) [
-    | inl low' ↦ absurd (lowest one' low' (subst (ShareByte files one') (sym same) shares'))
-    | inr high' ↦ omega arith
-  ]
-]
-
 -- two headers are the first that overlap
 overlap_once : (files : Files) (a b c d : ℕ) → AreFirstOverlap files a b → AreFirstOverlap files c d → by_overlap a b ≡ by_overlap c d
-overlap_once files a b c d is is' = elim (cases_lt is.other is'.other) [
-  | inl low ↦ absurd (is'.overlap.lowest_other is.one is.other is.overlap.order low is.overlap.shared)
-  | inr high ↦ elim (cases_lt is'.other is.other) [
-    | inl low' ↦ absurd (is.overlap.lowest_other is'.one is'.other is'.overlap.order low' is'.overlap.shared)
-    | inr high' ↦
-        let same : is.other ≡ is'.other = omega arith in
-        let ones : is.one ≡ is'.one = partner_once files is.one is'.one is.other is'.other same is.overlap.shared is'.overlap.shared is.overlap.lowest_one is'.overlap.lowest_one in
-        ap (λ n. by_overlap n b) (is.one_is ∙ ap (λ (n : ℕ). (fixed_in files).base + n) ones ∙ sym is'.one_is)
-        ∙ ap (by_overlap c) (is.other_is ∙ ap (λ (n : ℕ). (fixed_in files).base + n) same ∙ sym is'.other_is)
-  ]
-]
+overlap_once files a b c d is is' =
+    let same : is.overlap ≡ is'.overlap = one_first (extents_in files) is.overlap is'.overlap is.first is'.first in
+    ap (λ n. by_overlap n b) (is.one_is ∙ ap (λ (o : Overlap). (fixed_in files).base + o.one) same ∙ sym is'.one_is)
+    ∙ ap (by_overlap c) (is.other_is ∙ ap (λ (o : Overlap). (fixed_in files).base + o.other) same ∙ sym is'.other_is)
 
 -- files are refused for one thing
 refused_for_one : (limit : ℕ) (files : Files) (one other : Refusal) → Means limit files one → Means limit files other → one ≡ other

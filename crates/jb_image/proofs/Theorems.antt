@@ -2,6 +2,7 @@
 use Rattle.std.proofs.Common.{◌≡◌, inl, inr, ℕ, ◌+◌, ◌<◌, ◌≤◌, List, length, map, ap, sym, ◌∙◌, refl, subst, arith, length-take}
 use Rattle.std.specs.Prelude.{slice_index_or, bit_and}
 use Rattle.std.proofs.lemmas.List.{ext_get_or, get_or-map, length-map}
+use Rattle.std.proofs.lemmas.List.FromFn.{get_or-map-range_with_len, length-map-range_with_len}
 use Rattle.jb_base.specs.Subfields.{IsSubfieldList, subfield_bytes}
 use Rattle.jb_disk.specs.Files.{Files}
 use Rattle.jb_disk.specs.declared.file.FileId.TheVariants.{Jhr, Jdt}
@@ -22,12 +23,14 @@ use Rattle.jb_image.specs.declared.error.Damage.TheVariants as damaged
 use Rattle.jb_image.specs.declared.error.OpenError.TheVariants as refused
 use Rattle.jb_image.specs.Answers.{AreFirstOverlap, FailsAsFiles, IsDamaged, IsFirstDamaged, OpensTo}
 use Rattle.jb_image.specs.Laws.{HasOneStateAtMost, IsNotRefusedWhereOpen}
-use Rattle.jb_image.specs.Overlaps.{Takes}
+use Rattle.jb_image.specs.Extents.{Holds}
+use Rattle.jb_image.specs.Overlaps.{extent_in, extents_in}
+use Rattle.jb_image.specs.declared.extent.Extent.{Extent}
 use Rattle.jb_image.specs.Places.{bytes_at, entry_in, header_in}
 use Rattle.jb_image.specs.Stands.{HasSlot, IsDeleted, IsLiveIn, Loads, fixed_of, head_of, mark_record}
 use Rattle.jb_image.specs.Tests.{FileTest, long_enough, signed, based, index_whole, marks_whole, few_slots, numbers_left, PassesAsFiles, header_placed, header_signed, header_revised, subfields_placed, subfields_whole, text_placed, IsUndeleted, IsWholeSlot, slots_in}
 use Rattle.jb_image.proofs.FileBytes.{length-bytes_at}
-use Rattle.jb_image.proofs.HeaderExtents.{extent_killed, extent_live}
+use Rattle.jb_image.proofs.HeaderExtents.{extent_empty, extent_full, extent_killed, extent_live}
 use Rattle.jb_image.proofs.Opened.{has_slot_whole}
 
 -- the bytes of a live message's subfields are as many as its header says
@@ -152,30 +155,44 @@ opened_whole limit files loaded opens k low =
     let index = opens.loads.index in
     has_slot_whole files (entry_in files k) (slice_index_or loaded.slots k Empty) (opens.loads.slots k Empty (omega arith))
 
--- a byte that a header takes in the files is covered by the slot
-covers_taken : (files : Files) (entry : IndexRecord) (slot : LoadedSlot) (i : ℕ) → HasSlot files entry slot → Takes files entry i → Covers slot i
-covers_taken files entry Empty i is taken = taken.there is
-covers_taken files entry (Killed header_at) i is taken =
+-- a byte of a header's extent in the files is covered by the slot
+covers_held : (files : Files) (entry : IndexRecord) (slot : LoadedSlot) (i : ℕ) → HasSlot files entry slot → Holds (extent_in files entry) i → Covers slot i
+covers_held files entry Empty i is held =
+    let none = subst (λ (e : Extent). Holds e i) (extent_empty entry.offset _ _ is) held in
+    absurd (omega (arith, none.0, none.1))
+covers_held files entry (Killed header_at) i is held =
     let killed = subst (λ (n : ℕ). IsDeleted (header_in files n)) (sym is.0) is.1.deleted in
     let extent_is = extent_killed (header_in files entry.offset) killed in
-    (omega (arith, is.0, taken.from), omega (arith, is.0, taken.below))
-covers_taken files entry (Live message) i is taken =
+    let some = subst (λ (e : Extent). Holds e i) (extent_full entry.offset _ _ (λ empty. absurd (omega (arith, empty, is.0, is.1.header.placed.below)))) held in
+    (omega (arith, is.0, some.0), omega (arith, is.0, some.1))
+covers_held files entry (Live message) i is held =
     let live = subst (λ (n : ℕ). IsUndeleted (header_in files n)) (sym is.1) is.2.live.live in
     let extent_is = extent_live (header_in files entry.offset) live in
     let fields : length (subfield_bytes message.subfields) ≡ (header_in files entry.offset).subfields =
     subfields_len files message is.2 ∙ ap (λ (n : ℕ). (header_in files n).subfields) (sym is.1) in
-    (omega (arith, is.1, taken.from), omega (arith, is.1, taken.below))
+    let some = subst (λ (e : Extent). Holds e i) (extent_full entry.offset _ _ (λ empty. absurd (omega (arith, empty, is.1, is.2.header.placed.below)))) held in
+    (omega (arith, is.1, some.0), omega (arith, is.1, some.1))
+
+-- the extent at a place is that of the header which the index names there
+extent_there : (files : Files) (k : ℕ) (d : Extent) → k < slots_in files → slice_index_or (extents_in files) k d ≡ extent_in files (entry_in files k)
+extent_there files k d low = get_or-map-range_with_len (λ n. extent_in files (entry_in files n)) 0 (slots_in files) k k d low (omega arith)
 
 -- its headers do not overlap
 opened_apart : (limit : ℕ) (files : Files) (loaded : Loaded) (a b : ℕ) → OpensTo limit files loaded → AreFirstOverlap files a b → ⊥
 opened_apart limit files loaded a b opens first =
+    let d : Extent = record { start = 0; len = 0 } in
+    let one = first.overlap.one in
+    let other = first.overlap.other in
     let index = opens.loads.index in
-    let order = first.overlap.order in
-    let inside : first.other < length loaded.slots = omega (arith, first.overlap.inside) in
-    let shared = first.overlap.shared in
-    opens.loads.apart first.one first.other Empty order inside shared.at
-    (covers_taken files _ _ shared.at (opens.loads.slots first.one Empty (omega arith)) shared.in_one)
-    (covers_taken files _ _ shared.at (opens.loads.slots first.other Empty inside) shared.in_other)
+    let order = first.first.before in
+    let low : other < slots_in files = omega (arith, first.first.placed, length-map-range_with_len (λ n. extent_in files (entry_in files n)) 0 (slots_in files)) in
+    let inside : other < length loaded.slots = omega arith in
+    let shared = first.first.shared d in
+    opens.loads.apart one other Empty order inside shared.0
+    (covers_held files (entry_in files one) _ shared.0 (opens.loads.slots one Empty (omega arith))
+    (subst (λ (e : Extent). Holds e shared.0) (extent_there files one d (omega arith)) shared.1))
+    (covers_held files (entry_in files other) _ shared.0 (opens.loads.slots other Empty inside)
+    (subst (λ (e : Extent). Holds e shared.0) (extent_there files other d low) shared.2))
 
 -- a first damaged slot is damaged
 opened_slots : (limit : ℕ) (files : Files) (loaded : Loaded) (number : ℕ) (damage : Damage) → OpensTo limit files loaded → IsFirstDamaged files number damage → ⊥

@@ -11,7 +11,9 @@ use Rattle.jb_image.specs.declared.error.Damage.{Damage}
 use Rattle.jb_image.specs.declared.error.Damage.TheVariants.{HeaderPlace, HeaderSignature, HeaderRevision, Subfields, TextPlace}
 use Rattle.jb_image.specs.declared.error.ReadError.{ReadError}
 use Rattle.jb_image.specs.declared.error.ReadError.TheVariants.{StoreFault as FaultInPart, OutOfMemory as NoMemoryForPart}
-use Rattle.jb_image.specs.Overlaps.{IsFirstOverlap}
+use Rattle.jb_image.specs.Extents.{IsFirstOverlap}
+use Rattle.jb_image.specs.Overlaps.{extents_in}
+use Rattle.jb_image.specs.declared.overlapping.Overlap.{Overlap}
 use Rattle.jb_image.specs.Places.{fixed_in, entry_in, subfields_in}
 use Rattle.jb_image.specs.Stands.{Loads}
 use Rattle.jb_image.specs.Tests.{FileTest, long_enough, signed, based, index_whole, marks_whole, few_slots, numbers_left, file_rank, PassesAsFiles, header_placed, header_signed, header_revised, subfields_placed, subfields_whole, text_placed, IsFirstInSlot, IsWholeSlot, slots_in}
@@ -48,11 +50,10 @@ FailsAsSlot limit files number damage = AreWhole limit files × IsFirstDamaged f
 -- all slots are whole, and the headers of these two numbers are the first that overlap
 pub record AreFirstOverlap (files : Files) (a b : ℕ) : Type 0 where
   pub whole : (k : ℕ) → k < slots_in files → IsWholeSlot files (entry_in files k)
-  pub one : ℕ
-  pub other : ℕ
-  pub one_is : a ≡ (fixed_in files).base + one
-  pub other_is : b ≡ (fixed_in files).base + other
-  pub overlap : IsFirstOverlap files one other
+  pub overlap : Overlap
+  pub one_is : a ≡ (fixed_in files).base + overlap.one
+  pub other_is : b ≡ (fixed_in files).base + overlap.other
+  pub first : IsFirstOverlap (extents_in files) overlap
 
 -- why a base of at most so many slots is not opened
 abbrev pub IsRefusedBy : ℕ → Files → OpenError → Type 0

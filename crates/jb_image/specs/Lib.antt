@@ -7,3 +7,6 @@ pub mod Reading
 pub mod Stands
 pub mod Tests
 pub mod Windows
+pub mod Extents
+pub mod OverlapSearch
+pub mod Records

@@ -1,5 +1,6 @@
--- The bytes that the headers take, and the first two slots that share one.
-use Rattle.std.specs.Prelude.{◌≢◌, ℕ, ◌+◌, ◌<◌, ◌≤◌, ◌==◌, bit_and, if◌then◌else◌}
+-- The bytes of .JHR that the headers of a base take.
+use Rattle.std.specs.Prelude.{ℕ, ◌+◌, ◌==◌, List, map, bit_and, if◌then◌else◌}
+use Rattle.std.specs.List.{range_with_len}
 use Rattle.jb_disk.specs.Files.{Files}
 use Rattle.jb_base.specs.declared.attribute.TheConstants.{DELETED}
 use Rattle.jb_record.specs.declared.index.IndexRecord.{IndexRecord}
@@ -7,27 +8,19 @@ use Rattle.jb_record.specs.declared.index.TheConstants.{EMPTY_SLOT}
 use Rattle.jb_record.specs.declared.message.MessageHeader.{MessageHeader}
 use Rattle.jb_image.specs.Places.{entry_in, header_in}
 use Rattle.jb_image.specs.Tests.{slots_in}
+use Rattle.jb_image.specs.declared.extent.Extent.{Extent}
 
 -- how many bytes a header takes: with its subfields where the message is live, without them where it is killed
 abbrev pub extent_of : MessageHeader → ℕ
 extent_of header = if bit_and header.attribute DELETED == 0 then 76 + header.subfields else 76
 
--- the header that this index record names takes this byte of .JHR; that of an empty slot takes none
-pub record Takes (files : Files) (entry : IndexRecord) (i : ℕ) : Type 0 where
-  pub there : entry.offset ≢ EMPTY_SLOT
-  pub from : entry.offset ≤ i
-  pub below : i < entry.offset + extent_of (header_in files entry.offset)
+-- the bytes that the header takes which this index record names; that of an empty slot takes none
+abbrev pub extent_in : Files → IndexRecord → Extent
+extent_in files entry =
+    if entry.offset == EMPTY_SLOT
+    then record { start = 0; len = 0 }
+    else record { start = entry.offset; len = extent_of (header_in files entry.offset) }
 
--- some byte belongs to the headers of both slots, by their places in the index
-pub record ShareByte (files : Files) (one other : ℕ) : Type 0 where
-  pub at : ℕ
-  pub in_one : Takes files (entry_in files one) at
-  pub in_other : Takes files (entry_in files other) at
-
--- the lowest slot that shares a byte with a lower one, and the lowest that shares one with it
-pub record IsFirstOverlap (files : Files) (one other : ℕ) : Type 0 where
-  pub order : one < other
-  pub inside : other < slots_in files
-  pub shared : ShareByte files one other
-  pub lowest_other : (j k : ℕ) → j < k → k < other → ShareByte files j k → ⊥
-  pub lowest_one : (k : ℕ) → k < one → ShareByte files k other → ⊥
+-- those of all slots, in the order of the index
+abbrev pub extents_in : Files → List Extent
+extents_in files = map (λ k. extent_in files (entry_in files k)) (range_with_len 0 (slots_in files))

@@ -7,9 +7,9 @@ use Rattle.jb_base.specs.declared.subfield.Subfield.{Subfield}
 use Rattle.jb_base.specs.Subfields.{IsCutAt, IsSubfieldList, subfield_bytes}
 use Rattle.jb_disk.specs.Files.{Files}
 use Rattle.jb_disk.specs.declared.file.FileId.TheVariants.{Jhr}
-use Rattle.jb_extent.specs.Extents.{Holds, IsFirstOverlap}
-use Rattle.jb_extent.specs.declared.extent.Extent.{Extent}
-use Rattle.jb_extent.specs.declared.overlap.Overlap.{Overlap}
+use Rattle.jb_image.specs.Extents.{Holds, IsFirstOverlap}
+use Rattle.jb_image.specs.declared.extent.Extent.{Extent}
+use Rattle.jb_image.specs.declared.overlapping.Overlap.{Overlap}
 use Rattle.jb_model.specs.declared.loaded.LoadedSlot.{LoadedSlot}
 use Rattle.jb_model.specs.declared.loaded.LoadedSlot.TheVariants as loaded
 use Rattle.jb_model.specs.declared.mark.Mark.{Mark}

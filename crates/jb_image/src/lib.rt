@@ -8,9 +8,13 @@
 //! a window of each file, which a header with longer subfields makes as long as these, and where headers do not rise
 //! .JHR and the fields of one header a slot, until it answers; it keeps subfields of several messages only while or once
 //! their headers lie apart. It reads the files as they are: the layer above first does the change that waits in the journal.
+//!
+//! Each record of a base is made here ([`write_message`], [`message_bytes`], [`entry_bytes`], [`mark_bytes`], [`fixed_of`]) for all
+//! that write one: read again, it gives what it was made of.
 #![tactic(auto)]
 
 mod error;
+mod extent;
 mod fixed;
 mod header;
 mod index;
@@ -20,10 +24,13 @@ mod marks;
 mod message;
 mod opening;
 mod overlap;
+mod overlapping;
 mod place;
+mod records;
 mod rising;
 mod seen;
 mod window;
 
 pub use error::OpenError;
 pub use opening::decode;
+pub use records::{entry_bytes, fixed_of, mark_bytes, message_bytes, write_message};

@@ -3,7 +3,7 @@ ghost use Rattle.std.specs.Prelude.{◌≡◌, ◌+◌, ◌*◌, ◌≤◌, ℕ,
 ghost use Rattle.std.specs.Option.{ForSome};
 ghost use Rattle.jb_disk.specs.Device.{OnlyReads};
 ghost use Rattle.jb_disk.specs.declared.file.FileId.TheVariants.{Jhr as headers_file};
-ghost use Rattle.jb_extent.specs.Extents.{AreDisjoint};
+ghost use Rattle.jb_image.specs.Extents.{AreDisjoint};
 ghost use Rattle.jb_model.specs.Sound.{IsSound, IsSlotWithin, AreApart};
 ghost use Rattle.jb_image.specs.Answers.{AnswersFor, ReadFaultRose, IsRefusedBy, OpenFaultRose, OpensTo};
 ghost use Rattle.jb_image.specs.Laws.{HasOneStateAtMost, IsNotRefusedWhereOpen, IsRefusedOnceAtMost};

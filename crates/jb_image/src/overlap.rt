@@ -1,11 +1,12 @@
 //! The headers that share a byte.
 ghost use Rattle.std.specs.Prelude.{◌≡◌, IfOk, IfSome, IfNone, AllPairs, length, map};
-ghost use Rattle.jb_extent.specs.Extents.{AreDisjoint, IsFirstOverlap};
+ghost use Rattle.jb_image.specs.Extents.{AreDisjoint, IsFirstOverlap};
 ghost use Rattle.jb_image.specs.Reading.{extent_seen};
 
+use crate::extent::Extent;
+use crate::overlapping::{Overlap, first_overlap};
 use crate::seen::SeenSlot;
 use jb_base::OutOfMemory;
-use jb_extent::{Extent, Overlap, first_overlap};
 use std::alloc::Global;
 
 /// The bytes of .JHR that each header takes, in the order of the index.

@@ -5,7 +5,7 @@ ghost use Rattle.jb_disk.specs.Files.{Files};
 ghost use Rattle.jb_record.specs.declared.index.IndexRecord.{IndexRecord};
 ghost use Rattle.jb_image.specs.Reading.{IsEndBehind, IsSeenAs, extent_seen};
 
-use jb_extent::Extent;
+use crate::extent::Extent;
 use jb_record::{EMPTY_SLOT, MESSAGE_HEADER_BYTES, MessageHeader};
 
 /// A live message whose header was read, and whose subfields lie where they must: the UserCRC of its index record, and

@@ -10,7 +10,7 @@ use Rattle.jb_base.specs.declared.area.AreaRules.{AreaRules}
 use Rattle.jb_base.specs.declared.user.User.{User}
 use Rattle.jb_model.specs.Answered.{Answered, counted, unless_denied, with_message}
 use Rattle.jb_model.specs.Kill.{kill_done, kill_step}
-use Rattle.jb_model.specs.Links.{Linkable, is_answered_by, is_kept_by, linkable, linkables_of, number_or_0, parent_at, parent_for, parent_of, parent_or_0}
+use Rattle.jb_model.specs.Links.{Linkable, is_answered_by, is_kept_by, is_reply_to, linkable, linkables_of, number_or_0, parent_at, parent_for, parent_of, parent_or_0}
 use Rattle.jb_model.specs.Live.{Numbered, live_from, live_in, message_at, with_slot}
 use Rattle.jb_model.specs.Message.{envelope_of}
 use Rattle.jb_model.specs.Standing.{is_refusal}
@@ -24,18 +24,29 @@ use Rattle.jb_model.specs.declared.mark.Mark.{Mark}
 use Rattle.jb_model.specs.declared.reply.Reply.{Reply}
 use Rattle.jb_model.specs.declared.reply.Reply.TheVariants.{Killed}
 use Rattle.jb_model.specs.declared.summary.Summary.{Summary}
+use Rattle.jb_model.proofs.RelinkLaws.{map-map}
 use Rattle.jb_model.proofs.ThreadLaws.{parent_is_lower}
+use Rattle.jb_link.specs.Orphans.{orphan_of, orphans_of, without_one}
 use Rattle.jb_link.specs.Slots.{IsLive}
+use Rattle.jb_link.specs.declared.orphans.Orphan.{Orphan}
 use Rattle.jb_link.proofs.LiveLemmas.{linkables_with_texts, live_at_place}
-use Rattle.jb_index.specs.Change.{FollowsStep, IsAnswer, IsLiveKill, edits_killing, edits_of_kill, without_one}
+use Rattle.jb_index.specs.Change.{FollowsStep, IsAnswer, IsLiveKill, edits_killing, edits_of_kill}
 use Rattle.jb_index.specs.Edit.{absorbed, changed_at, with_parent, without}
 use Rattle.jb_index.specs.Index.{index_of, summary_of, summary_with}
-use Rattle.jb_index.specs.declared.op.OpEdit.TheVariants.{Parent}
+use Rattle.jb_index.specs.declared.op.OpEdit.{OpEdit}
+use Rattle.jb_index.specs.declared.op.OpEdit.TheVariants.{Drop, Parent}
 use Rattle.jb_index.proofs.ChangeLemmas.{Ends, denied_ends, message_ends, seen_is_named}
 use Rattle.jb_index.proofs.EditLemmas.{changed_none}
 use Rattle.jb_index.proofs.ListLemmas.{filter_all, filter_filter, filter_map}
 use Rattle.jb_index.proofs.MakingLemmas.{same_index}
 use Rattle.jb_index.proofs.SlotLemmas.{StandsAt, all_made, live_all, map_agree, numbered, others_behind, stands_at}
+
+-- the edit of an orphan, and the edits of a kill from its orphans
+abbrev pub edit_for_orphan : Orphan → OpEdit
+edit_for_orphan one = Parent one.number one.parent
+
+pub edits_from_orphans : (live : List Linkable) (number : ℕ) → Drop number ∷ map edit_for_orphan (orphans_of live number) ≡ edits_of_kill live number
+edits_from_orphans live number = ap (λ edits. Drop number ∷ edits) (map-map (orphan_of live number) edit_for_orphan (filter (is_reply_to live number) live))
 
 -- the live messages without the one that is killed
 killed_live : (k base number : ℕ) (slots : List SlotState) (message : LiveMessage) → slice_get slots k ≡ Some (live_message message) → number ≡ base + k

@@ -8,6 +8,5 @@ pub mod SlotLemmas
 pub mod ChangeLemmas
 pub mod PostLemmas
 pub mod KillLemmas
-pub mod OrphanLemmas
 pub mod StepLemmas
 mod StandardFacts

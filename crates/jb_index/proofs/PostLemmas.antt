@@ -1,9 +1,8 @@
 -- What a post changes in the index of an area.
-use Rattle.std.proofs.Common.{◌≡◌, inl, inr, ℕ, suc, ◌+◌, ◌-◌, ◌<◌, ◌≤◌, nat_le, nat_lt, Bool, true, false, not, ◌&&◌, ◌==◌, cond, List, [], ◌∷◌, ◌++◌, Option, Some, None, find, map, length, slice_get, refl, sym, ◌∙◌, ap, subst, arith, eq-eqb, ne_eqb, eqb-true}
-use Rattle.std.specs.Prelude.{All, IfSome, is_none, max, min, option_and_then, option_map, option_to_list}
+use Rattle.std.proofs.Common.{◌≡◌, inl, inr, ℕ, suc, ◌+◌, ◌<◌, ◌≤◌, nat_le, nat_lt, true, false, not, ◌&&◌, ◌==◌, cond, List, [], ◌∷◌, ◌++◌, Option, Some, None, find, map, length, refl, sym, ◌∙◌, ap, subst, arith, eq-eqb, ne_eqb, eqb-true}
+use Rattle.std.specs.Prelude.{All, IfSome, is_none, max, min, option_map, option_to_list}
 use Rattle.std.specs.Option.{option_or}
 use Rattle.std.proofs.lemmas.Bool.{cond_both, false≢true}
-use Rattle.std.proofs.lemmas.Option.{slice_get-map}
 use Rattle.std.proofs.lemmas.List.{length-append, length-map, map-append}
 use Rattle.std.proofs.lemmas.List.Folds.{find-append}
 use Rattle.jb_base.specs.Access.{first_refusal}
@@ -14,9 +13,9 @@ use Rattle.jb_base.specs.declared.subfield.TheConstants.{MSGID, RECEIVER_NAME, R
 use Rattle.jb_base.specs.declared.user.User.{User}
 use Rattle.jb_model.specs.Answered.{Answered, unless_refused}
 use Rattle.jb_model.specs.Links.{Linkable, last_reply_of, linkable, linkables_of, parent_at, parent_for, parent_or_0}
-use Rattle.jb_model.specs.Live.{Numbered, live_from, live_in, live_of, message_at}
-use Rattle.jb_model.specs.Message.{header_length, msgid_of, replyid_of, subject_of}
-use Rattle.jb_model.specs.Post.{Draft, answer_refusal, draft_refusal, if_copied, plain_field, post_done, post_step, posted_attribute, posted_message, posted_msgid, posted_parent, posted_replyid, posted_state, room_refusal, slots_with, spliced_slots, told_length, with_first_reply, with_next_reply}
+use Rattle.jb_model.specs.Live.{Numbered, live_from, live_in, message_at}
+use Rattle.jb_model.specs.Message.{header_length, replyid_of, subject_of}
+use Rattle.jb_model.specs.Post.{Draft, answer_refusal, draft_refusal, plain_field, post_done, post_step, posted_attribute, posted_message, posted_msgid, posted_replyid, posted_state, room_refusal, slots_with, spliced_slots, told_length, with_first_reply, with_next_reply}
 use Rattle.jb_model.specs.Short.{short_of}
 use Rattle.jb_model.specs.Standing.{is_refusal}
 use Rattle.jb_model.specs.State.{AreaState, LiveMessage, SlotState, live_message, next_number, slot_state, state_of}
@@ -25,18 +24,14 @@ use Rattle.jb_model.specs.declared.command.Field.TheVariants.{Subject, Text, To}
 use Rattle.jb_model.specs.declared.reply.Reply.{Reply}
 use Rattle.jb_model.specs.declared.reply.Reply.TheVariants.{EmptyName, HeadersFull, NoMessage, NumbersSpent, Posted, SlotsFull, TextFull, TooLong}
 use Rattle.jb_model.specs.declared.loaded.Loaded.{Loaded}
-use Rattle.jb_model.specs.declared.loaded.LoadedMessage.{LoadedMessage}
-use Rattle.jb_model.specs.declared.loaded.LoadedSlot.{LoadedSlot}
-use Rattle.jb_model.specs.declared.loaded.LoadedSlot.TheVariants.{Empty, Killed, Live}
 use Rattle.jb_model.specs.declared.short.Short.{Short}
 use Rattle.jb_model.specs.declared.summary.Summary.{Summary}
 use Rattle.jb_model.proofs.RangeLaws.{HasRoom, IsFit, fit_draft, room_for}
 use Rattle.jb_model.proofs.ThreadLaws.{find_passes}
-use Rattle.jb_link.specs.Slots.{linkables, message_in}
-use Rattle.jb_link.proofs.LiveLemmas.{linkables_with_texts}
+use Rattle.jb_link.proofs.CopiedLemmas.{parent_of_state}
 use Rattle.jb_link.proofs.PostLemmas.{parent_kept}
 use Rattle.jb_link.proofs.ReplyLemmas.{found_kept, kept_if_live}
-use Rattle.jb_index.specs.Change.{copied_msgid, edit_of_post, parent_behind}
+use Rattle.jb_index.specs.Change.{edit_of_post}
 use Rattle.jb_index.specs.Edit.{absorbed, with_summary}
 use Rattle.jb_index.specs.Index.{AreaIndex, index_of, summary_of, summary_with}
 use Rattle.jb_index.specs.declared.op.OpEdit.TheVariants.{Put}
@@ -279,30 +274,6 @@ replyid_is : (from to msgid : List ℕ) (id : Option (List ℕ)) (subject : List
     → replyid_of ((plain_field SENDER_NAME from ∷ plain_field RECEIVER_NAME to ∷ plain_field MSGID msgid ∷ []) ++ map (plain_field REPLYID) (option_to_list id) ++ plain_field SUBJECT subject ∷ []) ≡ id
 replyid_is from to msgid None subject = refl
 replyid_is from to msgid (Some id) subject = refl
-
--- the MSGID that is copied, of the area as it is loaded
-copied_of_state : (texts : List ℕ) (loaded : Loaded) (number : ℕ) → posted_replyid (state_of texts loaded) number ≡ copied_msgid loaded number
-copied_of_state texts loaded number =
-    ap (λ slot. option_and_then if_copied (option_and_then (λ (answered : LiveMessage). msgid_of answered.subfields) (cond (nat_lt number loaded.base) None (live_of slot))))
-    (slice_get-map (slot_state texts) loaded.slots (number - loaded.base))
-    ∙ by (nat_lt number loaded.base) (slice_get loaded.slots (number - loaded.base))
-  where
-    by : (below : Bool) (slot : Option LoadedSlot)
-        → option_and_then if_copied (option_and_then (λ (answered : LiveMessage). msgid_of answered.subfields) (cond below None (live_of (option_map (slot_state texts) slot))))
-        ≡ option_and_then if_copied (option_and_then (λ (answered : LoadedMessage). msgid_of answered.subfields) (cond below None (message_in slot)))
-    by true slot = refl
-    by false None = refl
-    by false (Some Empty) = refl
-    by false (Some (Killed header_at)) = refl
-    by false (Some (Live message)) = refl
-
--- the parent of what is posted, of the area as it is loaded
-parent_of_state : (texts : List ℕ) (loaded : Loaded) (number : ℕ) → posted_parent (state_of texts loaded) number ≡ parent_behind loaded number
-parent_of_state texts loaded number =
-    ap (λ (live : List Linkable). parent_for live (next_number (state_of texts loaded)) (posted_replyid (state_of texts loaded) number) number)
-    (linkables_with_texts texts loaded.base loaded.slots)
-    ∙ ap (λ n. parent_for (linkables [] loaded) (loaded.base + n) (posted_replyid (state_of texts loaded) number) number) (length-map loaded.slots (slot_state texts))
-    ∙ ap (λ (id : Option (List ℕ)). parent_for (linkables [] loaded) (loaded.base + length loaded.slots) id number) (copied_of_state texts loaded number)
 
 -- the summary of what is posted
 summary_is : (rules : AreaRules) (texts : List ℕ) (loaded : Loaded) (user : User) (moment number : ℕ) (draft : Draft)

@@ -1,5 +1,5 @@
 -- What a call that was answered changes in the index of its area.
-use Rattle.std.specs.Prelude.{◌≡◌, ℕ, ◌+◌, ◌≤◌, ◌==◌, not, List, [], ◌∷◌, Option, Some, None, filter, length, map, option_and_then}
+use Rattle.std.specs.Prelude.{◌≡◌, ℕ, ◌+◌, ◌≤◌, ◌==◌, List, [], ◌∷◌, Option, Some, None, filter, length, map}
 use Rattle.jb_base.specs.Crc.{jam_crc_of}
 use Rattle.jb_base.specs.declared.area.AreaRules.{AreaRules}
 use Rattle.jb_base.specs.declared.limits.TheConstants.{MOST_NAME_BYTES, MOST_SUBJECT_BYTES}
@@ -8,11 +8,11 @@ use Rattle.jb_index.specs.Edit.{absorbed}
 use Rattle.jb_index.specs.Index.{index_of}
 use Rattle.jb_index.specs.declared.op.OpEdit.{OpEdit}
 use Rattle.jb_index.specs.declared.op.OpEdit.TheVariants.{Attribute, Base, Drop, Mark as Marking, Parent, Put}
-use Rattle.jb_link.specs.Plan.{loaded_at}
+use Rattle.jb_link.specs.Orphans.{without_one}
+use Rattle.jb_link.specs.Parents.{parent_behind}
 use Rattle.jb_link.specs.Slots.{IsLive, linkables}
-use Rattle.jb_model.specs.Links.{Linkable, parent_for, parent_of}
-use Rattle.jb_model.specs.Message.{msgid_of}
-use Rattle.jb_model.specs.Post.{Draft, if_copied, posted_attribute}
+use Rattle.jb_model.specs.Links.{Linkable, parent_of}
+use Rattle.jb_model.specs.Post.{Draft, posted_attribute}
 use Rattle.jb_model.specs.Short.{short_of}
 use Rattle.jb_model.specs.State.{state_of}
 use Rattle.jb_model.specs.Step.{step}
@@ -30,14 +30,6 @@ IsAnswer rules loaded user moment command reply = (texts : List ℕ) × ((step r
 abbrev pub FollowsStep : AreaRules → Loaded → User → ℕ → Command → Reply → List OpEdit → Type 0
 FollowsStep rules loaded user moment command reply edits = (texts : List ℕ) → (step rules (state_of texts loaded) user moment command).reply ≡ reply
     → absorbed (index_of rules (state_of texts loaded)) edits ≡ index_of rules (step rules (state_of texts loaded) user moment command).state
-
--- the MSGID of the message that a number names, where that has one that is copied into an answer
-abbrev pub copied_msgid : Loaded → ℕ → Option (List ℕ)
-copied_msgid loaded number = option_and_then if_copied (option_and_then (λ answered. msgid_of answered.subfields) (loaded_at loaded number))
-
--- the parent of a message behind all others that answers this number
-abbrev pub parent_behind : Loaded → ℕ → ℕ
-parent_behind loaded number = parent_for (linkables [] loaded) (loaded.base + length loaded.slots) (copied_msgid loaded number) number
 
 -- the edit of a post that was answered so
 abbrev pub edit_of_post : AreaRules → Loaded → User → ℕ → Draft → Reply → Option OpEdit
@@ -71,10 +63,6 @@ edit_of_mark user reply = None
 abbrev pub edit_of_pack : Reply → Option OpEdit
 edit_of_pack (Packed base live dropped) = Some (Base base)
 edit_of_pack reply = None
-
--- all live messages but the one with this number
-abbrev pub without_one : ℕ → List Linkable → List Linkable
-without_one number live = filter (λ one. not (one.number == number)) live
 
 -- the edits of a kill: the message has no summary, and those that answered it have the parent that the others give them
 abbrev pub edits_of_kill : List Linkable → ℕ → List OpEdit

@@ -7,7 +7,6 @@ pub mod Index
 pub mod Inside
 pub mod Laws
 pub mod Making
-pub mod Orphan
 pub mod Room
 pub mod Thread
 pub mod Wanted

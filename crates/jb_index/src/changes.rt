@@ -1,77 +1,40 @@
 //! What a call that was answered changes in the index of its area.
-ghost use Rattle.std.specs.Prelude.{◌≡◌, ◌+◌, ◌<◌, ◌≤◌, ◌^◌, ℕ, List, IfOk, length, option_map, option_to_list};
-ghost use Rattle.std.specs.Borrow.{Bor};
+ghost use Rattle.std.specs.Prelude.{◌≡◌, ◌+◌, ◌<◌, ◌≤◌, ◌^◌, ℕ, List, IfOk, length, option_to_list};
 ghost use Rattle.jb_base.specs.declared.limits.TheConstants.{MOST_NAME_BYTES};
-ghost use Rattle.jb_index.specs.Change.{FollowsStep, HasShortFields, IsAnswer, IsPost, copied_msgid, edit_for, edit_of_mark, edit_of_pack, edit_of_read, parent_behind};
-ghost use Rattle.jb_link.specs.Plan.{loaded_at};
-ghost use Rattle.jb_model.specs.Post.{posted_attribute};
+ghost use Rattle.jb_index.specs.Change.{FollowsStep, HasShortFields, IsAnswer, IsPost, edit_for, edit_of_mark, edit_of_pack, edit_of_read};
+ghost use Rattle.jb_link.specs.Index.{IsIndexOf};
+ghost use Rattle.jb_link.specs.Parents.{parent_behind};
 ghost use Rattle.jb_model.specs.Sound.{IsSound};
 
 use crate::kills::killed;
 use crate::{Op, OpEdit};
-use jb_base::{
-    AreaRules, Kind, LOCAL, MOST_COPIED_MSGID_BYTES, MSGID, OutOfMemory, PRIVATE, TYPEECHO,
-    TYPELOCAL, User,
-};
+use jb_base::{AreaRules, OutOfMemory, User};
 use jb_crc::jam_crc;
-use jb_link::parent;
-use jb_model::{Command, Loaded, LoadedMessage, LoadedSlot, Mark, Reply, Short, Summary};
+use jb_link::{Replies, copied_msgid};
+use jb_model::{Command, Loaded, Mark, Reply, Short, Summary, posted_attribute};
 use std::alloc::Global;
 
-/// The live message that a number names.
-fn message_at(loaded: &Loaded, number: u32) -> Option<&LoadedMessage>
-    ensures { option_map (λ (message : Bor _). message.now) result ≡ loaded_at loaded.now number }
-{
-    if number < loaded.base {
-        return None;
-    }
-    match loaded.slots.as_slice().get((number - loaded.base) as usize) {
-        Some(LoadedSlot::Live(message)) => Some(message),
-        _ => None,
-    }
-}
-
-/// The REPLYID of an answer to a number: the MSGID that the message has there, where it is copied.
-fn copied_msgid(loaded: &Loaded, number: u32) -> Option<&[u8]>
-    ensures { option_map (λ (id : Bor _). id.now) result ≡ copied_msgid loaded.now number }
-{
-    let id = message_at(loaded, number)?.subfields.first(MSGID)?;
-    if id.len() <= MOST_COPIED_MSGID_BYTES {
-        Some(id)
-    } else {
-        None
-    }
-}
-
 /// The parent of a message behind all others that answers this number.
-fn parent_behind(loaded: &Loaded, number: u32) -> u32
-    requires { loaded.now.base + length loaded.now.slots ≤ 4_294_967_295 }
+fn parent_behind(loaded: &Loaded, replies: &Replies, number: u32) -> u32
+    requires index { IsIndexOf replies.now loaded.now }
+    requires numbers { loaded.now.base + length loaded.now.slots ≤ 4_294_967_295 }
     ensures { result ≡ parent_behind loaded.now number }
 {
     let next = loaded.base + loaded.slots.as_slice().len() as u32;
-    parent(loaded, next, copied_msgid(loaded, number), number)
-}
-
-/// The attributes of a message that is posted.
-fn attribute_of(rules: &AreaRules, private: bool) -> u32
-    ensures { result ≡ posted_attribute rules.now private }
-{
-    let kind = match rules.kind {
-        Kind::Local => TYPELOCAL,
-        Kind::Echo => TYPEECHO,
-    };
-    LOCAL + kind + if private { PRIVATE } else { 0 }
+    replies.parent(loaded, next, copied_msgid(loaded, number), number)
 }
 
 /// The edit of a post that was answered so.
 fn posted(
     loaded: &Loaded,
+    replies: &Replies,
     rules: &AreaRules,
     user: &User,
     moment: u32,
     command: &Command,
     reply: &Reply,
 ) -> Option<OpEdit>
+    requires index { IsIndexOf replies.now loaded.now }
     requires numbers { loaded.now.base + length loaded.now.slots ≤ 4_294_967_295 }
     requires name { length user.now.name ≤ MOST_NAME_BYTES }
     requires short { HasShortFields command.now reply.now }
@@ -96,8 +59,8 @@ fn posted(
         to: Short::of(to.as_slice()),
         subject: Short::of(subject.as_slice()),
         written: moment,
-        attribute: attribute_of(rules, *private),
-        parent: parent_behind(loaded, *reply_to),
+        attribute: posted_attribute(rules, *private),
+        parent: parent_behind(loaded, replies, *reply_to),
     }))
 }
 
@@ -142,19 +105,21 @@ fn packed(reply: &Reply) -> Option<OpEdit>
 /// The edit of a call that was answered so, but for a kill.
 fn edit_of(
     loaded: &Loaded,
+    replies: &Replies,
     rules: &AreaRules,
     user: &User,
     moment: u32,
     command: &Command,
     reply: &Reply,
 ) -> Option<OpEdit>
+    requires index { IsIndexOf replies.now loaded.now }
     requires numbers { loaded.now.base + length loaded.now.slots ≤ 4_294_967_295 }
     requires name { length user.now.name ≤ MOST_NAME_BYTES }
     requires short { HasShortFields command.now reply.now }
     ensures { result ≡ edit_for rules.now loaded.now user.now moment command.now reply.now }
 {
     match command {
-        Command::Post { .. } => posted(loaded, rules, user, moment, command, reply),
+        Command::Post { .. } => posted(loaded, replies, rules, user, moment, command, reply),
         Command::Read { .. } => read(reply),
         Command::SetMark { .. } => marked(user, reply),
         Command::Pack => packed(reply),
@@ -165,12 +130,13 @@ fn edit_of(
 }
 
 impl Op {
-    /// What a call that was answered so changes in the index of the area, which is loaded as it was before the call. A
-    /// refusal, a look and a relink change nothing in it. Only a kill looks at all messages; an answer looks at those up to
-    /// the one that it answers.
+    /// What a call that was answered so changes in the index of the area, which is loaded as it was before the call, with
+    /// the index of its replies. A refusal, a look and a relink change nothing in it. An answer makes one search among the
+    /// replies, a kill six and a step for each answer to the message.
     pub fn of(
         alloc: Global,
         loaded: &Loaded,
+        replies: &Replies,
         rules: &AreaRules,
         user: &User,
         moment: u32,
@@ -178,15 +144,16 @@ impl Op {
         reply: &Reply,
     ) -> Result<Op, OutOfMemory>
         requires sound { IsSound rules.now.slots loaded.now }
+        requires index { IsIndexOf replies.now loaded.now }
         requires name { length user.now.name ≤ MOST_NAME_BYTES }
         requires answered { IsAnswer rules.now loaded.now user.now moment command.now reply.now }
         ensures { IfOk result (λ op. FollowsStep rules.now loaded.now user.now moment command.now reply.now op) }
     {
         if let Command::Kill { number } = command {
-            return killed(alloc, loaded, *number, reply);
+            return killed(alloc, loaded, replies, *number, reply);
         }
         let mut op = Op::new(alloc);
-        if let Some(edit) = edit_of(loaded, rules, user, moment, command, reply) {
+        if let Some(edit) = edit_of(loaded, replies, rules, user, moment, command, reply) {
             op.push(edit)?;
         }
         Ok(op)

@@ -14,7 +14,8 @@ use Rattle.jb_redo.specs.Replay.{spans_in}
 use Rattle.jb_redo.specs.Rules.{sizes_of, new_sizes, IsLegal}
 use Rattle.jb_redo.proofs.SpanLemmas.{spans_within}
 use Rattle.jb_redo.proofs.WayLemmas.{way_kept, way_legal, way_replays, replays_to_applied}
-use Rattle.jb_journal.specs.Commit.{AgreeButJournal, ReplaysTo, changed}
+use Rattle.jb_journal.specs.Commit.{AgreeButJournal, ReplaysTo}
+use Rattle.jb_redo.specs.Changes.{changed}
 use Rattle.jb_journal.specs.Stages.{IsAtGate, IsOpened, IsGoing, IsClosing, closed}
 use Rattle.jb_journal.proofs.Patching.{between_patched_end, first_written}
 

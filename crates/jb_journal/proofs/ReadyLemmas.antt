@@ -21,7 +21,8 @@ use Rattle.jb_redo.specs.Rules.{sizes_of, new_sizes, IsLegalPiece, IsLegal}
 use Rattle.jb_redo.proofs.SizeLemmas.{not_given}
 use Rattle.jb_redo.proofs.SpanLemmas.{spans_same}
 use Rattle.jb_redo.proofs.WayLemmas.{way_start}
-use Rattle.jb_journal.specs.Commit.{AgreeButJournal, IsReady, ReplaysTo, IsBeforeOrAfter, changed, journal_of, committed}
+use Rattle.jb_journal.specs.Commit.{AgreeButJournal, IsReady, ReplaysTo, IsBeforeOrAfter, journal_of, committed}
+use Rattle.jb_redo.specs.Changes.{changed}
 use Rattle.jb_journal.specs.Doubt.{IsEarly}
 use Rattle.jb_journal.specs.Stages.{IsUntouched, IsAtGate, IsOpened, IsGoing, closed, recorded, opened}
 use Rattle.jb_journal.proofs.SettingLemmas.{sizes_agree}

@@ -12,7 +12,8 @@ use Rattle.jb_disk.specs.Device.{Device, TellsAnImage}
 use Rattle.jb_disk.specs.Runs.{LeavesNow, Runs, Shows, IsAllSynced}
 use Rattle.jb_disk.proofs.RunLemmas.{runs-weaken}
 use Rattle.jb_disk.specs.Gate.{IsGateOpen}
-use Rattle.jb_journal.specs.Commit.{IsReady, IsBeforeOrAfter, ReplaysTo, changed}
+use Rattle.jb_journal.specs.Commit.{IsReady, IsBeforeOrAfter, ReplaysTo}
+use Rattle.jb_redo.specs.Changes.{changed}
 use Rattle.jb_journal.specs.Doubt.{IsEarly}
 use Rattle.jb_journal.specs.Opening.{StaysShut, OpensNowFor, WhereTold}
 use Rattle.jb_journal.specs.Stages.{IsUntouched, IsAtGate, IsGoing, recorded, opened}

@@ -22,7 +22,8 @@ use Rattle.jb_redo.specs.Reading.{IsRecordOf}
 use Rattle.jb_redo.proofs.WayLemmas.{way_start, way_kept, way_replays, replays_to_applied, one_replay}
 use Rattle.jb_journal.specs.declared.error.JournalError.TheVariants.{StoreFault}
 use Rattle.jb_journal.specs.Filing.{AgreeBelow}
-use Rattle.jb_journal.specs.Commit.{ReplaysTo, changed}
+use Rattle.jb_journal.specs.Commit.{ReplaysTo}
+use Rattle.jb_redo.specs.Changes.{changed}
 use Rattle.jb_journal.specs.Recover.{error_of, IsGrowthSafe, JournalFaultRose, ReplaysAs, MightBe, ReplaysAsAtStart}
 use Rattle.jb_journal.specs.Stages.{IsAtGate, IsOpened, closed}
 use Rattle.jb_journal.proofs.Told.{only_told}

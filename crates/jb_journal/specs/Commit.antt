@@ -1,23 +1,18 @@
 -- What a commit asks of the files, and what it makes of them.
-use Rattle.std.specs.Prelude.{◌≡◌, ◌≢◌, ◌⊎◌, ℕ, ◌+◌, ◌≤◌, List, ◌++◌, length, take, slice_index}
-use Rattle.jb_base.specs.declared.limits.TheConstants.{JOURNAL_CEILING}
+use Rattle.std.specs.Prelude.{◌≡◌, ◌≢◌, ◌⊎◌, ℕ, ◌≤◌, List, ◌++◌, length, take, slice_index}
 use Rattle.jb_disk.specs.declared.file.FileId.{FileId}
 use Rattle.jb_disk.specs.declared.file.FileId.TheVariants.{Jnl}
 use Rattle.jb_disk.specs.Change.{Change}
 use Rattle.jb_disk.specs.Files.{Files, with_file}
 use Rattle.jb_disk.specs.Gate.{with_gate_closed}
+use Rattle.jb_redo.specs.Changes.{changed}
 use Rattle.jb_redo.specs.Record.{record_bytes}
-use Rattle.jb_redo.specs.Replay.{applied, IsGrowthCovered, Replays}
-use Rattle.jb_redo.specs.Rules.{sizes_of, AreLegalLengths, IsLegal}
+use Rattle.jb_redo.specs.Replay.{IsGrowthCovered, Replays}
+use Rattle.jb_redo.specs.Rules.{sizes_of, IsLegal}
 
 -- the files are the same but for the journal
 abbrev pub AgreeButJournal : Files → Files → Type 0
 AgreeButJournal one other = (file : FileId) → file ≢ Jnl → one file ≡ other file
-
--- on every disk: the new lengths and the journal with the record keep their ceilings
-pub record IsWritable (change : Change) : Type 0 where
-  pub lengths_are : AreLegalLengths change.lengths
-  pub short : 16 + length (record_bytes change.lengths change.pieces) ≤ JOURNAL_CEILING
 
 -- over these files: the change makes a record and writes each byte past an old end, and the journal has its head with the gate closed
 pub record IsReady (change : Change) (files : Files) : Type 0 where
@@ -25,10 +20,6 @@ pub record IsReady (change : Change) (files : Files) : Type 0 where
   pub grown : IsGrowthCovered change.lengths change.pieces files
   pub long : 16 ≤ length (files Jnl)
   pub shut : slice_index (files Jnl) 0 ≢ 1
-
--- the files with the change done
-abbrev pub changed : Change → Files → Files
-changed change files = applied change.lengths change.pieces files
 
 -- the journal's head as it is, and the record behind it
 abbrev pub journal_of : Change → Files → List ℕ

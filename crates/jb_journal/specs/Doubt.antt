@@ -10,7 +10,8 @@ use Rattle.jb_disk.specs.Runs.{Shows}
 use Rattle.jb_disk.specs.Gate.{IsGateOpen}
 use Rattle.jb_journal.specs.declared.stopped.Stopped.{Stopped}
 use Rattle.jb_journal.specs.declared.stopped.Stopped.TheVariants.{Early, Late}
-use Rattle.jb_journal.specs.Commit.{AgreeButJournal, IsReady, ReplaysTo, IsBeforeOrAfter, changed, committed}
+use Rattle.jb_journal.specs.Commit.{AgreeButJournal, IsReady, ReplaysTo, IsBeforeOrAfter, committed}
+use Rattle.jb_redo.specs.Changes.{changed}
 use Rattle.jb_journal.specs.Stages.{IsAtGate, IsGoing, opened}
 
 -- stopped early: the other files are as before the change, and behind an open gate stands its whole record

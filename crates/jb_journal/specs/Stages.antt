@@ -7,7 +7,8 @@ use Rattle.jb_disk.specs.Gate.{IsGateOpen, with_gate_closed}
 use Rattle.jb_redo.specs.OnTheWay.{IsOnTheWay}
 use Rattle.jb_redo.specs.Reading.{IsRecordOf}
 use Rattle.jb_redo.specs.Replay.{IsGrowthCovered}
-use Rattle.jb_journal.specs.Commit.{AgreeButJournal, changed, journal_of}
+use Rattle.jb_journal.specs.Commit.{AgreeButJournal, journal_of}
+use Rattle.jb_redo.specs.Changes.{changed}
 
 -- while the record is written: the other files and the head of the journal are as at the start
 pub record IsUntouched (start files : Files) : Type 0 where

@@ -9,7 +9,7 @@ ghost use Rattle.jb_disk.specs.Files.{Files, written};
 ghost use Rattle.jb_disk.specs.Runs.{LeavesNow, Keeps};
 ghost use Rattle.jb_redo.specs.Record.{length_bytes, piece_bytes, record_bytes};
 ghost use Rattle.jb_journal.specs.Coming.{ComeBy, journal_length};
-ghost use Rattle.jb_journal.specs.Commit.{IsWritable};
+ghost use Rattle.jb_redo.specs.Changes.{IsWritable};
 ghost use Rattle.jb_journal.specs.Spelling.{nth_piece, size_of, tail_bytes, front_bytes, back_bytes};
 ghost use Rattle.jb_journal.specs.Stages.{IsUntouched, recorded};
 ghost use Rattle.jb_journal.specs.Pending.{seen, IsBound, Puts};

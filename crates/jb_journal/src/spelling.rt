@@ -4,7 +4,7 @@ ghost use Rattle.jb_disk.specs.Files.{number_of};
 ghost use Rattle.jb_base.specs.Number.{number_bytes};
 ghost use Rattle.jb_base.specs.declared.limits.TheConstants.{JOURNAL_CEILING};
 ghost use Rattle.jb_redo.specs.Record.{record_head, length_bytes, record_bytes};
-ghost use Rattle.jb_journal.specs.Commit.{IsWritable};
+ghost use Rattle.jb_redo.specs.Changes.{IsWritable};
 ghost use Rattle.jb_journal.specs.Spelling.{head_bytes, size_of};
 
 use jb_disk::{Length, PieceHead, Redo};

@@ -12,3 +12,18 @@ pub mod PostingLemmas
 pub mod SpliceLemmas
 mod StandardFacts
 pub mod Theorems
+pub mod OrderLemmas
+pub mod RisingLemmas
+pub mod MemberLemmas
+pub mod PartLemmas
+pub mod SearchLemmas
+pub mod AreaLemmas
+pub mod IdListLemmas
+pub mod HashLemmas
+pub mod KeptLemmas
+pub mod IndexLemmas
+pub mod FoundLemmas
+pub mod LawLemmas
+pub mod KeyLemmas
+pub mod CopiedLemmas
+pub mod OrphanLemmas

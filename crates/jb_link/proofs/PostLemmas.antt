@@ -10,7 +10,7 @@ use Rattle.jb_model.specs.declared.loaded.LoadedMessage.{LoadedMessage}
 use Rattle.jb_model.specs.declared.loaded.LoadedSlot.{LoadedSlot}
 use Rattle.jb_model.specs.declared.loaded.LoadedSlot.TheVariants.{Empty, Killed, Live}
 use Rattle.jb_link.specs.Slots.{linkables_from, loaded_linkable}
-use Rattle.jb_link.proofs.RangeLemmas.{found_from, same_found}
+use Rattle.jb_link.proofs.RangeLemmas.{found_from, option_or_none, same_found}
 
 -- a message without its text and its places
 abbrev pub unload : LiveMessage → LoadedMessage
@@ -66,11 +66,6 @@ place_from_all P (suc k) base (live_message first ∷ slots) message all at =
     let same : base + 1 + k ≡ base + suc k = omega arith in
     subst (λ (n : ℕ). P (record { number = n; message = message })) same
     (place_from_all P k (base + 1) slots message (All-tail P (record { number = base; message = first }) (live_from (base + 1) slots) all) at)
-
--- nothing else is found
-option_or_none : {X : Type 0} (found : Option X) → option_or found None ≡ found
-option_or_none None = refl
-option_or_none (Some x) = refl
 
 -- one more message behind changes no parent of those before
 pub parent_kept : (live : List Linkable) (new : Linkable) (n : ℕ) (reply : Option (List ℕ)) (kept : ℕ) → n ≤ new.number

@@ -12,6 +12,11 @@ use Rattle.jb_link.specs.Slots.{linkables_from, loaded_linkable}
 abbrev pub IsNumberOf : ℕ → ℕ → ℕ → Type 0
 IsNumberOf from count number = (from ≤ number) × (number < from + count)
 
+-- nothing else is found
+pub option_or_none : {X : Type 0} (found : Option X) → option_or found None ≡ found
+option_or_none None = refl
+option_or_none (Some x) = refl
+
 -- two tests that agree on these numbers find the same
 pub same_found : (f g : Linkable → Bool) (number : ℕ) (slots : List LoadedSlot)
     → ((one : Linkable) → number ≤ one.number → one.number < number + length slots → f one ≡ g one)

@@ -22,7 +22,7 @@ use Rattle.jb_link.specs.Splice.{answers, own_id, spliced, with_spliced}
 use Rattle.jb_link.specs.declared.splicing.Spliced.{Spliced}
 use Rattle.jb_link.specs.declared.splicing.Spliced.TheVariants.{None as Nothing, First, After}
 use Rattle.jb_link.proofs.LiveLemmas.{StandsAt, find_numbered, linkable_in, linkables_from-append, linkables_with_texts, stands_from_live}
-use Rattle.jb_link.proofs.RangeLemmas.{IsNumberOf, found_from, found_in_range, found_lower, never_found, same_found, same_found_back}
+use Rattle.jb_link.proofs.RangeLemmas.{IsNumberOf, found_from, found_in_range, found_lower, never_found, option_or_none, same_found, same_found_back}
 
 -- the parent by an id, and by a kept number
 abbrev least_with_id : List Linkable → ℕ → List ℕ → ℕ
@@ -219,11 +219,6 @@ last_step test r same first i last later slot b within read passes before =
     last_case (Killed at) b e found h = rw (sym e) h
     last_case (Live message) true e found h = rw (same (first + i) message ∙ e) refl
     last_case (Live message) false e found h = rw (same (first + i) message ∙ e) h
-
--- nothing else is found
-option_or_none : {X : Type 0} (found : Option X) → option_or found None ≡ found
-option_or_none None = refl
-option_or_none (Some x) = refl
 
 -- the last reply is the last among the later ones that answers
 pub last_reply_is : (base k p : ℕ) (slots : List LoadedSlot) (message : LoadedMessage) → 1 ≤ base → p ≡ base + k → slice_get slots k ≡ Some (Live message)

@@ -5,3 +5,13 @@ pub mod Plan
 pub mod Parents
 pub mod Thread
 pub mod Laws
+pub mod Order
+pub mod IdLists
+pub mod Kept
+pub mod Replied
+pub mod Index
+pub mod Inside
+pub mod IndexLaws
+pub mod Keys
+pub mod Orphans
+pub mod Part

@@ -1,4 +1,4 @@
-//! The reply links of an area: who answers whom (JAM, "Reply linking").
+//! The reply links of an area, and an index by which they are found: who answers whom (JAM, "Reply linking").
 //!
 //! The parent of a message with a REPLYID is the lowest live lower-numbered message whose MSGID has the same bytes,
 //! without one the ReplyTo that its header keeps, where that is live and lower. Reply1st is the least live number with
@@ -12,24 +12,43 @@
 //! bytes a slot for the ids, some 40 for each id whose seat another has, which is one in nine at most, and 4 bytes a slot
 //! for each list of numbers; [`changed`] takes a time of `n`. [`parent`] looks once at the slots below the number,
 //! [`splice`] once at those below the parent and once at those above; neither takes memory. [`is_live`] looks at one slot.
+//!
+//! An open area keeps a [`Replies`] beside it. While that is the index of the area (`IsIndexOf`), [`Replies::parent`] and
+//! [`Replies::splice`] answer what [`parent`] and [`splice`] do, by one search and by three, of log n comparisons each, and
+//! [`Replies::orphans`] lists the replies of a message, with the parents that they have without it, by six and a step for each. A post
+//! and a kill change it by [`Replies::posted`] and [`Replies::killed`], which take no memory; a reading, a mark and a relink
+//! leave it as it is. [`Replies::of`] makes n log n comparisons, and takes 4 bytes for each MSGID, 4 for each REPLYID and 8 for
+//! each kept number. Its ids are compared by a hash of their bytes, and by the bytes where two hashes are the same. Its lists
+//! stand in pieces (`jb_tiered`), so that a post and a kill cost about the same in each area: besides the searches they move up
+//! to 256 elements within one piece of each list, and one element for each 512 that stand behind the place.
 #![tactic(auto)]
 
 mod changes;
+mod found;
+mod hashed;
 mod id;
+mod id_lists;
 mod ids;
+mod kept;
+mod keys;
 mod laws;
 mod lists;
+mod orphans;
 mod others;
 mod parents;
 mod relinking;
+mod replies;
 mod scan;
 mod splicing;
 mod threads;
 
 pub use changes::changed;
-pub use laws::posts_keep_links;
+pub use found::{copied_msgid, message_at};
+pub use laws::{posts_keep_links, rests_on_slots, stays_under_heads, stays_under_relink};
 pub use lists::{Numbers, Plan};
+pub use orphans::Orphan;
 pub use relinking::relink_plan;
+pub use replies::Replies;
 pub use scan::{is_live, parent};
 pub use splicing::{Spliced, splice};
 pub use threads::thread;

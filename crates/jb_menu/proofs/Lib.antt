@@ -1,4 +1,3 @@
-pub mod Digits
 pub mod Keeping
 mod Rows
 mod StandardFacts

@@ -1,9 +1,7 @@
 -- What a line at a command prompt says: nothing, a letter, a letter and a number, or a number; else it is unknown.
-use Rattle.std.specs.Prelude.{ℕ, ◌^◌, ◌==◌, nat_lt, Bool, ◌&&◌, List, [], ◌∷◌, Option, Some, None, if◌then◌else◌}
-use Rattle.std.specs.List.{list_all}
-use Rattle.std.specs.Char.{is_ascii_digit, to_ascii_uppercase}
-use Rattle.std.specs.Str.Parse.{digits_value}
-use Rattle.jb_conf.specs.Ranges.{is_sized}
+use Rattle.std.specs.Prelude.{ℕ, ◌-◌, ◌^◌, ◌==◌, Bool, List, [], ◌∷◌, Option, Some, None, if◌then◌else◌}
+use Rattle.std.specs.Char.{to_ascii_uppercase}
+use Rattle.jb_text.specs.Digits.{number_up_to}
 use Rattle.jb_menu.specs.declared.command_line.CommandLetter.{CommandLetter}
 use Rattle.jb_menu.specs.declared.command_line.CommandLetter.TheVariants.{A, B, K, L, M, N, P, Q, R, T, X, Y, Z}
 use Rattle.jb_menu.specs.declared.command_line.CommandLine.{CommandLine}
@@ -31,13 +29,9 @@ capital_of byte =
 abbrev pub letter_of : ℕ → Option CommandLetter
 letter_of byte = capital_of (to_ascii_uppercase byte)
 
--- a text is one to ten digits
-abbrev pub are_digits : List ℕ → Bool
-are_digits text = is_sized 1 10 text && list_all is_ascii_digit text
-
 -- the number that a text is: one to ten digits, and not above what 32 bits hold
 abbrev pub number_of : List ℕ → Option ℕ
-number_of text = if are_digits text && nat_lt (digits_value 10 text) (2 ^ 32) then Some (digits_value 10 text) else None
+number_of text = number_up_to (2 ^ 32 - 1) text
 
 -- the byte is a space
 abbrev pub is_space : ℕ → Bool

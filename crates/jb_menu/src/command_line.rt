@@ -1,12 +1,8 @@
 //! What a line at a command prompt says.
-ghost use Rattle.std.specs.Prelude.{◌≡◌, ◌≤◌, IsTrue, length};
-ghost use Rattle.std.specs.List.{list_all};
-ghost use Rattle.std.specs.Char.{is_ascii_digit};
-ghost use Rattle.std.specs.Str.Parse.{digits_value};
-ghost use Rattle.jb_menu.specs.CommandLines.{are_digits, behind_letter, command_of, letter_of, number_of, parsed, without_first_spaces, without_last_spaces};
+ghost use Rattle.std.specs.Prelude.{◌≡◌};
+ghost use Rattle.jb_menu.specs.CommandLines.{behind_letter, command_of, letter_of, number_of, parsed, without_first_spaces, without_last_spaces};
 
-/// Digits of a number in a command line.
-const MOST_DIGITS: usize = 10;
+use jb_text::number_up_to;
 
 /// The letters of the commands.
 #[derive(Clone, Copy)]
@@ -58,44 +54,11 @@ fn letter_of(byte: u8) -> Option<CommandLetter>
     }
 }
 
-/// The number that these digits write, of which there are not too many to be added up.
-fn value_of(digits: &[u8]) -> u64
-    requires few { length digits.now ≤ 10 }
-    requires digits { IsTrue (list_all is_ascii_digit digits.now) }
-    ensures { result ≡ digits_value 10 digits.now }
-{
-    let mut value: u64 = 0;
-    for digit in digits {
-        value = value * 10 + u64::from(*digit - b'0');
-    }
-    value
-}
-
-/// Whether these are digits.
-fn all_digits(text: &[u8]) -> bool
-    ensures { result ≡ list_all is_ascii_digit text.now }
-{
-    text.iter().all(|byte| byte.is_ascii_digit())
-}
-
-/// Whether these are digits, one at least and not too many.
-fn are_digits(text: &[u8]) -> bool
-    ensures { result ≡ are_digits text.now }
-{
-    1 <= text.len() && text.len() <= MOST_DIGITS && all_digits(text)
-}
-
 /// The number that a text is.
 fn number_of(text: &[u8]) -> Option<u32>
     ensures { result ≡ number_of text.now }
 {
-    if are_digits(text) {
-        let value = value_of(text);
-        if value <= u64::from(u32::MAX) {
-            return Some(value as u32);
-        }
-    }
-    None
+    number_up_to(u32::MAX, text)
 }
 
 /// The text without the spaces before it.

@@ -6,7 +6,7 @@ use Rattle.std.proofs.Math.Seq.{drop-length}
 use Rattle.std.proofs.lemmas.List.Sums.{sum_by-cons}
 use Rattle.std.proofs.lemmas.List.Elements.{All-tail}
 use Rattle.jb_base.specs.declared.limits.TheConstants.{TEXTS_CEILING}
-use Rattle.jb_change.specs.Changing.{KeepsRoom}
+use Rattle.jb_redo.specs.Changes.{KeepsRoom}
 use Rattle.jb_disk.specs.Change.{Change}
 use Rattle.jb_disk.specs.Files.{Files}
 use Rattle.jb_disk.specs.declared.file.FileId.TheVariants.{Jdt}

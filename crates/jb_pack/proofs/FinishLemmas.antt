@@ -9,7 +9,7 @@ use Rattle.std.proofs.lemmas.List.Elements.{All-append, All-cons, All-head, All-
 use Rattle.std.proofs.lemmas.List.Sums.{count_by-le-length, sum_by-cons}
 use Rattle.std.proofs.Math.Seq.{drop-append-add, take-append_seam}
 use Rattle.jb_base.specs.declared.limits.TheConstants.{HEADERS_CEILING, SHADOW_CEILING, TEXTS_CEILING}
-use Rattle.jb_change.specs.Makes.{done, record_size}
+use Rattle.jb_redo.specs.Changes.{changed, record_size}
 use Rattle.jb_disk.specs.Change.{Change, bytes_of}
 use Rattle.jb_disk.specs.Files.{Files, number_of, overwritten}
 use Rattle.jb_disk.specs.Steps.{IsCovered, Span, patched}
@@ -310,7 +310,7 @@ copied_pack_of limit loaded shadow two new sound limited fits base copies =
             (whole files holds) base.headers base.long base.index (size files holds) no_marks;
         grown = λ files holds. grown_there limit loaded new sound limited fits_kept lengths_are base.back files holds.loads (written_bytes (bytes_in (files Ndt) copies.runs) two.pieces)
             (whole files holds) base.headers base.long base.index (size files holds) no_marks;
-        made = λ files holds. subst (λ (l : List ℕ). StandPacked loaded l (done new files))
+        made = λ files holds. subst (λ (l : List ℕ). StandPacked loaded l (changed new files))
             ((copies.texts files holds.has.each).bytes ∙ sym (texts_of_kept (files Jdt) loaded))
             (stand_there limit loaded new sound limited fits_kept lengths_are base.back files holds.loads (written_bytes (bytes_in (files Ndt) copies.runs) two.pieces)
             (whole files holds) base.headers base.long base.index (size files holds) no_marks);

@@ -9,8 +9,8 @@ use Rattle.std.proofs.lemmas.List.Kept.{AllPairs-cons}
 use Rattle.jb_base.specs.Subfields.{IsSubfield, subfield_bytes}
 use Rattle.jb_base.specs.declared.attribute.TheConstants.{DELETED}
 use Rattle.jb_base.specs.declared.limits.TheConstants.{HEADERS_CEILING, TEXTS_CEILING}
-use Rattle.jb_change.proofs.RecordLemmas.{length-entry, length-header, length-message, shaped_header}
-use Rattle.jb_change.specs.Records.{entry_for, message_bytes, numbered_header}
+use Rattle.jb_image.proofs.RecordLemmas.{length-entry, length-header, length-message, shaped_header}
+use Rattle.jb_image.specs.Records.{entry_for, message_bytes, numbered_header}
 use Rattle.jb_disk.specs.Files.{Files}
 use Rattle.jb_disk.specs.declared.file.FileId.TheVariants.{Jhr, Jdt, Jdx}
 use Rattle.jb_image.specs.Places.{bytes_at, entry_in, header_in}

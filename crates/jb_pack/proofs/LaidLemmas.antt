@@ -19,7 +19,7 @@ use Rattle.jb_redo.specs.Replay.{span_of, spans_in, writes}
 use Rattle.jb_redo.specs.Record.{length_bytes, piece_bytes, record_bytes, record_end, record_head}
 use Rattle.jb_redo.proofs.SpanLemmas.{spans_in-here, spans_in-other}
 use Rattle.jb_pack.specs.Laid.{IsLaidOut, IsLegalIn, Lays, laid, pieces_into}
-use Rattle.jb_change.specs.Makes.{record_size}
+use Rattle.jb_redo.specs.Changes.{record_size}
 use Rattle.jb_base.specs.Number.{number_bytes}
 use Rattle.jb_disk.specs.declared.piece.Length.{Length}
 

@@ -11,7 +11,7 @@ use Rattle.jb_model.specs.declared.reply.Reply.TheVariants.{Packed, TextFull}
 use Rattle.std.proofs.lemmas.List.{length-map}
 use Rattle.std.proofs.lemmas.List.Elements.{All-nil}
 use Rattle.jb_base.specs.declared.limits.TheConstants.{HEADERS_CEILING, TEXTS_CEILING}
-use Rattle.jb_change.specs.Makes.{done}
+use Rattle.jb_redo.specs.Changes.{changed}
 use Rattle.jb_disk.specs.Change.{Change, bytes_of}
 use Rattle.jb_disk.specs.Files.{Files, number_of}
 use Rattle.jb_disk.specs.declared.file.FileId.TheVariants.{Jhr, Jdt, Jdx, Jlr}
@@ -164,7 +164,7 @@ pack_of limit loaded two new contents sound limited fits base texts =
             headers base.long index (ap length all_texts ∙ texts.size) no_marks;
         grown = λ files loads. grown_there limit loaded new sound limited fits all_lengths base.back files loads (laid new.pieces) (laid_in_any files new.pieces out)
             headers base.long index (ap length all_texts ∙ texts.size) no_marks;
-        made = λ files loads. subst (λ (l : List ℕ). StandPacked loaded l (done new files)) all_texts
+        made = λ files loads. subst (λ (l : List ℕ). StandPacked loaded l (changed new files)) all_texts
             (stand_there limit loaded new sound limited fits all_lengths base.back files loads (laid new.pieces) (laid_in_any files new.pieces out)
             headers base.long index (ap length all_texts ∙ texts.size) no_marks);
       };

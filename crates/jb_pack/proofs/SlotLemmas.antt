@@ -6,7 +6,7 @@ use Rattle.std.proofs.lemmas.List.Sums.{sum_by-cons}
 use Rattle.std.proofs.lemmas.List.Elements.{All-drop, All-head, All-tail}
 use Rattle.jb_base.specs.Subfields.{subfield_bytes}
 use Rattle.jb_base.specs.declared.limits.TheConstants.{HEADERS_CEILING, MOST_SUBFIELD_BYTES, TEXTS_CEILING}
-use Rattle.jb_change.specs.Changing.{KeepsRoom}
+use Rattle.jb_redo.specs.Changes.{KeepsRoom}
 use Rattle.jb_disk.specs.Change.{Change}
 use Rattle.jb_disk.specs.declared.file.FileId.{FileId}
 use Rattle.jb_disk.specs.declared.file.FileId.TheVariants.{Jhr}
@@ -24,14 +24,14 @@ use Rattle.jb_model.specs.declared.loaded.LoadedSlot.{LoadedSlot}
 use Rattle.jb_model.specs.declared.loaded.LoadedSlot.TheVariants.{Empty, Killed, Live}
 use Rattle.jb_model.proofs.PackLaws.{live_from-first, packed_base-within}
 use Rattle.jb_record.specs.Index.{index_record_bytes}
-use Rattle.jb_change.specs.Records.{IsEntryReadAgain, IsHeaderReadAgain, entry_for, message_bytes}
+use Rattle.jb_image.specs.Records.{IsEntryReadAgain, IsHeaderReadAgain, entry_for, message_bytes}
 use Rattle.jb_pack.specs.Bytes.{AreEntriesReadAgain, AreHeadersReadAgain, headers_bytes, index_bytes, index_file}
 use Rattle.jb_pack.specs.Laid.{Lays, laid}
 use Rattle.jb_pack.specs.Packed.{headers_size, kept_slots, moved, new_base, packed, packed_from, slot_header_size, slot_text_size, texts_size}
 use Rattle.jb_pack.specs.Places.{IsBehind}
 use Rattle.jb_pack.specs.declared.place.Place.{Place}
 use Rattle.jb_pack.proofs.FitLemmas.{headers_fit_kept}
-use Rattle.jb_change.proofs.RecordLemmas.{length-message}
+use Rattle.jb_image.proofs.RecordLemmas.{length-message}
 
 -- nothing is laid
 pub lays_none : (file : FileId) (change : Change) → Lays file 0 [] change change

@@ -19,12 +19,12 @@ use Rattle.jb_record.specs.Fixed.{fixed_header_bytes}
 use Rattle.jb_record.specs.Index.{index_record_bytes}
 use Rattle.jb_record.specs.Message.{message_header_bytes, message_header_of}
 use Rattle.jb_record.specs.declared.message.MessageHeader.{MessageHeader}
-use Rattle.jb_change.specs.Records.{entry_for, message_bytes, numbered_header}
+use Rattle.jb_image.specs.Records.{entry_for, message_bytes, numbered_header}
 use Rattle.jb_pack.specs.Bytes.{IsReadAgain, headers_bytes}
 use Rattle.jb_pack.specs.Laws.{ArePacked}
 use Rattle.jb_pack.specs.Packed.{kept_slots, new_base, packed, packed_from, slot_text_size, texts_size}
 use Rattle.jb_pack.specs.Standing.{StandTogether}
-use Rattle.jb_change.proofs.RecordLemmas.{length-header}
+use Rattle.jb_image.proofs.RecordLemmas.{length-header}
 use Rattle.jb_pack.proofs.HeldLemmas.{IsLaid, first_behind, laid_message, laid_packed, next_empty, next_live}
 
 -- the number in a header that stands behind others

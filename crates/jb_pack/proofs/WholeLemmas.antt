@@ -5,7 +5,7 @@ use Rattle.std.proofs.lemmas.List.{append-nil, drop_all, take_all}
 use Rattle.std.proofs.lemmas.List.Elements.{All-nil, All-cons}
 use Rattle.std.proofs.lemmas.List.Kept.{AllPairs-cons}
 use Rattle.jb_base.specs.declared.limits.TheConstants.{HEADERS_CEILING, TEXTS_CEILING}
-use Rattle.jb_change.specs.Makes.{done}
+use Rattle.jb_redo.specs.Changes.{changed}
 use Rattle.jb_disk.specs.Change.{Change}
 use Rattle.jb_disk.specs.Files.{Files, number_of}
 use Rattle.jb_disk.specs.FileLaws.{length-of_length}
@@ -63,7 +63,7 @@ same_length old =
 
 module _ (change : Change) (files : Files) (bytes : FileId → List ℕ) (laid_in : IsLaidIn files change.pieces bytes) (file : FileId) where
   -- a file that is written anew from its beginning to its end
-  whole_file : new_sizes change.lengths (sizes_of files) file ≡ length (bytes file) → done change files file ≡ bytes file
+  whole_file : new_sizes change.lengths (sizes_of files) file ≡ length (bytes file) → changed change files file ≡ bytes file
   whole_file size =
       let old : List ℕ = of_length (new_sizes change.lengths (sizes_of files) file) (files file) in
       let long : length old ≡ length (bytes file) = length-of_length (new_sizes change.lengths (sizes_of files) file) (files file) ∙ size in
@@ -72,7 +72,7 @@ module _ (change : Change) (files : Files) (bytes : FileId → List ℕ) (laid_i
       ∙ append-nil (bytes file)
 
   -- a file into which nothing is written
-  kept_file : new_sizes change.lengths (sizes_of files) file ≡ length (files file) → bytes file ≡ [] → done change files file ≡ files file
+  kept_file : new_sizes change.lengths (sizes_of files) file ≡ length (files file) → bytes file ≡ [] → changed change files file ≡ files file
   kept_file size none =
       let old : List ℕ = of_length (new_sizes change.lengths (sizes_of files) file) (files file) in
       let short : length (bytes file) ≡ 0 = ap length none in
@@ -158,19 +158,19 @@ module _ (limit : ℕ) (loaded : Loaded) (change : Change) (sound : IsSound limi
   grown_there Ndt i past low = absurd (omega (arith, low, past, size_of Ndt))
 
   -- the texts
-  texts_there : done change files Jdt ≡ bytes Jdt
+  texts_there : changed change files Jdt ≡ bytes Jdt
   texts_there = whole_file change files bytes laid_in Jdt (omega (arith, size_of Jdt, size))
 
   -- the headers
-  headers_there : done change files Jhr ≡ headers_file (packed loaded)
+  headers_there : changed change files Jhr ≡ headers_file (packed loaded)
   headers_there = whole_file change files bytes laid_in Jhr (omega (arith, size_of Jhr, headers_size_is)) ∙ headers
 
   -- the index
-  index_there : done change files Jdx ≡ index_file (packed loaded)
+  index_there : changed change files Jdx ≡ index_file (packed loaded)
   index_there = whole_file change files bytes laid_in Jdx (omega (arith, size_of Jdx, index_size)) ∙ index
 
   -- the files of the area
-  packed_there : ArePacked loaded files (done change files)
+  packed_there : ArePacked loaded files (changed change files)
   packed_there = record {
     headers = headers_there;
     texts = ap length texts_there ∙ size;
@@ -179,11 +179,11 @@ module _ (limit : ℕ) (loaded : Loaded) (change : Change) (sound : IsSound limi
   }
 
   -- they hold the packed area with these texts
-  pub stand_there : StandPacked loaded (bytes Jdt) (done change files)
+  pub stand_there : StandPacked loaded (bytes Jdt) (changed change files)
   stand_there = record {
-    loads = loads_packed limit loaded files (done change files) sound fits back loads packed_there;
+    loads = loads_packed limit loaded files (changed change files) sound fits back loads packed_there;
     headers = headers_there;
     index = index_there;
     texts_are = texts_there;
-    together = packed_together limit loaded files (done change files) sound fits back loads packed_there;
+    together = packed_together limit loaded files (changed change files) sound fits back loads packed_there;
   }

@@ -1,6 +1,6 @@
 -- The bytes of the files of an area that is laid out without gaps (JAM, "Header file", "Message header", "Index file").
 use Rattle.std.specs.Prelude.{ℕ, ◌+◌, List, [], ◌∷◌, ◌++◌}
-use Rattle.jb_change.specs.Records.{IsEntryReadAgain, IsFixedReadAgain, IsHeaderReadAgain, entry_for, message_bytes}
+use Rattle.jb_image.specs.Records.{IsEntryReadAgain, IsFixedReadAgain, IsHeaderReadAgain, entry_for, message_bytes}
 use Rattle.jb_image.specs.Stands.{fixed_of}
 use Rattle.jb_model.specs.declared.loaded.Loaded.{Loaded}
 use Rattle.jb_model.specs.declared.loaded.LoadedSlot.{LoadedSlot}

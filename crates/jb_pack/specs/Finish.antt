@@ -1,14 +1,14 @@
 -- The change that packs an area out of the copies in .NDT.
 use Rattle.std.specs.Prelude.{◌≡◌, ◌≢◌, ◌+◌, ◌*◌, ◌<◌, ◌≤◌, ◌^◌, List, ◌++◌, All, length}
 use Rattle.jb_base.specs.declared.limits.TheConstants.{SHADOW_CEILING}
-use Rattle.jb_change.specs.Makes.{Brings, record_size}
+use Rattle.jb_redo.specs.Changes.{Brings, record_size}
 use Rattle.jb_disk.specs.Change.{Change, SameLists}
 use Rattle.jb_disk.specs.Files.{Files}
 use Rattle.jb_disk.specs.declared.file.FileId.TheVariants.{Jdt, Ndt}
 use Rattle.jb_disk.specs.declared.piece.Piece.{Piece}
 use Rattle.jb_disk.specs.declared.piece.Piece.TheVariants.{Bytes, Copy}
 use Rattle.jb_image.specs.Stands.{Loads}
-use Rattle.jb_journal.specs.Commit.{IsWritable}
+use Rattle.jb_redo.specs.Changes.{IsWritable}
 use Rattle.jb_model.specs.declared.loaded.Loaded.{Loaded}
 use Rattle.jb_model.specs.declared.loaded.LoadedSlot.{LoadedSlot}
 use Rattle.jb_pack.specs.Packed.{live_slots, packed, packed_texts, texts_in, texts_size}

@@ -7,7 +7,7 @@ use Rattle.jb_disk.specs.Steps.{IsCovered, patched}
 use Rattle.jb_disk.specs.declared.file.FileId.{FileId}
 use Rattle.jb_disk.specs.declared.piece.Piece.{Piece}
 use Rattle.jb_disk.specs.declared.piece.Piece.TheVariants.{Bytes, Copy}
-use Rattle.jb_change.specs.Makes.{record_size}
+use Rattle.jb_redo.specs.Changes.{record_size}
 use Rattle.jb_redo.specs.Replay.{spans_in, writes}
 use Rattle.jb_redo.specs.Rules.{AreLegalBytes}
 

@@ -2,14 +2,14 @@
 use Rattle.std.specs.Prelude.{◌≡◌, ◌≢◌, ℕ, ◌+◌, ◌*◌, ◌≤◌, List, [], ◌∷◌, length, Option, Some, None}
 use Rattle.std.specs.Option.{ForSome}
 use Rattle.jb_base.specs.declared.limits.TheConstants.{TEXTS_CEILING}
-use Rattle.jb_change.specs.Makes.{Brings, record_size}
+use Rattle.jb_redo.specs.Changes.{Brings, record_size}
 use Rattle.jb_disk.specs.Change.{Change, SameLists}
 use Rattle.jb_disk.specs.Files.{Files}
 use Rattle.jb_disk.specs.declared.file.FileId.{FileId}
 use Rattle.jb_disk.specs.declared.file.FileId.TheVariants.{Jhr, Jdt, Jdx}
 use Rattle.jb_disk.specs.declared.piece.Length.{Length}
 use Rattle.jb_image.specs.Stands.{Loads}
-use Rattle.jb_journal.specs.Commit.{IsWritable}
+use Rattle.jb_redo.specs.Changes.{IsWritable}
 use Rattle.jb_model.specs.Pack.{pack_done, pack_refusal}
 use Rattle.jb_model.specs.State.{AreaState}
 use Rattle.jb_model.specs.declared.loaded.Loaded.{Loaded}

@@ -1,8 +1,8 @@
 //! .JHR and .JDX of an area after a pack.
 ghost use Rattle.std.specs.Prelude.{◌≡◌, ◌≤◌, OnOk, length};
 ghost use Rattle.jb_base.specs.declared.limits.TheConstants.{MOST_SLOTS, TEXTS_CEILING};
-ghost use Rattle.jb_change.specs.Changing.{KeepsRoom};
-ghost use Rattle.jb_change.specs.Records.{IsFixedReadAgain};
+ghost use Rattle.jb_redo.specs.Changes.{KeepsRoom};
+ghost use Rattle.jb_image.specs.Records.{IsFixedReadAgain};
 ghost use Rattle.jb_disk.specs.declared.file.FileId.TheVariants.{Jhr as headers_file_id, Jdx as index_file_id};
 ghost use Rattle.jb_image.specs.Stands.{fixed_of};
 ghost use Rattle.jb_link.specs.Plan.{plan_of};
@@ -16,8 +16,8 @@ ghost use Rattle.jb_pack.specs.Plan.{PutsArea};
 use crate::laying::put;
 use crate::slots::put_slots;
 use jb_base::{Bytes, OutOfMemory};
-use jb_change::fixed_of;
 use jb_disk::{FileId, Redo};
+use jb_image::fixed_of;
 use jb_model::{Links, Loaded, LoadedSlot};
 use jb_record::{FixedHeader, encode_fixed};
 use std::alloc::Global;

@@ -1,7 +1,7 @@
 //! An area is packed out of the copies in .NDT.
 ghost use Rattle.std.specs.Prelude.{◌≡◌, ◌≤◌, ◌+◌, ◌++◌, ◌∷◌, ◌<◌, ◌^◌, ℕ, All, List, [], IfOk, OnOk, length, sum};
 ghost use Rattle.jb_base.specs.declared.limits.TheConstants.{MOST_SLOTS, TEXTS_CEILING};
-ghost use Rattle.jb_change.specs.Changing.{KeepsRoom};
+ghost use Rattle.jb_redo.specs.Changes.{KeepsRoom};
 ghost use Rattle.jb_disk.specs.declared.file.FileId.TheVariants.{Jdt as texts_file, Ndt as shadow_file};
 ghost use Rattle.jb_disk.specs.declared.piece.Piece.TheVariants.{Copy};
 ghost use Rattle.jb_link.specs.Plan.{plan_of};

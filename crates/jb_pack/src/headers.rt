@@ -2,8 +2,8 @@
 ghost use Rattle.std.specs.Prelude.{◌≡◌, ◌+◌, ◌<◌, ◌≤◌, ◌^◌, IfOk, OnOk, length};
 ghost use Rattle.jb_base.specs.Subfields.{subfield_bytes};
 ghost use Rattle.jb_base.specs.declared.limits.TheConstants.{HEADERS_CEILING, MOST_SUBFIELD_BYTES, TEXTS_CEILING};
-ghost use Rattle.jb_change.specs.Changing.{KeepsRoom};
-ghost use Rattle.jb_change.specs.Records.{IsHeaderReadAgain, message_bytes};
+ghost use Rattle.jb_redo.specs.Changes.{KeepsRoom};
+ghost use Rattle.jb_image.specs.Records.{IsHeaderReadAgain, message_bytes};
 ghost use Rattle.jb_disk.specs.declared.file.FileId.TheVariants.{Jhr};
 ghost use Rattle.jb_model.specs.Loaded.{header_size};
 ghost use Rattle.jb_pack.specs.Laid.{Lays, laid};
@@ -13,8 +13,8 @@ ghost use Rattle.jb_pack.specs.Places.{IsBehind};
 use crate::laying::put;
 use crate::place::{Place, behind};
 use jb_base::OutOfMemory;
-use jb_change::write_message;
 use jb_disk::{FileId, Redo};
+use jb_image::write_message;
 use jb_model::{Head, Links, LoadedMessage};
 
 /// The header's fields with these links.

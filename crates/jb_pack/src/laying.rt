@@ -1,6 +1,6 @@
 //! Pieces of a file that is written anew, one behind another from its beginning on.
 ghost use Rattle.std.specs.Prelude.{◌≡◌, ◌+◌, ◌<◌, ◌^◌, OnOk, length};
-ghost use Rattle.jb_change.specs.Changing.{KeepsRoom};
+ghost use Rattle.jb_redo.specs.Changes.{KeepsRoom};
 ghost use Rattle.jb_disk.specs.Files.{number_of};
 ghost use Rattle.jb_pack.specs.Laid.{Lays, laid};
 

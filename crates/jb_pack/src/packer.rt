@@ -2,7 +2,7 @@
 ghost use Rattle.std.specs.Prelude.{◌≡◌, ◌≤◌, List, ℕ, [], IfErr, IfOk, Ok, OnOk, false, length, nat_lt};
 ghost use Rattle.std.specs.Option.{ForSome};
 ghost use Rattle.jb_base.specs.declared.limits.TheConstants.{MOST_SLOTS, TEXTS_CEILING};
-ghost use Rattle.jb_change.specs.Changing.{KeepsRoom};
+ghost use Rattle.jb_redo.specs.Changes.{KeepsRoom};
 ghost use Rattle.jb_disk.specs.Runs.{IsAllSynced};
 ghost use Rattle.jb_disk.specs.declared.file.FileId.TheVariants.{Jdt as texts_file};
 ghost use Rattle.jb_image.specs.Stands.{Loads};

@@ -1,8 +1,8 @@
 //! The slots of an area, as they stand in .JHR and .JDX after a pack.
 ghost use Rattle.std.specs.Prelude.{◌≡◌, ◌++◌, ◌≤◌, [], OnOk, length};
 ghost use Rattle.jb_base.specs.declared.limits.TheConstants.{MOST_SLOTS, TEXTS_CEILING};
-ghost use Rattle.jb_change.specs.Changing.{KeepsRoom};
-ghost use Rattle.jb_change.specs.Records.{IsEntryReadAgain};
+ghost use Rattle.jb_redo.specs.Changes.{KeepsRoom};
+ghost use Rattle.jb_image.specs.Records.{IsEntryReadAgain};
 ghost use Rattle.jb_disk.specs.declared.file.FileId.TheVariants.{Jhr};
 ghost use Rattle.jb_link.specs.Plan.{plan_of};
 ghost use Rattle.jb_link.specs.Slots.{linkables_from};
@@ -15,8 +15,8 @@ ghost use Rattle.jb_pack.specs.Packed.{kept_slots, new_base, packed, texts_size}
 use crate::headers::put_message;
 use crate::place::Place;
 use jb_base::{Bytes, OutOfMemory};
-use jb_change::entry_bytes;
 use jb_disk::Redo;
+use jb_image::entry_bytes;
 use jb_model::{Links, Loaded, LoadedSlot};
 use jb_record::{EMPTY_SLOT, FIXED_HEADER_BYTES};
 use std::alloc::Global;

@@ -1,11 +1,10 @@
 //! The plain, slow program of an area: it runs a list of commands over an area as a plain value, and its contract is the
 //! definition of what each command answers and does.
 //!
-//! Faster bodies are compared with it in tests. It keeps no index and sorts nothing: each question walks over all slots, a
-//! CRC goes bit by bit, and the links of an area of n messages cost n³ looks at messages.
+//! Faster bodies are compared with it in tests. It keeps no index and sorts nothing: each question walks over all slots, and
+//! the links of an area of n messages cost n³ looks at messages.
 #![tactic(auto)]
 
-mod crc;
 mod fit;
 mod held;
 mod kill;

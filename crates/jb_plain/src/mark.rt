@@ -5,11 +5,11 @@ ghost use Rattle.jb_model.specs.SetMark.{mark_at, mark_refusal, set_mark_step};
 ghost use Rattle.jb_model.specs.Visible.{mark_of_user};
 ghost use Rattle.jb_plain.specs.Seen.{seen};
 
-use crate::crc::crc;
 use crate::held::PlainState;
 use crate::rule::denied;
 use jb_access::Action;
 use jb_base::{AreaRules, MOST_MARKS, OutOfMemory, User};
+use jb_crc::jam_crc;
 use jb_model::{Mark, Reply};
 
 /// Whether the mark is that of this pair.
@@ -50,7 +50,7 @@ fn put_mark(marks: &mut Vec<Mark>, mark: Mark) -> Result<(), OutOfMemory>
 fn user_mark(state: &PlainState, user: &User) -> Option<Mark>
     ensures { result ≡ mark_of_user user.now (seen state.now) }
 {
-    let user_crc = crc(user.name.as_slice());
+    let user_crc = jam_crc(user.name.as_slice());
     first_mark(&state.marks, user_crc, user.id)
 }
 
@@ -76,7 +76,7 @@ fn raised(state: &PlainState, user: &User, number: u32) -> Mark
         None => number,
     };
     Mark {
-        user_crc: crc(user.name.as_slice()),
+        user_crc: jam_crc(user.name.as_slice()),
         user_id: user.id,
         last: number,
         high,

@@ -1,27 +1,25 @@
 //! A message is posted.
 ghost use Rattle.std.specs.Prelude.{◌≡◌, ◌+◌, ◌<◌, ◌≤◌, ◌++◌, ◌∷◌, [], IfOk, OnOk, Some, length, option_map};
 ghost use Rattle.std.specs.Borrow.{Bor};
-ghost use Rattle.std.specs.Char.{digit_char};
 ghost use Rattle.jb_model.specs.Message.{header_length};
-ghost use Rattle.jb_model.specs.Post.{answer_refusal, draft_refusal, hex_digits, id_crc, plain_field, post_step, posted_attribute, posted_message, posted_msgid, posted_replyid, posted_state, room_refusal, with_first_reply, with_next_reply};
+ghost use Rattle.jb_model.specs.Post.{answer_refusal, draft_refusal, id_crc, plain_field, post_step, posted_message, posted_replyid, posted_state, room_refusal, with_first_reply, with_next_reply};
 ghost use Rattle.jb_model.specs.State.{next_number};
 ghost use Rattle.jb_model.specs.Tight.{owned};
 ghost use Rattle.jb_plain.specs.Changes.{draft_of, fields_with, renamed_area, spliced_area};
 ghost use Rattle.jb_plain.specs.Seen.{seen};
 
-use crate::crc::crc;
 use crate::held::PlainState;
 use crate::links::{last_reply, parent_with};
 use crate::message::{message_at, visible_at};
 use crate::rule::denied;
 use jb_access::Action;
 use jb_base::{
-    AreaRules, Bytes, HEADERS_CEILING, Kind, LAST_POSTED_NUMBER, LOCAL, MOST_COPIED_MSGID_BYTES,
-    MOST_NAME_BYTES, MOST_POSTED_TEXT_BYTES, MOST_SUBJECT_BYTES, MSGID, OutOfMemory, PRIVATE,
-    RECEIVER_NAME, REPLYID, SENDER_NAME, SUBJECT, Subfield, Subfields, TEXTS_CEILING, TYPEECHO,
-    TYPELOCAL, User,
+    AreaRules, Bytes, HEADERS_CEILING, LAST_POSTED_NUMBER, MOST_COPIED_MSGID_BYTES,
+    MOST_NAME_BYTES, MOST_POSTED_TEXT_BYTES, MOST_SUBJECT_BYTES, MSGID, OutOfMemory, RECEIVER_NAME,
+    REPLYID, SENDER_NAME, SUBJECT, Subfield, Subfields, TEXTS_CEILING, User,
 };
-use jb_model::{Field, Head, Message, Reply, Slot};
+use jb_crc::jam_crc;
+use jb_model::{Field, Head, Message, Reply, Slot, posted_attribute, posted_msgid};
 use jb_subfield::headed_length;
 use std::alloc::Global;
 
@@ -99,46 +97,6 @@ fn no_room(rules: &AreaRules, state: &PlainState, message: &Message) -> Option<R
     }
 }
 
-/// A digit of base 16, in lower case.
-fn digit(value: u32) -> u8
-    requires { value < 16 }
-    ensures { result ≡ digit_char value }
-{
-    if value < 10 {
-        b'0' + value as u8
-    } else {
-        b'a' + (value - 10) as u8
-    }
-}
-
-/// The eight digits of a serial number.
-fn serial_digits(serial: u32) -> [u8; 8]
-    ensures { result ≡ hex_digits 8 serial }
-{
-    [
-        digit(serial / 0x1000_0000),
-        digit(serial / 0x100_0000 % 16),
-        digit(serial / 0x10_0000 % 16),
-        digit(serial / 0x1_0000 % 16),
-        digit(serial / 0x1000 % 16),
-        digit(serial / 0x100 % 16),
-        digit(serial / 0x10 % 16),
-        digit(serial % 16),
-    ]
-}
-
-/// The MSGID of the message that is posted under this number.
-fn msgid_of(alloc: Global, rules: &AreaRules, number: u32) -> Result<Bytes, OutOfMemory>
-    requires { number ≤ LAST_POSTED_NUMBER }
-    ensures { IfOk result (λ id. id ≡ posted_msgid rules.now number) }
-{
-    let serial = u32::from(rules.ordinal) * 0x100_0000 + number;
-    let mut id = Bytes::copy(alloc, rules.address.as_slice())?;
-    id.append(b" ")?;
-    id.append(&serial_digits(serial))?;
-    Ok(id)
-}
-
 /// The REPLYID of an answer to a number: the MSGID that the message has there, where it is copied.
 fn replyid_of(state: &PlainState, reply_to: u32) -> Option<&[u8]>
     ensures { option_map (λ (b : Bor _). b.now) result ≡ posted_replyid (seen state.now) reply_to }
@@ -186,23 +144,12 @@ fn subfields_of(
     Ok(subfields)
 }
 
-/// The attributes of the message that is posted.
-fn attribute_of(rules: &AreaRules, private: bool) -> u32
-    ensures { result ≡ posted_attribute rules.now private }
-{
-    let kind = match rules.kind {
-        Kind::Local => TYPELOCAL,
-        Kind::Echo => TYPEECHO,
-    };
-    LOCAL + kind + if private { PRIVATE } else { 0 }
-}
-
 /// The CRC of an id, all bits set where there is none.
 fn crc_of_id(id: Option<&[u8]>) -> u32
     ensures { result ≡ id_crc (option_map (λ (b : Bor _). b.now) id.entry) }
 {
     match id {
-        Some(id) => crc(id),
+        Some(id) => jam_crc(id),
         None => u32::MAX,
     }
 }
@@ -220,12 +167,12 @@ fn message_of(
     ensures { IfOk result (λ message. owned message ≡ posted_message rules.now (seen state.now) user.now moment (draft_of draft.entry)) }
 {
     let number = state.next();
-    let msgid = msgid_of(alloc, rules, number)?;
+    let msgid = posted_msgid(alloc, rules, number)?;
     let replyid = replyid_of(state, draft.reply_to);
     let head = Head {
         reserved: 0,
         times_read: 0,
-        msgid_crc: crc(msgid.as_slice()),
+        msgid_crc: jam_crc(msgid.as_slice()),
         reply_crc: crc_of_id(replyid),
         reply_to: parent_with(&state.slots, state.base, number, replyid, draft.reply_to),
         reply_first: 0,
@@ -233,7 +180,7 @@ fn message_of(
         written: moment,
         received: 0,
         processed: 0,
-        attribute: attribute_of(rules, draft.private),
+        attribute: posted_attribute(rules, draft.private),
         attribute2: 0,
         password: u32::MAX,
         cost: 0,

@@ -1,5 +1,6 @@
 pub mod Answers
 pub mod Applying
+pub mod Changes
 pub mod Laws
 pub mod OnTheWay
 pub mod Reading

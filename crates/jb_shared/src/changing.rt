@@ -49,6 +49,7 @@ pub(crate) fn change_of<D: Disk>(
     let op = Op::of(
         alloc,
         area.loaded(),
+        area.replies(),
         area.rules(),
         user,
         moment,

@@ -16,7 +16,7 @@ use Rattle.jb_model.specs.declared.loaded.LoadedMessage.{LoadedMessage}
 use Rattle.jb_model.specs.declared.loaded.LoadedSlot.{LoadedSlot}
 use Rattle.jb_model.specs.declared.loaded.LoadedSlot.TheVariants.{Empty, Killed, Live}
 use Rattle.jb_model.specs.declared.message.Head.{Head}
-use Rattle.jb_replies.proofs.LawLemmas.{stays_under_heads}
+use Rattle.jb_link.proofs.LawLemmas.{stays_under_heads}
 use Rattle.jb_step.specs.Neighbour.{HasNeighbour, IsRelinkOf, neighbour_at}
 use Rattle.jb_step.specs.Seen.{IsNamed, with_head, with_text}
 use Rattle.jb_step.specs.declared.neighbours.Neighbour.{Neighbour}

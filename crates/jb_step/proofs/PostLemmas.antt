@@ -1,6 +1,6 @@
 -- The ways through a post.
 use Rattle.std.proofs.Common.{◌≡◌, inr, ℕ, ◌+◌, ◌<◌, ◌≤◌, Bool, true, false, cond, not, ◌&&◌, ◌==◌, nat_le, nat_lt, ltb-false, leb-false, List, [], ◌++◌, length, Option, Some, None, refl, sym, ◌∙◌, ap, subst, arith, length-set}
-use Rattle.std.specs.Prelude.{is_none, option_and_then}
+use Rattle.std.specs.Prelude.{is_none}
 use Rattle.std.specs.Option.{option_map}
 use Rattle.std.proofs.lemmas.List.{length-map}
 use Rattle.jb_base.specs.Access.{first_refusal}
@@ -11,15 +11,12 @@ use Rattle.jb_base.specs.declared.area.AreaRules.{AreaRules}
 use Rattle.jb_base.specs.declared.limits.TheConstants.{HEADERS_CEILING, LAST_POSTED_NUMBER, MOST_ADDRESS_BYTES, MOST_NAME_BYTES, TEXTS_CEILING}
 use Rattle.jb_base.specs.declared.subfield.Subfield.{Subfield}
 use Rattle.jb_base.specs.declared.user.User.{User}
-use Rattle.jb_link.specs.Plan.{loaded_at}
-use Rattle.jb_link.specs.Slots.{linkables}
-use Rattle.jb_link.proofs.LiveLemmas.{linkables_with_texts}
+use Rattle.jb_link.proofs.CopiedLemmas.{copied_of_state, parent_of_state}
 use Rattle.jb_model.proofs.RangeLaws.{fit_draft, none_of, posted_in_range}
 use Rattle.jb_model.specs.Answered.{Answered, counted, unless_refused}
-use Rattle.jb_model.specs.Links.{parent_for}
 use Rattle.jb_model.specs.Loaded.{header_size, with_message_behind}
-use Rattle.jb_model.specs.Message.{header_length, msgid_of}
-use Rattle.jb_model.specs.Post.{Draft, answer_refusal, draft_refusal, if_copied, post_done, post_step, posted_message, posted_msgid, posted_parent, posted_replyid, room_refusal, told_length}
+use Rattle.jb_model.specs.Message.{header_length}
+use Rattle.jb_model.specs.Post.{Draft, answer_refusal, draft_refusal, post_done, post_step, posted_message, posted_msgid, posted_parent, posted_replyid, room_refusal, told_length}
 use Rattle.jb_model.specs.Sound.{IsSound}
 use Rattle.jb_model.specs.Standing.{is_refusal}
 use Rattle.jb_model.specs.State.{AreaState, IsMessageInRange, LiveMessage, next_number, slot_state, state_of}
@@ -29,7 +26,8 @@ use Rattle.jb_model.specs.declared.message.Head.{Head}
 use Rattle.jb_model.specs.declared.reply.Reply.{Reply}
 use Rattle.jb_model.specs.declared.reply.Reply.TheVariants.{HeadersFull, NoMessage, NumbersSpent, Posted, SlotsFull, TextFull}
 use Rattle.jb_step.specs.After.{after_post, live_messages, next_counter}
-use Rattle.jb_step.specs.Draft.{copied_msgid, fields_with, head_with, new_fields, new_message, next_of, parent_behind, post_of}
+use Rattle.jb_link.specs.Parents.{copied_msgid, parent_behind}
+use Rattle.jb_step.specs.Draft.{fields_with, head_with, new_fields, new_message, next_of, post_of}
 use Rattle.jb_step.specs.Neighbour.{HasNeighbour, IsLinkedBy, spliced_state}
 use Rattle.jb_step.specs.Refusal.{IsRefusal}
 use Rattle.jb_step.specs.Post.{HasPlace}
@@ -39,30 +37,11 @@ use Rattle.jb_step.specs.declared.neighbours.Neighbour.{Neighbour}
 use Rattle.jb_step.proofs.BehindLemmas.{grown, live_behind, sound_behind, state_behind}
 use Rattle.jb_step.proofs.CountLemmas.{counted_state}
 use Rattle.jb_step.proofs.SoundLemmas.{sound_counted}
-use Rattle.jb_step.proofs.StateLemmas.{accepted_way, allowed_way, answer, message_at_loaded, refused_way, visible_at_loaded}
+use Rattle.jb_step.proofs.StateLemmas.{accepted_way, allowed_way, answer, refused_way, visible_at_loaded}
 
 -- the next number
 next_of_state : (texts : List ℕ) (loaded : Loaded) → next_number (state_of texts loaded) ≡ next_of loaded
 next_of_state texts loaded = ap (λ n. loaded.base + n) (length-map loaded.slots (slot_state texts))
-
--- the id that is copied
-copied_of_state : (texts : List ℕ) (loaded : Loaded) (number : ℕ) → posted_replyid (state_of texts loaded) number ≡ copied_msgid loaded number
-copied_of_state texts loaded number =
-    ap (λ o. option_and_then if_copied (option_and_then (λ (m : LiveMessage). msgid_of m.subfields) o)) (message_at_loaded texts loaded number)
-    ∙ by_found (loaded_at loaded number)
-  where
-    by_found : (found : Option LoadedMessage)
-        → option_and_then if_copied (option_and_then (λ (m : LiveMessage). msgid_of m.subfields) (option_map (with_text texts) found))
-        ≡ option_and_then if_copied (option_and_then (λ (m : LoadedMessage). msgid_of m.subfields) found)
-    by_found None = refl
-    by_found (Some message) = refl
-
--- the parent
-parent_of_state : (texts : List ℕ) (loaded : Loaded) (number : ℕ) → posted_parent (state_of texts loaded) number ≡ parent_behind loaded number
-parent_of_state texts loaded number =
-    ap (λ live. parent_for live (next_number (state_of texts loaded)) (posted_replyid (state_of texts loaded) number) number) (linkables_with_texts texts loaded.base loaded.slots)
-    ∙ ap (λ n. parent_for (linkables [] loaded) n (posted_replyid (state_of texts loaded) number) number) (next_of_state texts loaded)
-    ∙ ap (λ r. parent_for (linkables [] loaded) (next_of loaded) r number) (copied_of_state texts loaded number)
 
 -- a message with these ids, this number and this parent
 abbrev message_with : AreaRules → User → ℕ → Draft → ℕ → Option (List ℕ) → ℕ → LiveMessage

@@ -22,8 +22,8 @@ use Rattle.jb_model.specs.declared.loaded.LoadedMessage.{LoadedMessage}
 use Rattle.jb_model.specs.declared.loaded.LoadedSlot.{LoadedSlot}
 use Rattle.jb_model.specs.declared.loaded.LoadedSlot.TheVariants.{Empty, Killed, Live}
 use Rattle.jb_model.specs.declared.reply.Reply.TheVariants.{Relinked}
-use Rattle.jb_replies.specs.Index.{IsIndexOf, ReplyIndex}
-use Rattle.jb_replies.proofs.LawLemmas.{rests_on_slots, stays_under_relink}
+use Rattle.jb_link.specs.Index.{IsIndexOf, ReplyIndex}
+use Rattle.jb_link.proofs.LawLemmas.{rests_on_slots, stays_under_relink}
 use Rattle.jb_step.specs.After.{live_messages, next_counter}
 use Rattle.jb_step.specs.Relink.{IsPlaced, after_relink, linked_head, with_links_in, with_links_of}
 use Rattle.jb_step.specs.Seen.{with_head, with_text}

@@ -1,15 +1,12 @@
 -- What a user wrote, and what of it stands in the new message.
-use Rattle.std.specs.Prelude.{ℕ, ◌+◌, List, [], ◌∷◌, ◌++◌, Option, option_and_then, option_to_list, length, map}
+use Rattle.std.specs.Prelude.{ℕ, ◌+◌, List, [], ◌∷◌, ◌++◌, Option, option_to_list, length, map}
 use Rattle.jb_base.specs.Crc.{jam_crc_of}
 use Rattle.jb_base.specs.declared.area.AreaRules.{AreaRules}
 use Rattle.jb_base.specs.declared.subfield.Subfield.{Subfield}
 use Rattle.jb_base.specs.declared.subfield.TheConstants.{SENDER_NAME, RECEIVER_NAME, MSGID, REPLYID, SUBJECT}
 use Rattle.jb_base.specs.declared.user.User.{User}
-use Rattle.jb_link.specs.Plan.{loaded_at}
-use Rattle.jb_link.specs.Slots.{linkables}
-use Rattle.jb_model.specs.Links.{parent_for}
-use Rattle.jb_model.specs.Message.{msgid_of}
-use Rattle.jb_model.specs.Post.{Draft, id_crc, if_copied, plain_field, posted_attribute, posted_msgid}
+use Rattle.jb_link.specs.Parents.{copied_msgid, parent_behind}
+use Rattle.jb_model.specs.Post.{Draft, id_crc, plain_field, posted_attribute, posted_msgid}
 use Rattle.jb_model.specs.declared.command.Command.{Command}
 use Rattle.jb_model.specs.declared.command.Command.TheVariants.{Post}
 use Rattle.jb_model.specs.declared.loaded.Loaded.{Loaded}
@@ -28,14 +25,6 @@ post_of draft = Post draft.to draft.subject draft.text draft.reply_to draft.priv
 -- the number that the next message gets
 abbrev pub next_of : Loaded → ℕ
 next_of loaded = loaded.base + length loaded.slots
-
--- the MSGID of the message that a number names, where that has one that is copied into an answer
-abbrev pub copied_msgid : Loaded → ℕ → Option (List ℕ)
-copied_msgid loaded number = option_and_then if_copied (option_and_then (λ answered. msgid_of answered.subfields) (loaded_at loaded number))
-
--- the parent of a message behind all others that answers this number
-abbrev pub parent_behind : Loaded → ℕ → ℕ
-parent_behind loaded number = parent_for (linkables [] loaded) (next_of loaded) (copied_msgid loaded number) number
 
 -- the subfields of a message with these ids
 abbrev pub fields_with : User → Draft → List ℕ → Option (List ℕ) → List Subfield

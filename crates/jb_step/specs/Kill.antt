@@ -10,8 +10,8 @@ use Rattle.jb_model.specs.declared.command.Command.TheVariants.{Kill}
 use Rattle.jb_model.specs.declared.loaded.Loaded.{Loaded}
 use Rattle.jb_model.specs.declared.loaded.LoadedMessage.{LoadedMessage}
 use Rattle.jb_model.specs.declared.reply.Reply.TheVariants.{Killed}
-use Rattle.jb_replies.specs.Index.{IsIndexOf, ReplyIndex}
-use Rattle.jb_replies.specs.Laws.{IsIndexAfterKill}
+use Rattle.jb_link.specs.Index.{IsIndexOf, ReplyIndex}
+use Rattle.jb_link.specs.IndexLaws.{IsIndexAfterKill}
 use Rattle.jb_step.specs.After.{after_kill, live_messages}
 use Rattle.jb_step.specs.Seen.{IsNamed}
 use Rattle.jb_step.specs.declared.kills.Killing.{Killing}

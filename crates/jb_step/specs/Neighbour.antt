@@ -8,7 +8,7 @@ use Rattle.jb_model.specs.State.{AreaState, state_of}
 use Rattle.jb_model.specs.declared.loaded.Loaded.{Loaded}
 use Rattle.jb_model.specs.declared.loaded.LoadedMessage.{LoadedMessage}
 use Rattle.jb_model.specs.declared.message.Head.{Head}
-use Rattle.jb_replies.specs.Index.{IsIndexOf, ReplyIndex}
+use Rattle.jb_link.specs.Index.{IsIndexOf, ReplyIndex}
 use Rattle.jb_step.specs.After.{live_messages}
 use Rattle.jb_step.specs.declared.neighbours.Neighbour.{Neighbour}
 

@@ -11,7 +11,7 @@ use Rattle.jb_model.specs.Step.{Step}
 use Rattle.jb_model.specs.declared.loaded.Loaded.{Loaded}
 use Rattle.jb_model.specs.declared.reply.Reply.TheVariants.{Posted}
 use Rattle.jb_step.specs.After.{after_post, live_messages}
-use Rattle.jb_replies.specs.Index.{IsIndexOf, ReplyIndex}
+use Rattle.jb_link.specs.Index.{IsIndexOf, ReplyIndex}
 use Rattle.jb_step.specs.Draft.{next_of, post_of}
 use Rattle.jb_step.specs.Neighbour.{IsLinkedBy}
 use Rattle.jb_step.specs.declared.posts.Posting.{Posting}

@@ -14,7 +14,7 @@ use Rattle.jb_model.specs.declared.command.Command.TheVariants.{Peek, Read}
 use Rattle.jb_model.specs.declared.loaded.Loaded.{Loaded}
 use Rattle.jb_model.specs.declared.loaded.LoadedMessage.{LoadedMessage}
 use Rattle.jb_model.specs.declared.reply.Reply.TheVariants.{Text}
-use Rattle.jb_replies.specs.Index.{IsIndexOf, ReplyIndex}
+use Rattle.jb_link.specs.Index.{IsIndexOf, ReplyIndex}
 use Rattle.jb_step.specs.After.{after_reading, live_messages}
 use Rattle.jb_step.specs.Seen.{IsNamed, with_head, with_text}
 use Rattle.jb_step.specs.declared.reads.Reading.{Reading}

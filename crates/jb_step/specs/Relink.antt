@@ -13,7 +13,7 @@ use Rattle.jb_model.specs.declared.loaded.Loaded.{Loaded}
 use Rattle.jb_model.specs.declared.loaded.LoadedMessage.{LoadedMessage}
 use Rattle.jb_model.specs.declared.message.Head.{Head}
 use Rattle.jb_model.specs.declared.reply.Reply.TheVariants.{Relinked}
-use Rattle.jb_replies.specs.Index.{IsIndexOf, ReplyIndex}
+use Rattle.jb_link.specs.Index.{IsIndexOf, ReplyIndex}
 use Rattle.jb_step.specs.After.{live_messages, next_counter}
 use Rattle.jb_step.specs.declared.relinks.Relinking.{Relinking}
 

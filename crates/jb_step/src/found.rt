@@ -8,7 +8,8 @@ ghost use Rattle.jb_step.specs.declared.found.Found.{Found};
 use crate::denial::parties;
 use jb_access::{Action, allowed};
 use jb_base::{AreaRules, User};
-use jb_model::{Loaded, LoadedMessage, LoadedSlot};
+use jb_link::message_at;
+use jb_model::{Loaded, LoadedMessage};
 
 /// A live message, and the place of its slot.
 #[derive(Clone, Copy)]
@@ -32,19 +33,14 @@ fn is_seen(rules: &AreaRules, user: &User, message: &LoadedMessage) -> bool
     allowed(user, rules, Action::List, Some(parties(message))).is_ok()
 }
 
-/// The live message that a number names.
-pub(crate) fn message_at(loaded: &Loaded, number: u32) -> Option<Found<'_>>
+/// The live message that a number names, with its place.
+pub(crate) fn found_at(loaded: &Loaded, number: u32) -> Option<Found<'_>>
     ensures named { option_map (λ (found : Found). found.message.now) result ≡ loaded_at loaded.now number }
     ensures placed { IfSome result (λ found. IsNamed loaded.now number found.place found.message.now) }
 {
-    if number < loaded.base {
-        return None;
-    }
+    let message = message_at(loaded, number)?;
     let place = (number - loaded.base) as usize;
-    match loaded.slots.as_slice().get(place) {
-        Some(LoadedSlot::Live(message)) => Some(Found { place, message }),
-        _ => None,
-    }
+    Some(Found { place, message })
 }
 
 /// The live message that a number names, where the user sees it.
@@ -57,7 +53,7 @@ pub(crate) fn seen_at<'a>(
     ensures named { option_map (λ (found : Found). found.message.now) result ≡ seen_at rules.now user.now loaded.now number }
     ensures placed { IfSome result (λ found. IsNamed loaded.now number found.place found.message.now) }
 {
-    let found = message_at(loaded, number)?;
+    let found = found_at(loaded, number)?;
     if is_seen(rules, user, found.message) {
         Some(found)
     } else {

@@ -1,13 +1,12 @@
 //! The one other message whose header a post changes.
 ghost use Rattle.std.specs.Prelude.{◌≡◌, ◌⊎◌, ◌+◌, ◌≤◌, length};
 ghost use Rattle.jb_link.specs.Slots.{IsLive};
-ghost use Rattle.jb_replies.specs.Index.{IsIndexOf};
+ghost use Rattle.jb_link.specs.Index.{IsIndexOf};
 ghost use Rattle.jb_step.specs.Neighbour.{HasNeighbour, first_reply_head, neighbour_at, next_reply_head};
 
-use crate::found::message_at;
-use jb_link::Spliced;
+use crate::found::found_at;
+use jb_link::{Replies, Spliced};
 use jb_model::{Head, Loaded};
-use jb_replies::Replies;
 
 /// The message at this place has these fields in its header from now on: the new message is its first reply, or the next
 /// reply behind it.
@@ -21,7 +20,7 @@ pub struct Neighbour {
 fn named_first(loaded: &Loaded, of: u32, number: u32) -> Option<Neighbour>
     ensures { result ≡ neighbour_at loaded.now of (first_reply_head number) }
 {
-    let found = message_at(loaded, of)?;
+    let found = found_at(loaded, of)?;
     let head = Head {
         reply_first: number,
         ..found.message.head
@@ -36,7 +35,7 @@ fn named_first(loaded: &Loaded, of: u32, number: u32) -> Option<Neighbour>
 fn named_next(loaded: &Loaded, of: u32, number: u32) -> Option<Neighbour>
     ensures { result ≡ neighbour_at loaded.now of (next_reply_head number) }
 {
-    let found = message_at(loaded, of)?;
+    let found = found_at(loaded, of)?;
     let head = Head {
         reply_next: number,
         ..found.message.head

@@ -4,8 +4,8 @@ ghost use Rattle.std.specs.Borrow.{Bor};
 ghost use Rattle.jb_base.specs.Subfields.{subfield_bytes};
 ghost use Rattle.jb_base.specs.declared.limits.TheConstants.{MOST_ADDRESS_BYTES, MOST_NAME_BYTES, MOST_POSTED_TEXT_BYTES};
 ghost use Rattle.jb_link.specs.Slots.{IsLive};
-ghost use Rattle.jb_model.specs.Post.{id_crc, posted_attribute};
-ghost use Rattle.jb_replies.specs.Index.{IsIndexOf};
+ghost use Rattle.jb_model.specs.Post.{id_crc};
+ghost use Rattle.jb_link.specs.Index.{IsIndexOf};
 ghost use Rattle.jb_step.specs.Draft.{draft_of, head_with, new_message, next_of, post_of};
 ghost use Rattle.jb_step.specs.Post.{IsPosting};
 ghost use Rattle.jb_step.specs.Refusal.{IsRefusal};
@@ -13,18 +13,17 @@ ghost use Rattle.jb_step.specs.Room.{file_refusal, new_refusal, number_refusal, 
 
 use crate::denial::denied;
 use crate::drafts::unfit;
-use crate::fields::{msgid_of, replyid_of, subfields_of};
+use crate::fields::subfields_of;
 use crate::found::{next_number, seen_at};
 use crate::neighbours::neighbour_of;
 use crate::{Draft, Neighbour};
 use jb_access::Action;
 use jb_base::{
-    AreaRules, HEADERS_CEILING, Kind, LAST_POSTED_NUMBER, LOCAL, OutOfMemory, PRIVATE, Subfields,
-    TEXTS_CEILING, TYPEECHO, TYPELOCAL, User,
+    AreaRules, HEADERS_CEILING, LAST_POSTED_NUMBER, OutOfMemory, Subfields, TEXTS_CEILING, User,
 };
 use jb_crc::jam_crc;
-use jb_model::{Head, Loaded, LoadedMessage, Reply};
-use jb_replies::Replies;
+use jb_link::{Replies, copied_msgid};
+use jb_model::{Head, Loaded, LoadedMessage, Reply, posted_attribute, posted_msgid};
 use jb_subfield::headed_length;
 use std::alloc::Global;
 
@@ -82,17 +81,6 @@ fn no_room(loaded: &Loaded, subfields: &Subfields, text: &[u8]) -> Option<Reply>
     }
 }
 
-/// The attributes of the message that is posted.
-fn attribute_of(rules: &AreaRules, private: bool) -> u32
-    ensures { result ≡ posted_attribute rules.now private }
-{
-    let kind = match rules.kind {
-        Kind::Local => TYPELOCAL,
-        Kind::Echo => TYPEECHO,
-    };
-    LOCAL + kind + if private { PRIVATE } else { 0 }
-}
-
 /// The CRC of an id, all bits set where there is none.
 fn crc_of_id(id: Option<&[u8]>) -> u32
     ensures { result ≡ id_crc (option_map (λ (b : Bor _). b.now) id.entry) }
@@ -125,7 +113,7 @@ fn head_of(
         written: moment,
         received: 0,
         processed: 0,
-        attribute: attribute_of(rules, draft.private),
+        attribute: posted_attribute(rules, draft.private),
         attribute2: 0,
         password: u32::MAX,
         cost: 0,
@@ -151,8 +139,8 @@ fn message_of(
     ensures live { IfOk result (λ made. IfOk made (λ message. (message.head.reply_to ≡ 0) ⊎ IsLive loaded.now message.head.reply_to)) }
 {
     let number = next_number(loaded);
-    let msgid = msgid_of(alloc, rules, number)?;
-    let replyid = replyid_of(loaded, draft.reply_to);
+    let msgid = posted_msgid(alloc, rules, number)?;
+    let replyid = copied_msgid(loaded, draft.reply_to);
     let subfields = subfields_of(alloc, user, draft, msgid.as_slice(), replyid)?;
     if let Some(reply) = no_room(loaded, &subfields, draft.text) {
         return Ok(Err(reply));

@@ -1,4 +1,5 @@
 pub mod DateLemmas
+pub mod DigitLemmas
 mod Growing
 pub mod LetterLemmas
 mod Rows

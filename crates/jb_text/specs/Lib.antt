@@ -1,4 +1,5 @@
 pub mod Date
+pub mod Digits
 pub mod Faults
 pub mod Fixed
 pub mod Letter

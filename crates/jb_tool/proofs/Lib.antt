@@ -6,3 +6,7 @@ pub mod Recovering
 mod TendLemmas
 mod MakingLemmas
 mod NewBaseLemmas
+mod LoadBaseLemmas
+mod LoadEndLemmas
+mod LoadRunLemmas
+mod LoadUnreadLemmas

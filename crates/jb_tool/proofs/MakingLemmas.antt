@@ -13,7 +13,8 @@ use Rattle.jb_disk.specs.Gate.{IsGateOpen}
 use Rattle.jb_disk.specs.Images.{Images}
 use Rattle.jb_disk.specs.Runs.{IsAllSynced, LeavesNow, LeavesOnly, Shows}
 use Rattle.jb_disk.specs.declared.file.FileId.TheVariants.{Jhr, Jdt, Jdx, Jlr, Jnl, Ndt}
-use Rattle.jb_journal.specs.Commit.{IsBeforeOrAfter, IsReady, changed, committed}
+use Rattle.jb_journal.specs.Commit.{IsBeforeOrAfter, IsReady, committed}
+use Rattle.jb_redo.specs.Changes.{changed}
 use Rattle.jb_journal.specs.Doubt.{IsSettledAt}
 use Rattle.jb_journal.specs.Prepare.{IsPrepared, IsPreparing}
 use Rattle.jb_journal.specs.Recover.{JournalFaultRose, IsGrowthSafe, IsRefusedOver, ReplaysAsAtStart}

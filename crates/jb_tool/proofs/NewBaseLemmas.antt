@@ -7,7 +7,8 @@ use Rattle.jb_disk.specs.Change.{Change}
 use Rattle.jb_disk.specs.Files.{Files, number_of}
 use Rattle.jb_disk.specs.declared.file.FileId.{FileId}
 use Rattle.jb_disk.specs.declared.file.FileId.TheVariants.{Jhr, Jdt, Jdx, Jlr, Jnl}
-use Rattle.jb_journal.specs.Commit.{AgreeButJournal, IsReady, IsWritable}
+use Rattle.jb_journal.specs.Commit.{AgreeButJournal, IsReady}
+use Rattle.jb_redo.specs.Changes.{IsWritable}
 
 -- a file of a base is not the journal
 no_journal : (file : FileId) → number_of file < 4 → file ≢ Jnl

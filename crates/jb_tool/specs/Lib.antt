@@ -6,3 +6,7 @@ pub mod Making
 pub mod Outcome
 pub mod Recovered
 pub mod Tending
+pub mod LoadBase
+pub mod LoadRuns
+pub mod LoadSummary
+pub mod Workload

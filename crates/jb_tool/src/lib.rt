@@ -5,20 +5,33 @@
 //! it says. [`list`] and [`check`] leave the one that was there, and write nothing more. [`relink`] and [`pack`] have a command
 //! done, as the sysop, and print its reply. Each takes the disk and hands it back. A crash at any moment leaves what opens as
 //! before the call, or to the area that the tool leaves.
+//!
+//! The workload of `load` is a stated list of commands of one user over an empty base (`load_run`), each done through the
+//! journal, and eleven lines about the last area of that run and the replies that were counted, which are read off the area as it
+//! is then. [`load`] runs it on a disk that it is handed, [`load_in_memory`] on one of its own.
 #![tactic(auto)]
 
+mod asking;
 mod checking;
 mod counting;
+mod counts;
 mod error;
 mod listing;
+mod load_base;
+mod load_counting;
+mod loading;
 mod making;
 mod reading;
+mod running;
+mod summary;
 mod tending;
 mod tool;
+mod workload;
 
 pub use checking::check;
 pub use error::ToolError;
 pub use listing::list;
+pub use loading::{load, load_in_memory};
 pub use making::make;
 pub use tending::{pack, relink};
 pub use tool::{Tool, run};

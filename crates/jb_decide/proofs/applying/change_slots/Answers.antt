@@ -4,7 +4,7 @@ use Rattle.jb_decide.specs.Pending.{changed_by}
 use Rattle.jb_decide.specs.declared.pending.SlotChange.{SlotChange}
 use Rattle.jb_model.specs.declared.loaded.Loaded.{Loaded}
 use Rattle.jb_model.specs.declared.loaded.LoadedSlot.TheVariants.{Live}
-use Rattle.jb_replies.specs.Index.{IsIndexOf}
+use Rattle.jb_link.specs.Index.{IsIndexOf}
 use Rattle.jb_decide.proofs.IndexLemmas.{headed_index, killed_index, linked_index}
 use Rattle.jb_decide.proofs.applying.change_slots.Goals as goal
 

@@ -9,7 +9,7 @@ use Rattle.jb_model.specs.declared.reply.Reply.TheVariants.{TextFull}
 use Rattle.jb_pack.specs.Finish.{FinishesPack}
 use Rattle.jb_pack.specs.Plan.{AnswersPack}
 use Rattle.jb_pack.specs.declared.packing.Packing.{Packing}
-use Rattle.jb_replies.specs.Index.{IsIndexOf}
+use Rattle.jb_link.specs.Index.{IsIndexOf}
 use Rattle.jb_decide.proofs.CopiesLemmas.{with_copies}
 use Rattle.jb_decide.proofs.DecidedLemmas.{not_packed, unchanged_decided}
 use Rattle.jb_decide.proofs.PackLemmas.{base_answered, full_step, not_full, pack_decided, packed_some}

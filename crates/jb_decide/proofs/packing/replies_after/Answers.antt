@@ -6,7 +6,7 @@ use Rattle.jb_model.specs.declared.loaded.Loaded.{Loaded}
 use Rattle.jb_pack.proofs.HeldLemmas.{length-packed}
 use Rattle.jb_pack.proofs.PlanLemmas.{base_within}
 use Rattle.jb_pack.specs.Packed.{kept_slots, new_base, packed}
-use Rattle.jb_replies.specs.Index.{HasSameLists, IsIndexOf, ReplyIndex}
+use Rattle.jb_link.specs.Index.{HasSameLists, IsIndexOf, ReplyIndex}
 use Rattle.jb_decide.proofs.IndexLemmas.{same_lists}
 use Rattle.jb_decide.proofs.PackIndexLemmas.{packed_index}
 use Rattle.jb_decide.proofs.packing.replies_after.Goals as goal

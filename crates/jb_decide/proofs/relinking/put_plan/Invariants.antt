@@ -1,6 +1,6 @@
 use Rattle.std.proofs.Common.{◌≡◌, ◌≤◌, ◌+◌, ◌*◌, [], take}
-use Rattle.jb_change.specs.Changing.{KeepsRoom}
-use Rattle.jb_change.specs.Makes.{record_size}
+use Rattle.jb_redo.specs.Changes.{KeepsRoom}
+use Rattle.jb_redo.specs.Changes.{record_size}
 use Rattle.jb_decide.specs.Headers.{Updates}
 use Rattle.jb_disk.specs.Change.{Spends}
 use Rattle.jb_step.specs.Relink.{with_links_of}

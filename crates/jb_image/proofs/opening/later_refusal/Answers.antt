@@ -1,5 +1,5 @@
 use Rattle.std.proofs.Common.{List, AllPairs, map, subst}
-use Rattle.jb_extent.specs.Extents.{AreDisjoint}
+use Rattle.jb_image.specs.Extents.{AreDisjoint}
 use Rattle.jb_image.specs.declared.seen.SeenSlot.{SeenSlot}
 use Rattle.jb_image.specs.Reading.{extent_seen}
 use Rattle.jb_image.proofs.Refusals.{if_none_given}

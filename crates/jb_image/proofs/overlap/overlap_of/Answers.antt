@@ -1,6 +1,6 @@
 use Rattle.std.proofs.Common.{List, IfOk, IfNone, AllPairs, ◌∙◌, subst}
-use Rattle.jb_extent.specs.declared.extent.Extent.{Extent}
-use Rattle.jb_extent.specs.Extents.{AreDisjoint}
+use Rattle.jb_image.specs.declared.extent.Extent.{Extent}
+use Rattle.jb_image.specs.Extents.{AreDisjoint}
 use Rattle.jb_image.proofs.overlap.overlap_of.Goals as goal
 
 pub returns-clause-none : goal.returns-clause-none

@@ -1,6 +1,7 @@
 use Rattle.std.proofs.Common.{inr}
 use Rattle.jb_disk.proofs.RunLemmas.{runs-then, runs-weaken, stays_silent}
-use Rattle.jb_journal.specs.Commit.{IsBeforeOrAfter, ReplaysTo, changed}
+use Rattle.jb_journal.specs.Commit.{IsBeforeOrAfter, ReplaysTo}
+use Rattle.jb_redo.specs.Changes.{changed}
 use Rattle.jb_journal.specs.Stages.{opened}
 use Rattle.jb_journal.proofs.ReadyLemmas.{opened_is, from_opened}
 use Rattle.jb_journal.proofs.OpeningLemmas.{where_told, told_claim, opens_then}

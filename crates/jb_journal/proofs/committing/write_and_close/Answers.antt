@@ -4,7 +4,8 @@ use Rattle.jb_disk.specs.declared.file.FileId.TheVariants.{Jnl}
 use Rattle.jb_disk.specs.Files.{Files, written}
 use Rattle.jb_disk.specs.Runs.{Shows}
 use Rattle.jb_disk.proofs.RunLemmas.{runs-then, runs-weaken, stays_silent}
-use Rattle.jb_journal.specs.Commit.{ReplaysTo, changed}
+use Rattle.jb_journal.specs.Commit.{ReplaysTo}
+use Rattle.jb_redo.specs.Changes.{changed}
 use Rattle.jb_journal.specs.Stages.{IsGoing, IsClosing}
 use Rattle.jb_journal.proofs.ComingLemmas.{syncs_closed}
 use Rattle.jb_journal.proofs.Told.{on_ok, on_ok_both, option_map-twice}

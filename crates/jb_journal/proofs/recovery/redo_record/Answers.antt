@@ -4,7 +4,8 @@ use Rattle.jb_disk.proofs.RunLemmas.{runs-then, runs-weaken, keeps-then, stays_s
 use Rattle.jb_redo.specs.OnTheWay.{IsOnTheWay}
 use Rattle.jb_redo.specs.Replay.{Replays}
 use Rattle.jb_redo.proofs.WayLemmas.{way_start, replays_to_applied}
-use Rattle.jb_journal.specs.Commit.{ReplaysTo, changed}
+use Rattle.jb_journal.specs.Commit.{ReplaysTo}
+use Rattle.jb_redo.specs.Changes.{changed}
 use Rattle.jb_journal.specs.Recover.{ReplaysAs}
 use Rattle.jb_journal.specs.Stages.{closed}
 use Rattle.jb_journal.proofs.WriteAndClose.{closing_run}

@@ -7,7 +7,7 @@ use Rattle.jb_model.specs.declared.loaded.LoadedMessage.{LoadedMessage}
 use Rattle.jb_model.specs.declared.loaded.LoadedSlot.{LoadedSlot}
 use Rattle.jb_model.specs.declared.loaded.LoadedSlot.TheVariants.{Live}
 use Rattle.jb_pack.proofs.SlotLemmas.{IsPut, all_put, from_place, links_are, put_live, put_no_message, put_none, has_place, keeps_then}
-use Rattle.jb_change.specs.Records.{IsHeaderReadAgain, message_bytes}
+use Rattle.jb_image.specs.Records.{IsHeaderReadAgain, message_bytes}
 use Rattle.jb_pack.specs.Laid.{Lays}
 use Rattle.jb_pack.specs.Packed.{moved, texts_size}
 use Rattle.jb_pack.specs.declared.place.Place.{Place}

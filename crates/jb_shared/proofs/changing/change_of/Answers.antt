@@ -2,6 +2,7 @@ use Rattle.std.proofs.Common.{subst, sym, ◌∙◌}
 use Rattle.jb_area.specs.Area.{loaded_of}
 use Rattle.jb_base.specs.declared.area.AreaRules.{AreaRules}
 use Rattle.jb_index.specs.Change.{FollowsStep, IsAnswer}
+use Rattle.jb_link.specs.Index.{IsIndexOf}
 use Rattle.jb_model.specs.Sound.{IsSound}
 use Rattle.jb_model.specs.declared.loaded.Loaded.{Loaded}
 use Rattle.jb_shared.proofs.ChangingLemmas.{answered_for, begun_sound, followed_by, letter_followed}
@@ -20,6 +21,7 @@ of-requires g c =
     record {
       sound = subst (λ (l : Loaded). IsSound c.rules.result.now.slots l) (sym c.loaded.ensures)
           (subst (λ (r : AreaRules). IsSound r.slots (loaded_of area)) (sym c.rules.ensures) (begun_sound shown area c.args.user.now c.args.moment c.args.command.now begun));
+      index = subst (λ (l : Loaded). IsIndexOf c.replies.result.now l) (sym c.loaded.ensures) c.replies.ensures;
       name = c.requires.name;
       answered = subst (λ (l : Loaded). IsAnswer c.rules.result.now l c.args.user.now c.args.moment c.args.command.now c.coming-reply.result.now) (sym c.loaded.ensures)
           (subst (λ (r : AreaRules). IsAnswer r (loaded_of area) c.args.user.now c.args.moment c.args.command.now c.coming-reply.result.now) (sym c.rules.ensures)

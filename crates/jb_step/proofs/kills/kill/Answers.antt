@@ -1,7 +1,7 @@
 use Rattle.std.proofs.Common.{refl, sym, subst, ◌∙◌}
 use Rattle.jb_model.specs.Loaded.{with_killed_at}
-use Rattle.jb_replies.proofs.LawLemmas.{rests_on_slots}
-use Rattle.jb_replies.specs.Index.{IsIndexOf}
+use Rattle.jb_link.proofs.LawLemmas.{rests_on_slots}
+use Rattle.jb_link.specs.Index.{IsIndexOf}
 use Rattle.jb_step.specs.After.{after_kill}
 use Rattle.jb_model.specs.declared.loaded.LoadedMessage.{LoadedMessage}
 use Rattle.jb_step.proofs.KillLemmas.{kill_counts, kill_forbidden, kill_keeps_sound, kill_way}

@@ -8,7 +8,8 @@ use Rattle.jb_model.specs.Links.{parent_for}
 use Rattle.jb_model.specs.Post.{Draft, posted_msgid}
 use Rattle.jb_model.specs.declared.loaded.Loaded.{Loaded}
 use Rattle.jb_model.specs.declared.message.Head.{Head}
-use Rattle.jb_step.specs.Draft.{copied_msgid, draft_of, fields_with, head_with, new_fields, new_head, next_of, parent_behind}
+use Rattle.jb_link.specs.Parents.{copied_msgid, parent_behind}
+use Rattle.jb_step.specs.Draft.{draft_of, fields_with, head_with, new_fields, new_head, next_of}
 use Rattle.jb_step.proofs.PostLemmas.{loaded_with}
 use Rattle.jb_step.proofs.posts.message_of.Goals as goal
 
@@ -21,8 +22,8 @@ returns-clause-made c =
     let draft : Draft = draft_of c.args.draft in
     let number : c.next_number-number.result ≡ next_of loaded = c.next_number-number.ensures in
     let id : c.in_ok-msgid.msgid ≡ posted_msgid rules (next_of loaded) = c.in_ok-msgid.ensures ∙ ap (posted_msgid rules) number in
-    let reply : Option (List ℕ) = option_map (λ (b : Bor (List ℕ)). b.now) c.replyid_of-replyid.result in
-    let replied : reply ≡ copied_msgid loaded draft.reply_to = c.replyid_of-replyid.ensures in
+    let reply : Option (List ℕ) = option_map (λ (b : Bor (List ℕ)). b.now) c.copied_msgid-replyid.result in
+    let replied : reply ≡ copied_msgid loaded draft.reply_to = c.copied_msgid-replyid.ensures in
     let above : c.parent-above.result ≡ parent_behind loaded draft.reply_to =
     c.parent-above.ensures.found [] ∙ ap (λ n. parent_for (linkables [] loaded) n reply draft.reply_to) number
     ∙ ap (λ r. parent_for (linkables [] loaded) (next_of loaded) r draft.reply_to) replied in

@@ -2,7 +2,8 @@ use Rattle.std.proofs.Common.{◌≡◌, ℕ, sym, ◌∙◌, ap, subst, refl}
 use Rattle.jb_model.specs.Post.{Draft}
 use Rattle.jb_model.specs.declared.loaded.Loaded.{Loaded}
 use Rattle.jb_model.specs.declared.loaded.LoadedMessage.{LoadedMessage}
-use Rattle.jb_step.specs.Draft.{draft_of, new_message, next_of, parent_behind}
+use Rattle.jb_link.specs.Parents.{parent_behind}
+use Rattle.jb_step.specs.Draft.{draft_of, new_message, next_of}
 use Rattle.jb_step.specs.Neighbour.{HasNeighbour}
 use Rattle.jb_step.specs.Post.{IsPosting}
 use Rattle.jb_step.proofs.PostLemmas.{IsAccepted, post_counts, post_full, post_has_place, post_keeps_sound, post_numberless, post_unseen, post_way}

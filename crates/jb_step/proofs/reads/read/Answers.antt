@@ -3,7 +3,7 @@ use Rattle.jb_model.specs.declared.loaded.LoadedMessage.{LoadedMessage}
 use Rattle.jb_model.specs.Loaded.{with_head_at}
 use Rattle.jb_model.specs.declared.message.Head.{Head}
 use Rattle.jb_step.specs.After.{after_reading}
-use Rattle.jb_replies.proofs.LawLemmas.{rests_on_slots, stays_under_heads}
+use Rattle.jb_link.proofs.LawLemmas.{rests_on_slots, stays_under_heads}
 use Rattle.jb_step.proofs.ReadLemmas.{live_read, reading_keeps_parent, read_keeps_sound, read_way}
 use Rattle.jb_step.proofs.reads.read.Goals as goal
 

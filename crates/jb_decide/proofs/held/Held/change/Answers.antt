@@ -3,8 +3,8 @@ use Rattle.jb_marks.specs.Order.{IsOrdered}
 use Rattle.jb_model.specs.Loaded.{with_counts}
 use Rattle.jb_model.specs.declared.loaded.Loaded.{Loaded}
 use Rattle.jb_model.specs.declared.mark.Mark.{Mark}
-use Rattle.jb_replies.proofs.LawLemmas.{rests_on_slots}
-use Rattle.jb_replies.specs.Index.{IsIndexOf}
+use Rattle.jb_link.proofs.LawLemmas.{rests_on_slots}
+use Rattle.jb_link.specs.Index.{IsIndexOf}
 use Rattle.jb_step.specs.After.{live_messages}
 use Rattle.jb_decide.proofs.RelinkLemmas.{marks_kept}
 use Rattle.jb_decide.specs.Pending.{changed_by}

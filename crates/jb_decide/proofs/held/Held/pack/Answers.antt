@@ -2,7 +2,7 @@ use Rattle.std.proofs.Common.{◌≡◌, ◌+◌, length, ap, sym, subst, ◌∙
 use Rattle.jb_marks.specs.Order.{IsOrdered}
 use Rattle.jb_model.specs.declared.loaded.Loaded.{Loaded}
 use Rattle.jb_pack.specs.Packed.{packed}
-use Rattle.jb_replies.specs.Index.{IsIndexOf}
+use Rattle.jb_link.specs.Index.{IsIndexOf}
 use Rattle.jb_step.specs.After.{live_messages}
 use Rattle.jb_decide.proofs.PackLemmas.{live_stays}
 use Rattle.jb_decide.proofs.held.Held.pack.Goals as goal

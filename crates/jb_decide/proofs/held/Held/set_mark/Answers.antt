@@ -1,8 +1,8 @@
 use Rattle.std.proofs.Common.{◌≡◌, ap, length, refl, subst, sym, ◌+◌, ◌∙◌}
 use Rattle.jb_marks.specs.Order.{IsOrdered}
 use Rattle.jb_model.specs.declared.loaded.Loaded.{Loaded}
-use Rattle.jb_replies.proofs.LawLemmas.{rests_on_slots}
-use Rattle.jb_replies.specs.Index.{IsIndexOf}
+use Rattle.jb_link.proofs.LawLemmas.{rests_on_slots}
+use Rattle.jb_link.specs.Index.{IsIndexOf}
 use Rattle.jb_step.specs.After.{live_messages}
 use Rattle.jb_decide.specs.Pending.{after}
 use Rattle.jb_decide.specs.declared.pending.Pending.TheVariants.{Marked}

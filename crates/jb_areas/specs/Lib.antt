@@ -1,5 +1,0 @@
-pub mod Desks
-pub mod Rows
-pub mod Lives
-pub mod Errors
-pub mod All

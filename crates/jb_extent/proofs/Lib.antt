@@ -1,4 +1,0 @@
-pub mod Callers
-pub mod Neighbours
-pub mod Pairs
-pub mod Partners

@@ -1,3 +1,0 @@
-pub mod Extents
-pub mod Laws
-pub mod Search

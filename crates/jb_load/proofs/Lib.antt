@@ -1,4 +1,0 @@
-mod BaseLemmas
-mod EndLemmas
-mod RunLemmas
-mod UnreadLemmas

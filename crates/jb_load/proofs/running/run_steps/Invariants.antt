@@ -1,5 +1,0 @@
-use Rattle.jb_load.proofs.RunLemmas.{HasGone}
-use Rattle.jb_load.proofs.running.run_steps.Given as goal
-
-abbrev pub invariant-loop-done : goal.invariant-loop-done
-invariant-loop-done g l = HasGone g.D.Disk.device l.seed l.count l.done l.initial.area l.area l.initial.counts l.counts

@@ -1,4 +1,0 @@
-pub mod Base
-pub mod Runs
-pub mod Summary
-pub mod Workload

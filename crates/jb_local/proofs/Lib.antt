@@ -1,6 +1,0 @@
-pub mod Alone
-pub mod Keeping
-pub mod Places
-pub mod Passing
-pub mod Refusing
-pub mod Serving

@@ -1,6 +1,0 @@
-use Rattle.std.proofs.Common.{◌+◌}
-use Rattle.jb_replies.specs.Kept.{ArePairsBelow}
-use Rattle.jb_replies.proofs.kept.pairs_of.Given as goal
-
-abbrev pub invariant-loop-place : goal.invariant-loop-place
-invariant-loop-place l = ArePairsBelow l.loaded (l.loaded.base + l.place) l.pairs.items

@@ -1,5 +1,0 @@
-use Rattle.jb_replies.proofs.LawLemmas.{stays_under_heads}
-use Rattle.jb_replies.proofs.laws.stays_under_heads.Goals as goal
-
-pub returns : goal.returns
-returns c = stays_under_heads

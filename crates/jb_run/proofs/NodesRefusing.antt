@@ -1,0 +1,160 @@
+-- What is left of the host where nobody is served.
+use Rattle.std.proofs.Common.{◌≡◌, ◌⊎◌, inl, inr, ℕ, List, length, refl, sym, ap, subst, ◌∙◌}
+use Rattle.std.specs.Prelude.{Option, Some}
+use Rattle.std.specs.Option.{option_map}
+use Rattle.jb_run.proofs.RefuseLemmas.{refuses_none}
+use Rattle.jb_run.specs.All.{OpenAs}
+use Rattle.jb_run.specs.Desks.{HandsOut, with_each, without}
+use Rattle.jb_run.specs.declared.areas_error.AreasError.TheVariants as areas
+use Rattle.jb_base.specs.Fault.{Rose}
+use Rattle.jb_conf.specs.declared.board.Board.{Board}
+use Rattle.jb_conf.specs.declared.board.BoardArea.{BoardArea}
+use Rattle.jb_disk.specs.Device.{Device}
+use Rattle.jb_host.specs.Desk.{Desk, Disks, HasHostCause, KeepsRest, RefusesCall}
+use Rattle.jb_host.specs.Gate.{Gate}
+use Rattle.jb_host.specs.declared.host.HostError.{HostError}
+use Rattle.jb_run.proofs.Places.{are_out}
+use Rattle.jb_run.proofs.LocalRefusing.{all_back, by_setting, is_as_it_was, no_areas, no_board}
+use Rattle.jb_run.specs.LocalEnding.{of_host}
+use Rattle.jb_run.specs.Local.{AllBack, BeginsNone as BeginsNoSession, HasBoard, HasNoSettings, RefusesAreas, RefusesSettings}
+use Rattle.jb_run.specs.declared.error.RunError.{RunError}
+use Rattle.jb_run.specs.declared.error.RunError.TheVariants.{HostFault, OutOfMemory}
+use Rattle.jb_shared.specs.declared.opening.Opening.{Opening}
+use Rattle.jb_run.specs.Lines.{RefusesLine, StopsLines}
+use Rattle.jb_run.specs.Nodes.{BeginsNone, RefusesLines}
+use Rattle.jb_run.specs.Workers.{Rows}
+use Rattle.jb_run.specs.Working.{GivesUp}
+
+-- a refusal as of a session, with its reason
+of_session : (path : List ℕ) (most : Option ℕ) (old new : Desk) (error : RunError) → BeginsNoSession path old new error
+    → HasNoSettings path old new error ⊎ (RefusesSettings path old new error ⊎ (RefusesAreas path old new error ⊎ RefusesLines path most old new error))
+    → BeginsNone path most old new error
+of_session path most old new error none why = record {
+  why = why;
+  disks = none.disks;
+  rest = record {
+    settings = none.rest.settings;
+    console = none.rest.console;
+    reading = none.rest.reading;
+    faults = refl;
+    waiting = refl;
+    doors = refl;
+    bell = none.rest.bell;
+  };
+  cause = none.cause;
+  steady = none.steady;
+}
+
+-- no board was read
+pub begins_no_board : (path : List ℕ) (most : Option ℕ) (old new : Desk) (error : RunError) → HasNoSettings path old new error ⊎ RefusesSettings path old new error
+    → BeginsNone path most old new error
+begins_no_board path most old new error (inl none) = of_session path most old new error (no_board path old new error (inl none)) (inl none)
+begins_no_board path most old new error (inr refuses) = of_session path most old new error (no_board path old new error (inr refuses)) (inr (inl refuses))
+
+-- the areas were not opened
+pub begins_no_areas : (path : List ℕ) (most : Option ℕ) (old new : Desk) (error : RunError) → RefusesAreas path old new error → BeginsNone path most old new error
+begins_no_areas path most old new error refuses = of_session path most old new error (no_areas path old new error refuses) (inr (inr (inl refuses)))
+
+-- memory was wanting before they were opened
+pub begins_no_room : (path : List ℕ) (most : Option ℕ) (board : Board) (old new : Desk) → HasBoard path board old new → BeginsNone path most old new OutOfMemory
+begins_no_room path most board old new has =
+    begins_no_areas path most old new OutOfMemory (record {
+      board = board;
+      mid = new;
+      has = has;
+      why = areas.OutOfMemory;
+      is = refl;
+      refuses = refuses_none board.areas new areas.OutOfMemory refl;
+    })
+
+-- what the refusal of a door or the bell leaves
+record Leaves (why : HostError) (old new : Desk) : Type 0 where
+  disks : new.disks ≡ old.disks
+  rest : KeepsRest old (record new { faults = old.faults; waiting = old.waiting; doors = old.doors })
+  cause : HasHostCause why old.faults new.faults
+
+line_refused : (board : Board) (most : Option ℕ) (given : ℕ) (why : HostError) (old new : Desk) → RefusesLine board most given why old new
+    → (new.disks ≡ old.disks) × KeepsRest old (record new { faults = old.faults }) × HasHostCause why old.faults new.faults
+line_refused board most given why old new (inl door) = (door.1.disks, door.1.rest, door.1.cause)
+line_refused board most given why old new (inr bell) = (bell.1.disks, bell.1.rest, bell.1.cause)
+
+same_cause : (why : HostError) (old mid new : ℕ) → mid ≡ old → HasHostCause why mid new → HasHostCause why old new
+same_cause why old mid new is cause = subst (λ (n : ℕ). HasHostCause why n new) is cause
+
+later_cause : (why : HostError) (old mid new : ℕ) → new ≡ mid → HasHostCause why old mid → HasHostCause why old new
+later_cause why old mid new is cause = subst (λ (n : ℕ). HasHostCause why old n) (sym is) cause
+
+lines_stopped : (board : Board) (most : Option ℕ) (gates : List Gate) (why : HostError) (old new : Desk) → StopsLines board most gates why old new → Leaves why old new
+lines_stopped board most gates why old new stops =
+    let last = line_refused board most (length gates) why stops.lined new stops.refuses in
+    let doors = stops.doors in
+    record {
+      disks = last.0 ∙ doors.disks;
+      rest = record {
+        settings = last.1.settings ∙ doors.rest.settings;
+        console = last.1.console ∙ doors.rest.console;
+        reading = last.1.reading ∙ doors.rest.reading;
+        faults = refl;
+        waiting = refl;
+        doors = refl;
+        bell = last.1.bell ∙ doors.rest.bell;
+      };
+      cause = same_cause why old.faults stops.lined.faults new.faults doors.rest.faults last.2;
+    }
+
+-- a door or the bell was refused
+pub begins_no_lines : (path : List ℕ) (most : Option ℕ) (old new : Desk) (error : RunError) → RefusesLines path most old new error → BeginsNone path most old new error
+begins_no_lines path most old new error r =
+    let gives = r.has.gives in
+    let stopped = lines_stopped r.board most r.gates r.why r.opened r.asked r.stops in
+    let back = r.abandons.back in
+    let doors = r.doors_back in
+    let before : r.opened.faults ≡ old.faults = r.out.rest.faults ∙ gives.rest.faults in
+    let behind : new.faults ≡ r.asked.faults = back.rest.faults ∙ doors.rest.faults in
+    let cause : HasHostCause r.why old.faults new.faults
+    = later_cause r.why old.faults r.asked.faults new.faults behind (same_cause r.why old.faults r.opened.faults r.asked.faults before stopped.cause) in
+    let causes = by_setting r.why old new error r.is cause in
+    record {
+      why = inr (inr (inr r));
+      disks = λ was told.
+          let gone : r.shut.disks ≡ Some (without r.board.areas was)
+          = doors.disks ∙ stopped.disks ∙ r.out.disks ∙ ap (option_map (without r.board.areas)) (gives.disks ∙ told) in (
+            with_each r.board.areas r.abandons.afters (without r.board.areas was),
+            back.disks (without r.board.areas was) gone (are_out r.board.areas was) ∙ ap (option_map (with_each r.board.areas r.abandons.afters)) gone,
+            all_back r.board.areas r.befores r.abandons.afters was (without r.board.areas was) (r.out.were was (gives.disks ∙ told))
+                (λ dir name. is_as_it_was (without r.board.areas was dir name)) back.count,
+          );
+      rest = record {
+        settings = back.rest.settings ∙ doors.rest.settings ∙ stopped.rest.settings ∙ r.out.rest.settings ∙ gives.rest.settings;
+        console = back.rest.console ∙ doors.rest.console ∙ stopped.rest.console ∙ r.out.rest.console ∙ gives.rest.console;
+        reading = back.rest.reading ∙ doors.rest.reading ∙ stopped.rest.reading ∙ r.out.rest.reading ∙ gives.rest.reading;
+        faults = refl;
+        waiting = refl;
+        doors = refl;
+        bell = back.rest.bell ∙ doors.rest.bell ∙ stopped.rest.bell ∙ r.out.rest.bell ∙ gives.rest.bell;
+      };
+      cause = causes.0;
+      steady = causes.1;
+    }
+
+-- the same, behind the opening of the areas
+pub gives_up : (path : List ℕ) (most : Option ℕ) (board : Board) (old read opened new : Desk) (befores : List Device) (openings : List Opening) (from : Rows) (why : HostError)
+    → HasBoard path board old read → HandsOut board.areas befores read opened → OpenAs board.areas befores openings from → GivesUp board most from opened new why
+    → BeginsNone path most old new (of_host why)
+gives_up path most board old read opened new befores openings from why has out opens up =
+    begins_no_lines path most old new (of_host why) (record {
+      board = board;
+      read = read;
+      has = has;
+      befores = befores;
+      opened = opened;
+      out = out;
+      gates = up.gates;
+      why = why;
+      is = refl;
+      asked = up.asked;
+      stops = up.stops;
+      shut = up.shut;
+      doors_back = up.doors;
+      abandons = up.abandons befores openings opens;
+    })

@@ -1,0 +1,14 @@
+pub mod Desks
+pub mod Rows
+pub mod Lives
+pub mod AreasErrors
+pub mod All
+pub mod Alone
+pub mod LocalEnding
+pub mod Local
+pub mod Lines
+pub mod NodesEnding
+pub mod Workers
+pub mod Working
+pub mod Telling
+pub mod Nodes

@@ -1,0 +1,13 @@
+-- The exit status of a run with many nodes.
+use Rattle.std.specs.Prelude.{ℕ, Bool, true, false}
+use Rattle.jb_run.specs.declared.nodes_end.NodesEnd.{NodesEnd}
+
+-- an area in doubt goes first, then a door that failed
+abbrev pub status_with : Bool → Bool → ℕ
+status_with true door_failed = 4
+status_with false true = 5
+status_with false false = 0
+
+-- the exit status
+abbrev pub status_of : NodesEnd → ℕ
+status_of end = status_with end.is_doubtful end.door_failed

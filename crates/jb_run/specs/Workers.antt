@@ -1,0 +1,119 @@
+-- The workers of a run: made ready as their doors are handed out, and taken apart when they are done.
+use Rattle.std.specs.Prelude.{◌≡◌, ℕ, ◌+◌, ◌<◌, Bool, false, List, [], ◌∷◌, ◌++◌, codes, drop, length, map, slice_index_or, Option, Some, None}
+use Rattle.jb_base.specs.declared.user.User.{User}
+use Rattle.jb_conf.specs.declared.board.Board.{Board}
+use Rattle.jb_host.specs.Desk.{Desk, GivesBell, GivesDoor, TakesBell, TakesDoor}
+use Rattle.jb_host.specs.Gate.{Gate}
+use Rattle.jb_host.specs.Real.{silent_gate}
+use Rattle.jb_host.specs.Rings.{Rings}
+use Rattle.jb_server.specs.Tallies.{no_tally}
+use Rattle.jb_server.specs.declared.tally.Tally.{Tally}
+use Rattle.jb_server.specs.declared.worker.PackSlot.{PackSlot}
+use Rattle.jb_server.specs.declared.worker.Worker.{Worker}
+use Rattle.jb_server.specs.declared.worker.Worker.TheVariants.{Node, Packer}
+use Rattle.jb_shared.specs.Passes.{PassView}
+use Rattle.jb_run.specs.Lines.{HandsDoors}
+
+-- the user as whom areas are packed
+abbrev pub packer : User
+packer = record { name = codes "Packer"; id = 0; level = 255 }
+
+-- the passes of the nodes of a run: of each node from 1 on, and behind them of the packer, one of each area in order
+abbrev pub Rows : Type 0
+Rows = List (List PassView)
+
+module _ {R B C : Type 0} where
+  -- its passes
+  abbrev pub passes_of : Worker R B C → List PassView
+  passes_of (Node slot) = slot.passes.items
+  passes_of (Packer slot) = slot.passes.items
+
+  -- what it has counted; a packer counts no callers
+  abbrev pub tally_of : Worker R B C → Tally
+  tally_of (Node slot) = slot.tally
+  tally_of (Packer slot) = no_tally
+
+  -- what each has counted
+  abbrev pub tallies_of : List (Worker R B C) → List Tally
+  tallies_of workers = map tally_of workers
+
+  -- the passes of all, with those of these workers in front
+  abbrev pub with_passes : List (Worker R B C) → Rows → Rows
+  with_passes workers rows = map passes_of workers ++ drop (length workers) rows
+
+  -- it is the node with this number
+  abbrev pub IsNode : ℕ → Worker R B C → Type 0
+  IsNode number (Node slot) = slot.node ≡ number
+  IsNode number (Packer slot) = ⊥
+
+  -- they are the nodes from 1 on
+  abbrev pub AreNodes : List (Worker R B C) → Type 0
+  AreNodes workers = (k : ℕ) (absent : Worker R B C) → k < length workers → IsNode (k + 1) (slice_index_or workers k absent)
+
+-- of doors that show themselves so
+module _ {R B C : Type 0} (gate : R → Gate) where
+  -- its door; a packer has none
+  abbrev pub gate_of : Worker R B C → Gate
+  gate_of (Node slot) = gate slot.door
+  gate_of (Packer slot) = silent_gate 0 false None
+
+  -- the door of each
+  abbrev pub gates_of : List (Worker R B C) → List Gate
+  gates_of workers = map gate_of workers
+
+-- of clocks that show themselves so, where the host's clocks show this
+module _ {R B C : Type 0} (reading : C → Option ℕ) (shown : Option ℕ) where
+  -- it is the node with this number, with a clock of the host, and has counted nothing yet
+  abbrev pub IsReady : ℕ → Worker R B C → Type 0
+  IsReady number (Node slot) = (slot.node ≡ number) × (reading slot.clock ≡ shown) × (slot.tally ≡ no_tally)
+  IsReady number (Packer slot) = ⊥
+
+  -- they are the nodes from 1 on, and ready
+  abbrev pub AreReady : List (Worker R B C) → Type 0
+  AreReady workers = (k : ℕ) (absent : Worker R B C) → k < length workers → IsReady (k + 1) (slice_index_or workers k absent)
+
+-- the packer is ready: with a clock of the host, as the user who packs, and has packed nothing yet
+pub record PackerIsReady {B C : Type 0} (reading : C → Option ℕ) (shown : Option ℕ) (slot : PackSlot B C) : Type 0 where
+  pub clock : reading slot.clock ≡ shown
+  pub user : slot.user ≡ packer
+  pub none : slot.packs ≡ 0
+
+-- of doors and clocks that show themselves so
+module _ {R B C : Type 0} (gate : R → Gate) (reading : C → Option ℕ) (board : Board) (most : Option ℕ) where
+  -- the next node is ready: its door was handed out
+  pub record AddsNode (fewer more : List (Worker R B C)) (old new : Desk) : Type 0 where
+    pub worker : Worker R B C
+    pub is : more ≡ fewer ++ worker ∷ []
+    pub ready : IsReady reading old.reading (length fewer + 1) worker
+    pub gives : GivesDoor (length fewer + 1) board.port most (gate_of gate worker) old new
+
+  -- these nodes are ready: their doors were handed out
+  pub record HasNodes (workers : List (Worker R B C)) (old new : Desk) : Type 0 where
+    pub doors : HandsDoors board.port most (gates_of gate workers) old new
+    pub ready : AreReady reading old.reading workers
+
+  -- all nodes are ready, and the bell was handed out
+  pub record OpensLines (rings : Rings) (workers : List (Worker R B C)) (old new : Desk) : Type 0 where
+    pub mid : Desk
+    pub has : HasNodes workers old mid
+    pub all : length workers ≡ board.nodes
+    pub gives : GivesBell (length board.areas) board.pack_minutes most rings mid new
+
+-- the last of these nodes is taken apart, and its door put back
+pub record PartsLast {R B C : Type 0} (gate : R → Gate) (more fewer : List (Worker R B C)) (old new : Desk) (has_failed : Bool) : Type 0 where
+  pub worker : Worker R B C
+  pub is : more ≡ fewer ++ worker ∷ []
+  pub back : TakesDoor (length fewer + 1) (gate_of gate worker) old new
+  pub failed : has_failed ≡ (tally_of worker).door_failed
+
+-- the last of these workers is the packer
+pub record EndsWithPacker {R B C : Type 0} (workers : List (Worker R B C)) : Type 0 where
+  pub front : List (Worker R B C)
+  pub slot : PackSlot B C
+  pub is : workers ≡ front ++ Packer slot ∷ []
+
+-- it is taken apart, and the bell put back
+pub record PartsPacker {R B C : Type 0} (rings : B → Rings) (more fewer : List (Worker R B C)) (old new : Desk) : Type 0 where
+  pub slot : PackSlot B C
+  pub is : more ≡ fewer ++ Packer slot ∷ []
+  pub back : TakesBell (rings slot.bell) old new

@@ -1,0 +1,93 @@
+//! The run of one session.
+ghost use Rattle.std.specs.Prelude.{◌≡◌, ◌⊎◌, IfErr, IfOk, IsSome, ℕ, List, Some, length};
+ghost use Rattle.jb_run.specs.All.{AreWhole, passes_at};
+ghost use Rattle.jb_conf.specs.InRange.{IsInRange};
+ghost use Rattle.jb_host.specs.Desk.{Desk};
+ghost use Rattle.jb_host.specs.Wire.{Wire};
+ghost use Rattle.jb_session.specs.Served.{Served};
+ghost use Rattle.jb_run.specs.Local.{HasBoard, HasNoSettings, RefusesSettings, RunsLocal};
+
+use crate::closing::close_areas;
+use crate::error::RunError;
+use crate::local_end::LocalEnd;
+use crate::opening::{SharedAreas, open_areas};
+use jb_conf::{Board, read};
+use jb_host::Host;
+use jb_session::{SessionEnd, serve_session};
+use std::alloc::Global;
+use std::sync::Wait;
+
+/// The board that the settings file at this path says, with which each run over areas begins.
+pub(crate) fn board_at<H: Host>(alloc: Global, host: &mut H, path: &str) -> Result<Board, RunError>
+    ensures ok { IfOk result (λ board. HasBoard path.now board (H.desk host.old) (H.desk host.new)) }
+    ensures err { IfErr result (λ error. HasNoSettings path.now (H.desk host.old) (H.desk host.new) error
+        ⊎ RefusesSettings path.now (H.desk host.old) (H.desk host.new) error) }
+{
+    let bytes = host.settings(path)?;
+    Ok(read(alloc, bytes.as_slice())?)
+}
+
+/// One session over the console, which is back then.
+fn serve<R: Wait, H: Host>(
+    rt: &R,
+    alloc: Global,
+    host: &mut H,
+    board: &Board,
+    shared: &mut SharedAreas<H::Disk>,
+) -> SessionEnd
+    requires board { IsInRange board.now }
+    requires whole { AreWhole shared.old 1 (length board.now.areas) }
+    requires console { IsSome (H.desk host.old).console }
+    ensures whole { AreWhole shared.new 1 (length board.now.areas) }
+    ensures served { (old now : Wire) × ((H.desk host.old).console ≡ Some old) × (H.desk host.new ≡ record (H.desk host.old) { console = Some now })
+        × Served (H.desk host.old).reading board.now old (passes_at shared.old 0) result now (passes_at shared.new 0) }
+{
+    let mut clock = host.clock();
+    let mut console = host.console();
+    let end = serve_session(
+        rt,
+        alloc,
+        board,
+        shared.areas.as_slice(),
+        shared.nodes[0].as_mut_slice(),
+        &mut console,
+        &mut clock,
+    );
+    host.put_console(console);
+    end
+}
+
+/// One session at the console of the host, as node 1 of this board, which was read.
+fn run_board<R: Wait, H: Host>(
+    rt: &R,
+    alloc: Global,
+    host: &mut H,
+    board: &Board,
+) -> Result<LocalEnd, RunError>
+    requires board { IsInRange board.now }
+    requires console { IsSome (H.desk host.old).console }
+    ensures { (path : List ℕ) (old : Desk) → HasBoard path board.now old (H.desk host.old) → RunsLocal path old (H.desk host.new) result }
+{
+    let mut shared = open_areas(rt, alloc, host, board.areas.as_slice(), 1)?;
+    let session = serve(rt, alloc, host, board, &mut shared);
+    let is_doubtful = close_areas(rt, host, board.areas.as_slice(), shared);
+    Ok(LocalEnd {
+        session,
+        is_doubtful,
+    })
+}
+
+/// One session at the console of the host, as node 1 of the board that the settings file at this path says. Everything that the host
+/// handed out is back then.
+pub fn local<R: Wait, H: Host>(
+    rt: &R,
+    alloc: Global,
+    host: &mut H,
+    path: &str,
+) -> Result<LocalEnd, RunError>
+    requires { IsSome (H.desk host.old).console }
+    ensures { RunsLocal path.now (H.desk host.old) (H.desk host.new) result }
+{
+    let board = board_at(alloc, host, path)?;
+    run_board(rt, alloc, host, &board)
+}

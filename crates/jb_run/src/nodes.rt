@@ -1,0 +1,177 @@
+//! The run of many nodes.
+ghost use Rattle.std.specs.Prelude.{◌≡◌, ◌+◌, ◌<◌, ◌≤◌, ◌++◌, ◌∷◌, ℕ, List, [], IfErr, IfOk, length, map, vec_capacity, vec_len};
+ghost use Rattle.jb_run.specs.All.{AreWhole};
+ghost use Rattle.jb_run.specs.Rows.{lists_of};
+ghost use Rattle.jb_conf.specs.InRange.{IsInRange};
+ghost use Rattle.jb_host.specs.Desk.{Desk};
+ghost use Rattle.jb_run.specs.Local.{HasBoard};
+ghost use Rattle.jb_run.specs.Nodes.{RunsNodes};
+ghost use Rattle.jb_run.specs.Workers.{AreReady, PackerIsReady, gates_of, packer, passes_of};
+ghost use Rattle.jb_run.specs.Working.{AreAllOf, GivesUp, RunsOn, WorkToTheEnd};
+
+use crate::closing::{abandon_areas, close_areas};
+use crate::console::board_at;
+use crate::error::RunError;
+use crate::lines::{Room, open_lines, room_for, take_passes};
+use crate::nodes_end::NodesEnd;
+use crate::opening::{SharedAreas, open_areas};
+use crate::parting::{part_nodes, part_packer};
+use crate::telling::{port_of, tell_open};
+use jb_conf::Board;
+use jb_host::{Door, Host, HostError};
+use jb_server::{PackSlot, Worker, serve};
+use std::alloc::Global;
+use std::sync::Wait;
+use std::thread::Threads;
+
+/// Nodes that are ready, and the packer.
+struct Crew<R, B, C> {
+    nodes: Vec<Worker<R, B, C>>,
+    packer: PackSlot<B, C>,
+}
+
+/// All work at once until each is done, and are taken apart. Says whether a door has failed.
+fn work<T: Threads + Wait + Sync, H: Host>(
+    rt: &T,
+    alloc: Global,
+    host: &mut H,
+    board: &Board,
+    shared: &mut SharedAreas<H::Disk>,
+    crew: Crew<H::Door, H::Bell, H::Clock>,
+) -> bool
+where
+    H::Disk: Send + Sync,
+    H::Door: Send,
+    <H::Door as Door>::Link: Send,
+    H::Bell: Send,
+    H::Clock: Send,
+    requires board { IsInRange board.now }
+    requires areas { length shared.old.areas.items ≡ length board.now.areas }
+    requires nodes { length crew.nodes.items ≡ board.now.nodes }
+    requires lists { length shared.old.nodes.items ≡ board.now.nodes + 1 }
+    requires room { vec_len crew.nodes < vec_capacity crew.nodes }
+    requires ready { AreReady H.Clock.reading (H.desk host.old).reading crew.nodes.items }
+    requires packer { PackerIsReady H.Clock.reading (H.desk host.old).reading crew.packer }
+    requires ours { AreAllOf shared.old.areas.items (map passes_of crew.nodes.items ++ crew.packer.passes.items ∷ []) }
+    ensures worked { WorkToTheEnd (H.desk host.old).reading board.now (gates_of H.Door.gate crew.nodes.items) (H.Bell.rings crew.packer.bell)
+        (map passes_of crew.nodes.items ++ crew.packer.passes.items ∷ []) (lists_of shared.new.nodes.items) (H.desk host.old) (H.desk host.new) result }
+
+    // The areas are the same, and the passes are still theirs.
+    ensures areas { shared.new ≡ record shared.old { nodes = shared.new.nodes } }
+    ensures ours { AreAllOf shared.new.areas.items (lists_of shared.new.nodes.items) }
+{
+    let Crew { nodes, packer } = crew;
+    let mut workers = nodes;
+    workers.push_reserved(Worker::Packer(packer));
+    let areas = shared.areas.as_slice();
+    serve(rt, alloc, board, areas, workers.as_mut_slice());
+    part_packer(host, &mut shared.nodes, &mut workers);
+    part_nodes(host, &mut shared.nodes, workers)
+}
+
+/// The run on areas that are open; they are closed behind it.
+fn serve_areas<T: Threads + Wait + Sync, H: Host>(
+    rt: &T,
+    alloc: Global,
+    host: &mut H,
+    board: &Board,
+    calls: Option<u32>,
+    room: Room<H::Door, H::Bell, H::Clock>,
+    mut shared: SharedAreas<H::Disk>,
+) -> Result<NodesEnd, HostError>
+where
+    H::Disk: Send + Sync,
+    H::Door: Send,
+    <H::Door as Door>::Link: Send,
+    H::Bell: Send,
+    H::Clock: Send,
+    requires board { IsInRange board.now }
+    requires none { room.workers.items ≡ [] }
+    requires room { board.now.nodes + 1 ≤ vec_capacity room.workers }
+    requires packer { room.packer ≡ packer }
+    requires whole { AreWhole shared (board.now.nodes + 1) (length board.now.areas) }
+    ensures ok { IfOk result (λ end. RunsOn board.now calls (lists_of shared.nodes.items) (H.desk host.old) (H.desk host.new) end) }
+    ensures err { IfErr result (λ error. GivesUp board.now calls (lists_of shared.nodes.items) (H.desk host.old) (H.desk host.new) error) }
+{
+    let Room {
+        mut workers,
+        packer,
+    } = room;
+    match open_lines(alloc, host, board, calls, &mut shared.nodes, &mut workers) {
+        Ok(bell) => {
+            let clock = host.clock();
+            let passes = take_passes(alloc, &mut shared.nodes, workers.len());
+            let packer = PackSlot {
+                bell,
+                clock,
+                passes,
+                user: packer,
+                packs: 0,
+            };
+            let crew = Crew {
+                nodes: workers,
+                packer,
+            };
+            let port = port_of(board, &crew.nodes);
+            tell_open(host, board, port, shared.live.as_slice());
+            let door_failed = work(rt, alloc, host, board, &mut shared, crew);
+            let is_doubtful = close_areas(rt, host, board.areas.as_slice(), shared);
+            host.note("closed");
+            Ok(NodesEnd {
+                is_doubtful,
+                door_failed,
+            })
+        }
+        Err(error) => {
+            part_nodes(host, &mut shared.nodes, workers);
+            abandon_areas(rt, host, board.areas.as_slice(), shared);
+            Err(error)
+        }
+    }
+}
+
+/// A run with many nodes of this board, which was read: room is made first, then the areas are opened and served.
+fn serve_board<T: Threads + Wait + Sync, H: Host>(
+    rt: &T,
+    alloc: Global,
+    host: &mut H,
+    board: &Board,
+    calls: Option<u32>,
+) -> Result<NodesEnd, RunError>
+where
+    H::Disk: Send + Sync,
+    H::Door: Send,
+    <H::Door as Door>::Link: Send,
+    H::Bell: Send,
+    H::Clock: Send,
+    requires { IsInRange board.now }
+    ensures { (path : List ℕ) (old : Desk) → HasBoard path board.now old (H.desk host.old) → RunsNodes path calls old (H.desk host.new) result }
+{
+    let Ok(room) = room_for(alloc, board.nodes) else {
+        return Err(RunError::OutOfMemory);
+    };
+    let shared = open_areas(rt, alloc, host, board.areas.as_slice(), board.nodes + 1)?;
+    Ok(serve_areas(rt, alloc, host, board, calls, room, shared)?)
+}
+
+/// A run with many nodes of the board that the settings file at this path says: each node serves callers at a door of its own, so many
+/// or as many as come, and the areas are packed meanwhile. The operator is told when callers may come, and when all is closed.
+/// Everything that the host handed out is back then.
+pub fn serve_nodes<T: Threads + Wait + Sync, H: Host>(
+    rt: &T,
+    alloc: Global,
+    host: &mut H,
+    path: &str,
+    calls: Option<u32>,
+) -> Result<NodesEnd, RunError>
+where
+    H::Disk: Send + Sync,
+    H::Door: Send,
+    <H::Door as Door>::Link: Send,
+    H::Bell: Send,
+    H::Clock: Send,
+    ensures { RunsNodes path.now calls (H.desk host.old) (H.desk host.new) result }
+{
+    let board = board_at(alloc, host, path)?;
+    serve_board(rt, alloc, host, &board, calls)
+}
