@@ -12,6 +12,7 @@ import re
 import shutil
 import signal
 import socket
+import stat
 import struct
 import subprocess
 import time
@@ -142,6 +143,19 @@ def try_made(trial):
         sizes = {name.split(".")[1]: size for name, _, size in trial.standing()}
         wanted = {spelled(it): length for it, _, length in MADE} | {spelled("jhr"): 1024 + 141}
         trial.is_so("how long they are then", sizes | {spelled("jnl"): None}, wanted)
+
+
+def try_permissions(trial):
+    """The files of a base are for their owner and the group, less what the umask keeps from these, and never for others."""
+    trial.has_settings(settings())
+    for kept in (0, 0o002, 0o022, 0o027, 0o077):
+        jam.write_only(trial.areas)
+        trial.is_so("a base is made", trial.ended("make", "areas", "general", umask=kept), (b"", 0))
+        posted, status = trial.ended(*LOCAL, typed=lines(POSTS), umask=kept)
+        trial.holds(f"what is posted: {status} {posted}", status == 0 and b"\r\nPosted as 1.\r\n" in posted)
+        trial.is_so("a pack of it", trial.ended("pack", "areas", "general", umask=kept), (b"Packed: base 1, live 1, dropped 0.\n", 0))
+        modes = {name.split(".")[1].lower(): stat.S_IMODE(mode) for name, mode, _ in trial.standing()}
+        trial.is_so(f"who may do what with the files, with the umask {kept:o}", modes, dict.fromkeys(jam.ALL_FILES, 0o660 & ~kept))
 
 
 def try_making(trial):
@@ -376,5 +390,6 @@ def try_many(trial):
 
 
 if __name__ == "__main__":
-    goes_through(Edge, "what a board asks of the system", (try_read_only, try_no_files, try_ports, try_cut, try_put_back, try_packed, try_synch, try_many),
+    goes_through(Edge, "what a board asks of the system", (try_read_only, try_no_files, try_ports, try_cut, try_put_back, try_packed, try_synch, try_many,
+                                                             try_permissions),
                  (try_made, try_making, try_late_make, try_one_version, try_packs, try_waiting))

@@ -88,6 +88,9 @@ def try_served(trial):
     trial.begins()
     caller = trial.guest(SYSOP)
     trial.is_so("the first post", caller.posts(b"All", b"first", [b"a line"]), 1)
+    # which another user may read, too
+    for name in os.listdir(trial.areas):
+        os.chmod(f"{trial.areas}/{name}", 0o664)
     before, said = trial.bytes_of(), (SAYS_IN_USE, b"general")
     runs = [((word, "areas", "general"), said, {}) for word in TOOLS] + [((word, "second.toml"), said, {}) for word in ("serve", "local")]
     runs += [(("list", folder, "general"), said, {}) for folder in ("./areas", "linked", trial.areas)]

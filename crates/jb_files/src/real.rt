@@ -7,8 +7,12 @@ use crate::whole::{OpenFile, write_whole};
 use std::fs::{File, OpenOptions};
 use std::io;
 use std::os::fd::AsRawFd;
-use std::os::unix::fs::FileExt;
+use std::os::unix::fs::{FileExt, OpenOptionsExt};
 use std::rt::Files;
+
+/// The permissions of a file that is made, less the umask: the owner and the group read and write it, others never, since an area
+/// holds private messages.
+const MADE_MODE: u32 = 0o660;
 
 /// A file of the system, which may not be there.
 pub(crate) struct RealFile {
@@ -154,6 +158,7 @@ impl RealFile {
             .read(true)
             .write(true)
             .create_new(true)
+            .mode(MADE_MODE)
             .open(rt, self.path.as_str())?;
         self.open = Open::ToWrite(self.admitted(file)?);
         Ok(true)
