@@ -22,7 +22,7 @@ import time
 from harness import TOP, Trial
 
 # of a crate that uses no other, so that nothing has to be proved before it is refused
-EDIT = "crates/jb_base/must-fail/reads_the_highest_byte_first.edit"
+EDIT = "crates/jb_bytes/must-fail/reads_the_highest_byte_first.edit"
 CRATE = EDIT.split("/")[1]
 LIMIT = 3000
 # in the environment of a build, so that its processes are found

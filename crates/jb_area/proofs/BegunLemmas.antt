@@ -1,8 +1,7 @@
 -- What copying some texts comes to, whatever it answers.
-use Rattle.std.proofs.Common.{◌≡◌, ℕ, Bool, List, Option, None, Some, Result, Ok, Err, IfErr, IfOk, OnOk, ap, sym, ◌∙◌, subst}
+use Rattle.std.proofs.Common.{◌≡◌, ℕ, Bool, List, Option, Some, Result, Ok, Err, IfErr, OnOk, sym, subst}
 use Rattle.std.specs.Option.{ForSome}
 use Rattle.jb_disk.specs.Device.{Device}
-use Rattle.jb_disk.specs.Files.{Files}
 use Rattle.jb_disk.specs.Runs.{IsAllSynced}
 use Rattle.jb_model.specs.declared.loaded.LoadedSlot.{LoadedSlot}
 use Rattle.jb_pack.specs.Advance.{Copies}
@@ -11,7 +10,6 @@ use Rattle.jb_pack.specs.Shadow.{HasCopies, Shadow}
 use Rattle.jb_pack.specs.Touching.{IsUntouched, StaysUnlessFault}
 use Rattle.jb_pack.specs.declared.error.PackError.{PackError}
 use Rattle.jb_pack.specs.declared.error.PackError.TheVariants.{OutOfMemory, StoreFault}
-use Rattle.jb_decide.specs.Holds.{HasAll}
 use Rattle.jb_area.specs.Copying.{HasCopiedSome, UnlessFault, begun_of}
 
 -- what is always so

@@ -1,38 +1,47 @@
 -- A call that was decided is begun, and then it ends.
-use Rattle.std.proofs.Common.{◌≡◌, inl, ℕ, ◌≤◌, Bool, List, Option, Result, Ok, Err, IfErr, IsOk, OnErr, OnOk, Some, ap, refl, sym, ◌∙◌, subst, arith}
+use Rattle.std.proofs.Common.{◌≡◌, inl, ℕ, ◌≤◌, Bool, List, Option, Result, Ok, Err, IfErr, IsOk, OnErr, Some, ap, refl, sym, ◌∙◌, subst, arith}
 use Rattle.std.specs.Option.{ForSome}
 use Rattle.std.specs.Prelude.{IsSome, is_some}
-use Rattle.jb_base.specs.Fault.{Rose}
+use Rattle.jb_bytes.specs.Fault.{Rose}
 use Rattle.jb_base.specs.declared.area.AreaRules.{AreaRules}
 use Rattle.jb_base.specs.declared.user.User.{User}
-use Rattle.jb_decide.specs.Decided.{ChangesNothing, IsNoPack, IsTold}
+use Rattle.jb_decide.specs.Decided.{IsAnsweredSomewhere, IsTold, made}
 use Rattle.jb_decide.specs.Headers.{KeepsHeaders, PacksHeaders}
 use Rattle.jb_decide.specs.Errors.{AreaFaultRose}
+use Rattle.jb_decide.specs.Holds.{Holds}
+use Rattle.jb_decide.specs.StepOf.{ChangesNothing, IsNoPack, posted_text}
 use Rattle.jb_decide.proofs.AgreeLemmas.{headers_agree, packs_agree}
 use Rattle.jb_decide.specs.declared.error.AreaError.{AreaError}
 use Rattle.jb_decide.specs.declared.error.AreaError.TheVariants.{StoreFault}
 use Rattle.jb_disk.specs.Device.{Device, OnlyReads}
 use Rattle.jb_disk.specs.Files.{Files, number_of}
-use Rattle.jb_disk.specs.declared.file.FileId.TheVariants.{Jdt, Jhr}
+use Rattle.jb_disk.specs.declared.file.FileId.TheVariants.{Jdt, Jdx, Jhr}
 use Rattle.jb_disk.specs.Runs.{LeavesOnly}
 use Rattle.jb_disk.proofs.RunLemmas.{runs-then}
 use Rattle.jb_pack.specs.Touching.{AgreeButShadow, TouchesShadow}
 use Rattle.jb_redo.proofs.ApplyLemmas.{turns_on}
+use Rattle.jb_change.specs.Put.{KeepsIndexOnKill}
+use Rattle.jb_disk.specs.RedoView.{RedoView}
+use Rattle.jb_model.specs.Change.{Fits}
 use Rattle.jb_model.specs.State.{state_of}
 use Rattle.jb_model.specs.Step.{Step}
+use Rattle.jb_model.specs.declared.change.Change.{Change}
+use Rattle.jb_model.specs.declared.change.Change.TheVariants.{Nothing, Posted, Headed, Killed, Relinked, Marked, Packed}
 use Rattle.jb_model.specs.declared.command.Command.{Command}
 use Rattle.jb_model.specs.declared.command.Command.TheVariants.{Post}
 use Rattle.jb_model.specs.declared.loaded.Loaded.{Loaded}
 use Rattle.jb_model.specs.declared.reply.Reply.{Reply}
-use Rattle.jb_area.specs.Area.{files_after, HasBegun, HasMade, HasNoChange, IsDoubtful, IsResting, RestsAt}
-use Rattle.jb_area.specs.Calls.{BeginsCall, EndsCall, FailsWith, HasAnswered, HasStoppedIn, IsBegunFor, MeetsCall, OnlyReadsOrCopies}
+use Rattle.jb_area.specs.Area.{done_in, files_after, redo_of, HasBegun, HasMade, HasNoChange, IsDoubtful, IsResting, RestsAt}
+use Rattle.jb_area.specs.Calls.{BeginsCall, EndsCall, FailsWith, HasAnswered, HasStoppedIn, IsBegunFor, KeepsIndexFile, MeetsCall, OnlyReadsOrCopies, coming_of}
 use Rattle.jb_area.specs.Holds.{Opens, OpensToEither}
 use Rattle.jb_area.specs.declared.area.OpenArea.{OpenArea}
 use Rattle.jb_area.proofs.CommitLemmas.{only_weaken}
 use Rattle.jb_area.proofs.CopyingLemmas.{alike_by, crash_by, reads_by, settled_copying, touches_by}
 use Rattle.jb_area.proofs.Outcomes.{err_gives, if_ok_then2, ok_gives, on_ok_then}
 use Rattle.jb_area.proofs.PackedLemmas.{on_either}
+use Rattle.jb_area.proofs.StageLemmas.{becomes_is, fits_is}
 use Rattle.jb_area.proofs.StartLemmas.{err_not_ok, fails_with}
+use Rattle.jb_area.specs.declared.stage.Stage.{Stage}
 
 -- what a crash leaves, one after another
 only_then : (P : Files → Type 0) (old mid new : Device) → LeavesOnly old mid P → LeavesOnly mid new P → LeavesOnly old new P
@@ -48,6 +57,17 @@ pub same_post : (to its_to subject its_subject text its_text : List ℕ) (reply_
 same_post to its_to subject its_subject text its_text reply_to private one two three =
     ap (λ (t : List ℕ). Post t subject text reply_to private) one ∙ ap (λ (s : List ℕ). Post its_to s text reply_to private) two
     ∙ ap (λ (t : List ℕ). Post its_to its_subject t reply_to private) three
+
+-- a kill leaves the file of the index in files that have it as those in which the change is done
+index_agrees : (change : Change) (redo : RedoView) (loaded : Loaded) (texts : List ℕ) (start was now : Files) → KeepsIndexOnKill redo loaded change → Holds loaded texts was
+    → now Jdx ≡ made change redo was Jdx → was Jdx ≡ start Jdx → KeepsIndexFile change start now
+index_agrees Nothing redo loaded texts start was now keeps holds same before = tt
+index_agrees (Posted message neighbour) redo loaded texts start was now keeps holds same before = tt
+index_agrees (Headed at) redo loaded texts start was now keeps holds same before = tt
+index_agrees (Killed place) redo loaded texts start was now keeps holds same before = same ∙ keeps was holds.loads ∙ before
+index_agrees (Relinked plan) redo loaded texts start was now keeps holds same before = tt
+index_agrees (Marked place mark) redo loaded texts start was now keeps holds same before = tt
+index_agrees (Packed plan base) redo loaded texts start was now keeps holds same before = tt
 
 -- a fault that is the only error has its cause
 fault_rose : {T : Type 0} (result : Result T AreaError) (before mid now : ℕ) → before ≤ mid → IfErr result (λ error. error ≡ StoreFault) → OnErr result (Rose mid now) → IfErr result (AreaFaultRose before now)
@@ -127,6 +147,39 @@ module _ {D : Type 0} (shown : D → Device) (old mid new : OpenArea D) (texts :
       (agrees Jhr (λ is. let number = ap number_of is in omega (arith, number))) (agrees Jdt (λ is. let number = ap number_of is in omega (arith, number)))
       (begun.packs was (record { holds = (begun.begun.kept.settled.rests was there).holds; has = begun.begun.kept.copies was there }))
 
+  -- what it changes
+  abbrev change : Change
+  change = begun.begun.pending.change
+
+  -- fits the area, as it was before the call
+  fits_before : Fits old.rules.slots change old.held
+  fits_before =
+      subst (λ (r : AreaRules). Fits r.slots change old.held) rules
+      (subst (λ (l : Loaded). Fits mid.rules.slots change l) loaded (fits_is shown mid texts begun.reply begun.coming begun.begun begun.reply begun.begun.pending begun.begun.stage))
+
+  -- and brings what is to come
+  becomes_before : begun.coming ≡ coming_of change old.held (posted_text command) texts
+  becomes_before =
+      becomes_is shown mid texts begun.reply begun.coming begun.begun begun.reply begun.begun.pending begun.begun.stage
+      ∙ ap (λ (l : Loaded). coming_of change l begun.begun.posted texts) loaded
+      ∙ ap (λ (t : List ℕ). coming_of change old.held t texts) begun.text
+
+  -- it is what some texts are answered with
+  somewhere_before : IsAnsweredSomewhere old.rules old.held user moment command begun.reply change
+  somewhere_before =
+      subst (λ (r : AreaRules). IsAnsweredSomewhere r old.held user moment command begun.reply change) rules
+      (subst (λ (l : Loaded). IsAnsweredSomewhere mid.rules l user moment command begun.reply change) loaded begun.somewhere)
+
+  -- and a kill leaves the file of the index
+  index_then : HasMade shown mid new → ForSome (shown old.disk).contents (λ was. ForSome (shown new.disk).contents (λ now. KeepsIndexFile change was now))
+  index_then made start start_there now here =
+      let mid_there = turns_on AgreeButShadow (shown old.disk).contents (shown mid.disk).contents start touches.others start_there in
+      let was : Files = mid_there.0 in
+      let there = mid_there.1 in
+      index_agrees change (redo_of mid) mid.held texts start was now begun.index (begun.begun.kept.settled.rests was there).holds
+      (made was there now here Jdx (λ is. let number = ap number_of is in omega (arith, number)) ∙ ap (λ (s : Stage). done_in s (redo_of mid) was Jdx) begun.begun.stage)
+      (mid_there.2 Jdx (λ is. let number = ap number_of is in omega (arith, number)))
+
   -- finished
   answered_by : (reply : Reply) → (reply ≡ begun.reply) × RestsAt shown new begun.coming.texts begun.coming.to → HasMade shown mid new
       → (HasNoChange mid → shown new.disk ≡ shown mid.disk)
@@ -136,9 +189,14 @@ module _ {D : Type 0} (shown : D → Device) (old mid new : OpenArea D) (texts :
     coming = begun.coming;
     step = subst (λ (r : Reply). IsTold r (shown old.disk).contents → Step old.rules (state_of texts old.held) user moment command r (state_of begun.coming.texts begun.coming.to)) (sym done.0) step_before;
     rests = done.1;
+    change = change;
+    fits = fits_before;
+    becomes = becomes_before;
+    somewhere = subst (λ (r : Reply). IsAnsweredSomewhere old.rules old.held user moment command r change) (sym done.0) somewhere_before;
     idle = λ nothing. idle_before left (subst (ChangesNothing command) done.0 nothing);
     headers = λ in_place was there now here.
         subst (λ (r : Reply). KeepsHeaders r old.held begun.coming.to was now) (sym done.0) (headers_then made in_place was there now here);
+    index = index_then made;
     packs = λ was there now here. subst (λ (r : Reply). PacksHeaders r begun.coming.to now) (sym done.0) (packs_then made was there now here);
     crash = crash_before crash;
   }
@@ -149,7 +207,7 @@ module _ {D : Type 0} (shown : D → Device) (old mid new : OpenArea D) (texts :
       → HasStoppedIn shown old new texts user moment command
   stopped_by doubt opens stays some crash = record {
     coming = Some begun.coming;
-    change = (begun.reply, (λ nothing. some (begun.idle nothing).0), step_before);
+    change = (begun.reply, change, (λ nothing. some (begun.idle nothing).0), fits_before, becomes_before, somewhere_before, step_before);
     doubt = doubt;
     opens = λ files there. subst (λ (l : Loaded). OpensToEither l texts begun.coming files) loaded (opens files there);
     loaded = stays ∙ loaded;

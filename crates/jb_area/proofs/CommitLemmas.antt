@@ -1,7 +1,7 @@
 -- What a commit and a settling of a change mean for the area.
 use Rattle.std.proofs.Common.{◌≡◌, inl, inr, ℕ, List, [], ◌∷◌, Bool, true, false, Option, None, Some, ap, sym, refl, ◌∙◌, subst}
 use Rattle.std.specs.Option.{ForSome, option_map}
-use Rattle.jb_disk.specs.Change.{Change}
+use Rattle.jb_disk.specs.RedoView.{RedoView}
 use Rattle.jb_disk.specs.Device.{Device}
 use Rattle.jb_disk.specs.Files.{Files}
 use Rattle.jb_disk.specs.Images.{Images}
@@ -49,7 +49,7 @@ only_weaken P Q old new then only = record {
   run = runs-weaken P Q then old.moments new.moments only.run;
 }
 
-module _ (change : Change) where
+module _ (change : RedoView) where
   -- over files at rest the change may be committed
   pub ready_as : (from : Loaded) (texts : List ℕ) (copies : Option Shadow) (coming : Coming) (device : Device) → IsSettledWith from texts copies device → IsChange device.contents change from texts copies coming
       → ForSome device.contents (IsReady change)

@@ -1,19 +1,21 @@
 -- What a copying of texts into .NDT leaves of an area, and what becomes of the copies.
-use Rattle.std.proofs.Common.{◌≡◌, ◌≢◌, ◌⊎◌, inl, inr, ℕ, ◌≤◌, ◌<◌, List, length, take, Option, None, Some, Result, Ok, Err, OnOk, ap, refl, sym, ◌∙◌, subst, arith}
+use Rattle.std.proofs.Common.{◌≡◌, ◌≢◌, inl, inr, ℕ, ◌≤◌, ◌<◌, List, length, take, Option, None, Some, Result, Ok, Err, OnOk, ap, refl, sym, ◌∙◌, subst, arith}
 use Rattle.std.specs.Option.{ForSome}
 use Rattle.std.specs.Prelude.{slice_index}
-use Rattle.jb_disk.specs.Change.{Change}
-use Rattle.jb_disk.specs.Device.{Device, OnlyReads, Resizes, Syncs, TellsAlike, TellsAnImage, Turns}
+use Rattle.jb_disk.specs.RedoView.{RedoView}
+use Rattle.jb_disk.specs.Device.{Device, OnlyReads, Resizes, Syncs, TellsAlike, TellsAnImage}
 use Rattle.jb_disk.specs.FileLaws.{same_file, same_files}
 use Rattle.jb_disk.specs.Files.{Files, number_of}
 use Rattle.jb_disk.specs.Memory.{of_length}
-use Rattle.jb_disk.specs.Runs.{IsAllSynced, LeavesNow, LeavesOnly, Shows}
+use Rattle.jb_disk.specs.Runs.{IsAllSynced, LeavesOnly, Shows}
 use Rattle.jb_disk.specs.Steps.{Span, patched}
 use Rattle.jb_disk.specs.declared.file.FileId.{FileId}
 use Rattle.jb_disk.specs.declared.file.FileId.TheVariants.{Jhr, Jdt, Jdx, Jlr, Jnl, Ndt}
 use Rattle.jb_disk.proofs.RunLemmas.{durable, leaves_only}
 use Rattle.jb_journal.specs.Commit.{AgreeButJournal}
 use Rattle.jb_redo.specs.Changes.{changed}
+use Rattle.jb_model.specs.declared.change.Change.{Change}
+use Rattle.jb_model.specs.declared.change.Change.TheVariants.{Nothing, Posted, Headed, Killed, Relinked, Marked, Packed}
 use Rattle.jb_model.specs.declared.command.Command.{Command}
 use Rattle.jb_model.specs.declared.command.Command.TheVariants.{Post, Read, Peek, Kill, SetMark, Pack, Relink}
 use Rattle.jb_model.specs.declared.loaded.Loaded.{Loaded}
@@ -21,17 +23,16 @@ use Rattle.jb_pack.proofs.CopiesLemmas.{stays_copied}
 use Rattle.jb_pack.proofs.TouchLemmas.{leaves_both, leaves_map, only_told, touches-read, touches-resize, touches-sync, touches-then, turns-alike}
 use Rattle.jb_pack.specs.Shadow.{Shadow}
 use Rattle.jb_pack.specs.Touching.{AgreeButShadow, TouchesShadow}
-use Rattle.jb_redo.proofs.ApplyLemmas.{turns_from, turns_on}
+use Rattle.jb_redo.proofs.ApplyLemmas.{turns_from}
 use Rattle.jb_redo.proofs.SizeLemmas.{not_given}
 use Rattle.jb_redo.proofs.SpanLemmas.{no_spans}
 use Rattle.jb_redo.proofs.WayLemmas.{resized_same, resized_with_zeros}
 use Rattle.jb_redo.specs.Rules.{IsLegal, new_sizes, sizes_of}
 use Rattle.jb_decide.proofs.AgreeLemmas.{loads_agree}
 use Rattle.jb_decide.specs.Coming.{BringsComing, Coming}
-use Rattle.jb_decide.specs.Decided.{IsNoPack, KeepsTexts}
+use Rattle.jb_decide.specs.Decided.{IsPacking}
 use Rattle.jb_decide.specs.Holds.{HasAll, Holds}
-use Rattle.jb_decide.specs.declared.pending.Pending.{Pending}
-use Rattle.jb_decide.specs.declared.pending.Pending.TheVariants.{Nothing, Counted, Marked, Packed}
+use Rattle.jb_decide.specs.StepOf.{IsNoPack}
 use Rattle.jb_area.specs.Area.{copied_after}
 use Rattle.jb_area.specs.Calls.{OnlyReadsOrCopies}
 use Rattle.jb_area.specs.Commits.{IsCopyingAs, IsSettledAs, IsSyncedButShadow}
@@ -165,7 +166,7 @@ by_reads Relink old new reads = reads
 by_reads Pack old new reads = touches-read old new reads
 
 -- a change leaves .NDT
-pub kept_shadow : (change : Change) (files : Files) → IsLegal (sizes_of files) change.lengths change.pieces → changed change files Ndt ≡ files Ndt
+pub kept_shadow : (change : RedoView) (files : Files) → IsLegal (sizes_of files) change.lengths change.pieces → changed change files Ndt ≡ files Ndt
 kept_shadow change files legal =
     let ends : FileId → ℕ = new_sizes change.lengths (sizes_of files) in
     ap (λ (spans : List Span). patched spans (of_length (ends Ndt) (files Ndt)))
@@ -174,7 +175,7 @@ kept_shadow change files legal =
     (resized_with_zeros (ends Ndt) (files Ndt))
 
 -- copies stay in the files that a change makes of which the texts begin with those before
-stay_has : (redo : Change) (from : Loaded) (texts : List ℕ) (copies : Option Shadow) (coming : Coming) (was now : Files) → take (length texts) coming.texts ≡ texts → BringsComing redo from texts copies coming
+stay_has : (redo : RedoView) (from : Loaded) (texts : List ℕ) (copies : Option Shadow) (coming : Coming) (was now : Files) → take (length texts) coming.texts ≡ texts → BringsComing redo from texts copies coming
     → Holds from texts was → HasAll copies was → Holds coming.to coming.texts now → AgreeButJournal now (changed redo was) → HasAll copies now
 stay_has redo from texts None coming was now grows brings holds has after agree = tt
 stay_has redo from texts (Some shadow) coming was now grows brings holds has after agree =
@@ -183,10 +184,14 @@ stay_has redo from texts (Some shadow) coming was now grows brings holds has aft
     (ap (λ (l : List ℕ). take (length l) (now Jdt)) holds.texts_are ∙ ap (take (length texts)) after.texts_are ∙ grows ∙ sym holds.texts_are)
 
 -- so do those that are kept once it is done
-pub after_has : (pending : Pending) (redo : Change) (from : Loaded) (texts : List ℕ) (copies : Option Shadow) (coming : Coming) (was now : Files) → KeepsTexts pending texts coming.texts
+pub after_has : (change : Change) (redo : RedoView) (from : Loaded) (texts : List ℕ) (copies : Option Shadow) (coming : Coming) (was now : Files)
+    → ((IsPacking change → ⊥) → take (length texts) coming.texts ≡ texts)
     → BringsComing redo from texts copies coming → Holds from texts was → HasAll copies was → Holds coming.to coming.texts now → AgreeButJournal now (changed redo was)
-    → HasAll (copied_after pending copies) now
-after_has Nothing redo from texts copies coming was now grows brings holds has after agree = stay_has redo from texts copies coming was now grows brings holds has after agree
-after_has (Counted change counter active) redo from texts copies coming was now grows brings holds has after agree = stay_has redo from texts copies coming was now grows brings holds has after agree
-after_has (Marked place mark) redo from texts copies coming was now grows brings holds has after agree = stay_has redo from texts copies coming was now grows brings holds has after agree
-after_has (Packed plan base replies) redo from texts copies coming was now grows brings holds has after agree = tt
+    → HasAll (copied_after change copies) now
+after_has Nothing redo from texts copies coming was now grows brings holds has after agree = stay_has redo from texts copies coming was now (grows (λ no. no)) brings holds has after agree
+after_has (Posted message neighbour) redo from texts copies coming was now grows brings holds has after agree = stay_has redo from texts copies coming was now (grows (λ no. no)) brings holds has after agree
+after_has (Headed at) redo from texts copies coming was now grows brings holds has after agree = stay_has redo from texts copies coming was now (grows (λ no. no)) brings holds has after agree
+after_has (Killed place) redo from texts copies coming was now grows brings holds has after agree = stay_has redo from texts copies coming was now (grows (λ no. no)) brings holds has after agree
+after_has (Relinked plan) redo from texts copies coming was now grows brings holds has after agree = stay_has redo from texts copies coming was now (grows (λ no. no)) brings holds has after agree
+after_has (Marked place mark) redo from texts copies coming was now grows brings holds has after agree = stay_has redo from texts copies coming was now (grows (λ no. no)) brings holds has after agree
+after_has (Packed plan base) redo from texts copies coming was now grows brings holds has after agree = tt

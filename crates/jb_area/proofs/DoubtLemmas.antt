@@ -1,13 +1,17 @@
 -- What a settling makes of an area in doubt.
 use Rattle.std.proofs.Common.{◌≡◌, ◌≢◌, ◌⊎◌, inl, inr, ℕ, List, Option, None, Some, true, false, ap, sym, refl, ◌∙◌, subst}
 use Rattle.std.specs.Option.{ForSome}
-use Rattle.jb_disk.specs.Change.{Change}
+use Rattle.jb_disk.specs.RedoView.{RedoView}
 use Rattle.jb_disk.specs.Device.{Device, TellsAlike}
 use Rattle.jb_disk.specs.Files.{Files}
 use Rattle.jb_disk.specs.Runs.{LeavesOnly}
 use Rattle.jb_disk.proofs.RunLemmas.{runs-refl}
 use Rattle.jb_journal.specs.declared.stopped.Stopped.{Stopped}
+use Rattle.jb_held.specs.Pending.{HasReplies, MayApply}
+use Rattle.jb_held.specs.declared.pending.Pending.{Pending}
+use Rattle.jb_model.specs.Change.{after}
 use Rattle.jb_model.specs.Sound.{IsSound}
+use Rattle.jb_model.specs.declared.change.Change.TheVariants.{Nothing}
 use Rattle.jb_model.specs.declared.loaded.Loaded.{Loaded}
 use Rattle.jb_pack.specs.Shadow.{Shadow}
 use Rattle.jb_decide.specs.Coming.{Coming, IsChange}
@@ -16,16 +20,13 @@ use Rattle.jb_decide.specs.Holds.{HasAll}
 use Rattle.jb_area.specs.Area.{redo_in, redo_of, DoubtOpens, IsBetween, IsDoubtful, IsHalfCopied, IsUnchanged, RestsAt, SettlesAt}
 use Rattle.jb_area.specs.Commits.{IsAnsweredAs, IsCopyingAs, IsSettledAs, IsStoppedAs, MaySettle}
 use Rattle.jb_area.specs.Holds.{Opens, OpensToEither}
-use Rattle.jb_decide.specs.Pending.{MayApply, after}
 use Rattle.jb_area.specs.declared.area.OpenArea.{OpenArea}
-use Rattle.jb_decide.specs.declared.pending.Pending.{Pending}
-use Rattle.jb_decide.specs.declared.pending.Pending.TheVariants.{Nothing}
 use Rattle.jb_area.specs.declared.stage.Stage.{Stage}
 use Rattle.jb_area.specs.declared.stage.Stage.TheVariants.{Resting, Doubtful, Copying}
 use Rattle.jb_area.proofs.CommitLemmas.{settled_opens, stopped_opens}
 use Rattle.jb_area.proofs.CopyingLemmas.{copying_opens}
 use Rattle.jb_area.proofs.HoldLemmas.{rest_opens}
-use Rattle.jb_area.proofs.StageLemmas.{pending_later}
+use Rattle.jb_area.proofs.StageLemmas.{apply_may, pending_later}
 
 -- two doubtful stages are one
 same_stopped : (one other : Stopped) (first second : Pending) → Doubtful one first ≡ Doubtful other second → one ≡ other
@@ -41,7 +42,7 @@ no_copying stopped pending is = cc
 -- an area in doubt is at that stage, or at a copying
 pub at_doubt : {D : Type 0} (shown : D → Device) (area : OpenArea D) (texts : List ℕ) (coming : Option Coming) → IsDoubtful shown area texts coming
     → ((stopped : Stopped) × (pending : Pending) × (area.stage ≡ Doubtful stopped pending)) ⊎ (area.stage ≡ Copying)
-at_doubt shown area texts None (inl unchanged) = inl (unchanged.stopped, Nothing, unchanged.stage)
+at_doubt shown area texts None (inl unchanged) = inl (unchanged.stopped, unchanged.pending, unchanged.stage)
 at_doubt shown area texts None (inr half) = inr half.stage
 at_doubt shown area texts (Some coming) doubt = inl (doubt.stopped, doubt.pending, doubt.stage)
 
@@ -56,12 +57,12 @@ doubt_reads shown area texts (Some coming) doubt = stopped_opens (redo_of area) 
 module _ {D : Type 0} (shown : D → Device) (area : OpenArea D) (is : area.stage ≡ Copying) where
   -- no change is in doubt
   pub half_copied : (texts : List ℕ) (coming : Option Coming) → IsDoubtful shown area texts coming → IsHalfCopied shown area texts × (coming ≡ None)
-  half_copied texts None (inl unchanged) = absurd (no_copying unchanged.stopped Nothing (sym is ∙ unchanged.stage))
+  half_copied texts None (inl unchanged) = absurd (no_copying unchanged.stopped unchanged.pending (sym is ∙ unchanged.stage))
   half_copied texts None (inr half) = (half, refl)
   half_copied texts (Some coming) doubt = absurd (no_copying doubt.stopped doubt.pending (sym is ∙ doubt.stage))
 
   -- once .NDT is empty and synced it is at rest, and keeps no copies
-  pub copying_settles : (disk : D) (large : Option Change) (packer : Option Shadow) (stage : Stage) → large ≡ None → packer ≡ None → stage ≡ Resting
+  pub copying_settles : (disk : D) (large : Option RedoView) (packer : Option Shadow) (stage : Stage) → large ≡ None → packer ≡ None → stage ≡ Resting
       → ((loaded : Loaded) (texts : List ℕ) → IsCopyingAs loaded texts (shown area.disk) → IsSettledAs loaded texts (shown disk))
       → (texts : List ℕ) (coming : Option Coming) → IsDoubtful shown area texts coming
       → RestsAt shown (record area { disk = disk; large = large; packer = packer; stage = stage }) texts area.held
@@ -103,15 +104,15 @@ module _ {D : Type 0} (shown : D → Device) (area : OpenArea D) (is : area.stag
 
 module _ {D : Type 0} (shown : D → Device) (area : OpenArea D) (stopped : Stopped) (pending : Pending) (is : area.stage ≡ Doubtful stopped pending) where
   -- a call that had no change
-  module _ (none : pending ≡ Nothing) where
+  module _ (none : pending.change ≡ Nothing) where
     -- has none to come
     unchanged : (texts : List ℕ) (coming : Option Coming) → IsDoubtful shown area texts coming → IsUnchanged shown area texts × (coming ≡ None)
     unchanged texts None (inl still) = (still, refl)
     unchanged texts None (inr half) = absurd (no_copying stopped pending (sym half.stage ∙ is))
-    unchanged texts (Some coming) doubt = absurd (doubt.change.some (same_pending doubt.stopped stopped doubt.pending pending (sym doubt.stage ∙ is) ∙ none))
+    unchanged texts (Some coming) doubt = absurd (doubt.change.some (ap (λ (p : Pending). p.change) (same_pending doubt.stopped stopped doubt.pending pending (sym doubt.stage ∙ is)) ∙ none))
 
     -- and is at rest as before, and keeps no copies
-    pub drops : (large : Option Change) (packer : Option Shadow) (stage : Stage) → large ≡ None → packer ≡ None → stage ≡ Resting → (texts : List ℕ) (coming : Option Coming) → IsDoubtful shown area texts coming
+    pub drops : (large : Option RedoView) (packer : Option Shadow) (stage : Stage) → large ≡ None → packer ≡ None → stage ≡ Resting → (texts : List ℕ) (coming : Option Coming) → IsDoubtful shown area texts coming
         → RestsAt shown (record area { large = large; packer = packer; stage = stage }) texts area.held
     drops large packer stage small no_copies resting texts coming doubt =
         let kept = (unchanged texts coming doubt).0.kept in
@@ -137,10 +138,11 @@ module _ {D : Type 0} (shown : D → Device) (area : OpenArea D) (stopped : Stop
         (record { first = settled_opens area.held texts (shown area.disk) was there so.0.kept.settled; run = runs-refl (Opens area.held texts) _ _ refl })
 
   -- a call that had one
-  module _ (some : pending ≢ Nothing) where
+  module _ (some : pending.change ≢ Nothing) where
     -- nothing else was to come
     no_none : (texts : List ℕ) → IsUnchanged shown area texts ⊎ IsHalfCopied shown area texts → ⊥
-    no_none texts (inl unchanged) = some (same_pending stopped unchanged.stopped pending Nothing (sym is ∙ unchanged.stage))
+    no_none texts (inl unchanged) =
+        some (ap (λ (p : Pending). p.change) (same_pending stopped unchanged.stopped pending unchanged.pending (sym is ∙ unchanged.stage)) ∙ unchanged.none)
     no_none texts (inr half) = no_copying stopped pending (sym half.stage ∙ is)
 
     -- what is in doubt
@@ -149,25 +151,34 @@ module _ {D : Type 0} (shown : D → Device) (area : OpenArea D) (stopped : Stop
         subst (λ (s : Stopped). IsStoppedAs s (redo_of area) area.held texts area.packer (shown area.disk)) (same_stopped between.stopped stopped between.pending pending (sym between.stage ∙ is)) between.doubt
 
     -- what is to come
-    change_is : (texts : List ℕ) (coming : Coming) → IsBetween shown area texts coming → IsPending area.rules.slots (shown area.disk).contents area.packer (redo_of area) pending area.held texts coming
+    change_is : (texts : List ℕ) (coming : Coming) (between : IsBetween shown area texts coming)
+        → IsPending area.rules.slots (shown area.disk).contents area.packer (redo_of area) pending.change area.held between.posted texts coming
     change_is texts coming between =
-        subst (λ (p : Pending). IsPending area.rules.slots (shown area.disk).contents area.packer (redo_of area) p area.held texts coming) (same_pending between.stopped stopped between.pending pending (sym between.stage ∙ is)) between.change
+        subst (λ (p : Pending). IsPending area.rules.slots (shown area.disk).contents area.packer (redo_of area) p.change area.held between.posted texts coming)
+        (same_pending between.stopped stopped between.pending pending (sym between.stage ∙ is)) between.change
+
+    -- the index of the replies, where it is a pack
+    replies_is : (texts : List ℕ) (coming : Coming) (between : IsBetween shown area texts coming) → HasReplies pending.change pending.replies area.held
+    replies_is texts coming between =
+        subst (λ (p : Pending). HasReplies p.change p.replies area.held) (same_pending between.stopped stopped between.pending pending (sym between.stage ∙ is)) between.replies
 
     -- it may be done in what is loaded
     pub may_apply : (texts : List ℕ) (coming : Option Coming) → IsDoubtful shown area texts coming → MayApply pending area.held
     may_apply texts None doubt = absurd (no_none texts doubt)
-    may_apply texts (Some coming) doubt = (change_is texts coming doubt).may
+    may_apply texts (Some coming) doubt =
+        apply_may area.rules.slots pending area.held doubt.ruled.few_slots doubt.ruled.sound (change_is texts coming doubt).fits (replies_is texts coming doubt)
 
     -- of the redo that is in use
-    module _ (redo : Change) (used : redo ≡ redo_of area) where
+    module _ (redo : RedoView) (used : redo ≡ redo_of area) where
       -- what is in doubt
       doubt_in : (texts : List ℕ) (coming : Coming) → IsBetween shown area texts coming → IsStoppedAs stopped redo area.held texts area.packer (shown area.disk)
-      doubt_in texts coming between = subst (λ (r : Change). IsStoppedAs stopped r area.held texts area.packer (shown area.disk)) (sym used) (doubt_is texts coming between)
+      doubt_in texts coming between = subst (λ (r : RedoView). IsStoppedAs stopped r area.held texts area.packer (shown area.disk)) (sym used) (doubt_is texts coming between)
 
       -- what is to come
-      change_in : (texts : List ℕ) (coming : Coming) → IsBetween shown area texts coming → IsPending area.rules.slots (shown area.disk).contents area.packer redo pending area.held texts coming
+      change_in : (texts : List ℕ) (coming : Coming) (between : IsBetween shown area texts coming)
+          → IsPending area.rules.slots (shown area.disk).contents area.packer redo pending.change area.held between.posted texts coming
       change_in texts coming between =
-          subst (λ (r : Change). IsPending area.rules.slots (shown area.disk).contents area.packer r pending area.held texts coming) (sym used) (change_is texts coming between)
+          subst (λ (r : RedoView). IsPending area.rules.slots (shown area.disk).contents area.packer r pending.change area.held between.posted texts coming) (sym used) (change_is texts coming between)
 
       -- it may be settled
       pub may_settle : (texts : List ℕ) (coming : Option Coming) → IsDoubtful shown area texts coming → MaySettle stopped redo (shown area.disk)
@@ -182,7 +193,7 @@ module _ {D : Type 0} (shown : D → Device) (area : OpenArea D) (stopped : Stop
       }
 
       -- settled with the change
-      pub stands : (disk : D) (held : Loaded) (large : Option Change) (packer : Option Shadow) (stage : Stage) → large ≡ None → packer ≡ None → stage ≡ Resting → held ≡ after pending area.held
+      pub stands : (disk : D) (held : Loaded) (large : Option RedoView) (packer : Option Shadow) (stage : Stage) → large ≡ None → packer ≡ None → stage ≡ Resting → held ≡ after pending.change area.held
           → ((from : Loaded) (texts : List ℕ) (copies : Option Shadow) (coming : Coming) → IsStoppedAs stopped redo from texts copies (shown area.disk) → IsChange (shown area.disk).contents redo from texts copies coming → IsAnsweredAs true from texts coming (shown disk))
           → (texts : List ℕ) (coming : Option Coming) → IsDoubtful shown area texts coming
           → SettlesAt shown true area.held texts coming (record area { disk = disk; held = held; large = large; packer = packer; stage = stage })
@@ -204,7 +215,7 @@ module _ {D : Type 0} (shown : D → Device) (area : OpenArea D) (stopped : Stop
           }
 
       -- settled without it
-      pub falls : (disk : D) (large : Option Change) (packer : Option Shadow) (stage : Stage) → large ≡ None → packer ≡ None → stage ≡ Resting
+      pub falls : (disk : D) (large : Option RedoView) (packer : Option Shadow) (stage : Stage) → large ≡ None → packer ≡ None → stage ≡ Resting
           → ((from : Loaded) (texts : List ℕ) (copies : Option Shadow) (coming : Coming) → IsStoppedAs stopped redo from texts copies (shown area.disk) → IsChange (shown area.disk).contents redo from texts copies coming → IsAnsweredAs false from texts coming (shown disk))
           → (texts : List ℕ) (coming : Option Coming) → IsDoubtful shown area texts coming
           → RestsAt shown (record area { disk = disk; large = large; packer = packer; stage = stage }) texts area.held
@@ -223,7 +234,7 @@ module _ {D : Type 0} (shown : D → Device) (area : OpenArea D) (stopped : Stop
       }
 
       -- stopped again
-      pub still : (disk : D) (large : Option Change) (stage : Stage) (again : Stopped) → stage ≡ Doubtful again pending → redo ≡ redo_in large area.redo → TellsAlike (shown area.disk) (shown disk)
+      pub still : (disk : D) (large : Option RedoView) (stage : Stage) (again : Stopped) → stage ≡ Doubtful again pending → redo ≡ redo_in large area.redo → TellsAlike (shown area.disk) (shown disk)
           → ((from : Loaded) (texts : List ℕ) (copies : Option Shadow) (coming : Coming) → IsStoppedAs stopped redo from texts copies (shown area.disk) → IsChange (shown area.disk).contents redo from texts copies coming → IsStoppedAs again redo from texts copies (shown disk))
           → (texts : List ℕ) (coming : Option Coming) → IsDoubtful shown area texts coming
           → IsDoubtful shown (record area { disk = disk; large = large; stage = stage }) texts coming
@@ -232,12 +243,14 @@ module _ {D : Type 0} (shown : D → Device) (area : OpenArea D) (stopped : Stop
           let change = change_in texts coming doubt in
           record {
             stopped = again;
+            posted = doubt.posted;
             pending = pending;
             stage = doubtful;
             ruled = record { few_slots = doubt.ruled.few_slots; address = doubt.ruled.address; sound = doubt.ruled.sound; sized = doubt.ruled.sized; room = doubt.ruled.room };
-            change = subst (λ (r : Change). IsPending area.rules.slots (shown disk).contents area.packer r pending area.held texts coming) kept
-                (pending_later area.rules.slots (shown area.disk) (shown disk) area.packer redo pending area.held texts coming alike change);
-            doubt = subst (λ (r : Change). IsStoppedAs again r area.held texts area.packer (shown disk)) kept (answer area.held texts area.packer coming (doubt_in texts coming doubt) change.change);
+            change = subst (λ (r : RedoView). IsPending area.rules.slots (shown disk).contents area.packer r pending.change area.held doubt.posted texts coming) kept
+                (pending_later area.rules.slots (shown area.disk) (shown disk) area.packer redo pending.change area.held doubt.posted texts coming alike change);
+            replies = replies_is texts coming doubt;
+            doubt = subst (λ (r : RedoView). IsStoppedAs again r area.held texts area.packer (shown disk)) kept (answer area.held texts area.packer coming (doubt_in texts coming doubt) change.change);
           }
 
       -- whenever a crash comes

@@ -2,7 +2,7 @@
 use Rattle.std.proofs.Common.{◌≡◌, ◌≢◌, inl, inr, ℕ, ◌<◌, ◌≤◌, List, [], ◌∷◌, length, take, Option, ap, refl, ◌∙◌, arith, length-append, length-take}
 use Rattle.std.proofs.lemmas.List.{places}
 use Rattle.std.specs.Prelude.{slice_index}
-use Rattle.jb_disk.specs.Change.{Change}
+use Rattle.jb_disk.specs.RedoView.{RedoView}
 use Rattle.jb_disk.specs.Files.{Files, number_of, overwritten, with_file}
 use Rattle.jb_disk.specs.declared.file.FileId.{FileId}
 use Rattle.jb_disk.specs.declared.file.FileId.TheVariants.{Jhr, Jdt, Jdx, Jlr, Jnl}
@@ -41,14 +41,14 @@ opens_to base files loaded texts holds to = record {
 }
 
 -- each file that a commit of the change may leave opens to one of the two
-pub opens_either : (change : Change) (from : Loaded) (texts : List ℕ) (copies : Option Shadow) (coming : Coming) (start files : Files) → BringsComing change from texts copies coming → HoldsWith from texts copies start
+pub opens_either : (change : RedoView) (from : Loaded) (texts : List ℕ) (copies : Option Shadow) (coming : Coming) (start files : Files) → BringsComing change from texts copies coming → HoldsWith from texts copies start
     → IsBeforeOrAfter change start files → OpensToEither from texts coming files
 opens_either change from texts copies coming start files brings holds (inl before) = inl (opens_to start files from texts holds.holds before)
 opens_either change from texts copies coming start files brings holds (inr after) =
     inr (opens_to (changed change start) files coming.to coming.texts (brings.made start holds) after)
 
 -- the change may be committed over files at rest
-pub ready : (change : Change) (from : Loaded) (texts : List ℕ) (copies : Option Shadow) (coming : Coming) (files : Files) → BringsComing change from texts copies coming → IsAtRest from texts files → HasAll copies files
+pub ready : (change : RedoView) (from : Loaded) (texts : List ℕ) (copies : Option Shadow) (coming : Coming) (files : Files) → BringsComing change from texts copies coming → IsAtRest from texts files → HasAll copies files
     → IsReady change files
 ready change from texts copies coming files brings rest has = record {
   legal = brings.legal files (record { holds = rest.holds; has = has });
@@ -70,7 +70,7 @@ first_written : (byte : ℕ) (bytes : List ℕ) → 1 ≤ length bytes → slice
 unfolding overwritten
 first_written byte bytes some = grind (arith, places)
 
-module _ (change : Change) (start : Files) where
+module _ (change : RedoView) (start : Files) where
   -- the files with the record behind the open gate
   abbrev recorded : Files
   recorded = with_file Jnl (journal_of change start) (changed change start)
@@ -113,7 +113,7 @@ module _ (change : Change) (start : Files) where
       ∙ with_file-other Jnl file (journal_of change start) (changed change start) ne
 
 -- after a commit the files are at rest with the change done
-pub rests_committed : (change : Change) (from : Loaded) (texts : List ℕ) (copies : Option Shadow) (coming : Coming) (files : Files) → BringsComing change from texts copies coming → IsAtRest from texts files → HasAll copies files
+pub rests_committed : (change : RedoView) (from : Loaded) (texts : List ℕ) (copies : Option Shadow) (coming : Coming) (files : Files) → BringsComing change from texts copies coming → IsAtRest from texts files → HasAll copies files
     → IsAtRest coming.to coming.texts (committed change files)
 rests_committed change from texts copies coming files brings rest has = record {
   holds = holds_agree (committed change files) (changed change files) coming.to coming.texts (committed-agrees change files) (brings.made files (record { holds = rest.holds; has = has }));

@@ -1,11 +1,11 @@
 -- How much of the texts a pack has to copy still: each step makes it less.
-use Rattle.std.proofs.Common.{◌≡◌, inl, inr, ℕ, ◌+◌, ◌<◌, ◌≤◌, Bool, true, false, cond, nat_lt, List, [], ◌∷◌, All, length, take, drop, get_or, Option, Some, ap, refl, sym, ◌∙◌, subst, arith, ltb-true, lt-ltb, le-ltb}
+use Rattle.std.proofs.Common.{◌≡◌, inl, inr, ℕ, ◌+◌, ◌<◌, ◌≤◌, Bool, true, false, cond, nat_lt, List, [], ◌∷◌, length, drop, get_or, Option, ap, sym, subst, arith, ltb-true, lt-ltb, le-ltb}
 use Rattle.std.specs.Prelude.{sum}
 use Rattle.std.proofs.lemmas.Bool.{cases_lt}
 use Rattle.std.proofs.lemmas.List.{drop_all}
 use Rattle.std.proofs.lemmas.List.Elements.{All-get_or}
 use Rattle.std.proofs.lemmas.List.Sums.{sum_by-cons, sum_by-take-drop, sum_by-take-le}
-use Rattle.jb_base.specs.declared.limits.TheConstants.{MOST_TEXT_BYTES, SHADOW_CEILING, TEXTS_CEILING}
+use Rattle.jb_limits.specs.declared.limits.TheConstants.{MOST_TEXT_BYTES, SHADOW_CEILING, TEXTS_CEILING}
 use Rattle.jb_model.specs.Sound.{IsSlotWithin, IsSound}
 use Rattle.jb_model.specs.declared.loaded.Loaded.{Loaded}
 use Rattle.jb_model.specs.declared.loaded.LoadedSlot.{LoadedSlot}
@@ -13,7 +13,7 @@ use Rattle.jb_model.specs.declared.loaded.LoadedSlot.TheVariants.{Empty, Killed,
 use Rattle.jb_pack.proofs.PackerLemmas.{left_then}
 use Rattle.jb_pack.proofs.ShadowLemmas.{left-all, left-le, left-more, length-lefts}
 use Rattle.jb_pack.specs.Advance.{Copies, CopiesAnew, CopiesWithin}
-use Rattle.jb_pack.specs.Packed.{slot_text_size, texts_size}
+use Rattle.jb_model.specs.Packed.{slot_text_size, texts_size}
 use Rattle.jb_pack.specs.Shadow.{Shadow, left, left_of, lefts, not_copied, nothing_copied}
 use Rattle.jb_pack.specs.declared.copied.CopiedText.{CopiedText}
 use Rattle.jb_area.specs.Copying.{HasCopiedSome, begun_of}

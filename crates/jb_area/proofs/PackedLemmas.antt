@@ -1,36 +1,44 @@
 -- What is kept of the copies of texts, by what is pending; and the record of a pack.
 use Rattle.std.proofs.Common.{◌≡◌, ◌+◌, ◌*◌, ◌≤◌, length, Option, None, Result, Ok, Err, OnErr, OnOk, refl}
-use Rattle.jb_disk.specs.Change.{Change}
+use Rattle.jb_disk.specs.RedoView.{RedoView}
+use Rattle.jb_model.specs.declared.change.Change.{Change}
+use Rattle.jb_model.specs.declared.change.Change.TheVariants.{Nothing, Posted, Headed, Killed, Relinked, Marked, Packed}
 use Rattle.jb_model.specs.declared.loaded.Loaded.{Loaded}
 use Rattle.jb_pack.specs.Shadow.{Shadow}
 use Rattle.jb_redo.specs.Record.{record_bytes}
-use Rattle.jb_decide.specs.Decided.{HasShortRecord}
-use Rattle.jb_decide.specs.Pending.{IsPacking}
-use Rattle.jb_decide.specs.declared.pending.Pending.{Pending}
-use Rattle.jb_decide.specs.declared.pending.Pending.TheVariants.{Nothing, Counted, Marked, Packed}
+use Rattle.jb_decide.specs.Decided.{HasShortRecord, IsPacking}
 use Rattle.jb_area.specs.Area.{copied_after}
 
 -- where no pack is pending the copies stay
-pub copies_stay : (pending : Pending) (copies : Option Shadow) → (IsPacking pending → ⊥) → copied_after pending copies ≡ copies
+pub copies_stay : (change : Change) (copies : Option Shadow) → (IsPacking change → ⊥) → copied_after change copies ≡ copies
 copies_stay Nothing copies none = refl
-copies_stay (Counted change counter active) copies none = refl
+copies_stay (Posted message neighbour) copies none = refl
+copies_stay (Headed at) copies none = refl
+copies_stay (Killed place) copies none = refl
+copies_stay (Relinked plan) copies none = refl
 copies_stay (Marked place mark) copies none = refl
-copies_stay (Packed plan base replies) copies none = absurd (none tt)
+copies_stay (Packed plan base) copies none = absurd (none tt)
 
 -- where one is they are dropped
-pub copies_drop : (pending : Pending) (copies : Option Shadow) → IsPacking pending → copied_after pending copies ≡ None
+pub copies_drop : (change : Change) (copies : Option Shadow) → IsPacking change → copied_after change copies ≡ None
 copies_drop Nothing copies packing = absurd packing
-copies_drop (Counted change counter active) copies packing = absurd packing
+copies_drop (Posted message neighbour) copies packing = absurd packing
+copies_drop (Headed at) copies packing = absurd packing
+copies_drop (Killed place) copies packing = absurd packing
+copies_drop (Relinked plan) copies packing = absurd packing
 copies_drop (Marked place mark) copies packing = absurd packing
-copies_drop (Packed plan base replies) copies packing = refl
+copies_drop (Packed plan base) copies packing = refl
 
 -- and its record is short
-pub short_record : (pending : Pending) (redo : Change) (to : Loaded) → IsPacking pending → HasShortRecord pending redo to
+pub short_record : (change : Change) (redo : RedoView) (to : Loaded) → IsPacking change → HasShortRecord change redo to
     → 16 + length (record_bytes redo.lengths redo.pieces) ≤ 4096 + 3 * (to.headers_len + 8 * length to.slots)
 short_record Nothing redo to packing short = absurd packing
-short_record (Counted change counter active) redo to packing short = absurd packing
+short_record (Posted message neighbour) redo to packing short = absurd packing
+short_record (Headed at) redo to packing short = absurd packing
+short_record (Killed place) redo to packing short = absurd packing
+short_record (Relinked plan) redo to packing short = absurd packing
 short_record (Marked place mark) redo to packing short = absurd packing
-short_record (Packed plan base replies) redo to packing short = short
+short_record (Packed plan base) redo to packing short = short
 
 -- what follows whatever is answered
 pub on_either : {T E : Type 0} (result : Result T E) (P Q R : Type 0) → OnOk result P → OnErr result Q → (P → R) → (Q → R) → R

@@ -1,8 +1,9 @@
 -- What is on its way in an open area, from its stage.
-use Rattle.std.proofs.Common.{◌≡◌, ◌≢◌, ◌⊎◌, inl, inr, ℕ, List, Option, None, ap, sym, refl, ◌∙◌, subst, arith}
+use Rattle.std.proofs.Common.{◌≡◌, ◌≢◌, ◌⊎◌, inl, inr, ℕ, ◌≤◌, List, Option, None, ap, sym, refl, ◌∙◌, subst, arith}
 use Rattle.jb_disk.specs.Device.{Device, TellsAlike}
-use Rattle.jb_disk.specs.Change.{Change}
+use Rattle.jb_disk.specs.RedoView.{RedoView}
 use Rattle.jb_disk.proofs.RunLemmas.{stays_silent}
+use Rattle.jb_limits.specs.declared.limits.TheConstants.{MOST_SLOTS}
 use Rattle.jb_model.specs.Sound.{IsSound}
 use Rattle.jb_model.specs.declared.loaded.Loaded.{Loaded}
 use Rattle.jb_model.specs.declared.reply.Reply.{Reply}
@@ -13,19 +14,23 @@ use Rattle.std.specs.Option.{ForSome}
 use Rattle.jb_disk.specs.Files.{Files}
 use Rattle.jb_journal.specs.Commit.{AgreeButJournal}
 use Rattle.jb_redo.specs.Changes.{changed}
-use Rattle.jb_decide.specs.Decided.{IsNoChange, IsPending, made}
+use Rattle.jb_decide.proofs.DecidedLemmas.{fits_under, keeps_texts, sound_under}
+use Rattle.jb_decide.specs.Decided.{IsNoChange, IsPacking, IsPending, made}
 use Rattle.jb_decide.specs.Holds.{HasAll}
 use Rattle.jb_decide.specs.Packs.{IsPacked}
 use Rattle.jb_area.specs.Area.{copied_after, done_in, kept_in, redo_in, redo_of, HasMade, HasNoChange, IsBegun, IsBetween, RestsAt}
+use Rattle.jb_area.specs.Calls.{coming_of}
 use Rattle.jb_area.specs.Commits.{HasRecordOf, IsSettledAs, IsSettledWith, IsStoppedAs, MayCommit}
 use Rattle.jb_area.specs.Holds.{HasShortJournal}
-use Rattle.jb_decide.specs.Pending.{IsPacking, MayApply, after}
+use Rattle.jb_held.specs.Pending.{HasReplies, MayApply}
+use Rattle.jb_held.specs.declared.pending.Pending.{Pending}
+use Rattle.jb_model.specs.Change.{Fits, after}
+use Rattle.jb_model.specs.declared.change.Change.{Change}
+use Rattle.jb_model.specs.declared.change.Change.TheVariants.{Nothing, Posted, Headed, Killed, Relinked, Marked, Packed}
 use Rattle.jb_area.specs.declared.area.OpenArea.{OpenArea}
 use Rattle.jb_area.proofs.CommitLemmas.{some-same, told_before}
 use Rattle.jb_area.proofs.CopyingLemmas.{after_has}
 use Rattle.jb_area.proofs.PackedLemmas.{short_record}
-use Rattle.jb_decide.specs.declared.pending.Pending.{Pending}
-use Rattle.jb_decide.specs.declared.pending.Pending.TheVariants.{Nothing, Counted, Marked, Packed}
 use Rattle.jb_area.specs.declared.stage.Stage.{Stage}
 use Rattle.jb_area.specs.declared.stage.Stage.TheVariants.{Resting, Begun, Doubtful}
 
@@ -37,63 +42,91 @@ pub same_pending : (one other : Reply) (first second : Pending) → Begun one fi
 same_pending one other first second is = cc
 
 -- a call that is begun with something pending has a change
-pub some_change : {D : Type 0} (area : OpenArea D) (reply : Reply) (pending : Pending) → area.stage ≡ Begun reply pending → pending ≢ Nothing → HasNoChange area → ⊥
-some_change area reply pending is some idle = some (same_pending reply idle.reply pending Nothing (sym is ∙ idle.stage))
+pub some_change : {D : Type 0} (area : OpenArea D) (reply : Reply) (pending : Pending) → area.stage ≡ Begun reply pending → pending.change ≢ Nothing → HasNoChange area → ⊥
+some_change area reply pending is some idle =
+    some (ap (λ (p : Pending). p.change) (same_pending reply idle.reply pending idle.pending (sym is ∙ idle.stage)) ∙ idle.none)
 
 -- the copies that are kept once a call is done, by what is pending
-pub kept_by : (stage : Stage) (reply : Reply) (pending : Pending) (copies : Option Shadow) → stage ≡ Begun reply pending → kept_in stage copies ≡ copied_after pending copies
+pub kept_by : (stage : Stage) (reply : Reply) (pending : Pending) (copies : Option Shadow) → stage ≡ Begun reply pending → kept_in stage copies ≡ copied_after pending.change copies
 kept_by stage reply pending copies is = ap (λ (s : Stage). kept_in s copies) is
 
 -- nothing changes where nothing is pending
-pub none_pending : (limit : ℕ) (contents : Option Files) (copies : Option Shadow) (redo : Change) (pending : Pending) (from : Loaded) (texts : List ℕ) (coming : Coming) → pending ≡ Nothing
-    → IsNoChange pending from texts coming ⊎ IsPending limit contents copies redo pending from texts coming → coming ≡ record { to = from; texts = texts }
-none_pending limit contents copies redo pending from texts coming none (inl nothing) = nothing.same
-none_pending limit contents copies redo pending from texts coming none (inr change) = absurd (change.some none)
+pub none_pending : (limit : ℕ) (contents : Option Files) (copies : Option Shadow) (redo : RedoView) (change : Change) (from : Loaded) (posted texts : List ℕ) (coming : Coming) → change ≡ Nothing
+    → IsNoChange change from texts coming ⊎ IsPending limit contents copies redo change from posted texts coming → coming ≡ record { to = from; texts = texts }
+none_pending limit contents copies redo change from posted texts coming none (inl nothing) = nothing.same
+none_pending limit contents copies redo change from posted texts coming none (inr pending) = absurd (pending.some none)
 
 -- something changes where something is pending
-pub some_pending : (limit : ℕ) (contents : Option Files) (copies : Option Shadow) (redo : Change) (pending : Pending) (from : Loaded) (texts : List ℕ) (coming : Coming) → pending ≢ Nothing
-    → IsNoChange pending from texts coming ⊎ IsPending limit contents copies redo pending from texts coming → IsPending limit contents copies redo pending from texts coming
-some_pending limit contents copies redo pending from texts coming some (inl nothing) = absurd (some nothing.none)
-some_pending limit contents copies redo pending from texts coming some (inr change) = change
+pub some_pending : (limit : ℕ) (contents : Option Files) (copies : Option Shadow) (redo : RedoView) (change : Change) (from : Loaded) (posted texts : List ℕ) (coming : Coming) → change ≢ Nothing
+    → IsNoChange change from texts coming ⊎ IsPending limit contents copies redo change from posted texts coming → IsPending limit contents copies redo change from posted texts coming
+some_pending limit contents copies redo change from posted texts coming some (inl nothing) = absurd (some nothing.none)
+some_pending limit contents copies redo change from posted texts coming some (inr pending) = pending
+
+-- what is to come is what the change makes of the area, also where there is none
+comes_of : (limit : ℕ) (contents : Option Files) (copies : Option Shadow) (redo : RedoView) (change : Change) (from : Loaded) (posted texts : List ℕ) (coming : Coming)
+    → IsNoChange change from texts coming ⊎ IsPending limit contents copies redo change from posted texts coming → coming ≡ coming_of change from posted texts
+comes_of limit contents copies redo change from posted texts coming (inl nothing) =
+    nothing.same ∙ ap (λ (c : Change). coming_of c from posted texts) (sym nothing.none)
+comes_of limit contents copies redo change from posted texts coming (inr pending) =
+    ap (λ (l : Loaded). record { to = l; texts = coming.texts }) pending.becomes
+    ∙ ap (λ (t : List ℕ). record { to = after change from; texts = t }) pending.texts_are
+
+-- and it fits there
+fits_of : (limit : ℕ) (contents : Option Files) (copies : Option Shadow) (redo : RedoView) (change : Change) (from : Loaded) (posted texts : List ℕ) (coming : Coming)
+    → IsNoChange change from texts coming ⊎ IsPending limit contents copies redo change from posted texts coming → Fits limit change from
+fits_of limit contents copies redo change from posted texts coming (inl nothing) = subst (λ (c : Change). Fits limit c from) (sym nothing.none) tt
+fits_of limit contents copies redo change from posted texts coming (inr pending) = pending.fits
 
 -- what is pending is so when a disk was tried that does not begin to tell
-pub pending_later : (limit : ℕ) (old new : Device) (copies : Option Shadow) (redo : Change) (pending : Pending) (from : Loaded) (texts : List ℕ) (coming : Coming) → TellsAlike old new
-    → IsPending limit old.contents copies redo pending from texts coming → IsPending limit new.contents copies redo pending from texts coming
-pending_later limit old new copies redo pending from texts coming alike is = record {
+pub pending_later : (limit : ℕ) (old new : Device) (copies : Option Shadow) (redo : RedoView) (change : Change) (from : Loaded) (posted texts : List ℕ) (coming : Coming) → TellsAlike old new
+    → IsPending limit old.contents copies redo change from posted texts coming → IsPending limit new.contents copies redo change from posted texts coming
+pending_later limit old new copies redo change from posted texts coming alike is = record {
   some = is.some;
   becomes = is.becomes;
+  texts_are = is.texts_are;
   change = record {
     brings = told_before old new (stays_silent old.contents new.contents alike) (BringsComing redo from texts copies coming) is.change.brings;
     writable = is.change.writable;
   };
-  may = is.may;
+  fits = is.fits;
   sound = is.sound;
   sized = is.sized;
-  grows = is.grows;
   short = is.short;
 }
 
--- what is pending is done in the files
-some_made : (pending : Pending) (redo : Change) (files : Files) → pending ≢ Nothing → made pending redo files ≡ changed redo files
+-- the change is done in the files
+some_made : (change : Change) (redo : RedoView) (files : Files) → change ≢ Nothing → made change redo files ≡ changed redo files
 some_made Nothing redo files some = absurd (some refl)
-some_made (Counted change counter active) redo files some = refl
+some_made (Posted message neighbour) redo files some = refl
+some_made (Headed at) redo files some = refl
+some_made (Killed place) redo files some = refl
+some_made (Relinked plan) redo files some = refl
 some_made (Marked place mark) redo files some = refl
-some_made (Packed plan base replies) redo files some = refl
+some_made (Packed plan base) redo files some = refl
+
+-- what is pending in a sound area may be done in it
+pub apply_may : (limit : ℕ) (pending : Pending) (loaded : Loaded) → limit ≤ MOST_SLOTS → IsSound limit loaded → Fits limit pending.change loaded
+    → HasReplies pending.change pending.replies loaded → MayApply pending loaded
+apply_may limit pending loaded few sound fits replies = record {
+  sound = sound_under limit MOST_SLOTS loaded few sound;
+  fits = fits_under limit MOST_SLOTS pending.change loaded few fits;
+  replies = replies;
+}
 
 module _ {D : Type 0} (shown : D → Device) (area : OpenArea D) (reply : Reply) (pending : Pending) (is : area.stage ≡ Begun reply pending) where
   -- a call without a change leaves the files
-  pub made_nothing : (disk : D) (held : Loaded) (large : Option Change) (stage : Stage) → pending ≡ Nothing → disk ≡ area.disk → HasMade shown area (record area { disk = disk; held = held; large = large; stage = stage })
+  pub made_nothing : (disk : D) (held : Loaded) (large : Option RedoView) (stage : Stage) → pending.change ≡ Nothing → disk ≡ area.disk → HasMade shown area (record area { disk = disk; held = held; large = large; stage = stage })
   made_nothing disk held large stage none same was there now here = λ file ne.
       ap (λ (f : Files). f file) (some-same _ _ (sym here ∙ ap (λ (d : D). (shown d).contents) same ∙ there))
-      ∙ sym (ap (λ (s : Stage). done_in s (redo_of area) was file) is ∙ ap (λ (p : Pending). made p (redo_of area) was file) none)
+      ∙ sym (ap (λ (s : Stage). done_in s (redo_of area) was file) is ∙ ap (λ (c : Change). made c (redo_of area) was file) none)
 
   -- and one with a change does it
-  pub made_change : (disk : D) (held : Loaded) (large : Option Change) (packer : Option Shadow) (stage : Stage) (redo : Change) → redo ≡ redo_of area → pending ≢ Nothing
+  pub made_change : (disk : D) (held : Loaded) (large : Option RedoView) (packer : Option Shadow) (stage : Stage) (redo : RedoView) → redo ≡ redo_of area → pending.change ≢ Nothing
       → ForSome (shown area.disk).contents (λ was. ForSome (shown disk).contents (λ now. AgreeButJournal now (changed redo was)))
       → HasMade shown area (record area { disk = disk; held = held; large = large; packer = packer; stage = stage })
   made_change disk held large packer stage redo used some agree was there now here = λ file ne.
-      agree was there now here file ne ∙ ap (λ (r : Change). changed r was file) used
-      ∙ sym (ap (λ (s : Stage). done_in s (redo_of area) was file) is ∙ ap (λ (f : Files). f file) (some_made pending (redo_of area) was some))
+      agree was there now here file ne ∙ ap (λ (r : RedoView). changed r was file) used
+      ∙ sym (ap (λ (s : Stage). done_in s (redo_of area) was file) is ∙ ap (λ (f : Files). f file) (some_made pending.change (redo_of area) was some))
 
 module _ {D : Type 0} (shown : D → Device) where
   -- the parts of a begun call, whatever shows that it is begun
@@ -107,27 +140,47 @@ module _ {D : Type 0} (shown : D → Device) where
     pending_is reply pending is = same_pending decided reply begun.pending pending (sym begun.stage ∙ is)
 
     -- where nothing is pending
-    pub none_is : (reply : Reply) (pending : Pending) → area.stage ≡ Begun reply pending → pending ≡ Nothing → coming ≡ record { to = area.held; texts = texts }
-    none_is reply pending is none = none_pending area.rules.slots (shown area.disk).contents area.packer (redo_of area) begun.pending area.held texts coming (pending_is reply pending is ∙ none) begun.change
+    pub none_is : (reply : Reply) (pending : Pending) → area.stage ≡ Begun reply pending → pending.change ≡ Nothing → coming ≡ record { to = area.held; texts = texts }
+    none_is reply pending is none =
+        none_pending area.rules.slots (shown area.disk).contents area.packer (redo_of area) begun.pending.change area.held begun.posted texts coming
+        (ap (λ (p : Pending). p.change) (pending_is reply pending is) ∙ none) begun.change
 
     -- where something is pending
-    pub some_is : (reply : Reply) (pending : Pending) → area.stage ≡ Begun reply pending → pending ≢ Nothing → IsPending area.rules.slots (shown area.disk).contents area.packer (redo_of area) pending area.held texts coming
+    pub some_is : (reply : Reply) (pending : Pending) → area.stage ≡ Begun reply pending → pending.change ≢ Nothing
+        → IsPending area.rules.slots (shown area.disk).contents area.packer (redo_of area) pending.change area.held begun.posted texts coming
     some_is reply pending is some =
-        subst (λ (p : Pending). IsPending area.rules.slots (shown area.disk).contents area.packer (redo_of area) p area.held texts coming) (pending_is reply pending is)
-        (some_pending area.rules.slots (shown area.disk).contents area.packer (redo_of area) begun.pending area.held texts coming (λ none. some (sym (pending_is reply pending is) ∙ none)) begun.change)
+        let same = ap (λ (p : Pending). p.change) (pending_is reply pending is) in
+        subst (λ (c : Change). IsPending area.rules.slots (shown area.disk).contents area.packer (redo_of area) c area.held begun.posted texts coming) same
+        (some_pending area.rules.slots (shown area.disk).contents area.packer (redo_of area) begun.pending.change area.held begun.posted texts coming (λ none. some (sym same ∙ none)) begun.change)
 
     -- the same, of the redo that is in use
-    pub some_in : (reply : Reply) (pending : Pending) (redo : Change) → redo ≡ redo_of area → area.stage ≡ Begun reply pending → pending ≢ Nothing
-        → IsPending area.rules.slots (shown area.disk).contents area.packer redo pending area.held texts coming
+    pub some_in : (reply : Reply) (pending : Pending) (redo : RedoView) → redo ≡ redo_of area → area.stage ≡ Begun reply pending → pending.change ≢ Nothing
+        → IsPending area.rules.slots (shown area.disk).contents area.packer redo pending.change area.held begun.posted texts coming
     some_in reply pending redo used is some =
-        subst (λ (r : Change). IsPending area.rules.slots (shown area.disk).contents area.packer r pending area.held texts coming) (sym used) (some_is reply pending is some)
+        subst (λ (r : RedoView). IsPending area.rules.slots (shown area.disk).contents area.packer r pending.change area.held begun.posted texts coming) (sym used) (some_is reply pending is some)
+
+    -- the index of its replies, where it is a pack
+    replies_is : (reply : Reply) (pending : Pending) → area.stage ≡ Begun reply pending → HasReplies pending.change pending.replies area.held
+    replies_is reply pending is = subst (λ (p : Pending). HasReplies p.change p.replies area.held) (pending_is reply pending is) begun.replies
+
+    -- what is to come is what the change makes of the area
+    pub becomes_is : (reply : Reply) (pending : Pending) → area.stage ≡ Begun reply pending → coming ≡ coming_of pending.change area.held begun.posted texts
+    becomes_is reply pending is =
+        subst (λ (p : Pending). coming ≡ coming_of p.change area.held begun.posted texts) (pending_is reply pending is)
+        (comes_of area.rules.slots (shown area.disk).contents area.packer (redo_of area) begun.pending.change area.held begun.posted texts coming begun.change)
+
+    -- and it fits there
+    pub fits_is : (reply : Reply) (pending : Pending) → area.stage ≡ Begun reply pending → Fits area.rules.slots pending.change area.held
+    fits_is reply pending is =
+        subst (λ (p : Pending). Fits area.rules.slots p.change area.held) (pending_is reply pending is)
+        (fits_of area.rules.slots (shown area.disk).contents area.packer (redo_of area) begun.pending.change area.held begun.posted texts coming begun.change)
 
     -- where a pack is answered one is pending
-    pub packing_is : (reply : Reply) (pending : Pending) → area.stage ≡ Begun reply pending → IsPacked reply → IsPacking pending
-    packing_is reply pending is packed = subst IsPacking (pending_is reply pending is) (begun.packing (subst IsPacked (reply_is reply pending is) packed))
+    pub packing_is : (reply : Reply) (pending : Pending) → area.stage ≡ Begun reply pending → IsPacked reply → IsPacking pending.change
+    packing_is reply pending is packed = subst (λ (p : Pending). IsPacking p.change) (pending_is reply pending is) (begun.packing (subst IsPacked (reply_is reply pending is) packed))
 
     -- a call without a change is finished
-    pub rests_unchanged : (reply : Reply) (pending : Pending) (large : Option Change) (stage : Stage) → area.stage ≡ Begun reply pending → pending ≡ Nothing → large ≡ None → stage ≡ Resting
+    pub rests_unchanged : (reply : Reply) (pending : Pending) (large : Option RedoView) (stage : Stage) → area.stage ≡ Begun reply pending → pending.change ≡ Nothing → large ≡ None → stage ≡ Resting
         → (reply ≡ decided) × RestsAt shown (record area { large = large; stage = stage }) coming.texts coming.to
     rests_unchanged reply pending large stage is none small resting =
         let same = none_is reply pending is none in (
@@ -141,9 +194,9 @@ module _ {D : Type 0} (shown : D → Device) where
     settled_with = record { settled = begun.kept.settled; has = begun.kept.copies }
 
     -- and a call with one
-    pub rests_changed : (reply : Reply) (pending : Pending) (disk : D) (held : Loaded) (large : Option Change) (packer : Option Shadow) (stage : Stage) (redo : Change) → redo ≡ redo_of area → area.stage ≡ Begun reply pending → pending ≢ Nothing
-        → large ≡ None → packer ≡ copied_after pending area.packer → stage ≡ Resting
-        → held ≡ after pending area.held → TellsAlike (shown area.disk) (shown disk)
+    pub rests_changed : (reply : Reply) (pending : Pending) (disk : D) (held : Loaded) (large : Option RedoView) (packer : Option Shadow) (stage : Stage) (redo : RedoView) → redo ≡ redo_of area → area.stage ≡ Begun reply pending → pending.change ≢ Nothing
+        → large ≡ None → packer ≡ copied_after pending.change area.packer → stage ≡ Resting
+        → held ≡ after pending.change area.held → TellsAlike (shown area.disk) (shown disk)
         → ForSome (shown area.disk).contents (λ was. ForSome (shown disk).contents (λ now. AgreeButJournal now (changed redo was)))
         → ((from : Loaded) (texts : List ℕ) (copies : Option Shadow) (coming : Coming) → IsSettledWith from texts copies (shown area.disk) → IsChange (shown area.disk).contents redo from texts copies coming → IsSettledAs coming.to coming.texts (shown disk))
         → (reply ≡ decided) × RestsAt shown (record area { disk = disk; held = held; large = large; packer = packer; stage = stage }) coming.texts coming.to
@@ -162,7 +215,8 @@ module _ {D : Type 0} (shown : D → Device) where
                 copies = λ now here.
                     told_before (shown area.disk) (shown disk) (stays_silent (shown area.disk).contents (shown disk).contents alike) (HasAll packer now) (λ was there.
                     subst (λ (c : Option Shadow). HasAll c now) (sym copied)
-                    (after_has pending redo area.held texts area.packer coming was now change.grows (change.change.brings was there)
+                    (after_has pending.change redo area.held texts area.packer coming was now
+                    (keeps_texts area.rules.slots (shown area.disk).contents area.packer redo pending.change area.held begun.posted texts coming change) (change.change.brings was there)
                     (begun.kept.settled.rests was there).holds (begun.kept.copies was there) (settled.rests now here).holds (made was there now here))) now here;
               };
             };
@@ -171,40 +225,43 @@ module _ {D : Type 0} (shown : D → Device) where
         )
 
     -- after a pack the journal is short
-    pub short_after : (reply : Reply) (pending : Pending) (disk : D) (redo : Change) → redo ≡ redo_of area → area.stage ≡ Begun reply pending → pending ≢ Nothing → IsPacking pending
+    pub short_after : (reply : Reply) (pending : Pending) (disk : D) (redo : RedoView) → redo ≡ redo_of area → area.stage ≡ Begun reply pending → pending.change ≢ Nothing → IsPacking pending.change
         → ((from : Loaded) (texts : List ℕ) (copies : Option Shadow) (coming : Coming) → IsSettledWith from texts copies (shown area.disk) → IsChange (shown area.disk).contents redo from texts copies coming → IsSettledAs coming.to coming.texts (shown disk))
         → ForSome (shown disk).contents (HasRecordOf redo) → ForSome (shown disk).contents HasShortJournal
     short_after reply pending disk redo used is some packing done size files there =
         let change = some_in reply pending redo used is some in
         let settled : IsSettledAs coming.to coming.texts (shown disk) = done area.held texts area.packer coming settled_with change.change in
         let loads = (settled.rests files there).holds.loads in
-        let record_is = short_record pending redo coming.to packing change.short in
+        let record_is = short_record pending.change redo coming.to packing change.short in
         let journal = size files there in
         let headers = loads.headers_len in
         let index = loads.index in
         omega (arith, record_is, journal, headers, index)
 
     -- a call that was stopped is in doubt
-    pub between : (reply : Reply) (pending : Pending) (disk : D) (large : Option Change) (stage : Stage) (redo : Change) (stopped : Stopped) → stage ≡ Doubtful stopped pending → redo ≡ redo_of area → redo ≡ redo_in large area.redo → area.stage ≡ Begun reply pending
-        → pending ≢ Nothing → TellsAlike (shown area.disk) (shown disk)
+    pub between : (reply : Reply) (pending : Pending) (disk : D) (large : Option RedoView) (stage : Stage) (redo : RedoView) (stopped : Stopped) → stage ≡ Doubtful stopped pending → redo ≡ redo_of area → redo ≡ redo_in large area.redo → area.stage ≡ Begun reply pending
+        → pending.change ≢ Nothing → TellsAlike (shown area.disk) (shown disk)
         → ((from : Loaded) (texts : List ℕ) (copies : Option Shadow) (coming : Coming) → IsSettledWith from texts copies (shown area.disk) → IsChange (shown area.disk).contents redo from texts copies coming → IsStoppedAs stopped redo from texts copies (shown disk))
         → IsBetween shown (record area { disk = disk; large = large; stage = stage }) texts coming
     between reply pending disk large stage redo stopped doubtful used kept is some alike doubt =
         let change = some_in reply pending redo used is some in
         record {
           stopped = stopped;
+          posted = begun.posted;
           pending = pending;
           stage = doubtful;
           ruled = record { few_slots = begun.kept.ruled.few_slots; address = begun.kept.ruled.address; sound = begun.kept.ruled.sound; sized = begun.kept.ruled.sized; room = begun.kept.ruled.room };
-          change = subst (λ (r : Change). IsPending area.rules.slots (shown disk).contents area.packer r pending area.held texts coming) kept
-              (pending_later area.rules.slots (shown area.disk) (shown disk) area.packer redo pending area.held texts coming alike change);
-          doubt = subst (λ (r : Change). IsStoppedAs stopped r area.held texts area.packer (shown disk)) kept (doubt area.held texts area.packer coming settled_with change.change);
+          change = subst (λ (r : RedoView). IsPending area.rules.slots (shown disk).contents area.packer r pending.change area.held begun.posted texts coming) kept
+              (pending_later area.rules.slots (shown area.disk) (shown disk) area.packer redo pending.change area.held begun.posted texts coming alike change);
+          replies = replies_is reply pending is;
+          doubt = subst (λ (r : RedoView). IsStoppedAs stopped r area.held texts area.packer (shown disk)) kept (doubt area.held texts area.packer coming settled_with change.change);
         }
 
     -- the change may be committed
-    pub may_commit : (reply : Reply) (pending : Pending) (redo : Change) → redo ≡ redo_of area → area.stage ≡ Begun reply pending → pending ≢ Nothing → MayCommit redo (shown area.disk)
+    pub may_commit : (reply : Reply) (pending : Pending) (redo : RedoView) → redo ≡ redo_of area → area.stage ≡ Begun reply pending → pending.change ≢ Nothing → MayCommit redo (shown area.disk)
     may_commit reply pending redo used is some = record { from = area.held; texts = texts; copies = area.packer; coming = coming; settled = settled_with; change = (some_in reply pending redo used is some).change }
 
     -- it may be done in what is loaded
-    pub may_apply : (reply : Reply) (pending : Pending) → area.stage ≡ Begun reply pending → pending ≢ Nothing → MayApply pending area.held
-    may_apply reply pending is some = (some_is reply pending is some).may
+    pub may_apply : (reply : Reply) (pending : Pending) → area.stage ≡ Begun reply pending → MayApply pending area.held
+    may_apply reply pending is =
+        apply_may area.rules.slots pending area.held begun.kept.ruled.few_slots begun.kept.ruled.sound (fits_is reply pending is) (replies_is reply pending is)

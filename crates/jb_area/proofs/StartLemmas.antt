@@ -9,23 +9,25 @@ use Rattle.jb_pack.specs.Shadow.{Shadow}
 use Rattle.jb_pack.proofs.TouchLemmas.{touches-read}
 use Rattle.jb_pack.specs.Touching.{TouchesShadow}
 use Rattle.jb_disk.proofs.RunLemmas.{reads_alike}
+use Rattle.jb_change.specs.Ready.{HasRoomInAll}
 use Rattle.jb_decide.proofs.CopiesLemmas.{with_copies}
 use Rattle.jb_decide.specs.Coming.{Coming}
-use Rattle.jb_decide.specs.Decided.{IsDecided, IsNoChange, IsNoPack, IsPending, IsTold}
+use Rattle.jb_decide.specs.Decided.{IsDecided, IsNoChange, IsPending, IsTold}
 use Rattle.jb_decide.specs.Errors.{AreaFaultRose}
 use Rattle.jb_decide.specs.Holds.{AreTexts, Holds}
-use Rattle.jb_decide.specs.Ready.{HasRoomInAll}
+use Rattle.jb_decide.specs.StepOf.{IsNoPack, posted_text}
 use Rattle.jb_decide.specs.declared.decided.Decided.{Decided}
 use Rattle.jb_decide.specs.declared.error.AreaError.{AreaError}
 use Rattle.jb_decide.specs.declared.error.AreaError.TheVariants.{StoreFault, OutOfMemory}
-use Rattle.jb_decide.specs.declared.pending.Pending.{Pending}
-use Rattle.jb_decide.specs.declared.pending.Pending.TheVariants.{Nothing}
-use Rattle.jb_disk.specs.Change.{Change}
+use Rattle.jb_disk.specs.RedoView.{RedoView}
 use Rattle.jb_disk.specs.Device.{Device, OnlyReads}
 use Rattle.jb_disk.specs.Files.{Files}
 use Rattle.jb_disk.specs.Runs.{LeavesNow}
 use Rattle.jb_disk.specs.declared.file.FileId.TheVariants.{Jdt}
 use Rattle.jb_journal.specs.declared.stopped.Stopped.TheVariants.{Early}
+use Rattle.jb_held.specs.declared.pending.Pending.{Pending}
+use Rattle.jb_model.specs.declared.change.Change.{Change}
+use Rattle.jb_model.specs.declared.change.Change.TheVariants.{Nothing}
 use Rattle.jb_model.specs.declared.command.Command.{Command}
 use Rattle.jb_model.specs.declared.loaded.Loaded.{Loaded}
 use Rattle.jb_area.specs.Area.{copies_after, kept_in, redo_in, HasNoChange, IsDoubtful, IsKept, IsResting, RestsAt}
@@ -129,23 +131,23 @@ module _ {D : Type 0} (shown : D → Device) where
   }
 
   -- an area, from its parts
-  rebuilt : (P : OpenArea D → Type 0) (new : OpenArea D) (disk : D) (rules : AreaRules) (held : Loaded) (redo : Change) (large : Option Change) (packer : Option Shadow) (stage : Stage) → new.disk ≡ disk → new.rules ≡ rules
+  rebuilt : (P : OpenArea D → Type 0) (new : OpenArea D) (disk : D) (rules : AreaRules) (held : Loaded) (redo : RedoView) (large : Option RedoView) (packer : Option Shadow) (stage : Stage) → new.disk ≡ disk → new.rules ≡ rules
       → new.held ≡ held → new.redo ≡ redo → new.large ≡ large → new.packer ≡ packer → new.stage ≡ stage
       → P (record { disk = disk; rules = rules; held = held; redo = redo; large = large; packer = packer; stage = stage }) → P new
   rebuilt P new disk rules held redo large packer stage is_disk is_rules is_held is_redo is_large is_packer is_stage p =
       subst (λ (s : Stage). P (record { disk = new.disk; rules = new.rules; held = new.held; redo = new.redo; large = new.large; packer = new.packer; stage = s })) (sym is_stage)
       (subst (λ (k : Option Shadow). P (record { disk = new.disk; rules = new.rules; held = new.held; redo = new.redo; large = new.large; packer = k; stage = stage })) (sym is_packer)
-      (subst (λ (l : Option Change). P (record { disk = new.disk; rules = new.rules; held = new.held; redo = new.redo; large = l; packer = packer; stage = stage })) (sym is_large)
-      (subst (λ (r : Change). P (record { disk = new.disk; rules = new.rules; held = new.held; redo = r; large = large; packer = packer; stage = stage })) (sym is_redo)
+      (subst (λ (l : Option RedoView). P (record { disk = new.disk; rules = new.rules; held = new.held; redo = new.redo; large = l; packer = packer; stage = stage })) (sym is_large)
+      (subst (λ (r : RedoView). P (record { disk = new.disk; rules = new.rules; held = new.held; redo = r; large = large; packer = packer; stage = stage })) (sym is_redo)
       (subst (λ (h : Loaded). P (record { disk = new.disk; rules = new.rules; held = h; redo = redo; large = large; packer = packer; stage = stage })) (sym is_held)
       (subst (λ (u : AreaRules). P (record { disk = new.disk; rules = u; held = held; redo = redo; large = large; packer = packer; stage = stage })) (sym is_rules)
       (subst (λ (d : D). P (record { disk = d; rules = rules; held = held; redo = redo; large = large; packer = packer; stage = stage })) (sym is_disk) p))))))
 
-  module _ (area new : OpenArea D) (disk : D) (redo : Change) (given : Option Change) (is_disk : new.disk ≡ disk) (is_rules : new.rules ≡ area.rules) (is_held : new.held ≡ area.held) (is_redo : new.redo ≡ redo)
+  module _ (area new : OpenArea D) (disk : D) (redo : RedoView) (given : Option RedoView) (is_disk : new.disk ≡ disk) (is_rules : new.rules ≡ area.rules) (is_held : new.held ≡ area.held) (is_redo : new.redo ≡ redo)
       (is_packer : new.packer ≡ area.packer)
       (reads : OnlyReads (shown area.disk) (shown disk)) (room : HasRoomInAll redo) where
     -- what is kept stays so
-    kept_read : (large : Option Change) (stage : Stage) (texts : List ℕ) → IsKept shown area texts
+    kept_read : (large : Option RedoView) (stage : Stage) (texts : List ℕ) → IsKept shown area texts
         → IsKept shown (record { disk = disk; rules = area.rules; held = area.held; redo = redo; large = large; packer = area.packer; stage = stage }) texts
     kept_read large stage texts kept = record {
       ruled = record { few_slots = kept.ruled.few_slots; address = kept.ruled.address; sound = kept.ruled.sound; sized = kept.ruled.sized; room = room };
@@ -154,8 +156,9 @@ module _ {D : Type 0} (shown : D → Device) where
     }
 
     -- what is pending, by what a disk tells
-    abbrev Changes : Pending → List ℕ → Coming → Option Files → Type 0
-    Changes pending texts coming contents = IsNoChange pending area.held texts coming ⊎ IsPending area.rules.slots contents area.packer (redo_in given redo) pending area.held texts coming
+    abbrev Changes : Change → List ℕ → List ℕ → Coming → Option Files → Type 0
+    Changes change posted texts coming contents =
+        IsNoChange change area.held texts coming ⊎ IsPending area.rules.slots contents area.packer (redo_in given redo) change area.held posted texts coming
 
     -- begun
     starts : (decided : Result Decided AreaError) (result : Result (Unit {0}) AreaError) (user : User) (moment : ℕ) (command : Command) → StartsAs decided area.stage new.stage → new.large ≡ large_after decided given area.large → AnswersAs decided result
@@ -167,9 +170,20 @@ module _ {D : Type 0} (shown : D → Device) where
         (record {
           reply = decided.reply;
           coming = decides.coming;
-          begun = record { pending = decided.pending; stage = refl; kept = kept_read given (Begun decided.reply decided.pending) texts resting.kept; change = subst (Changes decided.pending texts decides.coming) (sym reads.contents) decides.change; packing = decides.packing };
+          begun = record {
+            posted = posted_text command;
+            pending = decided.pending;
+            stage = refl;
+            kept = kept_read given (Begun decided.reply decided.pending) texts resting.kept;
+            change = subst (Changes decided.pending.change (posted_text command) texts decides.coming) (sym reads.contents) decides.change;
+            replies = decides.replies;
+            packing = decides.packing;
+          };
+          text = refl;
           step = λ told. decides.step (subst (λ (o : Option Files). IsTold decided.reply o) reads.contents told);
-          idle = λ nothing. let none = decides.idle nothing in (record { reply = decided.reply; stage = ap (λ (p : Pending). Begun decided.reply p) none.none }, none.same);
+          somewhere = decides.somewhere;
+          idle = λ nothing. let none = decides.idle nothing in (record { reply = decided.reply; pending = decided.pending; stage = refl; none = none.none }, none.same);
+          index = decides.index;
           headers = decides.headers;
           packs = decides.packs;
         })
@@ -182,7 +196,7 @@ module _ {D : Type 0} (shown : D → Device) where
         → IfOk decided (λ one. (texts : List ℕ) → AreTexts area.held texts (shown area.disk).contents → IsDecided area.rules area.held texts (shown area.disk).contents area.packer (redo_in given redo) user moment command one)
         → HasRest shown area → OnOk result (IsNoPack command → copies_after new ≡ new.packer)
     stays (Ok decided) (Ok done) user moment command stage answer is has = λ in_place.
-        ap (λ (s : Stage). kept_in s new.packer) stage ∙ copies_stay decided.pending new.packer ((is has.texts (texts_own area has.texts has.rests)).kind in_place)
+        ap (λ (s : Stage). kept_in s new.packer) stage ∙ copies_stay decided.pending.change new.packer ((is has.texts (texts_own area has.texts has.rests)).kind in_place)
     stays decided (Err error) user moment command stage answer is has = tt
     stays (Err error) (Ok done) user moment command stage answer is has = absurd (ok_not_err (Ok done) done error refl answer)
 
@@ -192,8 +206,9 @@ module _ {D : Type 0} (shown : D → Device) where
     starts_not decided (Ok done) stage is_large answer = tt
     starts_not (Ok decided) (Err error) stage is_large answer = let refused : Result (Unit {0}) AreaError = Err error in absurd (err_not_ok refused error refl answer)
     starts_not (Err StoreFault) (Err StoreFault) stage is_large answer = λ texts resting.
-        rebuilt (λ (a : OpenArea D). IsDoubtful shown a texts None) new disk area.rules area.held redo area.large area.packer (Doubtful Early Nothing) is_disk is_rules is_held is_redo is_large is_packer stage
-        (inl (record { stopped = Early; stage = refl; kept = kept_read area.large (Doubtful Early Nothing) texts resting.kept }))
+        let pending : Pending = record { change = Nothing; replies = None } in
+        rebuilt (λ (a : OpenArea D). IsDoubtful shown a texts None) new disk area.rules area.held redo area.large area.packer (Doubtful Early pending) is_disk is_rules is_held is_redo is_large is_packer stage
+        (inl (record { stopped = Early; pending = pending; stage = refl; none = refl; kept = kept_read area.large (Doubtful Early pending) texts resting.kept }))
     starts_not (Err OutOfMemory) (Err OutOfMemory) stage is_large answer = λ texts resting.
         rebuilt (λ (a : OpenArea D). RestsAt shown a texts area.held) new disk area.rules area.held redo area.large area.packer Resting is_disk is_rules is_held is_redo is_large is_packer (stage ∙ resting.stage)
         (record { rests = record { stage = refl; small = resting.small; kept = kept_read area.large Resting texts resting.kept }; is = refl })

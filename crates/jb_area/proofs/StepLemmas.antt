@@ -1,29 +1,29 @@
 -- A step of a pack, and a pack behind one.
 use Rattle.std.proofs.Common.{◌≡◌, ◌≢◌, inr, ℕ, ◌≤◌, Bool, false, nat_lt, ltb-false, List, Option, None, Some, Result, Ok, Err, IfErr, IfOk, OnOk, ap, refl, sym, ◌∙◌, subst, arith}
 use Rattle.std.specs.Option.{ForSome}
-use Rattle.jb_base.specs.Fault.{Rose}
-use Rattle.jb_base.specs.declared.limits.TheConstants.{MOST_TEXT_BYTES}
+use Rattle.jb_bytes.specs.Fault.{Rose}
+use Rattle.jb_limits.specs.declared.limits.TheConstants.{MOST_TEXT_BYTES}
 use Rattle.jb_base.specs.declared.area.AreaRules.{AreaRules}
 use Rattle.jb_base.specs.declared.user.User.{User}
 use Rattle.jb_decide.specs.Errors.{AreaFaultRose}
 use Rattle.jb_decide.specs.Holds.{HasAll}
 use Rattle.jb_decide.specs.Packs.{MayPack}
 use Rattle.jb_decide.specs.declared.decided.Decided.{Decided}
-use Rattle.jb_decide.specs.declared.pending.Pending.TheVariants.{Nothing}
 use Rattle.jb_decide.specs.declared.error.AreaError.{AreaError}
 use Rattle.jb_decide.specs.declared.error.AreaError.TheVariants.{StoreFault, OutOfMemory}
-use Rattle.jb_disk.specs.Device.{Device, OnlyReads}
+use Rattle.jb_disk.specs.Device.{Device}
 use Rattle.jb_disk.specs.Runs.{IsAllSynced}
 use Rattle.jb_disk.proofs.RunLemmas.{reads_alike}
+use Rattle.jb_held.specs.declared.pending.Pending.{Pending}
+use Rattle.jb_model.specs.declared.change.Change.TheVariants.{Nothing}
 use Rattle.jb_model.specs.declared.command.Command.TheVariants.{Pack}
 use Rattle.jb_model.specs.declared.loaded.Loaded.{Loaded}
-use Rattle.jb_model.specs.declared.loaded.LoadedSlot.{LoadedSlot}
 use Rattle.jb_pack.proofs.TouchLemmas.{touches-none, touches-read, touches-then}
 use Rattle.jb_pack.specs.Shadow.{Shadow, left}
 use Rattle.jb_pack.specs.Touching.{TouchesShadow}
 use Rattle.jb_pack.specs.declared.error.PackError.{PackError}
 use Rattle.jb_pack.specs.declared.error.PackError.TheVariants as pack_error
-use Rattle.jb_area.specs.Area.{HasNoChange, IsDoubtful, IsHalfCopied, IsResting, RestsAt}
+use Rattle.jb_area.specs.Area.{HasNoChange, IsDoubtful, IsResting, RestsAt}
 use Rattle.jb_area.specs.Calls.{AnswersAs, BeginsCall, BeginsReading, HasRest, IsNotBegun, StartsAs, StepsPack}
 use Rattle.jb_area.specs.Commits.{IsCopyingAs}
 use Rattle.jb_area.specs.Copying.{AreAllCopied, HasCopiedSome, UnlessFault}
@@ -53,8 +53,9 @@ may_mid old mid user rules held may =
 
 -- what was begun with something pending has a change
 pub start_changes : {D : Type 0} (old new : OpenArea D) (P : Type 0) (decided : Result Decided AreaError) (result : Result (Unit {0}) AreaError) → StartsAs decided old.stage new.stage → AnswersAs decided result
-    → IfOk decided (λ one. P → one.pending ≢ Nothing) → OnOk result (P → HasNoChange new → ⊥)
-start_changes old new P (Ok decided) (Ok done) stage answer some = λ holds none. some holds (same_pending decided.reply none.reply decided.pending Nothing (sym stage ∙ none.stage))
+    → IfOk decided (λ one. P → one.pending.change ≢ Nothing) → OnOk result (P → HasNoChange new → ⊥)
+start_changes old new P (Ok decided) (Ok done) stage answer some = λ holds none.
+    some holds (ap (λ (p : Pending). p.change) (same_pending decided.reply none.reply decided.pending none.pending (sym stage ∙ none.stage)) ∙ none.none)
 start_changes old new P decided (Err error) stage answer some = tt
 start_changes old new P (Err error) (Ok done) stage answer some = absurd (cc)
 

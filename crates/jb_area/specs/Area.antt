@@ -2,21 +2,22 @@
 use Rattle.std.specs.Prelude.{◌≡◌, ◌⊎◌, ℕ, ◌≤◌, length, Bool, true, false, List, Option, Some, None}
 use Rattle.std.specs.Option.{ForSome}
 use Rattle.jb_base.specs.declared.area.AreaRules.{AreaRules}
-use Rattle.jb_base.specs.declared.limits.TheConstants.{MOST_ADDRESS_BYTES, MOST_SLOTS}
+use Rattle.jb_limits.specs.declared.limits.TheConstants.{MOST_ADDRESS_BYTES, MOST_SLOTS}
+use Rattle.jb_change.specs.Ready.{HasRoomInAll}
 use Rattle.jb_decide.specs.Coming.{Coming}
-use Rattle.jb_decide.specs.Decided.{IsNoChange, IsPending, made}
+use Rattle.jb_decide.specs.Decided.{IsNoChange, IsPacking, IsPending, made}
 use Rattle.jb_decide.specs.Holds.{HasAll}
 use Rattle.jb_decide.specs.Packs.{IsPacked}
-use Rattle.jb_decide.specs.Pending.{IsPacking}
-use Rattle.jb_decide.specs.Ready.{HasRoomInAll}
-use Rattle.jb_decide.specs.declared.pending.Pending.{Pending}
-use Rattle.jb_decide.specs.declared.pending.Pending.TheVariants.{Nothing, Counted, Marked, Packed}
-use Rattle.jb_disk.specs.Change.{Change}
+use Rattle.jb_disk.specs.RedoView.{RedoView}
 use Rattle.jb_disk.specs.Device.{Device}
 use Rattle.jb_disk.specs.Files.{Files}
+use Rattle.jb_held.specs.Pending.{HasReplies}
+use Rattle.jb_held.specs.declared.pending.Pending.{Pending}
 use Rattle.jb_journal.specs.Commit.{AgreeButJournal}
 use Rattle.jb_journal.specs.declared.stopped.Stopped.{Stopped}
 use Rattle.jb_model.specs.Sound.{IsSound}
+use Rattle.jb_model.specs.declared.change.Change.{Change}
+use Rattle.jb_model.specs.declared.change.Change.TheVariants.{Nothing, Packed}
 use Rattle.jb_model.specs.declared.loaded.Loaded.{Loaded}
 use Rattle.jb_model.specs.declared.reply.Reply.{Reply}
 use Rattle.jb_pack.specs.Shadow.{Shadow}
@@ -27,28 +28,26 @@ use Rattle.jb_area.specs.declared.stage.Stage.{Stage}
 use Rattle.jb_area.specs.declared.stage.Stage.TheVariants.{Resting, Begun, Doubtful, Copying}
 
 -- these files with the change of a call that is begun done in them
-abbrev pub done_in : Stage → Change → Files → Files
+abbrev pub done_in : Stage → RedoView → Files → Files
 done_in Resting redo files = files
-done_in (Begun reply pending) redo files = made pending redo files
+done_in (Begun reply pending) redo files = made pending.change redo files
 done_in (Doubtful stopped pending) redo files = files
 done_in Copying redo files = files
 
 -- the redo of a call: one of its own, or the small one
-abbrev pub redo_in : Option Change → Change → Change
+abbrev pub redo_in : Option RedoView → RedoView → RedoView
 redo_in None small = small
 redo_in (Some large) small = large
 
 -- the copies of texts that are kept once this is done: after a pack none are of use
-abbrev pub copied_after : Pending → Option Shadow → Option Shadow
-copied_after Nothing copies = copies
-copied_after (Counted change counter active) copies = copies
-copied_after (Marked place mark) copies = copies
-copied_after (Packed plan base replies) copies = None
+abbrev pub copied_after : Change → Option Shadow → Option Shadow
+copied_after (Packed plan base) copies = None
+copied_after _ copies = copies
 
 -- the same, once the call is done that is begun
 abbrev pub kept_in : Stage → Option Shadow → Option Shadow
 kept_in Resting copies = copies
-kept_in (Begun reply pending) copies = copied_after pending copies
+kept_in (Begun reply pending) copies = copied_after pending.change copies
 kept_in (Doubtful stopped pending) copies = copies
 kept_in Copying copies = copies
 
@@ -62,11 +61,11 @@ module _ {D : Type 0} where
   rules_of area = area.rules
 
   -- the redo that stays with the area, for small changes: what it holds, and its room
-  abbrev pub small_redo_of : OpenArea D → Change
+  abbrev pub small_redo_of : OpenArea D → RedoView
   small_redo_of area = area.redo
 
   -- the redo of the call that is begun or in doubt
-  abbrev pub redo_of : OpenArea D → Change
+  abbrev pub redo_of : OpenArea D → RedoView
   redo_of area = redo_in area.large area.redo
 
   -- what is copied of its texts for a pack, where something is
@@ -84,7 +83,9 @@ module _ {D : Type 0} where
   -- the call that is begun has no change
   pub record HasNoChange (area : OpenArea D) : Type 0 where
     pub reply : Reply
-    pub stage : area.stage ≡ Begun reply Nothing
+    pub pending : Pending
+    pub stage : area.stage ≡ Begun reply pending
+    pub none : pending.change ≡ Nothing
 
   -- what is loaded is sound and has no more slots than the rules allow, which are as they may be; and the texts have its length
   pub record IsSoundFor (area : OpenArea D) (texts : List ℕ) : Type 0 where
@@ -112,13 +113,17 @@ module _ {D : Type 0} (shown : D → Device) where
     pub small : area.large ≡ None
     pub kept : IsKept area texts
 
-  -- a call is begun that will be answered so, and this is to come of it; it packs the area where the answer says so
+  -- a call is begun that will be answered so, and this is to come of it; a post has this text, and it packs the area where the
+  -- answer says so
   pub record IsBegun (area : OpenArea D) (texts : List ℕ) (reply : Reply) (coming : Coming) : Type 0 where
+    pub posted : List ℕ
     pub pending : Pending
     pub stage : area.stage ≡ Begun reply pending
     pub kept : IsKept area texts
-    pub change : IsNoChange pending area.held texts coming ⊎ IsPending area.rules.slots (shown area.disk).contents area.packer (redo_of area) pending area.held texts coming
-    pub packing : IsPacked reply → IsPacking pending
+    pub change : IsNoChange pending.change area.held texts coming
+        ⊎ IsPending area.rules.slots (shown area.disk).contents area.packer (redo_of area) pending.change area.held posted texts coming
+    pub replies : HasReplies pending.change pending.replies area.held
+    pub packing : IsPacked reply → IsPacking pending.change
 
   -- the files are those that they were with what was begun done in them, but for the journal
   abbrev pub HasMade : OpenArea D → OpenArea D → Type 0
@@ -132,16 +137,20 @@ module _ {D : Type 0} (shown : D → Device) where
   -- the files are between the area as it is loaded and the one to come
   pub record IsBetween (area : OpenArea D) (texts : List ℕ) (coming : Coming) : Type 0 where
     pub stopped : Stopped
+    pub posted : List ℕ
     pub pending : Pending
     pub stage : area.stage ≡ Doubtful stopped pending
     pub ruled : IsSoundFor area texts
-    pub change : IsPending area.rules.slots (shown area.disk).contents area.packer (redo_of area) pending area.held texts coming
+    pub change : IsPending area.rules.slots (shown area.disk).contents area.packer (redo_of area) pending.change area.held posted texts coming
+    pub replies : HasReplies pending.change pending.replies area.held
     pub doubt : IsStoppedAs stopped (redo_of area) area.held texts area.packer (shown area.disk)
 
   -- a call was stopped that had changed nothing
   pub record IsUnchanged (area : OpenArea D) (texts : List ℕ) : Type 0 where
     pub stopped : Stopped
-    pub stage : area.stage ≡ Doubtful stopped Nothing
+    pub pending : Pending
+    pub stage : area.stage ≡ Doubtful stopped pending
+    pub none : pending.change ≡ Nothing
     pub kept : IsKept area texts
 
   -- a copying of texts was stopped: .NDT may hold anything, and a crash may leave anything of it; all else is as before

@@ -1,30 +1,36 @@
 -- What the calls of an open area do.
 use Rattle.std.specs.Prelude.{◌≡◌, ℕ, ◌≤◌, Bool, List, Option, Some, None, Result, Ok, Err, IsOk, IfErr, IfOk, OnErr, OnOk}
 use Rattle.std.specs.Option.{ForSome}
-use Rattle.jb_base.specs.Fault.{Rose}
+use Rattle.jb_bytes.specs.Fault.{Rose}
 use Rattle.jb_base.specs.declared.user.User.{User}
+use Rattle.jb_change.specs.Put.{KeepsIndexOnKill}
 use Rattle.jb_decide.specs.Coming.{Coming}
-use Rattle.jb_decide.specs.Decided.{ChangesNothing, IsNoPack, IsTold}
+use Rattle.jb_decide.specs.Decided.{IsAnsweredSomewhere, IsTold}
 use Rattle.jb_decide.specs.Errors.{AreaFaultRose}
 use Rattle.jb_decide.specs.Headers.{KeepsHeaders, PacksHeaders}
 use Rattle.jb_decide.specs.Holds.{HoldsWith}
 use Rattle.jb_decide.specs.Packs.{IsPacked}
+use Rattle.jb_decide.specs.StepOf.{ChangesNothing, IsNoPack, posted_text}
 use Rattle.jb_decide.specs.declared.decided.Decided.{Decided}
 use Rattle.jb_decide.specs.declared.error.AreaError.{AreaError}
 use Rattle.jb_decide.specs.declared.error.AreaError.TheVariants.{StoreFault, OutOfMemory}
-use Rattle.jb_decide.specs.declared.pending.Pending.TheVariants.{Nothing}
-use Rattle.jb_disk.specs.Change.{Change}
+use Rattle.jb_disk.specs.RedoView.{RedoView}
 use Rattle.jb_disk.specs.Device.{Device, OnlyReads, TellsAlike}
 use Rattle.jb_disk.specs.Files.{Files}
 use Rattle.jb_disk.specs.Runs.{LeavesOnly}
+use Rattle.jb_disk.specs.declared.file.FileId.TheVariants.{Jdx}
 use Rattle.jb_journal.specs.declared.stopped.Stopped.TheVariants.{Early}
+use Rattle.jb_model.specs.Change.{Fits, after, texts_after}
 use Rattle.jb_model.specs.State.{state_of}
 use Rattle.jb_model.specs.Step.{Step}
+use Rattle.jb_model.specs.declared.change.Change.{Change}
+use Rattle.jb_model.specs.declared.change.Change.TheVariants.{Nothing, Killed}
 use Rattle.jb_model.specs.declared.command.Command.{Command}
 use Rattle.jb_model.specs.declared.command.Command.TheVariants.{Post, Read, Peek, Kill, SetMark, Pack, Relink}
+use Rattle.jb_model.specs.declared.loaded.Loaded.{Loaded}
 use Rattle.jb_model.specs.declared.reply.Reply.{Reply}
 use Rattle.jb_pack.specs.Touching.{TouchesShadow}
-use Rattle.jb_area.specs.Area.{copies_after, files_after, small_redo_of, DoubtOpens, HasMade, HasNoChange, HasPacked, IsBegun, IsDoubtful, IsResting, RestsAt}
+use Rattle.jb_area.specs.Area.{copies_after, files_after, redo_of, small_redo_of, DoubtOpens, HasMade, HasNoChange, HasPacked, IsBegun, IsDoubtful, IsResting, RestsAt}
 use Rattle.jb_area.specs.Holds.{Opens, OpensToEither}
 use Rattle.jb_area.specs.declared.area.OpenArea.{OpenArea}
 use Rattle.jb_area.specs.declared.stage.Stage.{Stage}
@@ -40,6 +46,15 @@ OnlyReadsOrCopies (SetMark number) old new = OnlyReads old new
 OnlyReadsOrCopies Relink old new = OnlyReads old new
 OnlyReadsOrCopies Pack old new = TouchesShadow old new
 
+-- what the change makes of an area as it is loaded, with these texts, of which those that a post has come behind the others
+abbrev pub coming_of : Change → Loaded → List ℕ → List ℕ → Coming
+coming_of change from posted texts = record { to = after change from; texts = texts_after change from posted texts }
+
+-- a kill leaves the file of the index as it was
+abbrev pub KeepsIndexFile : Change → Files → Files → Type 0
+KeepsIndexFile (Killed place) was now = now Jdx ≡ was Jdx
+KeepsIndexFile _ was now = Unit {0}
+
 -- of a disk that shows itself so
 module _ {D : Type 0} (shown : D → Device) where
   -- no call is begun, and the area is settled
@@ -52,10 +67,15 @@ module _ {D : Type 0} (shown : D → Device) where
     pub reply : Reply
     pub coming : Coming
     pub begun : IsBegun shown area texts reply coming
+    pub text : begun.posted ≡ posted_text command
     pub step : IsTold reply (shown area.disk).contents
         → Step area.rules (state_of texts area.held) user moment command reply (state_of coming.texts coming.to)
+    -- a letter that is not told is that of some texts, with this change
+    pub somewhere : IsAnsweredSomewhere area.rules area.held user moment command reply begun.pending.change
     -- a refusal, a look, and a relink that finds no wrong link have no change
     pub idle : ChangesNothing command reply → HasNoChange area × (coming ≡ record { to = area.held; texts = texts })
+    -- a kill leaves the file of the index in whatever files hold the area
+    pub index : KeepsIndexOnKill (redo_of area) area.held begun.pending.change
     -- but for a pack, each header stays in its place in whatever files hold the area
     pub headers : IsNoPack command → (files : Files) → HoldsWith area.held texts area.packer files
         → KeepsHeaders reply area.held coming.to files (files_after area files)
@@ -68,11 +88,18 @@ module _ {D : Type 0} (shown : D → Device) where
     pub step : IsTold reply (shown old.disk).contents
         → Step old.rules (state_of texts old.held) user moment command reply (state_of coming.texts coming.to)
     pub rests : RestsAt shown new coming.texts coming.to
+    -- this is what it changed; a letter that was not told is that of some texts
+    pub change : Change
+    pub fits : Fits old.rules.slots change old.held
+    pub becomes : coming ≡ coming_of change old.held (posted_text command) texts
+    pub somewhere : IsAnsweredSomewhere old.rules old.held user moment command reply change
     -- for a refusal, a look, and a relink that found no wrong link, the device was only read
     pub idle : ChangesNothing command reply → OnlyReads (shown old.disk) (shown new.disk) × (coming ≡ record { to = old.held; texts = texts })
     -- but for a pack, each header stayed in its place
     pub headers : IsNoPack command → ForSome (shown old.disk).contents (λ was. ForSome (shown new.disk).contents (λ now.
         KeepsHeaders reply old.held coming.to was now))
+    -- a kill left the file of the index as it was
+    pub index : ForSome (shown old.disk).contents (λ was. ForSome (shown new.disk).contents (λ now. KeepsIndexFile change was now))
     -- and a pack that was done put all of them one behind another
     pub packs : ForSome (shown old.disk).contents (λ was. ForSome (shown new.disk).contents (λ now. PacksHeaders reply coming.to now))
     pub crash : ForSome (shown old.disk).contents (λ files.
@@ -81,8 +108,11 @@ module _ {D : Type 0} (shown : D → Device) where
   -- what the change of a call in doubt would come to, as it would have been answered; a call that changes nothing has none
   abbrev pub IsChangeOf : OpenArea D → List ℕ → User → ℕ → Command → Option Coming → Type 0
   IsChangeOf old texts user moment command None = Unit {0}
-  IsChangeOf old texts user moment command (Some coming) = (reply : Reply) × (ChangesNothing command reply → ⊥) × (IsTold reply (shown old.disk).contents
-      → Step old.rules (state_of texts old.held) user moment command reply (state_of coming.texts coming.to))
+  IsChangeOf old texts user moment command (Some coming) =
+      (reply : Reply) × (change : Change) × (ChangesNothing command reply → ⊥) × Fits old.rules.slots change old.held
+      × (coming ≡ coming_of change old.held (posted_text command) texts)
+      × IsAnsweredSomewhere old.rules old.held user moment command reply change
+      × (IsTold reply (shown old.disk).contents → Step old.rules (state_of texts old.held) user moment command reply (state_of coming.texts coming.to))
 
   -- the call was stopped by a fault: its change, where it had one, may stand or not, and the area is loaded as before
   pub record HasStoppedIn (old new : OpenArea D) (texts : List ℕ) (user : User) (moment : ℕ) (command : Command) : Type 0 where
@@ -197,11 +227,11 @@ module _ {D : Type 0} (shown : D → Device) where
 -- the stage that a decision leads to
 abbrev pub StartsAs : Result Decided AreaError → Stage → Stage → Type 0
 StartsAs (Ok decided) old new = new ≡ Begun decided.reply decided.pending
-StartsAs (Err StoreFault) old new = new ≡ Doubtful Early Nothing
+StartsAs (Err StoreFault) old new = new ≡ Doubtful Early (record { change = Nothing; replies = None })
 StartsAs (Err OutOfMemory) old new = new ≡ old
 
 -- the redo of its own that the call then has
-abbrev pub large_after : Result Decided AreaError → Option Change → Option Change → Option Change
+abbrev pub large_after : Result Decided AreaError → Option RedoView → Option RedoView → Option RedoView
 large_after (Ok decided) given was = given
 large_after (Err error) given was = was
 

@@ -3,7 +3,7 @@ use Rattle.std.specs.Prelude.{◌≡◌, ℕ, ◌+◌, Bool, true, false, List, 
 use Rattle.std.specs.Option.{ForSome}
 use Rattle.jb_decide.specs.Coming.{Coming, IsChange}
 use Rattle.jb_decide.specs.Holds.{HasAll}
-use Rattle.jb_disk.specs.Change.{Change}
+use Rattle.jb_disk.specs.RedoView.{RedoView}
 use Rattle.jb_disk.specs.Device.{Device}
 use Rattle.jb_disk.specs.Files.{Files}
 use Rattle.jb_disk.specs.Runs.{IsAllSynced, LeavesNow, Shows}
@@ -27,18 +27,18 @@ pub record IsSettledWith (loaded : Loaded) (texts : List ℕ) (copies : Option S
   pub has : ForSome device.contents (HasAll copies)
 
 -- the journal is its head and the record of this redo, and no longer
-abbrev pub HasRecordOf : Change → Files → Type 0
+abbrev pub HasRecordOf : RedoView → Files → Type 0
 HasRecordOf redo files = length (files Jnl) ≡ 16 + length (record_bytes redo.lengths redo.pieces)
 
 -- a commit of this redo over files that held this area, and these copies of its texts, was stopped here
-pub record IsStopped (stopped : Stopped) (redo : Change) (from : Loaded) (texts : List ℕ) (copies : Option Shadow) (device : Device) : Type 0 where
+pub record IsStopped (stopped : Stopped) (redo : RedoView) (from : Loaded) (texts : List ℕ) (copies : Option Shadow) (device : Device) : Type 0 where
   pub start : Files
   pub rests : IsAtRest from texts start
   pub has : HasAll copies start
   pub shows : Shows (IsInDoubt stopped redo start) device
 
 -- the same, where the disk tells
-abbrev pub IsStoppedAs : Stopped → Change → Loaded → List ℕ → Option Shadow → Device → Type 0
+abbrev pub IsStoppedAs : Stopped → RedoView → Loaded → List ℕ → Option Shadow → Device → Type 0
 IsStoppedAs stopped redo from texts copies device = ForSome device.contents (λ files. IsStopped stopped redo from texts copies device)
 
 -- settled as the answer says: with the change, or without it
@@ -47,7 +47,7 @@ IsAnsweredAs false from texts coming device = IsSettledAs from texts device
 IsAnsweredAs true from texts coming device = IsSettledAs coming.to coming.texts device
 
 -- the change may be committed
-pub record MayCommit (redo : Change) (device : Device) : Type 0 where
+pub record MayCommit (redo : RedoView) (device : Device) : Type 0 where
   pub from : Loaded
   pub texts : List ℕ
   pub copies : Option Shadow
@@ -56,7 +56,7 @@ pub record MayCommit (redo : Change) (device : Device) : Type 0 where
   pub change : IsChange device.contents redo from texts copies coming
 
 -- a commit of it may be settled
-pub record MaySettle (stopped : Stopped) (redo : Change) (device : Device) : Type 0 where
+pub record MaySettle (stopped : Stopped) (redo : RedoView) (device : Device) : Type 0 where
   pub from : Loaded
   pub texts : List ℕ
   pub copies : Option Shadow

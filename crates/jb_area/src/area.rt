@@ -5,11 +5,11 @@ use crate::copying::{clear_copies, keep_after};
 use crate::places::{drop_both, drop_pending, drop_stage, put_redo, put_stage};
 use crate::stage::Stage;
 use jb_base::AreaRules;
-use jb_decide::{Held, Pending};
 use jb_disk::{Disk, Redo};
+use jb_held::Held;
 use jb_journal::Stopped;
 use jb_link::Replies;
-use jb_model::{Loaded, Reply};
+use jb_model::{Change, Loaded, Reply};
 use jb_pack::Packer;
 use std::mem;
 
@@ -31,11 +31,12 @@ pub struct OpenArea<D: Disk> {
 impl<D: Disk> OpenArea<D> {
     ghost use Rattle.std.specs.Prelude.{◌≡◌, ◌≤◌, List, [], ℕ, Option, None, Some, IfOk, IfErr, IsOk, IsTrue, OnOk, OnErr, false};
     ghost use Rattle.std.specs.Option.{ForSome};
-    ghost use Rattle.jb_base.specs.Fault.{Rose};
+    ghost use Rattle.jb_bytes.specs.Fault.{Rose};
     ghost use Rattle.jb_disk.specs.Device.{Device, TellsAlike};
     ghost use Rattle.jb_disk.specs.Runs.{LeavesOnly};
     ghost use Rattle.jb_disk.specs.declared.file.FileId.TheVariants.{Ndt as shadow_file};
     ghost use Rattle.jb_link.specs.Index.{IsIndexOf};
+    ghost use Rattle.jb_model.specs.Change.{Fits, after};
     ghost use Rattle.jb_model.specs.declared.reply.Reply.{Reply};
     ghost use Rattle.jb_area.specs.Holds.{OpensToEither};
     ghost use Rattle.jb_decide.specs.Coming.{Coming};
@@ -102,7 +103,7 @@ impl<D: Disk> OpenArea<D> {
             drop_stage(stage);
             unreachable!()
         };
-        if let Pending::Nothing = pending {
+        if let Change::Nothing = pending.change {
             drop_pending(pending);
             put_redo(&mut self.large, None);
             return Ok(reply);
@@ -110,7 +111,7 @@ impl<D: Disk> OpenArea<D> {
         match commit_change(&mut self.disk, in_use(&self.large, &self.redo)) {
             Ok(()) => {
                 put_redo(&mut self.large, None);
-                keep_after(&pending, &mut self.packer);
+                keep_after(&pending.change, &mut self.packer);
                 self.held.apply(pending);
                 Ok(reply)
             }
@@ -130,6 +131,18 @@ impl<D: Disk> OpenArea<D> {
             unreachable!()
         };
         reply
+    }
+
+    /// The change of the call that is begun.
+    pub fn change(&self) -> &Change
+        requires begun { HasBegun D.device self.now }
+        ensures becomes { (texts : List ℕ) (decided : Reply) (coming : Coming) → IsBegun D.device self.now texts decided coming → coming.to ≡ after result.now (loaded_of self.now) }
+        ensures fits { Fits (rules_of self.now).slots result.now (loaded_of self.now) }
+    {
+        let Stage::Begun { reply: _, pending } = &self.stage else {
+            unreachable!()
+        };
+        &pending.change
     }
 
     /// Drops the call that is begun, and the memory of its change. Nothing has changed.
@@ -204,7 +217,7 @@ impl<D: Disk> OpenArea<D> {
             drop_stage(stage);
             unreachable!()
         };
-        if let Pending::Nothing = pending {
+        if let Change::Nothing = pending.change {
             drop_pending(pending);
             drop_both(&mut self.large, &mut self.packer);
             return Ok(false);

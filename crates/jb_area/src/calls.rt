@@ -3,28 +3,27 @@ ghost use Rattle.std.specs.Prelude.{◌≡◌, ◌≤◌, ℕ, length, IfErr, Ok
 
 use crate::OpenArea;
 use crate::copying::copy_some;
-use crate::places::{put_redo, put_stage};
+use crate::places::{nothing_pending, put_redo, put_stage};
 use crate::stage::Stage;
 use jb_base::{MOST_TEXT_BYTES, OutOfMemory, User};
 use jb_decide::{
-    AreaError, Decided, Pending, decide_kill, decide_mark, decide_pack, decide_peek, decide_post,
+    AreaError, Decided, Draft, decide_kill, decide_mark, decide_pack, decide_peek, decide_post,
     decide_read, decide_relink, refuse_pack,
 };
 use jb_disk::{Disk, Redo};
 use jb_journal::Stopped;
 use jb_model::Reply;
 use jb_pack::PackError;
-use jb_step::Draft;
 use std::alloc::Global;
 
 impl<D: Disk> OpenArea<D> {
     ghost use Rattle.std.specs.Prelude.{List, IfOk, OnOk, true, false};
-    ghost use Rattle.jb_base.specs.declared.limits.TheConstants.{MOST_NAME_BYTES, MOST_TEXT_BYTES, TEXTS_CEILING};
+    ghost use Rattle.jb_limits.specs.declared.limits.TheConstants.{MOST_NAME_BYTES, MOST_TEXT_BYTES, TEXTS_CEILING};
     ghost use Rattle.jb_base.specs.declared.user.User.{User};
+    ghost use Rattle.jb_decide.specs.Draft.{draft_of, post_of};
     ghost use Rattle.jb_decide.specs.Packs.{MayPack, is_pack_refused};
     ghost use Rattle.jb_model.specs.declared.command.Command.TheVariants.{Kill, Pack, Peek, Read, Relink, SetMark};
-    ghost use Rattle.jb_step.specs.Draft.{draft_of, post_of};
-    ghost use Rattle.jb_pack.specs.Packed.{texts_size};
+    ghost use Rattle.jb_model.specs.Packed.{texts_size};
     ghost use Rattle.jb_area.specs.Area.{HasBegun, HasNoChange, IsResting, copied_of, loaded_of, rules_of, small_redo_of};
     ghost use Rattle.jb_area.specs.Calls.{AnswersAs, BeginsCall, BeginsReading, EndsCall, HasRest, MeetsCall, StartsAs, StepsPack, large_after};
     ghost use Rattle.jb_area.specs.Copying.{AreAllCopied, HasCopiedSome};
@@ -106,7 +105,7 @@ impl<D: Disk> OpenArea<D> {
                     &mut self.stage,
                     Stage::Doubtful {
                         stopped: Stopped::Early,
-                        pending: Pending::Nothing,
+                        pending: nothing_pending(),
                     },
                 );
                 Err(AreaError::StoreFault)
@@ -357,7 +356,7 @@ impl<D: Disk> OpenArea<D> {
                     &mut self.stage,
                     Stage::Begun {
                         reply,
-                        pending: Pending::Nothing,
+                        pending: nothing_pending(),
                     },
                 );
                 Ok(())

@@ -2,14 +2,14 @@
 
 use crate::{AreaError, OpenArea};
 use jb_base::User;
+use jb_decide::Draft;
 use jb_disk::Disk;
 use jb_model::{Command, Reply};
-use jb_step::Draft;
 use std::alloc::Global;
 
 impl<D: Disk> OpenArea<D> {
     ghost use Rattle.std.specs.Prelude.{◌≤◌, length};
-    ghost use Rattle.jb_base.specs.declared.limits.TheConstants.{MOST_NAME_BYTES};
+    ghost use Rattle.jb_limits.specs.declared.limits.TheConstants.{MOST_NAME_BYTES};
     ghost use Rattle.jb_area.specs.Calls.{BeginsCall, HasRest, MeetsCall};
 
     /// Begins a command: decides its reply, takes all the memory and reads all that it needs, and writes nothing. Then

@@ -1,7 +1,7 @@
 //! A change of an area, committed and settled.
 ghost use Rattle.std.specs.Prelude.{◌≡◌, ◌≤◌, List, ℕ, None, Option, IfOk, IfErr, OnErr, OnOk};
 ghost use Rattle.std.specs.Option.{ForSome};
-ghost use Rattle.jb_base.specs.Fault.{Rose};
+ghost use Rattle.jb_bytes.specs.Fault.{Rose};
 ghost use Rattle.jb_disk.specs.Device.{TellsAlike};
 ghost use Rattle.jb_disk.specs.Runs.{LeavesOnly};
 ghost use Rattle.jb_journal.specs.Commit.{AgreeButJournal};

@@ -1,15 +1,15 @@
 //! Texts are copied into .NDT, for a pack that comes later.
 ghost use Rattle.std.specs.Prelude.{◌≡◌, ◌≤◌, ℕ, List, [], Option, Some, IfErr, IfOk, OnErr, OnOk, length};
 ghost use Rattle.std.specs.Option.{ForSome};
-ghost use Rattle.jb_base.specs.Fault.{Rose};
-ghost use Rattle.jb_base.specs.declared.limits.TheConstants.{MOST_SLOTS, TEXTS_CEILING};
+ghost use Rattle.jb_bytes.specs.Fault.{Rose};
+ghost use Rattle.jb_limits.specs.declared.limits.TheConstants.{MOST_SLOTS, TEXTS_CEILING};
 ghost use Rattle.jb_disk.specs.Device.{TellsAlike};
 ghost use Rattle.jb_disk.specs.Runs.{IsAllSynced, LeavesOnly};
 ghost use Rattle.jb_disk.specs.declared.file.FileId.TheVariants.{Jdt as texts_file, Ndt as shadow_file};
 ghost use Rattle.jb_model.specs.Sound.{IsSound};
 ghost use Rattle.jb_model.specs.declared.loaded.Loaded.{Loaded};
 ghost use Rattle.jb_pack.specs.Copying.{PackFaultRose};
-ghost use Rattle.jb_pack.specs.Packed.{texts_size};
+ghost use Rattle.jb_model.specs.Packed.{texts_size};
 ghost use Rattle.jb_pack.specs.Shadow.{HasCopies};
 ghost use Rattle.jb_pack.specs.Touching.{IsUntouched, TouchesShadow};
 ghost use Rattle.jb_decide.specs.Holds.{HasAll};
@@ -18,10 +18,9 @@ ghost use Rattle.jb_area.specs.Commits.{IsCopyingAs, IsSettledAs};
 ghost use Rattle.jb_area.specs.Copying.{HasCopiedSome, UnlessFault, begun_of};
 ghost use Rattle.jb_area.specs.Holds.{Opens};
 
-use jb_decide::Pending;
 use jb_disk::{Disk, DiskFailed, FileId};
 use jb_journal::Stopped;
-use jb_model::Loaded;
+use jb_model::{Change, Loaded};
 use jb_pack::{PackError, Packer};
 use std::alloc::Global;
 use std::mem;
@@ -126,12 +125,12 @@ pub(crate) fn clear_copies<D: Disk>(disk: &mut D) -> Result<(), Stopped>
     }
 }
 
-/// Keeps the packer once what is pending is done, but after a pack, since its copies are of no use then.
-pub(crate) fn keep_after(pending: &Pending, kept: &mut Option<Packer>)
-    ensures { kept.new ≡ copied_after pending.now kept.old }
+/// Keeps the packer once the change is done, but after a pack, since its copies are of no use then.
+pub(crate) fn keep_after(change: &Change, kept: &mut Option<Packer>)
+    ensures { kept.new ≡ copied_after change.now kept.old }
 {
-    match pending {
-        Pending::Packed { .. } => *kept = None,
-        Pending::Nothing | Pending::Counted { .. } | Pending::Marked { .. } => {}
+    match change {
+        Change::Packed { .. } => *kept = None,
+        _ => {}
     }
 }

@@ -6,7 +6,7 @@
 //! of the device leaves the area in doubt between the two; [`OpenArea::reopen`] settles that and answers which. A call may be
 //! done in two parts: [`OpenArea::begin`] decides, takes all memory and reads all that is needed, and writes nothing;
 //! [`OpenArea::finish`] commits and takes no memory, or [`OpenArea::abandon`] drops it. `jb_decide` says what each command
-//! comes to, and keeps what is in memory.
+//! comes to, and `jb_held` keeps what is in memory.
 //!
 //! The redo of a reading, a kill or a mark is made at opening and stays; that of a post, a relink or a pack is made for it and
 //! goes with it. So a kill and a mark take no memory, and a large change leaves none behind.

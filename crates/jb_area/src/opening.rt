@@ -1,12 +1,12 @@
 //! An area is opened over files that were read.
 ghost use Rattle.std.specs.Prelude.{◌≡◌, ◌≤◌, ℕ, List, length, IfErr, IfOk};
 ghost use Rattle.std.specs.Option.{ForSome};
-ghost use Rattle.jb_base.specs.declared.limits.TheConstants.{MOST_ADDRESS_BYTES, MOST_SLOTS};
+ghost use Rattle.jb_limits.specs.declared.limits.TheConstants.{MOST_ADDRESS_BYTES, MOST_SLOTS};
 ghost use Rattle.jb_disk.specs.Runs.{IsAllSynced};
 ghost use Rattle.jb_disk.specs.declared.file.FileId.TheVariants.{Jdt as texts_file};
 ghost use Rattle.jb_model.specs.Sound.{IsSound};
+ghost use Rattle.jb_change.specs.Ready.{HasRoomInAll};
 ghost use Rattle.jb_decide.specs.Holds.{AreTexts};
-ghost use Rattle.jb_decide.specs.Ready.{HasRoomInAll};
 ghost use Rattle.jb_area.specs.Area.{device_of, loaded_of, rules_of, IsResting};
 ghost use Rattle.jb_area.specs.Calls.{HasRest};
 ghost use Rattle.jb_area.specs.Holds.{IsAtRest};
@@ -14,8 +14,8 @@ ghost use Rattle.jb_area.specs.Holds.{IsAtRest};
 use crate::OpenArea;
 use crate::stage::Stage;
 use jb_base::{AreaRules, OutOfMemory};
-use jb_decide::Held;
 use jb_disk::{Disk, Redo};
+use jb_held::Held;
 use jb_model::Loaded;
 use std::alloc::Global;
 

@@ -1,9 +1,11 @@
 //! Parts of an open area that are put in the place of others, which are dropped here alone.
 ghost use Rattle.std.specs.Prelude.{◌≡◌, None};
+ghost use Rattle.jb_model.specs.declared.change.Change.TheVariants.{Nothing};
 
 use crate::stage::Stage;
-use jb_decide::Pending;
 use jb_disk::Redo;
+use jb_held::Pending;
+use jb_model::Change;
 use jb_pack::Packer;
 use std::mem;
 
@@ -28,6 +30,16 @@ pub(crate) fn drop_both(large: &mut Option<Redo>, packer: &mut Option<Packer>)
 {
     *large = None;
     *packer = None;
+}
+
+/// What a call without a change has pending.
+pub(crate) fn nothing_pending() -> Pending
+    ensures { result ≡ record { change = Nothing; replies = None } }
+{
+    Pending {
+        change: Change::Nothing,
+        replies: None,
+    }
 }
 
 /// Drops a stage.

@@ -1,6 +1,6 @@
 //! What is on its way in an open area.
 
-use jb_decide::Pending;
+use jb_held::Pending;
 use jb_journal::Stopped;
 use jb_model::Reply;
 

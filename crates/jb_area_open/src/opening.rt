@@ -4,7 +4,7 @@ ghost use Rattle.std.specs.Option.{ForSome};
 ghost use Rattle.jb_area.specs.Area.{IsResting, device_of, loaded_of, rules_of};
 ghost use Rattle.jb_area.specs.Calls.{HasRest};
 ghost use Rattle.jb_area_open.specs.Opening.{OpeningFaultRose, IsOpenAt, IsRecovered, KeepsOpening, OpensFirmly, Refuses, device_after};
-ghost use Rattle.jb_base.specs.declared.limits.TheConstants.{MOST_ADDRESS_BYTES, MOST_SLOTS};
+ghost use Rattle.jb_limits.specs.declared.limits.TheConstants.{MOST_ADDRESS_BYTES, MOST_SLOTS};
 ghost use Rattle.jb_decide.specs.Holds.{AreTexts};
 ghost use Rattle.jb_disk.specs.Device.{TellsAlike};
 ghost use Rattle.jb_journal.specs.Recover.{IsGrowthSafe};

@@ -5,7 +5,7 @@ use Rattle.std.specs.Char.{to_ascii_lowercase}
 use Rattle.std.proofs.lemmas.Bool.Decides.{nat_tests}
 use Rattle.std.proofs.lemmas.Slice.Eq.{bytes_eq-Decides}
 use Rattle.jb_base.specs.Access.{Envelope, has_attribute, is_party, is_sysop, is_visible, refuses_showing}
-use Rattle.jb_base.specs.Name.{SameName, same_name}
+use Rattle.jb_bytes.specs.Name.{SameName, same_name}
 use Rattle.jb_base.specs.declared.area.AreaRules.{AreaRules}
 use Rattle.jb_base.specs.declared.user.User.{User}
 

@@ -1,5 +1,2 @@
 pub mod Access
-mod Heads
-pub mod Numbers
-pub mod Spelled
 mod StandardFacts

@@ -1,6 +1,6 @@
 -- Who may do what in an area.
 use Rattle.std.specs.Prelude.{ℕ, Bool, false, not, ◌&&◌, ◌||◌, nat_lt, nat_le, ◌==◌, bit_and, List, [], ◌∷◌, find, Option, None, Some, is_none}
-use Rattle.jb_base.specs.Name.{same_name}
+use Rattle.jb_bytes.specs.Name.{same_name}
 use Rattle.jb_base.specs.declared.area.Action.{Action}
 use Rattle.jb_base.specs.declared.area.Action.TheVariants.{List as Listing, Post as Posting, Kill as Killing, Tend as Tending}
 use Rattle.jb_base.specs.declared.area.AreaRules.{AreaRules}

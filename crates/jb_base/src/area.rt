@@ -1,7 +1,7 @@
 //! What an area asks of those who use it.
 ghost use Rattle.std.specs.Prelude.{◌≡◌, IfOk};
 
-use crate::{Bytes, OutOfMemory};
+use jb_bytes::{Bytes, OutOfMemory};
 use std::alloc::Global;
 
 /// How the messages of an area are marked: TYPELOCAL or TYPEECHO (JAM, "Attribute").

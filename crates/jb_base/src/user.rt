@@ -1,6 +1,6 @@
 //! A caller, as the areas see one.
 
-use crate::Name;
+use jb_bytes::Name;
 
 /// A user: a name of 1 to 36 bytes, a number that lastread records carry, and a level that an area's rules ask for.
 #[derive(Debug, Drop)]

@@ -4,10 +4,10 @@ use Rattle.std.specs.Prelude.{◌^◌, slice_index, slice_index_or, slice_set}
 use Rattle.std.proofs.lemmas.Bool.{cases_eq, cases_lt}
 use Rattle.std.proofs.lemmas.Grind.{same_number_lists}
 use Rattle.std.proofs.lemmas.List.{get_or-set_same, get_or-set_other, take_all}
-use Rattle.jb_base.specs.declared.limits.TheConstants.{MOST_MARKS}
-use Rattle.jb_base.specs.Number.{number_bytes}
-use Rattle.jb_base.proofs.Numbers.{little_endian-back}
-use Rattle.jb_disk.specs.Change.{Change}
+use Rattle.jb_limits.specs.declared.limits.TheConstants.{MOST_MARKS}
+use Rattle.jb_bytes.specs.Number.{number_bytes}
+use Rattle.jb_bytes.proofs.Numbers.{little_endian-back}
+use Rattle.jb_disk.specs.RedoView.{RedoView}
 use Rattle.jb_disk.specs.declared.file.FileId.{FileId}
 use Rattle.jb_disk.specs.declared.file.FileId.TheVariants.{Jhr, Jdt, Jdx, Jlr}
 use Rattle.jb_disk.specs.declared.piece.Length.{Length}
@@ -103,7 +103,7 @@ module _ (files : Files) (to : Loaded) (counter active : ℕ) (loads : Loads to 
   }
 
 -- what the change makes then
-pub counts_make : (counter active : ℕ) (old new : Change) → counter < 2 ^ 32 → active < 2 ^ 32 → Puts Jhr 8 (number_bytes 4 counter ++ number_bytes 4 active) old new
+pub counts_make : (counter active : ℕ) (old new : RedoView) → counter < 2 ^ 32 → active < 2 ^ 32 → Puts Jhr 8 (number_bytes 4 counter ++ number_bytes 4 active) old new
     → ChangesArea old new (with_counts counter active)
 counts_make counter active old new counter_fits active_fits puts from to text makes =
     put_makes Jhr 8 (number_bytes 4 counter ++ number_bytes 4 active) old new puts from to (with_counts counter active to) text makes
@@ -112,7 +112,7 @@ counts_make counter active old new counter_fits active_fits puts from to text ma
     (λ files held. loads_counts files to counter active held counter_fits active_fits)
 
 -- no byte outside the counts is another
-pub counts_only : (counter active : ℕ) (old new : Change) → Puts Jhr 8 (number_bytes 4 counter ++ number_bytes 4 active) old new → WritesOnly old new Jhr 8 8
+pub counts_only : (counter active : ℕ) (old new : RedoView) → Puts Jhr 8 (number_bytes 4 counter ++ number_bytes 4 active) old new → WritesOnly old new Jhr 8 8
 counts_only counter active old new puts = put_only Jhr 8 (number_bytes 4 counter ++ number_bytes 4 active) old new puts 8 8 (omega arith) (omega arith)
 
 -- a mark written into .JLR
@@ -200,7 +200,7 @@ module _ (files : Files) (to : Loaded) (place : ℕ) (mark : Mark) (bytes : List
       }
 
 -- what the change makes then
-pub mark_makes : (place : ℕ) (mark : Mark) (bytes : List ℕ) (old new : Change) → place < MOST_MARKS → length bytes ≡ 16 → lastread_record_of bytes ≡ mark_record mark
+pub mark_makes : (place : ℕ) (mark : Mark) (bytes : List ℕ) (old new : RedoView) → place < MOST_MARKS → length bytes ≡ 16 → lastread_record_of bytes ≡ mark_record mark
     → Puts Jlr (16 * place) bytes old new → ChangesMark old new place mark
 mark_makes place mark bytes old new few sixteen is puts from to text makes low =
     put_makes Jlr (16 * place) bytes old new puts from to (with_marks (slice_set to.marks place mark) to) text makes
@@ -208,7 +208,7 @@ mark_makes place mark bytes old new few sixteen is puts from to text makes low =
     (λ files held. mark_room files to place mark bytes held low sixteen is) (λ files held. loads_mark files to place mark bytes held low sixteen is)
 
 -- no byte outside the mark is another
-pub mark_only : (place : ℕ) (bytes : List ℕ) (old new : Change) → length bytes ≡ 16 → Puts Jlr (16 * place) bytes old new → WritesOnly old new Jlr (16 * place) 16
+pub mark_only : (place : ℕ) (bytes : List ℕ) (old new : RedoView) → length bytes ≡ 16 → Puts Jlr (16 * place) bytes old new → WritesOnly old new Jlr (16 * place) 16
 mark_only place bytes old new sixteen puts = put_only Jlr (16 * place) bytes old new puts (16 * place) 16 (omega arith) (omega arith)
 
 -- files of their own lengths are themselves

@@ -1,9 +1,9 @@
 -- The change that makes a base, and the files with it.
-use Rattle.std.proofs.Common.{◌≡◌, ◌≢◌, inl, ℕ, ◌<◌, ◌≤◌, List, [], ◌∷◌, length, take, refl, ap, sym, ◌∙◌, subst, arith}
+use Rattle.std.proofs.Common.{◌≡◌, ◌≢◌, inl, ℕ, ◌<◌, List, [], ◌∷◌, length, take, refl, ap, sym, ◌∙◌, subst, arith}
 use Rattle.std.proofs.lemmas.List.{take_all}
 use Rattle.std.proofs.lemmas.List.Elements.{All-nil, All-cons}
 use Rattle.std.proofs.lemmas.List.Kept.{AllPairs-cons}
-use Rattle.jb_disk.specs.Change.{Change}
+use Rattle.jb_disk.specs.RedoView.{RedoView}
 use Rattle.jb_disk.specs.Files.{Files, number_of}
 use Rattle.jb_disk.specs.Memory.{of_length}
 use Rattle.jb_disk.specs.Steps.{patched}
@@ -92,7 +92,7 @@ new_holds moment files back headers others =
       };
     }
 
-module _ (moment : ℕ) (change : Change) (lengths_are : change.lengths ≡ base_lengths) (pieces_are : change.pieces ≡ base_pieces moment) where
+module _ (moment : ℕ) (change : RedoView) (lengths_are : change.lengths ≡ base_lengths) (pieces_are : change.pieces ≡ base_pieces moment) where
   module _ (files : Files) (empty : AreEmpty files) where
     -- .JHR is empty
     no_headers : files Jhr ≡ []

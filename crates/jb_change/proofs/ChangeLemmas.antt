@@ -3,9 +3,9 @@ use Rattle.std.proofs.Common.{◌≡◌, ℕ, ◌+◌, ◌<◌, ◌≤◌, List,
 use Rattle.std.specs.Prelude.{◌^◌, ◌%◌, bit_and, bit_or}
 use Rattle.std.proofs.lemmas.Nat.{and_or_self}
 use Rattle.jb_base.specs.declared.attribute.TheConstants.{DELETED}
-use Rattle.jb_base.specs.Number.{number_bytes}
-use Rattle.jb_base.proofs.Numbers.{little_endian-back}
-use Rattle.jb_disk.specs.Change.{Change}
+use Rattle.jb_bytes.specs.Number.{number_bytes}
+use Rattle.jb_bytes.proofs.Numbers.{little_endian-back}
+use Rattle.jb_disk.specs.RedoView.{RedoView}
 use Rattle.jb_disk.specs.declared.file.FileId.TheVariants.{Jhr, Jdx}
 use Rattle.jb_disk.specs.Files.{Files, number_of, overwritten}
 use Rattle.jb_disk.specs.FileLaws.{with_file-here, with_file-other}
@@ -33,7 +33,7 @@ pub record IsInHeader (at o : ℕ) (bytes : List ℕ) : Type 0 where
   pub whole : length bytes % 4 ≡ 0
   pub fits : at + 76 < 2 ^ 32
 
-module _ (at o : ℕ) (bytes : List ℕ) (old new : Change) (puts : Puts Jhr (at + o) bytes old new) (inside : IsInHeader at o bytes) where
+module _ (at o : ℕ) (bytes : List ℕ) (old new : RedoView) (puts : Puts Jhr (at + o) bytes old new) (inside : IsInHeader at o bytes) where
   -- the same, where the message stands
   puts_there : (message : LoadedMessage) → message.header_at ≡ at → Puts Jhr (message.header_at + o) bytes old new
   puts_there message is = subst (λ (n : ℕ). Puts Jhr (n + o) bytes old new) (sym is) puts
@@ -97,7 +97,7 @@ abbrev links_bytes : ℕ → ℕ → ℕ → List ℕ
 links_bytes reply_to first next = number_bytes 4 reply_to ++ number_bytes 4 first ++ number_bytes 4 next
 
 -- links that are put into a header
-module _ (at reply_to first next : ℕ) (old new : Change) (fits : at + 76 < 2 ^ 32) (one : reply_to < 2 ^ 32) (two : first < 2 ^ 32) (three : next < 2 ^ 32)
+module _ (at reply_to first next : ℕ) (old new : RedoView) (fits : at + 76 < 2 ^ 32) (one : reply_to < 2 ^ 32) (two : first < 2 ^ 32) (three : next < 2 ^ 32)
     (puts : Puts Jhr (at + 24) (number_bytes 4 reply_to ++ number_bytes 4 first ++ number_bytes 4 next) old new) where
   -- where they stand
   links_inside : IsInHeader at 24 (links_bytes reply_to first next)
@@ -130,7 +130,7 @@ pub one_inside : (at o value : ℕ) → 12 ≤ o → o + 4 ≤ 60 → o % 4 ≡ 
 one_inside at o value low high o_whole fits = record { low = low; high = high; o_whole = o_whole; whole = refl; fits = fits }
 
 -- a kill that is put into a header
-module _ (at attribute : ℕ) (old new : Change) (fits : at + 76 < 2 ^ 32) (small : bit_or attribute DELETED < 2 ^ 32)
+module _ (at attribute : ℕ) (old new : RedoView) (fits : at + 76 < 2 ^ 32) (small : bit_or attribute DELETED < 2 ^ 32)
     (puts : Puts Jhr (at + 52) (number_bytes 4 (bit_or attribute DELETED)) old new) where
   -- what is written
   abbrev kill_bytes : List ℕ

@@ -4,7 +4,7 @@ use Rattle.std.specs.Prelude.{◌-◌, ◌%◌, ◌&&◌, nat_le, nat_lt, if◌t
 use Rattle.std.proofs.lemmas.Bool.{cases_lt}
 use Rattle.std.proofs.lemmas.Bool.Decides.{nat_tests}
 use Rattle.std.proofs.lemmas.List.{take_all}
-use Rattle.jb_base.specs.Number.{little_endian, number_at}
+use Rattle.jb_bytes.specs.Number.{little_endian, number_at}
 use Rattle.jb_disk.specs.Files.{overwritten}
 use Rattle.jb_disk.specs.FileLaws.{length-overwritten}
 use Rattle.jb_image.specs.Places.{bytes_at}

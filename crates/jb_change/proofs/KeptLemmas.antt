@@ -1,6 +1,6 @@
 -- What stands in files stands in longer ones too.
 use Rattle.std.proofs.Common.{◌≡◌, inl, inr, ℕ, ◌+◌, ◌*◌, ◌≤◌, List, ◌++◌, length, ap, sym, ◌∙◌, subst, arith, length-append}
-use Rattle.jb_base.specs.Subfields.{IsSubfieldList}
+use Rattle.jb_bytes.specs.Subfields.{IsSubfieldList}
 use Rattle.jb_disk.specs.Files.{Files}
 use Rattle.jb_disk.specs.declared.file.FileId.TheVariants.{Jhr, Jdt, Jdx, Jlr}
 use Rattle.jb_model.specs.Sound.{IsWithin, IsTextWithin}

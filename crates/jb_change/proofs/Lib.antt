@@ -1,3 +1,4 @@
+mod AfterLemmas
 mod AreaLemmas
 mod BaseLemmas
 mod ByteLemmas
@@ -9,7 +10,8 @@ mod LoadsLemmas
 mod LongerLemmas
 mod MarkLemmas
 mod PieceLemmas
+mod PlanLemmas
 pub mod PostLemmas
 mod ReadingLemmas
 pub mod SizeLemmas
-mod SoundLemmas
+mod UpdateLemmas

@@ -5,8 +5,8 @@ use Rattle.std.proofs.lemmas.Bool.{cases_eq, cases_lt}
 use Rattle.std.proofs.lemmas.List.{get_or-set_same, get_or-set_other}
 use Rattle.std.proofs.lemmas.Option.{slice_get_within, get_or_from_slice_get}
 use Rattle.jb_base.specs.declared.attribute.TheConstants.{DELETED}
-use Rattle.jb_base.specs.declared.limits.TheConstants.{MOST_SUBFIELD_BYTES}
-use Rattle.jb_base.specs.Subfields.{subfield_bytes, IsSubfieldList}
+use Rattle.jb_limits.specs.declared.limits.TheConstants.{MOST_SUBFIELD_BYTES}
+use Rattle.jb_bytes.specs.Subfields.{subfield_bytes, IsSubfieldList}
 use Rattle.jb_disk.specs.declared.file.FileId.TheVariants.{Jhr, Jdt, Jdx, Jlr}
 use Rattle.jb_disk.specs.Files.{Files, number_of, overwritten, written}
 use Rattle.jb_disk.specs.FileLaws.{with_file-here, with_file-other}

@@ -4,7 +4,7 @@ use Rattle.std.specs.Prelude.{AllPairs, slice_index_or}
 use Rattle.std.proofs.lemmas.Bool.{cases_lt}
 use Rattle.std.proofs.lemmas.List.{append-nil, get_or_append_left, get_or_push, length_push}
 use Rattle.std.proofs.lemmas.List.Quantifiers.{all_pairs_push}
-use Rattle.jb_base.specs.Subfields.{IsSubfield, subfield_bytes}
+use Rattle.jb_bytes.specs.Subfields.{IsSubfield, subfield_bytes}
 use Rattle.jb_disk.specs.Files.{Files}
 use Rattle.jb_disk.specs.declared.file.FileId.TheVariants.{Jhr, Jdt, Jdx, Jlr}
 use Rattle.jb_model.specs.Loaded.{header_size, with_marks, with_message_behind}

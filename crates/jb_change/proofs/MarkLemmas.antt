@@ -5,7 +5,7 @@ use Rattle.std.proofs.lemmas.List.{append-nil}
 use Rattle.std.proofs.lemmas.List.Elements.{All-nil, All-cons}
 use Rattle.std.proofs.lemmas.List.Kept.{AllPairs-cons}
 use Rattle.jb_redo.specs.Changes.{changed, record_size}
-use Rattle.jb_disk.specs.Change.{Change}
+use Rattle.jb_disk.specs.RedoView.{RedoView}
 use Rattle.jb_disk.specs.Files.{Files}
 use Rattle.jb_disk.specs.declared.file.FileId.{FileId}
 use Rattle.jb_disk.specs.declared.file.FileId.TheVariants.{Jhr, Jdt, Jdx, Jlr, Jnl, Ndt}
@@ -41,7 +41,7 @@ legal_mark_lengths count few =
 
 module _ (count : ℕ) (mark : Mark) (few : count < 65000) where
   -- how long its record is
-  pub size_of_mark : (change : Change) → change.lengths ≡ mark_lengths count → change.pieces ≡ mark_pieces count mark → record_size change ≡ 52
+  pub size_of_mark : (change : RedoView) → change.lengths ≡ mark_lengths count → change.pieces ≡ mark_pieces count mark → record_size change ≡ 52
   size_of_mark change lengths_are pieces_are =
       let lengths_size : length change.lengths ≡ 1 = ap length lengths_are in
       let pieces_size : length (flat_map piece_bytes change.pieces) ≡ length (flat_map piece_bytes (mark_pieces count mark)) =
@@ -105,7 +105,7 @@ module _ (count : ℕ) (mark : Mark) (few : count < 65000) where
     mark_behind Ndt = kept_same (files Ndt) (after Ndt) (same_length (files Ndt))
 
   -- it makes the area with the mark behind
-  pub makes_mark : IsMarkReadAgain mark → (change : Change) → change.lengths ≡ mark_lengths count → change.pieces ≡ mark_pieces count mark → MakesMark change count mark
+  pub makes_mark : IsMarkReadAgain mark → (change : RedoView) → change.lengths ≡ mark_lengths count → change.pieces ≡ mark_pieces count mark → MakesMark change count mark
   makes_mark back change lengths_are pieces_are loaded counted =
       let made : (files : Files) → changed change files ≡ applied (mark_lengths count) (mark_pieces count mark) files = λ files i. applied (lengths_are i) (pieces_are i) files in
       record {
@@ -123,7 +123,7 @@ module _ (count : ℕ) (mark : Mark) (few : count < 65000) where
       }
 
   -- it writes behind the files alone
-  pub appends_mark : (change : Change) → change.lengths ≡ mark_lengths count → change.pieces ≡ mark_pieces count mark → (loaded : Loaded) → length loaded.marks ≡ count → AppendsOnly change loaded
+  pub appends_mark : (change : RedoView) → change.lengths ≡ mark_lengths count → change.pieces ≡ mark_pieces count mark → (loaded : Loaded) → length loaded.marks ≡ count → AppendsOnly change loaded
   appends_mark change lengths_are pieces_are loaded counted files loads file =
       let made : changed change files ≡ applied (mark_lengths count) (mark_pieces count mark) files = λ i. applied (lengths_are i) (pieces_are i) files in
       ap (λ (now : Files). take (length (files file)) (now file)) made ∙ mark_behind loaded counted files loads file

@@ -5,7 +5,7 @@ use Rattle.std.specs.List.{flat_map}
 use Rattle.std.proofs.lemmas.Grind.{flat_map-append}
 use Rattle.std.proofs.lemmas.List.{map-append}
 use Rattle.std.proofs.lemmas.List.Elements.{All-push, filter-append}
-use Rattle.jb_disk.specs.Change.{Change}
+use Rattle.jb_disk.specs.RedoView.{RedoView}
 use Rattle.jb_disk.specs.declared.file.FileId.{FileId}
 use Rattle.jb_disk.specs.declared.file.FileId.TheVariants.{Jdt}
 use Rattle.jb_disk.specs.declared.piece.Length.{Length}
@@ -105,7 +105,7 @@ module _ (file : FileId) (at : ℕ) (bytes : List ℕ) where
     };
   }
 
-  module _ (old new : Change) (puts : Puts file at bytes old new) where
+  module _ (old new : RedoView) (puts : Puts file at bytes old new) where
     -- the files after the change
     pub put_done : (files : Files) → changed new files ≡ written file at bytes (changed old files)
     put_done files = (λ i. applied (puts.lengths i) (puts.pieces i) files) ∙ applied_more old.lengths old.pieces files
@@ -158,7 +158,7 @@ module _ (file : FileId) (at : ℕ) (bytes : List ℕ) where
     }
 
 -- one small change after another, both within one range
-pub only_then : (file : FileId) (at len : ℕ) (old now new : Change) → WritesOnly old now file at len → WritesOnly now new file at len → WritesOnly old new file at len
+pub only_then : (file : FileId) (at len : ℕ) (old now new : RedoView) → WritesOnly old now file at len → WritesOnly now new file at len → WritesOnly old new file at len
 only_then file at len old now new first second files room =
     let one = first files room in
     let two = second files (subst (λ (n : ℕ). at + len ≤ n) (sym one.here.size) room) in

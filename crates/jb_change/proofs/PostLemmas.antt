@@ -4,10 +4,10 @@ use Rattle.std.specs.List.{flat_map}
 use Rattle.std.specs.Prelude.{AllPairs}
 use Rattle.std.proofs.lemmas.List.Elements.{All-nil, All-cons}
 use Rattle.std.proofs.lemmas.List.Kept.{AllPairs-cons}
-use Rattle.jb_base.specs.Subfields.{IsSubfield}
+use Rattle.jb_bytes.specs.Subfields.{IsSubfield}
 use Rattle.jb_change.specs.Makes.{Makes}
 use Rattle.jb_redo.specs.Changes.{changed, record_size}
-use Rattle.jb_disk.specs.Change.{Change}
+use Rattle.jb_disk.specs.RedoView.{RedoView}
 use Rattle.jb_disk.specs.Files.{Files}
 use Rattle.jb_disk.specs.declared.file.FileId.{FileId}
 use Rattle.jb_disk.specs.declared.file.FileId.TheVariants.{Jhr, Jdt, Jdx, Jlr, Jnl, Ndt}
@@ -59,7 +59,7 @@ legal_post_lengths loaded message text next =
 
 module _ (loaded : Loaded) (message : LoadedMessage) (text : List ℕ) (next : IsNext loaded message text) where
   -- how long its record is
-  pub size_of_post : (change : Change) → change.lengths ≡ post_lengths loaded message → change.pieces ≡ post_pieces loaded message text
+  pub size_of_post : (change : RedoView) → change.lengths ≡ post_lengths loaded message → change.pieces ≡ post_pieces loaded message text
       → record_size change ≡ 84 + header_size message + length text
   size_of_post change lengths_are pieces_are =
       let header : Piece = Bytes Jhr message.header_at (message_bytes (number_behind loaded) message) in
@@ -151,7 +151,7 @@ module _ (loaded : Loaded) (message : LoadedMessage) (text : List ℕ) (next : I
     post_behind Jnl = kept_same (files Jnl) (after Jnl) (same_length (files Jnl))
     post_behind Ndt = kept_same (files Ndt) (after Ndt) (same_length (files Ndt))
 
-  module _ (back : AreReadAgain loaded message) (each : All IsSubfield message.subfields) (change : Change)
+  module _ (back : AreReadAgain loaded message) (each : All IsSubfield message.subfields) (change : RedoView)
       (lengths_are : change.lengths ≡ post_lengths loaded message) (pieces_are : change.pieces ≡ post_pieces loaded message text) where
     -- what it makes of the files
     pub made : (files : Files) → changed change files ≡ applied (post_lengths loaded message) (post_pieces loaded message text) files

@@ -4,9 +4,9 @@ use Rattle.std.specs.Prelude.{Some, ◌^◌, bit_and, slice_set}
 use Rattle.std.proofs.lemmas.List.{get_or-set_same, set-set}
 use Rattle.std.proofs.lemmas.Option.{slice_get_within, slice_get-get_or}
 use Rattle.jb_base.specs.declared.attribute.TheConstants.{DELETED}
-use Rattle.jb_base.specs.Number.{number_bytes}
-use Rattle.jb_base.proofs.Numbers.{little_endian-back}
-use Rattle.jb_disk.specs.Change.{Change}
+use Rattle.jb_bytes.specs.Number.{number_bytes}
+use Rattle.jb_bytes.proofs.Numbers.{little_endian-back}
+use Rattle.jb_disk.specs.RedoView.{RedoView}
 use Rattle.jb_disk.specs.declared.file.FileId.TheVariants.{Jhr}
 use Rattle.jb_model.specs.Loaded.{IsMessageAt, with_head_at}
 use Rattle.jb_model.specs.declared.loaded.Loaded.{Loaded}
@@ -32,7 +32,7 @@ message_put to place message head there =
     let size = length-set to.slots place other in
     slice_get-get_or (slice_set to.slots place other) place other (omega arith) ∙ ap (λ (s : LoadedSlot). Some s) (get_or-set_same to.slots place other other inside)
 
-module _ (at : ℕ) (reading : Head) (first second third fourth : Change) (fits : at + 76 < 2 ^ 32) (live : bit_and reading.attribute DELETED ≡ 0)
+module _ (at : ℕ) (reading : Head) (first second third fourth : RedoView) (fits : at + 76 < 2 ^ 32) (live : bit_and reading.attribute DELETED ≡ 0)
     (times_fit : reading.times_read < 2 ^ 32) (date_fits : reading.received < 2 ^ 32) (bits_fit : reading.attribute < 2 ^ 32)
     (puts_times : Puts Jhr (at + 12) (number_bytes 4 reading.times_read) first second) (puts_date : Puts Jhr (at + 40) (number_bytes 4 reading.received) second third)
     (puts_bits : Puts Jhr (at + 52) (number_bytes 4 reading.attribute) third fourth) where

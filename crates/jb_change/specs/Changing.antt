@@ -1,6 +1,6 @@
 -- What one small change more makes of what a change makes.
 use Rattle.std.specs.Prelude.{◌≡◌, ℕ, ◌+◌, ◌<◌, ◌≤◌, ◌^◌, List, [], ◌∷◌, ◌++◌, length, slice_set}
-use Rattle.jb_disk.specs.Change.{Change, held_by}
+use Rattle.jb_disk.specs.RedoView.{RedoView}
 use Rattle.jb_disk.specs.declared.file.FileId.{FileId}
 use Rattle.jb_disk.specs.declared.piece.Piece.TheVariants.{Bytes}
 use Rattle.jb_disk.specs.declared.file.FileId.TheVariants.{Jhr, Jdx}
@@ -17,35 +17,35 @@ use Rattle.jb_change.specs.Makes.{Makes}
 use Rattle.jb_redo.specs.Changes.{changed}
 
 -- where the change made an area, it now makes that area changed so
-abbrev pub ChangesArea : Change → Change → (Loaded → Loaded) → Type 0
+abbrev pub ChangesArea : RedoView → RedoView → (Loaded → Loaded) → Type 0
 ChangesArea old new act = (from to : Loaded) (text : List ℕ) → Makes old from to text → Makes new from (act to) text
 
 -- where it made an area with a live message whose header stands at this place, it now makes that area with the message so
-abbrev pub ChangesMessage : Change → Change → ℕ → (ℕ → LoadedMessage → Loaded → Loaded) → Type 0
+abbrev pub ChangesMessage : RedoView → RedoView → ℕ → (ℕ → LoadedMessage → Loaded → Loaded) → Type 0
 ChangesMessage old new at act = (from to : Loaded) (text : List ℕ) (place : ℕ) (message : LoadedMessage)
     → Makes old from to text → IsMessageAt to place message → message.header_at ≡ at → Makes new from (act place message to) text
 
 -- where it made an area with such a message, it now makes that area with the fields of the message's header changed so
-abbrev pub ChangesHead : Change → Change → ℕ → (Head → Head) → Type 0
+abbrev pub ChangesHead : RedoView → RedoView → ℕ → (Head → Head) → Type 0
 ChangesHead old new at act = ChangesMessage old new at (λ place message. with_head_at place (act message.head) message)
 
 -- where the change made an area with a mark at this place, it now makes that area with another mark there
-abbrev pub ChangesMark : Change → Change → ℕ → Mark → Type 0
+abbrev pub ChangesMark : RedoView → RedoView → ℕ → Mark → Type 0
 ChangesMark old new place mark = (from to : Loaded) (text : List ℕ) → Makes old from to text → place < length to.marks
     → Makes new from (with_marks (slice_set to.marks place mark) to) text
 
 -- of the header at this place, where .JHR reaches so far, the numbers are changed so
-abbrev pub ChangesHeader : Change → Change → ℕ → (MessageHeader → MessageHeader) → Type 0
+abbrev pub ChangesHeader : RedoView → RedoView → ℕ → (MessageHeader → MessageHeader) → Type 0
 ChangesHeader old new at act = (files : Files) → at + 76 ≤ length (changed old files Jhr)
     → header_in (changed new files) at ≡ act (header_in (changed old files) at)
 
 -- in the files that the change makes, no byte outside this range of this file is another
-abbrev pub WritesOnly : Change → Change → FileId → ℕ → ℕ → Type 0
+abbrev pub WritesOnly : RedoView → RedoView → FileId → ℕ → ℕ → Type 0
 WritesOnly old new file at len = (files : Files) → at + len ≤ length (changed old files file)
     → InFile file (Torn at len) (changed old files) (changed new files)
 
 -- in the files that the change makes, the index is as it was: each record of it, and how many there are
-abbrev pub LeavesIndex : Change → Change → Type 0
+abbrev pub LeavesIndex : RedoView → RedoView → Type 0
 LeavesIndex old new = (files : Files) → changed new files Jdx ≡ changed old files Jdx
 
 -- a message's fields with other links
@@ -69,11 +69,11 @@ abbrev pub header_with_attribute : ℕ → MessageHeader → MessageHeader
 header_with_attribute attribute header = record header { attribute = attribute }
 
 -- a piece of these bytes more, behind the others
-pub record Puts (file : FileId) (at : ℕ) (bytes : List ℕ) (old new : Change) : Type 0 where
+pub record Puts (file : FileId) (at : ℕ) (bytes : List ℕ) (old new : RedoView) : Type 0 where
   pub lengths : new.lengths ≡ old.lengths
   pub pieces : new.pieces ≡ old.pieces ++ Bytes file at bytes ∷ []
   pub few : length new.pieces < 2 ^ 32
 
 -- a change of nothing makes of each area the same one
 abbrev pub MakesNothing : Type 0
-MakesNothing = (change : Change) (loaded : Loaded) → change.lengths ≡ [] → change.pieces ≡ [] → Makes change loaded loaded []
+MakesNothing = (change : RedoView) (loaded : Loaded) → change.lengths ≡ [] → change.pieces ≡ [] → Makes change loaded loaded []

@@ -1,7 +1,10 @@
 pub mod Behind
 pub mod Changing
-pub mod Laws
+pub mod Headers
+pub mod Links
 pub mod Makes
 pub mod NewBase
 pub mod NewMark
 pub mod Post
+pub mod Put
+pub mod Ready

@@ -1,6 +1,6 @@
 -- What a change of the files makes of the area that they hold.
 use Rattle.std.specs.Prelude.{◌≡◌, ℕ, List, ◌++◌}
-use Rattle.jb_disk.specs.Change.{Change}
+use Rattle.jb_disk.specs.RedoView.{RedoView}
 use Rattle.jb_disk.specs.Files.{Files}
 use Rattle.jb_disk.specs.declared.file.FileId.TheVariants.{Jdt}
 use Rattle.jb_image.specs.Stands.{Loads}
@@ -13,5 +13,5 @@ pub record HoldsBehind (loaded : Loaded) (text : List ℕ) (files now : Files) :
   pub texts : now Jdt ≡ files Jdt ++ text
 
 -- of files that hold this area it makes files that hold that one, with these bytes behind the texts
-abbrev pub Makes : Change → Loaded → Loaded → List ℕ → Type 0
+abbrev pub Makes : RedoView → Loaded → Loaded → List ℕ → Type 0
 Makes change from to text = Brings change (Loads from) (HoldsBehind to text)

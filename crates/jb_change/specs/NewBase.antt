@@ -1,7 +1,7 @@
 -- Files that hold no base, and those of a base that was just made.
 use Rattle.std.specs.Prelude.{◌≡◌, ◌≢◌, ℕ, ◌<◌, List, [], ◌∷◌, replicate}
 use Rattle.jb_redo.specs.Changes.{Brings, record_size}
-use Rattle.jb_disk.specs.Change.{Change}
+use Rattle.jb_disk.specs.RedoView.{RedoView}
 use Rattle.jb_disk.specs.Files.{Files, number_of}
 use Rattle.jb_disk.specs.declared.file.FileId.{FileId}
 use Rattle.jb_disk.specs.declared.file.FileId.TheVariants.{Jhr, Jdt, Jdx, Jlr}
@@ -46,7 +46,7 @@ pub record AreNew (moment : ℕ) (files : Files) : Type 0 where
   pub loads : Loads (new_loaded moment) files
 
 -- of empty files the change makes those of a base, and its record is legal and short
-pub record MakesBase (moment : ℕ) (change : Change) : Type 0 where
+pub record MakesBase (moment : ℕ) (change : RedoView) : Type 0 where
   pub brings : Brings change AreEmpty (λ _. AreNew moment)
   pub lengths : AreLegalLengths change.lengths
   pub size : record_size change ≡ 1084

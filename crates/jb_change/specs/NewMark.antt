@@ -1,7 +1,7 @@
 -- A mark behind the others of an area, as a change of its files.
 use Rattle.std.specs.Prelude.{◌≡◌, ℕ, ◌+◌, ◌*◌, List, [], ◌∷◌, ◌++◌, length}
 use Rattle.jb_change.specs.Makes.{Makes}
-use Rattle.jb_disk.specs.Change.{Change}
+use Rattle.jb_disk.specs.RedoView.{RedoView}
 use Rattle.jb_disk.specs.declared.file.FileId.TheVariants.{Jlr}
 use Rattle.jb_disk.specs.declared.piece.Length.{Length}
 use Rattle.jb_disk.specs.declared.piece.Piece.{Piece}
@@ -13,7 +13,7 @@ use Rattle.jb_model.specs.declared.mark.Mark.{Mark}
 use Rattle.jb_record.specs.Lastread.{lastread_record_bytes}
 
 -- of each area with so many marks the change makes the area with this mark behind them
-abbrev pub MakesMark : Change → ℕ → Mark → Type 0
+abbrev pub MakesMark : RedoView → ℕ → Mark → Type 0
 MakesMark change count mark = (loaded : Loaded) → length loaded.marks ≡ count
     → Makes change loaded (with_marks (loaded.marks ++ mark ∷ []) loaded) []
 

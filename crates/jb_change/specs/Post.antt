@@ -1,10 +1,10 @@
 -- A message behind the others of an area, as a change of its files.
 use Rattle.std.specs.Prelude.{◌≡◌, ℕ, ◌+◌, ◌*◌, ◌<◌, ◌≤◌, List, [], ◌∷◌, length, bit_and}
 use Rattle.jb_base.specs.declared.attribute.TheConstants.{DELETED}
-use Rattle.jb_base.specs.declared.limits.TheConstants.{HEADERS_CEILING, TEXTS_CEILING, MOST_SLOTS, MOST_SUBFIELD_BYTES, MOST_TEXT_BYTES}
-use Rattle.jb_base.specs.Subfields.{subfield_bytes}
+use Rattle.jb_limits.specs.declared.limits.TheConstants.{HEADERS_CEILING, TEXTS_CEILING, MOST_SLOTS, MOST_SUBFIELD_BYTES, MOST_TEXT_BYTES}
+use Rattle.jb_bytes.specs.Subfields.{subfield_bytes}
 use Rattle.jb_redo.specs.Changes.{changed}
-use Rattle.jb_disk.specs.Change.{Change}
+use Rattle.jb_disk.specs.RedoView.{RedoView}
 use Rattle.jb_disk.specs.Files.{Files}
 use Rattle.jb_disk.specs.declared.file.FileId.TheVariants.{Jhr, Jdt, Jdx}
 use Rattle.jb_disk.specs.declared.piece.Length.{Length}
@@ -40,7 +40,7 @@ abbrev pub number_behind : Loaded → ℕ
 number_behind loaded = loaded.base + length loaded.slots
 
 -- the header that stands at the message's place after the change has the area's next number
-abbrev pub HasNextNumber : Change → Loaded → LoadedMessage → Type 0
+abbrev pub HasNextNumber : RedoView → Loaded → LoadedMessage → Type 0
 HasNextNumber change loaded message = (files : Files) → Loads loaded files
     → (header_in (changed change files) message.header_at).number ≡ number_behind loaded
 

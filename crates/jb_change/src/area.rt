@@ -1,10 +1,10 @@
 //! The counts of the fixed header, and the marks (JAM, "Header file", "Lastread file").
 ghost use Rattle.std.specs.Prelude.{◌≡◌, ◌+◌, ◌*◌, ◌<◌};
-ghost use Rattle.jb_base.specs.declared.limits.TheConstants.{MOST_MARKS};
+ghost use Rattle.jb_limits.specs.declared.limits.TheConstants.{MOST_MARKS};
 ghost use Rattle.jb_change.specs.Changing.{ChangesArea, ChangesMark, WritesOnly};
 ghost use Rattle.jb_redo.specs.Changes.{KeepsRoom};
 ghost use Rattle.jb_redo.specs.Changes.{record_size};
-ghost use Rattle.jb_disk.specs.Change.{HasRoom, Spends};
+ghost use Rattle.jb_disk.specs.RedoView.{HasRoom, Spends};
 ghost use Rattle.jb_disk.specs.declared.file.FileId.TheVariants.{Jhr, Jlr};
 ghost use Rattle.jb_model.specs.Loaded.{with_counts};
 

@@ -1,7 +1,7 @@
 //! A base without a message (JAM, "Header file").
 ghost use Rattle.std.specs.Prelude.{◌≡◌, [], IfOk};
 ghost use Rattle.jb_image.specs.Records.{IsFixedReadAgain};
-ghost use Rattle.jb_disk.specs.Change.{HasRoom};
+ghost use Rattle.jb_disk.specs.RedoView.{HasRoom};
 ghost use Rattle.jb_image.specs.Stands.{fixed_of};
 ghost use Rattle.jb_record.specs.declared.fixed.TheConstants.{FIXED_HEADER_BYTES};
 

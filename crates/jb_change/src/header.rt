@@ -4,7 +4,7 @@ ghost use Rattle.jb_base.specs.declared.attribute.TheConstants.{DELETED};
 ghost use Rattle.jb_change.specs.Changing.{ChangesHead, ChangesHeader, ChangesMessage, LeavesIndex, WritesOnly, head_with_links, head_with_reading, header_with_attribute, header_with_links, header_with_reading};
 ghost use Rattle.jb_redo.specs.Changes.{KeepsRoom};
 ghost use Rattle.jb_redo.specs.Changes.{record_size};
-ghost use Rattle.jb_disk.specs.Change.{HasRoom, Spends};
+ghost use Rattle.jb_disk.specs.RedoView.{HasRoom, Spends};
 ghost use Rattle.jb_disk.specs.declared.file.FileId.TheVariants.{Jhr};
 ghost use Rattle.jb_model.specs.Loaded.{with_killed_at};
 

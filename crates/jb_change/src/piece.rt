@@ -1,10 +1,10 @@
 //! One piece of bytes more.
 ghost use Rattle.std.specs.Prelude.{◌≡◌, ◌+◌, ◌<◌, ◌^◌, ◌++◌, length};
-ghost use Rattle.jb_base.specs.Number.{number_bytes};
+ghost use Rattle.jb_bytes.specs.Number.{number_bytes};
 ghost use Rattle.jb_change.specs.Changing.{Puts};
 ghost use Rattle.jb_redo.specs.Changes.{KeepsRoom};
 ghost use Rattle.jb_redo.specs.Changes.{record_size};
-ghost use Rattle.jb_disk.specs.Change.{HasRoom, Spends};
+ghost use Rattle.jb_disk.specs.RedoView.{HasRoom, Spends};
 
 use jb_base::put_u32;
 use jb_disk::{FileId, Redo};

@@ -1,10 +1,10 @@
 //! A message behind the others.
 ghost use Rattle.std.specs.Prelude.{◌≡◌, ◌<◌, ◌≤◌, ◌+◌, ◌*◌, [], OnOk, OnErr, length};
-ghost use Rattle.jb_base.specs.declared.limits.TheConstants.{HEADERS_CEILING, MOST_SLOTS, TEXTS_CEILING};
+ghost use Rattle.jb_limits.specs.declared.limits.TheConstants.{HEADERS_CEILING, MOST_SLOTS, TEXTS_CEILING};
 ghost use Rattle.jb_redo.specs.Changes.{KeepsRoom};
 ghost use Rattle.jb_change.specs.Makes.{Makes};
 ghost use Rattle.jb_redo.specs.Changes.{record_size};
-ghost use Rattle.jb_disk.specs.Change.{HasRoom, SameLists, Spends};
+ghost use Rattle.jb_disk.specs.RedoView.{HasRoom, SameLists, Spends};
 ghost use Rattle.jb_model.specs.Loaded.{header_size, with_message_behind};
 ghost use Rattle.jb_redo.specs.Rules.{AreLegalLengths};
 ghost use Rattle.jb_change.specs.declared.posting.TheConstants.{SPARE_BYTES, SPARE_PIECES};

@@ -9,8 +9,8 @@ use Rattle.std.proofs.lemmas.List.Elements.{All-push}
 use Rattle.std.proofs.lemmas.List.Quantifiers.{all_pairs_push}
 use Rattle.std.proofs.lemmas.List.Sums.{sum_by-append}
 use Rattle.toml.specs.Data.{Members}
-use Rattle.jb_base.specs.Name.{SameName, same_name}
-use Rattle.jb_base.specs.declared.limits.TheConstants.{MOST_AREAS, MOST_USERS}
+use Rattle.jb_bytes.specs.Name.{SameName, same_name}
+use Rattle.jb_limits.specs.declared.limits.TheConstants.{MOST_AREAS, MOST_USERS}
 use Rattle.jb_conf.specs.Areas.{area_fault, area_of, areas_fault, areas_of, rules_fault, rules_of, slots_of}
 use Rattle.jb_conf.specs.Users.{user_fault, user_of, users_fault, users_of}
 use Rattle.jb_conf.specs.Faults.{fault_if, tables_at, text_at}

@@ -8,7 +8,7 @@ use Rattle.std.proofs.lemmas.Bool.Decides.{nat_tests}
 use Rattle.std.proofs.lemmas.Int.{ints}
 use Rattle.std.proofs.lemmas.Slice.Eq.{bytes_eq-Decides}
 use Rattle.toml.specs.Data.{Data, Members}
-use Rattle.jb_base.specs.Name.{SameName, same_name}
+use Rattle.jb_bytes.specs.Name.{SameName, same_name}
 use Rattle.jb_base.proofs.Access.{same_name-decides}
 use Rattle.jb_conf.specs.Faults.{fault_if, field_fault, text_at, whole_at, tables_at}
 use Rattle.jb_conf.specs.InRange.{HasCount}

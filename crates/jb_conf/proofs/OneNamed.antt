@@ -9,7 +9,7 @@ use Rattle.std.proofs.lemmas.List.Quantifiers.{position-Some}
 use Rattle.std.proofs.lemmas.List.Sums.{position_or_len_is, fails_before_first}
 use Rattle.std.proofs.lemmas.Slice.Eq.{bytes_eq-Decides}
 use Rattle.sha2.specs.Sha256.{sha256}
-use Rattle.jb_base.specs.Name.{same_name}
+use Rattle.jb_bytes.specs.Name.{same_name}
 use Rattle.jb_conf.specs.InRange.{AreUsersInRange}
 use Rattle.jb_conf.specs.LogIn.{logs_in}
 use Rattle.jb_conf.specs.declared.board.BoardUser.{BoardUser}

@@ -3,9 +3,9 @@ use Rattle.std.specs.Prelude.{ℕ, ◌+◌, Bool, not, ◌&&◌, nat_le, List, [
 use Rattle.std.specs.List.{list_any, sum_by}
 use Rattle.std.specs.Option.{option_or}
 use Rattle.toml.specs.Data.{Members}
-use Rattle.jb_base.specs.Name.{same_name}
+use Rattle.jb_bytes.specs.Name.{same_name}
 use Rattle.jb_base.specs.declared.area.AreaRules.{AreaRules}
-use Rattle.jb_base.specs.declared.limits.TheConstants.{MOST_SLOTS, MOST_SLOTS_TOGETHER}
+use Rattle.jb_limits.specs.declared.limits.TheConstants.{MOST_SLOTS, MOST_SLOTS_TOGETHER}
 use Rattle.jb_conf.specs.Faults.{fault_if, first_fault, text_at}
 use Rattle.jb_conf.specs.Rows.{area_kind_fault, kind_of, number_at, number_fault, printable_fault, sized_fault}
 use Rattle.jb_conf.specs.declared.board.BoardArea.{BoardArea}

@@ -1,8 +1,8 @@
 -- What holds of each board that is read.
 use Rattle.std.specs.Prelude.{◌≡◌, ℕ, pos, negsuc, ◌+◌, ◌<◌, ◌≤◌, ◌≤ℤ◌, IsTrue, List, length, slice_index_or, All, AllPairs}
 use Rattle.std.specs.List.{list_all}
-use Rattle.jb_base.specs.Name.{SameName}
-use Rattle.jb_base.specs.declared.limits.TheConstants.{MOST_AREAS, MOST_NODES, MOST_SLOTS, MOST_SLOTS_TOGETHER, MOST_USERS}
+use Rattle.jb_bytes.specs.Name.{SameName}
+use Rattle.jb_limits.specs.declared.limits.TheConstants.{MOST_AREAS, MOST_NODES, MOST_SLOTS, MOST_SLOTS_TOGETHER, MOST_USERS}
 use Rattle.jb_conf.specs.Areas.{slots_of}
 use Rattle.jb_conf.specs.Ranges.{is_address_byte, is_printed}
 use Rattle.jb_conf.specs.declared.board.Board.{Board}

@@ -1,7 +1,7 @@
 -- Who logs in: a user with this name whose digest is that of the salt and the password.
 use Rattle.std.specs.Prelude.{ℕ, Bool, ◌&&◌, ◌++◌, List, bytes_eq}
 use Rattle.sha2.specs.Sha256.{sha256}
-use Rattle.jb_base.specs.Name.{same_name}
+use Rattle.jb_bytes.specs.Name.{same_name}
 use Rattle.jb_conf.specs.declared.board.BoardUser.{BoardUser}
 
 -- whether the user has this name and this password

@@ -2,7 +2,7 @@
 use Rattle.std.specs.Prelude.{◌≡◌, ◌⊎◌, ℕ, pos, negsuc, false, List, [], ◌∷◌, Option, Some, None, Result, Ok, Err, IsUtf8}
 use Rattle.toml.specs.Data.{Members}
 use Rattle.toml.specs.Parse.{parse_document}
-use Rattle.jb_base.specs.declared.limits.TheConstants.{MOST_AREAS, MOST_NODES, MOST_USERS}
+use Rattle.jb_limits.specs.declared.limits.TheConstants.{MOST_AREAS, MOST_NODES, MOST_USERS}
 use Rattle.jb_conf.specs.Areas.{areas_fault, areas_of}
 use Rattle.jb_conf.specs.Users.{users_fault, users_of}
 use Rattle.jb_conf.specs.Faults.{first_fault, tables_at, text_at, whole_at}

@@ -3,7 +3,7 @@ use Rattle.std.specs.Prelude.{ℕ, ◌+◌, ◌==◌, Bool, List, [], ◌∷◌,
 use Rattle.std.specs.List.{list_any}
 use Rattle.std.specs.Option.{option_or}
 use Rattle.toml.specs.Data.{Members}
-use Rattle.jb_base.specs.Name.{same_name}
+use Rattle.jb_bytes.specs.Name.{same_name}
 use Rattle.jb_conf.specs.Faults.{fault_if, first_fault, text_at}
 use Rattle.jb_conf.specs.Rows.{digest_fault, digest_of, number_at, number_fault, printable_fault, short_fault}
 use Rattle.jb_conf.specs.declared.board.BoardUser.{BoardUser}

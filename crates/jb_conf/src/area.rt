@@ -1,8 +1,8 @@
 //! One area of the settings file, read behind those before it.
 ghost use Rattle.std.specs.Prelude.{◌≡◌, ◌+◌, ◌≤◌, Some, IfOk};
 ghost use Rattle.toml.specs.View.{table_view};
-ghost use Rattle.jb_base.specs.Name.{same_name};
-ghost use Rattle.jb_base.specs.declared.limits.TheConstants.{MOST_SLOTS_TOGETHER};
+ghost use Rattle.jb_bytes.specs.Name.{same_name};
+ghost use Rattle.jb_limits.specs.declared.limits.TheConstants.{MOST_SLOTS_TOGETHER};
 ghost use Rattle.jb_conf.specs.Areas.{area_fault, area_of, has_area_name, has_place, rules_fault, rules_of, slots_of};
 ghost use Rattle.jb_conf.specs.Faults.{Answers, AnswersOrMemory};
 ghost use Rattle.jb_conf.specs.Rows.{number_at, number_fault};

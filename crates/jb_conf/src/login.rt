@@ -1,7 +1,7 @@
 //! The log-in of users.
 ghost use Rattle.std.specs.Prelude.{◌≡◌, ◌++◌, bytes_eq, position};
 ghost use Rattle.sha2.specs.Sha256.{sha256};
-ghost use Rattle.jb_base.specs.Name.{same_name};
+ghost use Rattle.jb_bytes.specs.Name.{same_name};
 ghost use Rattle.jb_conf.specs.InRange.{IsInRange};
 ghost use Rattle.jb_conf.specs.LogIn.{logs_in};
 

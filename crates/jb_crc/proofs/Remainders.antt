@@ -2,7 +2,7 @@
 use Rattle.std.proofs.Common.{◌≡◌, ℕ, zero, suc, ◌+◌, ◌*◌, ◌/◌, ◌%◌, ◌^◌, ◌<◌, Bool, true, false, ◌==◌, if◌then◌else◌, bit_xor, List, [], ◌∷◌, length, get_or, drop, length-drop, refl, ap, sym, ◌∙◌, arith}
 use Rattle.std.proofs.lemmas.List.{drop_more, drop_all}
 use Rattle.std.specs.Char.{to_ascii_lowercase}
-use Rattle.jb_base.specs.Crc.{crc_bit, crc_bits, crc_byte, crc_from}
+use Rattle.jb_bytes.specs.Crc.{crc_bit, crc_bits, crc_byte, crc_from}
 use Rattle.jb_crc.specs.Share.{share_of}
 use lib.Bits.{xor_assoc, xor_comm, xor_mod, xor_shr, xor_zero_r, xor_shifted, shifted_half, shifted_even}
 

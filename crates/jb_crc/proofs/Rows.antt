@@ -2,7 +2,7 @@
 use Rattle.std.proofs.Common.{◌≡◌, ℕ, ◌+◌, ◌*◌, ◌<◌, List, [], map, get_or, refl, ap, ◌∙◌, arith}
 use Rattle.std.specs.List.{range_with_len}
 use Rattle.std.proofs.lemmas.List.FromFn.{get_or-map-range_with_len}
-use Rattle.jb_base.specs.Crc.{crc_bits}
+use Rattle.jb_bytes.specs.Crc.{crc_bits}
 use Rattle.jb_crc.specs.declared.tables.TheConstants.{TABLES}
 
 -- what a row holds

@@ -1,7 +1,7 @@
 -- What a single byte adds to the CRC.
 use Rattle.std.specs.Prelude.{ℕ, ◌+◌, ◌*◌, bit_xor}
 use Rattle.std.specs.Char.{to_ascii_lowercase}
-use Rattle.jb_base.specs.Crc.{crc_bits}
+use Rattle.jb_bytes.specs.Crc.{crc_bits}
 
 -- a byte combined into a byte of the sum before, after its own eight bits and those of the bytes behind it, so many
 unfoldable pub share_of : ℕ → ℕ → ℕ → ℕ

@@ -1,6 +1,6 @@
 //! The remainder by tables: eight bytes a step, then the rest byte by byte.
 ghost use Rattle.std.specs.Prelude.{◌≡◌, ◌<◌};
-ghost use Rattle.jb_base.specs.Crc.{crc_byte, crc_from, jam_crc_of};
+ghost use Rattle.jb_bytes.specs.Crc.{crc_byte, crc_from, jam_crc_of};
 ghost use Rattle.jb_crc.specs.Share.{share_of};
 
 use crate::tables::TABLES;

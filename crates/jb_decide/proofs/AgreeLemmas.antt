@@ -1,7 +1,7 @@
 -- What an area is in files that hold the same.
 use Rattle.std.proofs.Common.{◌≡◌, ◌≢◌, ℕ, ◌+◌, ◌*◌, List, [], ◌∷◌, length, ap, sym, ◌∙◌, subst}
 use Rattle.std.specs.Prelude.{bit_and, slice_index_or}
-use Rattle.jb_base.specs.Subfields.{IsSubfieldList}
+use Rattle.jb_bytes.specs.Subfields.{IsSubfieldList}
 use Rattle.jb_base.specs.declared.attribute.TheConstants.{DELETED}
 use Rattle.jb_disk.specs.Files.{Files}
 use Rattle.jb_disk.specs.declared.file.FileId.TheVariants.{Jdt, Jdx, Jhr, Jlr}

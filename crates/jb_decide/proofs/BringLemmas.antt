@@ -2,13 +2,13 @@
 use Rattle.std.proofs.Common.{◌≡◌, ℕ, List, [], ◌++◌, length, take, Option, ap, ◌∙◌, subst, arith}
 use Rattle.std.proofs.lemmas.List.{append-nil, take_all, take-append-le}
 use Rattle.jb_change.specs.Makes.{Makes}
-use Rattle.jb_disk.specs.Change.{Change}
+use Rattle.jb_disk.specs.RedoView.{RedoView}
 use Rattle.jb_model.specs.declared.loaded.Loaded.{Loaded}
 use Rattle.jb_pack.specs.Shadow.{Shadow}
 use Rattle.jb_decide.specs.Coming.{BringsComing}
 
 -- with these bytes behind the texts
-pub brings : (change : Change) (from to : Loaded) (texts text : List ℕ) (copies : Option Shadow) → Makes change from to text
+pub brings : (change : RedoView) (from to : Loaded) (texts text : List ℕ) (copies : Option Shadow) → Makes change from to text
     → BringsComing change from texts copies (record { to = to; texts = texts ++ text })
 brings change from to texts text copies makes = record {
   legal = λ files has. makes.legal files has.holds.loads;
@@ -20,7 +20,7 @@ brings change from to texts text copies makes = record {
 }
 
 -- with the texts as they are
-pub brings_same : (change : Change) (from to : Loaded) (texts : List ℕ) (copies : Option Shadow) → Makes change from to []
+pub brings_same : (change : RedoView) (from to : Loaded) (texts : List ℕ) (copies : Option Shadow) → Makes change from to []
     → BringsComing change from texts copies (record { to = to; texts = texts })
 brings_same change from to texts copies makes =
     subst (λ (after : List ℕ). BringsComing change from texts copies (record { to = to; texts = after })) (append-nil texts) (brings change from to texts [] copies makes)

@@ -1,88 +1,270 @@
--- From what a command comes to in the loaded area to what is pending.
-use Rattle.std.proofs.Common.{◌≡◌, ◌≢◌, ◌⊎◌, inl, inr, ℕ, ◌+◌, ◌-◌, ◌≤◌, ◌<◌, List, [], length, get_or, Bool, true, false, Option, None, Some, ap, sym, refl, ◌∙◌, subst, arith}
-use Rattle.std.proofs.lemmas.Bool.{false≢true}
-use Rattle.std.proofs.lemmas.List.{get_or-set_same, length-set}
-use Rattle.std.proofs.lemmas.List.Elements.{All-get_or, All-nil}
-use Rattle.std.proofs.lemmas.Option.{slice_get-get_or, slice_get_within}
-use Rattle.std.specs.Prelude.{AllPairs, IsSome, bit_and, slice_get, slice_set, if◌then◌else◌}
-use Rattle.jb_base.specs.declared.area.AreaRules.{AreaRules}
-use Rattle.jb_base.specs.declared.limits.TheConstants.{JOURNAL_CEILING, MOST_MARKS}
-use Rattle.jb_base.specs.declared.user.User.{User}
-use Rattle.jb_redo.specs.Changes.{record_size}
+-- From what a command does in the loaded area to what is pending.
+use Rattle.std.proofs.Common.{◌≡◌, ◌≢◌, ◌⊎◌, inl, inr, ℕ, ◌+◌, ◌-◌, ◌≤◌, ◌++◌, List, [], ◌∷◌, length, take, drop, replicate, Option, None, Some, ap, sym, refl, ◌∙◌, subst, arith, length-append, length-set}
+use Rattle.std.proofs.lemmas.List.{append-nil, drop-append-le, drop_all, length-replicate, take-append-le, take_all}
 use Rattle.std.specs.Option.{ForSome}
-use Rattle.jb_disk.specs.Change.{Change}
+use Rattle.std.specs.Prelude.{IsSome}
+use Rattle.jb_base.specs.declared.area.AreaRules.{AreaRules}
+use Rattle.jb_base.specs.declared.user.User.{User}
+use Rattle.jb_change.specs.Headers.{Updates}
+use Rattle.jb_change.specs.Put.{IsNoPacking, IsShort, IsTextOf, KeepsIndexOnKill, NumbersPosted}
 use Rattle.jb_disk.specs.Files.{Files}
-use Rattle.jb_redo.specs.Changes.{IsWritable}
-use Rattle.jb_model.specs.Loaded.{IsMessageAt, slot_with_head, with_counts, with_head_at, with_killed_at, with_marks, with_slot_at}
-use Rattle.jb_model.specs.declared.loaded.LoadedSlot.TheVariants as slot
-use Rattle.jb_model.specs.Standing.{is_refusal}
-use Rattle.jb_model.specs.State.{state_of}
+use Rattle.jb_disk.specs.RedoView.{RedoView}
+use Rattle.jb_held.specs.Pending.{HasReplies, MayApply}
+use Rattle.jb_image.specs.Stands.{Loads}
+use Rattle.jb_limits.specs.declared.limits.TheConstants.{MOST_SLOTS}
+use Rattle.jb_link.specs.Index.{ReplyIndex}
+use Rattle.jb_model.specs.Change.{Fits, after, headed_where, texts_after}
+use Rattle.jb_model.specs.Linked.{with_links_in, with_links_of}
+use Rattle.jb_model.specs.Loaded.{IsMessageAt}
+use Rattle.jb_model.specs.Message.{letter_of}
+use Rattle.jb_model.specs.Plan.{loaded_at}
+use Rattle.jb_model.specs.Sound.{IsMessageWithin, IsSound, IsTextWithin}
+use Rattle.jb_model.specs.State.{state_of, text_of}
 use Rattle.jb_model.specs.Step.{Step}
+use Rattle.jb_model.specs.declared.change.Change.{Change}
+use Rattle.jb_model.specs.declared.change.Change.TheVariants.{Nothing, Posted, Headed, Killed, Relinked, Marked, Packed}
+use Rattle.jb_model.specs.declared.change.HeadAt.{HeadAt}
 use Rattle.jb_model.specs.declared.command.Command.{Command}
-use Rattle.jb_model.specs.declared.command.Command.TheVariants.{Kill, Read, SetMark}
+use Rattle.jb_model.specs.declared.links.Links.{Links}
 use Rattle.jb_model.specs.declared.loaded.Loaded.{Loaded}
 use Rattle.jb_model.specs.declared.loaded.LoadedMessage.{LoadedMessage}
-use Rattle.jb_model.specs.declared.reply.Reply.{Reply}
-use Rattle.jb_model.specs.declared.reply.Reply.TheVariants as reply
-use Rattle.jb_model.specs.Sound.{IsMessageWithin, IsSlotWithin, IsSound}
-use Rattle.jb_redo.specs.Rules.{AreLegalLengths, IsBefore, IsLegalLength}
-use Rattle.jb_base.specs.declared.attribute.TheConstants.{DELETED}
-use Rattle.jb_model.specs.Message.{letter_of}
-use Rattle.jb_model.specs.declared.loaded.LoadedSlot.{LoadedSlot}
+use Rattle.jb_model.specs.declared.loaded.LoadedSlot.TheVariants as slot
 use Rattle.jb_model.specs.declared.message.Head.{Head}
 use Rattle.jb_model.specs.declared.reply.Letter.{Letter}
-use Rattle.jb_base.specs.Name.{same_name}
-use Rattle.jb_base.specs.Subfields.{receiver_of}
-use Rattle.jb_change.specs.Changing.{head_with_reading}
-use Rattle.jb_model.specs.Read.{read_once_more, received_at}
-use Rattle.jb_step.proofs.ReadLemmas.{reading_keeps_parent}
-use Rattle.jb_step.specs.Read.{IsReading, read_head}
-use Rattle.jb_step.specs.Seen.{with_text, with_head as step_head}
-use Rattle.jb_step.specs.declared.reads.Reading.{Reading}
-use Rattle.jb_step.specs.After.{after_kill, after_reading, live_messages, next_counter}
-use Rattle.jb_step.specs.Kill.{IsKilling}
-use Rattle.jb_step.specs.SetMark.{IsMarking}
-use Rattle.jb_base.specs.Crc.{jam_crc_of}
-use Rattle.jb_marks.proofs.MarkLemmas.{mark_of-none}
-use Rattle.jb_marks.specs.Places.{HasNone, IsPlaceOf}
-use Rattle.jb_model.specs.Marks.{mark_of, with_mark}
-use Rattle.jb_model.specs.declared.mark.Mark.{Mark}
-use Rattle.jb_step.specs.declared.kills.Killing.{Killing}
-use Rattle.jb_decide.specs.Decided.{ChangesNothing, IsDecided, IsLook, IsTold, made}
-use Rattle.jb_decide.specs.Headers.{KeepsHeaders, PacksHeaders, Updates}
-use Rattle.jb_decide.proofs.HeaderLemmas.{keeps_all, keeps_headers}
-use Rattle.jb_decide.proofs.BringLemmas.{brings_same, keeps_same}
+use Rattle.jb_model.specs.declared.reply.Reply.{Reply}
+use Rattle.jb_model.specs.declared.reply.Reply.TheVariants as reply
+use Rattle.jb_pack.specs.Shadow.{Shadow}
+use Rattle.jb_redo.specs.Changes.{IsWritable, changed}
+use Rattle.jb_decide.specs.Coming.{BringsComing, Coming}
+use Rattle.jb_decide.specs.Decided.{HasShortRecord, IsAnswerBy, IsDecided, IsKeptFor, IsPacking, IsPending, IsTold, made}
+use Rattle.jb_decide.specs.Headers.{KeepsHeaders, PacksHeaders, StandsBehind}
 use Rattle.jb_decide.specs.Packs.{IsPacked}
-use Rattle.jb_decide.specs.Pending.{IsFit, IsPacking, MayApply, after, headed_at, live_after}
+use Rattle.jb_decide.specs.Read.{letter_in}
+use Rattle.jb_decide.specs.Seen.{shown}
+use Rattle.jb_decide.specs.StepOf.{ChangesNothing, IsStepOf, NamesPosted, posted_text, text_behind}
 use Rattle.jb_decide.specs.declared.decided.Decided.{Decided}
-use Rattle.jb_decide.specs.declared.pending.Pending.{Pending}
-use Rattle.jb_decide.specs.declared.pending.Pending.TheVariants.{Nothing, Counted, Marked}
-use Rattle.jb_decide.specs.declared.pending.SlotChange.{SlotChange}
-use Rattle.jb_decide.specs.declared.pending.SlotChange.TheVariants as slots
+use Rattle.jb_decide.proofs.BringLemmas.{brings, keeps_more, keeps_same}
+use Rattle.jb_decide.proofs.HeaderLemmas.{keeps_all, keeps_headers, last_message}
+use Rattle.jb_decide.proofs.SoundLemmas.{slot_within}
 
--- a change of the slots is one
-pub counted_some : (change : SlotChange) (counter active : ℕ) → Counted change counter active ≢ Nothing
-counted_some change counter active is = cc
+-- a change is nothing or something
+pub nothing_or : (change : Change) → (change ≡ Nothing) ⊎ (change ≢ Nothing)
+nothing_or Nothing = inl refl
+nothing_or (Posted message neighbour) = inr (λ is. cc)
+nothing_or (Headed at) = inr (λ is. cc)
+nothing_or (Killed place) = inr (λ is. cc)
+nothing_or (Relinked plan) = inr (λ is. cc)
+nothing_or (Marked place mark) = inr (λ is. cc)
+nothing_or (Packed plan base) = inr (λ is. cc)
 
--- of nothing no two are out of order
-no_pairs : AllPairs IsBefore []
-no_pairs i j d order low = absurd (omega (arith, low))
+-- a sound area is so under a higher limit
+pub sound_under : (limit more : ℕ) (loaded : Loaded) → limit ≤ more → IsSound limit loaded → IsSound more loaded
+sound_under limit more loaded under sound = record {
+  fixed = sound.fixed;
+  base = sound.base;
+  numbers = sound.numbers;
+  few_slots = omega (arith, sound.few_slots);
+  few_marks = sound.few_marks;
+  within = sound.within;
+  apart = sound.apart;
+}
 
--- no lengths are legal lengths
-pub no_lengths_legal : (lengths : _) → lengths ≡ [] → AreLegalLengths lengths
-no_lengths_legal lengths none = subst AreLegalLengths (sym none) (record { few = omega arith; each = All-nil IsLegalLength; rising = no_pairs })
+-- what fits under a limit fits under a higher one
+pub fits_under : (limit more : ℕ) (change : Change) (loaded : Loaded) → limit ≤ more → Fits limit change loaded → Fits more change loaded
+fits_under limit more Nothing loaded under fits = fits
+fits_under limit more (Posted message neighbour) loaded under fits = (
+  record {
+    number = fits.0.number;
+    slot = omega (arith, fits.0.slot);
+    header_at = fits.0.header_at;
+    text_at = fits.0.text_at;
+    headers = fits.0.headers;
+    texts = fits.0.texts;
+    few_bytes = fits.0.few_bytes;
+    short = fits.0.short;
+    live = fits.0.live;
+    parent = fits.0.parent;
+  },
+  fits.1,
+)
+fits_under limit more (Headed at) loaded under fits = fits
+fits_under limit more (Killed place) loaded under fits = fits
+fits_under limit more (Relinked plan) loaded under fits = fits
+fits_under limit more (Marked place mark) loaded under fits = fits
+fits_under limit more (Packed plan base) loaded under fits = fits
 
--- a change without new lengths whose record is small may be written
-pub small_writable : (change : Change) → change.lengths ≡ [] → 16 + record_size change ≤ JOURNAL_CEILING → IsWritable change
-small_writable change none small = record { lengths_are = no_lengths_legal change.lengths none; short = small }
+-- a change that takes no memory posts no message
+pub short_numbered : (redo : RedoView) (loaded : Loaded) (change : Change) → IsShort change → NumbersPosted redo loaded change
+short_numbered redo loaded Nothing short = tt
+short_numbered redo loaded (Posted message neighbour) short = absurd short
+short_numbered redo loaded (Headed at) short = tt
+short_numbered redo loaded (Killed place) short = tt
+short_numbered redo loaded (Relinked plan) short = tt
+short_numbered redo loaded (Marked place mark) short = tt
+short_numbered redo loaded (Packed plan base) short = tt
 
--- an answer that differs from each of a pack that was done is none
-pub not_packed : (answer : Reply) → ((base live dropped : ℕ) → answer ≡ reply.Packed base live dropped → ⊥) → IsPacked answer → ⊥
-not_packed answer other packed = other packed.base packed.live packed.dropped packed.is
+-- nor a text
+pub short_text : (change : Change) (text : List ℕ) → IsShort change → text_behind change text ≡ []
+short_text Nothing text short = refl
+short_text (Posted message neighbour) text short = absurd short
+short_text (Headed at) text short = refl
+short_text (Killed place) text short = refl
+short_text (Relinked plan) text short = refl
+short_text (Marked place mark) text short = refl
+short_text (Packed plan base) text short = refl
 
--- nor is a refusal one
-pub no_pack : (answer : Reply) → is_refusal answer ≡ true → IsPacked answer → ⊥
-no_pack answer refusal packed = false≢true (sym (ap is_refusal packed.is) ∙ refusal)
+-- what is none of a pack packs nothing
+not_packing : (change : Change) → IsNoPacking change → IsPacking change → ⊥
+not_packing Nothing none packing = packing
+not_packing (Posted message neighbour) none packing = packing
+not_packing (Headed at) none packing = packing
+not_packing (Killed place) none packing = packing
+not_packing (Relinked plan) none packing = packing
+not_packing (Marked place mark) none packing = packing
+not_packing (Packed plan base) none packing = none
+
+-- it needs no index of replies
+no_replies : (change : Change) (replies : Option ReplyIndex) (loaded : Loaded) → IsNoPacking change → HasReplies change replies loaded
+no_replies Nothing replies loaded none = tt
+no_replies (Posted message neighbour) replies loaded none = tt
+no_replies (Headed at) replies loaded none = tt
+no_replies (Killed place) replies loaded none = tt
+no_replies (Relinked plan) replies loaded none = tt
+no_replies (Marked place mark) replies loaded none = tt
+no_replies (Packed plan base) replies loaded none = absurd none
+
+-- nothing is said of its record
+no_record : (change : Change) (redo : RedoView) (to : Loaded) → IsNoPacking change → HasShortRecord change redo to
+no_record Nothing redo to none = tt
+no_record (Posted message neighbour) redo to none = tt
+no_record (Headed at) redo to none = tt
+no_record (Killed place) redo to none = tt
+no_record (Relinked plan) redo to none = tt
+no_record (Marked place mark) redo to none = tt
+no_record (Packed plan base) redo to none = absurd none
+
+-- its text comes behind the others
+texts_behind : (change : Change) (from : Loaded) (posted texts : List ℕ) → IsNoPacking change → texts_after change from posted texts ≡ texts ++ text_behind change posted
+texts_behind Nothing from posted texts none = sym (append-nil texts)
+texts_behind (Posted message neighbour) from posted texts none = refl
+texts_behind (Headed at) from posted texts none = sym (append-nil texts)
+texts_behind (Killed place) from posted texts none = sym (append-nil texts)
+texts_behind (Relinked plan) from posted texts none = sym (append-nil texts)
+texts_behind (Marked place mark) from posted texts none = sym (append-nil texts)
+texts_behind (Packed plan base) from posted texts none = absurd none
+
+-- links leave the texts
+texts_in : (links : Links) (found : Option LoadedMessage) (loaded : Loaded) → (with_links_in links found loaded).texts_len ≡ loaded.texts_len
+texts_in links None loaded = refl
+texts_in links (Some message) loaded = refl
+
+-- so do those of a plan
+texts_of : (plan : List Links) (loaded : Loaded) → (with_links_of plan loaded).texts_len ≡ loaded.texts_len
+texts_of [] loaded = refl
+texts_of (links ∷ plan) loaded =
+    texts_of plan (with_links_in links (loaded_at loaded links.number) loaded) ∙ texts_in links (loaded_at loaded links.number) loaded
+
+-- links leave the number of slots
+length_in : (links : Links) (found : Option LoadedMessage) (loaded : Loaded) → length (with_links_in links found loaded).slots ≡ length loaded.slots
+length_in links None loaded = refl
+length_in links (Some message) loaded = length-set loaded.slots (links.number - loaded.base) _
+
+-- so do those of a plan
+length_of : (plan : List Links) (loaded : Loaded) → length (with_links_of plan loaded).slots ≡ length loaded.slots
+length_of [] loaded = refl
+length_of (links ∷ plan) loaded =
+    length_of plan (with_links_in links (loaded_at loaded links.number) loaded) ∙ length_in links (loaded_at loaded links.number) loaded
+
+-- the length of the texts is then longer by that of this text
+longer : (change : Change) (from : Loaded) (posted : List ℕ) → IsNoPacking change → IsTextOf change (text_behind change posted)
+    → (after change from).texts_len ≡ from.texts_len + length (text_behind change posted)
+longer Nothing from posted none is = omega arith
+longer (Posted message None) from posted none is = ap (λ (n : ℕ). from.texts_len + n) is
+longer (Posted message (Some one)) from posted none is = ap (λ (n : ℕ). from.texts_len + n) is
+longer (Headed at) from posted none is = omega arith
+longer (Killed place) from posted none is = omega arith
+longer (Relinked plan) from posted none is = let same = texts_of plan from in omega (arith, same)
+longer (Marked place mark) from posted none is = omega arith
+longer (Packed plan base) from posted none is = absurd none
+
+-- what a redo does for a change with this text behind the others
+pub record IsPutIn (redo : RedoView) (from : Loaded) (change : Change) (text : List ℕ) : Type 0 where
+  pub updates : Updates redo from (after change from) text
+  pub numbered : NumbersPosted redo from change
+  pub index : KeepsIndexOnKill redo from change
+  pub writable : IsWritable redo
+
+-- a message that is posted stands behind the others
+stands : (answer : Reply) (from : Loaded) (limit : ℕ) (posted message : LoadedMessage) (neighbour : Option HeadAt) (redo : RedoView) (files : Files)
+    → Fits limit (Posted posted neighbour) from → NamesPosted (Posted posted neighbour) from answer → NumbersPosted redo from (Posted posted neighbour) → Loads from files
+    → message ≡ posted → StandsBehind answer message files (changed redo files)
+stands answer from limit posted message neighbour redo files fits named numbered loads same =
+    subst (λ (m : LoadedMessage). StandsBehind answer m files (changed redo files)) (sym same) (record {
+      header_at = fits.0.header_at ∙ loads.headers_len;
+      text_at = fits.0.text_at ∙ loads.texts_len;
+      numbered = named ∙ ap (λ (n : ℕ). reply.Posted n) (sym (numbered files loads));
+    })
+
+-- a neighbour's header is no slot more
+as_many : (neighbour : Option HeadAt) (loaded : Loaded) → length (headed_where neighbour loaded).slots ≡ length loaded.slots
+as_many None loaded = refl
+as_many (Some one) loaded = length-set loaded.slots one.place _
+
+-- each header stays where it was, with its number, and a new one stands behind the others
+headers_kept : (answer : Reply) (limit : ℕ) (redo : RedoView) (from : Loaded) (change : Change) (text : List ℕ) → IsNoPacking change → IsPutIn redo from change text
+    → Fits limit change from → NamesPosted change from answer → (files : Files) → Loads from files → KeepsHeaders answer from (after change from) files (changed redo files)
+headers_kept answer limit redo from Nothing text none put fits named files loads = keeps_headers answer redo from (after Nothing from) text put.updates refl files loads
+headers_kept answer limit redo from (Posted message neighbour) text none put fits named files loads = record {
+  places = put.updates.places;
+  numbers = put.updates.numbers files loads;
+  behind = λ place other past here. stands answer from limit message other neighbour redo files fits named put.numbered loads
+      (last_message (headed_where neighbour from).slots place message other (let same = as_many neighbour from in omega (arith, past, same)) here);
+}
+headers_kept answer limit redo from (Headed at) text none put fits named files loads =
+    keeps_headers answer redo from (after (Headed at) from) text put.updates (length-set from.slots at.place _) files loads
+headers_kept answer limit redo from (Killed place) text none put fits named files loads =
+    keeps_headers answer redo from (after (Killed place) from) text put.updates (length-set from.slots place _) files loads
+headers_kept answer limit redo from (Relinked plan) text none put fits named files loads =
+    keeps_headers answer redo from (after (Relinked plan) from) text put.updates (length_of plan from) files loads
+headers_kept answer limit redo from (Marked place mark) text none put fits named files loads =
+    keeps_headers answer redo from (after (Marked place mark) from) text put.updates refl files loads
+headers_kept answer limit redo from (Packed plan base) text none put fits named files loads = absurd none
+
+-- something that is pending is done by the redo
+pub made_some : (change : Change) (redo : RedoView) (files : Files) → change ≢ Nothing → made change redo files ≡ changed redo files
+made_some Nothing redo files some = absurd (some refl)
+made_some (Posted message neighbour) redo files some = refl
+made_some (Headed at) redo files some = refl
+made_some (Killed place) redo files some = refl
+made_some (Relinked plan) redo files some = refl
+made_some (Marked place mark) redo files some = refl
+made_some (Packed plan base) redo files some = refl
+
+-- what is to come of an area and its texts
+abbrev coming_of : Change → Loaded → List ℕ → List ℕ → Coming
+coming_of change from posted texts = record { to = after change from; texts = texts_after change from posted texts }
+
+-- what is put is pending
+pending_of : (limit : ℕ) (contents : Option Files) (redo : RedoView) (change : Change) (from : Loaded) (posted texts : List ℕ) → change ≢ Nothing → IsNoPacking change
+    → IsTextOf change (text_behind change posted) → IsPutIn redo from change (text_behind change posted) → Fits limit change from → IsSound limit (after change from)
+    → length texts ≡ from.texts_len → IsPending limit contents None redo change from posted texts (coming_of change from posted texts)
+pending_of limit contents redo change from posted texts some kind is_text put fits sound sized =
+    let text : List ℕ = text_behind change posted in
+    let behind : texts_after change from posted texts ≡ texts ++ text = texts_behind change from posted texts kind in
+    record {
+      some = some;
+      becomes = refl;
+      texts_are = refl;
+      change = record {
+        brings = λ files there. subst (λ (t : List ℕ). BringsComing redo from texts None (record { to = after change from; texts = t })) (sym behind)
+            (brings redo from (after change from) texts text None put.updates.makes);
+        writable = put.writable;
+      };
+      fits = fits;
+      sound = sound;
+      sized = ap length behind ∙ length-append texts text ∙ ap (λ (n : ℕ). n + length text) sized ∙ sym (longer change from posted kind is_text);
+      short = no_record change redo (after change from) kind;
+    }
 
 -- no other answer says how headers stand
 none_packed : (answer : Reply) → (IsPacked answer → ⊥) → (to : Loaded) (files : Files) → PacksHeaders answer to files
@@ -102,32 +284,64 @@ none_packed (reply.TextFull len) other to files = tt
 none_packed (reply.NumbersSpent next) other to files = tt
 none_packed (reply.MarksFull marks) other to files = tt
 
--- a command that is answered, does not look, and is no relink that finds no wrong link changes something
-pub something : (command : Command) (answer : Reply) → is_refusal answer ≡ false → (IsLook command → ⊥) → (answer ≡ reply.Relinked 0 → ⊥) → ChangesNothing command answer → ⊥
-something command answer done acts links (inl refused) = false≢true (sym done ∙ refused)
-something command answer done acts links (inr (inl look)) = acts look
-something command answer done acts links (inr (inr none)) = links none
+-- a step of which the redo does what it changes
+pub step_decided : (rules : AreaRules) (from : Loaded) (texts : List ℕ) (contents : Option Files) (redo : RedoView) (user : User) (moment : ℕ) (command : Command) (shows : List ℕ → Reply) (decided : Decided)
+    → IsStepOf rules from user moment command shows decided.pending.change → IsAnswerBy shows from texts contents decided.reply
+    → (decided.pending.change ≢ Nothing → IsPutIn redo from decided.pending.change (text_behind decided.pending.change (posted_text command)))
+    → length texts ≡ from.texts_len → IsDecided rules from texts contents None redo user moment command decided
+step_decided rules from texts contents redo user moment command shows decided is answer put sized =
+    let change : Change = decided.pending.change in
+    let posted : List ℕ = posted_text command in
+    let coming : Coming = coming_of change from posted texts in
+    let unchanged : change ≡ Nothing → coming ≡ record { to = from; texts = texts } = λ none. ap (λ (c : Change). coming_of c from posted texts) none in
+    record {
+      coming = coming;
+      change = elim (nothing_or change) [
+        | inl none ↦ inl (record { none = none; same = unchanged none })
+        | inr some ↦ inr (pending_of rules.slots contents redo change from posted texts some is.kind is.text (put some) is.fits is.sound sized)
+      ];
+      replies = no_replies change decided.pending.replies from is.kind;
+      step = λ told. subst (λ (r : Reply). Step rules (state_of texts from) user moment command r (state_of coming.texts coming.to)) (sym (answer.told told)) (is.step texts sized);
+      somewhere = record {
+        texts = answer.others;
+        sized = answer.sized;
+        step = subst (λ (r : Reply). Step rules (state_of answer.others from) user moment command r (state_of (texts_after change from posted answer.others) (after change from)))
+            (sym answer.answers) (is.step answer.others answer.sized);
+      };
+      idle = λ nothing.
+          let none : change ≡ Nothing = is.idle answer.others (subst (ChangesNothing command) answer.answers nothing) in
+          record { none = none; same = unchanged none };
+      kind = λ no packing. not_packing change is.kind packing;
+      packing = λ packed. absurd (is.unpacked answer.others (subst IsPacked answer.answers packed));
+      headers = λ same files has. elim (nothing_or change) [
+        | inl none ↦ subst (λ (c : Change). KeepsHeaders decided.reply from (after c from) files (made c redo files)) (sym none) (keeps_all decided.reply from files)
+        | inr some ↦ subst (KeepsHeaders decided.reply from (after change from) files) (sym (made_some change redo files some))
+            (headers_kept decided.reply rules.slots redo from change (text_behind change posted) is.kind (put some) is.fits
+            (subst (NamesPosted change from) (sym answer.answers) (is.named answer.others)) files has.holds.loads)
+      ];
+      index = elim (nothing_or change) [
+        | inl none ↦ subst (KeepsIndexOnKill redo from) (sym none) tt
+        | inr some ↦ (put some).index
+      ];
+      packs = λ files has. none_packed decided.reply (λ packed. is.unpacked answer.others (subst IsPacked answer.answers packed)) coming.to (made change redo files);
+    }
 
--- a reply that leaves the area as it is
-pub unchanged_decided : (rules : AreaRules) (from : Loaded) (texts : List ℕ) (contents : Option Files) (redo : Change) (user : User) (moment : ℕ) (command : Command) (decided : Decided) (answer : Reply)
-    → decided.reply ≡ answer → decided.pending ≡ Nothing
-    → (IsPacked answer → ⊥)
-    → (IsTold answer contents → Step rules (state_of texts from) user moment command answer (state_of texts from))
-    → IsDecided rules from texts contents None redo user moment command decided
-unchanged_decided rules from texts contents redo user moment command decided answer reply none other step = record {
-  coming = record { to = from; texts = texts };
-  change = inl (record { none = none; same = refl });
-  step = λ told. subst (λ (r : Reply). Step rules (state_of texts from) user moment command r (state_of texts from)) (sym reply)
-      (step (subst (λ (r : Reply). IsTold r contents) reply told));
-  idle = λ nothing. record { none = none; same = refl };
-  headers = λ same files holds. subst (λ (p : Pending). KeepsHeaders decided.reply from from files (made p redo files)) (sym none) (keeps_all decided.reply from files);
-  kind = λ no packing. subst IsPacking none packing;
-  packing = λ packed. absurd (other (subst IsPacked reply packed));
-  packs = λ files holds. subst (λ (r : Reply). PacksHeaders r from (made decided.pending redo files)) (sym reply) (none_packed answer other from (made decided.pending redo files));
-}
+-- a step that changes nothing
+pub unchanged_decided : (rules : AreaRules) (from : Loaded) (texts : List ℕ) (contents : Option Files) (redo : RedoView) (user : User) (moment : ℕ) (command : Command) (shows : List ℕ → Reply) (decided : Decided) (answer : Reply)
+    → decided.reply ≡ answer → decided.pending.change ≡ Nothing → IsStepOf rules from user moment command shows Nothing → IsAnswerBy shows from texts contents answer
+    → length texts ≡ from.texts_len → IsDecided rules from texts contents None redo user moment command decided
+unchanged_decided rules from texts contents redo user moment command shows decided answer is none step by sized =
+    step_decided rules from texts contents redo user moment command shows decided
+    (subst (IsStepOf rules from user moment command shows) (sym none) step)
+    (subst (IsAnswerBy shows from texts contents) (sym is) by)
+    (λ some. absurd (some none)) sized
+
+-- a reply that is the same whatever the texts are
+pub same_answer : (from : Loaded) (texts : List ℕ) (contents : Option Files) (answer : Reply) → length texts ≡ from.texts_len → IsAnswerBy (λ texts. answer) from texts contents answer
+same_answer from texts contents answer sized = record { told = λ told. refl; others = texts; sized = sized; answers = refl }
 
 -- what holds where files are told holds of a letter that is told
-pub of_letter : (contents : Option Files) (letter : Letter) (P : Type 0) → IsTold (reply.Text letter) contents → ForSome contents (λ files. P) → P
+of_letter : (contents : Option Files) (letter : Letter) (P : Type 0) → IsTold (reply.Text letter) contents → ForSome contents (λ files. P) → P
 of_letter contents letter P told is = by_contents contents refl (told letter refl)
   where
     by_contents : (o : Option Files) → contents ≡ o → IsSome o → P
@@ -137,183 +351,89 @@ of_letter contents letter P told is = by_contents contents refl (told letter ref
         not_some some = cc
     by_contents (Some files) there some = is files there
 
--- what is pending may be done, where the area to come is sound
-pub may_apply : (pending : Pending) (from to : Loaded) (limit : ℕ) → to ≡ after pending from → IsFit pending from → IsSound limit to → live_messages to ≡ live_after pending (live_messages from)
-    → MayApply pending from
-may_apply pending from to limit becomes fit sound live = record {
-  fit = fit;
-  live = ap live_messages (sym becomes) ∙ live;
-  numbers = subst (λ (l : Loaded). l.base + length l.slots ≤ 4294967295) becomes sound.numbers;
+-- texts in which a message has a text
+record HasText (message : LoadedMessage) (text : List ℕ) (len : ℕ) : Type 0 where
+  pub texts : List ℕ
+  pub sized : length texts ≡ len
+  pub is : text_of texts message ≡ text
+
+-- a list of no length is empty
+none_long : (xs : List ℕ) → length xs ≡ 0 → xs ≡ []
+none_long [] is = refl
+none_long (x ∷ xs) is = absurd (omega (arith, is))
+
+-- there are such texts, where there is room for that one
+has_text : (message : LoadedMessage) (text : List ℕ) (len : ℕ) → IsTextWithin len message.text_at message.text_len → length text ≡ message.text_len → HasText message text len
+has_text message text len within long = elim within.placed [
+  | inl empty ↦ record {
+    texts = replicate len 0;
+    sized = length-replicate len 0;
+    is = ap (λ (n : ℕ). take n (drop message.text_at (replicate len 0))) empty ∙ sym (none_long text (long ∙ empty));
+  }
+  | inr placed ↦
+      let at : ℕ = message.text_at in
+      let front : List ℕ = replicate at 0 in
+      let rest : List ℕ = replicate (len - (at + message.text_len)) 0 in
+      let low : length front ≡ at = length-replicate at 0 in
+      let high : length rest ≡ len - (at + message.text_len) = length-replicate (len - (at + message.text_len)) 0 in
+      let inside : at + message.text_len ≤ len = placed.0 in
+      record {
+        texts = front ++ (text ++ rest);
+        sized = omega (arith, length-append front (text ++ rest), length-append text rest, low, high, inside, long);
+        is = ap (take message.text_len)
+            (drop-append-le at front (text ++ rest) (omega (arith, low)) ∙ ap (λ (f : List ℕ). f ++ (text ++ rest)) (drop_all at front (omega (arith, low))))
+            ∙ take-append-le message.text_len text rest (omega (arith, long)) ∙ take_all message.text_len text (omega (arith, long));
+      }
+]
+
+-- a letter with a text of the message's length, which is that of these texts where they are told
+pub letter_answer : (from : Loaded) (texts : List ℕ) (contents : Option Files) (number : ℕ) (head : Head) (message : LoadedMessage) (text : List ℕ) (letter : Letter)
+    → IsTextWithin from.texts_len message.text_at message.text_len → length text ≡ message.text_len → letter ≡ letter_of number (shown head message text)
+    → ForSome contents (λ files. text ≡ text_of texts message)
+    → IsAnswerBy (letter_in number head message) from texts contents (reply.Text letter)
+letter_answer from texts contents number head message text letter within long shows found =
+    let has : HasText message text from.texts_len = has_text message text from.texts_len within long in
+    let as_shown : (other : List ℕ) → text ≡ other → reply.Text letter ≡ reply.Text (letter_of number (shown head message other)) =
+    λ other same. ap (λ (l : Letter). reply.Text l) (shows ∙ ap (λ (t : List ℕ). letter_of number (shown head message t)) same) in
+    record {
+      told = λ told. as_shown (text_of texts message) (of_letter contents letter (text ≡ text_of texts message) told found);
+      others = has.texts;
+      sized = has.sized;
+      answers = as_shown (text_of has.texts message) (sym has.is);
+    }
+
+-- what is decided of a kept area may be done in it
+pub may_apply : (rules : AreaRules) (from : Loaded) (texts : List ℕ) (contents : Option Files) (copies : Option Shadow) (redo : RedoView) (user : User) (moment : ℕ) (command : Command) (decided : Decided)
+    → IsKeptFor rules from → IsDecided rules from texts contents copies redo user moment command decided → MayApply decided.pending from
+may_apply rules from texts contents copies redo user moment command decided kept is = record {
+  sound = sound_under rules.slots MOST_SLOTS from kept.few_slots kept.sound;
+  fits = elim is.change [
+    | inl none ↦ subst (λ (c : Change). Fits MOST_SLOTS c from) (sym none.none) tt
+    | inr pending ↦ fits_under rules.slots MOST_SLOTS decided.pending.change from kept.few_slots pending.fits
+  ];
+  replies = is.replies;
 }
 
--- a kill
-pub kill_decided : (rules : AreaRules) (from : Loaded) (texts : List ℕ) (contents : Option Files) (redo : Change) (user : User) (moment number counter active : ℕ) (killing : Killing) → IsKilling rules from user number killing → IsSound rules.slots from → length texts ≡ from.texts_len
-    → counter ≡ next_counter from → active ≡ live_messages from - 1
-    → ((place : ℕ) (message : LoadedMessage) → IsMessageAt from place message → message.header_at ≡ killing.header_at
-    → Updates redo from (with_counts counter active (with_killed_at place message from)) [])
-    → IsWritable redo
-    → IsDecided rules from texts contents None redo user moment (Kill number) (record { reply = reply.Killed number; pending = Counted (slots.Killed killing.place killing.header_at) counter active })
-kill_decided rules from texts contents redo user moment number counter active killing is before sized counted live makes writable =
-    let to = after_kill killing.place is.message from in
-    let same : with_counts counter active (with_killed_at killing.place is.message from) ≡ to =
-    ap (λ (n : ℕ). with_counts n active (with_killed_at killing.place is.message from)) counted
-    ∙ ap (λ (n : ℕ). with_counts (next_counter from) n (with_killed_at killing.place is.message from)) live in
-    let fewer = is.live in
-    let updates : Updates redo from to [] = subst (λ (l : Loaded). Updates redo from l []) same (makes killing.place is.message is.named.here (sym is.header)) in
-    let becomes = sym same ∙ ap (λ (n : ℕ). with_counts counter active (with_slot_at killing.place (slot.Killed n) from)) (sym is.header) in
-    record {
-      coming = record { to = to; texts = texts };
-      change = inr (record {
-        some = counted_some (slots.Killed killing.place killing.header_at) counter active;
-        becomes = becomes;
-        change = record {
-          brings = λ files there. brings_same redo from to texts None updates.makes;
-          writable = writable;
-        };
-        may = may_apply (Counted (slots.Killed killing.place killing.header_at) counter active) from to rules.slots becomes
-            (slice_get_within from.slots killing.place _ is.named.here) (is.sound before) (omega (arith, fewer, live));
-        sound = is.sound before;
-        sized = sized;
-        grows = keeps_same texts;
-        short = tt;
-      });
-      step = λ told. is.step texts moment;
-      idle = λ nothing. absurd (something (Kill number) (reply.Killed number) refl (λ look. look) (λ links. cc) nothing);
-      kind = λ no packing. packing;
-      packing = λ packed. absurd (not_packed (reply.Killed number) (λ base live dropped is. cc) packed);
-      packs = λ files holds. tt;
-      headers = λ same files holds. keeps_headers (reply.Killed number) redo from to [] updates (length-set from.slots killing.place _) files holds.holds.loads;
-    }
+-- the texts after a change that is none of a pack begin with those before
+texts_kept : (change : Change) (from : Loaded) (posted texts : List ℕ) → (IsPacking change → ⊥) → take (length texts) (texts_after change from posted texts) ≡ texts
+texts_kept Nothing from posted texts none = keeps_same texts
+texts_kept (Posted message neighbour) from posted texts none = keeps_more texts posted
+texts_kept (Headed at) from posted texts none = keeps_same texts
+texts_kept (Killed place) from posted texts none = keeps_same texts
+texts_kept (Relinked plan) from posted texts none = keeps_same texts
+texts_kept (Marked place mark) from posted texts none = keeps_same texts
+texts_kept (Packed plan base) from posted texts none = absurd (none tt)
 
--- a mark is to be set
-pub marked_some : (place : Option ℕ) (mark : Mark) → Marked place mark ≢ Nothing
-marked_some place mark is = cc
-
--- where the user has no mark, there is room for one
-pub mark_room : (crc id : ℕ) (marks : List Mark) (place : Option ℕ) → IsPlaceOf crc id marks place → IsSome (mark_of crc id marks) ⊎ (length marks < MOST_MARKS)
-    → place ≡ None → length marks < MOST_MARKS
-mark_room crc id marks place is (inr room) none = room
-mark_room crc id marks place is (inl some) none =
-    let has : HasNone crc id marks = subst (IsPlaceOf crc id marks) none is in
-    absurd (not_some (subst IsSome (mark_of-none crc id marks has) some))
-  where
-    not_some : IsSome {T = Mark} None → ⊥
-    not_some some = cc
-
--- there is such a mark, or room for one
-pub room_is : (user : User) (mark : Mark) (marks : List Mark) → mark.user_crc ≡ jam_crc_of user.name → mark.user_id ≡ user.id
-    → IsSome (mark_of (jam_crc_of user.name) user.id marks) ⊎ (length marks < MOST_MARKS) → IsSome (mark_of mark.user_crc mark.user_id marks) ⊎ (length marks < MOST_MARKS)
-room_is user mark marks crc id room =
-    subst (λ (n : ℕ). IsSome (mark_of n mark.user_id marks) ⊎ (length marks < MOST_MARKS)) (sym crc)
-    (subst (λ (n : ℕ). IsSome (mark_of (jam_crc_of user.name) n marks) ⊎ (length marks < MOST_MARKS)) (sym id) room)
-
--- the setting of a mark
-pub mark_decided : (rules : AreaRules) (from : Loaded) (texts : List ℕ) (contents : Option Files) (redo : Change) (user : User) (moment number : ℕ) (mark : Mark) (place : Option ℕ) → IsMarking rules from user number mark
-    → IsSound rules.slots from → length texts ≡ from.texts_len → IsPlaceOf mark.user_crc mark.user_id from.marks place
-    → Updates redo from (with_marks (with_mark mark from.marks) from) [] → IsWritable redo
-    → IsDecided rules from texts contents None redo user moment (SetMark number) (record { reply = reply.Marked mark.last mark.high; pending = Marked place mark })
-mark_decided rules from texts contents redo user moment number mark place is before sized placed makes writable =
-    let to = with_marks (with_mark mark from.marks) from in
-    let room = room_is user mark from.marks is.user_crc is.user_id is.room in
-    record {
-      coming = record { to = to; texts = texts };
-      change = inr (record {
-        some = marked_some place mark;
-        becomes = refl;
-        change = record { brings = λ files there. brings_same redo from to texts None makes.makes; writable = writable };
-        may = may_apply (Marked place mark) from to rules.slots refl (placed, mark_room mark.user_crc mark.user_id from.marks place placed room) (is.sound before) refl;
-        sound = is.sound before;
-        sized = sized;
-        grows = keeps_same texts;
-        short = tt;
-      });
-      step = λ told. is.step texts moment;
-      idle = λ nothing. absurd (something (SetMark number) (reply.Marked mark.last mark.high) refl (λ look. look) (λ links. cc) nothing);
-      kind = λ no packing. packing;
-      packing = λ packed. absurd (not_packed (reply.Marked mark.last mark.high) (λ base live dropped is. cc) packed);
-      packs = λ files holds. tt;
-      headers = λ same files holds. keeps_headers (reply.Marked mark.last mark.high) redo from to [] makes refl files holds.holds.loads;
-    }
-
--- the slot at a place, from the message that stands there
-slot_is : (slots : List LoadedSlot) (place : ℕ) (message : LoadedMessage) → slice_get slots place ≡ Some (slot.Live message) → get_or slots place slot.Empty ≡ slot.Live message
-slot_is slots place message here =
-    some_slot _ _ (sym (slice_get-get_or slots place slot.Empty (slice_get_within slots place _ here)) ∙ here)
-  where
-    some_slot : (one other : LoadedSlot) → Some one ≡ Some other → one ≡ other
-    some_slot one other is = cc
-
--- the header of the message at a place
-pub headed_is : (place : ℕ) (head : Head) (message : LoadedMessage) (from : Loaded) → IsMessageAt from place message → with_head_at place head message from ≡ headed_at place head from
-headed_is place head message from here =
-    ap (λ (one : LoadedSlot). with_slot_at place (slot_with_head head one) from) (sym (slot_is from.slots place message here))
+-- so do those to come
+pub keeps_texts : (limit : ℕ) (contents : Option Files) (copies : Option Shadow) (redo : RedoView) (pending : Change) (from : Loaded) (posted texts : List ℕ) (coming : Coming)
+    → IsPending limit contents copies redo pending from posted texts coming → (IsPacking pending → ⊥) → take (length texts) coming.texts ≡ texts
+keeps_texts limit contents copies redo pending from posted texts coming is none =
+    ap (take (length texts)) is.texts_are ∙ texts_kept pending from posted texts none
 
 -- a live message in a sound area is within its files
 pub within_is : (limit place : ℕ) (message : LoadedMessage) (from : Loaded) → IsMessageAt from place message → IsSound limit from
     → IsMessageWithin from.headers_len from.texts_len message
-within_is limit place message from here sound =
-    subst (IsSlotWithin from.headers_len from.texts_len) (slot_is from.slots place message here)
-    (All-get_or (IsSlotWithin from.headers_len from.texts_len) from.slots place slot.Empty (slice_get_within from.slots place _ here) sound.within)
-
--- the message that a reading leaves is live
-pub reading_live : (limit place : ℕ) (head : Head) (message : LoadedMessage) (from : Loaded) → place < length from.slots → IsSound limit (after_reading place head message from)
-    → bit_and head.attribute DELETED ≡ 0
-reading_live limit place head message from low sound =
-    let new : LoadedSlot = slot.Live (record message { head = head }) in
-    let slots : List LoadedSlot = slice_set from.slots place new in
-    let within : IsSlotWithin from.headers_len from.texts_len (get_or slots place slot.Empty) =
-    All-get_or (IsSlotWithin from.headers_len from.texts_len) slots place slot.Empty (omega (arith, low, length-set from.slots place new)) sound.within in
-    let here : IsSlotWithin from.headers_len from.texts_len new = subst (IsSlotWithin from.headers_len from.texts_len) (get_or-set_same from.slots place new slot.Empty low) within in
-    here.live
-
--- a reading
-pub read_decided : (rules : AreaRules) (from : Loaded) (texts : List ℕ) (contents : Option Files) (redo : Change) (user : User) (moment number counter active : ℕ) (reading : Reading) (letter : Letter)
-    → (is : IsReading rules from user moment number reading)
-    → IsSound rules.slots from → length texts ≡ from.texts_len → counter ≡ next_counter from → active ≡ live_messages from
-    → ForSome contents (λ files. letter ≡ letter_of number (with_text texts (step_head reading.head is.message)))
-    → Updates redo from (with_counts counter active (with_head_at reading.place reading.head is.message from)) []
-    → IsWritable redo
-    → IsDecided rules from texts contents None redo user moment (Read number) (record { reply = reply.Text letter; pending = Counted (slots.Headed reading.place reading.head) counter active })
-read_decided rules from texts contents redo user moment number counter active reading letter is before sized counted live shown makes writable =
-    let to = after_reading reading.place reading.head is.message from in
-    let same : with_counts counter active (with_head_at reading.place reading.head is.message from) ≡ to =
-    ap (λ (n : ℕ). with_counts n active (with_head_at reading.place reading.head is.message from)) counted
-    ∙ ap (λ (n : ℕ). with_counts (next_counter from) n (with_head_at reading.place reading.head is.message from)) live in
-    let as_many = is.live in
-    let updates : Updates redo from to [] = subst (λ (l : Loaded). Updates redo from l []) same makes in
-    let becomes = sym same ∙ ap (with_counts counter active) (headed_is reading.place reading.head is.message from is.named.here) in
-    record {
-      coming = record { to = to; texts = texts };
-      change = inr (record {
-        some = counted_some (slots.Headed reading.place reading.head) counter active;
-        becomes = becomes;
-        change = record { brings = λ files there. brings_same redo from to texts None updates.makes; writable = writable };
-        may = may_apply (Counted (slots.Headed reading.place reading.head) counter active) from to rules.slots becomes
-            (record { message = is.message; here = is.named.here; reply_to = ap (λ (h : Head). h.reply_to) is.head ∙ reading_keeps_parent user moment is.message })
-            (is.sound before) (as_many ∙ sym live);
-        sound = is.sound before;
-        sized = sized;
-        grows = keeps_same texts;
-        short = tt;
-      });
-      step = λ told. subst (λ (l : Letter). Step rules (state_of texts from) user moment (Read number) (reply.Text l) (state_of texts to))
-          (sym (of_letter contents letter _ told shown)) (is.step texts);
-      idle = λ nothing. absurd (something (Read number) (reply.Text letter) refl (λ look. look) (λ links. cc) nothing);
-      kind = λ no packing. packing;
-      packing = λ packed. absurd (not_packed (reply.Text letter) (λ base live dropped is. cc) packed);
-      packs = λ files holds. tt;
-      headers = λ same files holds. keeps_headers (reply.Text letter) redo from to [] updates (length-set from.slots reading.place _) files holds.holds.loads;
-    }
-
--- a reading changes three fields alone
-pub reading_head : (user : User) (moment : ℕ) (message : LoadedMessage) (head : Head) → head ≡ read_head user moment message → head_with_reading head message.head ≡ head
-reading_head user moment message head is =
-    subst (λ (h : Head). head_with_reading h message.head ≡ h) (sym is) (by_receiver (same_name user.name (receiver_of message.subfields)))
-  where
-    by_receiver : (b : Bool) → head_with_reading (if b then received_at moment (read_once_more message.head) else read_once_more message.head) message.head
-        ≡ (if b then received_at moment (read_once_more message.head) else read_once_more message.head)
-    by_receiver true = refl
-    by_receiver false = refl
+within_is limit place message from here sound = slot_within limit from place (slot.Live message) here sound
 
 -- one message stands at a place
 pub same_message : (from : Loaded) (place : ℕ) (one other : LoadedMessage) → IsMessageAt from place one → IsMessageAt from place other → one ≡ other

@@ -1,12 +1,17 @@
 pub mod AgreeLemmas
+mod BehindLemmas
 pub mod BringLemmas
 pub mod CopiesLemmas
+mod CountLemmas
 pub mod DecidedLemmas
 mod HeaderLemmas
-mod IndexLemmas
-mod LinkedLemmas
-pub mod MarkLemmas
-mod PackIndexLemmas
+mod KillLemmas
+mod MarkLemmas
+mod NeighbourLemmas
 pub mod PackLemmas
 mod PostLemmas
-pub mod RelinkLemmas
+mod ReadLemmas
+mod RelinkLemmas
+mod SoundLemmas
+mod StateLemmas
+mod StepLemmas

@@ -1,169 +1,360 @@
--- From what a post comes to in the loaded area to what is pending.
-use Rattle.std.proofs.Common.{◌≡◌, ℕ, ◌+◌, ◌≤◌, ◌<◌, List, [], ◌∷◌, ◌++◌, length, Option, None, Some, ap, sym, refl, ◌∙◌, subst, inr, ◌%◌, ◌^◌, arith}
-use Rattle.std.proofs.lemmas.List.{get_or_append_left, length-append, length-set, set-append_left}
-use Rattle.std.proofs.lemmas.Option.{get_or_from_slice_get, slice_get-get_or, slice_get_within}
+-- The ways through a post.
+use Rattle.std.proofs.Common.{◌≡◌, eqb-true, ◌^◌, ◌%◌, find, inr, ℕ, ◌+◌, ◌<◌, ◌≤◌, Bool, true, false, cond, not, ◌&&◌, ◌==◌, nat_le, nat_lt, ltb-false, leb-false, List, [], ◌++◌, length, Option, Some, None, refl, sym, ◌∙◌, ap, subst, arith, length-set}
+use Rattle.std.specs.Prelude.{IfSome, is_none}
+use Rattle.std.proofs.lemmas.Bool.{and_parts}
+use Rattle.jb_model.proofs.ThreadLaws.{find_passes}
+use Rattle.std.specs.Option.{option_map}
+use Rattle.std.proofs.lemmas.List.{length-map}
+use Rattle.jb_base.specs.Access.{first_refusal}
+use Rattle.jb_bytes.specs.Crc.{jam_crc_of}
+use Rattle.jb_bytes.specs.Subfields.{subfield_bytes}
+use Rattle.jb_base.specs.declared.area.Action.TheVariants.{Post as Posting}
 use Rattle.jb_base.specs.declared.area.AreaRules.{AreaRules}
-use Rattle.jb_base.specs.declared.limits.TheConstants.{MOST_ADDRESS_BYTES, MOST_NAME_BYTES, MOST_SLOTS, TEXTS_CEILING}
+use Rattle.jb_limits.specs.declared.limits.TheConstants.{HEADERS_CEILING, LAST_POSTED_NUMBER, MOST_ADDRESS_BYTES, MOST_NAME_BYTES, MOST_POSTED_TEXT_BYTES, MOST_SUBJECT_BYTES, TEXTS_CEILING}
+use Rattle.jb_bytes.specs.declared.subfield.Subfield.{Subfield}
 use Rattle.jb_base.specs.declared.user.User.{User}
-use Rattle.jb_change.specs.Changing.{head_with_links}
-use Rattle.jb_change.specs.Post.{HasNextNumber}
-use Rattle.jb_redo.specs.Changes.{changed}
-use Rattle.jb_disk.specs.Change.{Change}
-use Rattle.jb_disk.specs.Files.{Files}
-use Rattle.jb_redo.specs.Changes.{IsWritable}
-use Rattle.jb_image.specs.Stands.{Loads}
-use Rattle.jb_model.specs.Loaded.{IsMessageAt, header_size, with_counts, with_head_at, with_message_behind}
-use Rattle.jb_model.specs.Post.{Draft}
+use Rattle.jb_link.proofs.CopiedLemmas.{copied_of_state, parent_of_state}
+use Rattle.jb_model.proofs.RangeLaws.{fit_draft, none_of, posted_in_range}
+use Rattle.jb_model.specs.Answered.{Answered, counted, unless_refused}
+use Rattle.jb_model.specs.Loaded.{header_size, with_message_behind}
+use Rattle.jb_model.specs.Message.{header_length}
+use Rattle.jb_model.specs.Post.{Draft, answer_refusal, draft_refusal, post_done, post_step, posted_message, posted_msgid, posted_parent, posted_replyid, room_refusal, told_length}
 use Rattle.jb_model.specs.Sound.{IsSound}
+use Rattle.jb_model.specs.Standing.{is_refusal}
+use Rattle.jb_model.specs.State.{AreaState, IsMessageInRange, LiveMessage, next_number, slot_state, state_of}
 use Rattle.jb_model.specs.declared.loaded.Loaded.{Loaded}
 use Rattle.jb_model.specs.declared.loaded.LoadedMessage.{LoadedMessage}
-use Rattle.jb_model.specs.declared.loaded.LoadedSlot.{LoadedSlot}
-use Rattle.jb_model.specs.declared.loaded.LoadedSlot.TheVariants.{Empty, Live}
 use Rattle.jb_model.specs.declared.message.Head.{Head}
-use Rattle.jb_model.specs.declared.reply.Reply.TheVariants as reply
-use Rattle.jb_step.proofs.BehindLemmas.{live_behind}
-use Rattle.jb_step.specs.After.{after_post, live_messages, next_counter}
-use Rattle.jb_step.specs.Draft.{next_of, post_of}
-use Rattle.jb_step.specs.Neighbour.{IsLinkedBy, IsRelinkOf}
-use Rattle.jb_step.specs.Post.{IsPosting}
-use Rattle.jb_step.specs.declared.neighbours.Neighbour.{Neighbour}
-use Rattle.jb_step.specs.declared.posts.Posting.{Posting}
-use Rattle.jb_decide.proofs.BringLemmas.{brings, keeps_more}
-use Rattle.jb_decide.proofs.DecidedLemmas.{counted_some, headed_is, may_apply, not_packed, something}
-use Rattle.jb_decide.specs.Decided.{IsDecided}
-use Rattle.jb_decide.specs.Headers.{StandsBehind, Updates}
-use Rattle.jb_decide.proofs.HeaderLemmas.{last_message}
-use Rattle.jb_decide.specs.Pending.{IsLinkFit, linked_by}
-use Rattle.jb_decide.specs.declared.pending.Pending.TheVariants.{Counted}
-use Rattle.jb_decide.specs.declared.pending.SlotChange.TheVariants as slots
+use Rattle.jb_model.specs.declared.reply.Reply.{Reply}
+use Rattle.jb_model.specs.declared.command.Field.TheVariants.{To, Subject, Text as TextField}
+use Rattle.jb_base.specs.declared.area.Rule.{Rule}
+use Rattle.jb_model.specs.declared.reply.Reply.TheVariants.{Denied, EmptyName, HeadersFull, NoMessage, NumbersSpent, Posted, SlotsFull, TextFull, TooLong}
+use Rattle.jb_model.specs.Change.{FitsBehind, headed_where, live_messages, loaded_counted}
+use Rattle.jb_model.specs.Links.{Linkable, is_kept_by, number_or_0, parent_for}
+use Rattle.jb_model.specs.LiveSlots.{linkables}
+use Rattle.jb_model.specs.Message.{replyid_of}
+use Rattle.jb_link.specs.Parents.{copied_msgid, parent_behind}
+use Rattle.jb_decide.specs.Draft.{fields_with, head_with, new_fields, new_message, next_of, post_of}
+use Rattle.jb_decide.specs.Neighbour.{HasNeighbour, spliced_state}
+use Rattle.jb_decide.specs.StepOf.{IsStepOf}
+use Rattle.jb_decide.proofs.StepLemmas.{not_packed, something}
+use Rattle.jb_decide.specs.Refusal.{IsRefusal}
+use Rattle.jb_decide.specs.Room.{file_refusal, new_refusal, number_refusal, or_refusal, unseen_refusal}
+use Rattle.jb_decide.specs.Seen.{seen_at, with_text}
+use Rattle.jb_model.specs.declared.change.Change.TheVariants.{Posted as PostedBehind}
+use Rattle.jb_model.specs.declared.change.HeadAt.{HeadAt}
+use Rattle.jb_decide.proofs.BehindLemmas.{grown, sound_behind, state_behind}
+use Rattle.jb_decide.proofs.CountLemmas.{counted_now}
+use Rattle.jb_decide.proofs.SoundLemmas.{sound_counted}
+use Rattle.jb_decide.proofs.StateLemmas.{accepted_way, allowed_way, answer, denied_way, refused_way, visible_at_loaded}
 
--- the area that has the neighbour's header written
-linked_is : (neighbour : Option Neighbour) (from to : Loaded) → IsLinkedBy neighbour from to → to ≡ linked_by neighbour from
-linked_is None from to is = is
-linked_is (Some one) from to is = is.2 ∙ headed_is one.place one.head is.0 from is.1
+-- the next number
+next_of_state : (texts : List ℕ) (loaded : Loaded) → next_number (state_of texts loaded) ≡ next_of loaded
+next_of_state texts loaded = ap (λ n. loaded.base + n) (length-map loaded.slots (slot_state texts))
 
--- a link is not counted
-linked_counter : (neighbour : Option Neighbour) (from : Loaded) → (linked_by neighbour from).counter ≡ from.counter
-linked_counter None from = refl
-linked_counter (Some one) from = refl
+-- a message with these ids, this number and this parent
+abbrev message_with : AreaRules → User → ℕ → Draft → ℕ → Option (List ℕ) → ℕ → LiveMessage
+message_with rules user moment draft number replyid parent = record {
+  owner = jam_crc_of draft.to;
+  head = head_with rules moment draft (posted_msgid rules number) replyid parent;
+  subfields = fields_with user draft (posted_msgid rules number) replyid;
+  text = draft.text;
+}
 
--- nor does it change the texts
-linked_texts : (neighbour : Option Neighbour) (from : Loaded) → (linked_by neighbour from).texts_len ≡ from.texts_len
-linked_texts None from = refl
-linked_texts (Some one) from = refl
+-- the new message with its text
+abbrev pub new_live : AreaRules → Loaded → User → ℕ → Draft → LiveMessage
+new_live rules loaded user moment draft =
+    message_with rules user moment draft (next_of loaded) (copied_msgid loaded draft.reply_to) (parent_behind loaded draft.reply_to)
 
--- the neighbour's header is that of a message, with its ReplyTo
-link_fit : (neighbour : Option Neighbour) (from to : Loaded) → IsLinkedBy neighbour from to → IsLinkFit neighbour from
-link_fit None from to is = tt
-link_fit (Some one) from to is = record { message = is.0; here = is.1; reply_to = ap (λ (h : Head). h.reply_to) is.3 }
+-- it is the message that is posted
+posted_of_state : (texts : List ℕ) (rules : AreaRules) (loaded : Loaded) (user : User) (moment : ℕ) (draft : Draft)
+    → posted_message rules (state_of texts loaded) user moment draft ≡ new_live rules loaded user moment draft
+posted_of_state texts rules loaded user moment draft =
+    ap (λ n. message_with rules user moment draft n (posted_replyid (state_of texts loaded) draft.reply_to) (posted_parent (state_of texts loaded) draft.reply_to)) (next_of_state texts loaded)
+    ∙ ap (λ r. message_with rules user moment draft (next_of loaded) r (posted_parent (state_of texts loaded) draft.reply_to)) (copied_of_state texts loaded draft.reply_to)
+    ∙ ap (message_with rules user moment draft (next_of loaded) (copied_msgid loaded draft.reply_to)) (parent_of_state texts loaded draft.reply_to)
 
--- the three links of a header that differs in the two to answers alone are all that it differs in
-links_are : (old new : Head) → IsRelinkOf old new → head_with_links new.reply_to new.reply_first new.reply_next old ≡ new
-links_are old new only =
-    ap (λ (n : ℕ). head_with_links n new.reply_first new.reply_next old) (ap (λ (h : Head). h.reply_to) only) ∙ sym only
+-- whether the message that is answered is seen
+unseen_of_state : (texts : List ℕ) (rules : AreaRules) (loaded : Loaded) (user : User) (draft : Draft)
+    → answer_refusal rules (state_of texts loaded) user draft ≡ unseen_refusal rules loaded user draft
+unseen_of_state texts rules loaded user draft =
+    ap (λ b. cond (not (draft.reply_to == 0) && b) (Some (NoMessage draft.reply_to)) None)
+    (ap is_none (visible_at_loaded texts rules user loaded draft.reply_to) ∙ by_found (seen_at rules user loaded draft.reply_to))
+  where
+    by_found : (found : Option LoadedMessage) → is_none (option_map (with_text texts) found) ≡ is_none found
+    by_found None = refl
+    by_found (Some message) = refl
 
--- a message stays at its place with another one behind
-pub here_behind : (place : ℕ) (message new : LoadedMessage) (from : Loaded) → IsMessageAt from place message → IsMessageAt (with_message_behind new from) place message
-here_behind place message new from here =
-    let within : place < length from.slots = slice_get_within from.slots place (Live message) here in
-    let behind : List LoadedSlot = Live new ∷ [] in
-    slice_get-get_or (from.slots ++ behind) place Empty (omega (arith, length-append from.slots behind))
-    ∙ ap (λ (s : LoadedSlot). Some s) (get_or_append_left from.slots behind Empty place within ∙ get_or_from_slice_get from.slots place (Live message) Empty here)
+-- whether there is room
+room_of_state : (texts : List ℕ) (rules : AreaRules) (loaded : Loaded) (message : LiveMessage)
+    → room_refusal rules (state_of texts loaded) message ≡ or_refusal (number_refusal rules loaded) (file_refusal loaded (header_length message) (length message.text))
+room_of_state texts rules loaded message =
+    ap (λ count. cond (nat_lt LAST_POSTED_NUMBER (loaded.base + count)) (Some (NumbersSpent (loaded.base + count)))
+    (cond (nat_le rules.slots count) (Some (SlotsFull rules.slots)) (file_refusal loaded (header_length message) (length message.text))))
+    (length-map loaded.slots (slot_state texts))
+    ∙ split (nat_lt LAST_POSTED_NUMBER (next_of loaded)) (nat_le rules.slots (length loaded.slots)) (file_refusal loaded (header_length message) (length message.text))
+  where
+    split : (spent full : Bool) (rest : Option Reply)
+        → cond spent (Some (NumbersSpent (next_of loaded))) (cond full (Some (SlotsFull rules.slots)) rest)
+        ≡ or_refusal (cond spent (Some (NumbersSpent (next_of loaded))) (cond full (Some (SlotsFull rules.slots)) None)) rest
+    split true full rest = refl
+    split false true rest = refl
+    split false false rest = refl
 
--- the area with these slots
-abbrev with_slots : List LoadedSlot → Loaded → Loaded
-with_slots slots loaded = record loaded { slots = slots }
+-- what follows the rules, the draft and the message that is answered
+abbrev room_rest : AreaRules → AreaState → LiveMessage → Answered
+room_rest rules state message = unless_refused state (room_refusal rules state message) (post_done state message)
 
--- it is the same whether the neighbour is linked before or after the message is put behind
-pub linked_behind : (one : Neighbour) (message new : LoadedMessage) (from : Loaded) → IsMessageAt from one.place message → IsRelinkOf message.head one.head
-    → with_head_at one.place (head_with_links one.head.reply_to one.head.reply_first one.head.reply_next message.head) message (with_message_behind new from)
-    ≡ with_message_behind new (linked_by (Some one) from)
-linked_behind one message new from here only =
-    let slot : LoadedSlot = Live (record message { head = one.head }) in
-    ap (λ (h : Head). with_head_at one.place h message (with_message_behind new from)) (links_are message.head one.head only)
-    ∙ ap (λ (s : List LoadedSlot). with_slots s (with_message_behind new from)) (set-append_left from.slots (Live new ∷ []) one.place slot (slice_get_within from.slots one.place (Live message) here))
-    ∙ ap (with_message_behind new) (headed_is one.place one.head message from here)
+-- what follows the rules and the draft
+abbrev answer_rest : AreaRules → AreaState → User → ℕ → Draft → Answered
+answer_rest rules state user moment draft =
+    unless_refused state (answer_refusal rules state user draft) (room_rest rules state (posted_message rules state user moment draft))
 
--- the area after the post, as it is counted
-post_is : (from : Loaded) (neighbour : Option Neighbour) (linked : Loaded) (message : LoadedMessage) (counter active : ℕ) → IsLinkedBy neighbour from linked
-    → live_messages (after_post message linked) ≡ live_messages from + 1 → counter ≡ next_counter from → active ≡ live_messages from + 1
-    → with_counts counter active (with_message_behind message (linked_by neighbour from)) ≡ after_post message linked
-post_is from neighbour linked message counter active written more counted live =
-    let same : linked ≡ linked_by neighbour from = linked_is neighbour from linked written in
-    let counters : linked.counter ≡ from.counter = ap (λ (l : Loaded). l.counter) same ∙ linked_counter neighbour from in
-    let one : live_messages (with_message_behind message linked) ≡ live_messages linked + 1 = live_behind linked message in
-    let number : counter ≡ next_counter linked = counted ∙ ap (λ (n : ℕ). (n + 1) % 2 ^ 32) (sym counters) in
-    let count : active ≡ live_messages linked + 1 = live ∙ sym more ∙ one in
-    ap (λ (l : Loaded). with_counts counter active (with_message_behind message l)) (sym same)
-    ∙ ap (λ (n : ℕ). with_counts n active (with_message_behind message linked)) number
-    ∙ ap (λ (n : ℕ). with_counts (next_counter linked) n (with_message_behind message linked)) count
+-- up to the message that is answered
+to_answer : (rules : AreaRules) (state : AreaState) (user : User) (moment : ℕ) (draft : Draft) → first_refusal user rules Posting None ≡ None → draft_refusal draft ≡ None
+    → post_step rules state user moment draft ≡ answer_rest rules state user moment draft
+to_answer rules state user moment draft allowed fit =
+    allowed_way state (first_refusal user rules Posting None) (unless_refused state (draft_refusal draft) (answer_rest rules state user moment draft)) allowed
+    ∙ accepted_way state (draft_refusal draft) (answer_rest rules state user moment draft) fit
 
--- nor does it add a slot
-linked_slots : (neighbour : Option Neighbour) (from : Loaded) → length (linked_by neighbour from).slots ≡ length from.slots
-linked_slots None from = refl
-linked_slots (Some one) from = length-set from.slots one.place _
+-- up to the room
+to_room : (texts : List ℕ) (rules : AreaRules) (loaded : Loaded) (user : User) (moment : ℕ) (draft : Draft) → first_refusal user rules Posting None ≡ None
+    → draft_refusal draft ≡ None → unseen_refusal rules loaded user draft ≡ None
+    → post_step rules (state_of texts loaded) user moment draft
+    ≡ unless_refused (state_of texts loaded) (or_refusal (number_refusal rules loaded) (new_refusal rules loaded user draft))
+    (post_done (state_of texts loaded) (new_live rules loaded user moment draft))
+to_room texts rules loaded user moment draft allowed fit seen =
+    let state : AreaState = state_of texts loaded in
+    to_answer rules state user moment draft allowed fit
+    ∙ accepted_way state (answer_refusal rules state user draft) (room_rest rules state (posted_message rules state user moment draft))
+    (unseen_of_state texts rules loaded user draft ∙ seen)
+    ∙ ap (room_rest rules state) (posted_of_state texts rules loaded user moment draft)
+    ∙ ap (λ o. unless_refused state o (post_done state (new_live rules loaded user moment draft)))
+    (room_of_state texts rules loaded (new_live rules loaded user moment draft))
 
--- the new message stands behind the others
-stands : (from : Loaded) (posting : Posting) (linked : Loaded) (redo : Change) (files : Files) (message : LoadedMessage) → posting.number ≡ next_of from
-    → posting.message.header_at ≡ from.headers_len → posting.message.text_at ≡ from.texts_len → HasNextNumber redo from posting.message → Loads from files
-    → message ≡ posting.message → StandsBehind (reply.Posted posting.number) message files (changed redo files)
-stands from posting linked redo files message number header_at text_at numbered loads same =
-    subst (λ (m : LoadedMessage). StandsBehind (reply.Posted posting.number) m files (changed redo files)) (sym same) (record {
-      header_at = header_at ∙ loads.headers_len;
-      text_at = text_at ∙ loads.texts_len;
-      numbered = ap (λ (n : ℕ). reply.Posted n) (number ∙ sym (numbered files loads));
-    })
+-- one of two refusals, or another
+refuses_then : (b : Bool) (first : Reply) (rest : Option Reply) (reply : Reply) → is_refusal first ≡ true → (rest ≡ Some reply → is_refusal reply ≡ true)
+    → cond b (Some first) rest ≡ Some reply → is_refusal reply ≡ true
+refuses_then true first rest reply one other is = let same : first ≡ reply = cc in sym (ap is_refusal same) ∙ one
+refuses_then false first rest reply one other is = other is
 
--- a post
-pub post_decided : (rules : AreaRules) (from : Loaded) (texts : List ℕ) (contents : Option Files) (redo : Change) (user : User) (moment counter active size : ℕ) (draft : Draft) (posting : Posting)
-    → IsPosting rules from user moment draft posting → IsSound rules.slots from → rules.slots ≤ MOST_SLOTS
-    → length user.name ≤ MOST_NAME_BYTES → length rules.address ≤ MOST_ADDRESS_BYTES
-    → counter ≡ next_counter from → active ≡ live_messages from + 1 → size ≡ header_size posting.message
-    → length texts ≡ from.texts_len
-    → Updates redo from (with_counts counter active (with_message_behind posting.message (linked_by posting.neighbour from))) draft.text
-    → HasNextNumber redo from posting.message → IsWritable redo
-    → IsDecided rules from texts contents None redo user moment (post_of draft) (record { reply = reply.Posted posting.number; pending = Counted (slots.Posted posting.message size posting.neighbour) counter active })
-post_decided rules from texts contents redo user moment counter active size draft posting is before few name address counted live sized as_long makes numbered writable =
-    let to : Loaded = after_post posting.message is.linked in
-    let same : with_counts counter active (with_message_behind posting.message (linked_by posting.neighbour from)) ≡ to =
-    post_is from posting.neighbour is.linked posting.message counter active is.written is.live counted live in
-    let slot : length from.slots < rules.slots = is.place.slot in
-    let linked : is.linked.texts_len ≡ from.texts_len =
-    ap (λ (l : Loaded). l.texts_len) (linked_is posting.neighbour from is.linked is.written) ∙ linked_texts posting.neighbour from in
-    let as_many : length is.linked.slots ≡ length from.slots =
-    ap (λ (l : Loaded). length l.slots) (linked_is posting.neighbour from is.linked is.written) ∙ linked_slots posting.neighbour from in
-    let text_len = is.text_len in
-    let updates : Updates redo from to draft.text = subst (λ (l : Loaded). Updates redo from l draft.text) same makes in
+-- none is no refusal
+refuses_none : (reply : Reply) → None ≡ Some reply → is_refusal reply ≡ true
+refuses_none reply is = absurd (cc)
+
+-- the user may not post
+pub post_denied : (rules : AreaRules) (loaded : Loaded) (user : User) (draft : Draft) (rule : Rule) → first_refusal user rules Posting None ≡ Some rule
+    → IsRefusal rules loaded user (post_of draft) (Denied rule)
+post_denied rules loaded user draft rule denied = record {
+  refusal = refl;
+  step = λ texts moment.
+      let state : AreaState = state_of texts loaded in
+      denied_way state (first_refusal user rules Posting None) rule (unless_refused state (draft_refusal draft) (answer_rest rules state user moment draft)) denied;
+}
+
+-- each reason why a draft is not fit is a refusal
+refuses_unfit : (draft : Draft) (reply : Reply) → draft_refusal draft ≡ Some reply → is_refusal reply ≡ true
+refuses_unfit draft reply unfit =
+    refuses_then (length draft.to == 0) (EmptyName To) _ reply refl
+    (refuses_then (nat_lt MOST_NAME_BYTES (length draft.to)) (TooLong To (length draft.to)) _ reply refl
+    (refuses_then (nat_lt MOST_SUBJECT_BYTES (length draft.subject)) (TooLong Subject (length draft.subject)) _ reply refl
+    (refuses_then (nat_lt MOST_POSTED_TEXT_BYTES (length draft.text)) (TooLong TextField (length draft.text)) None reply refl (refuses_none reply)))) unfit
+
+-- the draft is not fit
+pub post_unfit : (rules : AreaRules) (loaded : Loaded) (user : User) (draft : Draft) (reply : Reply) → first_refusal user rules Posting None ≡ None
+    → draft_refusal draft ≡ Some reply → IsRefusal rules loaded user (post_of draft) reply
+post_unfit rules loaded user draft reply allowed unfit = record {
+  refusal = refuses_unfit draft reply unfit;
+  step = λ texts moment.
+      let state : AreaState = state_of texts loaded in
+      allowed_way state (first_refusal user rules Posting None) (unless_refused state (draft_refusal draft) (answer_rest rules state user moment draft)) allowed
+      ∙ refused_way state (draft_refusal draft) reply (answer_rest rules state user moment draft) unfit;
+}
+
+-- the user does not see what is answered
+pub post_unseen : (rules : AreaRules) (loaded : Loaded) (user : User) (draft : Draft) (reply : Reply) → first_refusal user rules Posting None ≡ None
+    → draft_refusal draft ≡ None → unseen_refusal rules loaded user draft ≡ Some reply → IsRefusal rules loaded user (post_of draft) reply
+post_unseen rules loaded user draft reply allowed fit unseen = record {
+  refusal = refuses_then (not (draft.reply_to == 0) && is_none (seen_at rules user loaded draft.reply_to)) (NoMessage draft.reply_to) None reply refl (refuses_none reply) unseen;
+  step = λ texts moment.
+      to_answer rules (state_of texts loaded) user moment draft allowed fit
+      ∙ refused_way (state_of texts loaded) (answer_refusal rules (state_of texts loaded) user draft) reply
+      (room_rest rules (state_of texts loaded) (posted_message rules (state_of texts loaded) user moment draft)) (unseen_of_state texts rules loaded user draft ∙ unseen);
+}
+
+-- there is no further number or slot
+pub post_numberless : (rules : AreaRules) (loaded : Loaded) (user : User) (draft : Draft) (reply : Reply) → first_refusal user rules Posting None ≡ None
+    → draft_refusal draft ≡ None → unseen_refusal rules loaded user draft ≡ None → number_refusal rules loaded ≡ Some reply → IsRefusal rules loaded user (post_of draft) reply
+post_numberless rules loaded user draft reply allowed fit seen none = record {
+  refusal = refuses_then (nat_lt LAST_POSTED_NUMBER (next_of loaded)) (NumbersSpent (next_of loaded)) _ reply refl
+      (refuses_then (nat_le rules.slots (length loaded.slots)) (SlotsFull rules.slots) None reply refl (refuses_none reply)) none;
+  step = λ texts moment.
+      to_room texts rules loaded user moment draft allowed fit seen
+      ∙ refused_way (state_of texts loaded) (or_refusal (number_refusal rules loaded) (new_refusal rules loaded user draft)) reply
+      (post_done (state_of texts loaded) (new_live rules loaded user moment draft)) (ap (λ o. or_refusal o (new_refusal rules loaded user draft)) none);
+}
+
+-- the files have no room
+pub post_full : (rules : AreaRules) (loaded : Loaded) (user : User) (draft : Draft) (reply : Reply) → first_refusal user rules Posting None ≡ None
+    → draft_refusal draft ≡ None → unseen_refusal rules loaded user draft ≡ None → number_refusal rules loaded ≡ None → new_refusal rules loaded user draft ≡ Some reply
+    → IsRefusal rules loaded user (post_of draft) reply
+post_full rules loaded user draft reply allowed fit seen numbered full =
+    let header : ℕ = 76 + length (subfield_bytes (new_fields rules loaded user draft)) in
+    let text : ℕ = length draft.text in
     record {
-      coming = record { to = to; texts = texts ++ draft.text };
-      change = inr (record {
-        some = counted_some (slots.Posted posting.message size posting.neighbour) counter active;
-        becomes = sym same;
-        change = record { brings = λ files there. brings redo from to texts draft.text None updates.makes; writable = writable };
-        may = may_apply (Counted (slots.Posted posting.message size posting.neighbour) counter active) from to rules.slots (sym same) (
-          link_fit posting.neighbour from is.linked is.written,
-          omega (arith, slot, few),
-          record {
-            sized = sized;
-            headers = is.place.headers;
-            texts = subst (λ (n : ℕ). from.texts_len + n ≤ TEXTS_CEILING) (sym is.text_len) is.place.texts;
-          },
-        )
-            (is.sound before name address) (is.live ∙ sym live);
-        sound = is.sound before name address;
-        sized = omega (arith, length-append texts draft.text, as_long, linked, text_len);
-        grows = keeps_more texts draft.text;
-        short = tt;
-      });
-      step = λ told. is.step before texts as_long;
-      idle = λ nothing. absurd (something (post_of draft) (reply.Posted posting.number) refl (λ look. look) (λ links. cc) nothing);
-      kind = λ no packing. packing;
-      packing = λ packed. absurd (not_packed (reply.Posted posting.number) (λ base live dropped is. cc) packed);
-      packs = λ files holds. tt;
-      headers = λ same files holds. record {
-        places = updates.places;
-        numbers = updates.numbers files holds.holds.loads;
-        behind = λ place message past here. stands from posting is.linked redo files message is.number is.header_at is.text_at numbered holds.holds.loads
-            (last_message is.linked.slots place posting.message message (omega (arith, past, as_many)) here);
-      };
+      refusal = refuses_then (nat_lt HEADERS_CEILING (loaded.headers_len + header)) (HeadersFull (told_length (loaded.headers_len + header))) _ reply refl
+          (refuses_then (nat_lt TEXTS_CEILING (loaded.texts_len + text)) (TextFull (told_length (loaded.texts_len + text))) None reply refl (refuses_none reply)) full;
+      step = λ texts moment.
+          to_room texts rules loaded user moment draft allowed fit seen
+          ∙ refused_way (state_of texts loaded) (or_refusal (number_refusal rules loaded) (new_refusal rules loaded user draft)) reply
+          (post_done (state_of texts loaded) (new_live rules loaded user moment draft)) (ap (λ o. or_refusal o (new_refusal rules loaded user draft)) numbered ∙ full);
     }
+
+-- nothing refuses the post
+pub record IsAccepted (rules : AreaRules) (loaded : Loaded) (user : User) (draft : Draft) : Type 0 where
+  pub allowed : first_refusal user rules Posting None ≡ None
+  pub fit : draft_refusal draft ≡ None
+  pub seen : unseen_refusal rules loaded user draft ≡ None
+  pub numbered : number_refusal rules loaded ≡ None
+  pub room : new_refusal rules loaded user draft ≡ None
+
+-- the message is posted
+pub post_way : (texts : List ℕ) (rules : AreaRules) (loaded : Loaded) (user : User) (moment : ℕ) (draft : Draft) (neighbour : Option HeadAt)
+    → IsAccepted rules loaded user draft → IsSound rules.slots loaded → length texts ≡ loaded.texts_len
+    → HasNeighbour loaded (parent_behind loaded draft.reply_to) (next_of loaded) neighbour
+    → post_step rules (state_of texts loaded) user moment draft
+    ≡ answer (Posted (next_of loaded))
+    (state_of (texts ++ draft.text) (loaded_counted (with_message_behind (new_message rules loaded user moment draft) (headed_where neighbour loaded))))
+post_way texts rules loaded user moment draft neighbour accepted sound is h =
+    let state : AreaState = state_of texts loaded in
+    let live : LiveMessage = new_live rules loaded user moment draft in
+    let message : LoadedMessage = new_message rules loaded user moment draft in
+    let linked : Loaded = headed_where neighbour loaded in
+    let parent : ℕ = parent_behind loaded draft.reply_to in
+    let size : linked.texts_len ≡ loaded.texts_len = ap (λ (s : AreaState). s.texts_len) (h.spliced []) in
+    to_room texts rules loaded user moment draft accepted.allowed accepted.fit accepted.seen
+    ∙ accepted_way state (or_refusal (number_refusal rules loaded) (new_refusal rules loaded user draft)) (post_done state live)
+    (ap (λ o. or_refusal o (new_refusal rules loaded user draft)) accepted.numbered ∙ accepted.room)
+    ∙ ap (λ n. answer (Posted n) (counted (grown (spliced_state state parent n) live))) (next_of_state texts loaded)
+    ∙ ap (λ s. answer (Posted (next_of loaded)) (counted (grown s live))) (sym (h.spliced texts))
+    ∙ ap (λ s. answer (Posted (next_of loaded)) (counted s))
+    (sym (state_behind rules.slots texts draft.text linked message (h.sound rules.slots sound) (is ∙ sym size) (sym size) refl))
+    ∙ ap (answer (Posted (next_of loaded))) (sym (counted_now (texts ++ draft.text) (with_message_behind message linked)))
+
+-- the lengths of an area with its neighbour's header written
+same_length : (neighbour : Option HeadAt) (loaded : Loaded) → length (headed_where neighbour loaded).slots ≡ length loaded.slots
+same_length None loaded = refl
+same_length (Some one) loaded = length-set loaded.slots one.place _
+
+-- the kept number of what was found is found again
+kept_again : (live : List Linkable) (number kept : ℕ) (found : Option Linkable) → find (is_kept_by number kept) live ≡ found → IfSome found (λ one. is_kept_by number kept one ≡ true)
+    → number_or_0 (find (is_kept_by number (number_or_0 found)) live) ≡ number_or_0 found
+kept_again live number kept None is passes = found_none (find (is_kept_by number 0) live) (find_passes (is_kept_by number 0) live)
+  where
+    found_none : (found : Option Linkable) → IfSome found (λ one. is_kept_by number 0 one ≡ true) → number_or_0 found ≡ 0
+    found_none None passes = refl
+    found_none (Some one) passes = eqb-true one.number 0 (and_parts _ _ passes).1
+kept_again live number kept (Some one) is passes =
+    let same : kept ≡ one.number = sym (eqb-true one.number kept (and_parts _ _ passes).1) in
+    let P : ℕ → Type 0 = λ k. number_or_0 (find (is_kept_by number k) live) ≡ one.number in
+    subst P same (ap number_or_0 is)
+
+-- the parent of a message that keeps its parent is that
+parent_again : (live : List Linkable) (number : ℕ) (id : Option (List ℕ)) (kept : ℕ) → parent_for live number id kept ≡ parent_for live number id (parent_for live number id kept)
+parent_again live number (Some bytes) kept = refl
+parent_again live number None kept = sym (kept_again live number kept (find (is_kept_by number kept) live) refl (find_passes (is_kept_by number kept) live))
+
+-- the REPLYID of a new message
+replyid_made : (user : User) (draft : Draft) (msgid : List ℕ) (replyid : Option (List ℕ)) → replyid_of (fields_with user draft msgid replyid) ≡ replyid
+replyid_made user draft msgid None = refl
+replyid_made user draft msgid (Some bytes) = refl
+
+-- there is a place for the message
+post_fits : (rules : AreaRules) (loaded : Loaded) (user : User) (moment : ℕ) (draft : Draft) → IsAccepted rules loaded user draft
+    → length user.name ≤ MOST_NAME_BYTES → length rules.address ≤ MOST_ADDRESS_BYTES → FitsBehind rules.slots (new_message rules loaded user moment draft) loaded
+post_fits rules loaded user moment draft accepted name address =
+    let message : LoadedMessage = new_message rules loaded user moment draft in
+    let number = none_of (nat_lt LAST_POSTED_NUMBER (next_of loaded)) (NumbersSpent (next_of loaded)) _ accepted.numbered in
+    let slot = none_of (nat_le rules.slots (length loaded.slots)) (SlotsFull rules.slots) None number.1 in
+    let header : ℕ = header_size message in
+    let headers = none_of (nat_lt HEADERS_CEILING (loaded.headers_len + header)) (HeadersFull (told_length (loaded.headers_len + header))) _ accepted.room in
+    let texts = none_of (nat_lt TEXTS_CEILING (loaded.texts_len + length draft.text)) (TextFull (told_length (loaded.texts_len + length draft.text))) None headers.1 in
+    let InRange : LiveMessage → Type 0 = IsMessageInRange in
+    let range : IsMessageInRange (new_live rules loaded user moment draft) =
+    subst InRange (posted_of_state [] rules loaded user moment draft) (posted_in_range rules (state_of [] loaded) user moment draft name address (fit_draft draft accepted.fit)) in
+    record {
+      number = ltb-false LAST_POSTED_NUMBER (next_of loaded) number.0;
+      slot = leb-false rules.slots (length loaded.slots) slot.0;
+      header_at = refl;
+      text_at = refl;
+      headers = ltb-false HEADERS_CEILING (loaded.headers_len + header) headers.0;
+      texts = ltb-false TEXTS_CEILING (loaded.texts_len + length draft.text) texts.0;
+      few_bytes = range.few_bytes;
+      short = range.short_text;
+      live = range.live;
+      parent =
+          parent_again (linkables [] loaded) (next_of loaded) (copied_msgid loaded draft.reply_to) draft.reply_to
+          ∙ ap (λ (id : Option (List ℕ)). parent_for (linkables [] loaded) (next_of loaded) id (parent_behind loaded draft.reply_to))
+          (sym (replyid_made user draft (posted_msgid rules (next_of loaded)) (copied_msgid loaded draft.reply_to)));
+    }
+
+-- the area stays sound
+post_keeps_sound : (rules : AreaRules) (loaded : Loaded) (message : LoadedMessage) (parent number : ℕ) (neighbour : Option HeadAt)
+    → FitsBehind rules.slots message loaded → IsSound rules.slots loaded → HasNeighbour loaded parent number neighbour
+    → IsSound rules.slots (loaded_counted (with_message_behind message (headed_where neighbour loaded)))
+post_keeps_sound rules loaded message parent number neighbour place sound h =
+    let linked : Loaded = headed_where neighbour loaded in
+    let header : ℕ = header_size message in
+    let base : linked.base ≡ loaded.base = ap (λ (s : AreaState). s.base) (h.spliced []) in
+    let headers_len : linked.headers_len ≡ loaded.headers_len = ap (λ (s : AreaState). s.headers_len) (h.spliced []) in
+    let texts_len : linked.texts_len ≡ loaded.texts_len = ap (λ (s : AreaState). s.texts_len) (h.spliced []) in
+    let slots : length linked.slots ≡ length loaded.slots = same_length neighbour loaded in
+    let few_numbers : next_of loaded ≤ LAST_POSTED_NUMBER = place.number in
+    let few_slots : length loaded.slots < rules.slots = place.slot in
+    let headers_fit : loaded.headers_len + header ≤ HEADERS_CEILING = place.headers in
+    let texts_fit : loaded.texts_len + message.text_len ≤ TEXTS_CEILING = place.texts in
+    let header_at : message.header_at ≡ loaded.headers_len = place.header_at in
+    let text_at : message.text_at ≡ loaded.texts_len = place.text_at in
+    let behind : Loaded = with_message_behind message linked in
+    let before : 1024 ≤ loaded.headers_len = sound.fixed in
+    sound_counted rules.slots behind ((behind.counter + 1) % 2 ^ 32) (live_messages behind)
+    (sound_behind rules.slots linked message (h.sound rules.slots sound) (record {
+      numbers = omega arith;
+      slots = omega arith;
+      header_at = header_at ∙ sym headers_len;
+      within = record {
+        live = place.live;
+        few_bytes = place.few_bytes;
+        header = record { after = omega (arith, header_at, before); inside = omega (arith, headers_len, header_at); below = omega (arith, headers_fit, header_at) };
+        text = record { short = place.short; placed = inr (omega (arith, texts_len, text_at), omega (arith, texts_fit, text_at)) };
+      };
+    }))
+
+-- a post that nothing refuses
+pub post_is : (rules : AreaRules) (loaded : Loaded) (user : User) (moment number : ℕ) (draft : Draft) (message : LoadedMessage) (neighbour : Option HeadAt)
+    → IsAccepted rules loaded user draft → number ≡ next_of loaded → message ≡ new_message rules loaded user moment draft
+    → HasNeighbour loaded message.head.reply_to number neighbour
+    → IsSound rules.slots loaded → length user.name ≤ MOST_NAME_BYTES → length rules.address ≤ MOST_ADDRESS_BYTES
+    → IsStepOf rules loaded user moment (post_of draft) (λ texts. Posted number) (PostedBehind message neighbour)
+post_is rules loaded user moment number draft message neighbour accepted next made h sound name address =
+    let posted : LoadedMessage = new_message rules loaded user moment draft in
+    let there : HasNeighbour loaded (parent_behind loaded draft.reply_to) (next_of loaded) neighbour =
+    subst (λ (n : ℕ). HasNeighbour loaded (parent_behind loaded draft.reply_to) n neighbour) next
+    (subst (λ (m : LoadedMessage). HasNeighbour loaded m.head.reply_to number neighbour) made h) in
+    let fits : FitsBehind rules.slots posted loaded = post_fits rules loaded user moment draft accepted name address in
+    subst (λ (m : LoadedMessage). IsStepOf rules loaded user moment (post_of draft) (λ texts. Posted number) (PostedBehind m neighbour)) (sym made)
+    (subst (λ (n : ℕ). IsStepOf rules loaded user moment (post_of draft) (λ texts. Posted n) (PostedBehind posted neighbour)) (sym next) (record {
+      step = λ texts sized. post_way texts rules loaded user moment draft neighbour accepted sound sized there;
+      fits = (fits, there.fits);
+      sound = post_keeps_sound rules loaded posted (parent_behind loaded draft.reply_to) (next_of loaded) neighbour fits sound there;
+      kind = tt;
+      text = refl;
+      idle = λ texts nothing. absurd (something (post_of draft) (Posted (next_of loaded)) refl (λ look. look) (λ links. cc) nothing);
+      unpacked = λ texts packed. not_packed (Posted (next_of loaded)) (λ base live dropped is. cc) packed;
+      named = λ texts. refl;
+    }))
+
+-- a loaded message of these parts
+abbrev pub loaded_with : ℕ → Head → List Subfield → ℕ → ℕ → ℕ → LoadedMessage
+loaded_with owner head subfields header_at text_at text_len =
+    record { owner = owner; head = head; subfields = subfields; header_at = header_at; text_at = text_at; text_len = text_len }

@@ -1,201 +1,129 @@
--- From what a relink comes to in the loaded area to what is pending.
-use Rattle.std.proofs.Common.{◌≡◌, ◌≢◌, ℕ, zero, suc, ◌+◌, ◌-◌, ◌<◌, Bool, true, false, cond, ◌==◌, nat_lt, le-ltb, eqb-true, List, [], ◌∷◌, ◌++◌, length, get_or, set, slice_get, take, Option, None, Some, ap, sym, refl, ◌∙◌, subst, inr, arith}
-use Rattle.std.proofs.Math.Seq.{take-suc}
-use Rattle.std.proofs.lemmas.List.{length-set}
-use Rattle.std.proofs.lemmas.Option.{slice_get-get_or}
+-- The ways through a relink.
+use Rattle.std.proofs.Common.{◌≡◌, ◌≢◌, ℕ, ◌+◌, ◌-◌, ◌%◌, ◌^◌, Bool, true, false, cond, ◌==◌, nat_lt, le-ltb, eqb-true, List, [], ◌∷◌, ◌++◌, length, map, set, slice_get, Option, Some, None, refl, sym, ◌∙◌, ap, arith, append_assoc, add-zero}
+use Rattle.std.proofs.lemmas.List.{length_push, set_at}
+use Rattle.jb_base.specs.Access.{first_refusal}
+use Rattle.jb_base.specs.declared.area.Action.TheVariants.{Tend as Tending}
 use Rattle.jb_base.specs.declared.area.AreaRules.{AreaRules}
 use Rattle.jb_base.specs.declared.user.User.{User}
-use Rattle.jb_change.specs.Changing.{ChangesHead, ChangesHeader, WritesOnly, head_with_links, header_with_links}
-use Rattle.jb_disk.specs.Change.{Change}
-use Rattle.jb_disk.specs.Files.{Files}
-use Rattle.jb_disk.specs.declared.file.FileId.TheVariants.{Jhr}
-use Rattle.jb_redo.specs.Changes.{IsWritable}
-use Rattle.jb_link.specs.Plan.{loaded_at}
-use Rattle.jb_link.specs.Slots.{message_in}
-use Rattle.jb_model.specs.Loaded.{with_counts}
+use Rattle.jb_link.proofs.LiveLemmas.{linkables_with_texts}
+use Rattle.jb_model.specs.Plan.{links_of, loaded_at, plan_of}
+use Rattle.jb_model.specs.LiveSlots.{linkables, linkables_from, loaded_linkable, message_in}
+use Rattle.jb_model.specs.Answered.{counted}
+use Rattle.jb_model.specs.Links.{Linkable}
+use Rattle.jb_model.specs.Live.{change_live_from}
+use Rattle.jb_model.specs.Relink.{relink_done, relink_step, relinked, relinked_area, wrongly_linked}
 use Rattle.jb_model.specs.Sound.{IsSound}
-use Rattle.jb_model.specs.declared.command.Command.TheVariants.{Relink}
+use Rattle.jb_model.specs.State.{AreaState, live_message, killed_message, no_message, slot_state, state_of}
 use Rattle.jb_model.specs.declared.links.Links.{Links}
 use Rattle.jb_model.specs.declared.loaded.Loaded.{Loaded}
 use Rattle.jb_model.specs.declared.loaded.LoadedMessage.{LoadedMessage}
 use Rattle.jb_model.specs.declared.loaded.LoadedSlot.{LoadedSlot}
 use Rattle.jb_model.specs.declared.loaded.LoadedSlot.TheVariants.{Empty, Killed, Live}
-use Rattle.jb_model.specs.declared.message.Head.{Head}
-use Rattle.jb_model.specs.declared.reply.Reply.TheVariants as reply
-use Rattle.jb_link.proofs.LawLemmas.{rests_on_slots}
-use Rattle.jb_link.specs.Index.{IsIndexOf}
-use Rattle.jb_step.proofs.NeighbourLemmas.{named_at_place}
-use Rattle.jb_step.specs.After.{live_messages, next_counter}
-use Rattle.jb_step.specs.Relink.{IsPlaced, IsRelinking, after_relink, with_links_in, with_links_of}
-use Rattle.jb_step.specs.declared.relinks.Relinking.{Relinking}
-use Rattle.jb_decide.proofs.BringLemmas.{brings_same, keeps_same}
-use Rattle.jb_decide.proofs.DecidedLemmas.{counted_some, may_apply, not_packed, something, within_is}
-use Rattle.jb_decide.specs.Decided.{IsDecided}
-use Rattle.jb_decide.specs.Headers.{Updates}
-use Rattle.jb_decide.specs.Links.{HasNearHeaders}
-use Rattle.jb_decide.proofs.HeaderLemmas.{keeps_headers, updates_links}
-use Rattle.jb_decide.specs.Pending.{changed_by}
-use Rattle.jb_decide.specs.declared.pending.Pending.TheVariants.{Counted}
-use Rattle.jb_decide.specs.declared.pending.SlotChange.{SlotChange}
-use Rattle.jb_decide.specs.declared.pending.SlotChange.TheVariants as slots
+use Rattle.jb_model.specs.declared.reply.Reply.TheVariants.{Relinked}
+use Rattle.jb_model.specs.Change.{live_messages, loaded_counted}
+use Rattle.jb_decide.specs.StepOf.{IsStepOf}
+use Rattle.jb_decide.proofs.StepLemmas.{not_packed, something}
+use Rattle.jb_model.specs.declared.change.Change.TheVariants.{Nothing, Relinked as RelinkedBy}
+use Rattle.jb_model.specs.declared.command.Command.TheVariants.{Relink}
+use Rattle.jb_model.specs.Linked.{linked_head, with_links_in, with_links_of}
+use Rattle.jb_decide.specs.Seen.{with_head, with_text}
+use Rattle.jb_decide.proofs.CountLemmas.{counted_now}
+use Rattle.jb_decide.proofs.NeighbourLemmas.{named_at_place, sound_with_head}
+use Rattle.jb_decide.proofs.SoundLemmas.{sound_counted}
+use Rattle.jb_decide.proofs.StateLemmas.{allowed_way, answer, with_slots}
 
--- links leave the number of the first slot
-base_in : (links : Links) (found : Option LoadedMessage) (loaded : Loaded) → (with_links_in links found loaded).base ≡ loaded.base
-base_in links None loaded = refl
-base_in links (Some message) loaded = refl
+-- the links of a live message with this number among these
+abbrev links_at : List Linkable → ℕ → LoadedMessage → Links
+links_at live number message = links_of live (loaded_linkable number message)
 
--- so do those of a plan
-base_of : (plan : List Links) (loaded : Loaded) → (with_links_of plan loaded).base ≡ loaded.base
-base_of [] loaded = refl
-base_of (links ∷ plan) loaded =
-    base_of plan (with_links_in links (loaded_at loaded links.number) loaded) ∙ base_in links (loaded_at loaded links.number) loaded
+-- slots with the links that these live messages give, the first of which has this number
+abbrev pub linked_slots : List Linkable → ℕ → List LoadedSlot → List LoadedSlot
+linked_slots live number [] = []
+linked_slots live number (Empty ∷ slots) = Empty ∷ linked_slots live (number + 1) slots
+linked_slots live number (Killed header_at ∷ slots) = Killed header_at ∷ linked_slots live (number + 1) slots
+linked_slots live number (Live message ∷ slots) =
+    Live (with_head (linked_head (links_at live number message) message.head) message) ∷ linked_slots live (number + 1) slots
 
--- links leave as many slots
-length_in : (links : Links) (found : Option LoadedMessage) (loaded : Loaded) → length (with_links_in links found loaded).slots ≡ length loaded.slots
-length_in links None loaded = refl
-length_in links (Some message) loaded = length-set loaded.slots (links.number - loaded.base) _
+-- the loaded area with other slots
+abbrev pub slotted : Loaded → List LoadedSlot → Loaded
+slotted loaded slots = record loaded { slots = slots }
 
--- so do those of a plan
-pub length_of : (plan : List Links) (loaded : Loaded) → length (with_links_of plan loaded).slots ≡ length loaded.slots
-length_of [] loaded = refl
-length_of (links ∷ plan) loaded =
-    length_of plan (with_links_in links (loaded_at loaded links.number) loaded) ∙ length_in links (loaded_at loaded links.number) loaded
+-- what stands behind the first slots
+get_behind : (front : List LoadedSlot) (slot : LoadedSlot) (slots : List LoadedSlot) → slice_get (front ++ slot ∷ slots) (length front) ≡ Some slot
+get_behind [] slot slots = refl
+get_behind (first ∷ front) slot slots = get_behind front slot slots
 
--- the links of one message more behind a plan
-pub links_of_more : (plan : List Links) (links : Links) (loaded : Loaded)
-    → with_links_of (plan ++ links ∷ []) loaded ≡ with_links_in links (loaded_at (with_links_of plan loaded) links.number) (with_links_of plan loaded)
-links_of_more [] links loaded = refl
-links_of_more (first ∷ plan) links loaded = links_of_more plan links (with_links_in first (loaded_at loaded first.number) loaded)
+-- the plan of slots behind others links just them
+links_behind : (live : List Linkable) (loaded : Loaded) (number : ℕ) (front slots : List LoadedSlot) → number ≡ loaded.base + length front
+    → with_links_of (map (links_of live) (linkables_from number slots)) (slotted loaded (front ++ slots)) ≡ slotted loaded (front ++ linked_slots live number slots)
+links_behind live loaded number front [] at = refl
+links_behind live loaded number front (Empty ∷ slots) at =
+    ap (λ s. with_links_of (map (links_of live) (linkables_from (number + 1) slots)) (slotted loaded s)) (sym (append_assoc front (Empty ∷ []) slots))
+    ∙ links_behind live loaded (number + 1) (front ++ Empty ∷ []) slots (omega (arith, length_push front Empty))
+    ∙ ap (slotted loaded) (append_assoc front (Empty ∷ []) (linked_slots live (number + 1) slots))
+links_behind live loaded number front (Killed header_at ∷ slots) at =
+    ap (λ s. with_links_of (map (links_of live) (linkables_from (number + 1) slots)) (slotted loaded s)) (sym (append_assoc front (Killed header_at ∷ []) slots))
+    ∙ links_behind live loaded (number + 1) (front ++ Killed header_at ∷ []) slots (omega (arith, length_push front (Killed header_at)))
+    ∙ ap (slotted loaded) (append_assoc front (Killed header_at ∷ []) (linked_slots live (number + 1) slots))
+links_behind live loaded number front (Live message ∷ slots) at =
+    let links : Links = links_at live number message in
+    let slot : LoadedSlot = Live (with_head (linked_head links message.head) message) in
+    let before : Loaded = slotted loaded (front ++ Live message ∷ slots) in
+    let rest : List Links = map (links_of live) (linkables_from (number + 1) slots) in
+    let above : nat_lt number loaded.base ≡ false = le-ltb number loaded.base (omega arith) in
+    let place : number - loaded.base ≡ length front = omega arith in
+    let found : loaded_at before number ≡ Some message =
+    ap (λ b. cond b None (message_in (slice_get (front ++ Live message ∷ slots) (number - loaded.base)))) above
+    ∙ ap (λ k. message_in (slice_get (front ++ Live message ∷ slots) k)) place ∙ ap message_in (get_behind front (Live message) slots) in
+    ap (λ o. with_links_of rest (with_links_in links o before)) found
+    ∙ ap (λ k. with_links_of rest (slotted loaded (set (front ++ Live message ∷ slots) k slot))) place
+    ∙ ap (λ s. with_links_of rest (slotted loaded s)) (set_at front (Live message) slots slot (length front) refl)
+    ∙ ap (λ s. with_links_of rest (slotted loaded s)) (sym (append_assoc front (slot ∷ []) slots))
+    ∙ links_behind live loaded (number + 1) (front ++ slot ∷ []) slots (omega (arith, length_push front slot))
+    ∙ ap (slotted loaded) (append_assoc front (slot ∷ []) (linked_slots live (number + 1) slots))
 
--- where the header of a message stands, where there is one
-abbrev header_of : Option LoadedMessage → Option ℕ
-header_of None = None
-header_of (Some message) = Some message.header_at
+-- linked slots are the relinked ones of the state
+linked_state : (texts : List ℕ) (live : List Linkable) (number : ℕ) (slots : List LoadedSlot)
+    → map (slot_state texts) (linked_slots live number slots)
+    ≡ change_live_from (λ n message. relinked live (record { number = n; message = message })) number (map (slot_state texts) slots)
+linked_state texts live number [] = refl
+linked_state texts live number (Empty ∷ slots) = ap (λ l. no_message ∷ l) (linked_state texts live (number + 1) slots)
+linked_state texts live number (Killed header_at ∷ slots) = ap (λ l. killed_message ∷ l) (linked_state texts live (number + 1) slots)
+linked_state texts live number (Live message ∷ slots) =
+    ap (λ l. live_message (relinked live (record { number = number; message = with_text texts message })) ∷ l) (linked_state texts live (number + 1) slots)
 
--- fields of a header leave all headers in their places
-headers_set : (slots : List LoadedSlot) (p k : ℕ) (message : LoadedMessage) (head : Head) → slice_get slots p ≡ Some (Live message)
-    → header_of (message_in (slice_get (set slots p (Live (record message { head = head }))) k)) ≡ header_of (message_in (slice_get slots k))
-headers_set [] p k message head here = refl
-headers_set (slot ∷ slots) zero zero message head here = sym (ap (λ o. header_of (message_in o)) here)
-headers_set (slot ∷ slots) zero (suc k) message head here = refl
-headers_set (slot ∷ slots) (suc p) zero message head here = refl
-headers_set (slot ∷ slots) (suc p) (suc k) message head here = headers_set slots p k message head here
+-- the plan of the area links the state
+pub links_of_state : (texts : List ℕ) (loaded : Loaded) (plan : List Links) → plan ≡ plan_of (linkables [] loaded)
+    → state_of texts (with_links_of plan loaded) ≡ relinked_area (state_of texts loaded)
+links_of_state texts loaded plan is =
+    let live : List Linkable = linkables [] loaded in
+    ap (λ p. state_of texts (with_links_of p loaded)) is
+    ∙ ap (state_of texts) (links_behind live loaded loaded.base [] loaded.slots (sym (add-zero loaded.base)))
+    ∙ ap (with_slots (state_of texts loaded))
+    (linked_state texts live loaded.base loaded.slots
+    ∙ ap (λ l. change_live_from (λ n message. relinked l (record { number = n; message = message })) loaded.base (map (slot_state texts) loaded.slots))
+    (sym (linkables_with_texts texts loaded.base loaded.slots)))
 
--- links leave all headers in their places
-headers_in : (links : Links) (found : Option LoadedMessage) (loaded : Loaded) (number : ℕ) → loaded_at loaded links.number ≡ found
-    → header_of (loaded_at (with_links_in links found loaded) number) ≡ header_of (loaded_at loaded number)
-headers_in links None loaded number at = refl
-headers_in links (Some message) loaded number at = by_low (nat_lt number loaded.base)
+-- links keep an area sound, whatever they are
+pub links_keep_sound : (limit : ℕ) (plan : List Links) (loaded : Loaded) → IsSound limit loaded → IsSound limit (with_links_of plan loaded)
+links_keep_sound limit [] loaded sound = sound
+links_keep_sound limit (links ∷ plan) loaded sound =
+    links_keep_sound limit plan (with_links_in links (loaded_at loaded links.number) loaded) (one (loaded_at loaded links.number) refl)
   where
-    changed : LoadedSlot
-    changed = Live (record message { head = record message.head { reply_to = links.reply_to; reply_first = links.first; reply_next = links.next } })
+    one : (found : Option LoadedMessage) → loaded_at loaded links.number ≡ found → IsSound limit (with_links_in links found loaded)
+    one None at = sound
+    one (Some message) at =
+        sound_with_head limit loaded (links.number - loaded.base) (linked_head links message.head) message (named_at_place loaded links.number message at).here refl sound
 
-    by_low : (low : Bool) → header_of (cond low None (message_in (slice_get (set loaded.slots (links.number - loaded.base) changed) (number - loaded.base))))
-        ≡ header_of (cond low None (message_in (slice_get loaded.slots (number - loaded.base))))
-    by_low true = refl
-    by_low false = headers_set loaded.slots (links.number - loaded.base) (number - loaded.base) message _ (named_at_place loaded links.number message at).here
-
--- so do those of a plan
-headers_of : (plan : List Links) (loaded : Loaded) (number : ℕ) → header_of (loaded_at (with_links_of plan loaded) number) ≡ header_of (loaded_at loaded number)
-headers_of [] loaded number = refl
-headers_of (links ∷ plan) loaded number =
-    headers_of plan (with_links_in links (loaded_at loaded links.number) loaded) number ∙ headers_in links (loaded_at loaded links.number) loaded number refl
-
--- what a slot holds is what its number names
-loaded_at_is : (loaded : Loaded) (links : Links) (slot : LoadedSlot) → IsPlaced loaded links → slot ≡ get_or loaded.slots (links.number - loaded.base) slot
-    → loaded_at loaded links.number ≡ message_in (Some slot)
-loaded_at_is loaded links slot placed is =
-    let place : ℕ = links.number - loaded.base in
-    let low : nat_lt links.number loaded.base ≡ false = le-ltb links.number loaded.base placed.low in
-    ap (λ b. cond b None (message_in (slice_get loaded.slots place))) low
-    ∙ ap message_in (slice_get-get_or loaded.slots place slot placed.within ∙ ap (λ (s : LoadedSlot). Some s) (sym is))
-
--- no place is that of a header
-no_header : (at : ℕ) → None ≡ Some at → ⊥
-no_header at is = cc
-
--- one place
-one_header : (one other : ℕ) → Some one ≡ Some other → one ≡ other
-one_header one other is = cc
-
--- the links of a live message are put behind those of others
-pub links_put : (old new : Change) (loaded : Loaded) (before : List Links) (links : Links) (message : LoadedMessage) → loaded_at loaded links.number ≡ Some message
-    → ChangesHead old new message.header_at (head_with_links links.reply_to links.first links.next)
-    → ChangesHeader old new message.header_at (header_with_links links.reply_to links.first links.next) → WritesOnly old new Jhr message.header_at 76
-    → Updates old loaded (with_links_of before loaded) [] → Updates new loaded (with_links_of (before ++ links ∷ []) loaded) []
-links_put old new loaded before links message here changes header only made = by_found (loaded_at to links.number) refl
-  where
-    to : Loaded
-    to = with_links_of before loaded
-
-    same : header_of (loaded_at to links.number) ≡ Some message.header_at
-    same = headers_of before loaded links.number ∙ ap header_of here
-
-    by_found : (found : Option LoadedMessage) → loaded_at to links.number ≡ found → Updates new loaded (with_links_of (before ++ links ∷ []) loaded) []
-    by_found None at = absurd (no_header message.header_at (sym (ap header_of at) ∙ same))
-    by_found (Some now) at =
-        subst (λ (l : Loaded). Updates new loaded l []) (ap (λ (o : Option LoadedMessage). with_links_in links o to) (sym at) ∙ sym (links_of_more before links loaded))
-        (updates_links old new message.header_at links.reply_to links.first links.next changes header only loaded to [] (links.number - to.base) now made (named_at_place to links.number now at).here
-        (one_header now.header_at message.header_at (sym (ap header_of at) ∙ same)))
-
--- where no message is live, links change nothing
-pub links_not_put : (loaded : Loaded) (before : List Links) (links : Links) → loaded_at loaded links.number ≡ None
-    → with_links_of before loaded ≡ with_links_of (before ++ links ∷ []) loaded
-links_not_put loaded before links none = by_found (loaded_at to links.number) refl
-  where
-    to : Loaded
-    to = with_links_of before loaded
-
-    by_found : (found : Option LoadedMessage) → loaded_at to links.number ≡ found → to ≡ with_links_of (before ++ links ∷ []) loaded
-    by_found None at = sym (links_of_more before links loaded ∙ ap (λ (o : Option LoadedMessage). with_links_in links o to) at)
-    by_found (Some now) at = absurd (no_header now.header_at (sym (ap header_of none) ∙ sym (headers_of before loaded links.number) ∙ ap header_of at))
-
--- a slot without a live message has none
-not_live : (slot : LoadedSlot) → ((message : LoadedMessage) → slot ≡ Live message → ⊥) → message_in (Some slot) ≡ None
-not_live Empty none = refl
-not_live (Killed header_at) none = refl
-not_live (Live message) none = absurd (none message refl)
-
--- what a slot holds is what its number names
-pub here_live : (loaded : Loaded) (links : Links) (slot : LoadedSlot) (message : LoadedMessage) → IsPlaced loaded links → slot ≡ get_or loaded.slots (links.number - loaded.base) slot
-    → slot ≡ Live message → loaded_at loaded links.number ≡ Some message
-here_live loaded links slot message placed is live = loaded_at_is loaded links slot placed is ∙ ap (λ (s : LoadedSlot). message_in (Some s)) live
-
--- and where that is no live message, it names none
-pub here_none : (loaded : Loaded) (links : Links) (slot : LoadedSlot) → IsPlaced loaded links → slot ≡ get_or loaded.slots (links.number - loaded.base) slot
-    → ((message : LoadedMessage) → slot ≡ Live message → ⊥) → loaded_at loaded links.number ≡ None
-here_none loaded links slot placed is none = loaded_at_is loaded links slot placed is ∙ not_live slot none
-
--- links for a slot stay so
-pub still_placed : (plan : List Links) (loaded : Loaded) (links : Links) → IsPlaced loaded links → IsPlaced (with_links_of plan loaded) links
-still_placed plan loaded links placed =
-    let base = base_of plan loaded in
-    let slots = length_of plan loaded in
-    let low = placed.low in
-    let within = placed.within in
-    record { low = omega arith; within = subst (λ (n : ℕ). links.number - n < length (with_links_of plan loaded).slots) (sym base) (omega arith) }
-
--- the plan up to the next links
-pub plan_more : (plan : List Links) (k : ℕ) (links : Links) → k < length plan → take (k + 1) plan ≡ take k plan ++ get_or plan k links ∷ []
-plan_more plan k links low = let next : k + 1 ≡ suc k = omega arith in ap (λ (n : ℕ). take n plan) next ∙ take-suc plan k links low
-
--- what the next links make
-pub plan_step : (plan : List Links) (k : ℕ) (d : Links) (loaded : Loaded) → k < length plan
-    → with_links_in (get_or plan k d) (loaded_at (with_links_of (take k plan) loaded) (get_or plan k d).number) (with_links_of (take k plan) loaded)
-    ≡ with_links_of (take (k + 1) plan) loaded
-plan_step plan k d loaded low =
-    sym (links_of_more (take k plan) (get_or plan k d) loaded) ∙ ap (λ (p : List Links). with_links_of p loaded) (sym (plan_more plan k d low))
-
--- the headers of a sound area can be written
-pub near_headers : (limit : ℕ) (loaded : Loaded) → IsSound limit loaded → HasNearHeaders loaded
-near_headers limit loaded sound = λ place message here.
-    let below = (within_is limit place message loaded here sound).header.below in
-    omega (arith, below)
-
--- nothing is relinked
-pub not_relinked : (rules : AreaRules) (from : Loaded) (user : User) (relinking : Relinking) → IsRelinking rules from user relinking → relinking.changed ≡ 0
-    → after_relink relinking.plan relinking.changed from ≡ from
-not_relinked rules from user relinking is none = ap (λ (n : ℕ). after_relink relinking.plan n from) none
+-- no link is another, and nothing is written
+pub relink_none : (texts : List ℕ) (rules : AreaRules) (loaded : Loaded) (user : User) (changed : ℕ)
+    → first_refusal user rules Tending None ≡ None → changed ≡ 0 → changed ≡ wrongly_linked (state_of texts loaded)
+    → relink_step rules (state_of texts loaded) user ≡ answer (Relinked changed) (state_of texts loaded)
+relink_none texts rules loaded user changed allowed none counts =
+    let state : AreaState = state_of texts loaded in
+    allowed_way state (first_refusal user rules Tending None) (relink_done state) allowed
+    ∙ ap (λ w. cond (w == 0) (answer (Relinked 0) state) (answer (Relinked w) (counted (relinked_area state)))) (sym counts ∙ none)
+    ∙ ap (λ n. answer (Relinked n) state) (sym none)
 
 -- a number that is not 0 is none that is tested for 0
 is_some : (n : ℕ) → n ≢ 0 → (n == 0) ≡ false
@@ -205,75 +133,54 @@ is_some n some = by_zero (n == 0) refl
     by_zero true t = absurd (some (eqb-true n 0 t))
     by_zero false t = refl
 
--- links leave the texts
-texts_in : (links : Links) (found : Option LoadedMessage) (loaded : Loaded) → (with_links_in links found loaded).texts_len ≡ loaded.texts_len
-texts_in links None loaded = refl
-texts_in links (Some message) loaded = refl
+-- the area is relinked
+pub relink_some : (texts : List ℕ) (rules : AreaRules) (loaded : Loaded) (user : User) (plan : List Links) (changed : ℕ)
+    → first_refusal user rules Tending None ≡ None → plan ≡ plan_of (linkables [] loaded) → changed ≢ 0 → changed ≡ wrongly_linked (state_of texts loaded)
+    → relink_step rules (state_of texts loaded) user ≡ answer (Relinked changed) (state_of texts (loaded_counted (with_links_of plan loaded)))
+relink_some texts rules loaded user plan changed allowed is some counts =
+    let state : AreaState = state_of texts loaded in
+    allowed_way state (first_refusal user rules Tending None) (relink_done state) allowed
+    ∙ ap (λ w. cond (w == 0) (answer (Relinked 0) state) (answer (Relinked w) (counted (relinked_area state)))) (sym counts)
+    ∙ ap (λ b. cond b (answer (Relinked 0) state) (answer (Relinked changed) (counted (relinked_area state)))) (is_some changed some)
+    ∙ ap (λ s. answer (Relinked changed) (counted s)) (sym (links_of_state texts loaded plan is))
+    ∙ ap (answer (Relinked changed)) (sym (counted_now texts (with_links_of plan loaded)))
 
--- so do those of a plan
-texts_of : (plan : List Links) (loaded : Loaded) → (with_links_of plan loaded).texts_len ≡ loaded.texts_len
-texts_of [] loaded = refl
-texts_of (links ∷ plan) loaded =
-    texts_of plan (with_links_in links (loaded_at loaded links.number) loaded) ∙ texts_in links (loaded_at loaded links.number) loaded
+-- the area stays sound
+relink_keeps_sound : (limit : ℕ) (plan : List Links) (loaded : Loaded) → IsSound limit loaded → IsSound limit (loaded_counted (with_links_of plan loaded))
+relink_keeps_sound limit plan loaded sound =
+    let linked : Loaded = with_links_of plan loaded in
+    sound_counted limit linked ((linked.counter + 1) % 2 ^ 32) (live_messages linked) (links_keep_sound limit plan loaded sound)
 
 -- two replies of a relink are one
-same_count : (one other : ℕ) → reply.Relinked one ≡ reply.Relinked other → one ≡ other
+same_count : (one other : ℕ) → Relinked one ≡ Relinked other → one ≡ other
 same_count one other is = cc
 
--- a relink
-pub relink_decided : (rules : AreaRules) (from : Loaded) (texts : List ℕ) (contents : Option Files) (redo : Change) (user : User) (moment counter active : ℕ) (relinking : Relinking)
-    → IsRelinking rules from user relinking → IsSound rules.slots from → length texts ≡ from.texts_len → relinking.changed ≢ 0
-    → counter ≡ next_counter from → active ≡ live_messages from
-    → Updates redo from (with_counts counter active (with_links_of relinking.plan from)) [] → IsWritable redo
-    → IsDecided rules from texts contents None redo user moment Relink (record { reply = reply.Relinked relinking.changed; pending = Counted (slots.Relinked relinking.plan) counter active })
-relink_decided rules from texts contents redo user moment counter active relinking is before sized some counted live makes writable =
-    let to : Loaded = after_relink relinking.plan relinking.changed from in
-    let linked : Loaded = with_links_of relinking.plan from in
-    let same : with_counts counter active linked ≡ to =
-    ap (λ (n : ℕ). with_counts n active linked) counted ∙ ap (λ (n : ℕ). with_counts (next_counter from) n linked) live
-    ∙ sym (ap (λ b. cond b from (with_counts (next_counter from) (live_messages from) linked)) (is_some relinking.changed some)) in
-    let updates : Updates redo from to [] = subst (λ (l : Loaded). Updates redo from l []) same makes in
-    record {
-      coming = record { to = to; texts = texts };
-      change = inr (record {
-        some = counted_some (slots.Relinked relinking.plan) counter active;
-        becomes = sym same;
-        change = record { brings = λ files there. brings_same redo from to texts None updates.makes; writable = writable };
-        may = may_apply (Counted (slots.Relinked relinking.plan) counter active) from to rules.slots (sym same)
-            (record {
-              placed = is.placed;
-              index = λ replies index. rests_on_slots replies (with_counts counter active linked) linked refl refl (subst (IsIndexOf replies) (sym same) (is.index replies index));
-            })
-            (is.sound before) (is.live ∙ sym live);
-        sound = is.sound before;
-        sized = sized ∙ sym (texts_of relinking.plan from) ∙ ap (λ (l : Loaded). l.texts_len) same;
-        grows = keeps_same texts;
-        short = tt;
-      });
-      step = λ told. is.step texts moment;
-      idle = λ nothing. absurd (something Relink (reply.Relinked relinking.changed) refl (λ look. look) (λ none. some (same_count relinking.changed 0 none)) nothing);
-      kind = λ no packing. packing;
-      packing = λ packed. absurd (not_packed (reply.Relinked relinking.changed) (λ base live dropped is. cc) packed);
-      packs = λ files holds. tt;
-      headers = λ same_places files holds. keeps_headers (reply.Relinked relinking.changed) redo from to [] updates
-          (ap (λ (l : Loaded). length l.slots) (sym same) ∙ length_of relinking.plan from) files holds.holds.loads;
-    }
+-- a relink that finds no wrong link
+pub linked_is : (rules : AreaRules) (loaded : Loaded) (user : User) (moment changed : ℕ) → first_refusal user rules Tending None ≡ None → changed ≡ 0
+    → ((texts : List ℕ) → changed ≡ wrongly_linked (state_of texts loaded)) → IsSound rules.slots loaded
+    → IsStepOf rules loaded user moment Relink (λ texts. Relinked changed) Nothing
+linked_is rules loaded user moment changed allowed none counts sound = record {
+  step = λ texts sized. relink_none texts rules loaded user changed allowed none (counts texts);
+  fits = tt;
+  sound = sound;
+  kind = tt;
+  text = refl;
+  idle = λ texts nothing. refl;
+  unpacked = λ texts packed. not_packed (Relinked changed) (λ base live dropped is. cc) packed;
+  named = λ texts. tt;
+}
 
--- links leave the marks
-marks_in : (links : Links) (found : Option LoadedMessage) (loaded : Loaded) → (with_links_in links found loaded).marks ≡ loaded.marks
-marks_in links None loaded = refl
-marks_in links (Some message) loaded = refl
-
--- so do those of a plan
-marks_of : (plan : List Links) (loaded : Loaded) → (with_links_of plan loaded).marks ≡ loaded.marks
-marks_of [] loaded = refl
-marks_of (links ∷ plan) loaded =
-    marks_of plan (with_links_in links (loaded_at loaded links.number) loaded) ∙ marks_in links (loaded_at loaded links.number) loaded
-
--- so does each change of the slots
-pub marks_kept : (change : SlotChange) (loaded : Loaded) → (changed_by change loaded).marks ≡ loaded.marks
-marks_kept (slots.Headed place head) loaded = refl
-marks_kept (slots.Killed place header_at) loaded = refl
-marks_kept (slots.Posted message size None) loaded = refl
-marks_kept (slots.Posted message size (Some link)) loaded = refl
-marks_kept (slots.Relinked plan) loaded = marks_of plan loaded
+-- a relink that finds some
+pub relinking_is : (rules : AreaRules) (loaded : Loaded) (user : User) (moment changed : ℕ) (plan : List Links) → first_refusal user rules Tending None ≡ None
+    → plan ≡ plan_of (linkables [] loaded) → changed ≢ 0 → ((texts : List ℕ) → changed ≡ wrongly_linked (state_of texts loaded)) → IsSound rules.slots loaded
+    → IsStepOf rules loaded user moment Relink (λ texts. Relinked changed) (RelinkedBy plan)
+relinking_is rules loaded user moment changed plan allowed is some counts sound = record {
+  step = λ texts sized. relink_some texts rules loaded user plan changed allowed is some (counts texts);
+  fits = is;
+  sound = relink_keeps_sound rules.slots plan loaded sound;
+  kind = tt;
+  text = refl;
+  idle = λ texts nothing. absurd (something Relink (Relinked changed) refl (λ look. look) (λ none. some (same_count changed 0 none)) nothing);
+  unpacked = λ texts packed. not_packed (Relinked changed) (λ base live dropped is. cc) packed;
+  named = λ texts. tt;
+}

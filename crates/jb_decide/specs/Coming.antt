@@ -1,10 +1,9 @@
 -- What is to come of an area, and the change of its files that brings it.
 use Rattle.std.specs.Option.{ForSome}
 use Rattle.std.specs.Prelude.{ℕ, List, Option}
-use Rattle.jb_redo.specs.Changes.{Brings}
-use Rattle.jb_disk.specs.Change.{Change}
+use Rattle.jb_redo.specs.Changes.{Brings, IsWritable}
+use Rattle.jb_disk.specs.RedoView.{RedoView}
 use Rattle.jb_disk.specs.Files.{Files}
-use Rattle.jb_redo.specs.Changes.{IsWritable}
 use Rattle.jb_model.specs.declared.loaded.Loaded.{Loaded}
 use Rattle.jb_pack.specs.Shadow.{Shadow}
 use Rattle.jb_decide.specs.Holds.{Holds, HoldsWith}
@@ -15,10 +14,10 @@ pub record Coming : Type 0 where
   pub texts : List ℕ
 
 -- of whatever files hold the area with these texts and these copies of them, the change makes files that hold what is to come
-abbrev pub BringsComing : Change → Loaded → List ℕ → Option Shadow → Coming → Type 0
+abbrev pub BringsComing : RedoView → Loaded → List ℕ → Option Shadow → Coming → Type 0
 BringsComing change from texts copies coming = Brings change (HoldsWith from texts copies) (λ _. Holds coming.to coming.texts)
 
 -- where the disk tells its files, this redo brings what is to come; on each disk it can be committed
-pub record IsChange (contents : Option Files) (redo : Change) (from : Loaded) (texts : List ℕ) (copies : Option Shadow) (coming : Coming) : Type 0 where
+pub record IsChange (contents : Option Files) (redo : RedoView) (from : Loaded) (texts : List ℕ) (copies : Option Shadow) (coming : Coming) : Type 0 where
   pub brings : ForSome contents (λ files. BringsComing redo from texts copies coming)
   pub writable : IsWritable redo

@@ -1,6 +1,6 @@
 -- Why a call of an open area is not done.
 use Rattle.std.specs.Prelude.{◌≡◌, ℕ}
-use Rattle.jb_base.specs.Fault.{Rose}
+use Rattle.jb_bytes.specs.Fault.{Rose}
 use Rattle.jb_decide.specs.declared.error.AreaError.{AreaError}
 use Rattle.jb_decide.specs.declared.error.AreaError.TheVariants.{StoreFault, OutOfMemory}
 use Rattle.jb_pack.specs.declared.error.PackError.{PackError}

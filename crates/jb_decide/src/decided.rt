@@ -1,9 +1,9 @@
 //! What a command comes to.
-ghost use Rattle.std.specs.Prelude.{◌≡◌};
-ghost use Rattle.jb_decide.specs.declared.pending.Pending.TheVariants.{Nothing};
+ghost use Rattle.std.specs.Prelude.{◌≡◌, None};
+ghost use Rattle.jb_model.specs.declared.change.Change.TheVariants.{Nothing};
 
-use crate::pending::Pending;
-use jb_model::Reply;
+use jb_held::Pending;
+use jb_model::{Change, Reply};
 
 /// The reply that was decided, and what is pending.
 #[derive(Drop)]
@@ -16,11 +16,13 @@ impl Decided {
     /// A reply that changes nothing.
     pub fn unchanged(reply: Reply) -> Decided
         ensures reply { result.reply ≡ reply }
-        ensures pending { result.pending ≡ Nothing }
+        ensures change { result.pending.change ≡ Nothing }
+        ensures replies { result.pending.replies ≡ None }
     {
-        Decided {
-            reply,
-            pending: Pending::Nothing,
-        }
+        let pending = Pending {
+            change: Change::Nothing,
+            replies: None,
+        };
+        Decided { reply, pending }
     }
 }

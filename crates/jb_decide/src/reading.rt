@@ -1,10 +1,11 @@
 //! A message is read, or looked at.
 ghost use Rattle.std.specs.Prelude.{◌≡◌, ◌≤◌, ℕ, [], List, IfErr, IfOk, length, OnOk, None};
 ghost use Rattle.std.specs.Option.{ForSome};
-ghost use Rattle.jb_base.specs.declared.attribute.TheConstants.{DELETED};
-ghost use Rattle.jb_disk.specs.Change.{Change};
+ghost use Rattle.jb_change.specs.Ready.{HasRoomInAll};
+ghost use Rattle.jb_disk.specs.RedoView.{RedoView};
 ghost use Rattle.jb_disk.specs.Device.{OnlyReads};
 ghost use Rattle.jb_disk.specs.declared.file.FileId.TheVariants.{Jdt as texts_file};
+ghost use Rattle.jb_model.specs.Change.{HasMessageAt};
 ghost use Rattle.jb_model.specs.Loaded.{IsMessageAt};
 ghost use Rattle.jb_model.specs.declared.command.Command.TheVariants.{Peek, Read};
 ghost use Rattle.jb_model.specs.declared.loaded.Loaded.{Loaded};
@@ -12,24 +13,23 @@ ghost use Rattle.jb_model.specs.declared.loaded.LoadedMessage.{LoadedMessage};
 ghost use Rattle.jb_decide.specs.Decided.{IsDecided, IsKeptFor};
 ghost use Rattle.jb_decide.specs.Errors.{AreaFaultRose};
 ghost use Rattle.jb_decide.specs.Holds.{AreTexts, Holds};
-ghost use Rattle.jb_decide.specs.Links.{HasMessageAt};
-ghost use Rattle.jb_decide.specs.Ready.{HasRoomInAll};
 
 use crate::AreaError;
 use crate::decided::Decided;
-use crate::deciding::put_read;
-use crate::held::Held;
-use crate::pending::{Pending, SlotChange};
+use crate::deciding::decide_short;
+use crate::letters::letter;
+use crate::outcome::Outcome;
+use crate::reads::{peek, read};
 use crate::texts::read_text;
 use jb_base::{AreaRules, User};
 use jb_disk::{Disk, Redo};
-use jb_model::{Loaded, LoadedMessage, LoadedSlot, Reply};
-use jb_step::{letter, peek, read};
+use jb_held::Held;
+use jb_model::{Change, Loaded, LoadedMessage, LoadedSlot, Reply};
 use std::alloc::Global;
 
 /// The live message at a place.
 fn message_at(loaded: &Loaded, place: usize) -> &LoadedMessage
-    requires { HasMessageAt loaded.now place }
+    requires { HasMessageAt place loaded.now }
     ensures { IsMessageAt loaded.now place result.now }
 {
     let Some(LoadedSlot::Live(message)) = loaded.slots.as_slice().get(place) else {
@@ -65,25 +65,15 @@ pub fn decide_read<D: Disk>(
     let loaded = held.loaded();
     match read(loaded, rules, user, moment, number) {
         Err(reply) => Ok(Decided::unchanged(reply)),
-        Ok(reading) => {
-            let message = message_at(loaded, reading.place);
+        Ok(at) => {
+            let message = message_at(loaded, at.place);
             let text = read_text(alloc, disk, message)?;
-            let shown = letter(alloc, number, reading.head, message, text)?;
-            let counter = loaded.counter.wrapping_add(1);
-            let live = held.live();
-            put_read(redo, message.header_at, &reading.head, counter, live);
-            let change = SlotChange::Headed {
-                place: reading.place,
-                head: reading.head,
-            };
-            Ok(Decided {
+            let shown = letter(alloc, number, at.head, message, text)?;
+            let outcome = Outcome {
                 reply: Reply::Text { letter: shown },
-                pending: Pending::Counted {
-                    change,
-                    counter,
-                    active: live,
-                },
-            })
+                change: Change::Headed { at },
+            };
+            Ok(decide_short(held, redo, outcome))
         }
     }
 }
@@ -99,7 +89,7 @@ pub fn decide_peek<D: Disk>(
 ) -> Result<Decided, AreaError>
     requires kept { IsKeptFor rules.now held.now }
     requires holds { ForSome (D.device disk.old).contents (λ files. Holds held.now (files texts_file) files) }
-    ensures decided { IfOk result (λ decided. (moment : ℕ) (redo : Change) (texts : List ℕ) → AreTexts held.now texts (D.device disk.old).contents
+    ensures decided { IfOk result (λ decided. (moment : ℕ) (redo : RedoView) (texts : List ℕ) → AreTexts held.now texts (D.device disk.old).contents
         → IsDecided rules.now held.now texts (D.device disk.old).contents None redo user.now moment (Peek number) decided) }
 
     // The disk is only read.

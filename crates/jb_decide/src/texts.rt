@@ -1,7 +1,7 @@
 //! The text of a message.
 ghost use Rattle.std.specs.Prelude.{◌≡◌, ◌≤◌, length, IfOk, IfErr, OnOk};
 ghost use Rattle.std.specs.Option.{ForSome};
-ghost use Rattle.jb_base.specs.Fault.{Rose};
+ghost use Rattle.jb_bytes.specs.Fault.{Rose};
 ghost use Rattle.jb_disk.specs.Device.{OnlyReads};
 ghost use Rattle.jb_disk.specs.declared.file.FileId.TheVariants.{Jdt as texts_file};
 ghost use Rattle.jb_model.specs.Sound.{IsTextWithin};
@@ -24,6 +24,7 @@ pub(crate) fn read_text<D: Disk>(
     requires within { ForSome (D.device disk.old).contents (λ files.
         IsTextWithin (length (files texts_file)) message.now.text_at message.now.text_len) }
     ensures found { IfOk result (λ text. ForSome (D.device disk.old).contents (λ files. text ≡ text_of (files texts_file) message.now)) }
+    ensures sized { IfOk result (λ text. length text ≡ message.now.text_len) }
     ensures kept { OnlyReads (D.device disk.old) (D.device disk.new) }
     ensures quiet { OnOk result ((D.device disk.new).faults ≡ (D.device disk.old).faults) }
     ensures later { (D.device disk.old).faults ≤ (D.device disk.new).faults }

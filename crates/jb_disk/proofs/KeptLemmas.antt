@@ -8,7 +8,7 @@ use Rattle.jb_disk.specs.declared.file.FileId.{FileId}
 use Rattle.jb_disk.specs.declared.piece.Piece.{Piece}
 use Rattle.jb_disk.specs.declared.piece.Piece.TheVariants.{Bytes, Copy}
 use Rattle.jb_disk.specs.declared.redo.Kept.{Kept}
-use Rattle.jb_disk.specs.Change.{bytes_of, held_by}
+use Rattle.jb_disk.specs.RedoView.{bytes_of, held_by}
 use Rattle.jb_disk.specs.Kept.{piece_of, KeptFits, size_of}
 
 -- a range stays where more is put behind

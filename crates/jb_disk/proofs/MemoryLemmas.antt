@@ -2,7 +2,7 @@
 use Rattle.std.specs.declared.alloc.Global.{Global}
 use Rattle.std.proofs.Common.{Vec, ◌≡◌, ◌≢◌, inl, inr, ℕ, ◌+◌, ◌≤◌, List, [], ◌∷◌, ◌++◌, length, refl, sym, ◌∙◌, ap, subst, true, false, Bool, le-leb, arith, ◌<◌, Option, Some, None, Result, Ok, Err, not}
 use Rattle.std.specs.Option.{option_map}
-use Rattle.jb_base.specs.Fault.{Rose}
+use Rattle.jb_bytes.specs.Fault.{Rose}
 use Rattle.std.specs.Prelude.{◌⊎◌, IsErr, OnOk, OnErr, reverse, nat_le, if◌then◌else◌, ◌&&◌}
 use Rattle.std.proofs.lemmas.Result.{on_ok_weaker, on_err_weaker}
 use Rattle.jb_disk.specs.declared.file.FileId.{FileId}

@@ -1,7 +1,7 @@
 -- What is known of a disk before and after a call.
 use Rattle.std.specs.Prelude.{◌≡◌, ◌≢◌, ◌⊎◌, ℕ, ◌<◌, ◌≤◌, List, [], ◌∷◌, length, is_some, Option, Some, None, Result, IsErr, OnOk, OnErr}
 use Rattle.std.specs.Option.{ForSome}
-use Rattle.jb_base.specs.Fault.{Rose}
+use Rattle.jb_bytes.specs.Fault.{Rose}
 use Rattle.jb_disk.specs.declared.file.FileId.{FileId}
 use Rattle.jb_disk.specs.Files.{Files, InFile, IsResized}
 use Rattle.jb_disk.specs.Images.{Images, IsImage, just_synced, torn, cut, with_image}

@@ -1,6 +1,6 @@
 -- The six files of an area as lists of bytes.
 use Rattle.std.specs.Prelude.{◌≡◌, ◌≢◌, ℕ, ◌+◌, ◌<◌, ◌==◌, List, ◌++◌, length, take, drop, slice_index, if◌then◌else◌}
-use Rattle.jb_base.specs.declared.limits.TheConstants.{HEADERS_CEILING, TEXTS_CEILING, INDEX_CEILING, LASTREAD_CEILING, JOURNAL_CEILING, SHADOW_CEILING}
+use Rattle.jb_limits.specs.declared.limits.TheConstants.{HEADERS_CEILING, TEXTS_CEILING, INDEX_CEILING, LASTREAD_CEILING, JOURNAL_CEILING, SHADOW_CEILING}
 use Rattle.jb_disk.specs.declared.file.FileId.{FileId}
 use Rattle.jb_disk.specs.declared.file.FileId.TheVariants.{Jhr, Jdt, Jdx, Jlr, Jnl, Ndt}
 

@@ -4,7 +4,7 @@ use Rattle.jb_disk.specs.declared.piece.Piece.{Piece}
 use Rattle.jb_disk.specs.declared.piece.Piece.TheVariants.{Bytes, Copy}
 use Rattle.jb_disk.specs.declared.redo.Kept.{Kept}
 use Rattle.jb_disk.specs.declared.redo.Redo.TheInside.{Inside}
-use Rattle.jb_disk.specs.Change.{Change}
+use Rattle.jb_disk.specs.RedoView.{RedoView}
 
 -- the piece that is kept so
 abbrev pub piece_of : List ℕ → Kept → Piece
@@ -22,7 +22,7 @@ pub record KeptFits (buffer : List ℕ) (kept : Kept) : Type 0 where
   pub plain : kept.head.copy ≡ false → (kept.head.from ≡ kept.head.to) × (kept.head.from_at ≡ 0)
 
 -- the change that stands so
-abbrev pub change_of : Inside → Change
+abbrev pub change_of : Inside → RedoView
 change_of redo = record {
   lengths = redo.lengths.items;
   pieces = map (piece_of redo.buffer.items) redo.kept.items;

@@ -1,4 +1,4 @@
-pub mod Change
+pub mod RedoView
 pub mod Crash
 pub mod Device
 pub mod FileLaws

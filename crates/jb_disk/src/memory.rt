@@ -1,6 +1,6 @@
 //! Six files in memory that tell what a crash at each moment may leave.
 ghost use Rattle.std.specs.Prelude.{◌≡◌, ◌⊎◌, ◌+◌, ◌<◌, ◌≤◌, ◌↔◌, IsTrue, ◌++◌, [], ◌∷◌, Contains, length, reverse, true, false, IfOk, IsErr, OnOk, OnErr};
-ghost use Rattle.jb_base.specs.Fault.{Rose};
+ghost use Rattle.jb_bytes.specs.Fault.{Rose};
 ghost use Rattle.jb_disk.specs.Memory.{FailsNext, listed, device_of, fresh_device, IsQuiet};
 ghost use Rattle.jb_disk.specs.MemoryLaws.{tells_an_image};
 ghost use Rattle.jb_disk.specs.Images.{IsImage};
@@ -11,7 +11,7 @@ use crate::call::Call;
 use crate::six::Six;
 use crate::trace::Trace;
 use crate::{Disk, DiskFailed, FileId};
-use jb_base::{Bytes, OutOfMemory};
+use jb_bytes::{Bytes, OutOfMemory};
 use std::alloc::Global;
 use std::marker::Model;
 

@@ -1,7 +1,7 @@
 //! The parts of a change: lengths and pieces.
 
 use crate::FileId;
-use jb_base::Bytes;
+use jb_bytes::Bytes;
 
 /// A file's new length in bytes.
 #[derive(Clone, Copy)]

@@ -2,10 +2,10 @@
 ghost use Rattle.std.specs.Prelude.{◌≡◌, ◌+◌, ◌<◌, ◌≤◌, ◌^◌, [], ◌∷◌, ◌++◌, Some, length, sum_by, slice_get, OnOk};
 ghost use Rattle.std.specs.Option.{option_map};
 ghost use Rattle.jb_disk.specs.declared.piece.Piece.TheVariants.{Bytes, Copy};
-ghost use Rattle.jb_disk.specs.Change.{head_of, bytes_of, held_by, HasRoom, Spends, SameLists};
+ghost use Rattle.jb_disk.specs.RedoView.{head_of, bytes_of, held_by, HasRoom, Spends, SameLists};
 
 use crate::{FileId, Length, PieceHead};
-use jb_base::OutOfMemory;
+use jb_bytes::OutOfMemory;
 use std::alloc::Global;
 use std::marker::Model;
 
@@ -36,9 +36,9 @@ pub(crate) struct Kept {
 }
 
 impl Model for Redo {
-    ghost use Rattle.jb_disk.specs.Change.{Change};
+    ghost use Rattle.jb_disk.specs.RedoView.{RedoView};
 
-    ghost Value = { Change };
+    ghost Value = { RedoView };
 
     ghost use Rattle.jb_disk.specs.Kept.{change_of, IsKept};
 

@@ -1,6 +1,6 @@
 //! A disk over another that tells nothing, counts its calls and may stop after some of them.
 ghost use Rattle.std.specs.Prelude.{◌≡◌, ◌≤◌, ◌+◌, Ok, IfOk, OnOk, OnErr, IsErr};
-ghost use Rattle.jb_base.specs.Fault.{Rose};
+ghost use Rattle.jb_bytes.specs.Fault.{Rose};
 
 use crate::memory::fault;
 use crate::{Disk, DiskFailed, FileId};

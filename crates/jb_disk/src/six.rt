@@ -4,7 +4,7 @@ ghost use Rattle.jb_disk.specs.Files.{overwritten};
 ghost use Rattle.jb_disk.specs.Memory.{of_length, listed};
 
 use crate::FileId;
-use jb_base::{Bytes, OutOfMemory};
+use jb_bytes::{Bytes, OutOfMemory};
 use std::alloc::Global;
 
 /// The bytes of each file.

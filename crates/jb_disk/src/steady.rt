@@ -5,7 +5,7 @@ ghost use Rattle.std.specs.Option.{ForSome};
 use crate::memory::{fault, passes};
 use crate::six::Six;
 use crate::{Disk, DiskFailed, FileId};
-use jb_base::OutOfMemory;
+use jb_bytes::OutOfMemory;
 use std::alloc::Global;
 
 /// Six files in memory, for a board that is built and thrown away. Want of memory is its one fault.

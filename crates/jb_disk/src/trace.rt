@@ -10,7 +10,7 @@ use crate::FileId;
 use crate::call::Call;
 use crate::memory::passes;
 use crate::six::{overwrite, resize};
-use jb_base::{Bytes, OutOfMemory};
+use jb_bytes::{Bytes, OutOfMemory};
 use std::alloc::Global;
 
 // What stands in each byte that a crash leaves open, where the worst is asked for.

@@ -2,7 +2,7 @@
 ghost use Rattle.std.specs.Prelude.{◌≡◌};
 ghost use Rattle.jb_files.specs.declared.fault.OpenFault.TheVariants.{OutOfMemory as no_memory};
 
-use jb_base::OutOfMemory;
+use jb_bytes::OutOfMemory;
 
 /// Why a base is not opened. None of its files is changed.
 #[derive(Clone, Copy, Debug, PartialEq, Eq)]

@@ -2,7 +2,7 @@
 ghost use Rattle.std.specs.Prelude.{◌≡◌, IsErr, IsTrue};
 
 use crate::real::noted;
-use jb_base::OutOfMemory;
+use jb_bytes::OutOfMemory;
 use std::alloc::Global;
 use std::fs::File;
 use std::io;

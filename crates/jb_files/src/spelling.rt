@@ -3,7 +3,7 @@
 use crate::OpenFault;
 use crate::names::Names;
 use crate::real::RealFile;
-use jb_base::OutOfMemory;
+use jb_bytes::OutOfMemory;
 use std::alloc::Global;
 use std::rt::Files;
 

@@ -1,6 +1,6 @@
 //! What an answer of the system means for a link, and what of it is counted. The system is asked elsewhere.
 ghost use Rattle.std.specs.Prelude.{◌≡◌, ◌≤◌, ◌<◌, ◌⊎◌, Ok, IfOk, IsErr, OnErr, OnOk};
-ghost use Rattle.jb_base.specs.Fault.{HasCause, Rose};
+ghost use Rattle.jb_bytes.specs.Fault.{HasCause, Rose};
 
 use crate::link::LinkFailed;
 use std::io;

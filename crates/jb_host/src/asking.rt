@@ -1,13 +1,13 @@
 //! What a host in memory was asked for.
 ghost use Rattle.std.specs.Prelude.{◌≡◌, ◌≤◌, ◌++◌, ◌∷◌, [], IfErr, IfOk, IsErr, OnOk, Some};
-ghost use Rattle.jb_base.specs.Fault.{Rose};
+ghost use Rattle.jb_bytes.specs.Fault.{Rose};
 ghost use Rattle.jb_host.specs.Desk.{HasHostCause, asked_disk, asked_settings, calls_after};
 ghost use Rattle.jb_host.specs.Failing.{FailsNext};
 ghost use Rattle.jb_host.specs.Shelves.{asked_by, asked_of};
 
 use crate::failing::Failing;
 use crate::host::HostError;
-use jb_base::Bytes;
+use jb_bytes::Bytes;
 use std::alloc::Global;
 
 /// A call that was answered other than for want of memory.

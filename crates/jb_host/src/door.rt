@@ -1,6 +1,6 @@
 //! The trait of a door.
 ghost use Rattle.std.specs.Prelude.{◌≡◌, IsErr, IfOk, OnErr};
-ghost use Rattle.jb_base.specs.Fault.{HasCause};
+ghost use Rattle.jb_bytes.specs.Fault.{HasCause};
 ghost use Rattle.jb_host.specs.Gate.{Accepts, FailsToGive, Gate, HangsUp};
 
 use crate::Link;

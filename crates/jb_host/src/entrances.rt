@@ -3,7 +3,7 @@ ghost use Rattle.std.specs.Prelude.{◌≡◌, ◌+◌, ◌≤◌, ℕ, [], ◌�
 
 use crate::handed_out::{HandedOut, entry_of, put_at};
 use crate::memory_door::MemDoor;
-use jb_base::OutOfMemory;
+use jb_bytes::OutOfMemory;
 use std::alloc::Global;
 
 /// The doors that wait to be handed out, in order, and those that were, the last one first. It keeps a place for each that waits.

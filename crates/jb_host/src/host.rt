@@ -6,7 +6,7 @@ ghost use Rattle.jb_host.specs.Desk.{Desk, GivesBell, GivesDisk, GivesDoor, Give
 ghost use Rattle.jb_host.specs.Desk.{asked_bell, asked_disk, asked_door, asked_settings};
 
 use crate::{Bell, Clock, Door, Link};
-use jb_base::{Bytes, OutOfMemory};
+use jb_bytes::{Bytes, OutOfMemory};
 use jb_disk::Disk;
 
 /// Why a host did not do it. Its disks, its settings, its doors, its bell and its console are as before.

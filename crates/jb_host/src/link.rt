@@ -1,7 +1,7 @@
 //! The trait of a link.
 ghost use Rattle.std.specs.Prelude.{◌≡◌, ◌<◌, ◌≤◌, ℕ, List, [], Option, Ok, IsErr, IfOk, OnOk, OnErr, length, take};
 ghost use Rattle.std.specs.Option.{ForSome};
-ghost use Rattle.jb_base.specs.Fault.{HasCause, Rose};
+ghost use Rattle.jb_bytes.specs.Fault.{HasCause, Rose};
 ghost use Rattle.jb_host.specs.Wire.{Wire, Takes, Sends};
 
 /// The link did not do it; its count of faults rose.

@@ -3,7 +3,7 @@ ghost use Rattle.std.specs.Prelude.{◌≡◌, ◌+◌, ◌-◌, ◌<◌, ◌≤
 
 use crate::failing::Failing;
 use crate::link::{Link, LinkFailed};
-use jb_base::Bytes;
+use jb_bytes::Bytes;
 use std::alloc::Global;
 
 /// A link with an input that is there from the start, and an output that is kept. It fails the calls whose numbers, from 1,

@@ -4,7 +4,7 @@ ghost use Rattle.std.specs.Prelude.{◌≡◌, ◌+◌, ◌-◌, ◌≤◌, ℕ,
 use crate::door::{Accepted, Door, DoorFailed};
 use crate::failing::Failing;
 use crate::memory::MemLink;
-use jb_base::OutOfMemory;
+use jb_bytes::OutOfMemory;
 use std::alloc::Global;
 
 /// A door that gives its links in order and is then shut, and keeps those that are hung up. It fails the calls of `accept` whose

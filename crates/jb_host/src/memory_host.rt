@@ -14,7 +14,7 @@ use crate::memory_bell::MemBell;
 use crate::memory_door::MemDoor;
 use crate::page::{Page, copy_at};
 use crate::shelf::{Shelf, put_on, shelf_at, take_from};
-use jb_base::{Bytes, OutOfMemory};
+use jb_bytes::{Bytes, OutOfMemory};
 use jb_disk::MemDisk;
 use std::alloc::Global;
 

@@ -3,7 +3,7 @@ ghost use Rattle.std.specs.Prelude.{◌≡◌, IfErr, IfNone, IfOk, IfSome, None
 ghost use Rattle.jb_host.specs.Shelves.{written};
 
 use crate::host::HostError;
-use jb_base::Bytes;
+use jb_bytes::Bytes;
 use std::alloc::Global;
 
 /// A settings file.

@@ -1,6 +1,6 @@
 //! The sending of a whole text.
 ghost use Rattle.std.specs.Prelude.{◌≡◌, ℕ, List, OnOk, OnErr};
-ghost use Rattle.jb_base.specs.Fault.{HasCause};
+ghost use Rattle.jb_bytes.specs.Fault.{HasCause};
 ghost use Rattle.jb_host.specs.Wire.{Begins, Sends};
 
 use crate::{Link, LinkFailed};

@@ -4,7 +4,7 @@ ghost use Rattle.jb_disk.specs.Memory.{device_of};
 ghost use Rattle.jb_host.specs.Desk.{handed_out, has_disk, with_place};
 ghost use Rattle.jb_host.specs.Shelves.{IsAt, shelved};
 
-use jb_base::Bytes;
+use jb_bytes::Bytes;
 use jb_disk::MemDisk;
 
 /// A place for the disk of one base.

@@ -2,7 +2,7 @@
 use Rattle.std.proofs.Common.{◌≡◌, inl, inr, refl, Option, Some, None, Result, Ok, Err, ℕ, ◌+◌, ◌≤◌, List, length, drop, ◌∙◌, arith, length-take, length-drop}
 use Rattle.std.specs.Prelude.{◌⊎◌, OnErr}
 use Rattle.std.specs.Option.{ForSome}
-use Rattle.jb_base.specs.Fault.{Rose}
+use Rattle.jb_bytes.specs.Fault.{Rose}
 use Rattle.jb_disk.specs.Files.{Files}
 use Rattle.jb_disk.specs.declared.file.FileId.{FileId}
 use Rattle.jb_disk.specs.Device.{Device, IsPast, OnlyReads}

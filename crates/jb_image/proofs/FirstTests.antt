@@ -1,7 +1,7 @@
 -- A test is the first that fails where those before it are passed.
 use Rattle.std.proofs.Common.{◌≡◌, ℕ, ◌+◌, ◌<◌, ◌≤◌, List, length, ap, sym, ◌∙◌, subst, arith}
-use Rattle.jb_base.specs.Subfields.{IsCutAt, IsSubfieldList}
-use Rattle.jb_base.specs.declared.limits.TheConstants.{MOST_SUBFIELD_BYTES}
+use Rattle.jb_bytes.specs.Subfields.{IsCutAt, IsSubfieldList}
+use Rattle.jb_limits.specs.declared.limits.TheConstants.{MOST_SUBFIELD_BYTES}
 use Rattle.jb_disk.specs.Files.{Files}
 use Rattle.jb_disk.specs.declared.file.FileId.TheVariants.{Jhr}
 use Rattle.jb_model.specs.Sound.{IsWithin}

@@ -1,6 +1,6 @@
 -- How long the records of a base are, and what shape they have.
 use Rattle.std.proofs.Common.{◌≡◌, ℕ, length, refl, arith, length-append}
-use Rattle.jb_base.specs.Subfields.{subfield_bytes}
+use Rattle.jb_bytes.specs.Subfields.{subfield_bytes}
 use Rattle.jb_image.specs.Records.{message_bytes, numbered_header}
 use Rattle.jb_model.specs.Loaded.{header_size}
 use Rattle.jb_model.specs.declared.loaded.LoadedMessage.{LoadedMessage}

@@ -2,7 +2,7 @@
 use Rattle.std.proofs.Common.{◌≡◌, ℕ, ◌+◌, ◌<◌, Option, Some, None, Result, Ok, Err, ap, sym, ◌∙◌, subst}
 use Rattle.std.specs.Prelude.{IfErr, IfNone, IfSome, IsErrAnd}
 use Rattle.std.specs.Option.{ForSome}
-use Rattle.jb_base.specs.Fault.{Rose}
+use Rattle.jb_bytes.specs.Fault.{Rose}
 use Rattle.jb_disk.specs.Files.{Files}
 use Rattle.jb_image.specs.declared.error.Damage.{Damage}
 use Rattle.jb_image.specs.declared.error.Damage.TheVariants as damaged

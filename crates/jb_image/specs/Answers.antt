@@ -1,7 +1,7 @@
 -- What the opening of a base answers, and why.
 use Rattle.std.specs.Prelude.{◌≡◌, ◌⊎◌, ℕ, ◌+◌, ◌<◌, ◌≤◌, length, Result, Ok, Err}
-use Rattle.jb_base.specs.Fault.{Rose}
-use Rattle.jb_base.specs.Subfields.{IsCutAt}
+use Rattle.jb_bytes.specs.Fault.{Rose}
+use Rattle.jb_bytes.specs.Subfields.{IsCutAt}
 use Rattle.jb_disk.specs.Files.{Files}
 use Rattle.jb_model.specs.declared.loaded.Loaded.{Loaded}
 use Rattle.jb_record.specs.declared.index.IndexRecord.{IndexRecord}

@@ -2,9 +2,9 @@
 use Rattle.std.specs.Prelude.{◌≡◌, ◌≢◌, ℕ, ◌+◌, ◌*◌, ◌/◌, ◌%◌, ◌<◌, ◌≤◌, IsTrue, List, length, slice_index_or, map, Option, Some, None}
 use Rattle.std.specs.BTreeSet.{BTreeSet, contains}
 use Rattle.std.specs.Ordering.{nat_cmp}
-use Rattle.jb_base.specs.declared.limits.TheConstants.{LASTREAD_CEILING, MOST_SUBFIELD_BYTES}
-use Rattle.jb_base.specs.declared.subfield.Subfield.{Subfield}
-use Rattle.jb_base.specs.Subfields.{IsCutAt, IsSubfieldList, subfield_bytes}
+use Rattle.jb_limits.specs.declared.limits.TheConstants.{LASTREAD_CEILING, MOST_SUBFIELD_BYTES}
+use Rattle.jb_bytes.specs.declared.subfield.Subfield.{Subfield}
+use Rattle.jb_bytes.specs.Subfields.{IsCutAt, IsSubfieldList, subfield_bytes}
 use Rattle.jb_disk.specs.Files.{Files}
 use Rattle.jb_disk.specs.declared.file.FileId.TheVariants.{Jhr}
 use Rattle.jb_image.specs.Extents.{Holds, IsFirstOverlap}

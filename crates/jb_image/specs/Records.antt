@@ -1,6 +1,6 @@
 -- The records of a base, as its files have an area (JAM, "Header file", "Message header", "Index file", "Lastread file").
 use Rattle.std.specs.Prelude.{◌≡◌, ℕ, List, ◌++◌, length}
-use Rattle.jb_base.specs.Subfields.{subfield_bytes}
+use Rattle.jb_bytes.specs.Subfields.{subfield_bytes}
 use Rattle.jb_image.specs.Stands.{fixed_of, mark_record}
 use Rattle.jb_model.specs.declared.loaded.Loaded.{Loaded}
 use Rattle.jb_model.specs.declared.loaded.LoadedMessage.{LoadedMessage}

@@ -1,7 +1,7 @@
 -- What the files of a JAM base stand for.
 use Rattle.std.specs.Prelude.{◌≡◌, ◌≢◌, ℕ, ◌+◌, ◌*◌, ◌<◌, ◌≤◌, length, slice_index_or, AllPairs, bit_and}
-use Rattle.jb_base.specs.declared.limits.TheConstants.{MOST_MARKS, MOST_SUBFIELD_BYTES}
-use Rattle.jb_base.specs.Subfields.{IsSubfieldList}
+use Rattle.jb_limits.specs.declared.limits.TheConstants.{MOST_MARKS, MOST_SUBFIELD_BYTES}
+use Rattle.jb_bytes.specs.Subfields.{IsSubfieldList}
 use Rattle.jb_disk.specs.Files.{Files}
 use Rattle.jb_disk.specs.declared.file.FileId.TheVariants.{Jhr, Jdt, Jdx, Jlr}
 use Rattle.jb_model.specs.Sound.{AreApart, IsWithin, IsTextWithin}

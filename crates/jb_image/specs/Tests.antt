@@ -1,9 +1,9 @@
 -- The tests that a base passes before it is opened, each in its place in their order.
 use Rattle.std.specs.Prelude.{◌≡◌, ◌≢◌, ℕ, ◌+◌, ◌/◌, ◌%◌, ◌<◌, ◌≤◌, List, length, take, bit_and}
-use Rattle.jb_base.specs.Number.{number_at}
-use Rattle.jb_base.specs.Subfields.{IsSubfieldList}
-use Rattle.jb_base.specs.declared.limits.TheConstants.{LASTREAD_CEILING, MOST_SUBFIELD_BYTES}
-use Rattle.jb_base.specs.declared.subfield.Subfield.{Subfield}
+use Rattle.jb_bytes.specs.Number.{number_at}
+use Rattle.jb_bytes.specs.Subfields.{IsSubfieldList}
+use Rattle.jb_limits.specs.declared.limits.TheConstants.{LASTREAD_CEILING, MOST_SUBFIELD_BYTES}
+use Rattle.jb_bytes.specs.declared.subfield.Subfield.{Subfield}
 use Rattle.jb_disk.specs.Files.{Files}
 use Rattle.jb_disk.specs.declared.file.FileId.TheVariants.{Jhr, Jdt, Jdx, Jlr}
 use Rattle.jb_model.specs.Sound.{IsWithin, IsTextWithin}

@@ -1,7 +1,7 @@
 //! The second look at a slot: the subfields of a live message, and the place of its text.
 ghost use Rattle.std.specs.Prelude.{◌≡◌, ◌+◌, ◌≤◌, IfOk, IfErr, length, OnOk};
 ghost use Rattle.std.specs.Option.{ForSome};
-ghost use Rattle.jb_base.specs.Subfields.{IsSubfieldList, subfield_bytes};
+ghost use Rattle.jb_bytes.specs.Subfields.{IsSubfieldList, subfield_bytes};
 ghost use Rattle.jb_disk.specs.Device.{OnlyReads};
 ghost use Rattle.jb_disk.specs.declared.file.FileId.TheVariants.{Jhr as headers_file};
 ghost use Rattle.jb_model.specs.Sound.{IsTextWithin};

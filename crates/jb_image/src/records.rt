@@ -1,8 +1,8 @@
 //! The records of a base as an area has them: the way back from what is read (JAM, "Header file", "Message header",
 //! "SubFields", "Index file", "Lastread file").
 ghost use Rattle.std.specs.Prelude.{◌≡◌, ◌≤◌, All, IfOk, OnOk, length};
-ghost use Rattle.jb_base.specs.Subfields.{IsSubfield, subfield_bytes};
-ghost use Rattle.jb_base.specs.declared.limits.TheConstants.{MOST_SUBFIELD_BYTES};
+ghost use Rattle.jb_bytes.specs.Subfields.{IsSubfield, subfield_bytes};
+ghost use Rattle.jb_limits.specs.declared.limits.TheConstants.{MOST_SUBFIELD_BYTES};
 ghost use Rattle.jb_image.specs.Records.{IsEntryReadAgain, IsHeaderReadAgain, IsMarkReadAgain, message_bytes, numbered_header, with_fields};
 ghost use Rattle.jb_image.specs.Stands.{fixed_of, mark_record};
 ghost use Rattle.jb_model.specs.Loaded.{header_size};

@@ -1,7 +1,7 @@
 //! A window on a file: its bytes, read in large pieces and looked into.
 ghost use Rattle.std.specs.Prelude.{◌≡◌, ◌+◌, ◌≤◌, ◌↔◌, IsTrue, IfErr, OnOk, OnErr, length, [], take, drop, vec_len};
 ghost use Rattle.std.specs.Option.{ForSome};
-ghost use Rattle.jb_base.specs.Fault.{Rose};
+ghost use Rattle.jb_bytes.specs.Fault.{Rose};
 ghost use Rattle.jb_disk.specs.Device.{OnlyReads};
 ghost use Rattle.jb_image.specs.Answers.{ReadFaultRose};
 ghost use Rattle.jb_image.specs.Places.{bytes_at};

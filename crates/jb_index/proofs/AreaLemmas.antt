@@ -7,8 +7,8 @@ use Rattle.std.proofs.lemmas.List.{length-map}
 use Rattle.std.proofs.lemmas.List.Elements.{filter_agree}
 use Rattle.std.proofs.lemmas.Slice.Eq.{bytes_eq-Decides}
 use Rattle.jb_base.specs.Access.{Envelope, is_party, is_sysop, is_visible}
-use Rattle.jb_base.specs.Name.{same_name}
-use Rattle.jb_base.specs.Subfields.{receiver_of, sender_of}
+use Rattle.jb_bytes.specs.Name.{same_name}
+use Rattle.jb_bytes.specs.Subfields.{receiver_of, sender_of}
 use Rattle.jb_base.specs.declared.area.AreaRules.{AreaRules}
 use Rattle.jb_base.specs.declared.area.Rule.TheVariants.{A1, A3}
 use Rattle.jb_base.specs.declared.attribute.TheConstants.{NODISP, PRIVATE}

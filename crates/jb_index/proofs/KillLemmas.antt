@@ -1,45 +1,33 @@
--- What a kill changes in the index of an area.
-use Rattle.std.proofs.Common.{◌≡◌, ◌≢◌, inl, inr, ℕ, zero, suc, ◌+◌, ◌-◌, ◌<◌, ◌≤◌, Bool, true, false, not, ◌&&◌, ◌==◌, cond, List, [], ◌∷◌, Option, Some, None, filter, find, map, get_or, slice_get, slice_set, refl, sym, ◌∙◌, ap, subst, arith, eq-eqb, ne_eqb, eqb-true}
-use Rattle.std.specs.Prelude.{All, is_some}
-use Rattle.std.proofs.lemmas.Bool.{eqb-false, false≢true}
+-- What a kill makes of the index of an area.
+use Rattle.std.proofs.Common.{◌≡◌, ◌≢◌, inl, inr, ℕ, zero, suc, ◌+◌, ◌<◌, ◌≤◌, Bool, true, false, not, ◌&&◌, ◌==◌, cond, List, [], ◌∷◌, Option, Some, None, filter, find, map, get_or, slice_get, slice_set, refl, sym, ◌∙◌, ap, subst, arith, eq-eqb, ne_eqb, eqb-true}
+use Rattle.std.specs.Prelude.{All}
+use Rattle.std.proofs.lemmas.Bool.{eqb-false}
 use Rattle.std.proofs.lemmas.List.{length-set}
 use Rattle.std.proofs.lemmas.List.Elements.{All-cons, All-filter, All-nil, filter_agree}
-use Rattle.jb_base.specs.Access.{first_refusal}
-use Rattle.jb_base.specs.declared.area.Action.TheVariants.{List as Listing, Kill as Killing}
 use Rattle.jb_base.specs.declared.area.AreaRules.{AreaRules}
-use Rattle.jb_base.specs.declared.user.User.{User}
-use Rattle.jb_model.specs.Answered.{Answered, counted, unless_denied, with_message}
-use Rattle.jb_model.specs.Kill.{kill_done, kill_step}
+use Rattle.jb_model.specs.Change.{HasMessageAt, after, killed_slot}
+use Rattle.jb_model.specs.LiveSlots.{linkables}
 use Rattle.jb_model.specs.Links.{Linkable, is_answered_by, is_kept_by, is_reply_to, linkable, linkables_of, number_or_0, parent_at, parent_for, parent_of, parent_or_0}
-use Rattle.jb_model.specs.Live.{Numbered, live_from, live_in, message_at, with_slot}
-use Rattle.jb_model.specs.Message.{envelope_of}
-use Rattle.jb_model.specs.Standing.{is_refusal}
+use Rattle.jb_model.specs.Live.{Numbered, live_from, live_in}
 use Rattle.jb_model.specs.State.{AreaState, LiveMessage, SlotState, killed_message, live_message, next_number, no_message, state_of}
-use Rattle.jb_model.specs.Step.{step}
-use Rattle.jb_model.specs.Visible.{visible_at}
-use Rattle.jb_model.specs.declared.command.Command.{Command}
-use Rattle.jb_model.specs.declared.command.Command.TheVariants.{Kill}
+use Rattle.jb_model.specs.declared.change.Change.TheVariants.{Killed}
 use Rattle.jb_model.specs.declared.loaded.Loaded.{Loaded}
 use Rattle.jb_model.specs.declared.mark.Mark.{Mark}
-use Rattle.jb_model.specs.declared.reply.Reply.{Reply}
-use Rattle.jb_model.specs.declared.reply.Reply.TheVariants.{Killed}
 use Rattle.jb_model.specs.declared.summary.Summary.{Summary}
 use Rattle.jb_model.proofs.RelinkLaws.{map-map}
 use Rattle.jb_model.proofs.ThreadLaws.{parent_is_lower}
 use Rattle.jb_link.specs.Orphans.{orphan_of, orphans_of, without_one}
-use Rattle.jb_link.specs.Slots.{IsLive}
 use Rattle.jb_link.specs.declared.orphans.Orphan.{Orphan}
-use Rattle.jb_link.proofs.LiveLemmas.{linkables_with_texts, live_at_place}
-use Rattle.jb_index.specs.Change.{FollowsStep, IsAnswer, IsLiveKill, edits_killing, edits_of_kill}
+use Rattle.jb_index.specs.Change.{Follows, edits_of_kill}
 use Rattle.jb_index.specs.Edit.{absorbed, changed_at, with_parent, without}
 use Rattle.jb_index.specs.Index.{index_of, summary_of, summary_with}
 use Rattle.jb_index.specs.declared.op.OpEdit.{OpEdit}
 use Rattle.jb_index.specs.declared.op.OpEdit.TheVariants.{Drop, Parent}
-use Rattle.jb_index.proofs.ChangeLemmas.{Ends, denied_ends, message_ends, seen_is_named}
+use Rattle.jb_index.proofs.ChangeLemmas.{changed_slots, follows, index_on, state_here, textless}
 use Rattle.jb_index.proofs.EditLemmas.{changed_none}
 use Rattle.jb_index.proofs.ListLemmas.{filter_all, filter_filter, filter_map}
 use Rattle.jb_index.proofs.MakingLemmas.{same_index}
-use Rattle.jb_index.proofs.SlotLemmas.{StandsAt, all_made, live_all, map_agree, numbered, others_behind, stands_at}
+use Rattle.jb_index.proofs.SlotLemmas.{all_made, live_all, map_agree, numbered, others_behind}
 
 -- the edit of an orphan, and the edits of a kill from its orphans
 abbrev pub edit_for_orphan : Orphan → OpEdit
@@ -191,17 +179,17 @@ answers_other live number one some = by (one.number == number) (parent_of live o
     by true false same differs = refl
     by false b other e = refl
 
--- a kill that is done
-kill_index : (rules : AreaRules) (state : AreaState) (number : ℕ) (message : LiveMessage) → 1 ≤ state.base → StandsAt state number message
-    → absorbed (index_of rules state) (edits_of_kill (linkables_of state) number) ≡ index_of rules (counted (with_slot state number killed_message))
-kill_index rules state number message above stands =
+-- a kill of the message at a place
+kill_index : (rules : AreaRules) (state : AreaState) (place number : ℕ) (message : LiveMessage) → 1 ≤ state.base → slice_get state.slots place ≡ Some (live_message message) → number ≡ state.base + place
+    → absorbed (index_of rules state) (edits_of_kill (linkables_of state) number) ≡ index_on rules state.marks state.base (slice_set state.slots place killed_message)
+kill_index rules state place number message above stands is =
     absorbs_parents (without number (map (summary_of L) (live_in state))) state.marks state.base (next_number state) rules parent (filter p L)
     ∙ same_index _ _ state.marks state.marks state.base _ _ rules rules
     (ap (parents_set parent (filter p L)) left
     ∙ ap (λ ones. parents_set parent ones (map (summary_of L) live')) answering
     ∙ sets_each p parent (summary_of L) (λ one. refl) state.base slots'
     ∙ map_agree (λ one. cond (p (linkable one)) (with_parent (parent (linkable one)) (summary_of L one)) (summary_of L one)) (summary_of (map linkable live')) live' each)
-    refl (ap (λ n. state.base + n) (sym (length-set state.slots (number - state.base) killed_message))) refl
+    refl (ap (λ n. state.base + n) (sym (length-set state.slots place killed_message))) refl
   where
     L : List Linkable
     L = linkables_of state
@@ -213,19 +201,16 @@ kill_index rules state number message above stands =
     parent one = parent_of (without_one number L) one
 
     slots' : List SlotState
-    slots' = slice_set state.slots (number - state.base) killed_message
+    slots' = slice_set state.slots place killed_message
 
     live' : List Numbered
     live' = live_from state.base slots'
 
-    place : number ≡ state.base + (number - state.base)
-    place = let from : state.base ≤ number = stands.from in omega arith
-
     some : 1 ≤ number
-    some = let from : state.base ≤ number = stands.from in omega arith
+    some = omega arith
 
     rest : live' ≡ filter (λ one. not (one.number == number)) (live_in state)
-    rest = killed_live (number - state.base) state.base number state.slots message stands.at place
+    rest = killed_live place state.base number state.slots message stands is
 
     links : without_one number L ≡ map linkable live'
     links = filter_map (λ (one : Linkable). not (one.number == number)) linkable (live_in state) ∙ ap (map linkable) (sym rest)
@@ -260,63 +245,14 @@ kill_index rules state number message above stands =
     each : All (λ one. cond (p (linkable one)) (with_parent (parent (linkable one)) (summary_of L one)) (summary_of L one) ≡ summary_of (map linkable live') one) live'
     each = λ k d within. same (get_or live' k d) (had k d within) (own_parent state.base slots' k d within)
 
--- a kill ends so
-pub kill_ends : (rules : AreaRules) (state : AreaState) (user : User) (number : ℕ)
-    → Ends (λ answered. (message : LiveMessage) × (visible_at rules user state number ≡ Some message) × (answered ≡ kill_done state number)) state (kill_step rules state user number)
-kill_ends rules state user number =
-    denied_ends D state (first_refusal user rules Listing None)
-    (with_message state number (visible_at rules user state number) (λ message. unless_denied state (first_refusal user rules Killing (Some (envelope_of message))) (kill_done state number)))
-    (message_ends D state number (visible_at rules user state number) (λ message. unless_denied state (first_refusal user rules Killing (Some (envelope_of message))) (kill_done state number))
-    (λ message seen. denied_ends D state (first_refusal user rules Killing (Some (envelope_of message))) (kill_done state number) (inr (message, seen, refl))))
-  where
-    D : Answered → Type 0
-    D answered = (message : LiveMessage) × (visible_at rules user state number ≡ Some message) × (answered ≡ kill_done state number)
-
--- the edits of a refused kill
-no_kill : (loaded : Loaded) (number : ℕ) (reply : Reply) → is_refusal reply ≡ true → edits_killing loaded number reply ≡ []
-no_kill loaded number (Killed killed) refuses = absurd (false≢true refuses)
-no_kill loaded number reply refuses = refl
-
 -- a kill
-pub kill_follows : (rules : AreaRules) (texts : List ℕ) (loaded : Loaded) (user : User) (number : ℕ) (reply : Reply) → 1 ≤ loaded.base
-    → (kill_step rules (state_of texts loaded) user number).reply ≡ reply
-    → absorbed (index_of rules (state_of texts loaded)) (edits_killing loaded number reply) ≡ index_of rules (kill_step rules (state_of texts loaded) user number).state
-kill_follows rules texts loaded user number reply above e =
-    subst (λ (r : Reply). absorbed (index_of rules (state_of texts loaded)) (edits_killing loaded number r) ≡ index_of rules (kill_step rules (state_of texts loaded) user number).state) e
-    (by (kill_step rules (state_of texts loaded) user number) (kill_ends rules (state_of texts loaded) user number))
-  where
-    by : (x : Answered)
-        → Ends (λ answered. (message : LiveMessage) × (visible_at rules user (state_of texts loaded) number ≡ Some message) × (answered ≡ kill_done (state_of texts loaded) number)) (state_of texts loaded) x
-        → absorbed (index_of rules (state_of texts loaded)) (edits_killing loaded number x.reply) ≡ index_of rules x.state
-    by x (inl (refuses, same)) =
-        ap (absorbed (index_of rules (state_of texts loaded))) (no_kill loaded number x.reply refuses) ∙ ap (index_of rules) (sym same)
-    by x (inr (message, seen, is)) =
-        subst (λ (y : Answered). absorbed (index_of rules (state_of texts loaded)) (edits_killing loaded number y.reply) ≡ index_of rules y.state) (sym is)
-        (ap (λ (live : List Linkable). absorbed (index_of rules (state_of texts loaded)) (edits_of_kill live number)) (sym (linkables_with_texts texts loaded.base loaded.slots))
-        ∙ kill_index rules (state_of texts loaded) number message above
-        (stands_at (state_of texts loaded) number message (seen_is_named rules user (state_of texts loaded) number message seen)))
+killed_index : (rules : AreaRules) (place : ℕ) (loaded : Loaded) → 1 ≤ loaded.base → HasMessageAt place loaded
+    → absorbed (index_of rules (state_of [] loaded)) (edits_of_kill (linkables [] loaded) (loaded.base + place)) ≡ index_of rules (state_of [] (after (Killed place) loaded))
+killed_index rules place loaded above stands =
+    kill_index rules (state_of [] loaded) place (loaded.base + place) (textless stands.message) above (state_here loaded place stands.message stands.here) refl
+    ∙ ap (index_on rules loaded.marks loaded.base) (sym (changed_slots killed_slot loaded place stands.message stands.here))
 
--- what was killed is live
-pub killed_is_live : (rules : AreaRules) (texts : List ℕ) (loaded : Loaded) (user : User) (number : ℕ) (reply : Reply) → (kill_step rules (state_of texts loaded) user number).reply ≡ reply → IsLiveKill loaded number reply
-killed_is_live rules texts loaded user number (Killed killed) e = by (kill_ends rules (state_of texts loaded) user number)
-  where
-    by : Ends (λ answered. (message : LiveMessage) × (visible_at rules user (state_of texts loaded) number ≡ Some message) × (answered ≡ kill_done (state_of texts loaded) number)) (state_of texts loaded)
-        (kill_step rules (state_of texts loaded) user number) → IsLive loaded number
-    by (inl (refuses, same)) = absurd (false≢true (ap is_refusal (sym e) ∙ refuses))
-    by (inr (message, seen, is)) =
-        let named : message_at (state_of texts loaded) number ≡ Some message = seen_is_named rules user (state_of texts loaded) number message seen in
-        let from : loaded.base ≤ number = (stands_at (state_of texts loaded) number message named).from in
-        sym (live_at_place [] loaded number from) ∙ live_at_place texts loaded number from ∙ ap is_some named
-killed_is_live rules texts loaded user number reply e = tt
-
--- the kill that was answered so
-pub kill_is_live : (rules : AreaRules) (loaded : Loaded) (user : User) (moment number : ℕ) (command : Command) (reply : Reply) → command ≡ Kill number → IsAnswer rules loaded user moment command reply
-    → IsLiveKill loaded number reply
-kill_is_live rules loaded user moment number command reply is (texts, e) =
-    killed_is_live rules texts loaded user number reply (ap (λ (c : Command). (step rules (state_of texts loaded) user moment c).reply) (sym is) ∙ e)
-
--- the edits of a kill make of the index what the kill makes of the area
-pub kill_edits : (rules : AreaRules) (loaded : Loaded) (user : User) (moment number : ℕ) (command : Command) (reply : Reply) → command ≡ Kill number → 1 ≤ loaded.base
-    → FollowsStep rules loaded user moment command reply (edits_killing loaded number reply)
-kill_edits rules loaded user moment number command reply is above =
-    subst (λ (c : Command). FollowsStep rules loaded user moment c reply (edits_killing loaded number reply)) (sym is) (λ texts e. kill_follows rules texts loaded user number reply above e)
+-- so a kill drops one summary and gives others their parents
+pub killed_follows : (place : ℕ) (loaded : Loaded) → Follows (Killed place) loaded (edits_of_kill (linkables [] loaded) (loaded.base + place))
+killed_follows place loaded =
+    follows (Killed place) loaded (edits_of_kill (linkables [] loaded) (loaded.base + place)) (λ rules sound fits. killed_index rules place loaded sound.base fits)

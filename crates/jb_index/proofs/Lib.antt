@@ -8,5 +8,5 @@ pub mod SlotLemmas
 pub mod ChangeLemmas
 pub mod PostLemmas
 pub mod KillLemmas
-pub mod StepLemmas
+pub mod RelinkLemmas
 mod StandardFacts

@@ -2,15 +2,15 @@
 use Rattle.std.proofs.Common.{◌≡◌, ℕ, zero, suc, ◌+◌, ◌<◌, ◌≤◌, ◌==◌, Bool, true, false, cond, List, [], ◌∷◌, ◌++◌, Option, Some, filter, find, map, length, take, get_or, slice_get, length-append, length-take, append-nil, refl, sym, ◌∙◌, ap, subst, arith}
 use Rattle.std.specs.Prelude.{unwrap_or, All}
 use Rattle.std.proofs.lemmas.List.Elements.{All-get_or, filter-append}
-use Rattle.jb_base.specs.declared.limits.TheConstants.{MOST_SUBFIELD_BYTES}
+use Rattle.jb_limits.specs.declared.limits.TheConstants.{MOST_SUBFIELD_BYTES}
 use Rattle.jb_index.specs.Making.{HasFewBytes}
 use Rattle.std.specs.Option.{option_map}
 use Rattle.std.proofs.lemmas.Bool.{cond_both}
 use Rattle.std.proofs.lemmas.Grind.{take_at_read}
 use Rattle.std.proofs.lemmas.Option.{get_or_from_slice_get, slice_get-get_or, slice_get-map, slice_get_within}
-use Rattle.jb_base.specs.Number.{number_bytes}
-use Rattle.jb_base.specs.Subfields.{first_of, one_subfield, subfield_bytes}
-use Rattle.jb_base.specs.declared.subfield.Subfield.{Subfield}
+use Rattle.jb_bytes.specs.Number.{number_bytes}
+use Rattle.jb_bytes.specs.Subfields.{first_of, one_subfield, subfield_bytes}
+use Rattle.jb_bytes.specs.declared.subfield.Subfield.{Subfield}
 use Rattle.jb_model.specs.Links.{Linkable, linkables_of, parent_at, parent_of}
 use Rattle.jb_model.specs.Live.{live_from, live_in}
 use Rattle.jb_model.specs.State.{slot_state, state_of}
@@ -24,7 +24,7 @@ use Rattle.jb_model.specs.declared.loaded.LoadedSlot.TheVariants.{Empty, Killed,
 use Rattle.jb_model.specs.declared.short.Short.{Short}
 use Rattle.jb_model.specs.declared.summary.Summary.{Summary}
 use Rattle.jb_index.specs.Index.{AreaIndex, summary_of, summary_with}
-use Rattle.jb_link.specs.Slots.{linkables_from, loaded_linkable}
+use Rattle.jb_model.specs.LiveSlots.{linkables_from, loaded_linkable}
 use Rattle.jb_link.proofs.LiveLemmas.{linkables_with_texts}
 use Rattle.jb_link.proofs.ParentLemmas.{parent_of_message}
 

@@ -1,12 +1,9 @@
 -- Live messages of slots, one of which is another now.
-use Rattle.std.proofs.Common.{◌≡◌, ℕ, zero, suc, ◌+◌, ◌-◌, ◌<◌, ◌≤◌, nat_lt, Bool, true, false, ◌==◌, cond, List, [], ◌∷◌, ◌++◌, Option, Some, None, map, length, slice_get, slice_set, refl, sym, ◌∙◌, ap, arith, eq-eqb, ne_eqb}
-use Rattle.std.specs.Prelude.{All, option_map}
-use Rattle.std.proofs.lemmas.Bool.{ltb-false}
-use Rattle.std.proofs.lemmas.List.{length-set}
+use Rattle.std.proofs.Common.{◌≡◌, ℕ, zero, suc, ◌+◌, ◌<◌, ◌≤◌, true, false, ◌==◌, List, [], ◌∷◌, ◌++◌, Some, map, length, slice_get, slice_set, refl, sym, ◌∙◌, ap, arith, eq-eqb, ne_eqb}
+use Rattle.std.specs.Prelude.{All}
 use Rattle.std.proofs.lemmas.List.Elements.{All-cons, All-nil}
-use Rattle.jb_model.specs.Live.{Numbered, live_from, live_of, message_at}
-use Rattle.jb_model.specs.Post.{slots_with}
-use Rattle.jb_model.specs.State.{AreaState, LiveMessage, SlotState, killed_message, live_message, no_message}
+use Rattle.jb_model.specs.Live.{Numbered, live_from}
+use Rattle.jb_model.specs.State.{LiveMessage, SlotState, killed_message, live_message, no_message}
 use Rattle.jb_model.specs.declared.summary.Summary.{Summary}
 use Rattle.jb_index.specs.Edit.{changed_at}
 use Rattle.jb_index.proofs.EditLemmas.{changed_none}
@@ -102,43 +99,3 @@ changed_set f keeps change (suc k) base number (live_message first ∷ slots) me
     let head : (f (numbered base first)).number ≡ base = keeps (numbered base first) in
     let other : ((f (numbered base first)).number == number) ≡ false = ne_eqb _ _ (λ same. omega arith) in
     rw other (ap (λ l. f (numbered base first) ∷ l) (changed_set f keeps change k (base + 1) number slots message changed at (omega arith) made))
-
--- a live message that a number names stands at its place
-pub record StandsAt (state : AreaState) (number : ℕ) (message : LiveMessage) : Type 0 where
-  pub from : state.base ≤ number
-  pub at : slice_get state.slots (number - state.base) ≡ Some (live_message message)
-
--- what a slot has that has a live message
-slot_is : (slot : Option SlotState) (message : LiveMessage) → live_of slot ≡ Some message → slot ≡ Some (live_message message)
-slot_is None message e = cc
-slot_is (Some no_message) message e = cc
-slot_is (Some killed_message) message e = cc
-slot_is (Some (live_message one)) message e = let same : one ≡ message = cc in ap (λ m. Some (live_message m)) same
-
--- a live message stands at its place
-pub stands_at : (state : AreaState) (number : ℕ) (message : LiveMessage) → message_at state number ≡ Some message → StandsAt state number message
-stands_at state number message e = by (nat_lt number state.base) refl e
-  where
-    by : (b : Bool) → nat_lt number state.base ≡ b → cond b None (live_of (slice_get state.slots (number - state.base))) ≡ Some message → StandsAt state number message
-    by true below is = cc
-    by false from is = record { from = ltb-false _ _ from; at = slot_is (slice_get state.slots (number - state.base)) message is }
-
--- another link of the message that a number names is nothing on which this rests
-pub mapped_link : {X : Type 0} (f : Numbered → X) (change : LiveMessage → LiveMessage) (state : AreaState) (number : ℕ)
-    → ((n : ℕ) (message : LiveMessage) → f (numbered n (change message)) ≡ f (numbered n message))
-    → map f (live_from state.base (slots_with state number (option_map change (message_at state number)))) ≡ map f (live_from state.base state.slots)
-mapped_link f change state number same = by (message_at state number) refl
-  where
-    by : (found : Option LiveMessage) → message_at state number ≡ found
-        → map f (live_from state.base (slots_with state number (option_map change found))) ≡ map f (live_from state.base state.slots)
-    by None e = refl
-    by (Some message) e =
-        mapped_set f (number - state.base) state.base state.slots message (change message) (stands_at state number message e).at (λ n. same n message)
-
--- and takes no further slot
-pub length-link : (change : LiveMessage → LiveMessage) (state : AreaState) (number : ℕ) → length (slots_with state number (option_map change (message_at state number))) ≡ length state.slots
-length-link change state number = by (message_at state number)
-  where
-    by : (found : Option LiveMessage) → length (slots_with state number (option_map change found)) ≡ length state.slots
-    by None = refl
-    by (Some message) = length-set state.slots (number - state.base) (live_message (change message))

@@ -1,8 +1,8 @@
 -- The answers of an index: filters of its summaries.
 use Rattle.std.specs.Prelude.{ℕ, nat_le, nat_lt, Bool, List, [], Option, filter, length, option_map, take, unwrap_or, if◌then◌else◌}
 use Rattle.jb_base.specs.Access.{Envelope, is_visible}
-use Rattle.jb_base.specs.Crc.{jam_crc_of}
-use Rattle.jb_base.specs.Name.{same_name}
+use Rattle.jb_bytes.specs.Crc.{jam_crc_of}
+use Rattle.jb_bytes.specs.Name.{same_name}
 use Rattle.jb_base.specs.declared.area.AreaRules.{AreaRules}
 use Rattle.jb_base.specs.declared.user.User.{User}
 use Rattle.jb_index.specs.Index.{AreaIndex}

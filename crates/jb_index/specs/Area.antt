@@ -1,7 +1,7 @@
 -- The same answers said of an area as its users see it, with no index.
 use Rattle.std.specs.Prelude.{ℕ, nat_le, ◌==◌, List, [], filter, is_some, length, map, take, if◌then◌else◌}
-use Rattle.jb_base.specs.Name.{same_name}
-use Rattle.jb_base.specs.Subfields.{receiver_of}
+use Rattle.jb_bytes.specs.Name.{same_name}
+use Rattle.jb_bytes.specs.Subfields.{receiver_of}
 use Rattle.jb_base.specs.declared.area.AreaRules.{AreaRules}
 use Rattle.jb_base.specs.declared.user.User.{User}
 use Rattle.jb_index.specs.Index.{summary_of}

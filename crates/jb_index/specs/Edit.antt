@@ -1,6 +1,6 @@
 -- What an op makes of an index.
 use Rattle.std.specs.Prelude.{ℕ, ◌+◌, ◌==◌, ◌||◌, max, min, nat_le, nat_lt, Bool, not, List, [], ◌∷◌, ◌++◌, filter, find, is_some, length, map, if◌then◌else◌}
-use Rattle.jb_base.specs.declared.limits.TheConstants.{MOST_MARKS}
+use Rattle.jb_limits.specs.declared.limits.TheConstants.{MOST_MARKS}
 use Rattle.jb_index.specs.Index.{AreaIndex}
 use Rattle.jb_index.specs.declared.op.OpEdit.{OpEdit}
 use Rattle.jb_index.specs.declared.op.OpEdit.TheVariants.{Put, Drop, Parent, Attribute, Base, Mark as Marking, Reset}

@@ -1,8 +1,8 @@
 -- What an index of an area has: a line for each live message, the marks, two numbers and the rules.
 use Rattle.std.specs.Prelude.{ℕ, List, map}
-use Rattle.jb_base.specs.Subfields.{receiver_of, sender_of}
+use Rattle.jb_bytes.specs.Subfields.{receiver_of, sender_of}
 use Rattle.jb_base.specs.declared.area.AreaRules.{AreaRules}
-use Rattle.jb_base.specs.declared.subfield.Subfield.{Subfield}
+use Rattle.jb_bytes.specs.declared.subfield.Subfield.{Subfield}
 use Rattle.jb_model.specs.Links.{Linkable, linkables_of, parent_at, parent_of}
 use Rattle.jb_model.specs.Live.{Numbered, live_in}
 use Rattle.jb_model.specs.Message.{subject_of}

@@ -1,6 +1,6 @@
 -- How an index is held.
 use Rattle.std.specs.Prelude.{◌≡◌, ◌+◌, ◌≤◌, length}
-use Rattle.jb_base.specs.declared.limits.TheConstants.{MOST_MARKS}
+use Rattle.jb_limits.specs.declared.limits.TheConstants.{MOST_MARKS}
 use Rattle.jb_index.specs.Cut.{NumbersRise}
 use Rattle.jb_index.specs.Index.{AreaIndex}
 use Rattle.jb_index.specs.declared.index.Index.TheInside.{Inside}

@@ -1,8 +1,8 @@
 -- Slots of which summaries are made.
 use Rattle.std.specs.Prelude.{ℕ, ◌≤◌, ◌&&◌, Bool, List, [], length, map, nat_lt}
-use Rattle.jb_base.specs.Subfields.{subfield_bytes}
+use Rattle.jb_bytes.specs.Subfields.{subfield_bytes}
 use Rattle.jb_base.specs.declared.area.AreaRules.{AreaRules}
-use Rattle.jb_base.specs.declared.limits.TheConstants.{MOST_SUBFIELD_BYTES}
+use Rattle.jb_limits.specs.declared.limits.TheConstants.{MOST_SUBFIELD_BYTES}
 use Rattle.jb_base.specs.declared.user.User.{User}
 use Rattle.jb_index.specs.Answer.{is_listed}
 use Rattle.jb_index.specs.Index.{summary_of}

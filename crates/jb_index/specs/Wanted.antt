@@ -1,6 +1,6 @@
 -- Which summaries a question asks for.
 use Rattle.std.specs.Prelude.{Bool, true, nat_lt}
-use Rattle.jb_base.specs.Name.{same_name}
+use Rattle.jb_bytes.specs.Name.{same_name}
 use Rattle.jb_base.specs.declared.user.User.{User}
 use Rattle.jb_index.specs.Answer.{name_in}
 use Rattle.jb_index.specs.declared.shown.Wanted.{Wanted}

@@ -1,10 +1,10 @@
 //! A count over an area as it is loaded, for which no index is made.
 ghost use Rattle.std.specs.Prelude.{◌≡◌, ◌+◌, ◌≤◌, ◌&&◌, ℕ, List, [], ◌∷◌, All, filter, length, map};
-ghost use Rattle.jb_base.specs.Crc.{jam_crc_of};
+ghost use Rattle.jb_bytes.specs.Crc.{jam_crc_of};
 ghost use Rattle.jb_index.specs.Answer.{last_of, unread_to};
 ghost use Rattle.jb_index.specs.Index.{index_of};
 ghost use Rattle.jb_index.specs.Making.{HasFewBytes, is_unread, slots_listed};
-ghost use Rattle.jb_link.specs.Slots.{linkables_from};
+ghost use Rattle.jb_model.specs.LiveSlots.{linkables_from};
 ghost use Rattle.jb_model.specs.Links.{Linkable};
 ghost use Rattle.jb_model.specs.Marks.{mark_of};
 ghost use Rattle.jb_model.specs.Sound.{IsSound};

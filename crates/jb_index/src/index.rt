@@ -1,6 +1,6 @@
 //! The index of an area.
 ghost use Rattle.std.specs.Prelude.{◌≡◌, ◌+◌, ◌≤◌, ℕ, [], List, IfOk, length, map, take};
-ghost use Rattle.jb_base.specs.declared.limits.TheConstants.{MOST_MARKS};
+ghost use Rattle.jb_limits.specs.declared.limits.TheConstants.{MOST_MARKS};
 ghost use Rattle.jb_index.specs.Answer.{answer_to, figures_to, first_from, last_of, high_of, listed_to, mark_in, received_by, thread_to, unread_to};
 ghost use Rattle.jb_index.specs.Edit.{absorbed, edited};
 ghost use Rattle.jb_index.specs.Index.{index_of, parents_in};

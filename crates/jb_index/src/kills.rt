@@ -1,14 +1,14 @@
-//! What a kill changes in the index: the message goes, and those that answered it have another parent or none.
+//! What a kill makes of the index: the message goes, and those that answered it have another parent or none.
 ghost use Rattle.std.specs.Prelude.{◌≡◌, ◌+◌, ◌≤◌, ◌++◌, [], IfOk, OnOk, length, map};
-ghost use Rattle.jb_index.specs.Change.{IsLiveKill, edits_killing, edits_of_kill};
+ghost use Rattle.jb_index.specs.Change.{edits_of_kill};
 ghost use Rattle.jb_index.specs.declared.op.OpEdit.TheVariants.{Parent};
 ghost use Rattle.jb_link.specs.Index.{IsIndexOf};
-ghost use Rattle.jb_link.specs.Slots.{IsLive, linkables};
+ghost use Rattle.jb_model.specs.LiveSlots.{IsLive, linkables};
 
 use crate::{Op, OpEdit};
 use jb_base::OutOfMemory;
 use jb_link::{Orphan, Replies};
-use jb_model::{Loaded, Reply};
+use jb_model::Loaded;
 use std::alloc::Global;
 
 /// Puts the edits of these behind the others.
@@ -25,7 +25,7 @@ fn put_parents(op: &mut Op, orphans: &[Orphan]) -> Result<(), OutOfMemory>
 }
 
 /// The edits of a kill of this live message: its own, and one for each message that answers it.
-fn edits_of(
+pub(crate) fn killed(
     alloc: Global,
     loaded: &Loaded,
     replies: &Replies,
@@ -42,24 +42,4 @@ fn edits_of(
     op.push(OpEdit::Drop { number })?;
     put_parents(&mut op, &orphans)?;
     Ok(op)
-}
-
-/// The edits of a kill that was answered so.
-pub(crate) fn killed(
-    alloc: Global,
-    loaded: &Loaded,
-    replies: &Replies,
-    number: u32,
-    reply: &Reply,
-) -> Result<Op, OutOfMemory>
-    requires index { IsIndexOf replies.now loaded.now }
-    requires base { 1 ≤ loaded.now.base }
-    requires numbers { loaded.now.base + length loaded.now.slots ≤ 4_294_967_295 }
-    requires live { IsLiveKill loaded.now number reply.now }
-    ensures { IfOk result (λ op. op ≡ edits_killing loaded.now number reply.now) }
-{
-    match reply {
-        Reply::Killed { .. } => edits_of(alloc, loaded, replies, number),
-        _ => Ok(Op::new(alloc)),
-    }
 }

@@ -7,10 +7,10 @@
 //! answer is what the area itself shows ([`answers_of_the_area`]). [`unread_in`] counts what a user has not read without an
 //! index.
 //!
-//! An index is made once and then follows its area: [`Op::of`] says what a call that was answered changes, from the area
-//! as it is loaded before the call and the index of its replies (`jb_link`), and [`Index::absorb`] makes the index of the area after it of that before it. An op
-//! is made before the change is committed, since it may want memory; `absorb` wants none, since [`Index::of`] has taken
-//! the room for as many summaries and marks as the area may ever have. [`OpEdit::Reset`] brings an index that was made anew,
+//! An index is made once and then follows its area: [`Op::of`] says what a change of the area makes of it, from the area as it is
+//! loaded before the change and the index of its replies (`jb_link`), and [`Index::absorb`] makes the index of the area after it of
+//! that before it. An op is made before the change is committed, since it may want memory; `absorb` wants none, since
+//! [`Index::of`] has taken the room for as many summaries and marks as the area may ever have. [`OpEdit::Reset`] brings an index that was made anew,
 //! for an area that was reopened.
 //!
 //! The summaries stand in pieces (`jb_tiered`), so that a change of one message copies none of the others.
@@ -22,9 +22,9 @@
 //! found by one walk from the lowest number to the highest, in which each parent is looked up by one search, and takes 4
 //! bytes a message while it lasts. [`Index::absorb`] makes one or two searches of log n steps for each edit: an op of a post,
 //! a reading, a mark or a pack has one edit, one of a kill has one and one more for each answer to the message. Only a kill
-//! moves others, up to 256 within a piece and one for each 512 behind it, and a Reset copies all. [`Op::of`] asks the index of
-//! the replies that an open area keeps: of an answer it makes one search in it, of log n comparisons, of a kill six and a step
-//! for each answer to the message; else it takes the same time in each area.
+//! moves others, up to 256 within a piece and one for each 512 behind it, and a Reset copies all. Of a kill [`Op::of`]
+//! makes six searches in the index of the replies that an open area keeps, each of log n comparisons, and a step for each answer to
+//! the message; of any other change it takes the same time in each area.
 #![tactic(auto)]
 
 mod changes;

@@ -1,10 +1,10 @@
 //! The summaries of an area that is loaded.
 ghost use Rattle.std.specs.Prelude.{◌≡◌, ◌+◌, ◌≤◌, ℕ, [], IfOk, All, length, map, unwrap_or};
-ghost use Rattle.jb_base.specs.Subfields.{first_of, subfield_bytes};
-ghost use Rattle.jb_base.specs.declared.limits.TheConstants.{MOST_SUBFIELD_BYTES};
+ghost use Rattle.jb_bytes.specs.Subfields.{first_of, subfield_bytes};
+ghost use Rattle.jb_limits.specs.declared.limits.TheConstants.{MOST_SUBFIELD_BYTES};
 ghost use Rattle.jb_index.specs.Index.{summary_of, summary_with};
 ghost use Rattle.jb_index.specs.Making.{HasFewBytes};
-ghost use Rattle.jb_link.specs.Slots.{linkables_from};
+ghost use Rattle.jb_model.specs.LiveSlots.{linkables_from};
 ghost use Rattle.jb_model.specs.Links.{parent_of};
 ghost use Rattle.jb_model.specs.Live.{live_from};
 ghost use Rattle.jb_model.specs.State.{slot_state};

@@ -1,7 +1,7 @@
 //! What a user sees of the summaries, and which of them are asked for.
 ghost use Rattle.std.specs.Prelude.{◌≡◌, ◌&&◌};
 ghost use Rattle.jb_access.specs.Parties.{envelope};
-ghost use Rattle.jb_base.specs.Name.{same_name};
+ghost use Rattle.jb_bytes.specs.Name.{same_name};
 ghost use Rattle.jb_index.specs.Answer.{envelope_in, is_listed, name_in};
 ghost use Rattle.jb_index.specs.Wanted.{is_kind};
 

@@ -1,7 +1,7 @@
 -- What a commit comes to, on the disk.
 use Rattle.std.proofs.Common.{◌≡◌, inl, inr, refl, ap, sym, ◌∙◌, subst, Option, Some, None}
 use Rattle.std.specs.Option.{ForSome, option_map}
-use Rattle.jb_disk.specs.Change.{Change}
+use Rattle.jb_disk.specs.RedoView.{RedoView}
 use Rattle.jb_disk.specs.Files.{Files}
 use Rattle.jb_disk.specs.Device.{Device}
 use Rattle.jb_disk.specs.Runs.{LeavesNow, Shows, IsAllSynced}
@@ -18,20 +18,20 @@ none-some : (files : Files) → None ≡ Some files → ⊥
 none-some files is = cc
 
 -- at the start a crash leaves the files before
-pub before_at_start : (change : Change) (start : Files) (device : Device) → IsReady change start → device.contents ≡ Some start → IsAllSynced device → LeavesNow (IsBeforeOrAfter change start) device.moments
+pub before_at_start : (change : RedoView) (start : Files) (device : Device) → IsReady change start → device.contents ≡ Some start → IsAllSynced device → LeavesNow (IsBeforeOrAfter change start) device.moments
 before_at_start change start device ready there synced =
     leaves_map (λ left. left ≡ start) (IsBeforeOrAfter change start) device.moments
     (λ left same. subst (IsBeforeOrAfter change start) (sym same) (inl (shut_replays start start (not_one start ready.shut) (λ file ne. refl)))) (synced start there)
 
 -- the change is under way
-pub under_way : (change : Change) (o after : Option Files) → ForSome o (IsReady change) → after ≡ option_map (opened change) o → ForSome after (IsUnderWay change)
+pub under_way : (change : RedoView) (o after : Option Files) → ForSome o (IsReady change) → after ≡ option_map (opened change) o → ForSome after (IsUnderWay change)
 under_way change o after ready told = λ files there.
     let back = told_back o after (opened change) files told there in
     let is = ready back.0 back.1 in
     record { from = opened change back.0; is = opened_is change back.0 is; way = subst (IsGoing change (opened change back.0)) (sym back.2) (opened_going change back.0 is) }
 
 -- what a late stop leaves
-pub closing_late : (change : Change) (start : Files) (device : Device) → IsReady change start → Shows (IsClosing change (opened change start)) device → Shows (IsLate change start) device
+pub closing_late : (change : RedoView) (start : Files) (device : Device) → IsReady change start → Shows (IsClosing change (opened change start)) device → Shows (IsLate change start) device
 closing_late change start device ready shows = shows_map (IsClosing change (opened change start)) (IsLate change start) device
     (λ files closing. elim closing [
       | inl way ↦ inl way
@@ -39,13 +39,13 @@ closing_late change start device ready shows = shows_map (IsClosing change (open
     ]) shows
 
 -- what is told at the end
-pub told_committed : (change : Change) (o mid after : Option Files) → ForSome o (IsReady change) → mid ≡ option_map (opened change) o → (mid ≡ None → after ≡ None)
+pub told_committed : (change : RedoView) (o mid after : Option Files) → ForSome o (IsReady change) → mid ≡ option_map (opened change) o → (mid ≡ None → after ≡ None)
     → ((start : Files) → o ≡ Some start → after ≡ option_map (λ files. closed change (opened change start)) mid) → after ≡ option_map (committed change) o
 told_committed change None mid after ready first silent done = silent first
 told_committed change (Some start) mid after ready first silent done =
     done start refl ∙ ap (option_map (λ files. closed change (opened change start))) first ∙ ap Some (closed-committed change start (ready start refl))
 
 -- nothing is unsynced at the end
-pub synced_at_end : (change : Change) (o mid : Option Files) (new : Device) → mid ≡ option_map (opened change) o → (mid ≡ None → new.contents ≡ None) → ((start : Files) → o ≡ Some start → IsAllSynced new) → IsAllSynced new
+pub synced_at_end : (change : RedoView) (o mid : Option Files) (new : Device) → mid ≡ option_map (opened change) o → (mid ≡ None → new.contents ≡ None) → ((start : Files) → o ≡ Some start → IsAllSynced new) → IsAllSynced new
 synced_at_end change None mid new first silent synced = λ files there. absurd (none-some files (sym (silent first) ∙ there))
 synced_at_end change (Some start) mid new first silent synced = synced start refl

@@ -5,7 +5,7 @@ use Rattle.std.proofs.lemmas.Bool.{cases_eq}
 use Rattle.std.proofs.lemmas.List.{same_lists, get_or_default}
 use Rattle.jb_disk.specs.declared.file.FileId.{FileId}
 use Rattle.jb_disk.specs.declared.file.FileId.TheVariants.{Jnl}
-use Rattle.jb_disk.specs.Change.{Change}
+use Rattle.jb_disk.specs.RedoView.{RedoView}
 use Rattle.jb_disk.specs.Files.{Files, number_of, overwritten, written}
 use Rattle.jb_disk.specs.FileLaws.{same_file, same_files, with_file-here, with_file-other, length-overwritten}
 use Rattle.jb_disk.specs.ImageLaws.{get-behind}
@@ -53,7 +53,7 @@ at_gate_written byte base files some at =
       behind = λ i high. at.behind i high ∙ sym (ap (λ (l : List ℕ). slice_index l i) is ∙ get-behind 0 (byte ∷ []) (base Jnl) some i high);
     }
 
-module _ (change : Change) (from : Files) (is : IsOpened change from) where
+module _ (change : RedoView) (from : Files) (is : IsOpened change from) where
   -- the journal is as it was
   pub going_journal : (files : Files) → IsGoing change from files → files Jnl ≡ from Jnl
   going_journal files way = way_kept change.lengths change.pieces from is.has.legal files way Jnl journal_high

@@ -12,7 +12,7 @@ use Rattle.jb_disk.specs.declared.piece.Length.{Length}
 use Rattle.jb_disk.specs.declared.piece.Piece.{Piece}
 use Rattle.jb_disk.specs.declared.piece.Piece.TheVariants.{Bytes, Copy}
 use Rattle.jb_disk.specs.declared.piece.PieceHead.{PieceHead}
-use Rattle.jb_disk.specs.Change.{head_of, bytes_of}
+use Rattle.jb_disk.specs.RedoView.{head_of, bytes_of}
 use Rattle.jb_disk.specs.Files.{Files, number_of, overwritten, written}
 use Rattle.jb_disk.specs.FileLaws.{with_file-here, with_file-other, number-injective}
 use Rattle.jb_disk.specs.Steps.{IsCovered, patched, Span}

@@ -7,7 +7,7 @@ use Rattle.jb_disk.specs.declared.file.FileId.{FileId}
 use Rattle.jb_disk.specs.declared.file.FileId.TheVariants.{Jnl, Ndt}
 use Rattle.jb_disk.specs.declared.piece.Piece.{Piece}
 use Rattle.jb_disk.specs.declared.piece.Piece.TheVariants.{Bytes, Copy}
-use Rattle.jb_disk.specs.Change.{Change}
+use Rattle.jb_disk.specs.RedoView.{RedoView}
 use Rattle.jb_disk.specs.Files.{Files, number_of, with_file, overwritten}
 use Rattle.jb_disk.specs.FileLaws.{same_file, same_files, with_file-here, with_file-other, length-overwritten}
 use Rattle.jb_disk.specs.ImageLaws.{get-behind}
@@ -50,7 +50,7 @@ shadow_apart is = let same : 5 ≡ 4 = ap number_of is in omega (arith, same)
 base_apart : (file : FileId) → number_of file < 4 → file ≢ Jnl
 base_apart file low is = let same : number_of file ≡ 4 = ap number_of is in omega (arith, same)
 
-module _ (change : Change) (start : Files) (ready : IsReady change start) where
+module _ (change : RedoView) (start : Files) (ready : IsReady change start) where
   -- the journal with the record
   pub recorded-jnl : recorded change start Jnl ≡ journal_of change start
   recorded-jnl = with_file-here Jnl (journal_of change start) start

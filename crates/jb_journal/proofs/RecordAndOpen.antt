@@ -4,7 +4,7 @@ use Rattle.std.specs.Prelude.{IsErr, OnOk, slice_index}
 use Rattle.std.specs.Option.{ForSome, option_map}
 use Rattle.jb_disk.specs.declared.file.FileId.{FileId}
 use Rattle.jb_disk.specs.declared.file.FileId.TheVariants.{Jnl}
-use Rattle.jb_disk.specs.Change.{Change}
+use Rattle.jb_disk.specs.RedoView.{RedoView}
 use Rattle.jb_disk.specs.Files.{Files, written}
 use Rattle.jb_disk.specs.FileLaws.{same_file, same_files}
 use Rattle.jb_disk.specs.Images.{Images}
@@ -38,7 +38,7 @@ pub refused_shut : {T E : Type 0} (result : Result T E) (property : Files → Ty
 refused_shut (Ok value) property old new err shut = absurd (not-true err)
 refused_shut (Err error) property old new err shut = shut
 
-module _ (change : Change) (start : Files) (ready : IsReady change start) where
+module _ (change : RedoView) (start : Files) (ready : IsReady change start) where
   -- the files at the start
   untouched_start : IsUntouched start start
   untouched_start = record { same = λ file ne. refl; long = ready.long; head = λ i low. refl }

@@ -6,7 +6,7 @@ use Rattle.jb_disk.specs.declared.file.FileId.{FileId}
 use Rattle.jb_disk.specs.declared.file.FileId.TheVariants.{Jhr, Jdt, Jdx, Jlr, Jnl, Ndt}
 use Rattle.jb_disk.specs.declared.piece.Length.{Length}
 use Rattle.jb_disk.specs.declared.piece.Piece.{Piece}
-use Rattle.jb_disk.specs.Change.{Change}
+use Rattle.jb_disk.specs.RedoView.{RedoView}
 use Rattle.jb_disk.specs.Files.{Files, number_of, overwritten}
 use Rattle.jb_disk.specs.FileLaws.{same_file, same_files, with_file-here, with_file-other}
 use Rattle.jb_disk.specs.Images.{Images}
@@ -157,7 +157,7 @@ module _ (was : Files) (lengths : List Length) (pieces : List Piece) (has : IsRe
   -- where the record writes each byte past an old end
   module _ (safe : IsGrowthSafe was) where
     -- the record as a change
-    abbrev pub change_of : Change
+    abbrev pub change_of : RedoView
     change_of = record { lengths = lengths; pieces = pieces; spare_lengths = 0; spare_pieces = 0; spare_bytes = 0 }
 
     -- the gate stands open before it

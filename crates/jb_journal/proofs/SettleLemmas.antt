@@ -5,7 +5,7 @@ use Rattle.std.specs.Option.{ForSome, option_map}
 use Rattle.std.proofs.lemmas.Bool.{cases_lt}
 use Rattle.jb_disk.specs.declared.file.FileId.{FileId}
 use Rattle.jb_disk.specs.declared.file.FileId.TheVariants.{Jnl}
-use Rattle.jb_disk.specs.Change.{Change}
+use Rattle.jb_disk.specs.RedoView.{RedoView}
 use Rattle.jb_disk.specs.Files.{Files}
 use Rattle.jb_disk.specs.FileLaws.{same_file, same_files}
 use Rattle.jb_disk.specs.Device.{Device, Turns, TellsAnImage}
@@ -34,7 +34,7 @@ zero-one is = omega (arith, is)
 shut_byte : (files : Files) → 16 < length (files Jnl) → (IsGateOpen files → ⊥) → slice_index (files Jnl) 0 ≢ 1
 shut_byte files longer shut one = shut (record { longer = longer; gate = one })
 
-module _ (change : Change) (start : Files) (ready : IsReady change start) where
+module _ (change : RedoView) (start : Files) (ready : IsReady change start) where
   -- a late stop is in the last stages
   late_closing : (files : Files) → IsLate change start files → IsClosing change (opened change start) files
   late_closing files (inl way) = inl way
@@ -245,7 +245,7 @@ module _ (change : Change) (start : Files) (ready : IsReady change start) where
       ]) shows
 
 -- the change is under way behind an open gate
-pub doubt_under_way : (stopped : Stopped) (change : Change) (device : Device) → ForSome device.contents (λ files. HasStopped stopped change device) → ForSome device.contents IsGateOpen → ForSome device.contents (IsUnderWay change)
+pub doubt_under_way : (stopped : Stopped) (change : RedoView) (device : Device) → ForSome device.contents (λ files. HasStopped stopped change device) → ForSome device.contents IsGateOpen → ForSome device.contents (IsUnderWay change)
 doubt_under_way stopped change device doubt is_open = λ files there.
     let has = doubt files there in
     record { from = opened change has.start; is = opened_is change has.start has.ready; way = doubt_open change has.start has.ready stopped files (has.shows.read files there) (is_open files there) }

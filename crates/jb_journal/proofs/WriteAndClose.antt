@@ -2,7 +2,7 @@
 use Rattle.std.proofs.Common.{◌≡◌, inr, ◌≤◌, [], ◌∷◌, length, refl, ap, sym, ◌∙◌, subst, Option, Some, None}
 use Rattle.std.specs.Option.{ForSome, option_map}
 use Rattle.jb_disk.specs.declared.file.FileId.TheVariants.{Jnl}
-use Rattle.jb_disk.specs.Change.{Change}
+use Rattle.jb_disk.specs.RedoView.{RedoView}
 use Rattle.jb_disk.specs.Files.{Files, written}
 use Rattle.jb_disk.specs.Device.{Device, TellsAnImage}
 use Rattle.jb_disk.specs.Runs.{LeavesNow, Runs, Shows, Keeps, IsAllSynced}
@@ -39,7 +39,7 @@ shows_is device x tells read synced = by_contents device.contents refl
 pub told_is : (o after : Option Files) (x : Files) → after ≡ option_map (λ files. x) o → ForSome after (λ files. files ≡ x)
 told_is o after x is = λ files there. (told_back o after (λ before. x) files is there).2
 
-module _ (change : Change) (from : Files) (is : IsOpened change from) (mid new : Device) (tells : TellsAnImage mid) (shows : Shows (λ files. files ≡ changed change from) mid)
+module _ (change : RedoView) (from : Files) (is : IsOpened change from) (mid new : Device) (tells : TellsAnImage mid) (shows : Shows (λ files. files ≡ changed change from) mid)
     (keeps : Keeps (IsAtGate (changed change from)) mid new) where
   -- the gate is about to be closed
   pub at_gate : Shows (IsAtGate (changed change from)) mid
@@ -65,7 +65,7 @@ module _ (change : Change) (from : Files) (is : IsOpened change from) (mid new :
       (keeps.shows at_gate).left (durable back.0 back.1)
 
 -- there is a first byte in the journal once the change is done
-pub gate_room : (change : Change) (o after : Option Files) → (o ≡ None → after ≡ None) → ForSome o (IsUnderWay change) → ((from : Files) → IsOpened change from → ForSome o (IsGoing change from) → after ≡ option_map (λ files. changed change from) o)
+pub gate_room : (change : RedoView) (o after : Option Files) → (o ≡ None → after ≡ None) → ForSome o (IsUnderWay change) → ((from : Files) → IsOpened change from → ForSome o (IsGoing change from) → after ≡ option_map (λ files. changed change from) o)
     → ForSome after (λ files. 1 ≤ length (files Jnl))
 gate_room change None after silent going told = λ files there. absurd (never files (sym (silent refl) ∙ there))
   where

@@ -4,7 +4,7 @@ use Rattle.jb_disk.specs.declared.file.FileId.{FileId}
 use Rattle.jb_disk.specs.declared.file.FileId.TheVariants.{Jhr, Jdt, Jdx, Jlr, Jnl}
 use Rattle.jb_disk.specs.declared.piece.Length.{Length}
 use Rattle.jb_disk.specs.declared.piece.Piece.{Piece}
-use Rattle.jb_disk.specs.Change.{Change}
+use Rattle.jb_disk.specs.RedoView.{RedoView}
 use Rattle.jb_disk.specs.Device.{and_then}
 use Rattle.jb_disk.specs.Images.{Images, just_synced, torn, cut, with_image}
 use Rattle.jb_redo.specs.Record.{record_bytes}
@@ -77,9 +77,9 @@ pub record SyncsChanged (front back : List FileId) (set lengths : List Length) (
   pub come : ComeBy set (front ++ files ++ back) old new
 
 -- the journal's length with the record of a change
-abbrev pub journal_length : Change → Length
+abbrev pub journal_length : RedoView → Length
 journal_length change = record { file = Jnl; len = 16 + length (record_bytes change.lengths change.pieces) }
 
 -- the journal was synced with the record and with the gate open, then each file of which the change speaks, then the journal with the gate closed, and no other file
-abbrev pub HasSynced : Change → List Images → List Images → Type 0
+abbrev pub HasSynced : RedoView → List Images → List Images → Type 0
 HasSynced change old new = SyncsChanged (Jnl ∷ Jnl ∷ []) (Jnl ∷ []) (journal_length change ∷ change.lengths) change.lengths change.pieces old new

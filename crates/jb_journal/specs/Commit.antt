@@ -2,7 +2,7 @@
 use Rattle.std.specs.Prelude.{◌≡◌, ◌≢◌, ◌⊎◌, ℕ, ◌≤◌, List, ◌++◌, length, take, slice_index}
 use Rattle.jb_disk.specs.declared.file.FileId.{FileId}
 use Rattle.jb_disk.specs.declared.file.FileId.TheVariants.{Jnl}
-use Rattle.jb_disk.specs.Change.{Change}
+use Rattle.jb_disk.specs.RedoView.{RedoView}
 use Rattle.jb_disk.specs.Files.{Files, with_file}
 use Rattle.jb_disk.specs.Gate.{with_gate_closed}
 use Rattle.jb_redo.specs.Changes.{changed}
@@ -15,18 +15,18 @@ abbrev pub AgreeButJournal : Files → Files → Type 0
 AgreeButJournal one other = (file : FileId) → file ≢ Jnl → one file ≡ other file
 
 -- over these files: the change makes a record and writes each byte past an old end, and the journal has its head with the gate closed
-pub record IsReady (change : Change) (files : Files) : Type 0 where
+pub record IsReady (change : RedoView) (files : Files) : Type 0 where
   pub legal : IsLegal (sizes_of files) change.lengths change.pieces
   pub grown : IsGrowthCovered change.lengths change.pieces files
   pub long : 16 ≤ length (files Jnl)
   pub shut : slice_index (files Jnl) 0 ≢ 1
 
 -- the journal's head as it is, and the record behind it
-abbrev pub journal_of : Change → Files → List ℕ
+abbrev pub journal_of : RedoView → Files → List ℕ
 journal_of change files = take 16 (files Jnl) ++ record_bytes change.lengths change.pieces
 
 -- the files after a commit: the change done, and the record behind a closed gate
-abbrev pub committed : Change → Files → Files
+abbrev pub committed : RedoView → Files → Files
 committed change files = with_gate_closed (with_file Jnl (journal_of change files) (changed change files))
 
 -- these files replay to files that hold the same as the base but for the journal
@@ -36,5 +36,5 @@ pub record ReplaysTo (base files : Files) : Type 0 where
   pub same : AgreeButJournal after base
 
 -- they replay to the files before the change or to those after it
-abbrev pub IsBeforeOrAfter : Change → Files → Files → Type 0
+abbrev pub IsBeforeOrAfter : RedoView → Files → Files → Type 0
 IsBeforeOrAfter change start files = ReplaysTo start files ⊎ ReplaysTo (changed change start) files

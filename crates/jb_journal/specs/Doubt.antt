@@ -2,7 +2,7 @@
 use Rattle.std.specs.Prelude.{◌≡◌, ◌≢◌, ◌⊎◌, ◌≤◌, Bool, length, slice_index, if◌then◌else◌}
 use Rattle.std.specs.Option.{ForSome}
 use Rattle.jb_disk.specs.declared.file.FileId.TheVariants.{Jnl}
-use Rattle.jb_disk.specs.Change.{Change}
+use Rattle.jb_disk.specs.RedoView.{RedoView}
 use Rattle.jb_disk.specs.Device.{Device, MayChange}
 use Rattle.jb_disk.specs.Images.{just_synced, with_image}
 use Rattle.jb_disk.specs.Files.{Files}
@@ -15,27 +15,27 @@ use Rattle.jb_redo.specs.Changes.{changed}
 use Rattle.jb_journal.specs.Stages.{IsAtGate, IsGoing, opened}
 
 -- stopped early: the other files are as before the change, and behind an open gate stands its whole record
-pub record IsEarly (change : Change) (start files : Files) : Type 0 where
+pub record IsEarly (change : RedoView) (start files : Files) : Type 0 where
   pub same : AgreeButJournal files start
   pub gate : IsGateOpen files → files Jnl ≡ opened change start Jnl
 
 -- stopped late: the gate stands open and the change is on its way, or it is done and the gate is being closed
-abbrev pub IsLate : Change → Files → Files → Type 0
+abbrev pub IsLate : RedoView → Files → Files → Type 0
 IsLate change start files = IsGoing change (opened change start) files ⊎ IsAtGate (committed change start) files
 
 -- what is left of a commit of this change over the files at the start, by where it was stopped
-abbrev pub IsInDoubt : Stopped → Change → Files → Files → Type 0
+abbrev pub IsInDoubt : Stopped → RedoView → Files → Files → Type 0
 IsInDoubt Early change start files = IsEarly change start files
 IsInDoubt Late change start files = IsLate change start files
 
 -- the device holds what a commit of this change leaves that was stopped here, for some files at its start
-pub record HasStopped (stopped : Stopped) (change : Change) (device : Device) : Type 0 where
+pub record HasStopped (stopped : Stopped) (change : RedoView) (device : Device) : Type 0 where
   pub start : Files
   pub ready : IsReady change start
   pub shows : Shows (IsInDoubt stopped change start) device
 
 -- what a crash then leaves replays to the files before the change or after it, and after a late stop to those after it
-abbrev pub DoubtReplays : Stopped → Change → Files → Files → Type 0
+abbrev pub DoubtReplays : Stopped → RedoView → Files → Files → Type 0
 DoubtReplays Early change start files = IsBeforeOrAfter change start files
 DoubtReplays Late change start files = ReplaysTo (changed change start) files
 
@@ -45,7 +45,7 @@ HasTriedToSync old new = ForSome old.contents (λ files. IsGateOpen files
     → MayChange (with_image Jnl (λ _. just_synced (files Jnl))) old.moments new.moments)
 
 -- the files as the answer says: with the change, or as they were
-abbrev pub answered : Bool → Change → Files → Files
+abbrev pub answered : Bool → RedoView → Files → Files
 answered stands change start = if stands then changed change start else start
 
 -- but for the journal these are the files, and the journal has its head with the gate closed

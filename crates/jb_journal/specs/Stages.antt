@@ -1,7 +1,7 @@
 -- What a crash may leave in each stage.
 use Rattle.std.specs.Prelude.{◌≡◌, ◌⊎◌, ℕ, ◌<◌, ◌≤◌, [], ◌∷◌, length, slice_index}
 use Rattle.jb_disk.specs.declared.file.FileId.TheVariants.{Jnl}
-use Rattle.jb_disk.specs.Change.{Change}
+use Rattle.jb_disk.specs.RedoView.{RedoView}
 use Rattle.jb_disk.specs.Files.{Files, with_file, written}
 use Rattle.jb_disk.specs.Gate.{IsGateOpen, with_gate_closed}
 use Rattle.jb_redo.specs.OnTheWay.{IsOnTheWay}
@@ -17,11 +17,11 @@ pub record IsUntouched (start files : Files) : Type 0 where
   pub head : (i : ℕ) → i < 16 → slice_index (files Jnl) i ≡ slice_index (start Jnl) i
 
 -- the record stands behind the head
-abbrev pub recorded : Change → Files → Files
+abbrev pub recorded : RedoView → Files → Files
 recorded change files = with_file Jnl (journal_of change files) files
 
 -- and the gate is open
-abbrev pub opened : Change → Files → Files
+abbrev pub opened : RedoView → Files → Files
 opened change files = written Jnl 0 (1 ∷ []) (recorded change files)
 
 -- while the gate is written: all but the journal's first byte is as in these files
@@ -31,25 +31,25 @@ pub record IsAtGate (base files : Files) : Type 0 where
   pub behind : (i : ℕ) → 1 ≤ i → slice_index (files Jnl) i ≡ slice_index (base Jnl) i
 
 -- the gate stands open before the record of this change, which writes each byte past an old end
-pub record IsOpened (change : Change) (files : Files) : Type 0 where
+pub record IsOpened (change : RedoView) (files : Files) : Type 0 where
   pub gate : IsGateOpen files
   pub has : IsRecordOf files change.lengths change.pieces
   pub grown : IsGrowthCovered change.lengths change.pieces files
 
 -- the change is on its way from these files, behind an open gate
-abbrev pub IsGoing : Change → Files → Files → Type 0
+abbrev pub IsGoing : RedoView → Files → Files → Type 0
 IsGoing change from files = IsOnTheWay change.lengths change.pieces from files
 
 -- the change is done and the gate closed
-abbrev pub closed : Change → Files → Files
+abbrev pub closed : RedoView → Files → Files
 closed change from = with_gate_closed (changed change from)
 
 -- the change is on its way, or it is done and the gate is being closed
-abbrev pub IsClosing : Change → Files → Files → Type 0
+abbrev pub IsClosing : RedoView → Files → Files → Type 0
 IsClosing change from files = IsGoing change from files ⊎ IsAtGate (closed change from) files
 
 -- the change is under way in these files, from some with an open gate
-pub record IsUnderWay (change : Change) (files : Files) : Type 0 where
+pub record IsUnderWay (change : RedoView) (files : Files) : Type 0 where
   pub from : Files
   pub is : IsOpened change from
   pub way : IsGoing change from files

@@ -1,7 +1,7 @@
 //! The four stages of a commit.
 ghost use Rattle.std.specs.Prelude.{◌≡◌, ◌≤◌, [], ◌∷◌, IfErr, OnOk, OnErr};
 ghost use Rattle.std.specs.Option.{ForSome, option_map};
-ghost use Rattle.jb_base.specs.Fault.{Rose};
+ghost use Rattle.jb_bytes.specs.Fault.{Rose};
 ghost use Rattle.jb_disk.specs.declared.file.FileId.TheVariants.{Jnl};
 ghost use Rattle.jb_disk.specs.Device.{FailsBy, TellsAlike};
 ghost use Rattle.jb_disk.specs.Files.{Files};

@@ -4,7 +4,7 @@ ghost use Rattle.std.specs.Option.{option_map, ForSome};
 ghost use Rattle.jb_disk.specs.declared.file.FileId.{FileId};
 ghost use Rattle.jb_disk.specs.declared.piece.Length.{Length};
 ghost use Rattle.jb_disk.specs.declared.piece.Piece.{Piece};
-ghost use Rattle.jb_disk.specs.Change.{head_of};
+ghost use Rattle.jb_disk.specs.RedoView.{head_of};
 ghost use Rattle.jb_disk.specs.Device.{FailsBy, Turns};
 ghost use Rattle.jb_disk.specs.Files.{Files, number_of};
 ghost use Rattle.jb_disk.specs.Runs.{LeavesNow, Shows, Keeps};

@@ -1,7 +1,7 @@
 //! A journal is given its head.
 ghost use Rattle.std.specs.Prelude.{◌≡◌, ◌≤◌, replicate, length, IfErr, OnOk, OnErr};
 ghost use Rattle.std.specs.Option.{ForSome, option_map};
-ghost use Rattle.jb_base.specs.Fault.{Rose};
+ghost use Rattle.jb_bytes.specs.Fault.{Rose};
 ghost use Rattle.jb_disk.specs.declared.file.FileId.TheVariants.{Jnl};
 ghost use Rattle.jb_disk.specs.Device.{FailsBy, TellsAlike, Turns};
 ghost use Rattle.jb_disk.specs.Files.{Files, with_file};

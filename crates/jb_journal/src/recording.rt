@@ -3,7 +3,7 @@ ghost use Rattle.std.specs.Prelude.{◌≡◌, ◌+◌, ◌*◌, ◌<◌, ◌≤
 ghost use Rattle.std.specs.List.{flat_map};
 ghost use Rattle.std.specs.Option.{ForSome, option_map};
 ghost use Rattle.jb_disk.specs.declared.file.FileId.TheVariants.{Jnl};
-ghost use Rattle.jb_disk.specs.Change.{head_of};
+ghost use Rattle.jb_disk.specs.RedoView.{head_of};
 ghost use Rattle.jb_disk.specs.Device.{FailsBy};
 ghost use Rattle.jb_disk.specs.Files.{Files, written};
 ghost use Rattle.jb_disk.specs.Runs.{LeavesNow, Keeps};

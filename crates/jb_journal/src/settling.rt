@@ -1,9 +1,9 @@
 //! Whether a change that was stopped stands.
 ghost use Rattle.std.specs.Prelude.{◌≡◌, ◌≤◌, ◌↔◌, IsTrue, IfOk, IfErr, OnOk, OnErr};
 ghost use Rattle.std.specs.Option.{ForSome};
-ghost use Rattle.jb_base.specs.Fault.{Rose};
+ghost use Rattle.jb_bytes.specs.Fault.{Rose};
 ghost use Rattle.jb_disk.specs.declared.file.FileId.TheVariants.{Jnl};
-ghost use Rattle.jb_disk.specs.Change.{Change};
+ghost use Rattle.jb_disk.specs.RedoView.{RedoView};
 ghost use Rattle.jb_disk.specs.Device.{FailsBy, MayChange, TellsAlike};
 ghost use Rattle.jb_disk.specs.Files.{Files};
 ghost use Rattle.jb_disk.specs.Images.{just_synced, with_image};
@@ -31,7 +31,7 @@ fn sync_gate<D: Disk>(disk: &mut D) -> Result<bool, DiskFailed>
     ensures asks { ForSome (D.device disk.old).contents (λ files.
         MayChange (with_image Jnl (λ _. just_synced (files Jnl))) (D.device disk.old).moments
         (D.device disk.new).moments) }
-    ensures keeps { (stopped : Stopped) (change : Change) (start : Files)
+    ensures keeps { (stopped : Stopped) (change : RedoView) (start : Files)
         → Keeps (IsInDoubt stopped change start) (D.device disk.old) (D.device disk.new) }
     ensures cause { FailsBy ⊥ (D.device disk.old) (D.device disk.new) result }
 {

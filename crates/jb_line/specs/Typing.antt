@@ -1,6 +1,6 @@
 -- The table of keys: what each leaves of the line, which line it ends, and how it is echoed.
 use Rattle.std.specs.Prelude.{◌≡◌, ℕ, ◌-◌, ◌≤◌, nat_lt, Bool, true, false, IsTrue, List, [], ◌∷◌, ◌++◌, length, take, Option, Some, None, if◌then◌else◌}
-use Rattle.jb_base.specs.declared.limits.TheConstants.{MOST_LINE_BYTES}
+use Rattle.jb_limits.specs.declared.limits.TheConstants.{MOST_LINE_BYTES}
 use Rattle.jb_line.specs.declared.key.TheConstants.{STAR}
 use Rattle.jb_line.specs.declared.key.Key.{Key}
 use Rattle.jb_line.specs.declared.key.Echo.{Echo}

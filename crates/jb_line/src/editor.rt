@@ -6,7 +6,7 @@ ghost use Rattle.jb_line.specs.Lines.{Placed, HasTyped, placed};
 
 use crate::key::{Echo, Key, Meaning, STAR};
 use crate::line::Line;
-use jb_base::MOST_LINE_BYTES;
+use jb_limits::MOST_LINE_BYTES;
 use std::marker::Model;
 
 /// The line so far.

@@ -1,7 +1,7 @@
 //! A line that was typed.
 ghost use Rattle.std.specs.Prelude.{◌≡◌, ◌≤◌, length};
 
-use jb_base::MOST_LINE_BYTES;
+use jb_limits::MOST_LINE_BYTES;
 use std::marker::Model;
 
 /// A line of at most 78 bytes, in place. Contracts see the list of its bytes.
@@ -13,7 +13,7 @@ pub struct Line {
 
 impl Model for Line {
     ghost use Rattle.std.specs.Prelude.{List, ℕ, ◌≤◌, take};
-    ghost use Rattle.jb_base.specs.declared.limits.TheConstants.{MOST_LINE_BYTES};
+    ghost use Rattle.jb_limits.specs.declared.limits.TheConstants.{MOST_LINE_BYTES};
 
     ghost Value = { List ℕ };
 

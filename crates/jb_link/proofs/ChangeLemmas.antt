@@ -12,8 +12,8 @@ use Rattle.jb_model.specs.declared.loaded.Loaded.{Loaded}
 use Rattle.jb_model.specs.declared.loaded.LoadedSlot.{LoadedSlot}
 use Rattle.jb_model.specs.declared.loaded.LoadedSlot.TheVariants.{Empty, Killed, Live}
 use Rattle.jb_model.specs.declared.links.Links.{Links}
-use Rattle.jb_link.specs.Plan.{differs, links_of, loaded_at, plan_of}
-use Rattle.jb_link.specs.Slots.{linkables_from, loaded_linkable, message_in}
+use Rattle.jb_model.specs.Plan.{differs, links_of, loaded_at, plan_of}
+use Rattle.jb_model.specs.LiveSlots.{linkables_from, loaded_linkable, message_in}
 use Rattle.jb_link.proofs.LiveLemmas.{linkables_with_texts}
 
 -- 1 where it is true

@@ -13,7 +13,7 @@ use Rattle.jb_model.specs.declared.loaded.LoadedMessage.{LoadedMessage}
 use Rattle.jb_model.specs.declared.loaded.LoadedSlot.{LoadedSlot}
 use Rattle.jb_model.specs.declared.loaded.LoadedSlot.TheVariants.{Empty, Killed, Live}
 use Rattle.jb_link.specs.Parents.{copied_msgid, parent_behind}
-use Rattle.jb_link.specs.Slots.{linkables, message_in}
+use Rattle.jb_model.specs.LiveSlots.{linkables, message_in}
 use Rattle.jb_link.proofs.LiveLemmas.{linkables_with_texts}
 
 -- the MSGID that is copied, of the area as it is loaded

@@ -8,7 +8,7 @@ use Rattle.jb_model.specs.Links.{Linkable}
 use Rattle.jb_model.specs.declared.loaded.LoadedMessage.{LoadedMessage}
 use Rattle.jb_model.specs.declared.loaded.LoadedSlot.{LoadedSlot}
 use Rattle.jb_model.specs.declared.loaded.LoadedSlot.TheVariants.{Empty, Killed, Live}
-use Rattle.jb_link.specs.Slots.{linkables_from, loaded_linkable}
+use Rattle.jb_model.specs.LiveSlots.{linkables_from, loaded_linkable}
 
 -- it holds of each
 abbrev pub Each : (Linkable → Type 0) → List Linkable → Type 0

@@ -5,9 +5,9 @@ use Rattle.std.specs.Option.{option_eq}
 use Rattle.std.specs.Prelude.{nat_eq, not, option_map, slice_get, Contains, Option, Some, None, IsSome, is_none, is_some, option_and_then, unwrap_or}
 use Rattle.std.proofs.lemmas.Bool.{and_from, and_parts, both_ways, not-true, not-false, cases_lt, eq-eqb, eqb-true, lt-ltb, ltb-true}
 use Rattle.std.proofs.lemmas.List.Elements.{All-contains}
-use Rattle.jb_base.specs.declared.subfield.TheConstants.{MSGID, REPLYID}
-use Rattle.jb_link.specs.Plan.{loaded_at}
-use Rattle.jb_link.specs.Slots.{IsLive, linkables, loaded_linkable, message_in}
+use Rattle.jb_bytes.specs.declared.subfield.TheConstants.{MSGID, REPLYID}
+use Rattle.jb_model.specs.Plan.{loaded_at}
+use Rattle.jb_model.specs.LiveSlots.{IsLive, linkables, loaded_linkable, message_in}
 use Rattle.jb_link.proofs.LiveLemmas.{live_from_stands, stands_from_live}
 use Rattle.jb_model.specs.Links.{IsGreatest, IsLeast, Linkable, is_answered_by, is_id, is_kept_by, is_reply_to, last_reply_of, number_or_0, parent_for, parent_of}
 use Rattle.jb_model.specs.Message.{msgid_of, replyid_of}

@@ -13,7 +13,7 @@ use Rattle.std.specs.declared.cmp.Ordering.{Ordering}
 use Rattle.jb_model.specs.Links.{is_id}
 use Rattle.jb_model.specs.declared.loaded.LoadedSlot.{LoadedSlot}
 use Rattle.jb_link.specs.Ids.{IsKept, IsSettled, KeepsLowest, at_seat, hash_of, msgid_at, number_among, number_of}
-use Rattle.jb_link.specs.Slots.{msgid_in}
+use Rattle.jb_model.specs.LiveSlots.{msgid_in}
 use Rattle.jb_link.specs.declared.ids.Ids.{Ids}
 
 -- the order of the hashes and then of the bytes

@@ -13,8 +13,8 @@ use Rattle.std.proofs.lemmas.List.Elements.{Contains-append_left, Contains-get_o
 use Rattle.std.proofs.lemmas.List.Quantifiers.{all_pairs_push, all_pairs_remove}
 use Rattle.std.proofs.lemmas.List.Sorted.{Contains-permutation, IsPermutation-sym}
 use Rattle.std.proofs.lemmas.Slice.Eq.{bytes_eq-Decides}
-use Rattle.jb_base.specs.Subfields.{first_of}
-use Rattle.jb_link.specs.Plan.{loaded_at}
+use Rattle.jb_bytes.specs.Subfields.{first_of}
+use Rattle.jb_model.specs.Plan.{loaded_at}
 use Rattle.jb_model.specs.Links.{is_id}
 use Rattle.jb_model.specs.declared.loaded.Loaded.{Loaded}
 use Rattle.jb_model.specs.declared.loaded.LoadedMessage.{LoadedMessage}

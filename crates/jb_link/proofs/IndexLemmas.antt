@@ -4,8 +4,8 @@ use Rattle.std.specs.Prelude.{Contains, Option, None, IsSome, option_and_then, u
 use Rattle.std.specs.declared.cmp.Ordering.{Ordering}
 use Rattle.std.proofs.lemmas.Bool.{cases_eq}
 use Rattle.std.proofs.lemmas.List.Elements.{Contains-get_or}
-use Rattle.jb_base.specs.Subfields.{first_of}
-use Rattle.jb_link.specs.Plan.{loaded_at}
+use Rattle.jb_bytes.specs.Subfields.{first_of}
+use Rattle.jb_model.specs.Plan.{loaded_at}
 use Rattle.jb_model.specs.Loaded.{with_slot_at}
 use Rattle.jb_model.specs.declared.loaded.Loaded.{Loaded}
 use Rattle.jb_model.specs.declared.loaded.LoadedMessage.{LoadedMessage}

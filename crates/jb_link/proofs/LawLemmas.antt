@@ -2,10 +2,10 @@
 use Rattle.std.proofs.Common.{◌≡◌, ◌<◌, ◌≤◌, ◌+◌, ◌-◌, ◌⊎◌, inl, inr, ℕ, zero, suc, List, [], ◌∷◌, length, map, refl, sym, ◌∙◌, ap, subst, arith, cond, nat_lt}
 use Rattle.std.specs.Prelude.{◌↔◌, Option, Some, None, IsSome, is_some, slice_get, unwrap_or}
 use Rattle.std.proofs.lemmas.Bool.{cases_eq, cases_lt}
-use Rattle.jb_base.specs.Subfields.{first_of}
-use Rattle.jb_base.specs.declared.subfield.TheConstants.{MSGID, REPLYID}
-use Rattle.jb_link.specs.Plan.{loaded_at}
-use Rattle.jb_link.specs.Slots.{linkables, loaded_linkable, message_in}
+use Rattle.jb_bytes.specs.Subfields.{first_of}
+use Rattle.jb_bytes.specs.declared.subfield.TheConstants.{MSGID, REPLYID}
+use Rattle.jb_model.specs.Plan.{loaded_at}
+use Rattle.jb_model.specs.LiveSlots.{linkables, loaded_linkable, message_in}
 use Rattle.jb_model.specs.Links.{Linkable, parent_for, parent_of}
 use Rattle.jb_model.specs.Live.{change_live_from}
 use Rattle.jb_model.specs.Loaded.{IsMessageAt, with_head_at}

@@ -13,7 +13,7 @@ use Rattle.jb_model.specs.declared.loaded.Loaded.{Loaded}
 use Rattle.jb_model.specs.declared.loaded.LoadedMessage.{LoadedMessage}
 use Rattle.jb_model.specs.declared.loaded.LoadedSlot.{LoadedSlot}
 use Rattle.jb_model.specs.declared.loaded.LoadedSlot.TheVariants.{Empty, Killed, Live}
-use Rattle.jb_link.specs.Slots.{IsLive, is_live_and, linkables_from, loaded_linkable, message_in}
+use Rattle.jb_model.specs.LiveSlots.{IsLive, is_live_and, linkables_from, loaded_linkable, message_in}
 
 -- no text bears on the links
 pub linkables_with_texts : (texts : List ℕ) (number : ℕ) (slots : List LoadedSlot) → map linkable (live_from number (map (slot_state texts) slots)) ≡ linkables_from number slots

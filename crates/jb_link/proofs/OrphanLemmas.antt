@@ -7,8 +7,8 @@ use Rattle.std.proofs.lemmas.Cmp.{nat_cmp_total}
 use Rattle.std.proofs.lemmas.List.Elements.{Contains-append_cases, Contains-append_left, Contains-append_right, Contains-get_or}
 use Rattle.std.proofs.lemmas.List.Kept.{AllPairs-cons, AllPairs-filter}
 use Rattle.std.proofs.lemmas.List.Sorted.{Contains-permutation, IsPermutation-sym}
-use Rattle.jb_base.specs.Subfields.{first_of}
-use Rattle.jb_base.specs.declared.subfield.TheConstants.{MSGID, REPLYID}
+use Rattle.jb_bytes.specs.Subfields.{first_of}
+use Rattle.jb_bytes.specs.declared.subfield.TheConstants.{MSGID, REPLYID}
 use Rattle.jb_model.specs.Links.{Linkable, RisesFrom, is_reply_to, parent_for, parent_of}
 use Rattle.jb_model.specs.Loaded.{with_slot_at}
 use Rattle.jb_model.specs.Message.{replyid_of}
@@ -22,8 +22,8 @@ use Rattle.jb_link.specs.Kept.{IsKeptList}
 use Rattle.jb_link.specs.Order.{IsPartWith, id_order, pair_order}
 use Rattle.jb_link.specs.Orphans.{AddsOrphans, AreOrphans, IsOrphan, orphan_of, orphans_of, without_one}
 use Rattle.jb_link.specs.Part.{part}
-use Rattle.jb_link.specs.Plan.{loaded_at}
-use Rattle.jb_link.specs.Slots.{IsLive, linkables, loaded_linkable}
+use Rattle.jb_model.specs.Plan.{loaded_at}
+use Rattle.jb_model.specs.LiveSlots.{IsLive, linkables, loaded_linkable}
 use Rattle.jb_link.specs.declared.orphans.Orphan.{Orphan}
 use Rattle.jb_link.proofs.AreaLemmas.{killed_names_none, listed_named, named_beside, named_is_in, named_listed}
 use Rattle.jb_link.proofs.FoundLemmas.{IsReplyById, listed_reply, live_named, no_parent_by_id, no_parent_kept, parent_as_kept, parent_by_id, reply_has_id, reply_keeps, reply_listed, same_id}

@@ -11,7 +11,7 @@ use Rattle.jb_model.specs.declared.loaded.LoadedSlot.{LoadedSlot}
 use Rattle.jb_model.specs.declared.loaded.LoadedSlot.TheVariants.{Empty, Killed, Live}
 use Rattle.jb_link.specs.Ids.{HasLowest, KeepsLowest}
 use Rattle.jb_link.specs.Parents.{AreParents}
-use Rattle.jb_link.specs.Slots.{linkables_from, loaded_linkable, msgid_in}
+use Rattle.jb_model.specs.LiveSlots.{linkables_from, loaded_linkable, msgid_in}
 use Rattle.jb_link.proofs.LiveLemmas.{find_below, find_numbered, linkable_in, linkables_from-append}
 use Rattle.jb_link.proofs.RangeLemmas.{found_from}
 

@@ -14,8 +14,8 @@ use Rattle.jb_model.specs.declared.loaded.LoadedMessage.{LoadedMessage}
 use Rattle.jb_model.specs.declared.loaded.LoadedSlot.{LoadedSlot}
 use Rattle.jb_model.specs.declared.loaded.LoadedSlot.TheVariants.{Empty, Killed, Live}
 use Rattle.jb_link.specs.Parents.{AreParents}
-use Rattle.jb_link.specs.Plan.{links_of}
-use Rattle.jb_link.specs.Slots.{linkables_from, loaded_linkable, message_in}
+use Rattle.jb_model.specs.Plan.{links_of}
+use Rattle.jb_model.specs.LiveSlots.{linkables_from, loaded_linkable, message_in}
 use Rattle.jb_link.proofs.LiveLemmas.{find_below, linkables_from-append}
 use Rattle.jb_link.proofs.ParentLemmas.{parent_of_message}
 use Rattle.jb_link.proofs.RangeLemmas.{found_in_range, found_lower, never_found, same_found}

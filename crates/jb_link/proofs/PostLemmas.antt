@@ -9,7 +9,7 @@ use Rattle.jb_model.specs.State.{LiveMessage, SlotState, killed_message, live_me
 use Rattle.jb_model.specs.declared.loaded.LoadedMessage.{LoadedMessage}
 use Rattle.jb_model.specs.declared.loaded.LoadedSlot.{LoadedSlot}
 use Rattle.jb_model.specs.declared.loaded.LoadedSlot.TheVariants.{Empty, Killed, Live}
-use Rattle.jb_link.specs.Slots.{linkables_from, loaded_linkable}
+use Rattle.jb_model.specs.LiveSlots.{linkables_from, loaded_linkable}
 use Rattle.jb_link.proofs.RangeLemmas.{found_from, option_or_none, same_found}
 
 -- a message without its text and its places

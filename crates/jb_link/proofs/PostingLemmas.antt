@@ -13,7 +13,7 @@ use Rattle.jb_model.specs.State.{LiveMessage, SlotState, live_message}
 use Rattle.jb_model.specs.declared.loaded.LoadedMessage.{LoadedMessage}
 use Rattle.jb_model.specs.declared.loaded.LoadedSlot.{LoadedSlot}
 use Rattle.jb_model.specs.declared.loaded.LoadedSlot.TheVariants.{Live}
-use Rattle.jb_link.specs.Slots.{linkables_from, loaded_linkable}
+use Rattle.jb_model.specs.LiveSlots.{linkables_from, loaded_linkable}
 use Rattle.jb_link.proofs.EachLemmas.{Each, each_at, each_from, each_of_reverse, each_reversed, each_then, found_each, none_passes, nothing_found}
 use Rattle.jb_link.proofs.LiveLemmas.{linkables_from-append}
 use Rattle.jb_link.proofs.PlanLemmas.{parent_lower}

@@ -6,7 +6,7 @@ use Rattle.std.specs.Option.{option_or}
 use Rattle.jb_model.specs.Links.{Linkable, number_or_0}
 use Rattle.jb_model.specs.declared.loaded.LoadedSlot.{LoadedSlot}
 use Rattle.jb_model.specs.declared.loaded.LoadedSlot.TheVariants.{Empty, Killed, Live}
-use Rattle.jb_link.specs.Slots.{linkables_from, loaded_linkable}
+use Rattle.jb_model.specs.LiveSlots.{linkables_from, loaded_linkable}
 
 -- a number among those of so many slots, of which the first has the number `from`
 abbrev pub IsNumberOf : ℕ → ℕ → ℕ → Type 0

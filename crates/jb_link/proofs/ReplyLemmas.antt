@@ -17,7 +17,7 @@ use Rattle.jb_model.specs.declared.loaded.Loaded.{Loaded}
 use Rattle.jb_model.specs.declared.loaded.LoadedMessage.{LoadedMessage}
 use Rattle.jb_model.specs.declared.loaded.LoadedSlot.{LoadedSlot}
 use Rattle.jb_model.specs.declared.loaded.LoadedSlot.TheVariants.{Empty, Killed, Live}
-use Rattle.jb_link.specs.Slots.{IsLive, is_live_and, linkables_from, loaded_linkable, msgid_in}
+use Rattle.jb_model.specs.LiveSlots.{IsLive, is_live_and, linkables_from, loaded_linkable, msgid_in}
 use Rattle.jb_link.specs.Splice.{answers, own_id, spliced, with_spliced}
 use Rattle.jb_link.specs.declared.splicing.Spliced.{Spliced}
 use Rattle.jb_link.specs.declared.splicing.Spliced.TheVariants.{None as Nothing, First, After}

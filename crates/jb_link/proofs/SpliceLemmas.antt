@@ -7,7 +7,7 @@ use Rattle.jb_model.specs.State.{LiveMessage, SlotState, killed_message, live_me
 use Rattle.jb_model.specs.declared.loaded.LoadedMessage.{LoadedMessage}
 use Rattle.jb_model.specs.declared.loaded.LoadedSlot.{LoadedSlot}
 use Rattle.jb_model.specs.declared.loaded.LoadedSlot.TheVariants.{Live}
-use Rattle.jb_link.specs.Slots.{linkables_from}
+use Rattle.jb_model.specs.LiveSlots.{linkables_from}
 use Rattle.jb_link.proofs.PostLemmas.{HasNew, first_then, next_then, unload, unloaded}
 
 -- a number that is 0 or stays

@@ -1,7 +1,7 @@
 -- Reply links and threads after the JAM proposal ("Reply linking"): small areas by hand, and a drawn one by the rule of the parent
 -- as it was written out plainly in another language.
 use Rattle.std.proofs.Common.{◌≡◌, ℕ, List, [], ◌∷◌, Option, Some, None, codes, map, refl}
-use Rattle.jb_link.specs.Plan.{plan_of}
+use Rattle.jb_model.specs.Plan.{plan_of}
 use Rattle.jb_link.specs.Splice.{spliced}
 use Rattle.jb_link.specs.Thread.{thread_of}
 use Rattle.jb_link.specs.declared.splicing.Spliced.TheVariants.{None as Nothing, First, After}

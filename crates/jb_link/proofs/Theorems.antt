@@ -4,7 +4,7 @@ use Rattle.jb_base.specs.Access.{first_refusal}
 use Rattle.jb_base.specs.declared.area.Action.TheVariants.{Post as Posting}
 use Rattle.jb_base.specs.declared.area.AreaRules.{AreaRules}
 use Rattle.jb_base.specs.declared.area.Rule.{Rule}
-use Rattle.jb_base.specs.declared.subfield.TheConstants.{SENDER_NAME, RECEIVER_NAME, MSGID, REPLYID, SUBJECT}
+use Rattle.jb_bytes.specs.declared.subfield.TheConstants.{SENDER_NAME, RECEIVER_NAME, MSGID, REPLYID, SUBJECT}
 use Rattle.jb_base.specs.declared.user.User.{User}
 use Rattle.jb_model.specs.Answered.{Answered, unless_denied, unless_refused}
 use Rattle.jb_model.specs.Links.{HasItsLinks, IsLinked, Linkable, is_id, last_reply_of, linkable, linkables_of, number_or_0, parent_for, parent_of}
@@ -16,7 +16,7 @@ use Rattle.jb_model.specs.declared.loaded.LoadedSlot.{LoadedSlot}
 use Rattle.jb_model.specs.declared.loaded.LoadedSlot.TheVariants.{Live}
 use Rattle.jb_model.specs.declared.reply.Reply.{Reply}
 use Rattle.jb_link.specs.Laws.{PostsKeepLinks}
-use Rattle.jb_link.specs.Slots.{loaded_linkable}
+use Rattle.jb_model.specs.LiveSlots.{loaded_linkable}
 use Rattle.jb_link.proofs.EachLemmas.{Each, IsOneOf, each_is_one, each_reversed, each_then, found_each, greatest_found}
 use Rattle.jb_link.proofs.LiveLemmas.{StandsAt, found_stands}
 use Rattle.jb_link.proofs.PostLemmas.{linkables_unloaded, unload, unloaded}

@@ -11,7 +11,7 @@ use Rattle.jb_model.specs.declared.loaded.Loaded.{Loaded}
 use Rattle.jb_model.specs.declared.loaded.LoadedMessage.{LoadedMessage}
 use Rattle.jb_model.specs.declared.loaded.LoadedSlot.{LoadedSlot}
 use Rattle.jb_model.specs.declared.loaded.LoadedSlot.TheVariants.{Empty, Killed, Live}
-use Rattle.jb_link.specs.Slots.{IsLive, linkables_from, loaded_linkable, message_in}
+use Rattle.jb_model.specs.LiveSlots.{IsLive, linkables_from, loaded_linkable, message_in}
 use Rattle.jb_link.specs.Thread.{AreRoots}
 use Rattle.jb_link.proofs.LiveLemmas.{StandsAt, stands_from_live}
 use Rattle.jb_link.proofs.ParentLemmas.{one_more, parent_of_message, parent_of_no_message}

@@ -1,8 +1,8 @@
 -- The live messages that have an id, in the order of the ids.
 use Rattle.std.specs.Prelude.{◌≡◌, ◌≢◌, ◌↔◌, ℕ, ◌<◌, ◌≤◌, List, [], AllPairs, Contains, IsSome, Option, Some, None, option_and_then, unwrap_or}
-use Rattle.jb_base.specs.Subfields.{first_of}
+use Rattle.jb_bytes.specs.Subfields.{first_of}
 use Rattle.jb_link.specs.Ids.{hash_of}
-use Rattle.jb_link.specs.Plan.{loaded_at}
+use Rattle.jb_model.specs.Plan.{loaded_at}
 use Rattle.jb_model.specs.declared.loaded.Loaded.{Loaded}
 use Rattle.jb_link.specs.Order.{IsRising, id_order}
 

@@ -8,7 +8,7 @@ use Rattle.std.specs.Ordering.{nat_cmp, ordering_then}
 use Rattle.jb_model.specs.Links.{Linkable, is_id, number_or_0}
 use Rattle.jb_model.specs.declared.loaded.LoadedSlot.{LoadedSlot}
 use Rattle.jb_link.specs.declared.ids.Ids.{Ids}
-use Rattle.jb_link.specs.Slots.{msgid_in}
+use Rattle.jb_model.specs.LiveSlots.{msgid_in}
 
 -- a number that ids with the same bytes share, and others hardly ever
 unfoldable pub hash_of : List ℕ → ℕ

@@ -1,6 +1,6 @@
 -- The live messages that have no REPLYID and keep the number of a lower message, in the order of those numbers.
 use Rattle.std.specs.Prelude.{◌≡◌, ◌≢◌, ◌↔◌, ℕ, ◌+◌, ◌<◌, ◌≤◌, nat_le, nat_lt, ◌&&◌, is_none, List, AllPairs, Contains, IsSome, length, Option, Some, None, if◌then◌else◌}
-use Rattle.jb_link.specs.Plan.{loaded_at}
+use Rattle.jb_model.specs.Plan.{loaded_at}
 use Rattle.jb_model.specs.Message.{replyid_of}
 use Rattle.jb_model.specs.declared.loaded.Loaded.{Loaded}
 use Rattle.jb_model.specs.declared.loaded.LoadedMessage.{LoadedMessage}

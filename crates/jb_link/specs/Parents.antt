@@ -1,7 +1,7 @@
 -- The parents of messages: by their places, and of a message behind all others.
 use Rattle.std.specs.Prelude.{◌≡◌, ℕ, ◌+◌, ◌<◌, List, [], Option, length, option_and_then, slice_index}
-use Rattle.jb_link.specs.Plan.{loaded_at}
-use Rattle.jb_link.specs.Slots.{linkables}
+use Rattle.jb_model.specs.Plan.{loaded_at}
+use Rattle.jb_model.specs.LiveSlots.{linkables}
 use Rattle.jb_model.specs.Links.{Linkable, parent_at, parent_for}
 use Rattle.jb_model.specs.Message.{msgid_of}
 use Rattle.jb_model.specs.Post.{if_copied}

@@ -1,7 +1,7 @@
 -- The replies of a message in a loaded area.
 use Rattle.std.specs.Prelude.{◌≡◌, ◌⊎◌, ℕ, ◌≤◌, [], Bool, true, List, Option, Some}
-use Rattle.jb_link.specs.Plan.{loaded_at}
-use Rattle.jb_link.specs.Slots.{linkables, loaded_linkable}
+use Rattle.jb_model.specs.Plan.{loaded_at}
+use Rattle.jb_model.specs.LiveSlots.{linkables, loaded_linkable}
 use Rattle.jb_model.specs.Links.{parent_of}
 use Rattle.jb_model.specs.Message.{replyid_of}
 use Rattle.jb_model.specs.declared.loaded.Loaded.{Loaded}

@@ -3,8 +3,8 @@ ghost use Rattle.std.specs.Prelude.{◌≡◌, ◌↔◌, ◌+◌, ◌≤◌, no
 ghost use Rattle.jb_model.specs.Links.{IsLinked};
 ghost use Rattle.jb_model.specs.Relink.{wrongly_linked};
 ghost use Rattle.jb_model.specs.State.{state_of};
-ghost use Rattle.jb_link.specs.Plan.{differs, has_links, loaded_at, plan_of};
-ghost use Rattle.jb_link.specs.Slots.{linkables};
+ghost use Rattle.jb_model.specs.Plan.{differs, has_links, loaded_at, plan_of};
+ghost use Rattle.jb_model.specs.LiveSlots.{linkables};
 
 use jb_model::{Head, Links, Loaded, LoadedSlot};
 

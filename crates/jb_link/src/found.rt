@@ -4,7 +4,7 @@ ghost use Rattle.std.specs.Borrow.{Bor};
 ghost use Rattle.jb_link.specs.Ids.{lent};
 ghost use Rattle.jb_link.specs.IdLists.{id_at};
 ghost use Rattle.jb_link.specs.Parents.{copied_msgid};
-ghost use Rattle.jb_link.specs.Plan.{loaded_at};
+ghost use Rattle.jb_model.specs.Plan.{loaded_at};
 ghost use Rattle.jb_model.specs.Loaded.{IsMessageAt};
 
 use jb_base::{MOST_COPIED_MSGID_BYTES, MSGID};

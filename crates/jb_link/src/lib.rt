@@ -45,7 +45,7 @@ mod threads;
 pub use changes::changed;
 pub use found::{copied_msgid, message_at};
 pub use laws::{posts_keep_links, rests_on_slots, stays_under_heads, stays_under_relink};
-pub use lists::{Numbers, Plan};
+pub use lists::Numbers;
 pub use orphans::Orphan;
 pub use relinking::relink_plan;
 pub use replies::Replies;

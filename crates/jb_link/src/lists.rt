@@ -1,40 +1,7 @@
 //! What is answered for many messages at once, over a `Vec`.
 ghost use Rattle.std.specs.Prelude.{◌≡◌};
 
-use jb_model::Links;
 use std::marker::Model;
-
-/// The links of each live message, in rising order of the numbers. Contracts see the list of them.
-#[derive(Debug, Drop)]
-pub struct Plan {
-    items: Vec<Links>,
-}
-
-impl Model for Plan {
-    ghost use Rattle.std.specs.Prelude.{List};
-    ghost use Rattle.jb_model.specs.declared.links.Links.{Links};
-
-    ghost Value = { List Links };
-
-    ghost view = { λ p. p.items.items };
-}
-
-impl Plan {
-    /// The links, in order.
-    pub fn as_slice(&self) -> &[Links]
-        ensures { result.now ≡ self.now }
-    {
-        self.items.as_slice()
-    }
-}
-
-impl From<Vec<Links>> for Plan {
-    ghost from_gives = { λ items plan. plan ≡ items.items };
-
-    fn from(items: Vec<Links>) -> Plan {
-        Plan { items }
-    }
-}
 
 /// Numbers of messages, in rising order. Contracts see the list of them.
 #[derive(Drop)]

@@ -1,11 +1,11 @@
 //! The replies of a message that goes, each with the parent that it has then.
 ghost use Rattle.std.specs.Prelude.{◌≡◌, ◌+◌, ◌<◌, ◌≤◌, ◌++◌, [], All, is_none, is_some, length, map, nat_lt, OnOk, if◌then◌else◌};
-ghost use Rattle.jb_base.specs.declared.subfield.TheConstants.{MSGID, REPLYID};
+ghost use Rattle.jb_bytes.specs.declared.subfield.TheConstants.{MSGID, REPLYID};
 ghost use Rattle.jb_link.specs.IdLists.{IsIdList};
 ghost use Rattle.jb_link.specs.Kept.{IsKeptList};
 ghost use Rattle.jb_link.specs.Orphans.{AddsOrphans};
 ghost use Rattle.jb_link.specs.Part.{part};
-ghost use Rattle.jb_link.specs.Slots.{IsLive};
+ghost use Rattle.jb_model.specs.LiveSlots.{IsLive};
 ghost use Rattle.jb_link.specs.declared.orphans.Orphan.{Orphan};
 
 use crate::found::id_at;

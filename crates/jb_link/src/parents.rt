@@ -2,7 +2,7 @@
 ghost use Rattle.std.specs.Prelude.{◌≡◌, ◌+◌, ◌<◌, ◌≤◌, IfOk, OnOk, length, slice_get, take};
 ghost use Rattle.jb_model.specs.Links.{parent_at};
 ghost use Rattle.jb_link.specs.Ids.{HasLowest, IsSettled, KeepsLowest, number_of};
-ghost use Rattle.jb_link.specs.Slots.{linkables_from};
+ghost use Rattle.jb_model.specs.LiveSlots.{linkables_from};
 ghost use Rattle.jb_link.specs.Parents.{AreParents};
 
 use crate::ids::Ids;

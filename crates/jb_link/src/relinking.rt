@@ -1,14 +1,13 @@
 //! The links of all live messages.
 ghost use Rattle.std.specs.Prelude.{◌≡◌, ◌⊎◌, ◌+◌, ◌-◌, ◌<◌, ◌≤◌, ◌==◌, ℕ, List, IfOk, length, reverse, slice_index, slice_set, if◌then◌else◌};
 ghost use Rattle.jb_link.specs.Parents.{AreParents};
-ghost use Rattle.jb_link.specs.Plan.{plan_of};
-ghost use Rattle.jb_link.specs.Slots.{linkables, linkables_from};
+ghost use Rattle.jb_model.specs.Plan.{plan_of};
+ghost use Rattle.jb_model.specs.LiveSlots.{linkables, linkables_from};
 
-use crate::Plan;
 use crate::parents::parents_by_place;
 use crate::scan::is_live_slot;
 use jb_base::OutOfMemory;
-use jb_model::{Links, Loaded, LoadedSlot};
+use jb_model::{Links, Loaded, LoadedSlot, Plan};
 use std::alloc::Global;
 use std::mem;
 

@@ -1,8 +1,8 @@
 //! The index: its lists and its room.
 ghost use Rattle.std.specs.Prelude.{◌≡◌, ◌⊎◌, ◌+◌, ◌<◌, ◌≤◌, ℕ, [], List, None, Some, max, length, is_none, is_some, IfOk, OnOk, OnErr};
-ghost use Rattle.jb_base.specs.declared.subfield.TheConstants.{MSGID};
+ghost use Rattle.jb_bytes.specs.declared.subfield.TheConstants.{MSGID};
 ghost use Rattle.jb_link.specs.Ids.{lent};
-ghost use Rattle.jb_link.specs.Slots.{IsLive, linkables};
+ghost use Rattle.jb_model.specs.LiveSlots.{IsLive, linkables};
 ghost use Rattle.jb_link.specs.Splice.{IsSplice, spliced};
 ghost use Rattle.jb_model.specs.Links.{last_reply_of, parent_for};
 ghost use Rattle.jb_model.specs.State.{state_of};

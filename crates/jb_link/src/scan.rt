@@ -6,7 +6,7 @@ ghost use Rattle.jb_model.specs.State.{state_of};
 ghost use Rattle.jb_model.specs.Live.{message_at};
 ghost use Rattle.jb_model.specs.Message.{msgid_of};
 ghost use Rattle.jb_link.specs.Ids.{lent, msgid_at};
-ghost use Rattle.jb_link.specs.Slots.{IsLive, is_live_and, linkables, linkables_from, message_in, msgid_in};
+ghost use Rattle.jb_model.specs.LiveSlots.{IsLive, is_live_and, linkables, linkables_from, message_in, msgid_in};
 
 use crate::id::is_id;
 use jb_base::MSGID;

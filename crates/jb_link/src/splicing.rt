@@ -2,7 +2,7 @@
 ghost use Rattle.std.specs.Prelude.{◌≡◌, ◌⊎◌, ◌+◌, ◌<◌, ◌≤◌, ℕ, List, length, slice_get, take};
 ghost use Rattle.jb_model.specs.State.{state_of};
 ghost use Rattle.jb_link.specs.Ids.{lent};
-ghost use Rattle.jb_link.specs.Slots.{IsLive, is_live_and, linkables, linkables_from, msgid_in};
+ghost use Rattle.jb_model.specs.LiveSlots.{IsLive, is_live_and, linkables, linkables_from, msgid_in};
 ghost use Rattle.jb_link.specs.Splice.{IsSplice, is_answer, last_answer, own_id, spliced};
 
 use crate::id::is_id;

@@ -1,6 +1,6 @@
 //! The thread of a message.
 ghost use Rattle.std.specs.Prelude.{◌≡◌, ◌+◌, ◌≤◌, ℕ, List, IfOk, length};
-ghost use Rattle.jb_link.specs.Slots.{IsLive, linkables, linkables_from};
+ghost use Rattle.jb_model.specs.LiveSlots.{IsLive, linkables, linkables_from};
 ghost use Rattle.jb_link.specs.Thread.{AreRoots, thread_from, thread_of};
 
 use crate::Numbers;

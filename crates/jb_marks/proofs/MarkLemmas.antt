@@ -4,7 +4,7 @@ use Rattle.std.specs.Prelude.{Some, None, IsSome}
 use Rattle.std.proofs.lemmas.Bool.{cond-true, cond-false}
 use Rattle.jb_model.specs.declared.mark.Mark.{Mark}
 use Rattle.jb_model.specs.Marks.{mark_of, with_mark}
-use Rattle.jb_marks.specs.Places.{HasNone, IsFirstOf}
+use Rattle.jb_model.specs.Places.{HasNone, IsFirstOf}
 use Rattle.jb_marks.specs.Store.{MarkStore}
 
 -- the first mark of a pair, at a place, is the one that is found

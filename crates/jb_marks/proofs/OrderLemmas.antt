@@ -12,7 +12,7 @@ use Rattle.std.proofs.lemmas.Option.{slice_get-get_or}
 use Rattle.jb_model.specs.declared.mark.Mark.{Mark}
 use Rattle.jb_model.specs.Marks.{is_mark}
 use Rattle.jb_marks.proofs.MarkLemmas.{length-last}
-use Rattle.jb_marks.specs.Places.{IsFirstOf}
+use Rattle.jb_model.specs.Places.{IsFirstOf}
 use Rattle.jb_marks.specs.Order.{AreBelow, IsGapFor, IsOrdered, IsSplit, pair_in, pair_number, pair_of, place_number}
 
 -- a mark of a pair has the number of the pair

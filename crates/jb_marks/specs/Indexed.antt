@@ -1,6 +1,6 @@
 -- How an index of marks is kept.
 use Rattle.std.specs.Prelude.{◌≤◌, length, vec_capacity}
-use Rattle.jb_base.specs.declared.limits.TheConstants.{MOST_MARKS}
+use Rattle.jb_limits.specs.declared.limits.TheConstants.{MOST_MARKS}
 use Rattle.jb_marks.specs.declared.index.MarkIndex.TheInside.{Inside}
 use Rattle.jb_marks.specs.Store.{MarkOrder}
 

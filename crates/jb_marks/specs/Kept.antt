@@ -1,6 +1,6 @@
 -- How marks are kept with their index.
 use Rattle.std.specs.Prelude.{◌+◌, ◌≤◌, length, vec_capacity}
-use Rattle.jb_base.specs.declared.limits.TheConstants.{MOST_MARKS}
+use Rattle.jb_limits.specs.declared.limits.TheConstants.{MOST_MARKS}
 use Rattle.jb_marks.specs.declared.marks.Marks.TheInside.{Inside}
 use Rattle.jb_marks.specs.Order.{IsOrdered}
 use Rattle.jb_marks.specs.Store.{MarkStore}

@@ -2,7 +2,7 @@
 use Rattle.std.specs.Prelude.{◌≡◌, ℕ, ◌+◌, ◌*◌, ◌^◌, ◌<◌, ◌≤◌, List, length, slice_get, slice_index_or, All, Contains, Option, None, Some, Result, Ok, Err}
 use Rattle.std.specs.List.Sorted.{IsNonDecreasingBy}
 use Rattle.jb_model.specs.declared.mark.Mark.{Mark}
-use Rattle.jb_marks.specs.Places.{HasNone, IsFirstOf}
+use Rattle.jb_model.specs.Places.{HasNone, IsFirstOf}
 
 -- the pairs in their order, as numbers
 abbrev pub pair_number : ℕ → ℕ → ℕ

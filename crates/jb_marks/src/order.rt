@@ -1,7 +1,7 @@
 //! The index of the marks: their places, in the order of their pairs and then of the places.
 ghost use Rattle.std.specs.Prelude.{◌≡◌, ◌+◌, ◌*◌, ◌^◌, ◌≤◌, length, nat_lt, IfOk, vec_capacity};
 ghost use Rattle.std.specs.Ordering.{nat_cmp};
-ghost use Rattle.jb_base.specs.declared.limits.TheConstants.{MOST_MARKS};
+ghost use Rattle.jb_limits.specs.declared.limits.TheConstants.{MOST_MARKS};
 ghost use Rattle.jb_marks.specs.Order.{EndsSearch, IsOrdered, IsSplit, pair_in, pair_number, place_number};
 
 use jb_base::OutOfMemory;

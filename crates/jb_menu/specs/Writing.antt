@@ -1,7 +1,7 @@
 -- The rows of writing a message.
 use Rattle.std.specs.Prelude.{ℕ, ◌+◌, ◌==◌, nat_lt, Bool, ◌||◌, List, [], ◌∷◌, ◌++◌, length, take, codes, bytes_eq, Option, Some, None, if◌then◌else◌}
 use Rattle.std.specs.List.{starts_with}
-use Rattle.jb_base.specs.declared.limits.TheConstants.{MOST_POSTED_TEXT_BYTES, MOST_SUBJECT_BYTES}
+use Rattle.jb_limits.specs.declared.limits.TheConstants.{MOST_POSTED_TEXT_BYTES, MOST_SUBJECT_BYTES}
 use Rattle.jb_conf.specs.declared.board.Board.{Board}
 use Rattle.jb_model.specs.declared.command.Command.TheVariants.{Post}
 use Rattle.jb_text.specs.declared.standing.Fixed.TheVariants.{AskPrivate, AskSubject, Cancelled, NoMessageShown, TextFull, TextLine}

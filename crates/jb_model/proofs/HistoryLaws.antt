@@ -6,7 +6,7 @@ use Rattle.std.proofs.lemmas.Bool.{eqb-true}
 use Rattle.std.proofs.lemmas.List.{append-nil, length-map, length_push, map-append, map-id, map_push, take-append-drop, take_at}
 use Rattle.std.proofs.lemmas.List.Elements.{filter-append, filter_map-append}
 use Rattle.std.proofs.lemmas.List.FromFn.{map-range_with_len_more}
-use Rattle.jb_base.specs.Fault.{Rose}
+use Rattle.jb_bytes.specs.Fault.{Rose}
 use Rattle.jb_model.proofs.LinkLaws.{true_not_false}
 use Rattle.jb_model.specs.declared.entry.Entry.TheVariants.{Called, Reopened}
 use Rattle.jb_base.specs.declared.area.AreaRules.{AreaRules}

@@ -5,17 +5,17 @@ use Rattle.std.specs.Char.{digit_char}
 use Rattle.std.proofs.lemmas.Bool.{cond_both, leb-false, leb-true, ltb-false}
 use Rattle.std.proofs.lemmas.List.{length_push}
 use lib.Bits.{and_block, and_zero_r, or_block, or_lt, or_zero_r}
-use Rattle.jb_base.proofs.Numbers.{length-number_bytes}
-use Rattle.jb_base.specs.Name.{same_name}
-use Rattle.jb_base.specs.Number.{number_bytes}
-use Rattle.jb_base.specs.Subfields.{one_subfield, receiver_of, subfield_bytes}
+use Rattle.jb_bytes.proofs.Numbers.{length-number_bytes}
+use Rattle.jb_bytes.specs.Name.{same_name}
+use Rattle.jb_bytes.specs.Number.{number_bytes}
+use Rattle.jb_bytes.specs.Subfields.{one_subfield, receiver_of, subfield_bytes}
 use Rattle.jb_base.specs.declared.area.AreaRules.{AreaRules}
 use Rattle.jb_base.specs.declared.area.Kind.{Kind}
 use Rattle.jb_base.specs.declared.area.Kind.TheVariants.{Local, Echo}
 use Rattle.jb_base.specs.declared.attribute.TheConstants.{DELETED, LOCAL, PRIVATE, READ}
-use Rattle.jb_base.specs.declared.limits.TheConstants.{LAST_POSTED_NUMBER, MOST_ADDRESS_BYTES, MOST_COPIED_MSGID_BYTES, MOST_NAME_BYTES, MOST_POSTED_TEXT_BYTES, MOST_SUBFIELD_BYTES, MOST_SUBJECT_BYTES}
-use Rattle.jb_base.specs.declared.subfield.Subfield.{Subfield}
-use Rattle.jb_base.specs.declared.subfield.TheConstants.{SENDER_NAME, RECEIVER_NAME, MSGID, REPLYID, SUBJECT}
+use Rattle.jb_limits.specs.declared.limits.TheConstants.{LAST_POSTED_NUMBER, MOST_ADDRESS_BYTES, MOST_COPIED_MSGID_BYTES, MOST_NAME_BYTES, MOST_POSTED_TEXT_BYTES, MOST_SUBFIELD_BYTES, MOST_SUBJECT_BYTES}
+use Rattle.jb_bytes.specs.declared.subfield.Subfield.{Subfield}
+use Rattle.jb_bytes.specs.declared.subfield.TheConstants.{SENDER_NAME, RECEIVER_NAME, MSGID, REPLYID, SUBJECT}
 use Rattle.jb_base.specs.declared.user.User.{User}
 use Rattle.jb_model.specs.Live.{change_live_from, live_of, message_at}
 use Rattle.jb_model.specs.Message.{msgid_of}

@@ -1,6 +1,6 @@
 -- Worked rows: what the definitions answer, computed.
 use Rattle.std.proofs.Common.{◌≡◌, ℕ, ◌+◌, List, [], ◌∷◌, ◌++◌, Option, Some, None, true, false, refl, length, map, replicate, codes, option_to_list, None}
-use Rattle.jb_base.specs.Crc.{jam_crc_of}
+use Rattle.jb_bytes.specs.Crc.{jam_crc_of}
 use Rattle.jb_base.specs.declared.area.AreaRules.{AreaRules}
 use Rattle.jb_base.specs.declared.area.Kind.TheVariants.{Local}
 use Rattle.jb_base.specs.declared.area.Rule.TheVariants.{A1, A2, A4, A5}

@@ -1,7 +1,7 @@
 -- The history of an area: what was asked of it and what came of it, in one order.
 use Rattle.std.specs.Prelude.{◌≡◌, ℕ, zero, suc, ◌==◌, Bool, false, List, [], ◌∷◌, Option, Some, None, filter, filter_map, length, map, take, IfSome, ◌+◌, if◌then◌else◌}
 use Rattle.std.specs.List.{range_with_len}
-use Rattle.jb_base.specs.Fault.{Rose}
+use Rattle.jb_bytes.specs.Fault.{Rose}
 use Rattle.jb_base.specs.declared.area.AreaRules.{AreaRules}
 use Rattle.jb_model.specs.Standing.{Standing, Settled, Allows, after_entry, is_settled}
 use Rattle.jb_model.specs.State.{AreaState}

@@ -19,3 +19,9 @@ pub mod State
 pub mod Step
 pub mod Tight
 pub mod Visible
+pub mod LiveSlots
+pub mod Plan
+pub mod Linked
+pub mod Packed
+pub mod Change
+pub mod Places

@@ -1,6 +1,6 @@
 -- What the changes of an area make of it as it is loaded.
 use Rattle.std.specs.Prelude.{◌≡◌, ℕ, ◌+◌, ◌++◌, ◌∷◌, [], List, Some, length, slice_get, slice_set}
-use Rattle.jb_base.specs.Subfields.{subfield_bytes}
+use Rattle.jb_bytes.specs.Subfields.{subfield_bytes}
 use Rattle.jb_model.specs.declared.loaded.Loaded.{Loaded}
 use Rattle.jb_model.specs.declared.loaded.LoadedMessage.{LoadedMessage}
 use Rattle.jb_model.specs.declared.loaded.LoadedSlot.{LoadedSlot}

@@ -1,9 +1,9 @@
 -- What a message says of itself: its parties, its ids and its letter (JAM, "SubFields").
 use Rattle.std.specs.Prelude.{ℕ, ◌+◌, List, [], Option, unwrap_or, length}
 use Rattle.jb_base.specs.Access.{Envelope}
-use Rattle.jb_base.specs.Subfields.{first_of, sender_of, receiver_of, subfield_bytes}
-use Rattle.jb_base.specs.declared.subfield.Subfield.{Subfield}
-use Rattle.jb_base.specs.declared.subfield.TheConstants.{MSGID, REPLYID, SUBJECT}
+use Rattle.jb_bytes.specs.Subfields.{first_of, sender_of, receiver_of, subfield_bytes}
+use Rattle.jb_bytes.specs.declared.subfield.Subfield.{Subfield}
+use Rattle.jb_bytes.specs.declared.subfield.TheConstants.{MSGID, REPLYID, SUBJECT}
 use Rattle.jb_model.specs.State.{LiveMessage}
 use Rattle.jb_model.specs.declared.reply.Letter.{Letter}
 

@@ -3,7 +3,7 @@ use Rattle.std.specs.Prelude.{ℕ, ◌+◌, ◌-◌, nat_lt, List, [], ◌∷◌
 use Rattle.jb_base.specs.Access.{first_refusal}
 use Rattle.jb_base.specs.declared.area.Action.TheVariants.{Tend as Tending}
 use Rattle.jb_base.specs.declared.area.AreaRules.{AreaRules}
-use Rattle.jb_base.specs.declared.limits.TheConstants.{TEXTS_CEILING}
+use Rattle.jb_limits.specs.declared.limits.TheConstants.{TEXTS_CEILING}
 use Rattle.jb_base.specs.declared.user.User.{User}
 use Rattle.jb_model.specs.Answered.{Answered, counted, unless_denied, unless_refused}
 use Rattle.jb_model.specs.Live.{Numbered, killed_count, live_count, live_in}

@@ -2,15 +2,15 @@
 use Rattle.std.specs.Prelude.{ℕ, zero, suc, ◌+◌, ◌-◌, ◌*◌, ◌/◌, ◌%◌, ◌^◌, min, nat_lt, nat_le, Bool, not, ◌&&◌, ◌==◌, List, [], ◌∷◌, ◌++◌, Option, Some, None, is_none, option_map, option_to_list, option_and_then, length, map, slice_set, if◌then◌else◌}
 use Rattle.std.specs.Char.{digit_char}
 use Rattle.jb_base.specs.Access.{first_refusal}
-use Rattle.jb_base.specs.Crc.{jam_crc_of}
+use Rattle.jb_bytes.specs.Crc.{jam_crc_of}
 use Rattle.jb_base.specs.declared.area.Action.TheVariants.{Post as Posting}
 use Rattle.jb_base.specs.declared.area.AreaRules.{AreaRules}
 use Rattle.jb_base.specs.declared.area.Kind.{Kind}
 use Rattle.jb_base.specs.declared.area.Kind.TheVariants.{Local, Echo}
 use Rattle.jb_base.specs.declared.attribute.TheConstants.{LOCAL, PRIVATE, TYPELOCAL, TYPEECHO}
-use Rattle.jb_base.specs.declared.limits.TheConstants.{HEADERS_CEILING, LAST_POSTED_NUMBER, MOST_COPIED_MSGID_BYTES, MOST_NAME_BYTES, MOST_POSTED_TEXT_BYTES, MOST_SUBJECT_BYTES, TEXTS_CEILING}
-use Rattle.jb_base.specs.declared.subfield.Subfield.{Subfield}
-use Rattle.jb_base.specs.declared.subfield.TheConstants.{SENDER_NAME, RECEIVER_NAME, MSGID, REPLYID, SUBJECT}
+use Rattle.jb_limits.specs.declared.limits.TheConstants.{HEADERS_CEILING, LAST_POSTED_NUMBER, MOST_COPIED_MSGID_BYTES, MOST_NAME_BYTES, MOST_POSTED_TEXT_BYTES, MOST_SUBJECT_BYTES, TEXTS_CEILING}
+use Rattle.jb_bytes.specs.declared.subfield.Subfield.{Subfield}
+use Rattle.jb_bytes.specs.declared.subfield.TheConstants.{SENDER_NAME, RECEIVER_NAME, MSGID, REPLYID, SUBJECT}
 use Rattle.jb_base.specs.declared.user.User.{User}
 use Rattle.jb_model.specs.Answered.{Answered, counted, unless_denied, unless_refused}
 use Rattle.jb_model.specs.Links.{last_reply_of, linkables_of, parent_for}

@@ -1,8 +1,8 @@
 -- A message is read, or looked at.
 use Rattle.std.specs.Prelude.{ℕ, ◌+◌, min, ◌==◌, bit_or, None, if◌then◌else◌}
 use Rattle.jb_base.specs.Access.{first_refusal}
-use Rattle.jb_base.specs.Name.{same_name}
-use Rattle.jb_base.specs.Subfields.{receiver_of}
+use Rattle.jb_bytes.specs.Name.{same_name}
+use Rattle.jb_bytes.specs.Subfields.{receiver_of}
 use Rattle.jb_base.specs.declared.area.Action.TheVariants.{List as Listing}
 use Rattle.jb_base.specs.declared.area.AreaRules.{AreaRules}
 use Rattle.jb_base.specs.declared.attribute.TheConstants.{READ}

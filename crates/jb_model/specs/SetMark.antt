@@ -1,10 +1,10 @@
 -- A user's mark is set.
 use Rattle.std.specs.Prelude.{ℕ, max, nat_le, ◌&&◌, is_none, length, Option, Some, None, if◌then◌else◌}
 use Rattle.jb_base.specs.Access.{first_refusal}
-use Rattle.jb_base.specs.Crc.{jam_crc_of}
+use Rattle.jb_bytes.specs.Crc.{jam_crc_of}
 use Rattle.jb_base.specs.declared.area.Action.TheVariants.{List as Listing}
 use Rattle.jb_base.specs.declared.area.AreaRules.{AreaRules}
-use Rattle.jb_base.specs.declared.limits.TheConstants.{MOST_MARKS}
+use Rattle.jb_limits.specs.declared.limits.TheConstants.{MOST_MARKS}
 use Rattle.jb_base.specs.declared.user.User.{User}
 use Rattle.jb_model.specs.Answered.{Answered, unless_denied, unless_refused}
 use Rattle.jb_model.specs.Marks.{with_mark}

@@ -1,8 +1,8 @@
 -- A loaded area that fits its own lengths.
 use Rattle.std.specs.Prelude.{◌≡◌, ◌⊎◌, ℕ, ◌+◌, ◌<◌, ◌≤◌, length, All, AllPairs, bit_and}
 use Rattle.jb_base.specs.declared.attribute.TheConstants.{DELETED}
-use Rattle.jb_base.specs.declared.limits.TheConstants.{HEADERS_CEILING, TEXTS_CEILING, MOST_MARKS, MOST_SUBFIELD_BYTES, MOST_TEXT_BYTES}
-use Rattle.jb_base.specs.Subfields.{subfield_bytes}
+use Rattle.jb_limits.specs.declared.limits.TheConstants.{HEADERS_CEILING, TEXTS_CEILING, MOST_MARKS, MOST_SUBFIELD_BYTES, MOST_TEXT_BYTES}
+use Rattle.jb_bytes.specs.Subfields.{subfield_bytes}
 use Rattle.jb_model.specs.declared.loaded.Loaded.{Loaded}
 use Rattle.jb_model.specs.declared.loaded.LoadedMessage.{LoadedMessage}
 use Rattle.jb_model.specs.declared.loaded.LoadedSlot.{LoadedSlot}

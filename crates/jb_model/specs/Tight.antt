@@ -1,7 +1,7 @@
 -- The state of an area whose files hold nothing but its messages.
 use Rattle.std.specs.Prelude.{ℕ, ◌+◌, List, length, map, replicate, sum_by}
-use Rattle.jb_base.specs.Crc.{jam_crc_of}
-use Rattle.jb_base.specs.Subfields.{receiver_of}
+use Rattle.jb_bytes.specs.Crc.{jam_crc_of}
+use Rattle.jb_bytes.specs.Subfields.{receiver_of}
 use Rattle.jb_model.specs.Message.{header_length}
 use Rattle.jb_model.specs.State.{AreaState, LiveMessage, SlotState, no_message, killed_message, live_message}
 use Rattle.jb_model.specs.declared.area.Area.{Area}

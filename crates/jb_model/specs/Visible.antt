@@ -1,7 +1,7 @@
 -- What a user sees of an area.
 use Rattle.std.specs.Prelude.{ℕ, nat_lt, Bool, List, Option, Some, None, filter, map, Contains, option_map, unwrap_or, if◌then◌else◌}
 use Rattle.jb_base.specs.Access.{is_visible}
-use Rattle.jb_base.specs.Crc.{jam_crc_of}
+use Rattle.jb_bytes.specs.Crc.{jam_crc_of}
 use Rattle.jb_base.specs.declared.area.AreaRules.{AreaRules}
 use Rattle.jb_base.specs.declared.user.User.{User}
 use Rattle.jb_model.specs.Live.{Numbered, live_in, message_at}

@@ -7,6 +7,7 @@
 #![tactic(auto)]
 
 mod area;
+mod change;
 mod command;
 mod entry;
 mod links;
@@ -21,9 +22,10 @@ mod short;
 mod summary;
 
 pub use area::{Area, Message, Slot, Slots};
+pub use change::{Change, HeadAt};
 pub use command::{Asked, Command, Field};
 pub use entry::{Entry, Outcome};
-pub use links::Links;
+pub use links::{Links, Plan};
 pub use loaded::{Loaded, LoadedMessage, LoadedSlot, LoadedSlots};
 pub use loaded_marks::LoadedMarks;
 pub use look::{Answer, Barred, LookError, Question, SharedFault};

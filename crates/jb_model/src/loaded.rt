@@ -1,6 +1,6 @@
 //! An area as it is loaded: all of its state but the texts, with the places of headers and texts.
 ghost use Rattle.std.specs.Prelude.{◌≡◌, ◌<◌, ◌≤◌, [], ◌∷◌, ◌++◌, drop, length, slice_index_or, slice_set, IfOk, IsOk, OnOk, OnErr};
-ghost use Rattle.jb_base.specs.declared.limits.TheConstants.{MOST_SLOTS};
+ghost use Rattle.jb_limits.specs.declared.limits.TheConstants.{MOST_SLOTS};
 ghost use Rattle.jb_model.specs.Loaded.{slot_moved_to, slot_with_head};
 ghost use Rattle.jb_model.specs.declared.loaded.LoadedSlot.{LoadedSlot};
 
@@ -67,7 +67,7 @@ pub struct LoadedSlots {
 
 impl Model for LoadedSlots {
     ghost use Rattle.std.specs.Prelude.{List, ◌≤◌, vec_capacity};
-    ghost use Rattle.jb_base.specs.declared.limits.TheConstants.{MOST_SLOTS};
+    ghost use Rattle.jb_limits.specs.declared.limits.TheConstants.{MOST_SLOTS};
     ghost use Rattle.jb_model.specs.declared.loaded.LoadedSlot.{LoadedSlot};
 
     ghost Value = { List LoadedSlot };

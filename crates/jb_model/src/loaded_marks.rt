@@ -1,6 +1,6 @@
 //! The marks of a loaded area.
 ghost use Rattle.std.specs.Prelude.{◌≡◌, ◌<◌, [], ◌∷◌, ◌++◌, length, slice_set, IfOk, IsOk, OnOk, OnErr};
-ghost use Rattle.jb_base.specs.declared.limits.TheConstants.{MOST_MARKS};
+ghost use Rattle.jb_limits.specs.declared.limits.TheConstants.{MOST_MARKS};
 
 use crate::Mark;
 use jb_base::{MOST_MARKS, OutOfMemory};
@@ -17,7 +17,7 @@ pub struct LoadedMarks {
 
 impl Model for LoadedMarks {
     ghost use Rattle.std.specs.Prelude.{List, ◌≤◌, vec_capacity};
-    ghost use Rattle.jb_base.specs.declared.limits.TheConstants.{MOST_MARKS};
+    ghost use Rattle.jb_limits.specs.declared.limits.TheConstants.{MOST_MARKS};
     ghost use Rattle.jb_model.specs.declared.mark.Mark.{Mark};
 
     ghost Value = { List Mark };

@@ -1,7 +1,7 @@
 //! What a posted message gets from its area and its number: its MSGID and its attributes.
 ghost use Rattle.std.specs.Prelude.{◌≡◌, ◌<◌, ◌≤◌, IfOk};
 ghost use Rattle.std.specs.Char.{digit_char};
-ghost use Rattle.jb_base.specs.declared.limits.TheConstants.{LAST_POSTED_NUMBER};
+ghost use Rattle.jb_limits.specs.declared.limits.TheConstants.{LAST_POSTED_NUMBER};
 ghost use Rattle.jb_model.specs.Post.{hex_digits, posted_attribute, posted_msgid};
 
 use jb_base::{AreaRules, Bytes, Kind, LOCAL, OutOfMemory, PRIVATE, TYPEECHO, TYPELOCAL};

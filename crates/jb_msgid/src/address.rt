@@ -5,7 +5,7 @@ ghost use Rattle.jb_msgid.specs.Answer.{IsAddressError};
 ghost use Rattle.jb_msgid.specs.Unquoting.{IsEnd, IsUnquoting};
 
 use crate::MsgIdError;
-use jb_base::{Bytes, OutOfMemory};
+use jb_bytes::{Bytes, OutOfMemory};
 use std::alloc::Global;
 
 /// An address, and where in the text the bytes behind it begin.

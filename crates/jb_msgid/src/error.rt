@@ -2,7 +2,7 @@
 ghost use Rattle.std.specs.Prelude.{◌≡◌};
 ghost use Rattle.jb_msgid.specs.declared.error.MsgIdError.TheVariants.{OutOfMemory as no_memory};
 
-use jb_base::OutOfMemory;
+use jb_bytes::OutOfMemory;
 use thiserror::Error;
 
 /// Why [`parse`](crate::parse) gives no value.

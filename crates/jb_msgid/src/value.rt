@@ -1,6 +1,6 @@
 //! What the text of a MSGID says.
 
-use jb_base::Bytes;
+use jb_bytes::Bytes;
 
 /// The address of the system at which a message was written, of one byte or more, and the serial number that the system
 /// gave it.

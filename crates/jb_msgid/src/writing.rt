@@ -5,7 +5,7 @@ ghost use Rattle.jb_msgid.specs.Text.{IsMsgId, address_text, msgid_text, wants_q
 
 use crate::MsgId;
 use crate::serial::serial_digits;
-use jb_base::{Bytes, OutOfMemory};
+use jb_bytes::{Bytes, OutOfMemory};
 use std::alloc::Global;
 
 /// The one usual text of the value: an address with a space or a quote between quotes, any other plain, and the digits in

@@ -5,7 +5,7 @@ use Rattle.std.specs.Option.{ForSome}
 use Rattle.std.proofs.lemmas.List.{append-nil, drop_more, get_or-append_right, get_or-drop, get_or-take, get_or_read, length-replicate, length-set, places, replicate_more, same_lists, set_at, take-take}
 use Rattle.std.proofs.lemmas.List.Elements.{All-get_or, All-set, All-weaker}
 use Rattle.std.proofs.lemmas.List.Sums.{sum_by-take-le, sum_by_more}
-use Rattle.jb_base.specs.declared.limits.TheConstants.{SHADOW_CEILING, TEXTS_CEILING}
+use Rattle.jb_limits.specs.declared.limits.TheConstants.{SHADOW_CEILING, TEXTS_CEILING}
 use Rattle.jb_disk.specs.Device.{Device, Turns}
 use Rattle.jb_disk.specs.Files.{Files}
 use Rattle.jb_disk.specs.declared.file.FileId.TheVariants.{Jdt, Ndt}

@@ -5,9 +5,9 @@ use Rattle.std.proofs.lemmas.List.{append-nil, drop-drop}
 use Rattle.std.proofs.Math.Seq.{drop-length}
 use Rattle.std.proofs.lemmas.List.Sums.{sum_by-cons}
 use Rattle.std.proofs.lemmas.List.Elements.{All-tail}
-use Rattle.jb_base.specs.declared.limits.TheConstants.{TEXTS_CEILING}
+use Rattle.jb_limits.specs.declared.limits.TheConstants.{TEXTS_CEILING}
 use Rattle.jb_redo.specs.Changes.{KeepsRoom}
-use Rattle.jb_disk.specs.Change.{Change}
+use Rattle.jb_disk.specs.RedoView.{RedoView}
 use Rattle.jb_disk.specs.Files.{Files}
 use Rattle.jb_disk.specs.declared.file.FileId.TheVariants.{Jdt}
 use Rattle.jb_image.specs.Places.{bytes_at}
@@ -19,7 +19,7 @@ use Rattle.jb_model.specs.declared.loaded.LoadedSlot.{LoadedSlot}
 use Rattle.jb_model.specs.declared.loaded.LoadedSlot.TheVariants.{Empty, Killed, Live}
 use Rattle.jb_pack.specs.Copying.{PutsRun, PutsTexts}
 use Rattle.jb_pack.specs.Laid.{Lays, laid}
-use Rattle.jb_pack.specs.Packed.{slot_text_size, texts_in, texts_size}
+use Rattle.jb_model.specs.Packed.{slot_text_size, texts_in, texts_size}
 use Rattle.jb_pack.specs.Runs.{IsJoined, IsPlaced, IsRun}
 use Rattle.jb_pack.specs.declared.run.Run.{Run}
 use Rattle.jb_pack.proofs.SlotLemmas.{keeps_then, lays_fewer, lays_none, lays_then}
@@ -63,9 +63,9 @@ text_run end run some placed = record {
   short = placed.short;
 }
 
-module _ (loaded : Loaded) (contents : Option Files) (slots : List LoadedSlot) (start : Change) where
+module _ (loaded : Loaded) (contents : Option Files) (slots : List LoadedSlot) (start : RedoView) where
   -- some texts are put, a part is to follow, and these slots are left
-  pub record IsCopied (redo : Change) (run : Run) (end count : ℕ) (rest : List LoadedSlot) : Type 0 where
+  pub record IsCopied (redo : RedoView) (run : Run) (end count : ℕ) (rest : List LoadedSlot) : Type 0 where
     pub done : List ℕ
     pub lays : Lays Jdt count done start redo
     pub told : ForSome contents (λ files. done ++ bytes_at run.at run.len (files Jdt) ++ texts_in (files Jdt) rest ≡ texts_in (files Jdt) slots)
@@ -92,7 +92,7 @@ module _ (loaded : Loaded) (contents : Option Files) (slots : List LoadedSlot) (
   }
 
   -- a slot without a live message adds nothing
-  pub copied_no_message : (redo : Change) (run : Run) (end count : ℕ) (slot : LoadedSlot) (rest : List LoadedSlot)
+  pub copied_no_message : (redo : RedoView) (run : Run) (end count : ℕ) (slot : LoadedSlot) (rest : List LoadedSlot)
       → ((message : LoadedMessage) → slot ≡ Live message → ⊥) → IsCopied redo run end count (slot ∷ rest) → IsCopied redo run end (count + 1) rest
   copied_no_message redo run end count Empty rest other copied = record {
     done = copied.done;
@@ -119,7 +119,7 @@ module _ (loaded : Loaded) (contents : Option Files) (slots : List LoadedSlot) (
   copied_no_message redo run end count (Live message) rest other copied = absurd (other message refl)
 
   -- a text that stands right behind the part makes it longer
-  pub copied_joined : (redo : Change) (run more : Run) (end count : ℕ) (message : LoadedMessage) (rest : List LoadedSlot)
+  pub copied_joined : (redo : RedoView) (run more : Run) (end count : ℕ) (message : LoadedMessage) (rest : List LoadedSlot)
       → IsJoined run (record { at = message.text_at; len = message.text_len }) more → IsRun (min loaded.texts_len TEXTS_CEILING) more → IsCopied redo run end count (Live message ∷ rest) → IsCopied redo more end (count + 1) rest
   copied_joined redo run more end count message rest joined run_is copied = record {
     done = copied.done;
@@ -138,7 +138,7 @@ module _ (loaded : Loaded) (contents : Option Files) (slots : List LoadedSlot) (
   }
 
   -- another text begins a part of its own, once the part before it is put
-  pub copied_next : (redo redo' : Change) (run : Run) (end next count : ℕ) (message : LoadedMessage) (rest : List LoadedSlot)
+  pub copied_next : (redo redo' : RedoView) (run : Run) (end next count : ℕ) (message : LoadedMessage) (rest : List LoadedSlot)
       → PutsRun contents run redo redo' → next ≡ end + run.len → KeepsRoom redo redo' → IsRun (min loaded.texts_len TEXTS_CEILING) (record { at = message.text_at; len = message.text_len })
       → IsCopied redo run end count (Live message ∷ rest) → IsCopied redo' (record { at = message.text_at; len = message.text_len }) next (count + 1) rest
   copied_next redo redo' run end next count message rest puts next_is keeps run_is copied = record {
@@ -157,19 +157,19 @@ module _ (loaded : Loaded) (contents : Option Files) (slots : List LoadedSlot) (
   }
 
   -- what is left to put fits
-  pub run_fits : (redo : Change) (run : Run) (end count : ℕ) (rest : List LoadedSlot) → texts_size slots ≤ TEXTS_CEILING → IsCopied redo run end count rest
+  pub run_fits : (redo : RedoView) (run : Run) (end count : ℕ) (rest : List LoadedSlot) → texts_size slots ≤ TEXTS_CEILING → IsCopied redo run end count rest
       → end + run.len ≤ TEXTS_CEILING
   run_fits redo run end count rest fits copied = omega (arith, copied.size, copied.done_is)
 
   -- where the end is reached none is left
-  pub copied_end : (redo : Change) (run : Run) (end count : ℕ) → length slots ≤ count → count ≤ length slots → IsCopied redo run end count (drop count slots)
+  pub copied_end : (redo : RedoView) (run : Run) (end count : ℕ) → length slots ≤ count → count ≤ length slots → IsCopied redo run end count (drop count slots)
       → IsCopied redo run end (length slots) []
   copied_end redo run end count reached within copied =
       let even : count ≡ length slots = omega (arith, reached, within) in
       subst (λ (n : ℕ). IsCopied redo run end n []) even (subst (IsCopied redo run end count) (ap (λ (n : ℕ). drop n slots) even ∙ drop-length slots) copied)
 
   -- once the last part is put, all texts are
-  pub copied_all : (redo redo' : Change) (run : Run) (end : ℕ) → PutsRun contents run redo redo' → IsCopied redo run end (length slots) [] → PutsTexts contents slots start redo'
+  pub copied_all : (redo redo' : RedoView) (run : Run) (end : ℕ) → PutsRun contents run redo redo' → IsCopied redo run end (length slots) [] → PutsTexts contents slots start redo'
   copied_all redo redo' run end puts copied = record {
     bytes = copied.done ++ puts.bytes;
     size = omega (arith, copied.size, puts.size, length-append copied.done puts.bytes);

@@ -8,9 +8,9 @@ use Rattle.std.proofs.lemmas.List.{append-nil, drop-drop}
 use Rattle.std.proofs.lemmas.List.Elements.{All-append, All-cons, All-head, All-nil, All-tail}
 use Rattle.std.proofs.lemmas.List.Sums.{count_by-le-length, sum_by-cons}
 use Rattle.std.proofs.Math.Seq.{drop-append-add, take-append_seam}
-use Rattle.jb_base.specs.declared.limits.TheConstants.{HEADERS_CEILING, SHADOW_CEILING, TEXTS_CEILING}
+use Rattle.jb_limits.specs.declared.limits.TheConstants.{HEADERS_CEILING, SHADOW_CEILING, TEXTS_CEILING}
 use Rattle.jb_redo.specs.Changes.{changed, record_size}
-use Rattle.jb_disk.specs.Change.{Change, bytes_of}
+use Rattle.jb_disk.specs.RedoView.{RedoView, bytes_of}
 use Rattle.jb_disk.specs.Files.{Files, number_of, overwritten}
 use Rattle.jb_disk.specs.Steps.{IsCovered, Span, patched}
 use Rattle.jb_disk.specs.declared.file.FileId.{FileId}
@@ -19,7 +19,7 @@ use Rattle.jb_disk.specs.declared.piece.Length.{Length}
 use Rattle.jb_disk.specs.declared.piece.Piece.{Piece}
 use Rattle.jb_disk.specs.declared.piece.Piece.TheVariants.{Bytes, Copy}
 use Rattle.jb_image.specs.Places.{bytes_at}
-use Rattle.jb_link.specs.Slots.{linkables_from}
+use Rattle.jb_model.specs.LiveSlots.{linkables_from}
 use Rattle.jb_model.specs.Sound.{IsSound}
 use Rattle.jb_model.specs.declared.loaded.Loaded.{Loaded}
 use Rattle.jb_model.specs.declared.loaded.LoadedSlot.{LoadedSlot}
@@ -31,7 +31,7 @@ use Rattle.jb_redo.proofs.SpanLemmas.{spans_in-here, spans_in-other}
 use Rattle.jb_pack.specs.Bytes.{index_file}
 use Rattle.jb_pack.specs.Finish.{BringsNoText, HoldsWithCopies, IsPackOfCopies, PutsCopies}
 use Rattle.jb_pack.specs.Laid.{IsLaidOut, laid, pieces_into}
-use Rattle.jb_pack.specs.Packed.{headers_size, is_live_slot, kept_slots, live_slots, new_base, packed, slot_header_size, slot_text_size, texts_size}
+use Rattle.jb_model.specs.Packed.{headers_size, is_live_slot, kept_slots, live_slots, new_base, packed, slot_header_size, slot_text_size, texts_size}
 use Rattle.jb_pack.specs.Plan.{PutsBase, StandPacked, lengths_with}
 use Rattle.jb_pack.specs.Runs.{IsRun, bytes_in, copies_of, runs_size}
 use Rattle.jb_pack.specs.Shadow.{Shadow}
@@ -268,7 +268,7 @@ headers_long (Live message ∷ slots) =
     omega (arith, headers_long slots, sum_by-cons slot_header_size (Live message) slots, sum_by-cons (λ (slot : LoadedSlot). cond (is_live_slot slot) 1 0) (Live message) slots)
 
 -- the record with the copies
-copies_record : (two new : Change) (runs : List Run) → new.lengths ≡ two.lengths → new.pieces ≡ two.pieces ++ copies_of 0 runs
+copies_record : (two new : RedoView) (runs : List Run) → new.lengths ≡ two.lengths → new.pieces ≡ two.pieces ++ copies_of 0 runs
     → record_size new ≡ record_size two + 16 * length runs
 copies_record two new runs lengths_are pieces_are =
     let all : length (flat_map piece_bytes new.pieces) ≡ length (flat_map piece_bytes two.pieces) + 16 * length runs =
@@ -279,7 +279,7 @@ copies_record two new runs lengths_are pieces_are =
     omega (arith, length-record new.lengths new.pieces, length-record two.lengths two.pieces, ap (λ (l : List Length). length l) lengths_are)
 
 -- all parts of a pack by copies, put one after another
-pub copied_pack_of : (limit : ℕ) (loaded : Loaded) (shadow : Shadow) (two new : Change) → IsSound limit loaded → limit ≤ 65000
+pub copied_pack_of : (limit : ℕ) (loaded : Loaded) (shadow : Shadow) (two new : RedoView) → IsSound limit loaded → limit ≤ 65000
     → texts_size loaded.slots ≤ TEXTS_CEILING → PutsBase loaded two → PutsCopies shadow.texts loaded.slots two new → IsPackOfCopies loaded shadow new
 copied_pack_of limit loaded shadow two new sound limited fits base copies =
     let no_texts : pieces_into two.pieces Jdt ≡ [] = base.others Jdt texts_apart.0 texts_apart.1 in

@@ -6,17 +6,17 @@ use Rattle.std.proofs.lemmas.List.Sums.{sum_by-cons}
 use Rattle.std.proofs.Math.Seq.{drop-append_seam, take-append_seam}
 use Rattle.std.proofs.lemmas.List.Elements.{All-head, All-tail, All-drop, All-nil, All-cons}
 use Rattle.std.proofs.lemmas.List.Kept.{AllPairs-cons}
-use Rattle.jb_base.specs.Subfields.{IsSubfield, subfield_bytes}
+use Rattle.jb_bytes.specs.Subfields.{IsSubfield, subfield_bytes}
 use Rattle.jb_base.specs.declared.attribute.TheConstants.{DELETED}
-use Rattle.jb_base.specs.declared.limits.TheConstants.{HEADERS_CEILING, TEXTS_CEILING}
+use Rattle.jb_limits.specs.declared.limits.TheConstants.{HEADERS_CEILING, TEXTS_CEILING}
 use Rattle.jb_image.proofs.RecordLemmas.{length-entry, length-header, length-message, shaped_header}
 use Rattle.jb_image.specs.Records.{entry_for, message_bytes, numbered_header}
 use Rattle.jb_disk.specs.Files.{Files}
 use Rattle.jb_disk.specs.declared.file.FileId.TheVariants.{Jhr, Jdt, Jdx}
 use Rattle.jb_image.specs.Places.{bytes_at, entry_in, header_in}
 use Rattle.jb_image.specs.Stands.{HasSlot, IsLiveHeader, IsLiveIn, Loads, fixed_of, head_of}
-use Rattle.jb_link.specs.Plan.{links_of}
-use Rattle.jb_link.specs.Slots.{linkables_from, loaded_linkable}
+use Rattle.jb_model.specs.Plan.{links_of}
+use Rattle.jb_model.specs.LiveSlots.{linkables_from, loaded_linkable}
 use Rattle.jb_model.specs.Links.{Linkable}
 use Rattle.jb_model.specs.Loaded.{header_size}
 use Rattle.jb_model.specs.Sound.{AreApart, Covers, IsSlotWithin, IsSound}
@@ -37,7 +37,7 @@ use Rattle.jb_record.specs.declared.message.MessageHeader.{MessageHeader}
 use Rattle.jb_pack.specs.Bytes.{AreEntriesReadAgain, AreHeadersReadAgain, IsReadAgain, headers_bytes, index_bytes}
 use Rattle.jb_pack.specs.Laws.{ArePacked, HoldsPacked}
 use Rattle.jb_pack.proofs.FitLemmas.{headers_fit_kept}
-use Rattle.jb_pack.specs.Packed.{headers_size, kept_slots, moved, new_base, packed, packed_from, slot_header_size, slot_text_size, texts_size}
+use Rattle.jb_model.specs.Packed.{headers_size, kept_slots, moved, new_base, packed, packed_from, slot_header_size, slot_text_size, texts_size}
 
 -- the first part of bytes behind others
 pub first_behind : (front first rest all : List ℕ) (at len : ℕ) → all ≡ front ++ (first ++ rest) → at ≡ length front → len ≡ length first → bytes_at at len all ≡ first

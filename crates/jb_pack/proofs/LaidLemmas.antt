@@ -8,7 +8,7 @@ use Rattle.std.proofs.lemmas.Grind.{flat_map-append}
 use Rattle.std.proofs.lemmas.List.{append-nil, map-append, drop-drop}
 use Rattle.std.proofs.lemmas.List.Elements.{All-append, All-cons, All-nil, filter-append}
 use Rattle.std.proofs.Math.Seq.{drop-append-add, take-append_seam}
-use Rattle.jb_disk.specs.Change.{Change, bytes_of}
+use Rattle.jb_disk.specs.RedoView.{RedoView, bytes_of}
 use Rattle.jb_disk.specs.Files.{Files, number_of, overwritten}
 use Rattle.jb_disk.specs.FileLaws.{number-injective}
 use Rattle.jb_disk.specs.Steps.{IsCovered, Span, patched}
@@ -20,7 +20,7 @@ use Rattle.jb_redo.specs.Record.{length_bytes, piece_bytes, record_bytes, record
 use Rattle.jb_redo.proofs.SpanLemmas.{spans_in-here, spans_in-other}
 use Rattle.jb_pack.specs.Laid.{IsLaidOut, IsLegalIn, Lays, laid, pieces_into}
 use Rattle.jb_redo.specs.Changes.{record_size}
-use Rattle.jb_base.specs.Number.{number_bytes}
+use Rattle.jb_bytes.specs.Number.{number_bytes}
 use Rattle.jb_disk.specs.declared.piece.Length.{Length}
 
 -- spans behind others are written last
@@ -188,7 +188,7 @@ length-record lengths pieces =
     )
 
 -- a record with one piece more
-pub size_more : (old new : Change) (file : FileId) (at : ℕ) (bytes : List ℕ) → new.lengths ≡ old.lengths → new.pieces ≡ old.pieces ++ Bytes file at bytes ∷ []
+pub size_more : (old new : RedoView) (file : FileId) (at : ℕ) (bytes : List ℕ) → new.lengths ≡ old.lengths → new.pieces ≡ old.pieces ++ Bytes file at bytes ∷ []
     → record_size new ≡ record_size old + 12 + length bytes
 size_more old new file at bytes lengths_are pieces_are =
     let piece : length (piece_bytes (Bytes file at bytes)) ≡ 12 + length bytes =
@@ -201,7 +201,7 @@ size_more old new file at bytes lengths_are pieces_are =
     omega (arith, length-record new.lengths new.pieces, length-record old.lengths old.pieces, ap (λ (l : List Length). length l) lengths_are)
 
 -- what one piece more lays
-pub lays_one : (old new : Change) (file : FileId) (at : ℕ) (bytes : List ℕ) → new.lengths ≡ old.lengths → new.pieces ≡ old.pieces ++ Bytes file at bytes ∷ []
+pub lays_one : (old new : RedoView) (file : FileId) (at : ℕ) (bytes : List ℕ) → new.lengths ≡ old.lengths → new.pieces ≡ old.pieces ++ Bytes file at bytes ∷ []
     → at ≡ length (laid old.pieces file) → number_of file < 4 → at < 2 ^ 32 → length bytes < 2 ^ 32 → length new.pieces < 2 ^ 32 → Lays file 1 bytes old new
 lays_one old new file at bytes lengths_are pieces_are at_is base place short few = record {
   lengths = lengths_are;

@@ -7,15 +7,15 @@ use Rattle.std.proofs.lemmas.List.{drop_all}
 use Rattle.std.proofs.lemmas.List.Elements.{All-append, All-replicate, All-take}
 use Rattle.std.proofs.lemmas.List.Folds.{sum_by-replicate}
 use Rattle.std.proofs.lemmas.List.Sums.{sum_by-append, sum_by-take-drop, sum_by-take-le}
-use Rattle.jb_base.specs.declared.limits.TheConstants.{SHADOW_CEILING, TEXTS_CEILING}
-use Rattle.jb_base.specs.Fault.{Rose}
+use Rattle.jb_limits.specs.declared.limits.TheConstants.{SHADOW_CEILING, TEXTS_CEILING}
+use Rattle.jb_bytes.specs.Fault.{Rose}
 use Rattle.jb_disk.specs.Device.{Turns}
 use Rattle.jb_disk.specs.Files.{Files}
 use Rattle.jb_disk.specs.declared.file.FileId.TheVariants.{Jdt, Ndt}
 use Rattle.jb_model.specs.declared.loaded.LoadedSlot.{LoadedSlot}
 use Rattle.jb_pack.specs.Advance.{Copies, CopiesFirst, CopiesWithin}
 use Rattle.jb_pack.specs.Copying.{PackFaultRose}
-use Rattle.jb_pack.specs.Packed.{texts_size}
+use Rattle.jb_model.specs.Packed.{texts_size}
 use Rattle.jb_pack.specs.Reaching.{IsReach, Starts, StopsFor, leaves_more}
 use Rattle.jb_pack.specs.Shadow.{HasCopies, IsBelowCeiling, IsCopyIn, Shadow, left, left_first, lefts, not_copied, nothing_copied}
 use Rattle.jb_pack.specs.Touching.{AgreeButShadow, Empties}

@@ -1,8 +1,7 @@
 -- The pieces of a pack make of files that hold an area files that hold the packed one.
 use Rattle.std.proofs.Common.{◌≡◌, ◌≢◌, ℕ, ◌+◌, ◌-◌, ◌≤◌, ◌<◌, nat_lt, lt-ltb, le-ltb, List, [], ◌∷◌, ◌++◌, Option, cond, length, map, refl, sym, ◌∙◌, ap, subst, arith, length-append, length-drop}
-use Rattle.std.specs.Prelude.{Some, None, slice_index_or}
+use Rattle.std.specs.Prelude.{Some, None, slice_index_or, ◌^◌}
 use Rattle.std.specs.List.{flat_map, position_or_len}
-use Rattle.std.specs.Prelude.{◌^◌}
 use Rattle.std.proofs.lemmas.List.Sums.{sum_by-le}
 use Rattle.jb_redo.specs.Record.{piece_bytes}
 use Rattle.jb_pack.proofs.LaidLemmas.{length-record}
@@ -10,14 +9,14 @@ use Rattle.jb_pack.proofs.StateLemmas.{base_packed, killed_of_state, live_of_sta
 use Rattle.jb_model.specs.declared.reply.Reply.TheVariants.{Packed, TextFull}
 use Rattle.std.proofs.lemmas.List.{length-map}
 use Rattle.std.proofs.lemmas.List.Elements.{All-nil}
-use Rattle.jb_base.specs.declared.limits.TheConstants.{HEADERS_CEILING, TEXTS_CEILING}
+use Rattle.jb_limits.specs.declared.limits.TheConstants.{HEADERS_CEILING, TEXTS_CEILING}
 use Rattle.jb_redo.specs.Changes.{changed}
-use Rattle.jb_disk.specs.Change.{Change, bytes_of}
+use Rattle.jb_disk.specs.RedoView.{RedoView, bytes_of}
 use Rattle.jb_disk.specs.Files.{Files, number_of}
 use Rattle.jb_disk.specs.declared.file.FileId.TheVariants.{Jhr, Jdt, Jdx, Jlr}
 use Rattle.jb_disk.specs.declared.piece.Piece.{Piece}
 use Rattle.jb_image.specs.Stands.{fixed_of}
-use Rattle.jb_link.specs.Slots.{linkables_from}
+use Rattle.jb_model.specs.LiveSlots.{linkables_from}
 use Rattle.jb_model.specs.Live.{live_from}
 use Rattle.jb_model.specs.Pack.{first_number_or, pack_done, pack_refusal}
 use Rattle.jb_model.specs.Sound.{IsSlotWithin, IsSound}
@@ -31,7 +30,7 @@ use Rattle.jb_redo.specs.Rules.{AreLegalLengths}
 use Rattle.jb_pack.specs.Bytes.{IsReadAgain, headers_bytes, headers_file, index_file}
 use Rattle.jb_pack.specs.Copying.{PutsTexts}
 use Rattle.jb_pack.specs.Laid.{IsLaidOut, IsLegalIn, Lays, laid, pieces_into}
-use Rattle.jb_pack.specs.Packed.{headers_size, is_live_slot, kept_slots, killed_slots, live_slots, new_base, packed, slot_text_size, texts_size}
+use Rattle.jb_model.specs.Packed.{headers_size, is_live_slot, kept_slots, killed_slots, live_slots, new_base, packed, slot_text_size, texts_size}
 use Rattle.jb_pack.specs.Plan.{IsPackOf, PutsArea, PutsBase, StandPacked, lengths_with}
 use Rattle.jb_pack.proofs.FitLemmas.{headers_fit_kept}
 use Rattle.jb_pack.proofs.HeldLemmas.{length-headers, length-index, length-packed}
@@ -60,7 +59,7 @@ jdx_not_jhr : Jdx ≢ Jhr
 jdx_not_jhr same = absurd (omega (arith, ap number_of same))
 
 -- all of .JHR and .JDX is put
-pub area_put : (loaded : Loaded) (old one two new : Change) (count : ℕ) → length (laid old.pieces Jhr) ≡ 0
+pub area_put : (loaded : Loaded) (old one two new : RedoView) (count : ℕ) → length (laid old.pieces Jhr) ≡ 0
     → Lays Jhr 1 (fixed_header_bytes (fixed_of (packed loaded))) old one → Lays Jhr count (headers_bytes (new_base loaded) (packed loaded).slots) one two
     → Lays Jdx 1 (index_file (packed loaded)) two new → length (laid old.pieces Jdx) ≡ 0 → count ≡ length (kept_slots loaded)
     → length (fixed_header_bytes (fixed_of (packed loaded))) ≡ 1024 → IsReadAgain (packed loaded) → PutsArea loaded old new
@@ -112,7 +111,7 @@ index_short limit loaded sound limited =
     )
 
 -- the new lengths are put, and then all of .JHR and .JDX
-pub base_put : (loaded : Loaded) (one two : Change)
+pub base_put : (loaded : Loaded) (one two : RedoView)
     → one.lengths ≡ lengths_with (headers_size (kept_slots loaded)) (texts_size (kept_slots loaded)) (length (kept_slots loaded)) → one.pieces ≡ []
     → PutsArea loaded one two → PutsBase loaded two
 base_put loaded one two lengths_are none area =
@@ -138,7 +137,7 @@ pub marks_apart : (Jlr ≢ Jhr) × (Jlr ≢ Jdx)
 marks_apart = (λ same. absurd (omega (arith, ap number_of same)), λ same. absurd (omega (arith, ap number_of same)))
 
 -- all parts of a pack, put one after another
-pub pack_of : (limit : ℕ) (loaded : Loaded) (two new : Change) (contents : Option Files) → IsSound limit loaded → limit ≤ 65000
+pub pack_of : (limit : ℕ) (loaded : Loaded) (two new : RedoView) (contents : Option Files) → IsSound limit loaded → limit ≤ 65000
     → texts_size (kept_slots loaded) ≤ TEXTS_CEILING → PutsBase loaded two → PutsTexts contents (kept_slots loaded) two new → IsPackOf contents loaded new
 pack_of limit loaded two new contents sound limited fits base texts =
     let lays = texts.lays in

@@ -4,9 +4,9 @@ use Rattle.std.specs.Prelude.{◌<◌, ◌^◌}
 use Rattle.std.proofs.lemmas.List.{append-nil}
 use Rattle.std.proofs.lemmas.List.Elements.{All-append, All-cons, All-head, All-nil, All-tail}
 use Rattle.std.proofs.lemmas.List.Sums.{sum_by-cons, sum_by_push}
-use Rattle.jb_base.specs.declared.limits.TheConstants.{SHADOW_CEILING}
+use Rattle.jb_limits.specs.declared.limits.TheConstants.{SHADOW_CEILING}
 use Rattle.jb_redo.specs.Changes.{KeepsRoom}
-use Rattle.jb_disk.specs.Change.{Change}
+use Rattle.jb_disk.specs.RedoView.{RedoView}
 use Rattle.jb_disk.specs.Files.{Files}
 use Rattle.jb_disk.specs.declared.file.FileId.TheVariants.{Jdt, Ndt}
 use Rattle.jb_disk.specs.declared.piece.Piece.{Piece}
@@ -19,7 +19,7 @@ use Rattle.jb_model.specs.declared.loaded.LoadedMessage.{LoadedMessage}
 use Rattle.jb_model.specs.declared.loaded.LoadedSlot.{LoadedSlot}
 use Rattle.jb_model.specs.declared.loaded.LoadedSlot.TheVariants.{Empty, Killed, Live}
 use Rattle.jb_pack.specs.Finish.{PutsCopies}
-use Rattle.jb_pack.specs.Packed.{is_live_slot, live_slots, slot_text_size, texts_in, texts_size}
+use Rattle.jb_model.specs.Packed.{is_live_slot, live_slots, slot_text_size, texts_in, texts_size}
 use Rattle.jb_pack.specs.Runs.{IsJoined, IsPlaced, IsRun, bytes_in, copies_of, runs_size}
 use Rattle.jb_pack.specs.Shadow.{IsBelowCeiling, IsCopyIn, left_of, not_copied}
 use Rattle.jb_pack.specs.declared.copied.CopiedText.{CopiedText}
@@ -92,9 +92,9 @@ put_behind first runs pieces run end are end_is =
     ∙ append_assoc first (copies_of 0 runs) (copies_of (0 + runs_size runs) (run ∷ []))
     ∙ ap (λ (l : List Piece). first ++ l) (sym (copies-append 0 runs (run ∷ [])))
 
-module _ (loaded : Loaded) (copies : List CopiedText) (start : Change) where
+module _ (loaded : Loaded) (copies : List CopiedText) (start : RedoView) where
   -- some texts are put as copies, a part of .NDT is to follow, and these slots are left
-  pub record IsPutting (redo : Change) (run : Run) (end : ℕ) (rest : List LoadedSlot) : Type 0 where
+  pub record IsPutting (redo : RedoView) (run : Run) (end : ℕ) (rest : List LoadedSlot) : Type 0 where
     pub runs : List Run
     pub lengths : redo.lengths ≡ start.lengths
     pub pieces : redo.pieces ≡ start.pieces ++ copies_of 0 runs
@@ -127,7 +127,7 @@ module _ (loaded : Loaded) (copies : List CopiedText) (start : Change) where
   }
 
   -- a slot without a live message adds nothing
-  putting_other : (redo : Change) (run : Run) (end : ℕ) (slot : LoadedSlot) (rest : List LoadedSlot) → live_slots (slot ∷ rest) ≡ live_slots rest
+  putting_other : (redo : RedoView) (run : Run) (end : ℕ) (slot : LoadedSlot) (rest : List LoadedSlot) → live_slots (slot ∷ rest) ≡ live_slots rest
       → texts_size (slot ∷ rest) ≡ texts_size rest → ((texts : List ℕ) → texts_in texts (slot ∷ rest) ≡ texts_in texts rest)
       → IsPutting redo run end (slot ∷ rest) → IsPutting redo run end rest
   putting_other redo run end slot rest live size texts putting = record {
@@ -147,7 +147,7 @@ module _ (loaded : Loaded) (copies : List CopiedText) (start : Change) where
   }
 
   -- whichever it is
-  pub putting_no_message : (redo : Change) (run : Run) (end : ℕ) (slot : LoadedSlot) (rest : List LoadedSlot)
+  pub putting_no_message : (redo : RedoView) (run : Run) (end : ℕ) (slot : LoadedSlot) (rest : List LoadedSlot)
       → ((message : LoadedMessage) → slot ≡ Live message → ⊥) → IsPutting redo run end (slot ∷ rest) → IsPutting redo run end rest
   putting_no_message redo run end Empty rest other putting =
       putting_other redo run end Empty rest (omega (arith, sum_by-cons (λ (slot : LoadedSlot). cond (is_live_slot slot) 1 0) Empty rest)) (omega (arith, sum_by-cons slot_text_size Empty rest)) (λ texts. refl) putting
@@ -156,7 +156,7 @@ module _ (loaded : Loaded) (copies : List CopiedText) (start : Change) where
       putting
   putting_no_message redo run end (Live message) rest other putting = absurd (other message refl)
 
-  module _ (redo : Change) (run : Run) (end : ℕ) (message : LoadedMessage) (text : Run) (rest : List LoadedSlot) (is : IsTextRun copies message text)
+  module _ (redo : RedoView) (run : Run) (end : ℕ) (message : LoadedMessage) (text : Run) (rest : List LoadedSlot) (is : IsTextRun copies message text)
       (putting : IsPutting redo run end (Live message ∷ rest)) where
     -- how many are live
     live_is : live_slots (Live message ∷ rest) ≡ 1 + live_slots rest
@@ -192,7 +192,7 @@ module _ (loaded : Loaded) (copies : List CopiedText) (start : Change) where
     }
 
     -- it begins a part of its own, once that before it is put
-    pub putting_next : (redo' : Change) (next : ℕ) → redo'.lengths ≡ redo.lengths → redo'.pieces ≡ redo.pieces ++ Copy Ndt run.at Jdt end run.len ∷ [] → next ≡ end + run.len
+    pub putting_next : (redo' : RedoView) (next : ℕ) → redo'.lengths ≡ redo.lengths → redo'.pieces ≡ redo.pieces ++ Copy Ndt run.at Jdt end run.len ∷ [] → next ≡ end + run.len
         → KeepsRoom redo redo' → ((end : ℕ) → IsPlaced end text → IsRun end text) → IsPutting redo' text next rest
     putting_next redo' next lengths_are pieces_are next_is keeps text_is = record {
       runs = putting.runs ++ run ∷ [];
@@ -217,7 +217,7 @@ module _ (loaded : Loaded) (copies : List CopiedText) (start : Change) where
     }
 
   -- once the last part is put all texts are
-  pub put_all : (redo redo' : Change) (run : Run) (end : ℕ) → IsPutting redo run end [] → redo'.lengths ≡ redo.lengths
+  pub put_all : (redo redo' : RedoView) (run : Run) (end : ℕ) → IsPutting redo run end [] → redo'.lengths ≡ redo.lengths
       → redo'.pieces ≡ redo.pieces ++ Copy Ndt run.at Jdt end run.len ∷ [] → length redo'.pieces < 2 ^ 32 → PutsCopies copies loaded.slots start redo'
   put_all redo redo' run end putting lengths_are pieces_are many = record {
     runs = putting.runs ++ run ∷ [];

@@ -7,7 +7,7 @@ use Rattle.std.proofs.lemmas.List.Sums.{sum_by-cons, sum_by_more, get_or-le-sum_
 use Rattle.jb_model.specs.declared.loaded.LoadedMessage.{LoadedMessage}
 use Rattle.jb_model.specs.declared.loaded.LoadedSlot.{LoadedSlot}
 use Rattle.jb_model.specs.declared.loaded.LoadedSlot.TheVariants.{Empty, Killed, Live}
-use Rattle.jb_pack.specs.Packed.{slot_text_size, texts_size}
+use Rattle.jb_model.specs.Packed.{slot_text_size, texts_size}
 use Rattle.jb_pack.specs.Shadow.{left_of, lefts, not_copied}
 use Rattle.jb_pack.specs.declared.copied.CopiedText.{CopiedText}
 

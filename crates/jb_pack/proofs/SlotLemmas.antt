@@ -4,14 +4,14 @@ use Rattle.std.proofs.lemmas.List.{append-nil, drop-drop, drop-map, get_or-drop,
 use Rattle.std.proofs.Math.Seq.{drop-cons, drop-length}
 use Rattle.std.proofs.lemmas.List.Sums.{sum_by-cons}
 use Rattle.std.proofs.lemmas.List.Elements.{All-drop, All-head, All-tail}
-use Rattle.jb_base.specs.Subfields.{subfield_bytes}
-use Rattle.jb_base.specs.declared.limits.TheConstants.{HEADERS_CEILING, MOST_SUBFIELD_BYTES, TEXTS_CEILING}
+use Rattle.jb_bytes.specs.Subfields.{subfield_bytes}
+use Rattle.jb_limits.specs.declared.limits.TheConstants.{HEADERS_CEILING, MOST_SUBFIELD_BYTES, TEXTS_CEILING}
 use Rattle.jb_redo.specs.Changes.{KeepsRoom}
-use Rattle.jb_disk.specs.Change.{Change}
+use Rattle.jb_disk.specs.RedoView.{RedoView}
 use Rattle.jb_disk.specs.declared.file.FileId.{FileId}
 use Rattle.jb_disk.specs.declared.file.FileId.TheVariants.{Jhr}
-use Rattle.jb_link.specs.Plan.{links_of, plan_of}
-use Rattle.jb_link.specs.Slots.{linkables_from, loaded_linkable}
+use Rattle.jb_model.specs.Plan.{links_of, plan_of}
+use Rattle.jb_model.specs.LiveSlots.{linkables_from, loaded_linkable}
 use Rattle.jb_model.specs.Links.{Linkable, linkable}
 use Rattle.jb_model.specs.Live.{live_from}
 use Rattle.jb_model.specs.Loaded.{header_size}
@@ -27,14 +27,14 @@ use Rattle.jb_record.specs.Index.{index_record_bytes}
 use Rattle.jb_image.specs.Records.{IsEntryReadAgain, IsHeaderReadAgain, entry_for, message_bytes}
 use Rattle.jb_pack.specs.Bytes.{AreEntriesReadAgain, AreHeadersReadAgain, headers_bytes, index_bytes, index_file}
 use Rattle.jb_pack.specs.Laid.{Lays, laid}
-use Rattle.jb_pack.specs.Packed.{headers_size, kept_slots, moved, new_base, packed, packed_from, slot_header_size, slot_text_size, texts_size}
+use Rattle.jb_model.specs.Packed.{headers_size, kept_slots, moved, new_base, packed, packed_from, slot_header_size, slot_text_size, texts_size}
 use Rattle.jb_pack.specs.Places.{IsBehind}
 use Rattle.jb_pack.specs.declared.place.Place.{Place}
 use Rattle.jb_pack.proofs.FitLemmas.{headers_fit_kept}
 use Rattle.jb_image.proofs.RecordLemmas.{length-message}
 
 -- nothing is laid
-pub lays_none : (file : FileId) (change : Change) → Lays file 0 [] change change
+pub lays_none : (file : FileId) (change : RedoView) → Lays file 0 [] change change
 lays_none file change = record {
   lengths = refl;
   here = sym (append-nil (laid change.pieces file));
@@ -44,7 +44,7 @@ lays_none file change = record {
 }
 
 -- first some, and then others
-pub lays_then : (file : FileId) (count more : ℕ) (bytes behind : List ℕ) (old mid new : Change) → Lays file count bytes old mid → Lays file more behind mid new
+pub lays_then : (file : FileId) (count more : ℕ) (bytes behind : List ℕ) (old mid new : RedoView) → Lays file count bytes old mid → Lays file more behind mid new
     → Lays file (count + more) (bytes ++ behind) old new
 lays_then file count more bytes behind old mid new one two = record {
   lengths = two.lengths ∙ one.lengths;
@@ -55,7 +55,7 @@ lays_then file count more bytes behind old mid new one two = record {
 }
 
 -- pieces that are fewer than they may be
-pub lays_fewer : (file : FileId) (count more : ℕ) (bytes : List ℕ) (old new : Change) → count ≤ more → Lays file count bytes old new → Lays file more bytes old new
+pub lays_fewer : (file : FileId) (count more : ℕ) (bytes : List ℕ) (old new : RedoView) → count ≤ more → Lays file count bytes old new → Lays file more bytes old new
 lays_fewer file count more bytes old new fewer one = record {
   lengths = one.lengths;
   here = one.here;
@@ -65,7 +65,7 @@ lays_fewer file count more bytes old new fewer one = record {
 }
 
 -- room that is kept twice
-pub keeps_then : (old mid new : Change) → KeepsRoom old mid → KeepsRoom mid new → KeepsRoom old new
+pub keeps_then : (old mid new : RedoView) → KeepsRoom old mid → KeepsRoom mid new → KeepsRoom old new
 keeps_then old mid new one two = record {
   for_lengths = omega (arith, one.for_lengths, two.for_lengths);
   for_pieces = omega (arith, one.for_pieces, two.for_pieces);
@@ -78,7 +78,7 @@ linkables_kept loaded =
     ap (λ (l : List _). map linkable (live_from (new_base loaded) l)) (sym (drop-map (slot_state []) (new_base loaded - loaded.base) loaded.slots))
     ∙ ap (map linkable) (live_from-first loaded.base (map (slot_state []) loaded.slots))
 
-module _ (loaded : Loaded) (links : List Links) (start : Change) where
+module _ (loaded : Loaded) (links : List Links) (start : RedoView) where
   -- what the links rest on
   abbrev live : List Linkable
   live = linkables_from loaded.base loaded.slots
@@ -88,7 +88,7 @@ module _ (loaded : Loaded) (links : List Links) (start : Change) where
   left place rest = packed_from live place.number place.header_at place.text_at rest
 
   -- so many slots are put, and these are left
-  pub record IsPut (redo : Change) (index : List ℕ) (place : Place) (count : ℕ) (rest : List LoadedSlot) : Type 0 where
+  pub record IsPut (redo : RedoView) (index : List ℕ) (place : Place) (count : ℕ) (rest : List LoadedSlot) : Type 0 where
     pub done : List ℕ
     pub lays : Lays Jhr count done start redo
     pub whole : done ++ headers_bytes place.number (left place rest) ≡ headers_bytes (new_base loaded) (packed loaded).slots
@@ -105,7 +105,7 @@ module _ (loaded : Loaded) (links : List Links) (start : Change) where
     pub room : KeepsRoom start redo
 
   -- where the end is reached all is put
-  pub all_put : (slots : List LoadedSlot) (redo : Change) (index : List ℕ) (place : Place) (count : ℕ) → length slots ≤ count → count ≤ length slots
+  pub all_put : (slots : List LoadedSlot) (redo : RedoView) (index : List ℕ) (place : Place) (count : ℕ) → length slots ≤ count → count ≤ length slots
       → IsPut redo index place count (drop count slots) → IsPut redo index place (length slots) []
   all_put slots redo index place count reached within put =
       let even : count ≡ length slots = omega (arith, reached, within) in
@@ -137,7 +137,7 @@ module _ (loaded : Loaded) (links : List Links) (start : Change) where
       }
 
   -- an empty slot is put
-  put_empty : (redo : Change) (index index' : List ℕ) (place : Place) (count : ℕ) (slot : LoadedSlot) (rest : List LoadedSlot)
+  put_empty : (redo : RedoView) (index index' : List ℕ) (place : Place) (count : ℕ) (slot : LoadedSlot) (rest : List LoadedSlot)
       → left place (slot ∷ rest) ≡ Empty ∷ left (record place { number = place.number + 1 }) rest
       → linkables_from place.number (slot ∷ rest) ≡ linkables_from (place.number + 1) rest
       → slot_header_size slot ≡ 0 → slot_text_size slot ≡ 0
@@ -167,7 +167,7 @@ module _ (loaded : Loaded) (links : List Links) (start : Change) where
       }
 
   -- a slot without a live message is put
-  pub put_no_message : (redo : Change) (index index' : List ℕ) (place : Place) (count : ℕ) (slot : LoadedSlot) (rest : List LoadedSlot)
+  pub put_no_message : (redo : RedoView) (index index' : List ℕ) (place : Place) (count : ℕ) (slot : LoadedSlot) (rest : List LoadedSlot)
       → ((message : LoadedMessage) → slot ≡ Live message → ⊥)
       → index' ≡ index ++ index_record_bytes (entry_for Empty) → IsEntryReadAgain (entry_for Empty)
       → IsPut redo index place count (slot ∷ rest) → IsPut redo index' (record place { number = place.number + 1 }) (count + 1) rest
@@ -178,12 +178,12 @@ module _ (loaded : Loaded) (links : List Links) (start : Change) where
   put_no_message redo index index' place count (Live message) rest other index_is back put = absurd (other message refl)
 
   -- there are links for a live message
-  pub links_left : (redo : Change) (index : List ℕ) (place : Place) (count : ℕ) (message : LoadedMessage) (rest : List LoadedSlot)
+  pub links_left : (redo : RedoView) (index : List ℕ) (place : Place) (count : ℕ) (message : LoadedMessage) (rest : List LoadedSlot)
       → IsPut redo index place count (Live message ∷ rest) → place.live < length links
   links_left redo index place count message rest put = omega (arith, ap length put.linked, length-drop place.live links)
 
   -- and they are its own
-  pub links_are : (redo : Change) (index : List ℕ) (place : Place) (count : ℕ) (message : LoadedMessage) (rest : List LoadedSlot) (d : Links)
+  pub links_are : (redo : RedoView) (index : List ℕ) (place : Place) (count : ℕ) (message : LoadedMessage) (rest : List LoadedSlot) (d : Links)
       → IsPut redo index place count (Live message ∷ rest) → get_or links place.live d ≡ links_of live (loaded_linkable place.number message)
   links_are redo index place count message rest d put =
       let same : place.live + 0 ≡ place.live = omega arith in
@@ -197,7 +197,7 @@ module _ (loaded : Loaded) (links : List Links) (start : Change) where
     pub number : place.number < loaded.base + length loaded.slots
 
   -- there is a place for it
-  pub has_place : (redo : Change) (index : List ℕ) (place : Place) (count : ℕ) (message : LoadedMessage) (rest : List LoadedSlot)
+  pub has_place : (redo : RedoView) (index : List ℕ) (place : Place) (count : ℕ) (message : LoadedMessage) (rest : List LoadedSlot)
       → IsPut redo index place count (Live message ∷ rest) → HasPlace place message
   has_place redo index place count message rest put =
       let headers_is = sum_by-cons slot_header_size (Live message) rest in
@@ -215,7 +215,7 @@ module _ (loaded : Loaded) (links : List Links) (start : Change) where
   put_as place message = moved (links_of live (loaded_linkable place.number message)) place.header_at place.text_at message
 
   -- a live message is put
-  pub put_live : (redo redo' : Change) (index index' : List ℕ) (place next : Place) (count : ℕ) (message : LoadedMessage) (rest : List LoadedSlot)
+  pub put_live : (redo redo' : RedoView) (index index' : List ℕ) (place next : Place) (count : ℕ) (message : LoadedMessage) (rest : List LoadedSlot)
       → index' ≡ index ++ index_record_bytes (entry_for (Live (put_as place message))) → IsEntryReadAgain (entry_for (Live (put_as place message)))
       → Lays Jhr 1 (message_bytes place.number (put_as place message)) redo redo' → IsHeaderReadAgain place.number (put_as place message)
       → IsBehind message place next → KeepsRoom redo redo'
@@ -257,14 +257,14 @@ module _ (loaded : Loaded) (links : List Links) (start : Change) where
       one_more = omega arith
 
   -- all are put
-  pub record IsAllPut (redo : Change) (index : List ℕ) (count : ℕ) : Type 0 where
+  pub record IsAllPut (redo : RedoView) (index : List ℕ) (count : ℕ) : Type 0 where
     pub lays : Lays Jhr count (headers_bytes (new_base loaded) (packed loaded).slots) start redo
     pub indexed : index ≡ index_file (packed loaded)
     pub headers_back : AreHeadersReadAgain (new_base loaded) (packed loaded).slots
     pub entries_back : AreEntriesReadAgain (packed loaded).slots
 
   -- where none is left, all are put
-  pub put_all : (redo : Change) (index : List ℕ) (place : Place) (count : ℕ) → IsPut redo index place count [] → IsAllPut redo index count
+  pub put_all : (redo : RedoView) (index : List ℕ) (place : Place) (count : ℕ) → IsPut redo index place count [] → IsAllPut redo index count
   put_all redo index place count put = record {
     lays = subst (λ (l : List ℕ). Lays Jhr count l start redo) (sym (append-nil put.done) ∙ put.whole) put.lays;
     indexed = sym (append-nil index) ∙ put.indexed;

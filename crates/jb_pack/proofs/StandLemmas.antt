@@ -1,13 +1,13 @@
 -- The messages of a packed area stand in its files one behind another.
 use Rattle.std.proofs.Common.{◌≡◌, ℕ, ◌+◌, ◌≤◌, List, [], ◌∷◌, ◌++◌, length, refl, sym, ◌∙◌, ap, arith, append_assoc, length-append}
 use Rattle.std.proofs.lemmas.List.Sums.{sum_by-cons}
-use Rattle.jb_base.specs.Subfields.{subfield_bytes}
-use Rattle.jb_base.specs.declared.limits.TheConstants.{TEXTS_CEILING}
+use Rattle.jb_bytes.specs.Subfields.{subfield_bytes}
+use Rattle.jb_limits.specs.declared.limits.TheConstants.{TEXTS_CEILING}
 use Rattle.jb_disk.specs.Files.{Files}
 use Rattle.jb_disk.specs.declared.file.FileId.TheVariants.{Jdt, Jhr}
 use Rattle.jb_image.specs.Places.{header_in}
 use Rattle.jb_image.specs.Stands.{Loads, fixed_of}
-use Rattle.jb_link.specs.Slots.{linkables_from}
+use Rattle.jb_model.specs.LiveSlots.{linkables_from}
 use Rattle.jb_model.specs.Links.{Linkable}
 use Rattle.jb_model.specs.Loaded.{header_size}
 use Rattle.jb_model.specs.Sound.{IsSound}
@@ -22,7 +22,7 @@ use Rattle.jb_record.specs.declared.message.MessageHeader.{MessageHeader}
 use Rattle.jb_image.specs.Records.{entry_for, message_bytes, numbered_header}
 use Rattle.jb_pack.specs.Bytes.{IsReadAgain, headers_bytes}
 use Rattle.jb_pack.specs.Laws.{ArePacked}
-use Rattle.jb_pack.specs.Packed.{kept_slots, new_base, packed, packed_from, slot_text_size, texts_size}
+use Rattle.jb_model.specs.Packed.{kept_slots, new_base, packed, packed_from, slot_text_size, texts_size}
 use Rattle.jb_pack.specs.Standing.{StandTogether}
 use Rattle.jb_image.proofs.RecordLemmas.{length-header}
 use Rattle.jb_pack.proofs.HeldLemmas.{IsLaid, first_behind, laid_message, laid_packed, next_empty, next_live}

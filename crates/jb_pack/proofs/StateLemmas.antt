@@ -6,7 +6,7 @@ use Rattle.std.proofs.lemmas.List.Sums.{sum_by-cons}
 use Rattle.std.proofs.Math.Seq.{drop-append_seam, take-append_seam}
 use Rattle.std.proofs.lemmas.List.Elements.{All-head, All-tail, All-drop}
 use Rattle.jb_link.proofs.LiveLemmas.{linkables_with_texts}
-use Rattle.jb_link.specs.Slots.{linkables_from}
+use Rattle.jb_model.specs.LiveSlots.{linkables_from}
 use Rattle.jb_model.specs.Links.{Linkable}
 use Rattle.jb_model.specs.Live.{change_live_from, is_killed, is_live, killed_count, live_count, live_from}
 use Rattle.jb_model.specs.Loaded.{header_size}
@@ -20,7 +20,7 @@ use Rattle.jb_model.specs.declared.loaded.LoadedMessage.{LoadedMessage}
 use Rattle.jb_model.specs.declared.loaded.LoadedSlot.{LoadedSlot}
 use Rattle.jb_model.specs.declared.loaded.LoadedSlot.TheVariants.{Empty, Killed, Live}
 use Rattle.jb_model.proofs.PackLaws.{packed_base-within}
-use Rattle.jb_pack.specs.Packed.{headers_size, is_killed_slot, is_live_slot, kept_slots, killed_slots, live_slots, new_base, packed, packed_from, packed_texts, slot_header_size, slot_text_size, texts_in, texts_size}
+use Rattle.jb_model.specs.Packed.{headers_size, is_killed_slot, is_live_slot, kept_slots, killed_slots, live_slots, new_base, packed, packed_from, packed_texts, slot_header_size, slot_text_size, texts_in, texts_size}
 
 -- a text that lies within the texts has its length
 pub length-text : (texts_len : ℕ) (texts : List ℕ) (message : LoadedMessage) → IsTextWithin texts_len message.text_at message.text_len → length texts ≡ texts_len

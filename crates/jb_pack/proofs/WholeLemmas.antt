@@ -4,9 +4,9 @@ use Rattle.std.specs.Prelude.{AllPairs, ◌^◌, replicate, slice_index_or}
 use Rattle.std.proofs.lemmas.List.{append-nil, drop_all, take_all}
 use Rattle.std.proofs.lemmas.List.Elements.{All-nil, All-cons}
 use Rattle.std.proofs.lemmas.List.Kept.{AllPairs-cons}
-use Rattle.jb_base.specs.declared.limits.TheConstants.{HEADERS_CEILING, TEXTS_CEILING}
+use Rattle.jb_limits.specs.declared.limits.TheConstants.{HEADERS_CEILING, TEXTS_CEILING}
 use Rattle.jb_redo.specs.Changes.{changed}
-use Rattle.jb_disk.specs.Change.{Change}
+use Rattle.jb_disk.specs.RedoView.{RedoView}
 use Rattle.jb_disk.specs.Files.{Files, number_of}
 use Rattle.jb_disk.specs.FileLaws.{length-of_length}
 use Rattle.jb_disk.specs.Memory.{of_length}
@@ -17,7 +17,7 @@ use Rattle.jb_disk.specs.declared.piece.Length.{Length}
 use Rattle.jb_disk.specs.declared.piece.Piece.{Piece}
 use Rattle.jb_disk.specs.declared.piece.Piece.TheVariants.{Bytes, Copy}
 use Rattle.jb_image.specs.Stands.{Loads}
-use Rattle.jb_link.specs.Slots.{linkables_from}
+use Rattle.jb_model.specs.LiveSlots.{linkables_from}
 use Rattle.jb_model.specs.Sound.{IsSound}
 use Rattle.jb_model.specs.declared.loaded.Loaded.{Loaded}
 use Rattle.jb_redo.specs.Replay.{IsGrowthCovered, spans_in}
@@ -25,7 +25,7 @@ use Rattle.jb_redo.specs.Rules.{AreLegalLengths, IsBefore, IsLegal, IsLegalLengt
 use Rattle.jb_pack.specs.Bytes.{IsReadAgain, headers_file, index_file}
 use Rattle.jb_pack.specs.Laid.{IsLaidOut, IsLegalIn, laid}
 use Rattle.jb_pack.specs.Laws.{ArePacked}
-use Rattle.jb_pack.specs.Packed.{headers_size, kept_slots, new_base, packed, texts_size}
+use Rattle.jb_model.specs.Packed.{headers_size, kept_slots, new_base, packed, texts_size}
 use Rattle.jb_pack.specs.Plan.{StandPacked, lengths_with}
 use Rattle.jb_pack.proofs.FitLemmas.{headers_fit_kept}
 use Rattle.jb_pack.proofs.HeldLemmas.{length-index, length-packed, loads_packed}
@@ -61,7 +61,7 @@ same_length old =
     let none : length old - length old ≡ 0 = omega arith in
     ap (λ n. take (length old) old ++ replicate n 0) none ∙ append-nil (take (length old) old) ∙ take_all (length old) old (omega arith)
 
-module _ (change : Change) (files : Files) (bytes : FileId → List ℕ) (laid_in : IsLaidIn files change.pieces bytes) (file : FileId) where
+module _ (change : RedoView) (files : Files) (bytes : FileId → List ℕ) (laid_in : IsLaidIn files change.pieces bytes) (file : FileId) where
   -- a file that is written anew from its beginning to its end
   whole_file : new_sizes change.lengths (sizes_of files) file ≡ length (bytes file) → changed change files file ≡ bytes file
   whole_file size =
@@ -103,7 +103,7 @@ legal_lengths headers texts slots headers_fit texts_fit few =
     no_pairs : AllPairs IsBefore []
     no_pairs i j d order low = absurd (omega (arith, low))
 
-module _ (limit : ℕ) (loaded : Loaded) (change : Change) (sound : IsSound limit loaded) (limited : limit ≤ 65000)
+module _ (limit : ℕ) (loaded : Loaded) (change : RedoView) (sound : IsSound limit loaded) (limited : limit ≤ 65000)
     (fits : texts_size (kept_slots loaded) ≤ TEXTS_CEILING)
     (lengths_are : change.lengths ≡ lengths_with (headers_size (kept_slots loaded)) (texts_size (kept_slots loaded)) (length (kept_slots loaded)))
     (back : IsReadAgain (packed loaded))

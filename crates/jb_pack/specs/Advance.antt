@@ -1,6 +1,6 @@
 -- How much of the texts one step of a packer copies.
 use Rattle.std.specs.Prelude.{◌≡◌, ◌⊎◌, ℕ, ◌+◌, ◌-◌, ◌<◌, ◌≤◌, List, ◌++◌, drop, length, replicate}
-use Rattle.jb_base.specs.declared.limits.TheConstants.{SHADOW_CEILING}
+use Rattle.jb_limits.specs.declared.limits.TheConstants.{SHADOW_CEILING}
 use Rattle.jb_model.specs.declared.loaded.LoadedSlot.{LoadedSlot}
 use Rattle.jb_pack.specs.Shadow.{Shadow, left_first, lefts, nothing_copied}
 

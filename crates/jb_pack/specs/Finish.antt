@@ -1,17 +1,16 @@
 -- The change that packs an area out of the copies in .NDT.
 use Rattle.std.specs.Prelude.{◌≡◌, ◌≢◌, ◌+◌, ◌*◌, ◌<◌, ◌≤◌, ◌^◌, List, ◌++◌, All, length}
-use Rattle.jb_base.specs.declared.limits.TheConstants.{SHADOW_CEILING}
-use Rattle.jb_redo.specs.Changes.{Brings, record_size}
-use Rattle.jb_disk.specs.Change.{Change, SameLists}
+use Rattle.jb_limits.specs.declared.limits.TheConstants.{SHADOW_CEILING}
+use Rattle.jb_redo.specs.Changes.{Brings, record_size, IsWritable}
+use Rattle.jb_disk.specs.RedoView.{RedoView, SameLists}
 use Rattle.jb_disk.specs.Files.{Files}
 use Rattle.jb_disk.specs.declared.file.FileId.TheVariants.{Jdt, Ndt}
 use Rattle.jb_disk.specs.declared.piece.Piece.{Piece}
 use Rattle.jb_disk.specs.declared.piece.Piece.TheVariants.{Bytes, Copy}
 use Rattle.jb_image.specs.Stands.{Loads}
-use Rattle.jb_redo.specs.Changes.{IsWritable}
 use Rattle.jb_model.specs.declared.loaded.Loaded.{Loaded}
 use Rattle.jb_model.specs.declared.loaded.LoadedSlot.{LoadedSlot}
-use Rattle.jb_pack.specs.Packed.{live_slots, packed, packed_texts, texts_in, texts_size}
+use Rattle.jb_model.specs.Packed.{live_slots, packed, packed_texts, texts_in, texts_size}
 use Rattle.jb_pack.specs.Plan.{StandPacked}
 use Rattle.jb_pack.specs.Runs.{IsRun, bytes_in, copies_of, runs_size}
 use Rattle.jb_pack.specs.Shadow.{HasCopies, IsCopyIn, Shadow}
@@ -26,7 +25,7 @@ pub record AreTextsIn (slots : List LoadedSlot) (runs : List Run) (files : Files
   pub inside : All (IsRun (length (files Ndt))) runs
 
 -- as many bytes more of .JDT as the texts of these slots have, as copies of parts of .NDT
-pub record PutsCopies (copies : List CopiedText) (slots : List LoadedSlot) (old new : Change) : Type 0 where
+pub record PutsCopies (copies : List CopiedText) (slots : List LoadedSlot) (old new : RedoView) : Type 0 where
   pub runs : List Run
   pub lengths : new.lengths ≡ old.lengths
   pub pieces : new.pieces ≡ old.pieces ++ copies_of 0 runs
@@ -48,13 +47,13 @@ BringsNoText (Copy from from_at to to_at len) = Unit {0}
 
 -- the change packs the area with its texts as they are copied, and may be committed; however long they are, its record is
 -- short beside the headers and the index that it makes
-pub record IsPackOfCopies (loaded : Loaded) (shadow : Shadow) (change : Change) : Type 0 where
+pub record IsPackOfCopies (loaded : Loaded) (shadow : Shadow) (change : RedoView) : Type 0 where
   pub brings : Brings change (HoldsWithCopies loaded shadow) (λ files. StandPacked loaded (packed_texts (files Jdt) loaded))
   pub no_text : All BringsNoText change.pieces
   pub short : 16 + record_size change ≤ 4096 + 3 * ((packed loaded).headers_len + 8 * length (packed loaded).slots)
   pub writable : IsWritable change
 
 -- where it fits, the change packs the area; where it does not, nothing is put
-abbrev pub FinishesPack : Shadow → Loaded → Change → Change → Packing → Type 0
+abbrev pub FinishesPack : Shadow → Loaded → RedoView → RedoView → Packing → Type 0
 FinishesPack shadow loaded old new (Fits base live dropped) = IsPackOfCopies loaded shadow new
 FinishesPack shadow loaded old new (TextFull len) = SameLists old new

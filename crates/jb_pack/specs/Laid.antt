@@ -1,7 +1,7 @@
 -- A change that writes files anew: its pieces stand in each file one behind another, from the beginning on.
 use Rattle.std.specs.Prelude.{◌≡◌, ◌≢◌, ℕ, ◌+◌, ◌*◌, ◌^◌, ◌<◌, ◌≤◌, List, ◌++◌, All, drop, filter, length}
 use Rattle.std.specs.List.{flat_map}
-use Rattle.jb_disk.specs.Change.{Change, bytes_of}
+use Rattle.jb_disk.specs.RedoView.{RedoView, bytes_of}
 use Rattle.jb_disk.specs.Files.{Files}
 use Rattle.jb_disk.specs.Steps.{IsCovered, patched}
 use Rattle.jb_disk.specs.declared.file.FileId.{FileId}
@@ -33,7 +33,7 @@ pub record IsLaidOut (pieces : List Piece) : Type 0 where
   pub few : length pieces < 2 ^ 32
 
 -- so many pieces more, with these bytes together behind those of one file
-pub record Lays (file : FileId) (count : ℕ) (bytes : List ℕ) (old new : Change) : Type 0 where
+pub record Lays (file : FileId) (count : ℕ) (bytes : List ℕ) (old new : RedoView) : Type 0 where
   pub lengths : new.lengths ≡ old.lengths
   pub here : laid new.pieces file ≡ laid old.pieces file ++ bytes
   pub others : (other : FileId) → other ≢ file → pieces_into new.pieces other ≡ pieces_into old.pieces other

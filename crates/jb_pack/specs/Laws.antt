@@ -1,6 +1,6 @@
 -- What the area after a pack stands for, and what its files hold.
 use Rattle.std.specs.Prelude.{◌≡◌, ℕ, ◌≤◌, List, length, take}
-use Rattle.jb_base.specs.declared.limits.TheConstants.{TEXTS_CEILING}
+use Rattle.jb_limits.specs.declared.limits.TheConstants.{TEXTS_CEILING}
 use Rattle.jb_disk.specs.Files.{Files}
 use Rattle.jb_disk.specs.declared.file.FileId.TheVariants.{Jhr, Jdt, Jdx, Jlr, Ndt}
 use Rattle.jb_image.specs.Stands.{Loads}
@@ -9,7 +9,7 @@ use Rattle.jb_model.specs.Sound.{IsSound}
 use Rattle.jb_model.specs.State.{state_of}
 use Rattle.jb_model.specs.declared.loaded.Loaded.{Loaded}
 use Rattle.jb_pack.specs.Bytes.{IsReadAgain, headers_file, index_file}
-use Rattle.jb_pack.specs.Packed.{packed, packed_texts}
+use Rattle.jb_model.specs.Packed.{packed, packed_texts}
 use Rattle.jb_pack.specs.Shadow.{HasCopies, Shadow}
 
 -- with the texts put together, the loaded area after a pack stands for the packed state

@@ -5,7 +5,6 @@ pub mod Finish
 pub mod Laid
 pub mod Laws
 pub mod Moving
-pub mod Packed
 pub mod Places
 pub mod Plan
 pub mod Reaching

@@ -1,7 +1,7 @@
 -- Links for the live messages of slots.
 use Rattle.std.specs.Prelude.{◌≡◌, ℕ, List, map}
-use Rattle.jb_link.specs.Plan.{links_of}
-use Rattle.jb_link.specs.Slots.{linkables_from}
+use Rattle.jb_model.specs.Plan.{links_of}
+use Rattle.jb_model.specs.LiveSlots.{linkables_from}
 use Rattle.jb_model.specs.Links.{Linkable}
 use Rattle.jb_model.specs.declared.links.Links.{Links}
 use Rattle.jb_model.specs.declared.loaded.LoadedSlot.{LoadedSlot}

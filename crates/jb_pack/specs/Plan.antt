@@ -1,15 +1,14 @@
 -- The change that packs an area, and what is answered with it.
 use Rattle.std.specs.Prelude.{◌≡◌, ◌≢◌, ℕ, ◌+◌, ◌*◌, ◌≤◌, List, [], ◌∷◌, length, Option, Some, None}
 use Rattle.std.specs.Option.{ForSome}
-use Rattle.jb_base.specs.declared.limits.TheConstants.{TEXTS_CEILING}
-use Rattle.jb_redo.specs.Changes.{Brings, record_size}
-use Rattle.jb_disk.specs.Change.{Change, SameLists}
+use Rattle.jb_limits.specs.declared.limits.TheConstants.{TEXTS_CEILING}
+use Rattle.jb_redo.specs.Changes.{Brings, record_size, IsWritable}
+use Rattle.jb_disk.specs.RedoView.{RedoView, SameLists}
 use Rattle.jb_disk.specs.Files.{Files}
 use Rattle.jb_disk.specs.declared.file.FileId.{FileId}
 use Rattle.jb_disk.specs.declared.file.FileId.TheVariants.{Jhr, Jdt, Jdx}
 use Rattle.jb_disk.specs.declared.piece.Length.{Length}
 use Rattle.jb_image.specs.Stands.{Loads}
-use Rattle.jb_redo.specs.Changes.{IsWritable}
 use Rattle.jb_model.specs.Pack.{pack_done, pack_refusal}
 use Rattle.jb_model.specs.State.{AreaState}
 use Rattle.jb_model.specs.declared.loaded.Loaded.{Loaded}
@@ -17,7 +16,7 @@ use Rattle.jb_model.specs.declared.loaded.LoadedSlot.{LoadedSlot}
 use Rattle.jb_model.specs.declared.reply.Reply.TheVariants as reply
 use Rattle.jb_pack.specs.Bytes.{IsReadAgain, headers_file, index_file}
 use Rattle.jb_pack.specs.Laid.{IsLaidOut, laid, pieces_into}
-use Rattle.jb_pack.specs.Packed.{headers_size, kept_slots, killed_slots, live_slots, new_base, packed, packed_texts, texts_size}
+use Rattle.jb_model.specs.Packed.{headers_size, kept_slots, killed_slots, live_slots, new_base, packed, packed_texts, texts_size}
 use Rattle.jb_pack.specs.Standing.{StandTogether}
 use Rattle.jb_pack.specs.declared.packing.Packing.{Packing}
 use Rattle.jb_pack.specs.declared.packing.Packing.TheVariants.{Fits, TextFull}
@@ -29,7 +28,7 @@ lengths_with headers texts slots =
     record { file = Jhr; len = 1024 + headers } ∷ record { file = Jdt; len = texts } ∷ record { file = Jdx; len = 8 * slots } ∷ []
 
 -- all of .JHR and .JDX after a pack is put, and nothing else
-pub record PutsArea (loaded : Loaded) (old new : Change) : Type 0 where
+pub record PutsArea (loaded : Loaded) (old new : RedoView) : Type 0 where
   pub lengths : new.lengths ≡ old.lengths
   pub headers : laid new.pieces Jhr ≡ headers_file (packed loaded)
   pub index : laid new.pieces Jdx ≡ index_file (packed loaded)
@@ -47,7 +46,7 @@ pub record AreSizesOf (slots : List LoadedSlot) (sizes : Sizes) : Type 0 where
   pub texts : sizes.texts ≡ texts_size slots
 
 -- the new lengths are put, and all of .JHR and .JDX after a pack, and nothing else
-pub record PutsBase (loaded : Loaded) (new : Change) : Type 0 where
+pub record PutsBase (loaded : Loaded) (new : RedoView) : Type 0 where
   pub lengths : new.lengths ≡ lengths_with (headers_size (kept_slots loaded)) (texts_size (kept_slots loaded)) (length (kept_slots loaded))
   pub headers : laid new.pieces Jhr ≡ headers_file (packed loaded)
   pub index : laid new.pieces Jdx ≡ index_file (packed loaded)
@@ -67,7 +66,7 @@ pub record StandPacked (loaded : Loaded) (texts : List ℕ) (files : Files) : Ty
   pub together : StandTogether files (packed loaded).base 1024 0 (packed loaded).slots
 
 -- the change packs the area, and may be committed; its texts are the packed ones, where the disk tells which there were
-pub record IsPackOf (contents : Option Files) (loaded : Loaded) (change : Change) : Type 0 where
+pub record IsPackOf (contents : Option Files) (loaded : Loaded) (change : RedoView) : Type 0 where
   pub texts : List ℕ
   pub brings : Brings change (Loads loaded) (λ _. StandPacked loaded texts)
   pub writable : IsWritable change
@@ -84,6 +83,6 @@ IsPackingOf loaded (Fits base live dropped) = (base ≡ new_base loaded) × (tex
 IsPackingOf loaded (TextFull len) = Unit {0}
 
 -- where it fits, the change packs the area; where it does not, nothing is put
-abbrev pub PlansPack : Option Files → Loaded → Change → Change → Packing → Type 0
+abbrev pub PlansPack : Option Files → Loaded → RedoView → RedoView → Packing → Type 0
 PlansPack contents loaded old new (Fits base live dropped) = IsPackOf contents loaded new
 PlansPack contents loaded old new (TextFull len) = SameLists old new

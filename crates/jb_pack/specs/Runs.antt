@@ -1,6 +1,6 @@
 -- Parts of a file that are read at once, and those of .NDT that are copied into .JDT.
 use Rattle.std.specs.Prelude.{◌≡◌, ◌⊎◌, ℕ, ◌+◌, ◌≤◌, List, [], ◌∷◌, ◌++◌, sum_by}
-use Rattle.jb_base.specs.declared.limits.TheConstants.{MOST_TEXT_BYTES}
+use Rattle.jb_limits.specs.declared.limits.TheConstants.{MOST_TEXT_BYTES}
 use Rattle.jb_disk.specs.declared.file.FileId.TheVariants.{Jdt, Ndt}
 use Rattle.jb_disk.specs.declared.piece.Piece.{Piece}
 use Rattle.jb_disk.specs.declared.piece.Piece.TheVariants.{Copy}

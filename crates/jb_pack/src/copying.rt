@@ -1,7 +1,7 @@
 //! The texts that are left are copied into .NDT.
 ghost use Rattle.std.specs.Prelude.{◌≡◌, ◌+◌, ◌≤◌, All, IfOk, length, min};
 ghost use Rattle.std.specs.Option.{ForSome};
-ghost use Rattle.jb_base.specs.declared.limits.TheConstants.{MOST_TEXT_BYTES, SHADOW_CEILING};
+ghost use Rattle.jb_limits.specs.declared.limits.TheConstants.{MOST_TEXT_BYTES, SHADOW_CEILING};
 ghost use Rattle.jb_disk.specs.Device.{FailsBy};
 ghost use Rattle.jb_disk.specs.declared.file.FileId.TheVariants.{Jdt as texts_file};
 ghost use Rattle.jb_model.specs.Sound.{IsSlotWithin};

@@ -1,16 +1,16 @@
 //! .JHR and .JDX of an area after a pack.
 ghost use Rattle.std.specs.Prelude.{◌≡◌, ◌≤◌, OnOk, length};
-ghost use Rattle.jb_base.specs.declared.limits.TheConstants.{MOST_SLOTS, TEXTS_CEILING};
+ghost use Rattle.jb_limits.specs.declared.limits.TheConstants.{MOST_SLOTS, TEXTS_CEILING};
 ghost use Rattle.jb_redo.specs.Changes.{KeepsRoom};
 ghost use Rattle.jb_image.specs.Records.{IsFixedReadAgain};
 ghost use Rattle.jb_disk.specs.declared.file.FileId.TheVariants.{Jhr as headers_file_id, Jdx as index_file_id};
 ghost use Rattle.jb_image.specs.Stands.{fixed_of};
-ghost use Rattle.jb_link.specs.Plan.{plan_of};
-ghost use Rattle.jb_link.specs.Slots.{linkables_from};
+ghost use Rattle.jb_model.specs.Plan.{plan_of};
+ghost use Rattle.jb_model.specs.LiveSlots.{linkables_from};
 ghost use Rattle.jb_model.specs.Sound.{IsSound};
 ghost use Rattle.jb_record.specs.Fixed.{fixed_header_bytes};
 ghost use Rattle.jb_pack.specs.Laid.{Lays, laid};
-ghost use Rattle.jb_pack.specs.Packed.{kept_slots, live_slots, new_base, packed, texts_size};
+ghost use Rattle.jb_model.specs.Packed.{kept_slots, live_slots, new_base, packed, texts_size};
 ghost use Rattle.jb_pack.specs.Plan.{PutsArea};
 
 use crate::laying::put;

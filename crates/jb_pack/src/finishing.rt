@@ -1,14 +1,14 @@
 //! An area is packed out of the copies in .NDT.
 ghost use Rattle.std.specs.Prelude.{◌≡◌, ◌≤◌, ◌+◌, ◌++◌, ◌∷◌, ◌<◌, ◌^◌, ℕ, All, List, [], IfOk, OnOk, length, sum};
-ghost use Rattle.jb_base.specs.declared.limits.TheConstants.{MOST_SLOTS, TEXTS_CEILING};
+ghost use Rattle.jb_limits.specs.declared.limits.TheConstants.{MOST_SLOTS, TEXTS_CEILING};
 ghost use Rattle.jb_redo.specs.Changes.{KeepsRoom};
 ghost use Rattle.jb_disk.specs.declared.file.FileId.TheVariants.{Jdt as texts_file, Ndt as shadow_file};
 ghost use Rattle.jb_disk.specs.declared.piece.Piece.TheVariants.{Copy};
-ghost use Rattle.jb_link.specs.Plan.{plan_of};
-ghost use Rattle.jb_link.specs.Slots.{linkables};
+ghost use Rattle.jb_model.specs.Plan.{plan_of};
+ghost use Rattle.jb_model.specs.LiveSlots.{linkables};
 ghost use Rattle.jb_model.specs.Sound.{IsSlotWithin, IsSound};
 ghost use Rattle.jb_pack.specs.Finish.{IsPackOfCopies, PutsCopies};
-ghost use Rattle.jb_pack.specs.Packed.{new_base, texts_size};
+ghost use Rattle.jb_model.specs.Packed.{new_base, texts_size};
 ghost use Rattle.jb_pack.specs.Plan.{AreSizesOf};
 ghost use Rattle.jb_pack.specs.Shadow.{IsBelowCeiling, lefts};
 

@@ -1,13 +1,14 @@
 //! The header and the subfields of a message, as they stand in .JHR after a pack.
 ghost use Rattle.std.specs.Prelude.{◌≡◌, ◌+◌, ◌<◌, ◌≤◌, ◌^◌, IfOk, OnOk, length};
-ghost use Rattle.jb_base.specs.Subfields.{subfield_bytes};
-ghost use Rattle.jb_base.specs.declared.limits.TheConstants.{HEADERS_CEILING, MOST_SUBFIELD_BYTES, TEXTS_CEILING};
+ghost use Rattle.jb_bytes.specs.Subfields.{subfield_bytes};
+ghost use Rattle.jb_limits.specs.declared.limits.TheConstants.{HEADERS_CEILING, MOST_SUBFIELD_BYTES, TEXTS_CEILING};
 ghost use Rattle.jb_redo.specs.Changes.{KeepsRoom};
 ghost use Rattle.jb_image.specs.Records.{IsHeaderReadAgain, message_bytes};
 ghost use Rattle.jb_disk.specs.declared.file.FileId.TheVariants.{Jhr};
 ghost use Rattle.jb_model.specs.Loaded.{header_size};
 ghost use Rattle.jb_pack.specs.Laid.{Lays, laid};
-ghost use Rattle.jb_pack.specs.Packed.{linked_head, moved};
+ghost use Rattle.jb_model.specs.Packed.{moved};
+ghost use Rattle.jb_model.specs.Linked.{linked_head};
 ghost use Rattle.jb_pack.specs.Places.{IsBehind};
 
 use crate::laying::put;

@@ -1,12 +1,12 @@
 //! An area in memory is packed where it is.
 ghost use Rattle.std.specs.Prelude.{◌≡◌, ◌+◌, ◌<◌, ◌≤◌, ◌^◌, List, length, map};
-ghost use Rattle.jb_base.specs.declared.limits.TheConstants.{HEADERS_CEILING, MOST_SLOTS, TEXTS_CEILING};
-ghost use Rattle.jb_link.specs.Plan.{links_of, plan_of};
-ghost use Rattle.jb_link.specs.Slots.{linkables_from};
+ghost use Rattle.jb_limits.specs.declared.limits.TheConstants.{HEADERS_CEILING, MOST_SLOTS, TEXTS_CEILING};
+ghost use Rattle.jb_model.specs.Plan.{links_of, plan_of};
+ghost use Rattle.jb_model.specs.LiveSlots.{linkables_from};
 ghost use Rattle.jb_model.specs.Links.{Linkable};
 ghost use Rattle.jb_model.specs.Sound.{IsSound};
 ghost use Rattle.jb_pack.specs.Moving.{HasLinks};
-ghost use Rattle.jb_pack.specs.Packed.{headers_size, kept_slots, live_slots, new_base, packed, packed_from, texts_size};
+ghost use Rattle.jb_model.specs.Packed.{headers_size, kept_slots, live_slots, new_base, packed, packed_from, texts_size};
 
 use crate::headers::linked;
 use crate::place::{Place, behind};

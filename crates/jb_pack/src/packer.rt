@@ -1,19 +1,19 @@
 //! Texts are copied into .NDT part by part, and then the area is packed out of it.
 ghost use Rattle.std.specs.Prelude.{◌≡◌, ◌≤◌, List, ℕ, [], IfErr, IfOk, Ok, OnOk, false, length, nat_lt};
 ghost use Rattle.std.specs.Option.{ForSome};
-ghost use Rattle.jb_base.specs.declared.limits.TheConstants.{MOST_SLOTS, TEXTS_CEILING};
+ghost use Rattle.jb_limits.specs.declared.limits.TheConstants.{MOST_SLOTS, TEXTS_CEILING};
 ghost use Rattle.jb_redo.specs.Changes.{KeepsRoom};
 ghost use Rattle.jb_disk.specs.Runs.{IsAllSynced};
 ghost use Rattle.jb_disk.specs.declared.file.FileId.TheVariants.{Jdt as texts_file};
 ghost use Rattle.jb_image.specs.Stands.{Loads};
-ghost use Rattle.jb_link.specs.Plan.{plan_of};
-ghost use Rattle.jb_link.specs.Slots.{linkables};
+ghost use Rattle.jb_model.specs.Plan.{plan_of};
+ghost use Rattle.jb_model.specs.LiveSlots.{linkables};
 ghost use Rattle.jb_model.specs.Sound.{IsSound};
 ghost use Rattle.jb_model.specs.State.{state_of};
 ghost use Rattle.jb_pack.specs.Advance.{Copies};
 ghost use Rattle.jb_pack.specs.Copying.{PackFaultRose};
 ghost use Rattle.jb_pack.specs.Finish.{FinishesPack};
-ghost use Rattle.jb_pack.specs.Packed.{texts_size};
+ghost use Rattle.jb_model.specs.Packed.{texts_size};
 ghost use Rattle.jb_pack.specs.Plan.{AnswersPack};
 ghost use Rattle.jb_pack.specs.Shadow.{HasCopies, left, nothing_copied};
 ghost use Rattle.jb_pack.specs.Touching.{IsUntouched, StaysUnlessFault, TouchesShadow};
@@ -52,7 +52,7 @@ pub struct Packer {
 
 impl Model for Packer {
     ghost use Rattle.std.specs.Prelude.{All, ◌≤◌};
-    ghost use Rattle.jb_base.specs.declared.limits.TheConstants.{SHADOW_CEILING};
+    ghost use Rattle.jb_limits.specs.declared.limits.TheConstants.{SHADOW_CEILING};
     ghost use Rattle.jb_pack.specs.Shadow.{Shadow, IsBelowCeiling};
 
     ghost Value = { Shadow };

@@ -1,6 +1,6 @@
 //! Where the next message goes.
 ghost use Rattle.std.specs.Prelude.{◌+◌, ◌<◌, ◌≤◌, ◌^◌};
-ghost use Rattle.jb_base.specs.declared.limits.TheConstants.{HEADERS_CEILING, TEXTS_CEILING};
+ghost use Rattle.jb_limits.specs.declared.limits.TheConstants.{HEADERS_CEILING, TEXTS_CEILING};
 ghost use Rattle.jb_model.specs.Loaded.{header_size};
 
 use jb_model::LoadedMessage;

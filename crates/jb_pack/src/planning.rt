@@ -1,16 +1,16 @@
 //! The change that packs an area.
 ghost use Rattle.std.specs.Prelude.{◌≡◌, ◌+◌, ◌-◌, ◌≤◌, ℕ, [], IfErr, IfOk, List, OnOk, length};
 ghost use Rattle.std.specs.Option.{ForSome};
-ghost use Rattle.jb_base.specs.declared.limits.TheConstants.{HEADERS_CEILING, MOST_SLOTS, TEXTS_CEILING};
+ghost use Rattle.jb_limits.specs.declared.limits.TheConstants.{HEADERS_CEILING, MOST_SLOTS, TEXTS_CEILING};
 ghost use Rattle.jb_redo.specs.Changes.{KeepsRoom};
 ghost use Rattle.jb_disk.specs.Device.{OnlyReads};
 ghost use Rattle.jb_disk.specs.declared.file.FileId.TheVariants.{Jdt as texts_file};
-ghost use Rattle.jb_link.specs.Plan.{plan_of};
-ghost use Rattle.jb_link.specs.Slots.{linkables};
+ghost use Rattle.jb_model.specs.Plan.{plan_of};
+ghost use Rattle.jb_model.specs.LiveSlots.{linkables};
 ghost use Rattle.jb_model.specs.Sound.{IsSound};
 ghost use Rattle.jb_model.specs.State.{state_of};
 ghost use Rattle.jb_pack.specs.Copying.{PackFaultRose};
-ghost use Rattle.jb_pack.specs.Packed.{kept_slots, new_base, texts_size};
+ghost use Rattle.jb_model.specs.Packed.{kept_slots, new_base, texts_size};
 ghost use Rattle.jb_pack.specs.Plan.{AnswersPack, AreSizesOf, IsPackOf, IsPackingOf, PlansPack, PutsBase, lengths_with};
 
 use crate::files::put_area;

@@ -1,6 +1,6 @@
 //! How far texts may be copied.
 ghost use Rattle.std.specs.Prelude.{◌≡◌, ◌≤◌};
-ghost use Rattle.jb_base.specs.declared.limits.TheConstants.{SHADOW_CEILING};
+ghost use Rattle.jb_limits.specs.declared.limits.TheConstants.{SHADOW_CEILING};
 ghost use Rattle.jb_pack.specs.Reaching.{IsReach, leaves_more, most_of};
 
 use crate::copied::{CopiedText, copy_of, left_of};

@@ -1,7 +1,7 @@
 //! .NDT is emptied and grows.
 ghost use Rattle.std.specs.Prelude.{◌≡◌, ◌+◌, ◌≤◌, length, IfOk, OnOk};
 ghost use Rattle.std.specs.Option.{ForSome};
-ghost use Rattle.jb_base.specs.declared.limits.TheConstants.{SHADOW_CEILING};
+ghost use Rattle.jb_limits.specs.declared.limits.TheConstants.{SHADOW_CEILING};
 ghost use Rattle.jb_disk.specs.Device.{FailsBy, Turns};
 ghost use Rattle.jb_disk.specs.Runs.{IsAllSynced};
 ghost use Rattle.jb_disk.specs.declared.file.FileId.TheVariants.{Jdt as texts_file, Ndt as shadow_file};

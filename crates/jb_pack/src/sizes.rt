@@ -1,8 +1,8 @@
 //! How much of an area is live.
 ghost use Rattle.std.specs.Prelude.{◌≡◌, ◌+◌, ◌<◌, ◌≤◌, ◌^◌, if◌then◌else◌, length, position};
 ghost use Rattle.std.specs.List.{position_or_len};
-ghost use Rattle.jb_base.specs.declared.limits.TheConstants.{HEADERS_CEILING, MOST_SLOTS};
-ghost use Rattle.jb_pack.specs.Packed.{headers_size, is_killed_slot, is_live_slot, slot_header_size, slot_text_size, texts_size};
+ghost use Rattle.jb_limits.specs.declared.limits.TheConstants.{HEADERS_CEILING, MOST_SLOTS};
+ghost use Rattle.jb_model.specs.Packed.{headers_size, is_killed_slot, is_live_slot, slot_header_size, slot_text_size, texts_size};
 ghost use Rattle.jb_pack.specs.Plan.{AreSizesOf};
 
 use jb_model::LoadedSlot;

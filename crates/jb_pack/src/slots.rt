@@ -1,16 +1,16 @@
 //! The slots of an area, as they stand in .JHR and .JDX after a pack.
 ghost use Rattle.std.specs.Prelude.{◌≡◌, ◌++◌, ◌≤◌, [], OnOk, length};
-ghost use Rattle.jb_base.specs.declared.limits.TheConstants.{MOST_SLOTS, TEXTS_CEILING};
+ghost use Rattle.jb_limits.specs.declared.limits.TheConstants.{MOST_SLOTS, TEXTS_CEILING};
 ghost use Rattle.jb_redo.specs.Changes.{KeepsRoom};
 ghost use Rattle.jb_image.specs.Records.{IsEntryReadAgain};
 ghost use Rattle.jb_disk.specs.declared.file.FileId.TheVariants.{Jhr};
-ghost use Rattle.jb_link.specs.Plan.{plan_of};
-ghost use Rattle.jb_link.specs.Slots.{linkables_from};
+ghost use Rattle.jb_model.specs.Plan.{plan_of};
+ghost use Rattle.jb_model.specs.LiveSlots.{linkables_from};
 ghost use Rattle.jb_model.specs.Sound.{IsSound};
 ghost use Rattle.jb_record.specs.Index.{index_record_bytes};
 ghost use Rattle.jb_pack.specs.Bytes.{AreEntriesReadAgain, AreHeadersReadAgain, headers_bytes, index_file};
 ghost use Rattle.jb_pack.specs.Laid.{Lays, laid};
-ghost use Rattle.jb_pack.specs.Packed.{kept_slots, new_base, packed, texts_size};
+ghost use Rattle.jb_model.specs.Packed.{kept_slots, new_base, packed, texts_size};
 
 use crate::headers::put_message;
 use crate::place::Place;

@@ -1,13 +1,13 @@
 //! One step of a packer.
 ghost use Rattle.std.specs.Prelude.{◌≡◌, ◌≤◌, All, IfOk, OnOk, length, min, nat_lt};
 ghost use Rattle.std.specs.Option.{ForSome};
-ghost use Rattle.jb_base.specs.declared.limits.TheConstants.{MOST_SLOTS, MOST_TEXT_BYTES, SHADOW_CEILING, TEXTS_CEILING};
+ghost use Rattle.jb_limits.specs.declared.limits.TheConstants.{MOST_SLOTS, MOST_TEXT_BYTES, SHADOW_CEILING, TEXTS_CEILING};
 ghost use Rattle.jb_disk.specs.Device.{FailsBy};
 ghost use Rattle.jb_disk.specs.Runs.{IsAllSynced};
 ghost use Rattle.jb_disk.specs.declared.file.FileId.TheVariants.{Jdt as texts_file};
 ghost use Rattle.jb_model.specs.Sound.{IsSound};
 ghost use Rattle.jb_pack.specs.Advance.{Copies};
-ghost use Rattle.jb_pack.specs.Packed.{texts_size};
+ghost use Rattle.jb_model.specs.Packed.{texts_size};
 ghost use Rattle.jb_pack.specs.Reaching.{IsReach, Starts, most_of};
 ghost use Rattle.jb_pack.specs.Shadow.{HasCopies, IsBelowCeiling, left};
 ghost use Rattle.jb_pack.specs.Touching.{TouchesShadow};

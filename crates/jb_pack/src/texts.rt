@@ -1,14 +1,14 @@
 //! The texts of the live messages, one behind another.
 ghost use Rattle.std.specs.Prelude.{◌≡◌, ◌+◌, ◌≤◌, All, IfErr, IfOk, OnOk, length};
 ghost use Rattle.std.specs.Option.{ForSome};
-ghost use Rattle.jb_base.specs.declared.limits.TheConstants.{TEXTS_CEILING};
+ghost use Rattle.jb_limits.specs.declared.limits.TheConstants.{TEXTS_CEILING};
 ghost use Rattle.jb_redo.specs.Changes.{KeepsRoom};
 ghost use Rattle.jb_disk.specs.Device.{OnlyReads};
 ghost use Rattle.jb_disk.specs.declared.file.FileId.TheVariants.{Jdt as texts_file};
 ghost use Rattle.jb_model.specs.Sound.{IsSlotWithin};
 ghost use Rattle.jb_pack.specs.Copying.{PackFaultRose, PutsRun, PutsTexts};
 ghost use Rattle.jb_pack.specs.Laid.{laid};
-ghost use Rattle.jb_pack.specs.Packed.{texts_size};
+ghost use Rattle.jb_model.specs.Packed.{texts_size};
 
 use crate::PackError;
 use crate::laying::put;

@@ -10,7 +10,7 @@ use Rattle.jb_model.specs.Kill.{kill_done, kill_step}
 use Rattle.jb_model.specs.Message.{envelope_of, header_length}
 use Rattle.jb_model.specs.Pack.{pack_done, pack_refusal, pack_step}
 use Rattle.jb_model.specs.Post.{Draft, answer_refusal, draft_refusal, post_done, post_step, posted_message, room_refusal, slots_with, told_length}
-use Rattle.jb_base.specs.declared.limits.TheConstants.{HEADERS_CEILING, LAST_POSTED_NUMBER, TEXTS_CEILING}
+use Rattle.jb_limits.specs.declared.limits.TheConstants.{HEADERS_CEILING, LAST_POSTED_NUMBER, TEXTS_CEILING}
 use Rattle.jb_model.specs.declared.reply.Reply.TheVariants.{HeadersFull, NumbersSpent, SlotsFull, TextFull}
 use Rattle.std.proofs.lemmas.Bool.{cond-true, lt-ltb}
 use Rattle.jb_model.specs.Read.{read_done, read_message, read_step}

@@ -5,12 +5,12 @@ use Rattle.std.proofs.lemmas.Bool.{cond_both, ltb-false}
 use Rattle.std.proofs.lemmas.List.Sums.{sum_by-cons}
 use Rattle.std.proofs.lemmas.List.Elements.{All-head, All-tail}
 use Rattle.jb_base.specs.Access.{first_refusal}
-use Rattle.jb_base.specs.Name.{same_name}
-use Rattle.jb_base.specs.Subfields.{receiver_of}
+use Rattle.jb_bytes.specs.Name.{same_name}
+use Rattle.jb_bytes.specs.Subfields.{receiver_of}
 use Rattle.jb_base.specs.declared.area.Action.TheVariants.{List as Listing, Post as Posting, Kill as Killing, Tend as Tending}
 use Rattle.jb_base.specs.declared.area.AreaRules.{AreaRules}
 use Rattle.jb_base.specs.declared.area.Rule.{Rule}
-use Rattle.jb_base.specs.declared.limits.TheConstants.{HEADERS_CEILING, LAST_POSTED_NUMBER, TEXTS_CEILING}
+use Rattle.jb_limits.specs.declared.limits.TheConstants.{HEADERS_CEILING, LAST_POSTED_NUMBER, TEXTS_CEILING}
 use Rattle.jb_base.specs.declared.user.User.{User}
 use Rattle.jb_model.specs.Answered.{Answered, counted, unless_denied, unless_refused, with_message}
 use Rattle.jb_model.specs.Kill.{kill_done}

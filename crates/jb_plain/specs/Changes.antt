@@ -3,8 +3,8 @@ use Rattle.std.specs.Prelude.{ℕ, List, [], ◌∷◌, ◌++◌, ◌+◌, ◌-�
 use Rattle.jb_model.specs.Live.{message_at}
 use Rattle.jb_model.specs.Pack.{emptied}
 use Rattle.jb_model.specs.Tight.{headers_together, texts_together}
-use Rattle.jb_base.specs.declared.subfield.Subfield.{Subfield}
-use Rattle.jb_base.specs.declared.subfield.TheConstants.{SENDER_NAME, RECEIVER_NAME, MSGID, REPLYID, SUBJECT}
+use Rattle.jb_bytes.specs.declared.subfield.Subfield.{Subfield}
+use Rattle.jb_bytes.specs.declared.subfield.TheConstants.{SENDER_NAME, RECEIVER_NAME, MSGID, REPLYID, SUBJECT}
 use Rattle.jb_base.specs.declared.user.User.{User}
 use Rattle.jb_model.specs.Post.{Draft, plain_field, slots_with, spliced_slots}
 use Rattle.jb_model.specs.Relink.{relinked_slots}

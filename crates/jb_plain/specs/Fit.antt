@@ -1,9 +1,9 @@
 -- Tests of an area that may be run.
 use Rattle.std.specs.Prelude.{ℕ, ◌+◌, nat_le, Bool, true, ◌&&◌, ◌==◌, length, bit_and}
 use Rattle.std.specs.List.{list_all}
-use Rattle.jb_base.specs.Subfields.{subfield_bytes}
+use Rattle.jb_bytes.specs.Subfields.{subfield_bytes}
 use Rattle.jb_base.specs.declared.attribute.TheConstants.{DELETED}
-use Rattle.jb_base.specs.declared.limits.TheConstants.{MOST_MARKS, MOST_SUBFIELD_BYTES, MOST_TEXT_BYTES}
+use Rattle.jb_limits.specs.declared.limits.TheConstants.{MOST_MARKS, MOST_SUBFIELD_BYTES, MOST_TEXT_BYTES}
 use Rattle.jb_model.specs.declared.area.Area.{Area}
 use Rattle.jb_model.specs.declared.area.Message.{Message}
 use Rattle.jb_model.specs.declared.area.Slot.{Slot}

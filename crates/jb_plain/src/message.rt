@@ -2,7 +2,7 @@
 ghost use Rattle.std.specs.Prelude.{◌≡◌, IfOk, IfSome, option_map, unwrap_or, []};
 ghost use Rattle.std.specs.Borrow.{Bor};
 ghost use Rattle.jb_access.specs.Parties.{envelope};
-ghost use Rattle.jb_base.specs.Subfields.{first_of, sender_of, receiver_of};
+ghost use Rattle.jb_bytes.specs.Subfields.{first_of, sender_of, receiver_of};
 ghost use Rattle.jb_model.specs.Live.{message_at};
 ghost use Rattle.jb_model.specs.Message.{envelope_of, letter_of};
 ghost use Rattle.jb_model.specs.Tight.{owned};

@@ -1,6 +1,6 @@
 //! The numbers of an area that the plain program keeps, and its changes.
 ghost use Rattle.std.specs.Prelude.{◌≡◌, ◌+◌, ◌<◌, ◌≤◌, length, map, min, ◌^◌, ◌-◌, ◌++◌, ◌∷◌, [], OnOk};
-ghost use Rattle.jb_base.specs.Subfields.{subfield_bytes};
+ghost use Rattle.jb_bytes.specs.Subfields.{subfield_bytes};
 ghost use Rattle.jb_model.specs.Answered.{counted};
 ghost use Rattle.jb_model.specs.Live.{live_count, with_slot};
 ghost use Rattle.jb_model.specs.Run.{area_of};

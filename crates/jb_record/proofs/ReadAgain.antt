@@ -1,6 +1,6 @@
 -- A record's bytes, read again, give the record.
 use Rattle.std.proofs.Common.{◌≡◌}
-use Rattle.jb_base.proofs.Numbers.{little_endian-back}
+use Rattle.jb_bytes.proofs.Numbers.{little_endian-back}
 use Rattle.jb_record.specs.declared.message.MessageHeader.{MessageHeader}
 use Rattle.jb_record.specs.Message.{message_header_of, message_header_bytes, FitsMessageHeader}
 use Rattle.jb_record.specs.declared.fixed.FixedHeader.{FixedHeader}

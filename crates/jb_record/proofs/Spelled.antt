@@ -2,8 +2,8 @@
 use Rattle.std.proofs.Common.{◌≡◌, ℕ, ◌+◌, ◌≤◌, List, [], ◌∷◌, ◌++◌, length, take, drop, ap, sym, ◌∙◌, refl, arith, append_assoc, append-nil, add-zero}
 use Rattle.std.proofs.lemmas.List.{drop-drop, take-append-drop, places}
 use Rattle.std.proofs.Math.ListN.{drop_of_length-le}
-use Rattle.jb_base.proofs.Numbers.{AreBytes, number_bytes-back}
-use Rattle.jb_base.specs.Number.{little_endian, number_at, number_bytes}
+use Rattle.jb_bytes.proofs.Numbers.{AreBytes, number_bytes-back}
+use Rattle.jb_bytes.specs.Number.{little_endian, number_at, number_bytes}
 use Rattle.jb_record.specs.Fields.{Field, fields_bytes}
 
 -- the fields stand one behind another from a place on

@@ -1,7 +1,7 @@
 -- Records as bytes that were written out by hand from the tables of the standard, so that a field at a wrong place does not check.
 use Rattle.std.proofs.Common.{◌≡◌, ℕ, ◌+◌, List, [], ◌∷◌, ◌++◌, replicate, refl}
 use Rattle.std.specs.List.{range_with_len}
-use Rattle.jb_base.specs.Number.{little_endian}
+use Rattle.jb_bytes.specs.Number.{little_endian}
 use Rattle.jb_record.specs.Fields.{signature}
 use Rattle.jb_record.specs.Fixed.{fixed_header_bytes, fixed_header_of}
 use Rattle.jb_record.specs.Index.{index_record_bytes, index_record_of}

@@ -1,6 +1,6 @@
 -- Records as rows of numbers, each of a stated width, the lowest byte first (JAM, "Data types").
 use Rattle.std.specs.Prelude.{ℕ, List, [], ◌∷◌, ◌++◌}
-use Rattle.jb_base.specs.Number.{number_bytes}
+use Rattle.jb_bytes.specs.Number.{number_bytes}
 
 -- a number and how many bytes it takes
 pub record Field : Type 0 where

@@ -1,6 +1,6 @@
 -- The fixed header of 1,024 bytes with which .JHR begins (JAM, "Header file").
 use Rattle.std.specs.Prelude.{◌≡◌, ℕ, List, [], ◌∷◌, ◌++◌, length, take, drop, ◌<◌, ◌^◌}
-use Rattle.jb_base.specs.Number.{number_at}
+use Rattle.jb_bytes.specs.Number.{number_at}
 use Rattle.jb_record.specs.Fields.{ulong, fields_bytes, signature}
 use Rattle.jb_record.specs.declared.fixed.FixedHeader.{FixedHeader}
 

@@ -1,6 +1,6 @@
 -- An index record of 8 bytes: the CRC of the receiver's name and the place of the header (JAM, "Index file").
 use Rattle.std.specs.Prelude.{List, ℕ, [], ◌∷◌, ◌<◌, ◌^◌}
-use Rattle.jb_base.specs.Number.{number_at}
+use Rattle.jb_bytes.specs.Number.{number_at}
 use Rattle.jb_record.specs.Fields.{ulong, fields_bytes}
 use Rattle.jb_record.specs.declared.index.IndexRecord.{IndexRecord}
 

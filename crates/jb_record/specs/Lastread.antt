@@ -1,6 +1,6 @@
 -- A lastread record of 16 bytes: a user, and the last and the highest number read (JAM, "Lastread file").
 use Rattle.std.specs.Prelude.{List, ℕ, [], ◌∷◌, ◌<◌, ◌^◌}
-use Rattle.jb_base.specs.Number.{number_at}
+use Rattle.jb_bytes.specs.Number.{number_at}
 use Rattle.jb_record.specs.Fields.{ulong, fields_bytes}
 use Rattle.jb_record.specs.declared.lastread.MarkRecord.{MarkRecord}
 

@@ -1,6 +1,6 @@
 -- A message header of 76 bytes (JAM, "Message header").
 use Rattle.std.specs.Prelude.{◌≡◌, ℕ, List, [], ◌∷◌, ◌++◌, length, take, ◌<◌, ◌^◌}
-use Rattle.jb_base.specs.Number.{number_at}
+use Rattle.jb_bytes.specs.Number.{number_at}
 use Rattle.jb_record.specs.Fields.{ushort, ulong, fields_bytes, signature}
 use Rattle.jb_record.specs.declared.message.MessageHeader.{MessageHeader}
 

@@ -2,7 +2,7 @@
 ghost use Rattle.std.specs.Prelude.{◌≡◌, ◌↔◌, IsSome, IfSome};
 
 use crate::signature::{SIGNATURE, is_signed};
-use jb_base::{get_u32, put_u32};
+use jb_bytes::{get_u32, put_u32};
 
 /// Bytes of the fixed header.
 pub const FIXED_HEADER_BYTES: usize = 1_024;

@@ -1,7 +1,7 @@
 //! The index record (JAM, "Index file").
 ghost use Rattle.std.specs.Prelude.{◌≡◌, ◌↔◌, IsSome, IfSome, length};
 
-use jb_base::{get_u32, put_u32};
+use jb_bytes::{get_u32, put_u32};
 
 /// Bytes of an index record.
 pub const INDEX_RECORD_BYTES: usize = 8;

@@ -1,7 +1,7 @@
 //! The lastread record (JAM, "Lastread file").
 ghost use Rattle.std.specs.Prelude.{◌≡◌, ◌↔◌, IsSome, IfSome, length};
 
-use jb_base::{get_u32, put_u32};
+use jb_bytes::{get_u32, put_u32};
 
 /// Bytes of a lastread record.
 pub const MARK_RECORD_BYTES: usize = 16;

@@ -2,7 +2,7 @@
 ghost use Rattle.std.specs.Prelude.{◌≡◌, ◌↔◌, IsSome, IfSome};
 
 use crate::signature::{SIGNATURE, is_signed};
-use jb_base::{get_u16, get_u32, put_u16, put_u32};
+use jb_bytes::{get_u16, get_u32, put_u16, put_u32};
 
 /// Bytes of a message header, without its subfields.
 pub const MESSAGE_HEADER_BYTES: usize = 76;

@@ -8,12 +8,11 @@ use Rattle.jb_disk.specs.declared.file.FileId.{FileId}
 use Rattle.jb_disk.specs.declared.piece.Length.{Length}
 use Rattle.jb_disk.specs.declared.piece.Piece.{Piece}
 use Rattle.jb_disk.specs.Device.{Device, OnlyReads, Tears, Resizes, TellsAnImage, FailsBy, IsPast}
-use Rattle.jb_disk.specs.Files.{Files, number_of, overwritten, written}
+use Rattle.jb_disk.specs.Files.{Files, number_of, overwritten, written, InFile}
 use Rattle.jb_disk.specs.FileLaws.{same_file, same_files, with_file-here, with_file-other, length-overwritten}
 use Rattle.jb_disk.specs.ImageLaws.{get-before, get-behind}
 use Rattle.jb_disk.specs.Runs.{Keeps}
 use Rattle.jb_disk.specs.Steps.{Cut}
-use Rattle.jb_disk.specs.Files.{InFile}
 use Rattle.jb_disk.proofs.RunLemmas.{keeps-then, keeps-reads, keeps-write, keeps-resize}
 use Rattle.jb_redo.specs.declared.part.Part.{Part}
 use Rattle.jb_redo.specs.Applying.{IsSound, HasRoom, copied, copied_chunk, KeepsInRange}

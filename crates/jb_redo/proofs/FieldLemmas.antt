@@ -2,7 +2,7 @@
 use Rattle.std.proofs.Common.{◌≡◌, ◌⊎◌, inl, inr, ℕ, ◌-◌, ◌/◌, ◌%◌, ◌<◌, ◌≤◌, List, [], ◌∷◌, ◌++◌, length, take, drop, get_or, ap, sym, ◌∙◌, arith}
 use Rattle.std.proofs.lemmas.List.{take-append-drop, length-append, length-drop}
 use Rattle.std.specs.Prelude.{Option, Some, None, IfNone, IfSome}
-use Rattle.jb_base.specs.Number.{number_at, number_bytes}
+use Rattle.jb_bytes.specs.Number.{number_at, number_bytes}
 use Rattle.jb_redo.specs.Reading.{BeginsWith}
 use Rattle.jb_redo.proofs.Spelling.{same_front}
 

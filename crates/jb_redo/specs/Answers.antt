@@ -1,6 +1,6 @@
 -- What the reading and the applying of a record answer, and why.
 use Rattle.std.specs.Prelude.{ℕ, Result, Ok, Err}
-use Rattle.jb_base.specs.Fault.{Rose}
+use Rattle.jb_bytes.specs.Fault.{Rose}
 use Rattle.jb_disk.specs.Files.{Files}
 use Rattle.jb_redo.specs.declared.error.RecordError.{RecordError}
 use Rattle.jb_redo.specs.declared.error.RecordError.TheVariants.{Bad, StoreFault}

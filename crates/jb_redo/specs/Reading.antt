@@ -1,7 +1,7 @@
 -- The record that the journal holds, and the place where it holds none.
 use Rattle.std.specs.Prelude.{◌≡◌, ◌⊎◌, ℕ, ◌+◌, ◌^◌, ◌<◌, ◌≤◌, List, [], ◌++◌, length, drop, All}
 use Rattle.std.specs.List.{flat_map}
-use Rattle.jb_base.specs.Number.{number_bytes}
+use Rattle.jb_bytes.specs.Number.{number_bytes}
 use Rattle.jb_disk.specs.declared.file.FileId.{FileId}
 use Rattle.jb_disk.specs.declared.file.FileId.TheVariants.{Jnl}
 use Rattle.jb_disk.specs.declared.piece.Length.{Length}

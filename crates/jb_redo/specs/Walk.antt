@@ -1,6 +1,6 @@
 -- What is known of a record while it is walked through.
 use Rattle.std.specs.Prelude.{◌≡◌, ◌⊎◌, ℕ, ◌+◌, ◌^◌, ◌<◌, ◌≤◌, List, ◌∷◌, ◌++◌, length, take, drop, slice_index, All}
-use Rattle.jb_base.specs.Number.{number_bytes}
+use Rattle.jb_bytes.specs.Number.{number_bytes}
 use Rattle.jb_disk.specs.declared.file.FileId.{FileId}
 use Rattle.jb_disk.specs.declared.file.FileId.TheVariants.{Jdt, Jnl, Ndt}
 use Rattle.jb_disk.specs.declared.piece.Length.{Length}

@@ -1,13 +1,13 @@
 //! The fields of a record, from their bytes.
 ghost use Rattle.std.specs.Prelude.{◌≡◌, ◌+◌, ◌^◌, ◌<◌, ◌≤◌, ℕ, IfSome, IfNone, IsTrue, ◌↔◌, length};
-ghost use Rattle.jb_base.specs.Number.{number_bytes};
+ghost use Rattle.jb_bytes.specs.Number.{number_bytes};
 ghost use Rattle.jb_disk.specs.declared.piece.Length.{Length};
 ghost use Rattle.jb_disk.specs.Files.{number_of, ceiling_of};
 ghost use Rattle.jb_redo.specs.Record.{length_bytes};
 ghost use Rattle.jb_redo.specs.Rules.{IsLegalLength};
 
-use jb_base::{HEADERS_CEILING, INDEX_CEILING, LASTREAD_CEILING, TEXTS_CEILING};
 use jb_disk::{FileId, Length};
+use jb_limits::{HEADERS_CEILING, INDEX_CEILING, LASTREAD_CEILING, TEXTS_CEILING};
 
 /// The number of four bytes.
 pub(crate) fn decode_number(bytes: &[u8; 4]) -> u32

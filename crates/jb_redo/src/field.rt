@@ -1,8 +1,8 @@
 //! The reading of one field of the journal.
 ghost use Rattle.std.specs.Prelude.{◌≡◌, ◌+◌, ◌^◌, ◌<◌, ◌≤◌, ℕ, IfOk, IfSome, IfNone, IsTrue, OnErr, length, take, drop, true, false, OnOk};
 ghost use Rattle.std.specs.Option.{ForSome};
-ghost use Rattle.jb_base.specs.Fault.{Rose};
-ghost use Rattle.jb_base.specs.Number.{number_bytes};
+ghost use Rattle.jb_bytes.specs.Fault.{Rose};
+ghost use Rattle.jb_bytes.specs.Number.{number_bytes};
 ghost use Rattle.jb_disk.specs.Device.{OnlyReads};
 ghost use Rattle.jb_disk.specs.declared.file.FileId.TheVariants.{Jnl as journal};
 ghost use Rattle.jb_redo.specs.Reading.{BeginsWith};

@@ -1,7 +1,7 @@
 //! The lengths of the six files.
 ghost use Rattle.std.specs.Prelude.{◌≡◌, ◌≤◌, ◌^◌, ◌<◌, IfOk, OnErr, OnOk};
 ghost use Rattle.std.specs.Option.{ForSome};
-ghost use Rattle.jb_base.specs.Fault.{Rose};
+ghost use Rattle.jb_bytes.specs.Fault.{Rose};
 ghost use Rattle.jb_disk.specs.Device.{OnlyReads};
 ghost use Rattle.jb_redo.specs.Rules.{with_size};
 ghost use Rattle.jb_redo.specs.Walk.{AreSizes, size_in};

@@ -1,7 +1,7 @@
 //! Whether the journal holds a record.
 ghost use Rattle.std.specs.Prelude.{◌≡◌, ◌≤◌, ◌<◌, ◌^◌, IfOk, IfErr, IsErrOf, OnOk};
 ghost use Rattle.std.specs.Option.{ForSome};
-ghost use Rattle.jb_base.specs.Fault.{Rose};
+ghost use Rattle.jb_bytes.specs.Fault.{Rose};
 ghost use Rattle.jb_disk.specs.Device.{OnlyReads};
 ghost use Rattle.jb_redo.specs.Answers.{AnswersFor, RecordFaultRose, RefusesFor};
 ghost use Rattle.jb_redo.specs.Laws.{HasOneBadPlaceAtMost, HasOneRecordAtMost, HasRecordOrBadPlace};

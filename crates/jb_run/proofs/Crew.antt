@@ -3,7 +3,7 @@ use Rattle.std.specs.declared.alloc.Global.{Global}
 use Rattle.std.proofs.Common.{Vec, ◌≡◌, ℕ, ◌+◌, ◌<◌, ◌≤◌, Bool, true, false, ◌||◌, List, [], ◌∷◌, ◌++◌, drop, get_or, length, map, refl, set, sym, ap, subst, ◌∙◌, arith}
 use Rattle.std.specs.Prelude.{All, Option}
 use Rattle.jb_base.specs.declared.user.User.{User}
-use Rattle.jb_base.specs.declared.limits.TheConstants.{MOST_NAME_BYTES}
+use Rattle.jb_limits.specs.declared.limits.TheConstants.{MOST_NAME_BYTES}
 use Rattle.std.proofs.lemmas.List.{append-nil, drop_all, drop_more, get_or-map, get_or_append_left, get_or_push, length-map, length_push, map-set, map_push, same_from_push}
 use Rattle.jb_conf.specs.declared.board.Board.{Board}
 use Rattle.jb_run.proofs.RowLemmas.{length-lists_of}

@@ -10,7 +10,7 @@ use Rattle.jb_run.specs.Desks.{AreOut, Stand, with_each, without}
 use Rattle.jb_run.specs.AreasErrors.{AsksNothing, HasNoDisk, LacksRoom, RefusesArea, RefusesDisk, ReturnsDisk, of_host as of_host_call, of_opening}
 use Rattle.jb_run.specs.declared.areas_error.AreasError.{AreasError}
 use Rattle.jb_run.specs.declared.areas_error.AreasError.TheVariants as areas
-use Rattle.jb_base.specs.Fault.{Rose}
+use Rattle.jb_bytes.specs.Fault.{Rose}
 use Rattle.jb_conf.specs.declared.board.BoardArea.{BoardArea}
 use Rattle.jb_conf.specs.declared.error.ConfError.{ConfError}
 use Rattle.jb_conf.specs.declared.error.ConfError.TheVariants as conf

@@ -14,7 +14,7 @@ use Rattle.jb_run.specs.Rows.{lists_of}
 use Rattle.jb_run.proofs.Callers.{only_list, still_whole}
 use Rattle.jb_run.proofs.RowLemmas.{length-lists_of, list_at}
 use Rattle.jb_run.proofs.WholeLemmas.{nobody}
-use Rattle.jb_base.specs.Fault.{Rose}
+use Rattle.jb_bytes.specs.Fault.{Rose}
 use Rattle.jb_base.specs.declared.area.AreaRules.{AreaRules}
 use Rattle.jb_conf.specs.declared.board.Board.{Board}
 use Rattle.jb_conf.specs.declared.board.BoardArea.{BoardArea}

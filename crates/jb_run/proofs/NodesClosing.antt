@@ -9,8 +9,8 @@ use Rattle.jb_run.specs.All.{AreOpenable, AreWhole, EndsAt, OpenAs, any, passes_
 use Rattle.jb_run.specs.Lives.{Ends, GoesOnFrom}
 use Rattle.jb_run.specs.Rows.{IsColumn, lists_of}
 use Rattle.jb_run.specs.declared.opening.SharedAreas.{SharedAreas}
-use Rattle.jb_base.specs.Fault.{Rose}
-use Rattle.jb_base.specs.declared.limits.TheConstants.{MOST_ADDRESS_BYTES}
+use Rattle.jb_bytes.specs.Fault.{Rose}
+use Rattle.jb_limits.specs.declared.limits.TheConstants.{MOST_ADDRESS_BYTES}
 use Rattle.jb_conf.specs.InRange.{IsInRange}
 use Rattle.jb_conf.specs.declared.board.Board.{Board}
 use Rattle.jb_conf.specs.declared.board.BoardArea.{BoardArea}

@@ -6,7 +6,7 @@ use Rattle.jb_run.proofs.RefuseLemmas.{refuses_none}
 use Rattle.jb_run.specs.All.{OpenAs}
 use Rattle.jb_run.specs.Desks.{HandsOut, with_each, without}
 use Rattle.jb_run.specs.declared.areas_error.AreasError.TheVariants as areas
-use Rattle.jb_base.specs.Fault.{Rose}
+use Rattle.jb_bytes.specs.Fault.{Rose}
 use Rattle.jb_conf.specs.declared.board.Board.{Board}
 use Rattle.jb_conf.specs.declared.board.BoardArea.{BoardArea}
 use Rattle.jb_disk.specs.Device.{Device}

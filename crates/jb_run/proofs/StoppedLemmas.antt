@@ -1,7 +1,7 @@
 -- A history whose last call the device stopped: its count of faults has risen.
 use Rattle.std.proofs.Common.{◌≡◌, ◌⊎◌, ℕ, Bool, true, false, List, [], ◌∷◌, inl, inr, refl, sym, subst, arith}
 use Rattle.std.specs.Prelude.{filter_map}
-use Rattle.jb_base.specs.Fault.{Rose}
+use Rattle.jb_bytes.specs.Fault.{Rose}
 use Rattle.jb_model.specs.History.{Rises, faults_of, last_faults, last_told}
 use Rattle.jb_model.specs.declared.entry.Entry.{Entry}
 use Rattle.jb_model.specs.declared.entry.Entry.TheVariants.{Called, Reopened}

@@ -1,7 +1,7 @@
 -- All areas of a board: opened and shared in order, refused at the first that is, and closed.
 use Rattle.std.specs.Prelude.{◌≡◌, ℕ, ◌+◌, ◌<◌, ◌≤◌, All, AllPairs, Bool, false, ◌||◌, List, [], ◌∷◌, ◌++◌, length, slice_index_or, vec_capacity}
 use Rattle.std.specs.List.{fold}
-use Rattle.jb_base.specs.declared.limits.TheConstants.{MOST_ADDRESS_BYTES, MOST_AREAS, MOST_SLOTS}
+use Rattle.jb_limits.specs.declared.limits.TheConstants.{MOST_ADDRESS_BYTES, MOST_AREAS, MOST_SLOTS}
 use Rattle.jb_conf.specs.declared.board.BoardArea.{BoardArea}
 use Rattle.jb_disk.specs.Device.{Device}
 use Rattle.jb_host.specs.Desk.{Desk, TakesBack}

@@ -6,7 +6,7 @@ use Rattle.jb_area.specs.Calls.{HasRest}
 use Rattle.jb_area.specs.Holds.{IsAtRest, Opens}
 use Rattle.jb_area.specs.declared.area.OpenArea.{OpenArea}
 use Rattle.jb_area_open.specs.Opening.{IsOpenAt, KeepsOpening, OpensFirmly}
-use Rattle.jb_base.specs.Fault.{Rose}
+use Rattle.jb_bytes.specs.Fault.{Rose}
 use Rattle.jb_base.specs.declared.area.AreaRules.{AreaRules}
 use Rattle.jb_conf.specs.declared.board.BoardArea.{BoardArea}
 use Rattle.jb_decide.specs.Coming.{Coming}

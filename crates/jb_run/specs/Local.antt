@@ -4,7 +4,7 @@ use Rattle.std.specs.Option.{ForSome, option_map}
 use Rattle.jb_run.specs.All.{OpenAs, RefusesAll, any}
 use Rattle.jb_run.specs.Desks.{Stand, asked_for, with_each}
 use Rattle.jb_run.specs.declared.areas_error.AreasError.{AreasError}
-use Rattle.jb_base.specs.Fault.{Rose}
+use Rattle.jb_bytes.specs.Fault.{Rose}
 use Rattle.jb_conf.specs.InRange.{IsInRange}
 use Rattle.jb_conf.specs.Settings.{IsReading}
 use Rattle.jb_conf.specs.declared.board.Board.{Board}

@@ -5,7 +5,7 @@ use Rattle.jb_run.specs.All.{Abandons, OpenAs, any}
 use Rattle.jb_run.specs.Desks.{HandsOut, Stand, asked_for, with_each}
 use Rattle.jb_run.specs.Lives.{Ends}
 use Rattle.jb_run.specs.Rows.{IsColumn}
-use Rattle.jb_base.specs.Fault.{Rose}
+use Rattle.jb_bytes.specs.Fault.{Rose}
 use Rattle.jb_conf.specs.InRange.{IsInRange}
 use Rattle.jb_conf.specs.Settings.{IsReading}
 use Rattle.jb_conf.specs.declared.board.Board.{Board}

@@ -1,6 +1,6 @@
 //! The disk of an area is claimed, and the area opened over it.
 ghost use Rattle.std.specs.Prelude.{◌≤◌, ℕ, IfErr, IfOk, length};
-ghost use Rattle.jb_base.specs.declared.limits.TheConstants.{MOST_ADDRESS_BYTES, MOST_SLOTS};
+ghost use Rattle.jb_limits.specs.declared.limits.TheConstants.{MOST_ADDRESS_BYTES, MOST_SLOTS};
 ghost use Rattle.jb_run.specs.AreasErrors.{RefusesDisk, of_opening};
 ghost use Rattle.jb_run.specs.Lives.{OpensOver};
 

@@ -1,7 +1,7 @@
 //! The workers of a run: room for them, and each node as the host hands its door out.
 ghost use Rattle.std.specs.Prelude.{◌≡◌, ◌+◌, ◌<◌, ◌≤◌, ◌++◌, ◌∷◌, [], IfErr, IfOk, OnOk, length, set, slice_index_or, vec_capacity, vec_len};
 ghost use Rattle.jb_run.specs.Rows.{lists_of};
-ghost use Rattle.jb_base.specs.declared.limits.TheConstants.{MOST_AREAS, MOST_NODES};
+ghost use Rattle.jb_limits.specs.declared.limits.TheConstants.{MOST_AREAS, MOST_NODES};
 ghost use Rattle.jb_host.specs.Desk.{RefusesCall, asked_door};
 ghost use Rattle.jb_run.specs.Lines.{StopsLines};
 ghost use Rattle.jb_run.specs.Workers.{AddsNode, AreNodes, OpensLines, gates_of, packer, with_passes};

@@ -1,7 +1,7 @@
 //! One area: its disk is taken from the host, opened and shared, and put back.
 ghost use Rattle.std.specs.Prelude.{◌≡◌, ◌<◌, ◌≤◌, ℕ, All, Bool, IfErr, IfOk, List, length, map};
 ghost use Rattle.std.specs.Option.{ForSome};
-ghost use Rattle.jb_base.specs.declared.limits.TheConstants.{MOST_ADDRESS_BYTES, MOST_SLOTS};
+ghost use Rattle.jb_limits.specs.declared.limits.TheConstants.{MOST_ADDRESS_BYTES, MOST_SLOTS};
 ghost use Rattle.jb_disk.specs.Device.{Device};
 ghost use Rattle.jb_host.specs.Desk.{GivesDisk, TakesBack, handed_out};
 ghost use Rattle.jb_model.specs.Live.{live_count};

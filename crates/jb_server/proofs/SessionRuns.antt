@@ -3,7 +3,7 @@ use Rattle.std.proofs.Common.{◌≡◌, ℕ, true, false, List, [], ◌∷◌, 
 use Rattle.std.specs.Option.{option_map}
 use Rattle.std.proofs.lemmas.List.{map-append}
 use Rattle.std.proofs.lemmas.List.Sums.{fold-append}
-use Rattle.jb_base.specs.Fault.{Rose}
+use Rattle.jb_bytes.specs.Fault.{Rose}
 use Rattle.jb_conf.specs.declared.board.Board.{Board}
 use Rattle.jb_host.specs.Gate.{FailsToGive, Gate, GivesLink, GivesNone, HangsUp, IsFoundShut}
 use Rattle.jb_host.specs.Wire.{Wire}

@@ -1,7 +1,7 @@
 -- The sessions of a node, one after another, on the links of its door.
 use Rattle.std.specs.Prelude.{◌≡◌, ℕ, ◌+◌, Bool, true, false, List, [], ◌∷◌, ◌++◌, length, map, Option, Some}
 use Rattle.std.specs.Option.{option_map}
-use Rattle.jb_base.specs.Fault.{Rose}
+use Rattle.jb_bytes.specs.Fault.{Rose}
 use Rattle.jb_conf.specs.declared.board.Board.{Board}
 use Rattle.jb_host.specs.Gate.{Gate}
 use Rattle.jb_host.specs.Wire.{Wire}

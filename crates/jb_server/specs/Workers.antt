@@ -1,6 +1,6 @@
 -- The workers of a server.
 use Rattle.std.specs.Prelude.{◌≡◌, ℕ, ◌≤◌, List, length, Option}
-use Rattle.jb_base.specs.declared.limits.TheConstants.{MOST_NAME_BYTES}
+use Rattle.jb_limits.specs.declared.limits.TheConstants.{MOST_NAME_BYTES}
 use Rattle.jb_conf.specs.declared.board.Board.{Board}
 use Rattle.jb_host.specs.Gate.{Gate}
 use Rattle.jb_host.specs.Rings.{Rings}

@@ -1,6 +1,6 @@
 //! The work of a packer.
 ghost use Rattle.std.specs.Prelude.{◌≡◌, ◌≤◌, length};
-ghost use Rattle.jb_base.specs.declared.limits.TheConstants.{MOST_NAME_BYTES};
+ghost use Rattle.jb_limits.specs.declared.limits.TheConstants.{MOST_NAME_BYTES};
 ghost use Rattle.jb_model.specs.declared.command.Command.{Command};
 ghost use Rattle.jb_session.specs.Exchanges.{AreOf, Asks};
 ghost use Rattle.jb_shared.specs.Areas.{IsOf};

@@ -4,8 +4,8 @@ use Rattle.std.specs.Option.{option_to_list, ForSome}
 use Rattle.std.specs.Prelude.{Result, Ok, Err, IfOk, OnErr}
 use Rattle.std.proofs.lemmas.List.{map-append, same_lists, places}
 use Rattle.jb_talk.specs.Asking.{most_asked}
-use Rattle.jb_base.specs.Fault.{Rose}
-use Rattle.jb_base.specs.declared.limits.TheConstants.{MOST_SESSION_BYTES}
+use Rattle.jb_bytes.specs.Fault.{Rose}
+use Rattle.jb_limits.specs.declared.limits.TheConstants.{MOST_SESSION_BYTES}
 use Rattle.jb_conf.specs.declared.board.Board.{Board}
 use Rattle.jb_host.specs.Wire.{Begins, Sends, Takes, Wire}
 use Rattle.jb_host.proofs.Wires.{rose_later, sends_more, sends_none, takes_more, takes_none}

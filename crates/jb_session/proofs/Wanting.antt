@@ -1,6 +1,6 @@
 -- What a talk wants that stands on its feet, and how one ends that wants nothing more.
 use Rattle.std.proofs.Common.{◌≡◌, ℕ, ◌-◌, ◌<◌, ◌≤◌, ◌==◌, Bool, true, false, List, [], ◌∷◌, length, take, Option, None, Some, refl, sym, subst, arith}
-use Rattle.jb_base.specs.declared.limits.TheConstants.{MOST_SESSION_BYTES}
+use Rattle.jb_limits.specs.declared.limits.TheConstants.{MOST_SESSION_BYTES}
 use Rattle.jb_host.specs.Wire.{Takes}
 use Rattle.jb_talk.specs.Conversations.{end_of, is_on}
 use Rattle.jb_talk.specs.Talking.{Talking, most_wanted}

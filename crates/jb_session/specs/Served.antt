@@ -1,8 +1,8 @@
 -- One session over a link.
 use Rattle.std.specs.Prelude.{◌≡◌, ◌≢◌, ◌⊎◌, ℕ, ◌+◌, ◌≤◌, List, [], ◌++◌, length, Option, None}
 use Rattle.std.specs.Option.{ForSome, option_to_list}
-use Rattle.jb_base.specs.Fault.{Rose}
-use Rattle.jb_base.specs.declared.limits.TheConstants.{MOST_SESSION_BYTES}
+use Rattle.jb_bytes.specs.Fault.{Rose}
+use Rattle.jb_limits.specs.declared.limits.TheConstants.{MOST_SESSION_BYTES}
 use Rattle.jb_conf.specs.declared.board.Board.{Board}
 use Rattle.jb_host.specs.Wire.{Wire, Sends, Takes}
 use Rattle.jb_menu.specs.declared.given.Given.{Given}

@@ -1,6 +1,6 @@
 //! One request, done on the area that it asks.
 ghost use Rattle.std.specs.Prelude.{◌≡◌, ◌<◌, ◌≤◌, ℕ, Option, false, length, IfOk, OnErr};
-ghost use Rattle.jb_base.specs.declared.limits.TheConstants.{MOST_NAME_BYTES};
+ghost use Rattle.jb_limits.specs.declared.limits.TheConstants.{MOST_NAME_BYTES};
 ghost use Rattle.jb_conf.specs.InRange.{IsInRange};
 ghost use Rattle.jb_shared.specs.Areas.{IsOf};
 ghost use Rattle.jb_talk.specs.Asking.{is_line};

@@ -1,7 +1,7 @@
 //! What a talk owes, sent; and a piece for it, read.
 ghost use Rattle.std.specs.Prelude.{◌≡◌, ◌<◌, ◌≤◌, ℕ, List, [], None, Option, IfOk, OnErr, OnOk, length, take};
 ghost use Rattle.std.specs.Option.{ForSome};
-ghost use Rattle.jb_base.specs.Fault.{HasCause, Rose};
+ghost use Rattle.jb_bytes.specs.Fault.{HasCause, Rose};
 ghost use Rattle.jb_conf.specs.declared.board.Board.{Board};
 ghost use Rattle.jb_host.specs.Wire.{Takes, Wire};
 ghost use Rattle.jb_shared.specs.Passes.{PassView};

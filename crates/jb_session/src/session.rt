@@ -1,7 +1,7 @@
 //! The loop of a session: what is owed is sent, a piece is read and heard, and what it asks of the areas is answered.
 ghost use Rattle.std.specs.Prelude.{◌≡◌, ◌+◌, ◌<◌, ◌≤◌, ℕ, List, [], None, Option, Some, false, true, IfErr, IfOk, OnErr, OnOk, drop, length};
 ghost use Rattle.std.specs.Option.{is_some};
-ghost use Rattle.jb_base.specs.declared.limits.TheConstants.{MOST_SESSION_BYTES};
+ghost use Rattle.jb_limits.specs.declared.limits.TheConstants.{MOST_SESSION_BYTES};
 ghost use Rattle.jb_conf.specs.InRange.{IsInRange};
 ghost use Rattle.jb_host.specs.Wire.{Wire};
 ghost use Rattle.jb_shared.specs.Passes.{PassView};

@@ -1,6 +1,6 @@
 -- What a call makes of what its pass knows.
 use Rattle.std.proofs.Common.{◌≡◌, inl, inr, ℕ, ◌<◌, ◌≤◌, List, [], ◌∷◌, length, Bool, Option, Some, None, Result, Ok, Err, refl, sym, ◌∙◌, ap, subst}
-use Rattle.jb_base.specs.declared.limits.TheConstants.{MOST_ENTRIES}
+use Rattle.jb_limits.specs.declared.limits.TheConstants.{MOST_ENTRIES}
 use Rattle.jb_base.specs.declared.user.User.{User}
 use Rattle.jb_disk.specs.Device.{Device}
 use Rattle.jb_model.specs.declared.command.Command.{Command}

@@ -12,6 +12,7 @@ use Rattle.jb_disk.specs.Device.{Device}
 use Rattle.jb_index.specs.Edit.{absorbed}
 use Rattle.jb_index.specs.Index.{index_of}
 use Rattle.jb_index.specs.declared.op.OpEdit.{OpEdit}
+use Rattle.jb_model.specs.Answered.{Answered}
 use Rattle.jb_model.specs.State.{state_of}
 use Rattle.jb_model.specs.Step.{step}
 use Rattle.jb_model.specs.declared.command.Command.{Command}
@@ -23,12 +24,15 @@ use Rattle.jb_shared.proofs.IndexLemmas.{rests_no_change}
 
 module _ {D : Type 0} (shown : D → Device) where
   -- the edits that follow what is begun follow the command
-  pub follows_begun : (old mid : OpenArea D) (user : User) (moment : ℕ) (command : Command) (value : Unit {0}) (edits : List OpEdit) → BeginsCall shown old mid user moment command (Ok value) → IsFollowed shown mid user moment command edits
+  pub follows_begun : (old mid : OpenArea D) (user : User) (moment : ℕ) (command : Command) (value : Unit {0}) (edits : List OpEdit) → BeginsCall shown old mid user moment command (Ok value) → IsFollowed shown mid edits
       → Follows shown old user moment command edits
   follows_begun old mid user moment command value edits begins followed = λ texts resting told.
       let P : AreaRules → Loaded → Type 0 = λ rules loaded. absorbed (index_of rules (state_of texts loaded)) edits ≡ index_of rules (step rules (state_of texts loaded) user moment command).state in
       subst (λ (rules : AreaRules). P rules (loaded_of old)) begins.rules
-      (subst (P (rules_of mid)) begins.loaded (followed texts (begins.begun texts resting) (begins.alike ∙ told)))
+      (subst (P (rules_of mid)) begins.loaded (
+      let begun = begins.begun texts resting in
+      followed texts begun.reply begun.coming begun.begun
+      ∙ sym (ap (λ (a : Answered). index_of (rules_of mid) a.state) (begun.step (λ letter is. begins.alike ∙ told)))))
 
   -- a call that is abandoned wanted memory, and has left all as it was
   pub meets_abandoned : (old mid new : OpenArea D) (user : User) (moment : ℕ) (command : Command) (value : Unit {0}) → BeginsCall shown old mid user moment command (Ok value)

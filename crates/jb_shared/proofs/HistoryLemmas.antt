@@ -4,7 +4,7 @@ use Rattle.std.specs.Prelude.{filter_map, is_some, IfSome}
 use Rattle.std.specs.List.{cons_option}
 use Rattle.std.proofs.lemmas.List.{append-nil}
 use Rattle.std.proofs.lemmas.List.Elements.{filter_map-append}
-use Rattle.jb_base.specs.Fault.{Rose}
+use Rattle.jb_bytes.specs.Fault.{Rose}
 use Rattle.jb_model.specs.History.{IsNextCall, Rises, calls_of, faults_of, last_faults, last_told}
 use Rattle.jb_model.specs.Standing.{Allows, Settled}
 use Rattle.jb_model.specs.declared.entry.Entry.{Entry}

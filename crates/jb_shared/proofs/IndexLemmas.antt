@@ -8,8 +8,9 @@ use Rattle.jb_area.specs.declared.stage.Stage.TheVariants.{Doubtful, Resting}
 use Rattle.jb_base.specs.declared.area.AreaRules.{AreaRules}
 use Rattle.jb_base.specs.declared.user.User.{User}
 use Rattle.jb_decide.specs.Coming.{Coming}
-use Rattle.jb_decide.specs.declared.pending.Pending.{Pending}
-use Rattle.jb_decide.specs.declared.pending.Pending.TheVariants.{Nothing}
+use Rattle.jb_held.specs.declared.pending.Pending.{Pending}
+use Rattle.jb_model.specs.declared.change.Change.{Change}
+use Rattle.jb_model.specs.declared.change.Change.TheVariants.{Nothing}
 use Rattle.jb_disk.specs.Device.{Device}
 use Rattle.jb_index.specs.Edit.{absorbed}
 use Rattle.jb_index.specs.Index.{AreaIndex, index_of}
@@ -62,8 +63,8 @@ module _ {D : Type 0} (shown : D → Device) where
   unchanged_no_change area texts (inr half) (texts', coming, doubt) =
       let is : None ≡ Some doubt.pending = ap pending_of (sym half.stage ∙ doubt.stage) in absurd (cc (is))
   unchanged_no_change area texts (inl none) (texts', coming, doubt) =
-      let is : Some Nothing ≡ Some doubt.pending = ap pending_of (sym none.stage ∙ doubt.stage) in
-      doubt.change.some (ap (λ (o : Option Pending). unwrap_or o Nothing) (sym is))
+      let is : Some none.pending ≡ Some doubt.pending = ap pending_of (sym none.stage ∙ doubt.stage) in
+      doubt.change.some (ap (λ (o : Option Pending). (unwrap_or o none.pending).change) (sym is) ∙ none.none)
 
   -- where an area that stands settled is: at a state, whose index is the one that looks see, and the edits make of it that after the command
   pub index_after : (area : OpenArea D) (opening : Opening) (history : List Entry) (index : AreaIndex) (user : User) (moment : ℕ) (command : Command) (edits : List OpEdit)

@@ -4,7 +4,7 @@ use mathlib.Core.List.{IsPrefix}
 use Rattle.jb_area.specs.Area.{HasDoubt, IsDoubtful, IsResting, SettlesAt, device_of, loaded_of, rules_of}
 use Rattle.jb_area.specs.Calls.{HasRest, MeetsCall}
 use Rattle.jb_area.specs.declared.area.OpenArea.{OpenArea}
-use Rattle.jb_base.specs.Fault.{Rose}
+use Rattle.jb_bytes.specs.Fault.{Rose}
 use Rattle.jb_base.specs.declared.user.User.{User}
 use Rattle.jb_decide.specs.Coming.{Coming}
 use Rattle.jb_decide.specs.declared.error.AreaError.TheVariants as failing

@@ -4,7 +4,7 @@ use Rattle.std.specs.Prelude.{is_some, not, IfSome}
 use Rattle.jb_area.specs.Area.{device_of, loaded_of, rules_of, HasDoubt, IsDoubtful, IsResting, SettlesAt}
 use Rattle.jb_area.specs.Calls.{HasRest, IsChangeOf, MeetsCall}
 use Rattle.jb_area.specs.declared.area.OpenArea.{OpenArea}
-use Rattle.jb_base.specs.Fault.{Rose}
+use Rattle.jb_bytes.specs.Fault.{Rose}
 use Rattle.jb_base.specs.declared.area.AreaRules.{AreaRules}
 use Rattle.jb_base.specs.declared.user.User.{User}
 use Rattle.jb_decide.specs.Coming.{Coming}
@@ -78,7 +78,7 @@ module _ {D : Type 0} (shown : D → Device) where
       → (after : Option AreaState) × IsAt shown new (InDoubt state after) × (Tells opening → after ≡ change_of (step opening.rules state user moment command))
   doubt_at old new opening state texts user moment command None rules is told change doubt loaded =
       (change_of (step opening.rules state user moment command), (texts, None, doubt, ap (state_of texts) loaded ∙ is), λ t. refl)
-  doubt_at old new opening state texts user moment command (Some coming) rules is told (reply, other, answered) doubt loaded = (
+  doubt_at old new opening state texts user moment command (Some coming) rules is told (reply, change, other, fits, becomes, somewhere, answered) doubt loaded = (
     Some (state_to coming),
     (texts, Some coming, doubt, (ap (state_of texts) loaded ∙ is, refl)),
     λ t. sym (changed (step opening.rules state user moment command) reply (state_to coming) (is_refusal reply) refl (λ refuses. other (inl refuses))

@@ -4,7 +4,7 @@ use Rattle.jb_area.specs.Area.{IsResting, copied_of, loaded_of}
 use Rattle.jb_area.specs.Calls.{FailsWith, MeetsCall, StepsPack}
 use Rattle.jb_area.specs.Copying.{HasCopiedSome}
 use Rattle.jb_area.specs.declared.area.OpenArea.{OpenArea}
-use Rattle.jb_base.specs.declared.limits.TheConstants.{MOST_ENTRIES, MOST_TEXT_BYTES}
+use Rattle.jb_limits.specs.declared.limits.TheConstants.{MOST_ENTRIES, MOST_TEXT_BYTES}
 use Rattle.jb_base.specs.declared.user.User.{User}
 use Rattle.jb_decide.specs.declared.error.AreaError.{AreaError}
 use Rattle.jb_decide.specs.declared.error.AreaError.TheVariants as failing

@@ -1,6 +1,6 @@
 -- What a call makes of what its pass knows, by its answer.
 use Rattle.std.specs.Prelude.{◌≡◌, ◌⊎◌, ℕ, ◌+◌, ◌<◌, ◌≤◌, Bool, List, [], ◌∷◌, ◌++◌, length, Option, Some, None, Result, Ok, Err}
-use Rattle.jb_base.specs.declared.limits.TheConstants.{MOST_ENTRIES}
+use Rattle.jb_limits.specs.declared.limits.TheConstants.{MOST_ENTRIES}
 use Rattle.jb_base.specs.declared.user.User.{User}
 use Rattle.jb_model.specs.declared.command.Command.{Command}
 use Rattle.jb_model.specs.declared.entry.Entry.{Entry}

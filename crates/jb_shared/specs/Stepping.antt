@@ -3,7 +3,7 @@ use Rattle.std.specs.Prelude.{◌≡◌, ◌⊎◌, ℕ, Bool, false, List, Resu
 use Rattle.jb_area.specs.Area.{copied_of, loaded_of}
 use Rattle.jb_area.specs.Copying.{HasCopiedSome}
 use Rattle.jb_area.specs.declared.area.OpenArea.{OpenArea}
-use Rattle.jb_base.specs.declared.limits.TheConstants.{MOST_TEXT_BYTES}
+use Rattle.jb_limits.specs.declared.limits.TheConstants.{MOST_TEXT_BYTES}
 use Rattle.jb_base.specs.declared.user.User.{User}
 use Rattle.jb_model.specs.declared.command.Command.TheVariants.{Pack}
 use Rattle.jb_model.specs.declared.entry.Entry.{Entry}

@@ -1,6 +1,6 @@
 //! Calls: the turn is taken, a doubt is ended, the command is done, and what came of it is recorded and shown.
 ghost use Rattle.std.specs.Prelude.{◌≡◌, ◌<◌, ◌≤◌, Bool, Option, Some, length, IfErr, OnErr, OnOk};
-ghost use Rattle.jb_base.specs.declared.limits.TheConstants.{MOST_ENTRIES, MOST_NAME_BYTES};
+ghost use Rattle.jb_limits.specs.declared.limits.TheConstants.{MOST_ENTRIES, MOST_NAME_BYTES};
 ghost use Rattle.jb_turn.specs.Seats.{row_of};
 ghost use Rattle.jb_shared.specs.InTurn.{IsOut, Performs, Runs, Stops, ended};
 ghost use Rattle.jb_shared.specs.Keeping.{IsKept, IsKeptInDoubt, IsKeptSettled};

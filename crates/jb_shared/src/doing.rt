@@ -2,7 +2,7 @@
 ghost use Rattle.std.specs.Prelude.{◌≤◌, length, OnErr, OnOk};
 ghost use Rattle.jb_area.specs.Area.{HasBegun};
 ghost use Rattle.jb_area.specs.Calls.{EndsCall, HasRest, MeetsCall};
-ghost use Rattle.jb_base.specs.declared.limits.TheConstants.{MOST_NAME_BYTES};
+ghost use Rattle.jb_limits.specs.declared.limits.TheConstants.{MOST_NAME_BYTES};
 ghost use Rattle.jb_shared.specs.Keeping.{Follows, HasChange};
 
 use crate::change::IndexChange;
@@ -42,7 +42,7 @@ pub(crate) fn run<D: Disk>(
 {
     match area.begin(alloc, user, moment, command) {
         Ok(()) => {
-            let Ok(made) = change_of(alloc, area, user, moment, command) else {
+            let Ok(made) = change_of(alloc, area) else {
                 area.abandon();
                 return Err(AreaError::OutOfMemory);
             };

@@ -1,7 +1,7 @@
 //! One function for each kind of entry and of remark: a caller picks what is named by these arguments.
 ghost use Rattle.std.specs.Prelude.{◌≡◌, ◌+◌, ◌≤◌, Some};
 ghost use Rattle.jb_area.specs.Area.{device_of};
-ghost use Rattle.jb_base.specs.declared.limits.TheConstants.{MOST_ENTRIES};
+ghost use Rattle.jb_limits.specs.declared.limits.TheConstants.{MOST_ENTRIES};
 ghost use Rattle.jb_model.specs.declared.entry.Entry.TheVariants.{Reopened};
 ghost use Rattle.jb_model.specs.declared.entry.Outcome.TheVariants.{InDoubt, NotBegun, Replied};
 ghost use Rattle.jb_shared.specs.InTurn.{ended, next_call, recorded};

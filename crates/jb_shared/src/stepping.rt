@@ -3,7 +3,7 @@ ghost use Rattle.std.specs.Prelude.{◌≡◌, ◌<◌, ◌≤◌, ◌+◌, ◌*
 ghost use mathlib.Core.List.{IsPrefix};
 ghost use Rattle.jb_area.specs.Area.{HasDoubt};
 ghost use Rattle.jb_area.specs.Calls.{HasRest};
-ghost use Rattle.jb_base.specs.declared.limits.TheConstants.{MOST_ENTRIES, MOST_TEXT_BYTES};
+ghost use Rattle.jb_limits.specs.declared.limits.TheConstants.{MOST_ENTRIES, MOST_TEXT_BYTES};
 ghost use Rattle.jb_publish.specs.Accounts.{account_of};
 ghost use Rattle.jb_publish.specs.Publications.{publication_of};
 ghost use Rattle.jb_turn.specs.Seats.{id_of, resting_row, resting_turn, row_of};

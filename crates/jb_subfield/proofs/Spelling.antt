@@ -2,13 +2,13 @@
 use Rattle.std.proofs.Common.{◌≡◌, ℕ, List, [], ◌∷◌, ◌++◌, All, Ok, Err, length, drop, refl, ap, sym, ◌∙◌, inl, inr, append_assoc, arith, length-drop}
 use Rattle.std.proofs.lemmas.List.{append-nil, take-append-drop}
 use Rattle.std.proofs.lemmas.List.Elements.{All-head, All-tail}
-use Rattle.jb_base.proofs.Spelled.{at_front, behind_is, fields_in-list}
-use Rattle.jb_base.specs.Spelled.{behind_front, field_at_front}
-use Rattle.jb_base.specs.Subfields.{IsSubfield, IsSubfieldList, IsCutAt, one_subfield, subfield_bytes}
-use Rattle.jb_base.specs.declared.subfield.Subfield.{Subfield}
+use Rattle.jb_bytes.proofs.Spelled.{at_front, behind_is, fields_in-list}
+use Rattle.jb_bytes.specs.Spelled.{behind_front, field_at_front}
+use Rattle.jb_bytes.specs.Subfields.{IsSubfield, IsSubfieldList, IsCutAt, one_subfield, subfield_bytes}
+use Rattle.jb_bytes.specs.declared.subfield.Subfield.{Subfield}
 use Rattle.jb_subfield.specs.Answer.{IsReading, IsUnlessMemory}
 use Rattle.jb_subfield.specs.Laws.{IsPrefixFree, HasOneListAtMost}
-use Rattle.jb_base.specs.Whole.{HasNoWhole}
+use Rattle.jb_bytes.specs.Whole.{HasNoWhole}
 use Rattle.jb_subfield.specs.declared.error.SubfieldError.TheVariants.{Cut, OutOfMemory}
 
 -- no spelling of one subfield is a proper prefix of another's

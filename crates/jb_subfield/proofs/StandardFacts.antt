@@ -1,10 +1,10 @@
 -- Lists of subfields as bytes that were written out by hand from the table (JAM, "SubFields"), whole and cut.
 use Rattle.std.proofs.Common.{◌≡◌, ℕ, ◌+◌, ◌<◌, List, [], ◌∷◌, ◌++◌, All, Ok, Err, length, codes, refl, ap, ◌∙◌, arith, length-append, take}
 use Rattle.std.proofs.lemmas.List.Elements.{All-nil, All-push}
-use Rattle.jb_base.specs.Number.{number_at}
-use Rattle.jb_base.specs.Subfields.{IsSubfield, one_subfield}
-use Rattle.jb_base.specs.Whole.{HasNoWhole}
-use Rattle.jb_base.specs.declared.subfield.Subfield.{Subfield}
+use Rattle.jb_bytes.specs.Number.{number_at}
+use Rattle.jb_bytes.specs.Subfields.{IsSubfield, one_subfield}
+use Rattle.jb_bytes.specs.Whole.{HasNoWhole}
+use Rattle.jb_bytes.specs.declared.subfield.Subfield.{Subfield}
 use Rattle.jb_subfield.specs.Answer.{IsReading}
 use Rattle.jb_subfield.specs.declared.error.SubfieldError.TheVariants.{Cut}
 

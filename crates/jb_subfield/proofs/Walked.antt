@@ -2,10 +2,10 @@
 use Rattle.std.proofs.Common.{◌≡◌, ℕ, ◌+◌, ◌-◌, ◌<◌, List, [], ◌∷◌, ◌++◌, All, length, take, drop, refl, ap, sym, ◌∙◌, append_assoc, length-append, arith}
 use Rattle.std.proofs.lemmas.List.{append-nil, drop_at, take_at}
 use Rattle.std.proofs.lemmas.List.Elements.{All-nil, All-push}
-use Rattle.jb_base.proofs.Spelled.{subfield_bytes-push}
-use Rattle.jb_base.specs.Subfields.{AreSubfields, IsCutAt, IsSubfield, one_subfield, subfield_bytes}
-use Rattle.jb_base.specs.Whole.{BeginsWith, HasNoWhole}
-use Rattle.jb_base.specs.declared.subfield.Subfield.{Subfield}
+use Rattle.jb_bytes.proofs.Spelled.{subfield_bytes-push}
+use Rattle.jb_bytes.specs.Subfields.{AreSubfields, IsCutAt, IsSubfield, one_subfield, subfield_bytes}
+use Rattle.jb_bytes.specs.Whole.{BeginsWith, HasNoWhole}
+use Rattle.jb_bytes.specs.declared.subfield.Subfield.{Subfield}
 
 -- subfields stand before the rest of bytes
 pub record Walked (bytes rest : List ℕ) : Type 0 where

@@ -1,7 +1,7 @@
 -- What reading subfields answers.
 use Rattle.std.specs.Prelude.{◌≡◌, ◌⊎◌, ⊤, List, ℕ, Result, Ok, Err}
-use Rattle.jb_base.specs.declared.subfield.Subfield.{Subfield}
-use Rattle.jb_base.specs.Subfields.{IsCutAt, IsSubfieldList}
+use Rattle.jb_bytes.specs.declared.subfield.Subfield.{Subfield}
+use Rattle.jb_bytes.specs.Subfields.{IsCutAt, IsSubfieldList}
 use Rattle.jb_subfield.specs.declared.error.SubfieldError.{SubfieldError}
 use Rattle.jb_subfield.specs.declared.error.SubfieldError.TheVariants.{Cut, OutOfMemory}
 

@@ -1,7 +1,7 @@
 -- What makes the spelling of subfields one that can be read back.
 use Rattle.std.specs.Prelude.{◌≡◌, ℕ, List, ◌++◌}
-use Rattle.jb_base.specs.declared.subfield.Subfield.{Subfield}
-use Rattle.jb_base.specs.Subfields.{IsSubfield, IsSubfieldList, one_subfield}
+use Rattle.jb_bytes.specs.declared.subfield.Subfield.{Subfield}
+use Rattle.jb_bytes.specs.Subfields.{IsSubfield, IsSubfieldList, one_subfield}
 
 -- no spelling of one subfield is a proper prefix of another's: bytes begin with one at most, and the rest is settled
 abbrev pub IsPrefixFree : Type 0

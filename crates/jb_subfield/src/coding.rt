@@ -1,12 +1,12 @@
 //! Subfields as bytes, and the list that bytes are.
 ghost use Rattle.std.specs.Prelude.{◌≡◌, ℕ, ◌≤◌, List, Ok, Err, MatchOption, length};
-ghost use Rattle.jb_base.specs.Subfields.{AreSubfields, IsCutAt, IsSubfieldList};
-ghost use Rattle.jb_base.specs.declared.subfield.Subfield.{Subfield};
+ghost use Rattle.jb_bytes.specs.Subfields.{AreSubfields, IsCutAt, IsSubfieldList};
+ghost use Rattle.jb_bytes.specs.declared.subfield.Subfield.{Subfield};
 ghost use Rattle.jb_subfield.specs.Answer.{IsReading, IsUnlessMemory};
 ghost use Rattle.jb_subfield.specs.Laws.{HasOneListAtMost, IsPrefixFree};
 
 use crate::SubfieldError;
-use jb_base::{Subfields, first_part};
+use jb_bytes::{Subfields, first_part};
 use std::alloc::Global;
 
 /// The place of the first subfield in these bytes that is not whole; none where nothing but subfields stands in them. It

@@ -3,7 +3,7 @@
 ghost use Rattle.std.specs.Prelude.{◌≡◌};
 ghost use Rattle.jb_subfield.specs.declared.error.SubfieldError.TheVariants.{OutOfMemory as no_memory};
 
-use jb_base::OutOfMemory;
+use jb_bytes::OutOfMemory;
 use thiserror::Error;
 
 /// Why [`decode`](crate::decode) gives no list.

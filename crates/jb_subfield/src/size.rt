@@ -1,8 +1,8 @@
 //! How many bytes of .JHR a message takes.
 ghost use Rattle.std.specs.Prelude.{◌≡◌, ◌+◌, ◌-◌, ◌^◌, length, min};
-ghost use Rattle.jb_base.specs.Subfields.{subfield_bytes};
+ghost use Rattle.jb_bytes.specs.Subfields.{subfield_bytes};
 
-use jb_base::Subfields;
+use jb_bytes::Subfields;
 
 /// The bytes of .JHR that a message with these subfields takes, its header and the subfields behind it, told as 2^64 - 1
 /// where they are more.

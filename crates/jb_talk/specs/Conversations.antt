@@ -2,7 +2,7 @@
 use Rattle.std.specs.Prelude.{◌≡◌, ℕ, ◌==◌, Bool, true, false, List, [], ◌∷◌, ◌++◌, length, if◌then◌else◌}
 use Rattle.std.specs.List.{flat_map, fold}
 use Rattle.std.specs.Option.{option_to_list}
-use Rattle.jb_base.specs.declared.limits.TheConstants.{MOST_SESSION_BYTES}
+use Rattle.jb_limits.specs.declared.limits.TheConstants.{MOST_SESSION_BYTES}
 use Rattle.jb_conf.specs.declared.board.Board.{Board}
 use Rattle.jb_telnet.specs.declared.event.Event.{Event}
 use Rattle.jb_telnet.specs.Units.{CutsInto, doubled}

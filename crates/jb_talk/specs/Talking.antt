@@ -1,7 +1,7 @@
 -- A talk as it is held: the conversation so far, but for what was handed out of it.
 use Rattle.std.specs.Prelude.{◌≡◌, ℕ, ◌-◌, ◌<◌, ◌==◌, min, ◌&&◌, List, [], ◌++◌, length, Option, Some, IfSome, if◌then◌else◌}
 use Rattle.std.specs.Option.{is_some}
-use Rattle.jb_base.specs.declared.limits.TheConstants.{MOST_SESSION_BYTES}
+use Rattle.jb_limits.specs.declared.limits.TheConstants.{MOST_SESSION_BYTES}
 use Rattle.jb_conf.specs.declared.board.Board.{Board}
 use Rattle.jb_telnet.specs.declared.event.Event.{Event}
 use Rattle.jb_telnet.specs.Reading.{HasRead}

@@ -2,7 +2,7 @@
 ghost use Rattle.std.specs.Prelude.{◌≡◌, ◌+◌, ◌<◌, ◌≤◌, ◌++◌, ◌∷◌, [], ℕ, List, None, false, IfOk, OnOk, IsTrue, length, take};
 ghost use Rattle.std.specs.List.{flat_map};
 ghost use Rattle.std.specs.Option.{option_to_list};
-ghost use Rattle.jb_base.specs.declared.limits.TheConstants.{MOST_SESSION_BYTES};
+ghost use Rattle.jb_limits.specs.declared.limits.TheConstants.{MOST_SESSION_BYTES};
 ghost use Rattle.jb_conf.specs.InRange.{IsInRange};
 ghost use Rattle.jb_line.specs.Typing.{typing_after, line_of};
 ghost use Rattle.jb_menu.specs.Awaits.{IsFor};

@@ -5,7 +5,7 @@ ghost use Rattle.jb_telnet.specs.Units.{doubled, CutsInto};
 
 use crate::codes::IAC;
 use crate::event::Event;
-use jb_base::{Bytes, OutOfMemory};
+use jb_bytes::{Bytes, OutOfMemory};
 use std::alloc::Global;
 
 /// These bytes as they are sent: each 255 is doubled (RFC 854, "TELNET command structure"). Err is want of memory.

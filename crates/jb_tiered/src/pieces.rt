@@ -2,7 +2,7 @@
 ghost use Rattle.std.specs.Prelude.{◌≡◌, ◌+◌, ◌*◌, ◌<◌, ◌≤◌, length, IfOk};
 ghost use Rattle.jb_tiered.specs.Pieces.{AreCopies, AreFilled, HaveGap, IsCopy, items_of};
 
-use jb_base::OutOfMemory;
+use jb_bytes::OutOfMemory;
 use std::alloc::Global;
 use std::collections::VecDeque;
 

@@ -4,7 +4,7 @@ ghost use Rattle.std.specs.Fn.{ComputesKey};
 ghost use Rattle.std.specs.List.Sorted.{IsPartitionPoint, IsPartitionedBy};
 
 use crate::pieces::{PIECE, close_gap, copied_pieces, open_gap};
-use jb_base::OutOfMemory;
+use jb_bytes::OutOfMemory;
 use std::alloc::Global;
 use std::collections::VecDeque;
 use std::marker::Model;

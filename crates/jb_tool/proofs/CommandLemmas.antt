@@ -7,9 +7,9 @@ use Rattle.jb_area.specs.Area.{IsBegun, IsResting, RestsAt}
 use Rattle.jb_area.specs.Calls.{BeginsCall, HasRest, OnlyReadsOrCopies}
 use Rattle.jb_area.specs.Holds.{Opens, OpensToEither}
 use Rattle.jb_area.specs.declared.area.OpenArea.{OpenArea}
-use Rattle.jb_base.specs.Fault.{Rose}
+use Rattle.jb_bytes.specs.Fault.{Rose}
 use Rattle.jb_base.specs.declared.area.AreaRules.{AreaRules}
-use Rattle.jb_base.specs.declared.limits.TheConstants.{MOST_SLOTS}
+use Rattle.jb_limits.specs.declared.limits.TheConstants.{MOST_SLOTS}
 use Rattle.jb_decide.specs.Coming.{Coming}
 use Rattle.jb_decide.specs.declared.error.AreaError.{AreaError}
 use Rattle.jb_decide.specs.declared.error.AreaError.TheVariants as failed

@@ -6,7 +6,7 @@ use Rattle.std.proofs.lemmas.Bool.{cases_eq, cases_lt}
 use Rattle.std.proofs.lemmas.Bool.Decides.{nat_tests}
 use Rattle.jb_change.specs.NewBase.{AreEmpty, MakesBase}
 use Rattle.jb_disk.proofs.RunLemmas.{runs-refl, runs-then, runs-weaken}
-use Rattle.jb_disk.specs.Change.{Change}
+use Rattle.jb_disk.specs.RedoView.{RedoView}
 use Rattle.jb_disk.specs.Device.{Device, Turns}
 use Rattle.jb_disk.specs.Files.{Files}
 use Rattle.jb_disk.specs.Gate.{IsGateOpen}
@@ -111,14 +111,14 @@ prepared_shut start files shut prepared one = elim (cases_lt 16 (length (start J
 ]
 
 -- prepared files are ready for the change
-pub ready_prepared : (moment : ℕ) (change : Change) (before after : Option Files) → MakesBase moment change → ForSome before AreShutAndEmpty → Turns IsPrepared before after → ForSome after (IsReady change)
+pub ready_prepared : (moment : ℕ) (change : RedoView) (before after : Option Files) → MakesBase moment change → ForSome before AreShutAndEmpty → Turns IsPrepared before after → ForSome after (IsReady change)
 ready_prepared moment change before after makes none prepared = λ files is.
     let from = turns_from IsPrepared before after files prepared is in
     let was = none from.0 from.1 in
     base_ready moment change makes files (empty_beside from.0 files was.empty from.2.same) (prepared_long from.0 files from.2) (prepared_shut from.0 files was.shut from.2)
 
 -- files before the change or after it
-before_or_after : (moment : ℕ) (change : Change) (start files : Files) → MakesBase moment change → AreEmpty start → IsBeforeOrAfter change start files → AreNoneOrNew moment files
+before_or_after : (moment : ℕ) (change : RedoView) (start files : Files) → MakesBase moment change → AreEmpty start → IsBeforeOrAfter change start files → AreNoneOrNew moment files
 before_or_after moment change start files makes empty either = elim either [
   | inl old ↦ inl (record { after = old.after; replays = old.replays; has = empty_beside start old.after empty old.same })
   | inr new ↦ inr (record {
@@ -128,7 +128,7 @@ before_or_after moment change start files makes empty either = elim either [
   })
 ]
 
-module _ (moment : ℕ) (change : Change) (makes : MakesBase moment change) (before mid after : Device) (none : ForSome before.contents AreShutAndEmpty) where
+module _ (moment : ℕ) (change : RedoView) (makes : MakesBase moment change) (before mid after : Device) (none : ForSome before.contents AreShutAndEmpty) where
   -- what a crash leaves while the journal is prepared
   pub left_preparing : IsAllSynced before → ForSome before.contents (λ start. IsAllSynced before → LeavesOnly before mid (IsPreparing start))
       → ForSome before.contents (λ _. LeavesOnly before mid (AreNoneOrNew moment))

@@ -3,7 +3,7 @@ use Rattle.std.proofs.Common.{◌≡◌, ◌≢◌, ℕ, ◌<◌, ◌≤◌, len
 use Rattle.std.specs.Prelude.{slice_index}
 use Rattle.jb_decide.proofs.AgreeLemmas.{loads_agree}
 use Rattle.jb_change.specs.NewBase.{AreEmpty, AreNew, MakesBase, new_loaded}
-use Rattle.jb_disk.specs.Change.{Change}
+use Rattle.jb_disk.specs.RedoView.{RedoView}
 use Rattle.jb_disk.specs.Files.{Files, number_of}
 use Rattle.jb_disk.specs.declared.file.FileId.{FileId}
 use Rattle.jb_disk.specs.declared.file.FileId.TheVariants.{Jhr, Jdt, Jdx, Jlr, Jnl}
@@ -28,7 +28,7 @@ new_beside moment base files new same =
 pub empty_beside : (base files : Files) → AreEmpty base → AgreeButJournal files base → AreEmpty files
 empty_beside base files empty same file low = same file (no_journal file low) ∙ empty file low
 
-module _ (moment : ℕ) (change : Change) (makes : MakesBase moment change) where
+module _ (moment : ℕ) (change : RedoView) (makes : MakesBase moment change) where
   -- it fits the journal
   pub base_writable : IsWritable change
   base_writable = record { lengths_are = makes.lengths; short = omega (arith, makes.size) }

@@ -1,7 +1,7 @@
 -- What the call of a tool answers, and what it makes of the files of a base.
 use Rattle.std.specs.Prelude.{ℕ, List, Some, Ok, Err}
 use Rattle.std.specs.Option.{ForSome}
-use Rattle.jb_base.specs.declared.limits.TheConstants.{MOST_SLOTS}
+use Rattle.jb_limits.specs.declared.limits.TheConstants.{MOST_SLOTS}
 use Rattle.jb_disk.specs.Device.{Device}
 use Rattle.jb_disk.specs.Files.{Files}
 use Rattle.jb_image.specs.Stands.{StandsFor}

@@ -1,6 +1,6 @@
 -- What a check says of an area: seven lines, each a name, a space and what was found.
 use Rattle.std.specs.Prelude.{◌≡◌, ◌⊎◌, ◌↔◌, ℕ, suc, Bool, true, false, Result, Ok, Err, Some, List, [], ◌∷◌, ◌++◌, ◌+◌, codes, decimal, count_by, if◌then◌else◌}
-use Rattle.jb_base.specs.declared.subfield.Subfield.{Subfield}
+use Rattle.jb_bytes.specs.declared.subfield.Subfield.{Subfield}
 use Rattle.jb_model.specs.Links.{IsLinked}
 use Rattle.jb_model.specs.Live.{Numbered, killed_count, live_count, live_from, live_in}
 use Rattle.jb_model.specs.Message.{msgid_of}

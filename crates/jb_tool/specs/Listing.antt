@@ -1,8 +1,8 @@
 -- The listing of a base: a line for each live message, in the order of their numbers.
 use Rattle.std.specs.Prelude.{ℕ, ◌+◌, List, [], ◌∷◌, ◌++◌, unwrap_or}
-use Rattle.jb_base.specs.declared.subfield.Subfield.{Subfield}
-use Rattle.jb_base.specs.declared.subfield.TheConstants.{SENDER_NAME, RECEIVER_NAME, SUBJECT}
-use Rattle.jb_base.specs.Subfields.{first_of}
+use Rattle.jb_bytes.specs.declared.subfield.Subfield.{Subfield}
+use Rattle.jb_bytes.specs.declared.subfield.TheConstants.{SENDER_NAME, RECEIVER_NAME, SUBJECT}
+use Rattle.jb_bytes.specs.Subfields.{first_of}
 use Rattle.jb_text.specs.Lines.{listing_text}
 use Rattle.jb_model.specs.State.{AreaState, SlotState, no_message, killed_message, live_message}
 

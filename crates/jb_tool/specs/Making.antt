@@ -1,9 +1,9 @@
 -- What `make` answers, and what it makes of the files of a base.
 use Rattle.std.specs.Prelude.{◌≡◌, ◌≢◌, ◌⊎◌, ◌<◌, ℕ, List, [], Bool, true, false, None, Some, Ok, Err}
 use Rattle.std.specs.Option.{ForSome}
-use Rattle.jb_base.specs.Fault.{Rose}
+use Rattle.jb_bytes.specs.Fault.{Rose}
 use Rattle.jb_change.specs.NewBase.{AreEmpty, AreNew, new_area}
-use Rattle.jb_disk.specs.Change.{Change, HasRoom}
+use Rattle.jb_disk.specs.RedoView.{RedoView, HasRoom}
 use Rattle.jb_disk.specs.Device.{Device}
 use Rattle.jb_disk.specs.Files.{Files, number_of}
 use Rattle.jb_disk.specs.Gate.{IsGateOpen}
@@ -76,7 +76,7 @@ KeepsOrMakes moment before after = ForSome before.contents (λ was. IsGrowthSafe
     → LeavesOnly before after (λ files. ReplaysAsAtStart before.moments files ⊎ ReplayInto AreEmpty was × AreNoneOrNew moment files))
 
 -- an empty change, with room for the one that makes a base
-pub record IsRoom (change : Change) : Type 0 where
+pub record IsRoom (change : RedoView) : Type 0 where
   pub no_lengths : change.lengths ≡ []
   pub no_pieces : change.pieces ≡ []
   pub room : HasRoom 4 1 FIXED_HEADER_BYTES change

@@ -6,7 +6,7 @@ use Rattle.jb_area_open.specs.Opening.{OpeningFaultRose, IsRecovered, OpensAsAtS
 use Rattle.jb_area_open.specs.declared.error.OpeningError.TheVariants.{BadJournal as bad_journal, Base}
 use Rattle.jb_base.specs.declared.area.AreaRules.{AreaRules}
 use Rattle.jb_base.specs.declared.area.Kind.TheVariants.{Local}
-use Rattle.jb_base.specs.declared.limits.TheConstants.{MOST_SLOTS}
+use Rattle.jb_limits.specs.declared.limits.TheConstants.{MOST_SLOTS}
 use Rattle.jb_base.specs.declared.user.User.{User}
 use Rattle.jb_disk.specs.Device.{Device}
 use Rattle.jb_disk.specs.Files.{Files}

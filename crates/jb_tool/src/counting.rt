@@ -1,6 +1,6 @@
 //! What a check counts.
 ghost use Rattle.std.specs.Prelude.{◌≡◌, ◌↔◌, ◌≤◌, ℕ, IfOk, IsTrue, List, length, map, if◌then◌else◌};
-ghost use Rattle.jb_base.specs.declared.limits.TheConstants.{MOST_SLOTS};
+ghost use Rattle.jb_limits.specs.declared.limits.TheConstants.{MOST_SLOTS};
 ghost use Rattle.jb_model.specs.Live.{killed_count, live_count, live_from};
 ghost use Rattle.jb_model.specs.State.{slot_state};
 ghost use Rattle.jb_tool.specs.Check.{CountsSlot, HasReadableId, HaveReadableIds, IsReadAs, empty_count};

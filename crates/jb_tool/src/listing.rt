@@ -1,6 +1,6 @@
 //! The tool `list`.
 ghost use Rattle.std.specs.Prelude.{◌≡◌, ◌≤◌, ◌+◌, ◌^◌, ◌<◌, ◌++◌, ℕ, List, [], IfOk, OnOk, length, unwrap_or};
-ghost use Rattle.jb_base.specs.Subfields.{first_of};
+ghost use Rattle.jb_bytes.specs.Subfields.{first_of};
 ghost use Rattle.jb_model.specs.State.{state_of, slot_state};
 ghost use Rattle.jb_tool.specs.Answers.{LooksAt};
 ghost use Rattle.jb_tool.specs.Listing.{listing_of, message_line, slot_line};

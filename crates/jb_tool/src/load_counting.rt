@@ -1,10 +1,9 @@
 //! What is counted of the area.
 ghost use Rattle.std.specs.Prelude.{◌≡◌, ◌≤◌, ◌+◌, ◌-◌, ℕ, List, IfOk, cond, count_by, length, map, unwrap_or, []};
 ghost use Rattle.jb_base.specs.Access.{is_visible};
-ghost use Rattle.jb_base.specs.Subfields.{first_of, receiver_of, sender_of};
-ghost use Rattle.jb_base.specs.declared.limits.TheConstants.{MOST_SLOTS};
+ghost use Rattle.jb_bytes.specs.Subfields.{first_of, receiver_of, sender_of};
+ghost use Rattle.jb_limits.specs.declared.limits.TheConstants.{MOST_SLOTS};
 ghost use Rattle.jb_tool.specs.LoadSummary.{answer_count, is_seen};
-ghost use Rattle.jb_model.specs.Live.{live_count};
 ghost use Rattle.jb_model.specs.Sound.{IsSound};
 ghost use Rattle.jb_model.specs.State.{slot_state, state_of};
 ghost use Rattle.jb_model.specs.Visible.{last_read_by, unread_by};
@@ -15,17 +14,6 @@ use jb_crc::jam_crc;
 use jb_marks::Marks;
 use jb_model::{Loaded, LoadedMessage, LoadedSlot};
 use std::alloc::Global;
-
-/// How many messages are live.
-pub(crate) fn count_live(slots: &[LoadedSlot]) -> u64
-    requires { length slots.now ≤ MOST_SLOTS }
-    ensures { (texts : List ℕ) → result ≡ live_count (map (slot_state texts) slots.now) }
-{
-    slots
-        .iter()
-        .filter(|slot| matches!(slot, LoadedSlot::Live(_)))
-        .count() as u64
-}
 
 /// How many live messages have a parent.
 pub(crate) fn count_answers(slots: &[LoadedSlot]) -> u64

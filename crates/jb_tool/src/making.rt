@@ -1,7 +1,7 @@
 //! The tool `make`.
 ghost use Rattle.std.specs.Prelude.{◌≡◌, ◌≤◌, ◌==◌, ◌&&◌, IfErr, IfOk, IsSome, OnErr, OnOk};
 ghost use Rattle.std.specs.Option.{ForSome};
-ghost use Rattle.jb_base.specs.Fault.{Rose};
+ghost use Rattle.jb_bytes.specs.Fault.{Rose};
 ghost use Rattle.jb_disk.specs.Device.{FailsBy, OnlyReads};
 ghost use Rattle.jb_disk.specs.Runs.{IsAllSynced, LeavesOnly};
 ghost use Rattle.jb_tool.specs.Making.{AnswersMake, AreNoneOrNew, AreShutAndEmpty, HasNewBase, IsFoundEmpty, IsRoom, KeepsOrMakes, RefusesMaking};

@@ -1,7 +1,7 @@
 //! A base is recovered and read.
 ghost use Rattle.std.specs.Prelude.{◌≡◌, ◌≤◌, IfErr, IfOk, OnOk};
 ghost use Rattle.std.specs.Option.{ForSome};
-ghost use Rattle.jb_base.specs.declared.limits.TheConstants.{MOST_SLOTS};
+ghost use Rattle.jb_limits.specs.declared.limits.TheConstants.{MOST_SLOTS};
 ghost use Rattle.jb_image.specs.Answers.{OpensTo};
 ghost use Rattle.jb_model.specs.Sound.{IsSound};
 ghost use Rattle.jb_tool.specs.Recovered.{IsRecoveredTo, KeepsReplay, RefusesReading};

@@ -1,14 +1,15 @@
 //! The summary as text.
 ghost use Rattle.std.specs.Prelude.{◌≡◌, ◌++◌, ℕ, List, IfOk, OnOk, map};
-ghost use Rattle.jb_base.specs.declared.limits.TheConstants.{MOST_SLOTS};
+ghost use Rattle.jb_limits.specs.declared.limits.TheConstants.{MOST_SLOTS};
 ghost use Rattle.jb_tool.specs.LoadRuns.{run_at};
 ghost use Rattle.jb_tool.specs.LoadSummary.{done_lines, figure_line, file_lines, slot_lines, summary_of};
 ghost use Rattle.jb_tool.specs.Workload.{load_rules, loader};
 ghost use Rattle.jb_model.specs.Sound.{IsSound};
 ghost use Rattle.jb_model.specs.State.{AreaState, slot_state, state_of};
 
+use crate::counting::count_live;
 use crate::counts::Counts;
-use crate::load_counting::{count_answers, count_live, count_unread};
+use crate::load_counting::{count_answers, count_unread};
 use itoa::Buffer;
 use jb_base::{AreaRules, Bytes, OutOfMemory, User};
 use jb_model::Loaded;

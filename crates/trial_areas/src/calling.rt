@@ -2,15 +2,15 @@
 ghost use Rattle.std.specs.Prelude.{◌≤◌, OnErr, OnOk, length};
 ghost use Rattle.jb_area.specs.Area.{HasBegun, HasDoubt};
 ghost use Rattle.jb_area.specs.Calls.{HasRest};
-ghost use Rattle.jb_base.specs.declared.limits.TheConstants.{MOST_TEXT_BYTES};
+ghost use Rattle.jb_limits.specs.declared.limits.TheConstants.{MOST_TEXT_BYTES};
 ghost use Rattle.trial_areas.specs.Leaves.{Leaves, LeavesBegun, LeavesEnded};
 
 use jb_area::{AreaError, OpenArea};
 use jb_base::User;
+use jb_decide::Draft;
 use jb_disk::Disk;
 use jb_journal::Stopped;
 use jb_model::{Asked, Command, Reply};
-use jb_step::Draft;
 use std::alloc::Global;
 
 /// A command, by the call of all commands or by that of its own.

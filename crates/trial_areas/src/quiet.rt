@@ -1,6 +1,6 @@
 //! A disk in memory that tells nothing, as one over real files, and has room for large files.
 ghost use Rattle.std.specs.Prelude.{◌≡◌, ◌≤◌, OnErr, OnOk};
-ghost use Rattle.jb_base.specs.Fault.{Rose};
+ghost use Rattle.jb_bytes.specs.Fault.{Rose};
 
 use jb_disk::{Disk, DiskFailed, FileId, MemDisk, SilentDisk};
 use std::marker::Model;

@@ -1,7 +1,7 @@
 //! A message behind the others.
 ghost use Rattle.std.specs.Prelude.{◌≡◌, ◌<◌, ◌≤◌, IfOk, IsTrue, bit_and, length};
-ghost use Rattle.jb_base.specs.declared.limits.TheConstants.{MOST_SLOTS};
-ghost use Rattle.jb_base.specs.Subfields.{subfield_bytes};
+ghost use Rattle.jb_limits.specs.declared.limits.TheConstants.{MOST_SLOTS};
+ghost use Rattle.jb_bytes.specs.Subfields.{subfield_bytes};
 
 use crate::model::HEAD;
 use jb_base::MOST_SLOTS;

@@ -2,7 +2,7 @@
 ghost use Rattle.std.specs.Prelude.{IfOk};
 ghost use Rattle.jb_redo.specs.Changes.{IsWritable};
 
-use jb_base::OutOfMemory;
+use jb_bytes::OutOfMemory;
 use jb_disk::{FileId, Length, Redo};
 use std::alloc::Global;
 

@@ -4,9 +4,10 @@ ghost use Rattle.jb_redo.specs.Changes.{IsWritable};
 
 use crate::committing::put_commit;
 use crate::showing::put_opening;
-use jb_base::{OutOfMemory, TEXTS_CEILING};
+use jb_bytes::OutOfMemory;
 use jb_disk::{FileId, Length, MemDisk, Redo, SilentDisk};
 use jb_journal::{prepare, recover};
+use jb_limits::TEXTS_CEILING;
 use std::alloc::Global;
 use trial_rows::{Files, Row, Words};
 

@@ -1,6 +1,6 @@
 //! What is in memory and what nothing else runs: disks, a link, a console and clocks.
 
-use jb_base::Bytes;
+use jb_bytes::Bytes;
 use jb_disk::{Disk, FileId, MemDisk, SilentDisk, SteadyDisk};
 use jb_host::{Clock, Host, Link, MemHost, MemLink, send};
 use trial_rows::{Files, Row, Words, file_at};

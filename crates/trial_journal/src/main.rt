@@ -12,7 +12,7 @@ mod host;
 mod record;
 mod showing;
 
-use jb_base::Bytes;
+use jb_bytes::Bytes;
 use jb_disk::{FileId, MemDisk, SilentDisk, SteadyDisk};
 use jb_host::{MemBell, MemDoor, MemHost, MemLink};
 use std::alloc::Global;

@@ -1,6 +1,6 @@
 //! Who asks.
 ghost use Rattle.std.specs.Prelude.{◌≤◌, length};
-ghost use Rattle.jb_base.specs.declared.limits.TheConstants.{MOST_NAME_BYTES};
+ghost use Rattle.jb_limits.specs.declared.limits.TheConstants.{MOST_NAME_BYTES};
 
 use jb_base::{MOST_NAME_BYTES, Name, OutOfMemory, User};
 use jb_model::Command;

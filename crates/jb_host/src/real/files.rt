@@ -3,7 +3,7 @@
 //! It opens a settings file and reads it to its end, and opens a base (`jb_files`), with pauses while another program has it. A
 //! contract knows nothing of what it gives.
 
-use jb_base::Bytes;
+use jb_bytes::Bytes;
 use jb_files::{FolderDisk, OpenFault};
 use std::alloc::Global;
 use std::fs::File;

@@ -14,7 +14,7 @@ use crate::real::door::TcpDoor;
 use crate::real::files::{opened, read_whole};
 use crate::real::port::{Port, listener_at};
 use crate::refusals::{BaseRefused, PortRefused, SettingsRefused, counted};
-use jb_base::Bytes;
+use jb_bytes::Bytes;
 use jb_files::{FolderDisk, OpenFault};
 use std::alloc::Global;
 use std::fs::File;

@@ -1,4 +1,4 @@
-use Rattle.std.proofs.Common.{◌≡◌, ◌∙◌, Option, ap, subst, sym}
+use Rattle.std.proofs.Common.{◌∙◌, Option, ap, subst, sym}
 use Rattle.std.specs.Option.{ForSome}
 use Rattle.jb_pack.proofs.TouchLemmas.{touches-none}
 use Rattle.jb_pack.specs.Shadow.{HasCopies, Shadow}

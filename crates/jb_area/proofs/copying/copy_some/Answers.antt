@@ -1,4 +1,4 @@
-use Rattle.std.proofs.Common.{◌≡◌, ◌∙◌, Bool, Err, Option, Result, ap, arith, refl, subst, sym}
+use Rattle.std.proofs.Common.{◌∙◌, Bool, Err, Option, Result, ap, arith, refl, subst, sym}
 use Rattle.std.specs.Option.{ForSome}
 use Rattle.jb_pack.proofs.PackerLemmas.{texts_kept}
 use Rattle.jb_pack.proofs.TouchLemmas.{touches-then}

@@ -1,4 +1,4 @@
-use Rattle.std.proofs.Common.{OnOk, Some, refl}
+use Rattle.std.proofs.Common.{refl}
 use Rattle.jb_area.proofs.BegunLemmas.{durable_unless, has_unless}
 use Rattle.jb_area.proofs.Outcomes.{if_ok_then2}
 use Rattle.jb_area.proofs.copying.copy_with.Goals as goal

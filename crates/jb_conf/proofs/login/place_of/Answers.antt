@@ -1,5 +1,5 @@
 use Rattle.std.proofs.Common.{arith}
-use Rattle.jb_base.specs.Name.{same_name}
+use Rattle.jb_bytes.specs.Name.{same_name}
 use Rattle.jb_conf.proofs.OneNamed.{place_step}
 use Rattle.jb_conf.proofs.login.place_of.Goals as goal
 

@@ -1,5 +1,5 @@
 use Rattle.std.proofs.Common.{◌≡◌, position, take}
-use Rattle.jb_base.specs.Name.{same_name}
+use Rattle.jb_bytes.specs.Name.{same_name}
 use Rattle.jb_conf.proofs.login.place_of.Given as goal
 
 abbrev pub invariant-loop-at : goal.invariant-loop-at

@@ -1,5 +1,5 @@
 use Rattle.std.proofs.Common.{◌≡◌, length, drop}
-use Rattle.jb_base.specs.Crc.{crc_from, jam_crc_of}
+use Rattle.jb_bytes.specs.Crc.{crc_from, jam_crc_of}
 use Rattle.jb_crc.proofs.remainder.jam_crc.Given as goal
 
 abbrev pub invariant-loop-block : goal.invariant-loop-block

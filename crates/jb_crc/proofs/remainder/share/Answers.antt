@@ -1,6 +1,6 @@
 use Rattle.std.proofs.Common.{◌<◌, ◌+◌, ◌*◌, bit_xor, ◌∙◌, ap, arith}
 use Rattle.std.proofs.lemmas.Nat.{xor_of_8}
-use Rattle.jb_base.specs.Crc.{crc_bits}
+use Rattle.jb_bytes.specs.Crc.{crc_bits}
 use Rattle.jb_crc.specs.Share.{share_of}
 use Rattle.jb_crc.proofs.Rows.{entry}
 use Rattle.jb_crc.proofs.remainder.share.Goals as goal

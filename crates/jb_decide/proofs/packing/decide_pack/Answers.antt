@@ -1,4 +1,4 @@
-use Rattle.std.proofs.Common.{◌∙◌, ℕ, List, [], subst, sym}
+use Rattle.std.proofs.Common.{◌∙◌, ℕ, List, [], refl, subst, sym}
 use Rattle.std.specs.Option.{ForSome}
 use Rattle.std.specs.Prelude.{replicate}
 use Rattle.std.proofs.lemmas.List.{length-replicate}
@@ -9,42 +9,47 @@ use Rattle.jb_model.specs.declared.reply.Reply.TheVariants.{TextFull}
 use Rattle.jb_pack.specs.Finish.{FinishesPack}
 use Rattle.jb_pack.specs.Plan.{AnswersPack}
 use Rattle.jb_pack.specs.declared.packing.Packing.{Packing}
-use Rattle.jb_link.specs.Index.{IsIndexOf}
 use Rattle.jb_decide.proofs.CopiesLemmas.{with_copies}
-use Rattle.jb_decide.proofs.DecidedLemmas.{not_packed, unchanged_decided}
-use Rattle.jb_decide.proofs.PackLemmas.{base_answered, full_step, not_full, pack_decided, packed_some}
+use Rattle.jb_decide.proofs.DecidedLemmas.{same_answer, unchanged_decided}
+use Rattle.jb_decide.proofs.PackLemmas.{base_answered, full_step, not_full, pack_decided, pack_refused, packed_some}
 use Rattle.jb_decide.proofs.packing.decide_pack.Goals as goal
 
 pub finish-requires-clause-links : goal.finish-requires-clause-links
 finish-requires-clause-links g c = λ texts. c.as_slice.ensures ∙ c.in_ok-links.ensures texts
 
-pub replies_after-requires-clause-index : goal.replies_after-requires-clause-index
-replies_after-requires-clause-index g c = subst (IsIndexOf c.replies.result.now) (sym c.loaded-loaded.ensures) c.replies.ensures
+pub finish-requires-clause-holds : goal.finish-requires-clause-holds
+finish-requires-clause-holds g c =
+    subst (λ (l : Loaded). ForSome (g.D.Disk.device c.args.disk.now).contents (Loads l)) (sym c.loaded-loaded.ensures) c.requires.holds
 
-pub replies_after-requires-clause-base : goal.replies_after-requires-clause-base
-replies_after-requires-clause-base g c =
+pub replies_after_pack-requires-clause-base : goal.replies_after_pack-requires-clause-base
+replies_after_pack-requires-clause-base g c = rw (← c.loaded-loaded.ensures) (
     let loaded : Loaded = c.loaded-loaded.result.now in
     let texts : List ℕ = replicate loaded.texts_len 0 in
     base_answered loaded texts c.in-Fits.base c.in-Fits.live c.in-Fits.dropped
-    (subst (AnswersPack (state_of texts loaded)) c.in-Fits.is (c.in_ok-length.ensures.answer texts (length-replicate loaded.texts_len 0)))
+    (subst (AnswersPack (state_of texts loaded)) c.in-Fits.is (c.in_ok-length.ensures.answer texts (length-replicate loaded.texts_len 0))))
 
 pub returns-in-TextFull-clause-decided : goal.returns-in-TextFull-clause-decided
 returns-in-TextFull-clause-decided g c = rw (← c.loaded-loaded.ensures) (λ rules user moment texts contents kept may are.
     let loaded : Loaded = c.loaded-loaded.result.now in
     with_copies rules loaded texts contents _ c.finish.new.redo user moment _ c.unchanged.result
-    (unchanged_decided rules loaded texts contents c.finish.new.redo user moment _ c.unchanged.result (TextFull c.in-TextFull.length)
-    c.unchanged.ensures.reply c.unchanged.ensures.pending (not_packed (TextFull c.in-TextFull.length) (λ base live dropped is. cc))
-    (λ told. full_step rules (state_of texts loaded) user c.in-TextFull.length may.allowed
-    (subst (AnswersPack (state_of texts loaded)) c.in-TextFull.is (c.in_ok-length.ensures.answer texts are.sized)))))
+    (unchanged_decided rules loaded texts contents c.finish.new.redo user moment _ _ c.unchanged.result (TextFull c.in-TextFull.length)
+    c.unchanged.ensures.reply c.unchanged.ensures.change
+    (pack_refused rules loaded user moment (TextFull c.in-TextFull.length) refl kept.sound
+    (λ any sized. full_step rules (state_of any loaded) user c.in-TextFull.length may.allowed
+    (subst (AnswersPack (state_of any loaded)) c.in-TextFull.is (c.in_ok-length.ensures.answer any sized))))
+    (same_answer loaded texts contents (TextFull c.in-TextFull.length) are.sized) are.sized))
 
 pub returns-in_ok-replies-in-Fits-clause-decided : goal.returns-in_ok-replies-in-Fits-clause-decided
-returns-in_ok-replies-in-Fits-clause-decided g c = rw (← c.loaded-loaded.ensures) (λ rules user moment texts contents kept may are.
+returns-in_ok-replies-in-Fits-clause-decided g c =
+    let index = rw (← c.loaded-loaded.ensures) at c.in_ok-replies-in-Fits.ensures.index in
+    let room = rw (← c.loaded-loaded.ensures) at c.in_ok-replies-in-Fits.ensures.room in
+    rw (← c.loaded-loaded.ensures) (λ rules user moment texts contents kept may are.
     let loaded : Loaded = c.loaded-loaded.result.now in
     pack_decided rules loaded texts contents c.args.packer.now c.finish.new.redo user moment c.in-Fits.base c.in-Fits.live c.in-Fits.dropped c.in_ok-links.links c.in_ok-replies-in-Fits.replies
-    may.allowed kept.sound kept.few_slots are.sized
+    may.allowed kept.sound are.sized
     (subst (AnswersPack (state_of texts loaded)) c.in-Fits.is (c.in_ok-length.ensures.answer texts are.sized))
     (subst (λ (p : Packing). FinishesPack c.args.packer.now loaded c.empty.new.redo c.finish.new.redo p) c.in-Fits.is c.in_ok-length.ensures.finishes)
-    (c.in_ok-links.ensures []) c.in_ok-replies-in-Fits.ensures.index c.in_ok-replies-in-Fits.ensures.room)
+    (c.in_ok-links.ensures []) index room)
 
 pub returns-in-TextFull-clause-changes : goal.returns-in-TextFull-clause-changes
 returns-in-TextFull-clause-changes g c =
@@ -56,8 +61,4 @@ returns-in-TextFull-clause-changes g c =
     (subst (AnswersPack (state_of texts loaded)) c.in-TextFull.is (c.in_ok-length.ensures.answer texts (length-replicate loaded.texts_len 0)))))
 
 pub returns-in_ok-replies-in-Fits-clause-changes : goal.returns-in_ok-replies-in-Fits-clause-changes
-returns-in_ok-replies-in-Fits-clause-changes g c = λ fits. packed_some c.in_ok-links.links c.in-Fits.base c.in_ok-replies-in-Fits.replies
-
-pub finish-requires-clause-holds : goal.finish-requires-clause-holds
-finish-requires-clause-holds g c =
-    subst (λ (l : Loaded). ForSome (g.D.Disk.device c.args.disk.now).contents (Loads l)) (sym c.loaded-loaded.ensures) c.requires.holds
+returns-in_ok-replies-in-Fits-clause-changes g c = λ fits. packed_some c.in_ok-links.links c.in-Fits.base

@@ -1,22 +1,25 @@
-use Rattle.std.proofs.Common.{ℕ, ◌+◌, ap, arith, refl, sym, ◌∙◌}
-use Rattle.jb_step.specs.After.{live_messages}
-use Rattle.jb_step.specs.Draft.{draft_of}
-use Rattle.jb_decide.proofs.DecidedLemmas.{no_pack, unchanged_decided}
-use Rattle.jb_decide.proofs.PostLemmas.{post_decided}
+use Rattle.std.proofs.Common.{refl}
+use Rattle.std.proofs.lemmas.Result.{IfOk-weaker}
+use Rattle.jb_limits.specs.declared.limits.TheConstants.{MOST_SLOTS}
+use Rattle.jb_decide.proofs.DecidedLemmas.{fits_under, same_answer}
 use Rattle.jb_decide.proofs.posting.decide_post.Goals as goal
 
-pub returns-in-Err-clause-decided : goal.returns-in-Err-clause-decided
-returns-in-Err-clause-decided c = rw (← c.loaded-loaded.ensures) (λ texts contents are.
-    unchanged_decided c.args.rules.now c.loaded-loaded.result.now texts contents c.args.redo.now c.args.user.now c.args.moment _ c.unchanged.result c.in-Err.reply c.unchanged.ensures.reply c.unchanged.ensures.pending
-    (no_pack c.in-Err.reply (rw c.in-Err.is at c.in_ok-reply.ensures.refused).refusal) (λ told. (rw c.in-Err.is at c.in_ok-reply.ensures.refused).step texts c.args.moment))
-
-pub returns-in_ok-put_posting-in-Ok-clause-decided : goal.returns-in_ok-put_posting-in-Ok-clause-decided
-returns-in_ok-put_posting-in-Ok-clause-decided c =
+pub decide_long-requires-clause-fits : goal.decide_long-requires-clause-fits
+decide_long-requires-clause-fits c =
     let kept = rw (← c.loaded-loaded.ensures) at c.requires.kept in
-    rw (← c.loaded-loaded.ensures) (λ texts contents are.
-    let is = rw c.in-Ok.is at c.in_ok-reply.ensures.done in
-    let headers = is.place.headers in
-    post_decided c.args.rules.now c.loaded-loaded.result.now texts contents c.put_posting.new.redo c.args.user.now c.args.moment _ _ _ (draft_of c.args.draft) c.in-Ok.posting is
-    kept.sound kept.few_slots c.requires.name c.requires.address refl (ap (λ (n : ℕ). n + 1) (c.live-active.ensures ∙ ap live_messages (sym c.loaded-loaded.ensures)))
-    (omega (arith, c.headed_length-size.ensures, headers))
-    are.sized c.in_ok-put_posting-in-Ok.ensures.makes c.in_ok-put_posting-in-Ok.ensures.numbered c.in_ok-put_posting-in-Ok.ensures.writable)
+    rw (← c.loaded-loaded.ensures) (fits_under c.args.rules.now.slots MOST_SLOTS c.in_ok-outcome.outcome.change c.loaded-loaded.result.now kept.few_slots c.in_ok-outcome.ensures.fits)
+
+pub decide_long-requires-clause-text : goal.decide_long-requires-clause-text
+decide_long-requires-clause-text c = c.in_ok-outcome.ensures.text
+
+pub decide_long-requires-clause-kind : goal.decide_long-requires-clause-kind
+decide_long-requires-clause-kind c = c.in_ok-outcome.ensures.kind
+
+pub returns-clause-decided : goal.returns-clause-decided
+returns-clause-decided c =
+    let step = rw c.loaded-loaded.ensures at c.in_ok-outcome.ensures in
+    IfOk-weaker c.decide_long.result _ _
+    (λ decided of texts contents are.
+    of c.args.rules.now c.args.user.now c.args.moment _ _ texts contents c.requires.kept.sound are step refl
+    (same_answer c.args.held.now texts contents c.in_ok-outcome.outcome.reply are.sized))
+    c.decide_long.ensures.decided

@@ -3,14 +3,13 @@ use Rattle.std.proofs.lemmas.Result.{IfOk-weaker, IfErr-weaker}
 use Rattle.jb_disk.specs.Files.{Files}
 use Rattle.jb_model.specs.declared.loaded.LoadedSlot.{LoadedSlot}
 use Rattle.jb_model.specs.Sound.{AreApart, IsSlotWithin}
-use Rattle.jb_image.specs.Answers.{IsDamaged}
+use Rattle.jb_image.specs.Answers.{IsDamaged, OpenFaultRose}
 use Rattle.jb_image.specs.Places.{entry_in}
 use Rattle.jb_image.specs.declared.error.OpenError.{OpenError}
 use Rattle.jb_image.specs.declared.seen.SeenSlot.{SeenSlot}
 use Rattle.std.specs.Option.{ForSome}
 use Rattle.jb_image.specs.Reading.{AreLoadedFrom, AreSlotsOf, IsRefusedAmongSlots}
 use Rattle.jb_image.specs.declared.error.ReadError.TheVariants.{OutOfMemory}
-use Rattle.jb_image.specs.Answers.{OpenFaultRose}
 use Rattle.jb_image.proofs.FileBytes.{reads_on}
 use Rattle.jb_image.proofs.HeaderExtents.{all_apart, all_within, later_refused}
 use Rattle.jb_image.proofs.Refusals.{from_if_none, if_some_told, opening_cause, refused_among_slots}

@@ -2,8 +2,8 @@ use Rattle.std.proofs.Common.{◌≡◌, List, filter, length, map, ap, sym, ◌
 use Rattle.std.specs.Prelude.{nat_lt}
 use Rattle.jb_index.specs.Answer.{is_listed, last_of}
 use Rattle.jb_index.specs.Making.{is_unread, slots_listed}
-use Rattle.jb_base.specs.Crc.{jam_crc_of}
-use Rattle.jb_link.specs.Slots.{linkables_from}
+use Rattle.jb_bytes.specs.Crc.{jam_crc_of}
+use Rattle.jb_model.specs.LiveSlots.{linkables_from}
 use Rattle.jb_index.specs.Index.{summary_of}
 use Rattle.jb_model.specs.Links.{linkables_of}
 use Rattle.jb_model.specs.Live.{live_in}

@@ -1,6 +1,6 @@
 use Rattle.std.proofs.Common.{◌≡◌, ◌∙◌, ℕ, [], List, ap, map, subst}
 use Rattle.std.specs.Prelude.{IfOk}
-use Rattle.jb_link.specs.Plan.{links_of}
+use Rattle.jb_model.specs.Plan.{links_of}
 use Rattle.jb_model.specs.Links.{linkables_of}
 use Rattle.jb_model.specs.State.{state_of}
 use Rattle.jb_model.specs.declared.links.Links.{Links}

@@ -1,6 +1,6 @@
 use Rattle.std.proofs.Common.{◌≡◌, ◌+◌, ◌*◌, ◌++◌, List, ℕ, length, ap, sym, arith, refl, ◌∙◌, length-append}
 use Rattle.std.specs.List.{flat_map}
-use Rattle.jb_base.specs.Number.{number_bytes}
+use Rattle.jb_bytes.specs.Number.{number_bytes}
 use Rattle.jb_redo.specs.Record.{length_bytes}
 use Rattle.jb_journal.specs.Spelling.{front_bytes}
 use Rattle.jb_journal.proofs.RecordLemmas.{length-lengths, length-front}

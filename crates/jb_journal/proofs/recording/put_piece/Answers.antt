@@ -1,5 +1,5 @@
 use Rattle.std.proofs.Common.{◌≡◌, ◌+◌, ◌++◌, List, ℕ, length, ap, sym, arith, ◌∙◌, length-append}
-use Rattle.jb_disk.specs.Change.{head_of}
+use Rattle.jb_disk.specs.RedoView.{head_of}
 use Rattle.jb_redo.specs.Record.{piece_bytes}
 use Rattle.jb_journal.specs.Spelling.{nth_piece, head_bytes, tail_bytes}
 use Rattle.jb_journal.proofs.RecordLemmas.{head-nth, piece-parts}

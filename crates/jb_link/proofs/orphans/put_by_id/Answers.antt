@@ -1,7 +1,7 @@
 use Rattle.std.proofs.Common.{◌≡◌, ℕ, List, None, ap, arith, map, subst, sym, ◌∙◌}
 use Rattle.std.specs.Prelude.{is_some}
 use Rattle.std.proofs.lemmas.Result.{on_ok_weaker}
-use Rattle.jb_base.specs.declared.subfield.TheConstants.{MSGID}
+use Rattle.jb_bytes.specs.declared.subfield.TheConstants.{MSGID}
 use Rattle.jb_link.specs.IdLists.{id_at}
 use Rattle.jb_link.specs.Ids.{lent}
 use Rattle.jb_link.specs.Orphans.{AreOrphans}

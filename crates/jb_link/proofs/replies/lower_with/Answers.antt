@@ -1,5 +1,5 @@
 use Rattle.std.proofs.Common.{arith, inr, sym}
-use Rattle.jb_base.specs.declared.subfield.TheConstants.{MSGID}
+use Rattle.jb_bytes.specs.declared.subfield.TheConstants.{MSGID}
 use Rattle.jb_link.proofs.FoundLemmas.{id_live, is_least_with, no_parent_by_id, none_is_least, parent_by_id}
 use Rattle.jb_link.proofs.replies.lower_with.Goals as goal
 

@@ -1,5 +1,5 @@
 use Rattle.std.proofs.Common.{◌≡◌, ◌∙◌, ℕ, ap, arith, get_or, length, length-take, min, refl, subst, sym}
-use Rattle.jb_base.specs.declared.limits.TheConstants.{TEXTS_CEILING}
+use Rattle.jb_limits.specs.declared.limits.TheConstants.{TEXTS_CEILING}
 use Rattle.jb_pack.specs.Advance.{CopiesFirst}
 use Rattle.jb_pack.specs.Shadow.{left_of, not_copied}
 use Rattle.jb_pack.proofs.CopiesLemmas.{IsLeft, below_then, copied_all, copied_first, copying_joined, copying_next, copying_none, copying_on, is_left, left_inside, room_then, run_room, run_within, slot_there}

@@ -2,7 +2,7 @@ use Rattle.std.proofs.Common.{◌∙◌, List, ℕ, ap, arith, length, subst}
 use Rattle.jb_disk.specs.declared.file.FileId.TheVariants.{Jhr, Jdx}
 use Rattle.jb_pack.specs.Bytes.{AreHeadersReadAgain, headers_bytes}
 use Rattle.jb_pack.specs.Laid.{Lays}
-use Rattle.jb_pack.specs.Packed.{packed}
+use Rattle.jb_model.specs.Packed.{packed}
 use Rattle.jb_pack.proofs.PlanLemmas.{area_put, index_short}
 use Rattle.jb_pack.proofs.files.put_area.Goals as goal
 

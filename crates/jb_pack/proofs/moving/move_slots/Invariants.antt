@@ -1,6 +1,6 @@
 use Rattle.std.proofs.Common.{◌≡◌, List, drop, map}
-use Rattle.jb_link.specs.Plan.{links_of}
-use Rattle.jb_link.specs.Slots.{linkables_from}
+use Rattle.jb_model.specs.Plan.{links_of}
+use Rattle.jb_model.specs.LiveSlots.{linkables_from}
 use Rattle.jb_model.specs.Links.{Linkable}
 use Rattle.jb_pack.proofs.MoveLemmas.{IsMoved}
 use Rattle.jb_pack.proofs.moving.move_slots.Given as goal

@@ -1,13 +1,13 @@
 use Rattle.std.proofs.Common.{◌≡◌, ◌+◌, ◌-◌, ◌∙◌, ℕ, List, ap, arith, drop, map, sym}
-use Rattle.jb_link.specs.Plan.{links_of}
-use Rattle.jb_link.specs.Slots.{linkables_from}
+use Rattle.jb_model.specs.Plan.{links_of}
+use Rattle.jb_model.specs.LiveSlots.{linkables_from}
 use Rattle.jb_model.specs.Links.{Linkable}
 use Rattle.jb_model.specs.declared.loaded.Loaded.{Loaded}
 use Rattle.jb_model.specs.declared.loaded.LoadedSlot.{LoadedSlot}
 use Rattle.jb_pack.proofs.FitLemmas.{headers_fit_kept}
 use Rattle.jb_pack.proofs.PlanLemmas.{base_within}
 use Rattle.jb_pack.proofs.SlotLemmas.{linkables_kept}
-use Rattle.jb_pack.specs.Packed.{headers_size, kept_slots, live_slots, packed, packed_from, texts_size}
+use Rattle.jb_model.specs.Packed.{headers_size, kept_slots, live_slots, packed, packed_from, texts_size}
 use Rattle.jb_pack.proofs.moving.pack_loaded.Goals as goal
 
 pub overflow_sub-base : goal.overflow_sub-base

@@ -1,7 +1,7 @@
 use Rattle.std.proofs.Common.{ap, arith}
 use Rattle.jb_pack.proofs.FitLemmas.{headers_fit}
 use Rattle.jb_pack.proofs.PlanLemmas.{texts_small}
-use Rattle.jb_pack.specs.Packed.{headers_size, texts_size}
+use Rattle.jb_model.specs.Packed.{headers_size, texts_size}
 use Rattle.jb_pack.proofs.planning.pack_comes_to.Goals as goal
 
 pub sizes_of-requires-clause-headers : goal.sizes_of-requires-clause-headers

@@ -3,7 +3,7 @@ use Rattle.std.specs.List.{position_or_len}
 use Rattle.std.specs.Prelude.{Some}
 use Rattle.jb_model.specs.declared.reply.Reply.TheVariants.{Packed, TextFull}
 use Rattle.jb_pack.proofs.PlanLemmas.{base_within, new_base_at, not_refused, refused_full, replied}
-use Rattle.jb_pack.specs.Packed.{is_live_slot}
+use Rattle.jb_model.specs.Packed.{is_live_slot}
 use Rattle.jb_pack.proofs.planning.packing_of.Goals as goal
 
 pub returns-then-sizes-gt-TEXTS_CEILING-clause-answer : goal.returns-then-sizes-gt-TEXTS_CEILING-clause-answer

@@ -2,7 +2,7 @@ use Rattle.std.proofs.Common.{◌∙◌, [], ap, arith, cond, length, refl, sym}
 use Rattle.jb_pack.proofs.FitLemmas.{headers_fit}
 use Rattle.jb_pack.proofs.PlanLemmas.{base_put, base_within}
 use Rattle.jb_pack.proofs.StateLemmas.{sum_of_kept}
-use Rattle.jb_pack.specs.Packed.{is_live_slot, slot_header_size, slot_text_size, texts_size}
+use Rattle.jb_model.specs.Packed.{is_live_slot, slot_header_size, slot_text_size, texts_size}
 use Rattle.jb_pack.specs.Plan.{lengths_with}
 use Rattle.jb_pack.proofs.planning.put_base.Goals as goal
 

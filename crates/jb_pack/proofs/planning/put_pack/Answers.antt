@@ -3,7 +3,7 @@ use Rattle.jb_model.specs.declared.loaded.LoadedSlot.{LoadedSlot}
 use Rattle.jb_pack.proofs.PlanLemmas.{base_within, pack_of}
 use Rattle.jb_pack.proofs.StateLemmas.{sum_of_kept}
 use Rattle.jb_pack.specs.Copying.{PutsTexts}
-use Rattle.jb_pack.specs.Packed.{slot_text_size, texts_size}
+use Rattle.jb_model.specs.Packed.{slot_text_size, texts_size}
 use Rattle.jb_pack.proofs.planning.put_pack.Goals as goal
 
 pub returns-clause-packs : goal.returns-clause-packs

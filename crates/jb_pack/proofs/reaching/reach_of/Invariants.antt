@@ -1,6 +1,6 @@
 use Rattle.std.proofs.Common.{◌≡◌, ◌+◌, ◌≤◌, take}
 use Rattle.std.specs.Prelude.{sum}
-use Rattle.jb_base.specs.declared.limits.TheConstants.{SHADOW_CEILING}
+use Rattle.jb_limits.specs.declared.limits.TheConstants.{SHADOW_CEILING}
 use Rattle.jb_pack.specs.Shadow.{lefts}
 use Rattle.jb_pack.proofs.reaching.reach_of.Given as goal
 

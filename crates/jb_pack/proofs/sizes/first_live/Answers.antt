@@ -3,7 +3,7 @@ use Rattle.std.specs.List.{position_or_len}
 use Rattle.std.specs.Prelude.{not}
 use Rattle.std.proofs.lemmas.List.Sums.{prefix_len-le-length}
 use Rattle.jb_model.specs.declared.loaded.LoadedSlot.{LoadedSlot}
-use Rattle.jb_pack.specs.Packed.{is_live_slot}
+use Rattle.jb_model.specs.Packed.{is_live_slot}
 use Rattle.jb_pack.proofs.sizes.first_live.Goals as goal
 
 -- where none is live, the first place is behind all

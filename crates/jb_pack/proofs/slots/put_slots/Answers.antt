@@ -1,6 +1,6 @@
 use Rattle.std.proofs.Common.{◌≡◌, ◌∷◌, ◌+◌, ◌-◌, ◌≤◌, ◌∙◌, List, ℕ, drop, length, [], subst, sym, ap, arith, length-drop}
 use Rattle.std.proofs.lemmas.List.{append-nil}
-use Rattle.jb_base.specs.declared.limits.TheConstants.{TEXTS_CEILING}
+use Rattle.jb_limits.specs.declared.limits.TheConstants.{TEXTS_CEILING}
 use Rattle.jb_disk.specs.declared.file.FileId.TheVariants.{Jhr}
 use Rattle.jb_model.specs.declared.links.Links.{Links}
 use Rattle.jb_model.specs.declared.loaded.LoadedMessage.{LoadedMessage}
@@ -9,7 +9,7 @@ use Rattle.jb_model.specs.declared.loaded.LoadedSlot.TheVariants.{Live}
 use Rattle.jb_pack.proofs.SlotLemmas.{IsPut, all_put, from_place, links_are, put_live, put_no_message, put_none, has_place, keeps_then}
 use Rattle.jb_image.specs.Records.{IsHeaderReadAgain, message_bytes}
 use Rattle.jb_pack.specs.Laid.{Lays}
-use Rattle.jb_pack.specs.Packed.{moved, texts_size}
+use Rattle.jb_model.specs.Packed.{moved, texts_size}
 use Rattle.jb_pack.specs.declared.place.Place.{Place}
 use Rattle.jb_pack.proofs.slots.put_slots.Goals as goal
 

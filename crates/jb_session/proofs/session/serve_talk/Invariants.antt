@@ -1,5 +1,5 @@
 use Rattle.std.proofs.Common.{◌≡◌, ◌-◌, ◌≤◌, [], None}
-use Rattle.jb_base.specs.declared.limits.TheConstants.{MOST_SESSION_BYTES}
+use Rattle.jb_limits.specs.declared.limits.TheConstants.{MOST_SESSION_BYTES}
 use Rattle.jb_talk.specs.Talking.{Hands}
 use Rattle.jb_session.specs.Exchanges.{AreOf}
 use Rattle.jb_session.specs.Served.{Stands}

@@ -1,7 +1,7 @@
 use Rattle.std.proofs.Common.{◌∙◌, ap, sym, subst, refl}
 use Rattle.std.specs.Prelude.{Err}
 use Rattle.std.proofs.lemmas.Result.{err_from_is_err_and}
-use Rattle.jb_base.specs.declared.limits.TheConstants.{MOST_SLOTS}
+use Rattle.jb_limits.specs.declared.limits.TheConstants.{MOST_SLOTS}
 use Rattle.jb_disk.specs.declared.file.FileId.TheVariants.{Jdt}
 use Rattle.jb_image.specs.Answers.{OpensTo}
 use Rattle.jb_model.specs.State.{state_of}

@@ -1,18 +1,16 @@
 use Rattle.std.proofs.Common.{◌≡◌, ◌≢◌, ◌∙◌, ◌≤◌, IfOk, IfErr, List, ℕ, Option, Result, Some, refl, subst, sym}
 use Rattle.std.specs.Option.{ForSome}
-use Rattle.jb_base.specs.declared.limits.TheConstants.{TEXTS_CEILING}
-use Rattle.jb_base.specs.declared.user.User.{User}
+use Rattle.jb_limits.specs.declared.limits.TheConstants.{TEXTS_CEILING}
 use Rattle.jb_model.specs.declared.command.Command.TheVariants.{Pack}
-use Rattle.jb_pack.specs.Packed.{texts_size}
+use Rattle.jb_model.specs.Packed.{texts_size}
 use Rattle.jb_pack.specs.Shadow.{Shadow, left}
-use Rattle.jb_decide.proofs.PackLemmas.{sound_under}
+use Rattle.jb_decide.proofs.DecidedLemmas.{sound_under}
 use Rattle.jb_decide.specs.Decided.{IsDecided}
 use Rattle.jb_decide.specs.Errors.{AreaFaultRose}
 use Rattle.jb_decide.specs.Holds.{AreTexts, HasAll}
-use Rattle.jb_decide.specs.Packs.{MayPack}
 use Rattle.jb_decide.specs.declared.decided.Decided.{Decided}
 use Rattle.jb_decide.specs.declared.error.AreaError.{AreaError}
-use Rattle.jb_decide.specs.declared.pending.Pending.TheVariants.{Nothing}
+use Rattle.jb_model.specs.declared.change.Change.TheVariants.{Nothing}
 use Rattle.jb_area.proofs.StartLemmas.{begins_with, ok_same, reads_itself, same_faults}
 use Rattle.jb_area.proofs.StepLemmas.{same_shadow, start_changes}
 use Rattle.jb_area.proofs.area.OpenArea.begin_copied.Goals.{in-Ok, in-Err}
@@ -62,7 +60,7 @@ returns-clause-begins g c = λ user moment may.
 pub returns-clause-changes : goal.returns-clause-changes
 returns-clause-changes g c =
     let area = c.args.self.now in
-    let Is : Decided → Type 0 = λ one. texts_size area.held.slots ≤ TEXTS_CEILING → one.pending ≢ Nothing in
+    let Is : Decided → Type 0 = λ one. texts_size area.held.slots ≤ TEXTS_CEILING → one.pending.change ≢ Nothing in
     let is : IfOk c.match-decide_pack.decided Is = elim c.match-decide_pack.branch [
       | in-Ok w ↦ subst (λ (r : Result Decided AreaError). IfOk r Is) (sym w.decided-is) w.in-Ok.ensures.changes
       | in-Err w ↦ subst (λ (r : Result Decided AreaError). IfOk r Is) (sym w.decided-is) tt

@@ -1,5 +1,5 @@
 use Rattle.std.proofs.Common.{IfOk, IfErr, List, ℕ, None, Result, Some, refl, subst, sym}
-use Rattle.jb_step.specs.Draft.{draft_of, post_of}
+use Rattle.jb_decide.specs.Draft.{draft_of, post_of}
 use Rattle.jb_decide.specs.Decided.{IsDecided}
 use Rattle.jb_decide.specs.Errors.{AreaFaultRose}
 use Rattle.jb_decide.specs.Holds.{AreTexts}

@@ -1,14 +1,14 @@
-use Rattle.std.proofs.Common.{◌≡◌, ◌≤◌, ◌∙◌, Err, Option, ap, length, subst, sym}
+use Rattle.std.proofs.Common.{◌≡◌, ◌≤◌, ◌∙◌, Err, ap, length, subst, sym}
 use Rattle.std.specs.Option.{ForSome}
-use Rattle.jb_base.specs.declared.limits.TheConstants.{MOST_SLOTS, TEXTS_CEILING}
+use Rattle.jb_limits.specs.declared.limits.TheConstants.{MOST_SLOTS, TEXTS_CEILING}
 use Rattle.jb_disk.specs.declared.file.FileId.TheVariants.{Jdt}
 use Rattle.jb_model.specs.Sound.{IsSound}
 use Rattle.jb_model.specs.declared.loaded.Loaded.{Loaded}
 use Rattle.jb_pack.specs.Copying.{PackFaultRose}
-use Rattle.jb_pack.specs.Packed.{texts_size}
+use Rattle.jb_model.specs.Packed.{texts_size}
 use Rattle.jb_pack.specs.declared.error.PackError.{PackError}
 use Rattle.jb_pack.specs.declared.error.PackError.TheVariants as pack_error
-use Rattle.jb_decide.proofs.PackLemmas.{sound_under}
+use Rattle.jb_decide.proofs.DecidedLemmas.{sound_under}
 use Rattle.jb_decide.specs.declared.error.AreaError.TheVariants.{StoreFault}
 use Rattle.jb_area.specs.Calls.{StepsPack}
 use Rattle.jb_area.specs.Copying.{HasCopiedSome}

@@ -1,9 +1,9 @@
-use Rattle.std.proofs.Common.{◌≡◌, ◌<◌, ◌≤◌, Bool, Err, Ok, Result, refl, subst, sym, true}
+use Rattle.std.proofs.Common.{◌<◌, ◌≤◌, Bool, Err, Ok, Result, refl, subst, sym, true}
 use Rattle.std.proofs.lemmas.Bool.{false≢true}
-use Rattle.jb_base.specs.declared.limits.TheConstants.{TEXTS_CEILING}
+use Rattle.jb_limits.specs.declared.limits.TheConstants.{TEXTS_CEILING}
 use Rattle.jb_decide.specs.declared.error.AreaError.{AreaError}
 use Rattle.jb_model.specs.declared.loaded.Loaded.{Loaded}
-use Rattle.jb_pack.specs.Packed.{texts_size}
+use Rattle.jb_model.specs.Packed.{texts_size}
 use Rattle.jb_area.specs.Calls.{StepsPack}
 use Rattle.jb_area.specs.Copying.{begun_of}
 use Rattle.jb_area.proofs.MeasureLemmas.{copied_fewer, to_do_with}

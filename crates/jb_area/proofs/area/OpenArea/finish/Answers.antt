@@ -1,6 +1,6 @@
 use Rattle.std.proofs.Common.{Some, ap, refl, subst, sym, ◌∙◌}
-use Rattle.jb_decide.specs.Pending.{IsPacking}
-use Rattle.jb_decide.specs.declared.pending.Pending.{Pending}
+use Rattle.jb_decide.specs.Decided.{IsPacking}
+use Rattle.jb_model.specs.declared.change.Change.{Change}
 use Rattle.jb_area.specs.Area.{copied_after}
 use Rattle.jb_area.proofs.CommitLemmas.{idle_opens}
 use Rattle.jb_area.proofs.DoubtLemmas.{doubt_reads}
@@ -22,7 +22,7 @@ returns-in-Nothing-clause-idle g c = λ none. (refl, refl)
 pub returns-in-Nothing-clause-copies : goal.returns-in-Nothing-clause-copies
 returns-in-Nothing-clause-copies g c =
     let area = c.args.self.now in
-    sym (kept_by area.stage c.in-Begun.reply c.in-Begun.pending area.packer (sym c.replace-stage.ensures.value ∙ c.in-Begun.is) ∙ ap (λ (p : Pending). copied_after p area.packer) c.in-Nothing.is)
+    sym (kept_by area.stage c.in-Begun.reply c.in-Begun.pending area.packer (sym c.replace-stage.ensures.value ∙ c.in-Begun.is) ∙ ap (λ (change : Change). copied_after change area.packer) c.in-Nothing.is)
 
 pub returns-in-Nothing-clause-packed : goal.returns-in-Nothing-clause-packed
 returns-in-Nothing-clause-packed g c = λ packed.
@@ -42,23 +42,23 @@ returns-in-Ok-clause-packed g c = λ packed.
     let is = sym c.replace-stage.ensures.value ∙ c.in-Begun.is in
     let packing = packing_is g.D.Disk.device c.args.self.now has.texts has.reply has.coming has.begun c.in-Begun.reply c.in-Begun.pending is packed in
     record {
-      dropped = c.keep_after.ensures ∙ copies_drop c.in-Begun.pending area.packer packing;
+      dropped = c.keep_after.ensures ∙ copies_drop c.in-Begun.pending.change area.packer packing;
       short = short_after g.D.Disk.device c.args.self.now has.texts has.reply has.coming has.begun c.in-Begun.reply c.in-Begun.pending c.commit_change.new.disk c.in_use.result.now
-          c.in_use.ensures is c.in_default-pending.not-Nothing packing c.in-Ok.ensures.done c.in-Ok.ensures.size;
+          c.in_use.ensures is c.in_default-change.not-Nothing packing c.in-Ok.ensures.done c.in-Ok.ensures.size;
     }
 
 pub returns-in-Ok-clause-idle : goal.returns-in-Ok-clause-idle
 returns-in-Ok-clause-idle g c = λ none.
-    absurd (some_change c.args.self.now c.in-Begun.reply c.in-Begun.pending (sym c.replace-stage.ensures.value ∙ c.in-Begun.is) c.in_default-pending.not-Nothing none)
+    absurd (some_change c.args.self.now c.in-Begun.reply c.in-Begun.pending (sym c.replace-stage.ensures.value ∙ c.in-Begun.is) c.in_default-change.not-Nothing none)
 
 pub returns-in-Err-clause-idle : goal.returns-in-Err-clause-idle
 returns-in-Err-clause-idle g c = λ none.
-    absurd (some_change c.args.self.now c.in-Begun.reply c.in-Begun.pending (sym c.replace-stage.ensures.value ∙ c.in-Begun.is) c.in_default-pending.not-Nothing none)
+    absurd (some_change c.args.self.now c.in-Begun.reply c.in-Begun.pending (sym c.replace-stage.ensures.value ∙ c.in-Begun.is) c.in_default-change.not-Nothing none)
 
 pub returns-in-Ok-clause-made : goal.returns-in-Ok-clause-made
 returns-in-Ok-clause-made g c =
     made_change g.D.Disk.device c.args.self.now c.in-Begun.reply c.in-Begun.pending (sym c.replace-stage.ensures.value ∙ c.in-Begun.is) c.commit_change.new.disk c.apply.new.self c.put_redo-in-Ok.new.place c.keep_after.new.kept c.replace-stage.new.dest c.in_use.result.now
-    c.in_use.ensures c.in_default-pending.not-Nothing c.in-Ok.ensures.made
+    c.in_use.ensures c.in_default-change.not-Nothing c.in-Ok.ensures.made
 
 pub returns-in-Nothing-clause-crash : goal.returns-in-Nothing-clause-crash
 returns-in-Nothing-clause-crash g c = λ texts decided coming begun was there.
@@ -67,23 +67,23 @@ returns-in-Nothing-clause-crash g c = λ texts decided coming begun was there.
 pub commit_change-requires : goal.commit_change-requires
 commit_change-requires g c =
     let has = c.requires.begun in
-    record { may = may_commit g.D.Disk.device c.args.self.now has.texts has.reply has.coming has.begun c.in-Begun.reply c.in-Begun.pending c.in_use.result.now c.in_use.ensures (sym c.replace-stage.ensures.value ∙ c.in-Begun.is) c.in_default-pending.not-Nothing }
+    record { may = may_commit g.D.Disk.device c.args.self.now has.texts has.reply has.coming has.begun c.in-Begun.reply c.in-Begun.pending c.in_use.result.now c.in_use.ensures (sym c.replace-stage.ensures.value ∙ c.in-Begun.is) c.in_default-change.not-Nothing }
 
 pub returns-in-Ok-clause-done : goal.returns-in-Ok-clause-done
 returns-in-Ok-clause-done g c = λ texts decided coming begun.
     rests_changed g.D.Disk.device c.args.self.now texts decided coming begun c.in-Begun.reply c.in-Begun.pending c.commit_change.new.disk c.apply.new.self c.put_redo-in-Ok.new.place c.keep_after.new.kept c.replace-stage.new.dest c.in_use.result.now
-    c.in_use.ensures (sym c.replace-stage.ensures.value ∙ c.in-Begun.is) c.in_default-pending.not-Nothing c.put_redo-in-Ok.ensures c.keep_after.ensures c.replace-stage.ensures.after c.apply.ensures
+    c.in_use.ensures (sym c.replace-stage.ensures.value ∙ c.in-Begun.is) c.in_default-change.not-Nothing c.put_redo-in-Ok.ensures c.keep_after.ensures c.replace-stage.ensures.after c.apply.ensures
     c.commit_change.ensures.alike c.in-Ok.ensures.made c.in-Ok.ensures.done
 
 pub returns-in-Ok-clause-crash : goal.returns-in-Ok-clause-crash
 returns-in-Ok-clause-crash g c = λ texts decided coming begun was there.
     c.in-Ok.ensures.crash c.args.self.now.held texts c.args.self.now.packer coming (settled_with g.D.Disk.device c.args.self.now texts decided coming begun)
-    (some_in g.D.Disk.device c.args.self.now texts decided coming begun c.in-Begun.reply c.in-Begun.pending c.in_use.result.now c.in_use.ensures (sym c.replace-stage.ensures.value ∙ c.in-Begun.is) c.in_default-pending.not-Nothing).change was there
+    (some_in g.D.Disk.device c.args.self.now texts decided coming begun c.in-Begun.reply c.in-Begun.pending c.in_use.result.now c.in_use.ensures (sym c.replace-stage.ensures.value ∙ c.in-Begun.is) c.in_default-change.not-Nothing).change was there
 
 pub returns-in-Err-clause-doubt : goal.returns-in-Err-clause-doubt
 returns-in-Err-clause-doubt g c = λ texts decided coming begun.
     between g.D.Disk.device c.args.self.now texts decided coming begun c.in-Begun.reply c.in-Begun.pending c.commit_change.new.disk c.args.self.now.large c.put_stage.new.place c.in_use.result.now c.in-Err.stopped
-    c.put_stage.ensures c.in_use.ensures c.in_use.ensures (sym c.replace-stage.ensures.value ∙ c.in-Begun.is) c.in_default-pending.not-Nothing c.commit_change.ensures.alike c.in-Err.ensures.doubt
+    c.put_stage.ensures c.in_use.ensures c.in_use.ensures (sym c.replace-stage.ensures.value ∙ c.in-Begun.is) c.in_default-change.not-Nothing c.commit_change.ensures.alike c.in-Err.ensures.doubt
 
 pub returns-in-Err-clause-opens : goal.returns-in-Err-clause-opens
 returns-in-Err-clause-opens g c = λ texts decided coming begun.
@@ -92,10 +92,10 @@ returns-in-Err-clause-opens g c = λ texts decided coming begun.
 pub returns-in-Err-clause-crash : goal.returns-in-Err-clause-crash
 returns-in-Err-clause-crash g c = λ texts decided coming begun was there.
     c.in-Err.ensures.crash c.args.self.now.held texts c.args.self.now.packer coming (settled_with g.D.Disk.device c.args.self.now texts decided coming begun)
-    (some_in g.D.Disk.device c.args.self.now texts decided coming begun c.in-Begun.reply c.in-Begun.pending c.in_use.result.now c.in_use.ensures (sym c.replace-stage.ensures.value ∙ c.in-Begun.is) c.in_default-pending.not-Nothing).change was there
+    (some_in g.D.Disk.device c.args.self.now texts decided coming begun c.in-Begun.reply c.in-Begun.pending c.in_use.result.now c.in_use.ensures (sym c.replace-stage.ensures.value ∙ c.in-Begun.is) c.in_default-change.not-Nothing).change was there
 
 pub apply-requires : goal.apply-requires
 apply-requires g c =
     let has = c.requires.begun in
     let is = sym c.replace-stage.ensures.value ∙ c.in-Begun.is in
-    record { may = may_apply g.D.Disk.device c.args.self.now has.texts has.reply has.coming has.begun c.in-Begun.reply c.in-Begun.pending is c.in_default-pending.not-Nothing }
+    record { may = may_apply g.D.Disk.device c.args.self.now has.texts has.reply has.coming has.begun c.in-Begun.reply c.in-Begun.pending is }

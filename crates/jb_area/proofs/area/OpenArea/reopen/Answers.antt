@@ -53,33 +53,33 @@ returns-in-Nothing-clause-crash g c =
 pub settle_change-requires : goal.settle_change-requires
 settle_change-requires g c =
     let has = c.requires.doubt in
-    record { may = may_settle g.D.Disk.device c.args.self.now c.in-Doubtful.stopped c.in-Doubtful.pending (sym c.replace-stage.ensures.value ∙ c.in-Doubtful.is) c.in_default-pending.not-Nothing c.in_use.result.now c.in_use.ensures has.texts has.coming has.doubt }
+    record { may = may_settle g.D.Disk.device c.args.self.now c.in-Doubtful.stopped c.in-Doubtful.pending (sym c.replace-stage.ensures.value ∙ c.in-Doubtful.is) c.in_default-change.not-Nothing c.in_use.result.now c.in_use.ensures has.texts has.coming has.doubt }
 
 pub returns-in-Ok-true-clause-settled : goal.returns-in-Ok-true-clause-settled
 returns-in-Ok-true-clause-settled g c =
-    stands g.D.Disk.device c.args.self.now c.in-Doubtful.stopped c.in-Doubtful.pending (sym c.replace-stage.ensures.value ∙ c.in-Doubtful.is) c.in_default-pending.not-Nothing c.in_use.result.now c.in_use.ensures
+    stands g.D.Disk.device c.args.self.now c.in-Doubtful.stopped c.in-Doubtful.pending (sym c.replace-stage.ensures.value ∙ c.in-Doubtful.is) c.in_default-change.not-Nothing c.in_use.result.now c.in_use.ensures
     c.settle_change.new.disk c.apply.new.self c.drop_both-in-Ok-true.new.large c.drop_both-in-Ok-true.new.packer c.replace-stage.new.dest c.drop_both-in-Ok-true.ensures.large c.drop_both-in-Ok-true.ensures.packer c.replace-stage.ensures.after c.apply.ensures
     (λ from texts copies coming doubt is. subst (λ (b : Bool). IsAnsweredAs b from texts coming (g.D.Disk.device c.settle_change.new.disk)) c.in-Ok-true.field-0-test (c.in-Ok-true.ensures.answer from texts copies coming doubt is))
 
 pub returns-in-Ok-true-clause-crash : goal.returns-in-Ok-true-clause-crash
 returns-in-Ok-true-clause-crash g c =
-    crashes g.D.Disk.device c.args.self.now c.in-Doubtful.stopped c.in-Doubtful.pending (sym c.replace-stage.ensures.value ∙ c.in-Doubtful.is) c.in_default-pending.not-Nothing c.in_use.result.now c.in_use.ensures
+    crashes g.D.Disk.device c.args.self.now c.in-Doubtful.stopped c.in-Doubtful.pending (sym c.replace-stage.ensures.value ∙ c.in-Doubtful.is) c.in_default-change.not-Nothing c.in_use.result.now c.in_use.ensures
     (g.D.Disk.device c.settle_change.new.disk) c.settle_change.ensures.crash
 
 pub returns-in-Ok-false-clause-settled : goal.returns-in-Ok-false-clause-settled
 returns-in-Ok-false-clause-settled g c =
-    falls g.D.Disk.device c.args.self.now c.in-Doubtful.stopped c.in-Doubtful.pending (sym c.replace-stage.ensures.value ∙ c.in-Doubtful.is) c.in_default-pending.not-Nothing c.in_use.result.now c.in_use.ensures
+    falls g.D.Disk.device c.args.self.now c.in-Doubtful.stopped c.in-Doubtful.pending (sym c.replace-stage.ensures.value ∙ c.in-Doubtful.is) c.in_default-change.not-Nothing c.in_use.result.now c.in_use.ensures
     c.settle_change.new.disk c.drop_both-in-Ok-false.new.large c.drop_both-in-Ok-false.new.packer c.replace-stage.new.dest c.drop_both-in-Ok-false.ensures.large c.drop_both-in-Ok-false.ensures.packer c.replace-stage.ensures.after
     (λ from texts copies coming doubt is. subst (λ (b : Bool). IsAnsweredAs b from texts coming (g.D.Disk.device c.settle_change.new.disk)) c.in-Ok-false.field-0-test (c.in-Ok-false.ensures.answer from texts copies coming doubt is))
 
 pub returns-in-Ok-false-clause-crash : goal.returns-in-Ok-false-clause-crash
 returns-in-Ok-false-clause-crash g c =
-    crashes g.D.Disk.device c.args.self.now c.in-Doubtful.stopped c.in-Doubtful.pending (sym c.replace-stage.ensures.value ∙ c.in-Doubtful.is) c.in_default-pending.not-Nothing c.in_use.result.now c.in_use.ensures
+    crashes g.D.Disk.device c.args.self.now c.in-Doubtful.stopped c.in-Doubtful.pending (sym c.replace-stage.ensures.value ∙ c.in-Doubtful.is) c.in_default-change.not-Nothing c.in_use.result.now c.in_use.ensures
     (g.D.Disk.device c.settle_change.new.disk) c.settle_change.ensures.crash
 
 pub returns-in-Err-settle_change-clause-still : goal.returns-in-Err-settle_change-clause-still
 returns-in-Err-settle_change-clause-still g c =
-    still g.D.Disk.device c.args.self.now c.in-Doubtful.stopped c.in-Doubtful.pending (sym c.replace-stage.ensures.value ∙ c.in-Doubtful.is) c.in_default-pending.not-Nothing c.in_use.result.now c.in_use.ensures
+    still g.D.Disk.device c.args.self.now c.in-Doubtful.stopped c.in-Doubtful.pending (sym c.replace-stage.ensures.value ∙ c.in-Doubtful.is) c.in_default-change.not-Nothing c.in_use.result.now c.in_use.ensures
     c.settle_change.new.disk c.args.self.now.large c.put_stage-in-Err-settle_change.new.place c.in-Err-settle_change.stopped c.put_stage-in-Err-settle_change.ensures c.in_use.ensures c.settle_change.ensures.alike c.in-Err-settle_change.ensures.still
 
 pub returns-in-Err-settle_change-clause-opens : goal.returns-in-Err-settle_change-clause-opens
@@ -87,11 +87,11 @@ returns-in-Err-settle_change-clause-opens g c = λ texts coming doubt. doubt_rea
 
 pub returns-in-Err-settle_change-clause-crash : goal.returns-in-Err-settle_change-clause-crash
 returns-in-Err-settle_change-clause-crash g c =
-    crashes g.D.Disk.device c.args.self.now c.in-Doubtful.stopped c.in-Doubtful.pending (sym c.replace-stage.ensures.value ∙ c.in-Doubtful.is) c.in_default-pending.not-Nothing c.in_use.result.now c.in_use.ensures
+    crashes g.D.Disk.device c.args.self.now c.in-Doubtful.stopped c.in-Doubtful.pending (sym c.replace-stage.ensures.value ∙ c.in-Doubtful.is) c.in_default-change.not-Nothing c.in_use.result.now c.in_use.ensures
     (g.D.Disk.device c.settle_change.new.disk) c.settle_change.ensures.crash
 
 pub apply-requires : goal.apply-requires
 apply-requires g c =
     let has = c.requires.doubt in
     let is = sym c.replace-stage.ensures.value ∙ c.in-Doubtful.is in
-    record { may = may_apply g.D.Disk.device c.args.self.now c.in-Doubtful.stopped c.in-Doubtful.pending is c.in_default-pending.not-Nothing has.texts has.coming has.doubt }
+    record { may = may_apply g.D.Disk.device c.args.self.now c.in-Doubtful.stopped c.in-Doubtful.pending is c.in_default-change.not-Nothing has.texts has.coming has.doubt }

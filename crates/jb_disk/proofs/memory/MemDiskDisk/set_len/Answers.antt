@@ -1,6 +1,6 @@
 use Rattle.std.proofs.Common.{◌≡◌, length, rules, ap, true, take, ◌∙◌, not, inl, refl, subst, ℕ, ◌≤◌}
 use Rattle.std.proofs.lemmas.List.{take_at}
-use Rattle.jb_base.specs.Fault.{Rose}
+use Rattle.jb_bytes.specs.Fault.{Rose}
 use Rattle.jb_disk.specs.Memory.{listed, files_of, of_length}
 use Rattle.jb_disk.proofs.MemoryLemmas.{resizes, resizes-not, present-resized, present-unresized, present-kept, resized-moments, done-fails-by, failed-fails-by}
 use Rattle.jb_disk.proofs.memory.MemDiskDisk.set_len.Goals as goal

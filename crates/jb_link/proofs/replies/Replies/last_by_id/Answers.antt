@@ -1,5 +1,5 @@
 use Rattle.std.proofs.Common.{arith, sym, ◌∙◌, ap}
-use Rattle.jb_base.specs.declared.subfield.TheConstants.{MSGID}
+use Rattle.jb_bytes.specs.declared.subfield.TheConstants.{MSGID}
 use Rattle.jb_link.specs.Ids.{lent}
 use Rattle.jb_link.proofs.FoundLemmas.{is_least_with, last_by_id, later_found, none_found_later, live_from_base, lower_has_id, no_own_id, none_later, told_apart, told_same}
 use Rattle.jb_link.proofs.replies.Replies.last_by_id.Goals as goal

@@ -1,5 +1,5 @@
 use Rattle.std.proofs.Common.{inl, inr}
-use Rattle.jb_base.specs.Fault.{Rose}
+use Rattle.jb_bytes.specs.Fault.{Rose}
 use Rattle.jb_pack.proofs.PackerLemmas.{begun_has, fault_rose}
 use Rattle.jb_pack.proofs.packer.Packer.begin.Goals as goal
 

@@ -1,6 +1,6 @@
 use Rattle.std.proofs.Common.{List, ap, arith, subst}
 use Rattle.jb_pack.specs.Finish.{IsPackOfCopies}
-use Rattle.jb_pack.specs.Packed.{headers_size, texts_size}
+use Rattle.jb_model.specs.Packed.{headers_size, texts_size}
 use Rattle.jb_pack.specs.Shadow.{Shadow}
 use Rattle.jb_pack.specs.declared.copied.CopiedText.{CopiedText}
 use Rattle.jb_pack.proofs.FitLemmas.{headers_fit}

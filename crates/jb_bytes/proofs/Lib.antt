@@ -1,0 +1,4 @@
+mod Heads
+pub mod Numbers
+pub mod Spelled
+mod StandardFacts

@@ -1,6 +1,0 @@
-use Rattle.std.proofs.Common.{◌≡◌, take}
-use Rattle.jb_step.specs.Relink.{with_links_of}
-use Rattle.jb_decide.proofs.applying.set_plan.Given as goal
-
-abbrev pub invariant-loop-links : goal.invariant-loop-links
-invariant-loop-links l = l.loaded ≡ with_links_of (take l.links-index l.plan) l.initial.loaded

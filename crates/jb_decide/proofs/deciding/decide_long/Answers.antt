@@ -1,0 +1,20 @@
+use Rattle.std.proofs.Common.{List, ℕ, ap, subst, sym, ◌∙◌}
+use Rattle.jb_change.specs.Headers.{Updates}
+use Rattle.jb_model.specs.Change.{after}
+use Rattle.jb_model.specs.declared.change.Change.{Change}
+use Rattle.jb_model.specs.declared.loaded.Loaded.{Loaded}
+use Rattle.jb_decide.specs.StepOf.{text_behind}
+use Rattle.jb_decide.proofs.DecidedLemmas.{step_decided}
+use Rattle.jb_decide.proofs.deciding.decide_long.Goals as goal
+
+pub returns-clause-decided : goal.returns-clause-decided
+returns-clause-decided c = rw (← c.loaded.ensures) (λ rules user moment command shows texts contents sound are step posted answer.
+    let from : Loaded = c.loaded.result.now in
+    let change : Change = c.args.outcome.change in
+    step_decided rules from texts contents c.put.new.redo user moment command shows _ step answer
+    (λ some. record {
+      updates = subst (λ (t : List ℕ). Updates c.put.new.redo from (after change from) t) (c.text_behind-text.ensures ∙ ap (text_behind change) (sym posted)) c.in_ok-put.ensures.makes;
+      numbered = c.in_ok-put.ensures.numbered;
+      index = c.in_ok-put.ensures.index;
+      writable = c.in_ok-put.ensures.writable;
+    }) are.sized)

@@ -1,0 +1,49 @@
+//! What is kept beside an area as it is loaded: a count, and indexes with room for all that it may have.
+ghost use Rattle.std.specs.Prelude.{◌≡◌, ◌≤◌, ◌+◌, [], length, map, IfOk};
+ghost use Rattle.jb_limits.specs.declared.limits.TheConstants.{MOST_MARKS, MOST_SLOTS};
+ghost use Rattle.jb_marks.specs.Order.{IsOrdered};
+ghost use Rattle.jb_model.specs.Live.{live_count};
+ghost use Rattle.jb_model.specs.State.{slot_state};
+ghost use Rattle.jb_link.specs.Index.{IsIndexOf};
+
+use jb_base::{MOST_MARKS, MOST_SLOTS, OutOfMemory};
+use jb_link::Replies;
+use jb_marks::MarkIndex;
+use jb_model::{Loaded, LoadedSlot};
+use std::alloc::Global;
+
+/// How many messages are live.
+pub(crate) fn count_live(slots: &[LoadedSlot]) -> u32
+    requires { length slots.now ≤ MOST_SLOTS }
+    ensures { result ≡ live_count (map (slot_state []) slots.now) }
+{
+    slots
+        .iter()
+        .filter(|slot| matches!(slot, LoadedSlot::Live(_)))
+        .count() as u32
+}
+
+/// The places of the marks by their users, and room for as many as an area may have. Its cost is that of sorting them.
+pub(crate) fn mark_index_of(alloc: Global, loaded: &Loaded) -> Result<MarkIndex, OutOfMemory>
+    requires { length loaded.now.marks ≤ MOST_MARKS }
+    ensures index { IfOk result (λ index. IsOrdered loaded.now.marks index.order) }
+    ensures room { IfOk result (λ index. MOST_MARKS ≤ index.room) }
+{
+    let mut index = MarkIndex::of(alloc, loaded.marks.as_slice())?;
+    let more = MOST_MARKS - loaded.marks.as_slice().len() as u32;
+    index.reserve(more)?;
+    Ok(index)
+}
+
+/// The index of the replies, and room for as many messages as an area may have.
+pub(crate) fn replies_of(alloc: Global, loaded: &Loaded) -> Result<Replies, OutOfMemory>
+    requires numbers { loaded.now.base + length loaded.now.slots ≤ 4_294_967_295 }
+    requires few_slots { length loaded.now.slots ≤ MOST_SLOTS }
+    ensures index { IfOk result (λ replies. IsIndexOf replies loaded.now) }
+    ensures room { IfOk result (λ replies. length loaded.now.slots + replies.room ≡ MOST_SLOTS) }
+{
+    let mut replies = Replies::of(alloc, loaded)?;
+    let more = MOST_SLOTS - loaded.slots.as_slice().len() as u32;
+    replies.reserve(more)?;
+    Ok(replies)
+}
