@@ -8,7 +8,8 @@ For each size: the least processor time of fifteen runs of a session that enters
 copy; the session against `cat` of the three files that an opening reads; and what the session holds of memory once the area is open, and the most
 that it held until then. Between two sizes, so that the start of the program is left out: the time and the memory of one message more. Then one command
 of a session in the area, of two hundred alike, without the visit. The runs take turns, so that what else the machine does falls on all alike. With
-`count` behind it the instructions of the first three are counted too, where valgrind is there. The files lie in DIR, or where temporary files do.
+`count` behind it the instructions of the first three are counted too, and the instructions and calls of the system of each command, where valgrind and
+strace are there. The files lie in DIR, or where temporary files do.
 """
 import hashlib
 import os
@@ -45,6 +46,28 @@ def counted(words, folder, given):
         run = subprocess.run(["valgrind", "--tool=callgrind", f"--callgrind-out-file={folder}/counted", *words], cwd=folder, stdin=source,
                              stdout=subprocess.DEVNULL, stderr=subprocess.PIPE, text=True, check=True)
     return int(re.search(r"Collected : (\d+)", run.stderr)[1])
+
+
+def called(words, folder, given):
+    """The calls of the system of one run, by strace."""
+    with open(given, "rb") as source:
+        subprocess.run(["strace", "-f", "-o", f"{folder}/called", *words], cwd=folder, stdin=source, stdout=subprocess.DEVNULL, check=True)
+    with open(f"{folder}/called", "rb") as trace:
+        return sum(1 for _ in trace)
+
+
+def of_commands(folder, opening, commands):
+    """The instructions and the calls of one command of each kind in an area of each size, without those of the visit."""
+    for count, what in ((counted, "instructions"), (called, "calls of the system")):
+        each = {name: [] for name in commands}
+        for size in SIZES:
+            copies(folder, size)
+            without = count(*opening[:1], folder, opening[1])
+            for name, (words, given) in commands.items():
+                copies(folder, size)
+                each[name].append((count(words, folder, given) - without) / OFTEN)
+        for name, found in each.items():
+            print(f"{name}: {', '.join(f'{one:,.1f}' for one in found)} {what} each", flush=True)
 
 
 def held(words, folder):
@@ -99,6 +122,8 @@ def measure(program, folder, is_counted):
     for name in commands:
         each = [(least[size][name] - least[size]["opening"]) / OFTEN * 1e6 for size in SIZES]
         print(f"{name}: {', '.join(f'{took:.1f}' for took in each)} us each")
+    if is_counted:
+        of_commands(folder, runs["opening"], commands)
     for n, name in enumerate(("memory", "at most")):
         more = [(memory[b][n] - memory[a][n]) / (b - a) for a, b in pairs]
         print(f"{name}: {more[0]:.0f} bytes a message more up to {SIZES[1]}, {more[1]:.0f} up to {SIZES[2]}")
