@@ -17,7 +17,8 @@ pub fn allowed(
     message: Option<Parties<'_>>,
 ) -> Result<(), Rule>
     requires { action ≡ Killing → IsSome message }
-    ensures { result_err result ≡ first_refusal user.now rules.now action (option_map envelope message.entry) }
+    ensures { result_err result ≡ first_refusal user.now rules.now action
+        (option_map envelope message.entry) }
 {
     let is_sysop = user.level >= rules.sysop;
     if action != Action::Tend && user.level < rules.read {

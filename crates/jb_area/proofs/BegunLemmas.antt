@@ -3,9 +3,8 @@ use Rattle.std.proofs.Common.{◌≡◌, ℕ, Bool, List, Option, Some, Result, 
 use Rattle.std.specs.Option.{ForSome}
 use Rattle.jb_disk.specs.Device.{Device}
 use Rattle.jb_disk.specs.Runs.{IsAllSynced}
-use Rattle.jb_model.specs.declared.loaded.LoadedSlot.{LoadedSlot}
+use Rattle.jb_state.specs.declared.loaded.LoadedSlot.{LoadedSlot}
 use Rattle.jb_pack.specs.Advance.{Copies}
-use Rattle.jb_pack.specs.Copying.{PackFaultRose}
 use Rattle.jb_pack.specs.Shadow.{HasCopies, Shadow}
 use Rattle.jb_pack.specs.Touching.{IsUntouched, StaysUnlessFault}
 use Rattle.jb_pack.specs.declared.error.PackError.{PackError}
@@ -55,7 +54,3 @@ copied_begun budget slots old packer new more is some = record {
   copies = subst (λ (s : Shadow). Copies budget slots s some.shadow) is some.copies;
   says = some.says;
 }
-
--- a fault behind a quiet call has its cause
-pub rose_begun : {T : Type 0} (result : Result T PackError) (before mid now : ℕ) → mid ≡ before → IfErr result (PackFaultRose mid now) → IfErr result (PackFaultRose before now)
-rose_begun {T} result before mid now quiet cause = subst (λ (n : ℕ). IfErr result (PackFaultRose n now)) quiet cause

@@ -1,18 +1,18 @@
 -- A call that was decided is begun, and then it ends.
-use Rattle.std.proofs.Common.{◌≡◌, inl, ℕ, ◌≤◌, Bool, List, Option, Result, Ok, Err, IfErr, IsOk, OnErr, Some, ap, refl, sym, ◌∙◌, subst, arith}
+use Rattle.std.proofs.Common.{◌≡◌, inl, ℕ, Bool, true, List, Option, Result, Ok, Err, IfErr, IsOk, OnErr, Some, ap, refl, sym, ◌∙◌, subst, arith}
+use Rattle.std.proofs.lemmas.Bool.{false≢true}
 use Rattle.std.specs.Option.{ForSome}
 use Rattle.std.specs.Prelude.{IsSome, is_some}
-use Rattle.jb_bytes.specs.Fault.{Rose}
 use Rattle.jb_base.specs.declared.area.AreaRules.{AreaRules}
 use Rattle.jb_base.specs.declared.user.User.{User}
 use Rattle.jb_decide.specs.Decided.{IsAnsweredSomewhere, IsTold, made}
+use Rattle.jb_decide.specs.Errors.{is_area_fault}
 use Rattle.jb_decide.specs.Headers.{KeepsHeaders, PacksHeaders}
-use Rattle.jb_decide.specs.Errors.{AreaFaultRose}
 use Rattle.jb_decide.specs.Holds.{Holds}
 use Rattle.jb_decide.specs.StepOf.{ChangesNothing, IsNoPack, posted_text}
 use Rattle.jb_decide.proofs.AgreeLemmas.{headers_agree, packs_agree}
 use Rattle.jb_decide.specs.declared.error.AreaError.{AreaError}
-use Rattle.jb_decide.specs.declared.error.AreaError.TheVariants.{StoreFault}
+use Rattle.jb_decide.specs.declared.error.AreaError.TheVariants.{OutOfMemory, StoreFault}
 use Rattle.jb_disk.specs.Device.{Device, OnlyReads}
 use Rattle.jb_disk.specs.Files.{Files, number_of}
 use Rattle.jb_disk.specs.declared.file.FileId.TheVariants.{Jdt, Jdx, Jhr}
@@ -22,22 +22,23 @@ use Rattle.jb_pack.specs.Touching.{AgreeButShadow, TouchesShadow}
 use Rattle.jb_redo.proofs.ApplyLemmas.{turns_on}
 use Rattle.jb_change.specs.Put.{KeepsIndexOnKill}
 use Rattle.jb_disk.specs.RedoView.{RedoView}
-use Rattle.jb_model.specs.Change.{Fits}
-use Rattle.jb_model.specs.State.{state_of}
+use Rattle.jb_state.specs.Change.{Fits}
+use Rattle.jb_state.specs.State.{state_of}
 use Rattle.jb_model.specs.Step.{Step}
-use Rattle.jb_model.specs.declared.change.Change.{Change}
-use Rattle.jb_model.specs.declared.change.Change.TheVariants.{Nothing, Posted, Headed, Killed, Relinked, Marked, Packed}
+use Rattle.jb_state.specs.declared.change.Change.{Change}
+use Rattle.jb_state.specs.declared.change.Change.TheVariants.{Nothing, Posted, Headed, Killed, Relinked, Marked, Packed}
 use Rattle.jb_model.specs.declared.command.Command.{Command}
 use Rattle.jb_model.specs.declared.command.Command.TheVariants.{Post}
-use Rattle.jb_model.specs.declared.loaded.Loaded.{Loaded}
+use Rattle.jb_state.specs.declared.loaded.Loaded.{Loaded}
 use Rattle.jb_model.specs.declared.reply.Reply.{Reply}
 use Rattle.jb_area.specs.Area.{done_in, files_after, redo_of, HasBegun, HasMade, HasNoChange, IsDoubtful, IsResting, RestsAt}
-use Rattle.jb_area.specs.Calls.{BeginsCall, EndsCall, FailsWith, HasAnswered, HasStoppedIn, IsBegunFor, KeepsIndexFile, MeetsCall, OnlyReadsOrCopies, coming_of}
+use Rattle.jb_area.specs.Calls.{BeginsCall, EndsCall, FailsWith, HasAnswered, HasStoppedIn, IsBegunFor, KeepsIndexFile, MeetsCall, OnlyReadsOrCopies}
+use Rattle.jb_decide.specs.Coming.{coming_of}
 use Rattle.jb_area.specs.Holds.{Opens, OpensToEither}
 use Rattle.jb_area.specs.declared.area.OpenArea.{OpenArea}
 use Rattle.jb_area.proofs.CommitLemmas.{only_weaken}
 use Rattle.jb_area.proofs.CopyingLemmas.{alike_by, crash_by, reads_by, settled_copying, touches_by}
-use Rattle.jb_area.proofs.Outcomes.{err_gives, if_ok_then2, ok_gives, on_ok_then}
+use Rattle.jb_area.proofs.Outcomes.{counts_behind, err_gives, if_ok_then2, ok_gives}
 use Rattle.jb_area.proofs.PackedLemmas.{on_either}
 use Rattle.jb_area.proofs.StageLemmas.{becomes_is, fits_is}
 use Rattle.jb_area.proofs.StartLemmas.{err_not_ok, fails_with}
@@ -69,10 +70,11 @@ index_agrees (Relinked plan) redo loaded texts start was now keeps holds same be
 index_agrees (Marked place mark) redo loaded texts start was now keeps holds same before = tt
 index_agrees (Packed plan base) redo loaded texts start was now keeps holds same before = tt
 
--- a fault that is the only error has its cause
-fault_rose : {T : Type 0} (result : Result T AreaError) (before mid now : ℕ) → before ≤ mid → IfErr result (λ error. error ≡ StoreFault) → OnErr result (Rose mid now) → IfErr result (AreaFaultRose before now)
-fault_rose (Ok value) before mid now later fault cause = tt
-fault_rose (Err error) before mid now later fault cause = subst (AreaFaultRose before now) (sym fault) (omega (arith, cause, later))
+-- a fault is the only refusal that is one
+pub store_fault : {T : Type 0} (result : Result T AreaError) → IfErr result (λ error. is_area_fault error ≡ true) → IfErr result (λ error. error ≡ StoreFault)
+store_fault (Ok value) is = tt
+store_fault (Err StoreFault) is = refl
+store_fault (Err OutOfMemory) is = absurd (false≢true is)
 
 -- two claims on a refusal
 on_err_both : {T E : Type 0} (result : Result T E) (P Q : Type 0) → OnErr result P → OnErr result Q → OnErr result (P × Q)
@@ -224,21 +226,17 @@ module _ {D : Type 0} (shown : D → Device) where
 
   -- a call that is begun and ends
   pub meets : (old mid new : OpenArea D) (user : User) (moment : ℕ) (command : Command) (began : Result (Unit {0}) AreaError) (value : Unit {0}) (result : Result Reply AreaError)
-      → BeginsCall shown old mid user moment command began → began ≡ Ok value → EndsCall shown mid new result → MeetsCall shown old new user moment command result
+      → BeginsCall shown old mid user moment command began → began ≡ Ok value → EndsCall shown is_area_fault mid new result → MeetsCall shown old new user moment command result
   meets old mid new user moment command began value result begins ok ends =
-      let earlier = begins.later in
-      let later = ends.later in
       record {
         answered = if_ok_then2 result _ _ _ ends.done ends.made (λ reply done made texts resting.
             let is = ok_gives began value _ ok begins.begun texts resting in
             answered_by shown old mid new texts user moment command begins.reads (ok_gives began value _ ok begins.idle) resting begins.loaded begins.rules is reply (done texts is.reply is.coming is.begun) made (λ none. (ends.idle none).1) (ends.crash texts is.reply is.coming is.begun));
-        failed = fails_so result _ (λ error. (texts : List ℕ) → IsResting shown old texts → FailsWith shown error old new texts user moment command) ends.fault (stopped_some result _ _ _ (on_err_both result _ _ ends.doubt (on_err_both result _ _ ends.opens ends.loaded)) ends.idle) (λ stopped texts resting.
+        failed = fails_so result _ (λ error. (texts : List ℕ) → IsResting shown old texts → FailsWith shown error old new texts user moment command) (store_fault result ends.fault) (stopped_some result _ _ _ (on_err_both result _ _ ends.doubt (on_err_both result _ _ ends.opens ends.loaded)) ends.idle) (λ stopped texts resting.
             let is = ok_gives began value _ ok begins.begun texts resting in
             stopped_by shown old mid new texts user moment command begins.reads (ok_gives began value _ ok begins.idle) resting begins.loaded begins.rules is (stopped.0.0 texts is.reply is.coming is.begun) (stopped.0.1.0 texts is.reply is.coming is.begun) stopped.0.1.1 stopped.1 (ends.crash texts is.reply is.coming is.begun));
-        cause = fault_rose result _ _ _ begins.later ends.fault ends.cause;
-        quiet = on_ok_then result _ _ ends.quiet (λ quiet. quiet ∙ ok_gives began value _ ok begins.quiet);
+        faults = counts_behind is_area_fault (shown old.disk) (shown mid.disk) (shown new.disk) result (ok_gives began value _ ok begins.faults.quiet) ends.faults;
         alike = ends.alike ∙ alike_by (shown old.disk) (shown mid.disk) (touches_by command (shown old.disk) (shown mid.disk) begins.reads);
-        later = omega (arith, earlier, later);
         rules = ends.rules ∙ begins.rules;
         copies = λ in_place. on_either result _ _ (new.packer ≡ old.packer) ends.copies ends.kept
             (λ done. done ∙ ok_gives began value _ ok begins.kind in_place ∙ begins.copies in_place) (λ kept. kept ∙ begins.copies in_place);
@@ -251,10 +249,8 @@ module _ {D : Type 0} (shown : D → Device) where
   meets_not old new user moment command began error begins refused = record {
     answered = tt;
     failed = λ texts resting. fails_with shown error old new texts user moment command begins.reads begins.loaded resting (err_gives began error _ refused begins.failed texts resting);
-    cause = err_gives began error _ refused begins.cause;
-    quiet = tt;
+    faults = record { quiet = tt; later = begins.faults.later; cause = err_gives began error _ refused begins.faults.cause };
     alike = alike_by (shown old.disk) (shown new.disk) (touches_by command (shown old.disk) (shown new.disk) begins.reads);
-    later = begins.later;
     rules = begins.rules;
     copies = begins.copies;
     packed = tt;

@@ -8,16 +8,16 @@ use Rattle.jb_disk.specs.Images.{Images}
 use Rattle.jb_disk.specs.Runs.{IsAllSynced, LeavesNow, LeavesOnly, Shows}
 use Rattle.jb_disk.proofs.RunLemmas.{runs-refl, runs-weaken}
 use Rattle.jb_journal.proofs.SettleLemmas.{doubt_replays}
-use Rattle.jb_journal.specs.Commit.{AgreeButJournal, IsBeforeOrAfter, IsReady, committed}
+use Rattle.jb_journal.specs.Commit.{AgreeButJournal, IsBeforeOrAfter, IsReady, ReplaysTo, committed}
 use Rattle.jb_redo.specs.Changes.{changed}
 use Rattle.jb_journal.specs.Doubt.{DoubtReplays, HasStopped, IsInDoubt, IsSettledAt, answered}
 use Rattle.jb_journal.specs.declared.stopped.Stopped.{Stopped}
 use Rattle.jb_journal.specs.declared.stopped.Stopped.TheVariants.{Early, Late}
-use Rattle.jb_model.specs.declared.loaded.Loaded.{Loaded}
+use Rattle.jb_state.specs.declared.loaded.Loaded.{Loaded}
 use Rattle.jb_pack.specs.Shadow.{Shadow}
 use Rattle.jb_decide.specs.Coming.{BringsComing, Coming, IsChange}
 use Rattle.jb_decide.specs.Holds.{HasAll}
-use Rattle.jb_area.specs.Commits.{HasRecordOf, IsAnsweredAs, IsSettledAs, IsSettledWith, IsStopped, IsStoppedAs}
+use Rattle.jb_area.specs.Commits.{HasRecordOf, IsAnsweredAs, IsSettledAs, IsSettledWith, IsStopped, IsStoppedAs, StandsFirm, StandsLate}
 use Rattle.jb_area.specs.Holds.{IsAtRest, Opens, OpensToEither}
 use Rattle.jb_area.proofs.HoldLemmas.{committed-agrees, opens_either, opens_to, ready, rest_opens, rests_committed, rests_settled, size-committed}
 
@@ -123,6 +123,29 @@ module _ (change : RedoView) where
       let brings = is.brings files there in
       let may = ready change from texts copies coming in_doubt.start brings in_doubt.rests in_doubt.has in
       doubt_opens stopped from texts copies coming in_doubt.start files in_doubt.rests in_doubt.has brings (doubt_replays change in_doubt.start may stopped files (in_doubt.shows.read files there))
+
+  -- and after a late stop what is read, and what a crash now leaves, opens to the one to come
+  pub late_stands : (stopped : Stopped) (device : Device) (from : Loaded) (texts : List ℕ) (copies : Option Shadow) (coming : Coming) → IsStoppedAs stopped change from texts copies device → IsChange device.contents change from texts copies coming
+      → StandsLate stopped coming device
+  late_stands Early device from texts copies coming doubt is = tt
+  late_stands Late device from texts copies coming doubt is = λ files there.
+      let in_doubt = doubt files there in
+      let brings = is.brings files there in
+      let may = ready change from texts copies coming in_doubt.start brings in_doubt.rests in_doubt.has in
+      let opens : (left : Files) → IsInDoubt Late change in_doubt.start left → Opens coming.to coming.texts left =
+      λ left late. opens_to (changed change in_doubt.start) left coming.to coming.texts (brings.made in_doubt.start (record { holds = in_doubt.rests.holds; has = in_doubt.has })) (doubt_replays change in_doubt.start may Late left late) in
+      record { read = λ left told. opens left (in_doubt.shows.read left told); left = leaves_weaken _ _ opens device.moments in_doubt.shows.left }
+
+  -- and so does what a crash leaves while it is settled
+  pub stands_firm : (stopped : Stopped) (old new : Device) (from : Loaded) (texts : List ℕ) (copies : Option Shadow) (coming : Coming) → IsStoppedAs stopped change from texts copies old → IsChange old.contents change from texts copies coming
+      → ((start : Files) → IsReady change start → Shows (IsInDoubt stopped change start) old → LeavesOnly old new (DoubtReplays stopped change start)) → StandsFirm stopped coming old new
+  stands_firm Early old new from texts copies coming doubt is crash = tt
+  stands_firm Late old new from texts copies coming doubt is crash = λ files there.
+      let in_doubt = doubt files there in
+      let brings = is.brings files there in
+      only_weaken (ReplaysTo (changed change in_doubt.start)) (Opens coming.to coming.texts) old new
+      (λ left replays. opens_to (changed change in_doubt.start) left coming.to coming.texts (brings.made in_doubt.start (record { holds = in_doubt.rests.holds; has = in_doubt.has })) replays)
+      (crash in_doubt.start (ready change from texts copies coming in_doubt.start brings in_doubt.rests in_doubt.has) in_doubt.shows)
 
   -- settled as it is answered
   answered_rests : (stands : Bool) (from : Loaded) (texts : List ℕ) (copies : Option Shadow) (coming : Coming) (start : Files) (device : Device) → IsAtRest from texts start → HasAll copies start → BringsComing change from texts copies coming

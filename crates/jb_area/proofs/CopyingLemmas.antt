@@ -12,15 +12,16 @@ use Rattle.jb_disk.specs.Steps.{Span, patched}
 use Rattle.jb_disk.specs.declared.file.FileId.{FileId}
 use Rattle.jb_disk.specs.declared.file.FileId.TheVariants.{Jhr, Jdt, Jdx, Jlr, Jnl, Ndt}
 use Rattle.jb_disk.proofs.RunLemmas.{durable, leaves_only}
+use Rattle.jb_disk.proofs.FileLemmas.{leaves_both, leaves_map, only_told}
 use Rattle.jb_journal.specs.Commit.{AgreeButJournal}
 use Rattle.jb_redo.specs.Changes.{changed}
-use Rattle.jb_model.specs.declared.change.Change.{Change}
-use Rattle.jb_model.specs.declared.change.Change.TheVariants.{Nothing, Posted, Headed, Killed, Relinked, Marked, Packed}
+use Rattle.jb_state.specs.declared.change.Change.{Change}
+use Rattle.jb_state.specs.declared.change.Change.TheVariants.{Nothing, Posted, Headed, Killed, Relinked, Marked, Packed}
 use Rattle.jb_model.specs.declared.command.Command.{Command}
 use Rattle.jb_model.specs.declared.command.Command.TheVariants.{Post, Read, Peek, Kill, SetMark, Pack, Relink}
-use Rattle.jb_model.specs.declared.loaded.Loaded.{Loaded}
+use Rattle.jb_state.specs.declared.loaded.Loaded.{Loaded}
 use Rattle.jb_pack.proofs.CopiesLemmas.{stays_copied}
-use Rattle.jb_pack.proofs.TouchLemmas.{leaves_both, leaves_map, only_told, touches-read, touches-resize, touches-sync, touches-then, turns-alike}
+use Rattle.jb_pack.proofs.TouchLemmas.{touches-read, touches-resize, touches-sync, touches-then, turns-alike}
 use Rattle.jb_pack.specs.Shadow.{Shadow}
 use Rattle.jb_pack.specs.Touching.{AgreeButShadow, TouchesShadow}
 use Rattle.jb_redo.proofs.ApplyLemmas.{turns_from}

@@ -7,23 +7,24 @@ use Rattle.jb_disk.specs.Files.{Files}
 use Rattle.jb_disk.specs.Runs.{LeavesOnly}
 use Rattle.jb_disk.proofs.RunLemmas.{runs-refl}
 use Rattle.jb_journal.specs.declared.stopped.Stopped.{Stopped}
+use Rattle.jb_journal.specs.declared.stopped.Stopped.TheVariants.{Early, Late}
 use Rattle.jb_held.specs.Pending.{HasReplies, MayApply}
 use Rattle.jb_held.specs.declared.pending.Pending.{Pending}
-use Rattle.jb_model.specs.Change.{after}
-use Rattle.jb_model.specs.Sound.{IsSound}
-use Rattle.jb_model.specs.declared.change.Change.TheVariants.{Nothing}
-use Rattle.jb_model.specs.declared.loaded.Loaded.{Loaded}
+use Rattle.jb_state.specs.Change.{after}
+use Rattle.jb_state.specs.Sound.{IsSound}
+use Rattle.jb_state.specs.declared.change.Change.TheVariants.{Nothing}
+use Rattle.jb_state.specs.declared.loaded.Loaded.{Loaded}
 use Rattle.jb_pack.specs.Shadow.{Shadow}
 use Rattle.jb_decide.specs.Coming.{Coming, IsChange}
 use Rattle.jb_decide.specs.Decided.{IsPending}
 use Rattle.jb_decide.specs.Holds.{HasAll}
-use Rattle.jb_area.specs.Area.{redo_in, redo_of, DoubtOpens, IsBetween, IsDoubtful, IsHalfCopied, IsUnchanged, RestsAt, SettlesAt}
-use Rattle.jb_area.specs.Commits.{IsAnsweredAs, IsCopyingAs, IsSettledAs, IsStoppedAs, MaySettle}
+use Rattle.jb_area.specs.Area.{redo_in, redo_of, stopped_in, stopped_of, DoubtOpens, IsBetween, IsDoubtful, IsHalfCopied, IsUnchanged, RestsAt, SettlesAt}
+use Rattle.jb_area.specs.Commits.{IsAnsweredAs, IsCopyingAs, IsSettledAs, IsStoppedAs, MaySettle, StandsFirm, StandsLate, StopsAgain}
 use Rattle.jb_area.specs.Holds.{Opens, OpensToEither}
 use Rattle.jb_area.specs.declared.area.OpenArea.{OpenArea}
 use Rattle.jb_area.specs.declared.stage.Stage.{Stage}
 use Rattle.jb_area.specs.declared.stage.Stage.TheVariants.{Resting, Doubtful, Copying}
-use Rattle.jb_area.proofs.CommitLemmas.{settled_opens, stopped_opens}
+use Rattle.jb_area.proofs.CommitLemmas.{late_stands, settled_opens, stopped_opens}
 use Rattle.jb_area.proofs.CopyingLemmas.{copying_opens}
 use Rattle.jb_area.proofs.HoldLemmas.{rest_opens}
 use Rattle.jb_area.proofs.StageLemmas.{apply_may, pending_later}
@@ -42,7 +43,7 @@ no_copying stopped pending is = cc
 -- an area in doubt is at that stage, or at a copying
 pub at_doubt : {D : Type 0} (shown : D → Device) (area : OpenArea D) (texts : List ℕ) (coming : Option Coming) → IsDoubtful shown area texts coming
     → ((stopped : Stopped) × (pending : Pending) × (area.stage ≡ Doubtful stopped pending)) ⊎ (area.stage ≡ Copying)
-at_doubt shown area texts None (inl unchanged) = inl (unchanged.stopped, unchanged.pending, unchanged.stage)
+at_doubt shown area texts None (inl unchanged) = inl (Early, unchanged.pending, unchanged.stage)
 at_doubt shown area texts None (inr half) = inr half.stage
 at_doubt shown area texts (Some coming) doubt = inl (doubt.stopped, doubt.pending, doubt.stage)
 
@@ -53,13 +54,38 @@ doubt_reads shown area texts None (inl unchanged) = λ files there. rest_opens a
 doubt_reads shown area texts None (inr half) = copying_opens area.held texts (shown area.disk) half.copying
 doubt_reads shown area texts (Some coming) doubt = stopped_opens (redo_of area) doubt.stopped (shown area.disk) area.held texts area.packer coming doubt.doubt doubt.change.change
 
+-- and after a late stop the change stands
+pub doubt_stands : {D : Type 0} (shown : D → Device) (area : OpenArea D) (texts : List ℕ) (coming : Coming) → IsBetween shown area texts coming → StandsLate (stopped_of area) coming (shown area.disk)
+doubt_stands shown area texts coming doubt = subst (λ (s : Stopped). StandsLate s coming (shown area.disk)) (sym (ap stopped_in doubt.stage))
+    (late_stands (redo_of area) doubt.stopped (shown area.disk) area.held texts area.packer coming doubt.doubt doubt.change.change)
+
+-- an early stop is no late one
+pub early_late : Early ≡ Late → ⊥
+early_late is = cc
+
 -- an area of which a copying was stopped
 module _ {D : Type 0} (shown : D → Device) (area : OpenArea D) (is : area.stage ≡ Copying) where
   -- no change is in doubt
   pub half_copied : (texts : List ℕ) (coming : Option Coming) → IsDoubtful shown area texts coming → IsHalfCopied shown area texts × (coming ≡ None)
-  half_copied texts None (inl unchanged) = absurd (no_copying unchanged.stopped unchanged.pending (sym is ∙ unchanged.stage))
+  half_copied texts None (inl unchanged) = absurd (no_copying Early unchanged.pending (sym is ∙ unchanged.stage))
   half_copied texts None (inr half) = (half, refl)
   half_copied texts (Some coming) doubt = absurd (no_copying doubt.stopped doubt.pending (sym is ∙ doubt.stage))
+
+  -- whose journal has its gate closed, where a stop is early
+  pub copying_again : (new : Device) (again : Stopped) → again ≡ Early → (texts : List ℕ) (coming : Option Coming) → IsDoubtful shown area texts coming → StopsAgain (stopped_of area) again (shown area.disk) new
+  copying_again new again early texts coming doubt = record {
+    late_stays = λ late. absurd (early_late (sym (ap stopped_in is) ∙ late));
+    late_by = λ was late. absurd (early_late (sym early ∙ late));
+    early_by = λ here files there opened. absurd (((half_copied texts coming doubt).0.copying.rests files there).shut opened.gate);
+  }
+
+  -- no change of it stands firm
+  pub copying_firm : (new : Device) (coming : Coming) → StandsFirm (stopped_of area) coming (shown area.disk) new
+  copying_firm new coming = subst (λ (s : Stopped). StandsFirm s coming (shown area.disk) new) (sym (ap stopped_in is)) tt
+
+  -- nor stands one
+  pub copying_late : (new : Device) (again : Stopped) → again ≡ Early → (coming : Coming) → StandsLate again coming new
+  copying_late new again early coming = subst (λ (s : Stopped). StandsLate s coming new) (sym early) tt
 
   -- once .NDT is empty and synced it is at rest, and keeps no copies
   pub copying_settles : (disk : D) (large : Option RedoView) (packer : Option Shadow) (stage : Stage) → large ≡ None → packer ≡ None → stage ≡ Resting
@@ -111,6 +137,13 @@ module _ {D : Type 0} (shown : D → Device) (area : OpenArea D) (stopped : Stop
     unchanged texts None (inr half) = absurd (no_copying stopped pending (sym half.stage ∙ is))
     unchanged texts (Some coming) doubt = absurd (doubt.change.some (ap (λ (p : Pending). p.change) (same_pending doubt.stopped stopped doubt.pending pending (sym doubt.stage ∙ is)) ∙ none))
 
+    -- and was stopped early
+    pub unchanged_early : (texts : List ℕ) (coming : Option Coming) → IsDoubtful shown area texts coming → stopped_of area ≡ Early
+    unchanged_early texts coming doubt = ap stopped_in (unchanged texts coming doubt).0.stage
+
+    pub unchanged_firm : (coming : Coming) (texts : List ℕ) → IsBetween shown area texts coming → StandsFirm (stopped_of area) coming (shown area.disk) (shown area.disk)
+    unchanged_firm coming texts doubt = absurd (doubt.change.some (ap (λ (p : Pending). p.change) (same_pending doubt.stopped stopped doubt.pending pending (sym doubt.stage ∙ is)) ∙ none))
+
     -- and is at rest as before, and keeps no copies
     pub drops : (large : Option RedoView) (packer : Option Shadow) (stage : Stage) → large ≡ None → packer ≡ None → stage ≡ Resting → (texts : List ℕ) (coming : Option Coming) → IsDoubtful shown area texts coming
         → RestsAt shown (record area { large = large; packer = packer; stage = stage }) texts area.held
@@ -142,7 +175,7 @@ module _ {D : Type 0} (shown : D → Device) (area : OpenArea D) (stopped : Stop
     -- nothing else was to come
     no_none : (texts : List ℕ) → IsUnchanged shown area texts ⊎ IsHalfCopied shown area texts → ⊥
     no_none texts (inl unchanged) =
-        some (ap (λ (p : Pending). p.change) (same_pending stopped unchanged.stopped pending unchanged.pending (sym is ∙ unchanged.stage)) ∙ unchanged.none)
+        some (ap (λ (p : Pending). p.change) (same_pending stopped Early pending unchanged.pending (sym is ∙ unchanged.stage)) ∙ unchanged.none)
     no_none texts (inr half) = no_copying stopped pending (sym half.stage ∙ is)
 
     -- what is in doubt
@@ -232,6 +265,13 @@ module _ {D : Type 0} (shown : D → Device) (area : OpenArea D) (stopped : Stop
         };
         is = refl;
       }
+
+      -- after a late stop the change stands, whenever a crash comes
+      pub firm : (new : Device)
+          → ((from : Loaded) (texts : List ℕ) (copies : Option Shadow) (coming : Coming) → IsStoppedAs stopped redo from texts copies (shown area.disk) → IsChange (shown area.disk).contents redo from texts copies coming → StandsFirm stopped coming (shown area.disk) new)
+          → (texts : List ℕ) (coming : Coming) → IsBetween shown area texts coming → StandsFirm (stopped_of area) coming (shown area.disk) new
+      firm new leaves texts coming doubt = subst (λ (s : Stopped). StandsFirm s coming (shown area.disk) new) (sym (ap stopped_in is))
+          (leaves area.held texts area.packer coming (doubt_in texts coming doubt) (change_in texts coming doubt).change)
 
       -- stopped again
       pub still : (disk : D) (large : Option RedoView) (stage : Stage) (again : Stopped) → stage ≡ Doubtful again pending → redo ≡ redo_in large area.redo → TellsAlike (shown area.disk) (shown disk)

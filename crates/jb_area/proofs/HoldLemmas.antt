@@ -10,7 +10,7 @@ use Rattle.jb_journal.specs.Commit.{AgreeButJournal, IsReady, ReplaysTo, IsBefor
 use Rattle.jb_redo.specs.Changes.{changed}
 use Rattle.jb_journal.specs.Doubt.{IsSettledAt}
 use Rattle.jb_disk.specs.FileLaws.{with_file-here, with_file-other, length-overwritten}
-use Rattle.jb_model.specs.declared.loaded.Loaded.{Loaded}
+use Rattle.jb_state.specs.declared.loaded.Loaded.{Loaded}
 use Rattle.jb_pack.specs.Shadow.{Shadow}
 use Rattle.jb_redo.specs.Record.{record_bytes}
 use Rattle.jb_decide.specs.Coming.{BringsComing, Coming}

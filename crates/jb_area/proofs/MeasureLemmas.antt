@@ -6,14 +6,14 @@ use Rattle.std.proofs.lemmas.List.{drop_all}
 use Rattle.std.proofs.lemmas.List.Elements.{All-get_or}
 use Rattle.std.proofs.lemmas.List.Sums.{sum_by-cons, sum_by-take-drop, sum_by-take-le}
 use Rattle.jb_limits.specs.declared.limits.TheConstants.{MOST_TEXT_BYTES, SHADOW_CEILING, TEXTS_CEILING}
-use Rattle.jb_model.specs.Sound.{IsSlotWithin, IsSound}
-use Rattle.jb_model.specs.declared.loaded.Loaded.{Loaded}
-use Rattle.jb_model.specs.declared.loaded.LoadedSlot.{LoadedSlot}
-use Rattle.jb_model.specs.declared.loaded.LoadedSlot.TheVariants.{Empty, Killed, Live}
+use Rattle.jb_state.specs.Sound.{IsSlotWithin, IsSound}
+use Rattle.jb_state.specs.declared.loaded.Loaded.{Loaded}
+use Rattle.jb_state.specs.declared.loaded.LoadedSlot.{LoadedSlot}
+use Rattle.jb_state.specs.declared.loaded.LoadedSlot.TheVariants.{Empty, Killed, Live}
 use Rattle.jb_pack.proofs.PackerLemmas.{left_then}
 use Rattle.jb_pack.proofs.ShadowLemmas.{left-all, left-le, left-more, length-lefts}
 use Rattle.jb_pack.specs.Advance.{Copies, CopiesAnew, CopiesWithin}
-use Rattle.jb_model.specs.Packed.{slot_text_size, texts_size}
+use Rattle.jb_state.specs.Packed.{slot_text_size, texts_size}
 use Rattle.jb_pack.specs.Shadow.{Shadow, left, left_of, lefts, not_copied, nothing_copied}
 use Rattle.jb_pack.specs.declared.copied.CopiedText.{CopiedText}
 use Rattle.jb_area.specs.Copying.{HasCopiedSome, begun_of}

@@ -1,9 +1,9 @@
 -- What is kept of the copies of texts, by what is pending; and the record of a pack.
 use Rattle.std.proofs.Common.{◌≡◌, ◌+◌, ◌*◌, ◌≤◌, length, Option, None, Result, Ok, Err, OnErr, OnOk, refl}
 use Rattle.jb_disk.specs.RedoView.{RedoView}
-use Rattle.jb_model.specs.declared.change.Change.{Change}
-use Rattle.jb_model.specs.declared.change.Change.TheVariants.{Nothing, Posted, Headed, Killed, Relinked, Marked, Packed}
-use Rattle.jb_model.specs.declared.loaded.Loaded.{Loaded}
+use Rattle.jb_state.specs.declared.change.Change.{Change}
+use Rattle.jb_state.specs.declared.change.Change.TheVariants.{Nothing, Posted, Headed, Killed, Relinked, Marked, Packed}
+use Rattle.jb_state.specs.declared.loaded.Loaded.{Loaded}
 use Rattle.jb_pack.specs.Shadow.{Shadow}
 use Rattle.jb_redo.specs.Record.{record_bytes}
 use Rattle.jb_decide.specs.Decided.{HasShortRecord, IsPacking}

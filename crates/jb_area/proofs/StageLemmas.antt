@@ -4,8 +4,8 @@ use Rattle.jb_disk.specs.Device.{Device, TellsAlike}
 use Rattle.jb_disk.specs.RedoView.{RedoView}
 use Rattle.jb_disk.proofs.RunLemmas.{stays_silent}
 use Rattle.jb_limits.specs.declared.limits.TheConstants.{MOST_SLOTS}
-use Rattle.jb_model.specs.Sound.{IsSound}
-use Rattle.jb_model.specs.declared.loaded.Loaded.{Loaded}
+use Rattle.jb_state.specs.Sound.{IsSound}
+use Rattle.jb_state.specs.declared.loaded.Loaded.{Loaded}
 use Rattle.jb_model.specs.declared.reply.Reply.{Reply}
 use Rattle.jb_journal.specs.declared.stopped.Stopped.{Stopped}
 use Rattle.jb_pack.specs.Shadow.{Shadow}
@@ -19,14 +19,14 @@ use Rattle.jb_decide.specs.Decided.{IsNoChange, IsPacking, IsPending, made}
 use Rattle.jb_decide.specs.Holds.{HasAll}
 use Rattle.jb_decide.specs.Packs.{IsPacked}
 use Rattle.jb_area.specs.Area.{copied_after, done_in, kept_in, redo_in, redo_of, HasMade, HasNoChange, IsBegun, IsBetween, RestsAt}
-use Rattle.jb_area.specs.Calls.{coming_of}
+use Rattle.jb_decide.specs.Coming.{coming_of}
 use Rattle.jb_area.specs.Commits.{HasRecordOf, IsSettledAs, IsSettledWith, IsStoppedAs, MayCommit}
 use Rattle.jb_area.specs.Holds.{HasShortJournal}
 use Rattle.jb_held.specs.Pending.{HasReplies, MayApply}
 use Rattle.jb_held.specs.declared.pending.Pending.{Pending}
-use Rattle.jb_model.specs.Change.{Fits, after}
-use Rattle.jb_model.specs.declared.change.Change.{Change}
-use Rattle.jb_model.specs.declared.change.Change.TheVariants.{Nothing, Posted, Headed, Killed, Relinked, Marked, Packed}
+use Rattle.jb_state.specs.Change.{Fits, after}
+use Rattle.jb_state.specs.declared.change.Change.{Change}
+use Rattle.jb_state.specs.declared.change.Change.TheVariants.{Nothing, Posted, Headed, Killed, Relinked, Marked, Packed}
 use Rattle.jb_area.specs.declared.area.OpenArea.{OpenArea}
 use Rattle.jb_area.proofs.CommitLemmas.{some-same, told_before}
 use Rattle.jb_area.proofs.CopyingLemmas.{after_has}

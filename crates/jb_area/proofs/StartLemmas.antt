@@ -1,5 +1,5 @@
 -- What the beginning of a call leaves.
-use Rattle.std.proofs.Common.{◌≡◌, ◌⊎◌, inl, ℕ, ◌≤◌, List, Option, None, Some, Result, Ok, Err, IfOk, IfErr, OnOk, IsOk, ap, sym, refl, ◌∙◌, subst, arith}
+use Rattle.std.proofs.Common.{◌≡◌, ◌⊎◌, inl, ℕ, List, Option, None, Some, Result, Ok, Err, IfOk, IfErr, OnOk, IsOk, ap, sym, refl, ◌∙◌, subst}
 use Rattle.std.specs.Option.{ForSome}
 use Rattle.std.specs.Prelude.{replicate}
 use Rattle.std.proofs.lemmas.List.{length-replicate}
@@ -13,23 +13,23 @@ use Rattle.jb_change.specs.Ready.{HasRoomInAll}
 use Rattle.jb_decide.proofs.CopiesLemmas.{with_copies}
 use Rattle.jb_decide.specs.Coming.{Coming}
 use Rattle.jb_decide.specs.Decided.{IsDecided, IsNoChange, IsPending, IsTold}
-use Rattle.jb_decide.specs.Errors.{AreaFaultRose}
+use Rattle.jb_decide.specs.Errors.{is_area_fault}
 use Rattle.jb_decide.specs.Holds.{AreTexts, Holds}
 use Rattle.jb_decide.specs.StepOf.{IsNoPack, posted_text}
 use Rattle.jb_decide.specs.declared.decided.Decided.{Decided}
 use Rattle.jb_decide.specs.declared.error.AreaError.{AreaError}
 use Rattle.jb_decide.specs.declared.error.AreaError.TheVariants.{StoreFault, OutOfMemory}
 use Rattle.jb_disk.specs.RedoView.{RedoView}
-use Rattle.jb_disk.specs.Device.{Device, OnlyReads}
+use Rattle.jb_disk.specs.Device.{CountsFaults, Device, OnlyReads, RoseIf}
 use Rattle.jb_disk.specs.Files.{Files}
 use Rattle.jb_disk.specs.Runs.{LeavesNow}
 use Rattle.jb_disk.specs.declared.file.FileId.TheVariants.{Jdt}
 use Rattle.jb_journal.specs.declared.stopped.Stopped.TheVariants.{Early}
 use Rattle.jb_held.specs.declared.pending.Pending.{Pending}
-use Rattle.jb_model.specs.declared.change.Change.{Change}
-use Rattle.jb_model.specs.declared.change.Change.TheVariants.{Nothing}
+use Rattle.jb_state.specs.declared.change.Change.{Change}
+use Rattle.jb_state.specs.declared.change.Change.TheVariants.{Nothing}
 use Rattle.jb_model.specs.declared.command.Command.{Command}
-use Rattle.jb_model.specs.declared.loaded.Loaded.{Loaded}
+use Rattle.jb_state.specs.declared.loaded.Loaded.{Loaded}
 use Rattle.jb_area.specs.Area.{copies_after, kept_in, redo_in, HasNoChange, IsDoubtful, IsKept, IsResting, RestsAt}
 use Rattle.jb_area.specs.Calls.{AnswersAs, BeginsCall, BeginsReading, FailsWith, HasRest, HasStoppedIn, IsBegunFor, IsNotBegun, OnlyReadsOrCopies, StartsAs, large_after}
 use Rattle.jb_area.specs.Commits.{IsSettledAs}
@@ -72,19 +72,10 @@ settled_read loaded texts old new same settled = record {
   synced = λ files there. subst (LeavesNow (λ left. left ≡ files)) (sym same.moments) (settled.synced files (sym same.contents ∙ there));
 }
 
--- and its count of faults is as it was
-pub same_faults : (device : Device) → device.faults ≤ device.faults
-same_faults device = omega arith
-
 -- what is so is so where all was done
 pub ok_always : {T E : Type 0} (result : Result T E) (P : Type 0) → P → OnOk result P
 ok_always (Ok value) P is = is
 ok_always (Err error) P is = tt
-
--- a count that stays is as it was
-pub ok_same : {T E : Type 0} (result : Result T E) (count : ℕ) → OnOk result (count ≡ count)
-ok_same (Ok value) count = refl
-ok_same (Err error) count = tt
 
 module _ {T E : Type 0} (result : Result T E) where
   -- what is done is not refused
@@ -116,14 +107,12 @@ module _ {D : Type 0} (shown : D → Device) where
   begins_call old new user moment command result begins = record {
     begun = begins.begun;
     failed = begins.failed;
-    cause = begins.cause;
-    quiet = begins.quiet;
+    faults = begins.faults;
     reads = by_reads command (shown old.disk) (shown new.disk) begins.reads;
     idle = ok_always result (HasNoChange new → OnlyReads (shown old.disk) (shown new.disk)) (λ none. begins.reads);
     crash = λ texts resting. crash_by old.held texts (shown old.disk) (shown new.disk) (touches-read (shown old.disk) (shown new.disk) begins.reads)
         (settled_copying old.held texts (shown old.disk) resting.kept.settled);
     alike = reads_alike (shown old.disk) (shown new.disk) begins.reads;
-    later = begins.later;
     loaded = begins.loaded;
     rules = begins.rules;
     copies = λ in_place. begins.copies;
@@ -208,40 +197,35 @@ module _ {D : Type 0} (shown : D → Device) where
     starts_not (Err StoreFault) (Err StoreFault) stage is_large answer = λ texts resting.
         let pending : Pending = record { change = Nothing; replies = None } in
         rebuilt (λ (a : OpenArea D). IsDoubtful shown a texts None) new disk area.rules area.held redo area.large area.packer (Doubtful Early pending) is_disk is_rules is_held is_redo is_large is_packer stage
-        (inl (record { stopped = Early; pending = pending; stage = refl; none = refl; kept = kept_read area.large (Doubtful Early pending) texts resting.kept }))
+        (inl (record { pending = pending; stage = refl; none = refl; kept = kept_read area.large (Doubtful Early pending) texts resting.kept }))
     starts_not (Err OutOfMemory) (Err OutOfMemory) stage is_large answer = λ texts resting.
         rebuilt (λ (a : OpenArea D). RestsAt shown a texts area.held) new disk area.rules area.held redo area.large area.packer Resting is_disk is_rules is_held is_redo is_large is_packer (stage ∙ resting.stage)
         (record { rests = record { stage = refl; small = resting.small; kept = kept_read area.large Resting texts resting.kept }; is = refl })
     starts_not (Err StoreFault) (Err OutOfMemory) stage is_large answer = absurd (two_causes (sym (same_error (Err OutOfMemory) OutOfMemory StoreFault refl answer)))
     starts_not (Err OutOfMemory) (Err StoreFault) stage is_large answer = absurd (two_causes (same_error (Err StoreFault) StoreFault OutOfMemory refl answer))
 
-    -- what is not begun has the cause of what is not decided
-    same_cause : (decided : Result Decided AreaError) (result : Result (Unit {0}) AreaError) → AnswersAs decided result
-        → IfErr decided (AreaFaultRose (shown area.disk).faults (shown disk).faults) → IfErr result (AreaFaultRose (shown area.disk).faults (shown disk).faults)
-    same_cause decided (Ok done) answer cause = tt
-    same_cause (Ok decided) (Err error) answer cause = let refused : Result (Unit {0}) AreaError = Err error in absurd (err_not_ok refused error refl answer)
-    same_cause (Err one) (Err other) answer cause =
-        subst (AreaFaultRose (shown area.disk).faults (shown disk).faults) (sym (same_error (Err other) other one refl answer)) cause
-
-    -- what is begun raised no count, as what was decided
-    same_quiet : (decided : Result Decided AreaError) (result : Result (Unit {0}) AreaError) → AnswersAs decided result → OnOk decided ((shown disk).faults ≡ (shown area.disk).faults)
-        → OnOk result ((shown disk).faults ≡ (shown area.disk).faults)
-    same_quiet decided (Err error) answer quiet = tt
-    same_quiet (Ok decided) (Ok done) answer quiet = quiet
-    same_quiet (Err error) (Ok done) answer quiet = absurd (ok_not_err (Ok done) done error refl answer)
+    -- what is begun, or not, counts the faults of what was decided, or not
+    same_counts : (decided : Result Decided AreaError) (result : Result (Unit {0}) AreaError) → AnswersAs decided result → CountsFaults is_area_fault (shown area.disk) (shown disk) decided
+        → CountsFaults is_area_fault (shown area.disk) (shown disk) result
+    same_counts (Ok decided) (Ok done) answer counts = record { quiet = counts.quiet; later = counts.later; cause = tt }
+    same_counts (Ok decided) (Err error) answer counts = let refused : Result (Unit {0}) AreaError = Err error in absurd (err_not_ok refused error refl answer)
+    same_counts (Err error) (Ok done) answer counts = absurd (ok_not_err (Ok done) done error refl answer)
+    same_counts (Err one) (Err other) answer counts = record {
+      quiet = tt;
+      later = counts.later;
+      cause = subst (λ (e : AreaError). RoseIf (is_area_fault e) (shown area.disk).faults (shown disk).faults) (sym (same_error (Err other) other one refl answer)) counts.cause;
+    }
 
     -- a call is begun, or not
     pub begins_with : (decided : Result Decided AreaError) (result : Result (Unit {0}) AreaError) (user : User) (moment : ℕ) (command : Command) → StartsAs decided area.stage new.stage → new.large ≡ large_after decided given area.large → AnswersAs decided result
         → IfOk decided (λ one. (texts : List ℕ) → AreTexts area.held texts (shown area.disk).contents → IsDecided area.rules area.held texts (shown area.disk).contents area.packer (redo_in given redo) user moment command one)
-        → IfErr decided (AreaFaultRose (shown area.disk).faults (shown disk).faults) → OnOk decided ((shown disk).faults ≡ (shown area.disk).faults) → (shown area.disk).faults ≤ (shown disk).faults → HasRest shown area
+        → CountsFaults is_area_fault (shown area.disk) (shown disk) decided → HasRest shown area
         → BeginsReading shown area new user moment command result
-    begins_with decided result user moment command stage is_large answer is cause quiet later has = record {
+    begins_with decided result user moment command stage is_large answer is counts has = record {
       begun = starts decided result user moment command stage is_large answer is;
       failed = starts_not decided result stage is_large answer;
-      cause = subst (λ (d : D). IfErr result (AreaFaultRose (shown area.disk).faults (shown d).faults)) (sym is_disk) (same_cause decided result answer cause);
-      quiet = subst (λ (d : D). OnOk result ((shown d).faults ≡ (shown area.disk).faults)) (sym is_disk) (same_quiet decided result answer quiet);
+      faults = subst (λ (d : D). CountsFaults is_area_fault (shown area.disk) (shown d) result) (sym is_disk) (same_counts decided result answer counts);
       reads = subst (λ (d : D). OnlyReads (shown area.disk) (shown d)) (sym is_disk) reads;
-      later = subst (λ (d : D). (shown area.disk).faults ≤ (shown d).faults) (sym is_disk) later;
       loaded = is_held;
       rules = is_rules;
       copies = is_packer;
@@ -251,11 +235,11 @@ module _ {D : Type 0} (shown : D → Device) where
     -- the same, of what is decided over any copies
     pub begins : (decided : Result Decided AreaError) (result : Result (Unit {0}) AreaError) (user : User) (moment : ℕ) (command : Command) → StartsAs decided area.stage new.stage → new.large ≡ large_after decided given area.large → AnswersAs decided result
         → IfOk decided (λ one. (texts : List ℕ) → AreTexts area.held texts (shown area.disk).contents → IsDecided area.rules area.held texts (shown area.disk).contents None (redo_in given redo) user moment command one)
-        → IfErr decided (AreaFaultRose (shown area.disk).faults (shown disk).faults) → OnOk decided ((shown disk).faults ≡ (shown area.disk).faults) → (shown area.disk).faults ≤ (shown disk).faults → HasRest shown area
+        → CountsFaults is_area_fault (shown area.disk) (shown disk) decided → HasRest shown area
         → BeginsCall shown area new user moment command result
-    begins decided result user moment command stage is_large answer is cause quiet later has =
+    begins decided result user moment command stage is_large answer is counts has =
         begins_call area new user moment command result (begins_with decided result user moment command stage is_large answer
-        (if_ok_then decided _ _ is (λ one is texts are. with_copies area.rules area.held texts (shown area.disk).contents area.packer (redo_in given redo) user moment command one (is texts are))) cause quiet later has)
+        (if_ok_then decided _ _ is (λ one is texts are. with_copies area.rules area.held texts (shown area.disk).contents area.packer (redo_in given redo) user moment command one (is texts are))) counts has)
 
   -- a call that changed nothing was stopped
   pub stopped_unchanged : (old new : OpenArea D) (texts : List ℕ) (user : User) (moment : ℕ) (command : Command) → TouchesShadow (shown old.disk) (shown new.disk) → new.held ≡ old.held → IsResting shown old texts

@@ -1,23 +1,22 @@
 -- A step of a pack, and a pack behind one.
-use Rattle.std.proofs.Common.{◌≡◌, ◌≢◌, inr, ℕ, ◌≤◌, Bool, false, nat_lt, ltb-false, List, Option, None, Some, Result, Ok, Err, IfErr, IfOk, OnOk, ap, refl, sym, ◌∙◌, subst, arith}
+use Rattle.std.proofs.Common.{◌≡◌, ◌≢◌, inr, ℕ, Bool, false, nat_lt, ltb-false, List, Option, None, Some, Result, Ok, Err, IfErr, IfOk, OnOk, ap, refl, sym, ◌∙◌, subst, arith}
 use Rattle.std.specs.Option.{ForSome}
-use Rattle.jb_bytes.specs.Fault.{Rose}
 use Rattle.jb_limits.specs.declared.limits.TheConstants.{MOST_TEXT_BYTES}
 use Rattle.jb_base.specs.declared.area.AreaRules.{AreaRules}
 use Rattle.jb_base.specs.declared.user.User.{User}
-use Rattle.jb_decide.specs.Errors.{AreaFaultRose}
+use Rattle.jb_decide.specs.Errors.{is_area_fault}
 use Rattle.jb_decide.specs.Holds.{HasAll}
 use Rattle.jb_decide.specs.Packs.{MayPack}
 use Rattle.jb_decide.specs.declared.decided.Decided.{Decided}
 use Rattle.jb_decide.specs.declared.error.AreaError.{AreaError}
 use Rattle.jb_decide.specs.declared.error.AreaError.TheVariants.{StoreFault, OutOfMemory}
-use Rattle.jb_disk.specs.Device.{Device}
+use Rattle.jb_disk.specs.Device.{CountsFaults, Device}
 use Rattle.jb_disk.specs.Runs.{IsAllSynced}
 use Rattle.jb_disk.proofs.RunLemmas.{reads_alike}
 use Rattle.jb_held.specs.declared.pending.Pending.{Pending}
-use Rattle.jb_model.specs.declared.change.Change.TheVariants.{Nothing}
+use Rattle.jb_state.specs.declared.change.Change.TheVariants.{Nothing}
 use Rattle.jb_model.specs.declared.command.Command.TheVariants.{Pack}
-use Rattle.jb_model.specs.declared.loaded.Loaded.{Loaded}
+use Rattle.jb_state.specs.declared.loaded.Loaded.{Loaded}
 use Rattle.jb_pack.proofs.TouchLemmas.{touches-none, touches-read, touches-then}
 use Rattle.jb_pack.specs.Shadow.{Shadow, left}
 use Rattle.jb_pack.specs.Touching.{TouchesShadow}
@@ -29,10 +28,11 @@ use Rattle.jb_area.specs.Commits.{IsCopyingAs}
 use Rattle.jb_area.specs.Copying.{AreAllCopied, HasCopiedSome, UnlessFault}
 use Rattle.jb_area.specs.Holds.{Opens}
 use Rattle.jb_area.specs.declared.area.OpenArea.{OpenArea}
+use Rattle.jb_area.specs.declared.stage.Stage.{Stage}
 use Rattle.jb_area.specs.declared.stage.Stage.TheVariants.{Copying}
 use Rattle.jb_area.proofs.CopyingLemmas.{alike_by, copying_by, copying_opens, crash_by, settled_by, settled_copying}
 use Rattle.jb_area.proofs.StageLemmas.{same_pending}
-use Rattle.jb_area.proofs.Outcomes.{err_gives, ok_gives, on_ok_then}
+use Rattle.jb_area.proofs.Outcomes.{counts_behind, counts_none, err_gives, ok_gives, on_ok_then}
 
 -- what is so unless there was a fault is so where there was none
 pub unless_ok : {T : Type 0} (result : Result T PackError) (value : T) (P : Type 0) → result ≡ Ok value → UnlessFault result P → P
@@ -90,61 +90,37 @@ module _ {D : Type 0} (shown : D → Device) where
       copying = still_copying texts resting;
     })
 
-    -- a step that was done
-    pub steps_done : (more : Bool) → (IsAllSynced (shown old.disk) → IsAllSynced (shown disk)) → ForSome (shown disk).contents (HasAll packer)
-        → (shown disk).faults ≡ (shown old.disk).faults → (shown old.disk).faults ≤ (shown disk).faults
-        → StepsPack shown old (record old { disk = disk; packer = packer }) (Ok more)
-    steps_done more synced has quiet later = record {
-      done = copied_rests synced has;
-      failed = tt;
+    -- a step
+    steps : (stage : Stage) (result : Result Bool AreaError) → let new = record old { disk = disk; packer = packer; stage = stage } in
+        OnOk result ((texts : List ℕ) → IsResting shown old texts → RestsAt shown new texts old.held)
+        → IfErr result (λ error. (texts : List ℕ) → IsResting shown old texts → IsNotBegun shown error old new texts)
+        → CountsFaults is_area_fault (shown old.disk) (shown disk) result → StepsPack shown old new result
+    steps stage result done failed faults = record {
+      done = done;
+      failed = failed;
       opens = λ texts resting. copying_opens old.held texts (shown disk) (still_copying texts resting);
       crash = λ texts resting. crash_by old.held texts (shown old.disk) (shown disk) touches (settled_copying old.held texts (shown old.disk) resting.kept.settled);
       touches = touches;
-      cause = tt;
-      quiet = quiet;
-      later = later;
+      faults = faults;
       alike = alike_by (shown old.disk) (shown disk) touches;
       loaded = refl;
       rules = refl;
       room = refl;
     }
+
+    -- one that was done
+    pub steps_done : (more : Bool) → (IsAllSynced (shown old.disk) → IsAllSynced (shown disk)) → ForSome (shown disk).contents (HasAll packer)
+        → CountsFaults is_area_fault (shown old.disk) (shown disk) (Ok more) → StepsPack shown old (record old { disk = disk; packer = packer }) (Ok more)
+    steps_done more synced has = steps old.stage (Ok more) (copied_rests synced has) tt
 
     -- one that wanted memory
     pub steps_wanting : (IsAllSynced (shown old.disk) → IsAllSynced (shown disk)) → ForSome (shown disk).contents (HasAll packer)
-        → (shown disk).faults ≡ (shown old.disk).faults → (shown old.disk).faults ≤ (shown disk).faults
-        → StepsPack shown old (record old { disk = disk; packer = packer }) (Err OutOfMemory)
-    steps_wanting synced has cause later = record {
-      done = tt;
-      failed = copied_rests synced has;
-      opens = λ texts resting. copying_opens old.held texts (shown disk) (still_copying texts resting);
-      crash = λ texts resting. crash_by old.held texts (shown old.disk) (shown disk) touches (settled_copying old.held texts (shown old.disk) resting.kept.settled);
-      touches = touches;
-      cause = cause;
-      quiet = tt;
-      later = later;
-      alike = alike_by (shown old.disk) (shown disk) touches;
-      loaded = refl;
-      rules = refl;
-      room = refl;
-    }
+        → CountsFaults {T = Bool} is_area_fault (shown old.disk) (shown disk) (Err OutOfMemory) → StepsPack shown old (record old { disk = disk; packer = packer }) (Err OutOfMemory)
+    steps_wanting synced has = steps old.stage (Err OutOfMemory) tt (copied_rests synced has)
 
     -- one that was stopped by a fault
-    pub steps_stopped : Rose (shown old.disk).faults (shown disk).faults → (shown old.disk).faults ≤ (shown disk).faults
-        → StepsPack shown old (record old { disk = disk; packer = packer; stage = Copying }) (Err StoreFault)
-    steps_stopped cause later = record {
-      done = tt;
-      failed = copied_half;
-      opens = λ texts resting. copying_opens old.held texts (shown disk) (still_copying texts resting);
-      crash = λ texts resting. crash_by old.held texts (shown old.disk) (shown disk) touches (settled_copying old.held texts (shown old.disk) resting.kept.settled);
-      touches = touches;
-      cause = cause;
-      quiet = tt;
-      later = later;
-      alike = alike_by (shown old.disk) (shown disk) touches;
-      loaded = refl;
-      rules = refl;
-      room = refl;
-    }
+    pub steps_stopped : CountsFaults {T = Bool} is_area_fault (shown old.disk) (shown disk) (Err StoreFault) → StepsPack shown old (record old { disk = disk; packer = packer; stage = Copying }) (Err StoreFault)
+    steps_stopped = steps Copying (Err StoreFault) tt copied_half
 
   -- a step in which nothing was done
   pub steps_none : (area : OpenArea D) (more : Bool) → StepsPack shown area area (Ok more)
@@ -154,9 +130,7 @@ module _ {D : Type 0} (shown : D → Device) where
     opens = λ texts resting. copying_opens area.held texts (shown area.disk) (settled_copying area.held texts (shown area.disk) resting.kept.settled);
     crash = λ texts resting. crash_by area.held texts (shown area.disk) (shown area.disk) (touches-none (shown area.disk)) (settled_copying area.held texts (shown area.disk) resting.kept.settled);
     touches = touches-none (shown area.disk);
-    cause = tt;
-    quiet = refl;
-    later = omega arith;
+    faults = counts_none is_area_fault (shown area.disk) (Ok more) tt;
     alike = refl;
     loaded = refl;
     rules = refl;
@@ -182,8 +156,6 @@ module _ {D : Type 0} (shown : D → Device) where
   -- one step after another
   pub steps_then : (old mid new : OpenArea D) (first second : Result Bool AreaError) (more : Bool) → first ≡ Ok more → StepsPack shown old mid first → StepsPack shown mid new second → StepsPack shown old new second
   steps_then old mid new first second more is one two =
-      let early = one.later in
-      let late = two.later in
       let touches = touches-then (shown old.disk) (shown mid.disk) (shown new.disk) one.touches two.touches in
       record {
         done = on_ok_then second _ _ two.done (λ done texts resting. subst (λ (l : Loaded). RestsAt shown new texts l) one.loaded (done texts (mid_rests texts resting)));
@@ -191,9 +163,7 @@ module _ {D : Type 0} (shown : D → Device) where
         opens = λ texts resting. subst (λ (l : Loaded). ForSome (shown new.disk).contents (Opens l texts)) one.loaded (two.opens texts (mid_rests texts resting));
         crash = λ texts resting. crash_by old.held texts (shown old.disk) (shown new.disk) touches (settled_copying old.held texts (shown old.disk) resting.kept.settled);
         touches = touches;
-        cause = subst (λ (n : ℕ). IfErr second (AreaFaultRose n (shown new.disk).faults)) (ok_gives first more _ is one.quiet) two.cause;
-        quiet = on_ok_then second _ _ two.quiet (λ quiet. quiet ∙ ok_gives first more _ is one.quiet);
-        later = omega (arith, early, late);
+        faults = counts_behind is_area_fault (shown old.disk) (shown mid.disk) (shown new.disk) second (ok_gives first more _ is one.faults.quiet) two.faults;
         alike = two.alike ∙ one.alike;
         loaded = two.loaded ∙ one.loaded;
         rules = two.rules ∙ one.rules;
@@ -213,20 +183,16 @@ module _ {D : Type 0} (shown : D → Device) where
   pub begins_behind : (old mid new : OpenArea D) (user : User) (moment : ℕ) (copied : Result Bool AreaError) (more : Bool) (result : Result (Unit {0}) AreaError) → copied ≡ Ok more
       → StepsPack shown old mid copied → BeginsReading shown mid new user moment Pack result → OnOk result (HasNoChange new → ⊥) → BeginsCall shown old new user moment Pack result
   begins_behind old mid new user moment copied more result is steps begins some =
-      let first = steps.later in
-      let last = begins.later in
       record {
         begun = on_ok_then result _ _ begins.begun (λ begun texts resting. begun texts (ok_gives copied more _ is steps.done texts resting).rests);
         failed = not_begun result begins.failed;
-        cause = subst (λ (n : ℕ). IfErr result (AreaFaultRose n (shown new.disk).faults)) (ok_gives copied more _ is steps.quiet) begins.cause;
-        quiet = on_ok_then result _ _ begins.quiet (λ quiet. quiet ∙ ok_gives copied more _ is steps.quiet);
+        faults = counts_behind is_area_fault (shown old.disk) (shown mid.disk) (shown new.disk) result (ok_gives copied more _ is steps.faults.quiet) begins.faults;
         reads = touches-then (shown old.disk) (shown mid.disk) (shown new.disk) steps.touches (touches-read (shown mid.disk) (shown new.disk) begins.reads);
         idle = on_ok_then result _ _ some (λ change none. absurd (change none));
         crash = λ texts resting. crash_by old.held texts (shown old.disk) (shown new.disk)
             (touches-then (shown old.disk) (shown mid.disk) (shown new.disk) steps.touches (touches-read (shown mid.disk) (shown new.disk) begins.reads))
             (settled_copying old.held texts (shown old.disk) resting.kept.settled);
         alike = reads_alike (shown mid.disk) (shown new.disk) begins.reads ∙ steps.alike;
-        later = omega (arith, first, last);
         loaded = begins.loaded ∙ steps.loaded;
         rules = begins.rules ∙ steps.rules;
         copies = λ in_place. absurd in_place;
@@ -246,13 +212,11 @@ module _ {D : Type 0} (shown : D → Device) where
   begins_not old new user moment copied error is steps = record {
     begun = tt;
     failed = err_gives copied error _ is steps.failed;
-    cause = err_gives copied error _ is steps.cause;
-    quiet = tt;
+    faults = record { quiet = tt; later = steps.faults.later; cause = err_gives copied error _ is steps.faults.cause };
     reads = steps.touches;
     idle = tt;
     crash = steps.crash;
     alike = steps.alike;
-    later = steps.later;
     loaded = steps.loaded;
     rules = steps.rules;
     copies = λ in_place. absurd in_place;

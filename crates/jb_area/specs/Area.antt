@@ -15,10 +15,11 @@ use Rattle.jb_held.specs.Pending.{HasReplies}
 use Rattle.jb_held.specs.declared.pending.Pending.{Pending}
 use Rattle.jb_journal.specs.Commit.{AgreeButJournal}
 use Rattle.jb_journal.specs.declared.stopped.Stopped.{Stopped}
-use Rattle.jb_model.specs.Sound.{IsSound}
-use Rattle.jb_model.specs.declared.change.Change.{Change}
-use Rattle.jb_model.specs.declared.change.Change.TheVariants.{Nothing, Packed}
-use Rattle.jb_model.specs.declared.loaded.Loaded.{Loaded}
+use Rattle.jb_journal.specs.declared.stopped.Stopped.TheVariants.{Early}
+use Rattle.jb_state.specs.Sound.{IsSound}
+use Rattle.jb_state.specs.declared.change.Change.{Change}
+use Rattle.jb_state.specs.declared.change.Change.TheVariants.{Nothing, Packed}
+use Rattle.jb_state.specs.declared.loaded.Loaded.{Loaded}
 use Rattle.jb_model.specs.declared.reply.Reply.{Reply}
 use Rattle.jb_pack.specs.Shadow.{Shadow}
 use Rattle.jb_area.specs.Commits.{IsCopyingAs, IsSettledAs, IsStoppedAs}
@@ -51,6 +52,13 @@ kept_in (Begun reply pending) copies = copied_after pending.change copies
 kept_in (Doubtful stopped pending) copies = copies
 kept_in Copying copies = copies
 
+-- where the call was stopped that is in doubt; a copying of texts is stopped early
+abbrev pub stopped_in : Stage → Stopped
+stopped_in Resting = Early
+stopped_in (Begun reply pending) = Early
+stopped_in (Doubtful stopped pending) = stopped
+stopped_in Copying = Early
+
 module _ {D : Type 0} where
   -- the area as it is loaded; while a call is begun or in doubt, as it was before that call
   abbrev pub loaded_of : OpenArea D → Loaded
@@ -67,6 +75,10 @@ module _ {D : Type 0} where
   -- the redo of the call that is begun or in doubt
   abbrev pub redo_of : OpenArea D → RedoView
   redo_of area = redo_in area.large area.redo
+
+  -- where the call was stopped that is in doubt
+  abbrev pub stopped_of : OpenArea D → Stopped
+  stopped_of area = stopped_in area.stage
 
   -- what is copied of its texts for a pack, where something is
   abbrev pub copied_of : OpenArea D → Option Shadow
@@ -147,9 +159,8 @@ module _ {D : Type 0} (shown : D → Device) where
 
   -- a call was stopped that had changed nothing
   pub record IsUnchanged (area : OpenArea D) (texts : List ℕ) : Type 0 where
-    pub stopped : Stopped
     pub pending : Pending
-    pub stage : area.stage ≡ Doubtful stopped pending
+    pub stage : area.stage ≡ Doubtful Early pending
     pub none : pending.change ≡ Nothing
     pub kept : IsKept area texts
 

@@ -1,12 +1,11 @@
 -- What the calls of an open area do.
-use Rattle.std.specs.Prelude.{◌≡◌, ℕ, ◌≤◌, Bool, List, Option, Some, None, Result, Ok, Err, IsOk, IfErr, IfOk, OnErr, OnOk}
+use Rattle.std.specs.Prelude.{◌≡◌, ℕ, Bool, true, List, Option, Some, None, Result, Ok, Err, IsOk, IfErr, IfOk, OnErr, OnOk}
 use Rattle.std.specs.Option.{ForSome}
-use Rattle.jb_bytes.specs.Fault.{Rose}
 use Rattle.jb_base.specs.declared.user.User.{User}
 use Rattle.jb_change.specs.Put.{KeepsIndexOnKill}
-use Rattle.jb_decide.specs.Coming.{Coming}
+use Rattle.jb_decide.specs.Coming.{Coming, coming_of}
 use Rattle.jb_decide.specs.Decided.{IsAnsweredSomewhere, IsTold}
-use Rattle.jb_decide.specs.Errors.{AreaFaultRose}
+use Rattle.jb_decide.specs.Errors.{is_area_fault}
 use Rattle.jb_decide.specs.Headers.{KeepsHeaders, PacksHeaders}
 use Rattle.jb_decide.specs.Holds.{HoldsWith}
 use Rattle.jb_decide.specs.Packs.{IsPacked}
@@ -15,19 +14,18 @@ use Rattle.jb_decide.specs.declared.decided.Decided.{Decided}
 use Rattle.jb_decide.specs.declared.error.AreaError.{AreaError}
 use Rattle.jb_decide.specs.declared.error.AreaError.TheVariants.{StoreFault, OutOfMemory}
 use Rattle.jb_disk.specs.RedoView.{RedoView}
-use Rattle.jb_disk.specs.Device.{Device, OnlyReads, TellsAlike}
+use Rattle.jb_disk.specs.Device.{CountsFaults, Device, OnlyReads, TellsAlike}
 use Rattle.jb_disk.specs.Files.{Files}
 use Rattle.jb_disk.specs.Runs.{LeavesOnly}
 use Rattle.jb_disk.specs.declared.file.FileId.TheVariants.{Jdx}
 use Rattle.jb_journal.specs.declared.stopped.Stopped.TheVariants.{Early}
-use Rattle.jb_model.specs.Change.{Fits, after, texts_after}
-use Rattle.jb_model.specs.State.{state_of}
+use Rattle.jb_state.specs.Change.{Fits}
+use Rattle.jb_state.specs.State.{state_of}
 use Rattle.jb_model.specs.Step.{Step}
-use Rattle.jb_model.specs.declared.change.Change.{Change}
-use Rattle.jb_model.specs.declared.change.Change.TheVariants.{Nothing, Killed}
+use Rattle.jb_state.specs.declared.change.Change.{Change}
+use Rattle.jb_state.specs.declared.change.Change.TheVariants.{Nothing, Killed}
 use Rattle.jb_model.specs.declared.command.Command.{Command}
 use Rattle.jb_model.specs.declared.command.Command.TheVariants.{Post, Read, Peek, Kill, SetMark, Pack, Relink}
-use Rattle.jb_model.specs.declared.loaded.Loaded.{Loaded}
 use Rattle.jb_model.specs.declared.reply.Reply.{Reply}
 use Rattle.jb_pack.specs.Touching.{TouchesShadow}
 use Rattle.jb_area.specs.Area.{copies_after, files_after, redo_of, small_redo_of, DoubtOpens, HasMade, HasNoChange, HasPacked, IsBegun, IsDoubtful, IsResting, RestsAt}
@@ -45,10 +43,6 @@ OnlyReadsOrCopies (Kill number) old new = OnlyReads old new
 OnlyReadsOrCopies (SetMark number) old new = OnlyReads old new
 OnlyReadsOrCopies Relink old new = OnlyReads old new
 OnlyReadsOrCopies Pack old new = TouchesShadow old new
-
--- what the change makes of an area as it is loaded, with these texts, of which those that a post has come behind the others
-abbrev pub coming_of : Change → Loaded → List ℕ → List ℕ → Coming
-coming_of change from posted texts = record { to = after change from; texts = texts_after change from posted texts }
 
 -- a kill leaves the file of the index as it was
 abbrev pub KeepsIndexFile : Change → Files → Files → Type 0
@@ -139,9 +133,7 @@ module _ {D : Type 0} (shown : D → Device) where
   pub record MeetsCall (old new : OpenArea D) (user : User) (moment : ℕ) (command : Command) (result : Result Reply AreaError) : Type 0 where
     pub answered : IfOk result (λ reply. (texts : List ℕ) → IsResting shown old texts → HasAnswered old new texts user moment command reply)
     pub failed : IfErr result (λ error. (texts : List ℕ) → IsResting shown old texts → FailsWith error old new texts user moment command)
-    pub cause : IfErr result (AreaFaultRose (shown old.disk).faults (shown new.disk).faults)
-    pub quiet : OnOk result ((shown new.disk).faults ≡ (shown old.disk).faults)
-    pub later : (shown old.disk).faults ≤ (shown new.disk).faults
+    pub faults : CountsFaults is_area_fault (shown old.disk) (shown new.disk) result
     pub alike : TellsAlike (shown old.disk) (shown new.disk)
     pub rules : new.rules ≡ old.rules
     -- whatever is answered, each command but a pack keeps what is copied of the texts, and a pack that was done drops it
@@ -152,10 +144,8 @@ module _ {D : Type 0} (shown : D → Device) where
   pub record BeginsReading (old new : OpenArea D) (user : User) (moment : ℕ) (command : Command) (result : Result (Unit {0}) AreaError) : Type 0 where
     pub begun : OnOk result ((texts : List ℕ) → IsResting shown old texts → IsBegunFor new texts user moment command)
     pub failed : IfErr result (λ error. (texts : List ℕ) → IsResting shown old texts → IsNotBegun error old new texts)
-    pub cause : IfErr result (AreaFaultRose (shown old.disk).faults (shown new.disk).faults)
-    pub quiet : OnOk result ((shown new.disk).faults ≡ (shown old.disk).faults)
+    pub faults : CountsFaults is_area_fault (shown old.disk) (shown new.disk) result
     pub reads : OnlyReads (shown old.disk) (shown new.disk)
-    pub later : (shown old.disk).faults ≤ (shown new.disk).faults
     pub loaded : new.held ≡ old.held
     pub rules : new.rules ≡ old.rules
     pub copies : new.packer ≡ old.packer
@@ -166,8 +156,7 @@ module _ {D : Type 0} (shown : D → Device) where
   pub record BeginsCall (old new : OpenArea D) (user : User) (moment : ℕ) (command : Command) (result : Result (Unit {0}) AreaError) : Type 0 where
     pub begun : OnOk result ((texts : List ℕ) → IsResting shown old texts → IsBegunFor new texts user moment command)
     pub failed : IfErr result (λ error. (texts : List ℕ) → IsResting shown old texts → IsNotBegun error old new texts)
-    pub cause : IfErr result (AreaFaultRose (shown old.disk).faults (shown new.disk).faults)
-    pub quiet : OnOk result ((shown new.disk).faults ≡ (shown old.disk).faults)
+    pub faults : CountsFaults is_area_fault (shown old.disk) (shown new.disk) result
     pub reads : OnlyReadsOrCopies command (shown old.disk) (shown new.disk)
     -- and where the call has no change, it was only read
     pub idle : OnOk result (HasNoChange new → OnlyReads (shown old.disk) (shown new.disk))
@@ -175,7 +164,6 @@ module _ {D : Type 0} (shown : D → Device) where
     pub crash : (texts : List ℕ) → IsResting shown old texts
         → ForSome (shown old.disk).contents (λ files. LeavesOnly (shown old.disk) (shown new.disk) (Opens old.held texts))
     pub alike : TellsAlike (shown old.disk) (shown new.disk)
-    pub later : (shown old.disk).faults ≤ (shown new.disk).faults
     pub loaded : new.held ≡ old.held
     pub rules : new.rules ≡ old.rules
     -- each command but a pack keeps what is copied of the texts, also when it is done
@@ -190,36 +178,32 @@ module _ {D : Type 0} (shown : D → Device) where
     pub crash : (texts : List ℕ) → IsResting shown old texts
         → ForSome (shown old.disk).contents (λ files. LeavesOnly (shown old.disk) (shown new.disk) (Opens old.held texts))
     pub touches : TouchesShadow (shown old.disk) (shown new.disk)
-    pub cause : IfErr result (AreaFaultRose (shown old.disk).faults (shown new.disk).faults)
-    pub quiet : OnOk result ((shown new.disk).faults ≡ (shown old.disk).faults)
-    pub later : (shown old.disk).faults ≤ (shown new.disk).faults
+    pub faults : CountsFaults is_area_fault (shown old.disk) (shown new.disk) result
     pub alike : TellsAlike (shown old.disk) (shown new.disk)
     pub loaded : new.held ≡ old.held
     pub rules : new.rules ≡ old.rules
     pub room : small_redo_of new ≡ small_redo_of old
 
   -- a call that is begun ends: done, with the reply and the area that were to come, or stopped by a fault, and then its change is in doubt
-  pub record EndsCall (old new : OpenArea D) (result : Result Reply AreaError) : Type 0 where
+  pub record EndsCall {E : Type 0} (is_fault : E → Bool) (old new : OpenArea D) (result : Result Reply E) : Type 0 where
     pub done : IfOk result (λ reply. (texts : List ℕ) (decided : Reply) (coming : Coming) → IsBegun shown old texts decided coming
         → (reply ≡ decided) × RestsAt shown new coming.texts coming.to)
     pub made : OnOk result (HasMade shown old new)
     -- a call without a change is done, and the device is as it was
     pub idle : HasNoChange old → IsOk result × (shown new.disk ≡ shown old.disk)
-    pub fault : IfErr result (λ error. error ≡ StoreFault)
+    pub fault : IfErr result (λ error. is_fault error ≡ true)
     pub doubt : OnErr result ((texts : List ℕ) (decided : Reply) (coming : Coming) → IsBegun shown old texts decided coming
         → IsDoubtful shown new texts (Some coming))
     pub opens : OnErr result ((texts : List ℕ) (decided : Reply) (coming : Coming) → IsBegun shown old texts decided coming
         → ForSome (shown new.disk).contents (OpensToEither old.held texts coming))
     pub loaded : OnErr result (new.held ≡ old.held)
-    pub cause : OnErr result (Rose (shown old.disk).faults (shown new.disk).faults)
-    pub quiet : OnOk result ((shown new.disk).faults ≡ (shown old.disk).faults)
-    pub later : (shown old.disk).faults ≤ (shown new.disk).faults
+    pub faults : CountsFaults is_fault (shown old.disk) (shown new.disk) result
     pub alike : TellsAlike (shown old.disk) (shown new.disk)
     pub crash : (texts : List ℕ) (decided : Reply) (coming : Coming) → IsBegun shown old texts decided coming
         → ForSome (shown old.disk).contents (λ files. LeavesOnly (shown old.disk) (shown new.disk) (OpensToEither old.held texts coming))
     pub room : small_redo_of new ≡ small_redo_of old
     pub rules : new.rules ≡ old.rules
-    -- what is copied of the texts stays, but where a pack was done
+    -- what is copied of the texts stays, but where a pack was done; then .JNL is short, however long the texts are
     pub copies : OnOk result (new.packer ≡ copies_after old)
     pub kept : OnErr result (new.packer ≡ old.packer)
     pub packed : IfOk result (λ reply. IsPacked reply → HasPacked shown new)

@@ -6,15 +6,17 @@ use Rattle.jb_decide.specs.Holds.{HasAll}
 use Rattle.jb_disk.specs.RedoView.{RedoView}
 use Rattle.jb_disk.specs.Device.{Device}
 use Rattle.jb_disk.specs.Files.{Files}
-use Rattle.jb_disk.specs.Runs.{IsAllSynced, LeavesNow, Shows}
+use Rattle.jb_disk.specs.Gate.{IsGateOpen}
+use Rattle.jb_disk.specs.Runs.{IsAllSynced, LeavesNow, LeavesOnly, Shows}
 use Rattle.jb_disk.specs.declared.file.FileId.TheVariants.{Jnl}
-use Rattle.jb_journal.specs.Doubt.{IsInDoubt}
+use Rattle.jb_journal.specs.Doubt.{HasTriedToSync, IsInDoubt}
 use Rattle.jb_journal.specs.declared.stopped.Stopped.{Stopped}
-use Rattle.jb_model.specs.declared.loaded.Loaded.{Loaded}
+use Rattle.jb_journal.specs.declared.stopped.Stopped.TheVariants.{Early, Late}
+use Rattle.jb_state.specs.declared.loaded.Loaded.{Loaded}
 use Rattle.jb_pack.specs.Shadow.{Shadow}
 use Rattle.jb_pack.specs.Touching.{AgreeButShadow}
 use Rattle.jb_redo.specs.Record.{record_bytes}
-use Rattle.jb_area.specs.Holds.{IsAtRest}
+use Rattle.jb_area.specs.Holds.{IsAtRest, Opens}
 
 -- the files hold this area and these texts, nothing is on its way, and a crash now leaves them so
 pub record IsSettledAs (loaded : Loaded) (texts : List ℕ) (device : Device) : Type 0 where
@@ -45,6 +47,22 @@ IsStoppedAs stopped redo from texts copies device = ForSome device.contents (λ 
 abbrev pub IsAnsweredAs : Bool → Loaded → List ℕ → Coming → Device → Type 0
 IsAnsweredAs false from texts coming device = IsSettledAs from texts device
 IsAnsweredAs true from texts coming device = IsSettledAs coming.to coming.texts device
+
+-- after a late stop what is read, and what a crash now leaves, opens to the area to come alone
+abbrev pub StandsLate : Stopped → Coming → Device → Type 0
+StandsLate Early coming device = Unit {0}
+StandsLate Late coming device = ForSome device.contents (λ files. Shows (Opens coming.to coming.texts) device)
+
+-- and so does what a crash leaves from one device to the next
+abbrev pub StandsFirm : Stopped → Coming → Device → Device → Type 0
+StandsFirm Early coming old new = Unit {0}
+StandsFirm Late coming old new = ForSome old.contents (λ files. LeavesOnly old new (Opens coming.to coming.texts))
+
+-- a settling of what was stopped is stopped again: late stays late, and early becomes late by an open gate alone; by one it does, but for a stop that comes before the gate is read
+pub record StopsAgain (stopped again : Stopped) (old new : Device) : Type 0 where
+  pub late_stays : stopped ≡ Late → again ≡ Late
+  pub late_by : stopped ≡ Early → again ≡ Late → ForSome old.contents IsGateOpen
+  pub early_by : again ≡ Early → HasTriedToSync old new
 
 -- the change may be committed
 pub record MayCommit (redo : RedoView) (device : Device) : Type 0 where

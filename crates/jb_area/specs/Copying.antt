@@ -1,6 +1,6 @@
 -- Texts of an area that are copied for a pack.
 use Rattle.std.specs.Prelude.{◌≡◌, ℕ, Bool, nat_lt, List, Option, None, Some, Result, Ok, Err}
-use Rattle.jb_model.specs.declared.loaded.LoadedSlot.{LoadedSlot}
+use Rattle.jb_state.specs.declared.loaded.LoadedSlot.{LoadedSlot}
 use Rattle.jb_pack.specs.Advance.{Copies}
 use Rattle.jb_pack.specs.Shadow.{Shadow, left, nothing_copied}
 use Rattle.jb_pack.specs.declared.error.PackError.{PackError}

@@ -4,7 +4,7 @@ use Rattle.jb_decide.specs.Coming.{Coming}
 use Rattle.jb_decide.specs.Holds.{Holds}
 use Rattle.jb_disk.specs.Files.{Files}
 use Rattle.jb_disk.specs.declared.file.FileId.TheVariants.{Jhr, Jdx, Jlr, Jnl}
-use Rattle.jb_model.specs.declared.loaded.Loaded.{Loaded}
+use Rattle.jb_state.specs.declared.loaded.Loaded.{Loaded}
 use Rattle.jb_redo.specs.Replay.{Replays}
 
 -- the files hold this area with these texts, and their journal is ready for the next change: it has its head, with the gate closed

@@ -9,8 +9,9 @@ use jb_disk::{Disk, Redo};
 use jb_held::Held;
 use jb_journal::Stopped;
 use jb_link::Replies;
-use jb_model::{Change, Loaded, Reply};
+use jb_model::Reply;
 use jb_pack::Packer;
+use jb_state::{Change, Loaded};
 use std::mem;
 
 /// An area whose files are open for changes.
@@ -29,19 +30,19 @@ pub struct OpenArea<D: Disk> {
 }
 
 impl<D: Disk> OpenArea<D> {
-    ghost use Rattle.std.specs.Prelude.{◌≡◌, ◌≤◌, List, [], ℕ, Option, None, Some, IfOk, IfErr, IsOk, IsTrue, OnOk, OnErr, false};
+    ghost use Rattle.std.specs.Prelude.{◌≡◌, List, [], ℕ, Option, None, Some, IfOk, IfErr, IsTrue, OnOk, OnErr, false};
     ghost use Rattle.std.specs.Option.{ForSome};
-    ghost use Rattle.jb_bytes.specs.Fault.{Rose};
-    ghost use Rattle.jb_disk.specs.Device.{Device, TellsAlike};
+    ghost use Rattle.jb_disk.specs.Device.{TellsAlike, CountsFaults, is_disk_fault};
     ghost use Rattle.jb_disk.specs.Runs.{LeavesOnly};
     ghost use Rattle.jb_disk.specs.declared.file.FileId.TheVariants.{Ndt as shadow_file};
     ghost use Rattle.jb_link.specs.Index.{IsIndexOf};
-    ghost use Rattle.jb_model.specs.Change.{Fits, after};
+    ghost use Rattle.jb_state.specs.Change.{Fits, after};
     ghost use Rattle.jb_model.specs.declared.reply.Reply.{Reply};
-    ghost use Rattle.jb_area.specs.Holds.{OpensToEither};
+    ghost use Rattle.jb_area.specs.Calls.{EndsCall};
+    ghost use Rattle.jb_area.specs.Commits.{StandsFirm, StandsLate, StopsAgain};
+    ghost use Rattle.jb_journal.specs.declared.stopped.Stopped.TheVariants.{Late};
     ghost use Rattle.jb_decide.specs.Coming.{Coming};
-    ghost use Rattle.jb_decide.specs.Packs.{IsPacked};
-    ghost use Rattle.jb_area.specs.Area.{copied_of, copies_after, device_of, loaded_of, rules_of, small_redo_of, DoubtOpens, HasBegun, HasDoubt, HasMade, HasNoChange, HasPacked, IsBegun, IsDoubtful, IsHalfCopied, IsResting, RestsAt, SettlesAt};
+    ghost use Rattle.jb_area.specs.Area.{copied_of, device_of, loaded_of, rules_of, small_redo_of, DoubtOpens, HasBegun, HasDoubt, IsBegun, IsDoubtful, IsHalfCopied, IsResting, RestsAt, SettlesAt, stopped_of};
 
     /// The area without its texts; while a call is begun or in doubt, as it was before that call.
     pub fn loaded(&self) -> &Loaded
@@ -70,33 +71,14 @@ impl<D: Disk> OpenArea<D> {
     pub fn finish(&mut self) -> Result<Reply, Stopped>
         requires begun { HasBegun D.device self.old }
 
-        // Done: the reply that was decided, and the area that was to come, which the files then hold.
-        ensures done { IfOk result (λ reply. (texts : List ℕ) (decided : Reply) (coming : Coming) → IsBegun D.device self.old texts decided coming
-            → (reply ≡ decided) × RestsAt D.device self.new coming.texts coming.to) }
-        ensures made { OnOk result (HasMade D.device self.old self.new) }
-        ensures idle { HasNoChange self.old → IsOk result × (device_of D.device self.new ≡ device_of D.device self.old) }
+        // Done as it was decided, or stopped by a fault, and then with a change that may stand or not.
+        ensures ends { EndsCall D.device is_disk_fault self.old self.new result }
 
-        // What is copied of the texts stays, but where a pack was done; then .JNL is short, however long the texts are.
-        ensures copies { OnOk result (copied_of self.new ≡ copies_after self.old) }
-        ensures kept { OnErr result (copied_of self.new ≡ copied_of self.old) }
-        ensures packed { IfOk result (λ reply. IsPacked reply → HasPacked D.device self.new) }
-
-        // Stopped: only by a fault, and with a change that may stand or not.
-        ensures doubt { OnErr result ((texts : List ℕ) (decided : Reply) (coming : Coming) → IsBegun D.device self.old texts decided coming
-            → IsDoubtful D.device self.new texts (Some coming)) }
-        ensures opens { OnErr result ((texts : List ℕ) (decided : Reply) (coming : Coming) → IsBegun D.device self.old texts decided coming
-            → ForSome (device_of D.device self.new).contents (OpensToEither (loaded_of self.old) texts coming)) }
-        ensures loaded { OnErr result (loaded_of self.new ≡ loaded_of self.old) }
-        ensures cause { OnErr result (Rose (device_of D.device self.old).faults (device_of D.device self.new).faults) }
-        ensures quiet { OnOk result ((device_of D.device self.new).faults ≡ (device_of D.device self.old).faults) }
-        ensures later { (device_of D.device self.old).faults ≤ (device_of D.device self.new).faults }
-        ensures alike { TellsAlike (device_of D.device self.old) (device_of D.device self.new) }
-
-        // A crash at any moment leaves what opens to the area before the call or after it.
-        ensures crash { (texts : List ℕ) (decided : Reply) (coming : Coming) → IsBegun D.device self.old texts decided coming
-            → ForSome (device_of D.device self.old).contents (λ _. LeavesOnly (device_of D.device self.old) (device_of D.device self.new) (OpensToEither (loaded_of self.old) texts coming)) }
-        ensures rules { rules_of self.new ≡ rules_of self.old }
-        ensures room { small_redo_of self.new ≡ small_redo_of self.old }
+        // It keeps where it was stopped; after a late stop the change stands, whenever a crash comes.
+        ensures place { IfErr result (λ stopped. stopped_of self.new ≡ stopped) }
+        ensures late { IfErr result (λ stopped. (texts : List ℕ) (decided : Reply)
+            (coming : Coming) → IsBegun D.device self.old texts decided coming
+            → StandsLate stopped coming (device_of D.device self.new)) }
     {
         let stage = mem::replace(&mut self.stage, Stage::Resting);
         let Stage::Begun { reply, pending } = stage else {
@@ -125,7 +107,8 @@ impl<D: Disk> OpenArea<D> {
     /// The reply that the call that is begun will have.
     pub fn coming(&self) -> &Reply
         requires begun { HasBegun D.device self.now }
-        ensures { (texts : List ℕ) (decided : Reply) (coming : Coming) → IsBegun D.device self.now texts decided coming → result.now ≡ decided }
+        ensures { (texts : List ℕ) (decided : Reply) (coming : Coming)
+            → IsBegun D.device self.now texts decided coming → result.now ≡ decided }
     {
         let Stage::Begun { reply, pending: _ } = &self.stage else {
             unreachable!()
@@ -136,7 +119,9 @@ impl<D: Disk> OpenArea<D> {
     /// The change of the call that is begun.
     pub fn change(&self) -> &Change
         requires begun { HasBegun D.device self.now }
-        ensures becomes { (texts : List ℕ) (decided : Reply) (coming : Coming) → IsBegun D.device self.now texts decided coming → coming.to ≡ after result.now (loaded_of self.now) }
+        ensures becomes { (texts : List ℕ) (decided : Reply) (coming : Coming)
+            → IsBegun D.device self.now texts decided coming
+            → coming.to ≡ after result.now (loaded_of self.now) }
         ensures fits { Fits (rules_of self.now).slots result.now (loaded_of self.now) }
     {
         let Stage::Begun { reply: _, pending } = &self.stage else {
@@ -148,7 +133,8 @@ impl<D: Disk> OpenArea<D> {
     /// Drops the call that is begun, and the memory of its change. Nothing has changed.
     pub fn abandon(&mut self)
         requires begun { HasBegun D.device self.old }
-        ensures rests { (texts : List ℕ) (decided : Reply) (coming : Coming) → IsBegun D.device self.old texts decided coming
+        ensures rests { (texts : List ℕ) (decided : Reply) (coming : Coming)
+            → IsBegun D.device self.old texts decided coming
             → RestsAt D.device self.new texts (loaded_of self.old) }
         ensures device { device_of D.device self.new ≡ device_of D.device self.old }
         ensures copies { copied_of self.new ≡ copied_of self.old }
@@ -178,26 +164,44 @@ impl<D: Disk> OpenArea<D> {
         requires doubt { HasDoubt D.device self.old }
 
         // Settled as it answers.
-        ensures settled { IfOk result (λ stands. (texts : List ℕ) (coming : Option Coming) → IsDoubtful D.device self.old texts coming
+        ensures settled { IfOk result (λ stands. (texts : List ℕ) (coming : Option Coming)
+            → IsDoubtful D.device self.old texts coming
             → SettlesAt D.device stands (loaded_of self.old) texts coming self.new) }
+        ensures stands { IfOk result (λ stands. stopped_of self.old ≡ Late → IsTrue stands) }
         ensures dropped { OnOk result (copied_of self.new ≡ None) }
         ensures emptied { OnOk result ((texts : List ℕ) → IsHalfCopied D.device self.old texts
             → ForSome (device_of D.device self.new).contents (λ files. files shadow_file ≡ [])) }
 
         // Stopped: only by a fault, and in doubt as before.
-        ensures still { OnErr result ((texts : List ℕ) (coming : Option Coming) → IsDoubtful D.device self.old texts coming
+        ensures still { OnErr result ((texts : List ℕ) (coming : Option Coming)
+            → IsDoubtful D.device self.old texts coming
             → IsDoubtful D.device self.new texts coming) }
-        ensures opens { OnErr result ((texts : List ℕ) (coming : Option Coming) → IsDoubtful D.device self.old texts coming
+        ensures opens { OnErr result ((texts : List ℕ) (coming : Option Coming)
+            → IsDoubtful D.device self.old texts coming
             → ForSome (device_of D.device self.new).contents (DoubtOpens (loaded_of self.old) texts coming)) }
         ensures loaded { OnErr result (loaded_of self.new ≡ loaded_of self.old) }
-        ensures cause { OnErr result (Rose (device_of D.device self.old).faults (device_of D.device self.new).faults) }
-        ensures quiet { OnOk result ((device_of D.device self.new).faults ≡ (device_of D.device self.old).faults) }
-        ensures later { (device_of D.device self.old).faults ≤ (device_of D.device self.new).faults }
+
+        // It keeps where it was stopped again: late behind a late stop, and then the change stands, whenever a crash comes.
+        ensures place { IfErr result (λ again. stopped_of self.new ≡ again) }
+        ensures again { IfErr result (λ again. StopsAgain (stopped_of self.old) again
+            (device_of D.device self.old) (device_of D.device self.new)) }
+        ensures late { IfErr result (λ again. (texts : List ℕ) (coming : Coming)
+            → IsDoubtful D.device self.old texts (Some coming)
+            → StandsLate again coming (device_of D.device self.new)) }
+
+        // The count of faults rises exactly where it is stopped, and the disk tells as before.
+        ensures faults { CountsFaults is_disk_fault (device_of D.device self.old)
+            (device_of D.device self.new) result }
         ensures alike { TellsAlike (device_of D.device self.old) (device_of D.device self.new) }
 
-        // A crash at any moment leaves what the doubt allows.
+        // A crash at any moment leaves what the doubt allows, and after a late stop what opens to the area to come.
         ensures crash { (texts : List ℕ) (coming : Option Coming) → IsDoubtful D.device self.old texts coming
-            → ForSome (device_of D.device self.old).contents (λ _. LeavesOnly (device_of D.device self.old) (device_of D.device self.new) (DoubtOpens (loaded_of self.old) texts coming)) }
+            → ForSome (device_of D.device self.old).contents (λ _.
+            LeavesOnly (device_of D.device self.old) (device_of D.device self.new)
+            (DoubtOpens (loaded_of self.old) texts coming)) }
+        ensures firm { (texts : List ℕ) (coming : Coming) → IsDoubtful D.device self.old texts (Some coming)
+            → StandsFirm (stopped_of self.old) coming (device_of D.device self.old)
+            (device_of D.device self.new) }
         ensures rules { rules_of self.new ≡ rules_of self.old }
         ensures room { small_redo_of self.new ≡ small_redo_of self.old }
     {
@@ -209,7 +213,7 @@ impl<D: Disk> OpenArea<D> {
                     let stands = false;
                     Ok(stands)
                 }
-                Err(stopped) => Err(stopped),
+                Err(again) => Err(again),
             };
         }
         let stage = mem::replace(&mut self.stage, Stage::Resting);
@@ -233,9 +237,15 @@ impl<D: Disk> OpenArea<D> {
                 drop_both(&mut self.large, &mut self.packer);
                 Ok(false)
             }
-            Err(stopped) => {
-                put_stage(&mut self.stage, Stage::Doubtful { stopped, pending });
-                Err(stopped)
+            Err(again) => {
+                put_stage(
+                    &mut self.stage,
+                    Stage::Doubtful {
+                        stopped: again,
+                        pending,
+                    },
+                );
+                Err(again)
             }
         }
     }

@@ -21,9 +21,10 @@ impl<D: Disk> OpenArea<D> {
     ghost use Rattle.jb_limits.specs.declared.limits.TheConstants.{MOST_NAME_BYTES, MOST_TEXT_BYTES, TEXTS_CEILING};
     ghost use Rattle.jb_base.specs.declared.user.User.{User};
     ghost use Rattle.jb_decide.specs.Draft.{draft_of, post_of};
+    ghost use Rattle.jb_decide.specs.Errors.{is_area_fault};
     ghost use Rattle.jb_decide.specs.Packs.{MayPack, is_pack_refused};
     ghost use Rattle.jb_model.specs.declared.command.Command.TheVariants.{Kill, Pack, Peek, Read, Relink, SetMark};
-    ghost use Rattle.jb_model.specs.Packed.{texts_size};
+    ghost use Rattle.jb_state.specs.Packed.{texts_size};
     ghost use Rattle.jb_area.specs.Area.{HasBegun, HasNoChange, IsResting, copied_of, loaded_of, rules_of, small_redo_of};
     ghost use Rattle.jb_area.specs.Calls.{AnswersAs, BeginsCall, BeginsReading, EndsCall, HasRest, MeetsCall, StartsAs, StepsPack, large_after};
     ghost use Rattle.jb_area.specs.Copying.{AreAllCopied, HasCopiedSome};
@@ -46,7 +47,8 @@ impl<D: Disk> OpenArea<D> {
     /// Begins the setting of the user's mark to this number. It makes no device call, and takes no memory.
     pub(crate) fn begin_mark(&mut self, user: &User, number: u32)
         requires rests { HasRest D.device self.old }
-        ensures { (moment : ℕ) → BeginsCall D.device self.old self.new user.now moment (SetMark number) (Ok tt) }
+        ensures { (moment : ℕ) → BeginsCall D.device self.old self.new user.now moment
+            (SetMark number) (Ok tt) }
     {
         let decided = decide_mark(&self.held, &self.rules, &mut self.redo, user, number);
         put_stage(
@@ -62,7 +64,8 @@ impl<D: Disk> OpenArea<D> {
     /// memory, and so fails by a fault alone.
     pub fn kill(&mut self, user: &User, number: u32) -> Result<Reply, AreaError>
         requires rests { HasRest D.device self.old }
-        ensures meets { (moment : ℕ) → MeetsCall D.device self.old self.new user.now moment (Kill number) result }
+        ensures meets { (moment : ℕ) → MeetsCall D.device self.old self.new user.now moment
+            (Kill number) result }
         ensures fault { IfErr result (λ error. error ≡ AreaError.StoreFault) }
     {
         self.begin_kill(user, number);
@@ -72,7 +75,8 @@ impl<D: Disk> OpenArea<D> {
     /// Sets the user's mark to this number; a user who has none gets one. Takes no memory, and so fails by a fault alone.
     pub fn set_mark(&mut self, user: &User, number: u32) -> Result<Reply, AreaError>
         requires rests { HasRest D.device self.old }
-        ensures meets { (moment : ℕ) → MeetsCall D.device self.old self.new user.now moment (SetMark number) result }
+        ensures meets { (moment : ℕ) → MeetsCall D.device self.old self.new user.now moment
+            (SetMark number) result }
         ensures fault { IfErr result (λ error. error ≡ AreaError.StoreFault) }
     {
         self.begin_mark(user, number);
@@ -173,7 +177,8 @@ impl<D: Disk> OpenArea<D> {
     /// Looks at the message with this number, and changes nothing. One device call, and none where the text is empty.
     pub fn peek(&mut self, alloc: Global, user: &User, number: u32) -> Result<Reply, AreaError>
         requires rests { HasRest D.device self.old }
-        ensures meets { (moment : ℕ) → MeetsCall D.device self.old self.new user.now moment (Peek number) result }
+        ensures meets { (moment : ℕ) → MeetsCall D.device self.old self.new user.now moment
+            (Peek number) result }
     {
         match self.begin_peek(alloc, user, number) {
             Ok(()) => self.done(),
@@ -191,7 +196,8 @@ impl<D: Disk> OpenArea<D> {
     ) -> Result<(), AreaError>
         requires rests { HasRest D.device self.old }
         requires name { length user.now.name ≤ MOST_NAME_BYTES }
-        ensures begins { BeginsCall D.device self.old self.new user.now moment (post_of (draft_of draft.entry)) result }
+        ensures begins { BeginsCall D.device self.old self.new user.now moment
+            (post_of (draft_of draft.entry)) result }
         ensures room { small_redo_of self.new ≡ small_redo_of self.old }
     {
         let mut large = Redo::new(alloc);
@@ -221,7 +227,8 @@ impl<D: Disk> OpenArea<D> {
     ) -> Result<Reply, AreaError>
         requires rests { HasRest D.device self.old }
         requires name { length user.now.name ≤ MOST_NAME_BYTES }
-        ensures meets { MeetsCall D.device self.old self.new user.now moment (post_of (draft_of draft.entry)) result }
+        ensures meets { MeetsCall D.device self.old self.new user.now moment
+            (post_of (draft_of draft.entry)) result }
         ensures room { small_redo_of self.new ≡ small_redo_of self.old }
     {
         match self.begin_post(alloc, user, moment, draft) {
@@ -263,7 +270,8 @@ impl<D: Disk> OpenArea<D> {
         requires rests { HasRest D.device self.old }
         requires fits { texts_size (loaded_of self.old).slots ≤ TEXTS_CEILING }
         ensures steps { StepsPack D.device self.old self.new result }
-        ensures copied { IfOk result (HasCopiedSome budget (loaded_of self.old).slots (copied_of self.old) (copied_of self.new)) }
+        ensures copied { IfOk result (HasCopiedSome budget (loaded_of self.old).slots
+            (copied_of self.old) (copied_of self.new)) }
     {
         match copy_some(
             alloc,
@@ -294,12 +302,15 @@ impl<D: Disk> OpenArea<D> {
         ensures steps { StepsPack D.device self.old self.new result }
 
         // Where a pack would be refused nothing is done.
-        ensures refused { (texts : List ℕ) → IsResting D.device self.old texts → is_pack_refused (rules_of self.old) texts (loaded_of self.old) user.now ≡ true
+        ensures refused { (texts : List ℕ) → IsResting D.device self.old texts
+            → is_pack_refused (rules_of self.old) texts (loaded_of self.old) user.now ≡ true
             → (result ≡ Ok false) × (self.new ≡ self.old) }
 
         // Else texts are copied.
-        ensures copied { IfOk result (λ more. (texts : List ℕ) → IsResting D.device self.old texts → is_pack_refused (rules_of self.old) texts (loaded_of self.old) user.now ≡ false
-            → HasCopiedSome budget (loaded_of self.old).slots (copied_of self.old) (copied_of self.new) more) }
+        ensures copied { IfOk result (λ more. (texts : List ℕ) → IsResting D.device self.old texts
+            → is_pack_refused (rules_of self.old) texts (loaded_of self.old) user.now ≡ false
+            → HasCopiedSome budget (loaded_of self.old).slots (copied_of self.old)
+            (copied_of self.new) more) }
     {
         match refuse_pack(&self.held, &self.rules, user) {
             Some(_reply) => Ok(false),
@@ -330,7 +341,8 @@ impl<D: Disk> OpenArea<D> {
         requires all { AreAllCopied (loaded_of self.old).slots (copied_of self.old) }
         ensures begins { (user : User) (moment : ℕ) → MayPack (rules_of self.old) (loaded_of self.old) user
             → BeginsReading D.device self.old self.new user moment Pack result }
-        ensures changes { OnOk result (texts_size (loaded_of self.old).slots ≤ TEXTS_CEILING → HasNoChange self.new → ⊥) }
+        ensures changes { OnOk result (texts_size (loaded_of self.old).slots ≤ TEXTS_CEILING
+            → HasNoChange self.new → ⊥) }
         ensures room { small_redo_of self.new ≡ small_redo_of self.old }
     {
         let mut large = Redo::new(alloc);
@@ -387,7 +399,7 @@ impl<D: Disk> OpenArea<D> {
     /// Finishes the call that is begun.
     pub(crate) fn done(&mut self) -> Result<Reply, AreaError>
         requires begun { HasBegun D.device self.old }
-        ensures { EndsCall D.device self.old self.new result }
+        ensures { EndsCall D.device is_area_fault self.old self.new result }
     {
         match self.finish() {
             Ok(reply) => Ok(reply),

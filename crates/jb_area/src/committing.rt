@@ -1,16 +1,16 @@
 //! A change of an area, committed and settled.
-ghost use Rattle.std.specs.Prelude.{◌≡◌, ◌≤◌, List, ℕ, None, Option, IfOk, IfErr, OnErr, OnOk};
+ghost use Rattle.std.specs.Prelude.{◌≡◌, ◌≤◌, List, ℕ, None, Option, IfOk, IfErr, IsTrue, OnErr, OnOk};
 ghost use Rattle.std.specs.Option.{ForSome};
-ghost use Rattle.jb_bytes.specs.Fault.{Rose};
-ghost use Rattle.jb_disk.specs.Device.{TellsAlike};
+ghost use Rattle.jb_disk.specs.Device.{TellsAlike, CountsFaults, is_disk_fault};
 ghost use Rattle.jb_disk.specs.Runs.{LeavesOnly};
 ghost use Rattle.jb_journal.specs.Commit.{AgreeButJournal};
+ghost use Rattle.jb_journal.specs.declared.stopped.Stopped.TheVariants.{Late};
 ghost use Rattle.jb_redo.specs.Changes.{changed};
-ghost use Rattle.jb_model.specs.declared.loaded.Loaded.{Loaded};
+ghost use Rattle.jb_state.specs.declared.loaded.Loaded.{Loaded};
 ghost use Rattle.jb_pack.specs.Shadow.{Shadow};
 ghost use Rattle.jb_decide.specs.Coming.{Coming, IsChange};
 ghost use Rattle.jb_area.specs.Area.{redo_in};
-ghost use Rattle.jb_area.specs.Commits.{HasRecordOf, IsAnsweredAs, IsSettledAs, IsSettledWith, IsStoppedAs, MayCommit, MaySettle};
+ghost use Rattle.jb_area.specs.Commits.{HasRecordOf, IsAnsweredAs, IsSettledAs, IsSettledWith, IsStoppedAs, MayCommit, MaySettle, StandsFirm, StopsAgain};
 ghost use Rattle.jb_area.specs.Holds.{OpensToEither};
 
 use jb_disk::{Disk, Redo};
@@ -29,19 +29,25 @@ pub(crate) fn in_use<'a>(large: &'a Option<Redo>, small: &'a Redo) -> &'a Redo
 /// Commits a change of the area that the files hold.
 pub(crate) fn commit_change<D: Disk>(disk: &mut D, redo: &Redo) -> Result<(), Stopped>
     requires may { MayCommit redo.now (D.device disk.old) }
-    ensures done { OnOk result ((from : Loaded) (texts : List ℕ) (copies : Option Shadow) (coming : Coming) → IsSettledWith from texts copies (D.device disk.old)
-        → IsChange (D.device disk.old).contents redo.now from texts copies coming → IsSettledAs coming.to coming.texts (D.device disk.new)) }
-    ensures made { OnOk result (ForSome (D.device disk.old).contents (λ was. ForSome (D.device disk.new).contents (λ now.
+    ensures done { OnOk result ((from : Loaded) (texts : List ℕ) (copies : Option Shadow)
+        (coming : Coming) → IsSettledWith from texts copies (D.device disk.old)
+        → IsChange (D.device disk.old).contents redo.now from texts copies coming
+        → IsSettledAs coming.to coming.texts (D.device disk.new)) }
+    ensures made { OnOk result (ForSome (D.device disk.old).contents (λ was.
+        ForSome (D.device disk.new).contents (λ now.
         AgreeButJournal now (changed redo.now was)))) }
     ensures size { OnOk result (ForSome (D.device disk.new).contents (HasRecordOf redo.now)) }
-    ensures doubt { IfErr result (λ stopped. (from : Loaded) (texts : List ℕ) (copies : Option Shadow) (coming : Coming) → IsSettledWith from texts copies (D.device disk.old)
-        → IsChange (D.device disk.old).contents redo.now from texts copies coming → IsStoppedAs stopped redo.now from texts copies (D.device disk.new)) }
-    ensures cause { OnErr result (Rose (D.device disk.old).faults (D.device disk.new).faults) }
-    ensures quiet { OnOk result ((D.device disk.new).faults ≡ (D.device disk.old).faults) }
-    ensures later { (D.device disk.old).faults ≤ (D.device disk.new).faults }
-    ensures crash { (from : Loaded) (texts : List ℕ) (copies : Option Shadow) (coming : Coming) → IsSettledWith from texts copies (D.device disk.old)
+    ensures doubt { IfErr result (λ stopped.
+        (from : Loaded) (texts : List ℕ) (copies : Option Shadow) (coming : Coming)
+        → IsSettledWith from texts copies (D.device disk.old)
         → IsChange (D.device disk.old).contents redo.now from texts copies coming
-        → ForSome (D.device disk.old).contents (λ _. LeavesOnly (D.device disk.old) (D.device disk.new) (OpensToEither from texts coming)) }
+        → IsStoppedAs stopped redo.now from texts copies (D.device disk.new)) }
+    ensures faults { CountsFaults is_disk_fault (D.device disk.old) (D.device disk.new) result }
+    ensures crash { (from : Loaded) (texts : List ℕ) (copies : Option Shadow) (coming : Coming)
+        → IsSettledWith from texts copies (D.device disk.old)
+        → IsChange (D.device disk.old).contents redo.now from texts copies coming
+        → ForSome (D.device disk.old).contents (λ _.
+        LeavesOnly (D.device disk.old) (D.device disk.new) (OpensToEither from texts coming)) }
     ensures alike { TellsAlike (D.device disk.old) (D.device disk.new) }
 {
     commit(disk, redo)
@@ -54,16 +60,28 @@ pub(crate) fn settle_change<D: Disk>(
     stopped: Stopped,
 ) -> Result<bool, Stopped>
     requires may { MaySettle stopped redo.now (D.device disk.old) }
-    ensures answer { IfOk result (λ stands. (from : Loaded) (texts : List ℕ) (copies : Option Shadow) (coming : Coming) → IsStoppedAs stopped redo.now from texts copies (D.device disk.old)
-        → IsChange (D.device disk.old).contents redo.now from texts copies coming → IsAnsweredAs stands from texts coming (D.device disk.new)) }
-    ensures still { IfErr result (λ again. (from : Loaded) (texts : List ℕ) (copies : Option Shadow) (coming : Coming) → IsStoppedAs stopped redo.now from texts copies (D.device disk.old)
-        → IsChange (D.device disk.old).contents redo.now from texts copies coming → IsStoppedAs again redo.now from texts copies (D.device disk.new)) }
-    ensures cause { OnErr result (Rose (D.device disk.old).faults (D.device disk.new).faults) }
-    ensures quiet { OnOk result ((D.device disk.new).faults ≡ (D.device disk.old).faults) }
-    ensures later { (D.device disk.old).faults ≤ (D.device disk.new).faults }
-    ensures crash { (from : Loaded) (texts : List ℕ) (copies : Option Shadow) (coming : Coming) → IsStoppedAs stopped redo.now from texts copies (D.device disk.old)
+    ensures answer { IfOk result (λ stands.
+        (from : Loaded) (texts : List ℕ) (copies : Option Shadow) (coming : Coming)
+        → IsStoppedAs stopped redo.now from texts copies (D.device disk.old)
         → IsChange (D.device disk.old).contents redo.now from texts copies coming
-        → ForSome (D.device disk.old).contents (λ _. LeavesOnly (D.device disk.old) (D.device disk.new) (OpensToEither from texts coming)) }
+        → IsAnsweredAs stands from texts coming (D.device disk.new)) }
+    ensures late { IfOk result (λ stands. stopped ≡ Late → IsTrue stands) }
+    ensures again { IfErr result (λ again. StopsAgain stopped again (D.device disk.old) (D.device disk.new)) }
+    ensures still { IfErr result (λ again.
+        (from : Loaded) (texts : List ℕ) (copies : Option Shadow) (coming : Coming)
+        → IsStoppedAs stopped redo.now from texts copies (D.device disk.old)
+        → IsChange (D.device disk.old).contents redo.now from texts copies coming
+        → IsStoppedAs again redo.now from texts copies (D.device disk.new)) }
+    ensures faults { CountsFaults is_disk_fault (D.device disk.old) (D.device disk.new) result }
+    ensures crash { (from : Loaded) (texts : List ℕ) (copies : Option Shadow) (coming : Coming)
+        → IsStoppedAs stopped redo.now from texts copies (D.device disk.old)
+        → IsChange (D.device disk.old).contents redo.now from texts copies coming
+        → ForSome (D.device disk.old).contents (λ _.
+        LeavesOnly (D.device disk.old) (D.device disk.new) (OpensToEither from texts coming)) }
+    ensures firm { (from : Loaded) (texts : List ℕ) (copies : Option Shadow) (coming : Coming)
+        → IsStoppedAs stopped redo.now from texts copies (D.device disk.old)
+        → IsChange (D.device disk.old).contents redo.now from texts copies coming
+        → StandsFirm stopped coming (D.device disk.old) (D.device disk.new) }
     ensures alike { TellsAlike (D.device disk.old) (D.device disk.new) }
 {
     settle(disk, redo, stopped)

@@ -1,15 +1,15 @@
 //! Texts are copied into .NDT, for a pack that comes later.
 ghost use Rattle.std.specs.Prelude.{◌≡◌, ◌≤◌, ℕ, List, [], Option, Some, IfErr, IfOk, OnErr, OnOk, length};
 ghost use Rattle.std.specs.Option.{ForSome};
-ghost use Rattle.jb_bytes.specs.Fault.{Rose};
 ghost use Rattle.jb_limits.specs.declared.limits.TheConstants.{MOST_SLOTS, TEXTS_CEILING};
-ghost use Rattle.jb_disk.specs.Device.{TellsAlike};
+ghost use Rattle.jb_disk.specs.Device.{TellsAlike, CountsFaults, is_disk_fault};
 ghost use Rattle.jb_disk.specs.Runs.{IsAllSynced, LeavesOnly};
 ghost use Rattle.jb_disk.specs.declared.file.FileId.TheVariants.{Jdt as texts_file, Ndt as shadow_file};
-ghost use Rattle.jb_model.specs.Sound.{IsSound};
-ghost use Rattle.jb_model.specs.declared.loaded.Loaded.{Loaded};
-ghost use Rattle.jb_pack.specs.Copying.{PackFaultRose};
-ghost use Rattle.jb_model.specs.Packed.{texts_size};
+ghost use Rattle.jb_journal.specs.declared.stopped.Stopped.TheVariants.{Early};
+ghost use Rattle.jb_state.specs.Sound.{IsSound};
+ghost use Rattle.jb_state.specs.declared.loaded.Loaded.{Loaded};
+ghost use Rattle.jb_pack.specs.Copying.{is_pack_fault};
+ghost use Rattle.jb_state.specs.Packed.{texts_size};
 ghost use Rattle.jb_pack.specs.Shadow.{HasCopies};
 ghost use Rattle.jb_pack.specs.Touching.{IsUntouched, TouchesShadow};
 ghost use Rattle.jb_decide.specs.Holds.{HasAll};
@@ -20,8 +20,8 @@ ghost use Rattle.jb_area.specs.Holds.{Opens};
 
 use jb_disk::{Disk, DiskFailed, FileId};
 use jb_journal::Stopped;
-use jb_model::{Change, Loaded};
 use jb_pack::{PackError, Packer};
+use jb_state::{Change, Loaded};
 use std::alloc::Global;
 use std::mem;
 
@@ -38,9 +38,7 @@ fn begun<D: Disk>(
     ensures durable { OnOk result (IsAllSynced (D.device disk.old) → IsAllSynced (D.device disk.new)) }
     ensures kept { TouchesShadow (D.device disk.old) (D.device disk.new) }
     ensures unchanged { IfErr result (IsUntouched (D.device disk.old) (D.device disk.new)) }
-    ensures quiet { OnOk result ((D.device disk.new).faults ≡ (D.device disk.old).faults) }
-    ensures later { (D.device disk.old).faults ≤ (D.device disk.new).faults }
-    ensures cause { IfErr result (PackFaultRose (D.device disk.old).faults (D.device disk.new).faults) }
+    ensures faults { CountsFaults is_pack_fault (D.device disk.old) (D.device disk.new) result }
 {
     match kept {
         Some(packer) => Ok(packer),
@@ -58,16 +56,15 @@ fn copy_with<D: Disk>(
     budget: u32,
 ) -> Result<bool, PackError>
     requires sound { IsSound MOST_SLOTS loaded.now }
-    requires told { ForSome (D.device disk.old).contents (λ files. length (files texts_file) ≡ loaded.now.texts_len) }
+    requires told { ForSome (D.device disk.old).contents (λ files.
+        length (files texts_file) ≡ loaded.now.texts_len) }
     requires fits { texts_size loaded.now.slots ≤ TEXTS_CEILING }
     requires has { ForSome (D.device disk.old).contents (HasCopies packer) }
     ensures copied { IfOk result (HasCopiedSome budget loaded.now.slots (Some packer) kept.new) }
     ensures has { UnlessFault result (ForSome (D.device disk.new).contents (HasAll kept.new)) }
     ensures durable { UnlessFault result (IsAllSynced (D.device disk.old) → IsAllSynced (D.device disk.new)) }
     ensures touches { TouchesShadow (D.device disk.old) (D.device disk.new) }
-    ensures quiet { OnOk result ((D.device disk.new).faults ≡ (D.device disk.old).faults) }
-    ensures later { (D.device disk.old).faults ≤ (D.device disk.new).faults }
-    ensures cause { IfErr result (PackFaultRose (D.device disk.old).faults (D.device disk.new).faults) }
+    ensures faults { CountsFaults is_pack_fault (D.device disk.old) (D.device disk.new) result }
 {
     let mut packer = packer;
     let more = packer.some(alloc, disk, loaded, budget);
@@ -85,7 +82,8 @@ pub(crate) fn copy_some<D: Disk>(
     budget: u32,
 ) -> Result<bool, PackError>
     requires sound { IsSound MOST_SLOTS loaded.now }
-    requires told { ForSome (D.device disk.old).contents (λ files. length (files texts_file) ≡ loaded.now.texts_len) }
+    requires told { ForSome (D.device disk.old).contents (λ files.
+        length (files texts_file) ≡ loaded.now.texts_len) }
     requires fits { texts_size loaded.now.slots ≤ TEXTS_CEILING }
     requires has { ForSome (D.device disk.old).contents (HasAll kept.old) }
     ensures copied { IfOk result (HasCopiedSome budget loaded.now.slots kept.old kept.new) }
@@ -94,9 +92,7 @@ pub(crate) fn copy_some<D: Disk>(
     ensures has { UnlessFault result (ForSome (D.device disk.new).contents (HasAll kept.new)) }
     ensures durable { UnlessFault result (IsAllSynced (D.device disk.old) → IsAllSynced (D.device disk.new)) }
     ensures touches { TouchesShadow (D.device disk.old) (D.device disk.new) }
-    ensures quiet { OnOk result ((D.device disk.new).faults ≡ (D.device disk.old).faults) }
-    ensures later { (D.device disk.old).faults ≤ (D.device disk.new).faults }
-    ensures cause { IfErr result (PackFaultRose (D.device disk.old).faults (D.device disk.new).faults) }
+    ensures faults { CountsFaults is_pack_fault (D.device disk.old) (D.device disk.new) result }
 {
     match begun(alloc, disk, mem::replace(kept, None), loaded) {
         Ok(packer) => copy_with(alloc, disk, packer, kept, loaded, budget),
@@ -106,14 +102,16 @@ pub(crate) fn copy_some<D: Disk>(
 
 /// Empties .NDT and syncs it, after a copying was stopped: then nothing is left in it that a failed sync may have lost.
 pub(crate) fn clear_copies<D: Disk>(disk: &mut D) -> Result<(), Stopped>
-    ensures settled { OnOk result ((loaded : Loaded) (texts : List ℕ) → IsCopyingAs loaded texts (D.device disk.old) → IsSettledAs loaded texts (D.device disk.new)) }
+    ensures settled { OnOk result ((loaded : Loaded) (texts : List ℕ) → IsCopyingAs loaded texts
+        (D.device disk.old) → IsSettledAs loaded texts (D.device disk.new)) }
     ensures empty { OnOk result (ForSome (D.device disk.new).contents (λ files. files shadow_file ≡ [])) }
-    ensures still { OnErr result ((loaded : Loaded) (texts : List ℕ) → IsCopyingAs loaded texts (D.device disk.old) → IsCopyingAs loaded texts (D.device disk.new)) }
+    ensures still { OnErr result ((loaded : Loaded) (texts : List ℕ) → IsCopyingAs loaded texts
+        (D.device disk.old) → IsCopyingAs loaded texts (D.device disk.new)) }
     ensures crash { (loaded : Loaded) (texts : List ℕ) → IsCopyingAs loaded texts (D.device disk.old)
-        → ForSome (D.device disk.old).contents (λ _. LeavesOnly (D.device disk.old) (D.device disk.new) (Opens loaded texts)) }
-    ensures cause { OnErr result (Rose (D.device disk.old).faults (D.device disk.new).faults) }
-    ensures quiet { OnOk result ((D.device disk.new).faults ≡ (D.device disk.old).faults) }
-    ensures later { (D.device disk.old).faults ≤ (D.device disk.new).faults }
+        → ForSome (D.device disk.old).contents (λ _.
+        LeavesOnly (D.device disk.old) (D.device disk.new) (Opens loaded texts)) }
+    ensures early { IfErr result (λ stopped. stopped ≡ Early) }
+    ensures faults { CountsFaults is_disk_fault (D.device disk.old) (D.device disk.new) result }
     ensures alike { TellsAlike (D.device disk.old) (D.device disk.new) }
 {
     match disk.set_len(FileId::Ndt, 0) {

@@ -4,7 +4,7 @@ ghost use Rattle.std.specs.Option.{ForSome};
 ghost use Rattle.jb_limits.specs.declared.limits.TheConstants.{MOST_ADDRESS_BYTES, MOST_SLOTS};
 ghost use Rattle.jb_disk.specs.Runs.{IsAllSynced};
 ghost use Rattle.jb_disk.specs.declared.file.FileId.TheVariants.{Jdt as texts_file};
-ghost use Rattle.jb_model.specs.Sound.{IsSound};
+ghost use Rattle.jb_state.specs.Sound.{IsSound};
 ghost use Rattle.jb_change.specs.Ready.{HasRoomInAll};
 ghost use Rattle.jb_decide.specs.Holds.{AreTexts};
 ghost use Rattle.jb_area.specs.Area.{device_of, loaded_of, rules_of, IsResting};
@@ -16,7 +16,7 @@ use crate::stage::Stage;
 use jb_base::{AreaRules, OutOfMemory};
 use jb_disk::{Disk, Redo};
 use jb_held::Held;
-use jb_model::Loaded;
+use jb_state::Loaded;
 use std::alloc::Global;
 
 /// A redo with room for each change that takes no memory.
@@ -40,11 +40,13 @@ impl<D: Disk> OpenArea<D> {
         requires few_slots { rules.slots ≤ MOST_SLOTS }
         requires address { length rules.address ≤ MOST_ADDRESS_BYTES }
         requires sound { IsSound rules.slots loaded }
-        requires rests { ForSome (D.device disk).contents (λ files. IsAtRest loaded (files texts_file) files) }
+        requires rests { ForSome (D.device disk).contents (λ files.
+            IsAtRest loaded (files texts_file) files) }
         requires synced { IsAllSynced (D.device disk) }
 
         // At rest, with what was loaded.
-        ensures rests { IfOk result (λ area. (texts : List ℕ) → AreTexts loaded texts (D.device disk).contents → IsResting D.device area texts) }
+        ensures rests { IfOk result (λ area. (texts : List ℕ)
+            → AreTexts loaded texts (D.device disk).contents → IsResting D.device area texts) }
         ensures rest { IfOk result (HasRest D.device) }
         ensures loaded { IfOk result (λ area. loaded_of area ≡ loaded) }
         ensures rules { IfOk result (λ area. rules_of area ≡ rules) }

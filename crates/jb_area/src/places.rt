@@ -1,12 +1,12 @@
 //! Parts of an open area that are put in the place of others, which are dropped here alone.
 ghost use Rattle.std.specs.Prelude.{◌≡◌, None};
-ghost use Rattle.jb_model.specs.declared.change.Change.TheVariants.{Nothing};
+ghost use Rattle.jb_state.specs.declared.change.Change.TheVariants.{Nothing};
 
 use crate::stage::Stage;
 use jb_disk::Redo;
 use jb_held::Pending;
-use jb_model::Change;
 use jb_pack::Packer;
+use jb_state::Change;
 use std::mem;
 
 /// This stage, in place of the one before.

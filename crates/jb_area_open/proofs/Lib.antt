@@ -1,2 +1,2 @@
-mod OpeningLemmas
+pub mod OpeningLemmas
 mod RefusalLemmas

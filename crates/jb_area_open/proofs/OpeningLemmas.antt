@@ -24,15 +24,16 @@ use Rattle.jb_journal.proofs.FirmLemmas.{firm_same, firm_then, firm_weaken}
 use Rattle.jb_journal.specs.Recover.{FirmSince, IsFound, IsGrowthSafe, MightBe, ReplaysAs, ReplaysAsAtStart}
 use Rattle.jb_journal.specs.declared.error.Recovered.{Recovered}
 use Rattle.jb_journal.specs.declared.error.Recovered.TheVariants.{Closed, Replayed}
-use Rattle.jb_model.specs.declared.loaded.Loaded.{Loaded}
-use Rattle.jb_model.specs.declared.loaded.LoadedMessage.{LoadedMessage}
-use Rattle.jb_model.specs.declared.loaded.LoadedSlot.{LoadedSlot}
-use Rattle.jb_model.specs.declared.loaded.LoadedSlot.TheVariants.{Empty, Killed, Live}
+use Rattle.jb_state.specs.declared.loaded.Loaded.{Loaded}
+use Rattle.jb_state.specs.declared.loaded.LoadedMessage.{LoadedMessage}
+use Rattle.jb_state.specs.declared.loaded.LoadedSlot.{LoadedSlot}
+use Rattle.jb_state.specs.declared.loaded.LoadedSlot.TheVariants.{Empty, Killed, Live}
 use Rattle.jb_record.specs.declared.index.IndexRecord.{IndexRecord}
 use Rattle.jb_redo.proofs.ApplyLemmas.{turns_from, turns_on}
 use Rattle.jb_redo.proofs.WayLemmas.{one_replay}
 use Rattle.jb_redo.specs.Reading.{HasRecord}
 use Rattle.jb_redo.specs.Replay.{Replays}
+use Rattle.jb_journal.proofs.RecoverLemmas.{told_now}
 
 -- another journal beside the files of the base
 module _ (journal : List ℕ) (files : Files) where
@@ -121,7 +122,7 @@ replayed_as was start replays shut base = (
 )
 
 -- while the journal is prepared the gate stays closed
-preparing_shut : (start files : Files) → (IsGateOpen start → ⊥) → IsPreparing start files → IsGateOpen files → ⊥
+pub preparing_shut : (start files : Files) → (IsGateOpen start → ⊥) → IsPreparing start files → IsGateOpen files → ⊥
 preparing_shut start files shut preparing is_open = elim preparing.journal [
   | inl same ↦ shut (record {
     longer = subst (λ (l : List ℕ). 16 < length l) same is_open.longer;
@@ -194,11 +195,6 @@ recovered_read before mid after kept recovered = λ was there.
       shut = λ now now_is. is.shut now (sym kept.contents ∙ now_is);
       synced = λ now now_is. subst (LeavesNow (λ left. left ≡ now)) (sym kept.moments) (is.synced now (sym kept.contents ∙ now_is));
     }
-
--- what is told still
-told_now : (contents : Option Files) → IsSome contents → (files : Files) × (contents ≡ Some files)
-told_now None some = absurd (cc)
-told_now (Some files) some = (files, refl)
 
 -- and the preparing of the journal
 pub recovered_prepared : (before mid after : Device) → Turns IsPrepared mid.contents after.contents → (IsAllSynced mid → IsAllSynced after) → ForSome before.contents (λ was. IsRecovered was mid)

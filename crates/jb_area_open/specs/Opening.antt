@@ -1,5 +1,5 @@
 -- What the opening of an area makes of its files, and why it is refused.
-use Rattle.std.specs.Prelude.{◌≡◌, ◌≢◌, ◌↔◌, ℕ, List, IsSome, Result, Ok, Err}
+use Rattle.std.specs.Prelude.{◌≢◌, ◌↔◌, ℕ, List, IsSome, Result, Ok, Err, Bool, false}
 use Rattle.std.specs.Option.{ForSome}
 use Rattle.jb_area.specs.Area.{IsResting, loaded_of}
 use Rattle.jb_area.specs.Holds.{Opens}
@@ -11,14 +11,14 @@ use Rattle.jb_disk.specs.Files.{Files}
 use Rattle.jb_disk.specs.Gate.{IsGateOpen}
 use Rattle.jb_disk.specs.Images.{Images}
 use Rattle.jb_disk.specs.Runs.{IsAllSynced, LeavesOnly}
-use Rattle.jb_image.specs.Answers.{IsRefusedBy, OpenFaultRose}
+use Rattle.jb_image.specs.Answers.{IsRefusedBy, is_open_fault}
 use Rattle.jb_image.specs.declared.error.OpenError.{OpenError}
 use Rattle.jb_image.specs.declared.error.OpenError.TheVariants.{StoreFault}
 use Rattle.jb_journal.specs.Commit.{ReplaysTo}
 use Rattle.jb_journal.specs.Recover.{FirmSince, IsGrowthSafe, IsRefusedOver, MightBe}
 use Rattle.jb_journal.specs.declared.error.JournalError.{JournalError}
 use Rattle.jb_journal.specs.declared.error.JournalError.TheVariants.{BadRecord, StoreFault as JournalFault}
-use Rattle.jb_model.specs.declared.loaded.Loaded.{Loaded}
+use Rattle.jb_state.specs.declared.loaded.Loaded.{Loaded}
 use Rattle.jb_redo.specs.Reading.{HasRecord}
 
 -- behind an open gate stood a record, and the files are those to which it replays but for the journal, where it writes each byte past an old end; in any case they are told still, the gate is closed, and nothing is unsynced
@@ -52,10 +52,10 @@ abbrev pub Refuses : ℕ → Device → Device → OpeningError → Type 0
 Refuses limit before after (BadJournal at) = ForSome before.contents (IsRefusedOver (BadRecord at) after)
 Refuses limit before after (Base error) = error ≢ StoreFault → RefusesFiles limit before after error
 
--- a fault has its cause: the disk's count rose; and no other refusal of the base hides one
-abbrev pub OpeningFaultRose : ℕ → ℕ → OpeningError → Type 0
-OpeningFaultRose before now (BadJournal at) = Unit {0}
-OpeningFaultRose before now (Base error) = OpenFaultRose before now error
+-- which refusals are faults of the disk
+abbrev pub is_opening_fault : OpeningError → Bool
+is_opening_fault (BadJournal at) = false
+is_opening_fault (Base error) = is_open_fault error
 
 -- a refusal of recovery, as one of the opening
 abbrev pub of_journal : JournalError → OpeningError

@@ -2,17 +2,17 @@
 ghost use Rattle.std.specs.Prelude.{◌≡◌, ◌≤◌, IfErr, IfOk, OnOk};
 ghost use Rattle.std.specs.Option.{ForSome};
 ghost use Rattle.jb_area.specs.Holds.{IsAtRest};
-ghost use Rattle.jb_area_open.specs.Opening.{OpeningFaultRose, IsRecovered, KeepsOpening, OpensFirmly, Refuses};
-ghost use Rattle.jb_disk.specs.Device.{TellsAlike};
+ghost use Rattle.jb_area_open.specs.Opening.{IsRecovered, KeepsOpening, OpensFirmly, Refuses, is_opening_fault};
+ghost use Rattle.jb_disk.specs.Device.{TellsAlike, CountsFaults};
 ghost use Rattle.jb_disk.specs.Runs.{IsAllSynced};
 ghost use Rattle.jb_disk.specs.declared.file.FileId.TheVariants.{Jdt as texts_file};
-ghost use Rattle.jb_model.specs.Sound.{IsSound};
+ghost use Rattle.jb_state.specs.Sound.{IsSound};
 
 use crate::OpeningError;
 use jb_disk::Disk;
 use jb_image::decode;
 use jb_journal::{prepare, recover};
-use jb_model::Loaded;
+use jb_state::Loaded;
 use std::alloc::Global;
 
 /// Recovers the base, reads it, and prepares its journal.
@@ -27,9 +27,7 @@ pub(crate) fn load<D: Disk>(alloc: Global, disk: &mut D, slots: u32) -> Result<L
 
     // Why it is refused.
     ensures refused { IfErr result (Refuses slots (D.device disk.old) (D.device disk.new)) }
-    ensures cause { IfErr result (OpeningFaultRose (D.device disk.old).faults (D.device disk.new).faults) }
-    ensures quiet { OnOk result ((D.device disk.new).faults ≡ (D.device disk.old).faults) }
-    ensures later { (D.device disk.old).faults ≤ (D.device disk.new).faults }
+    ensures faults { CountsFaults is_opening_fault (D.device disk.old) (D.device disk.new) result }
 
     // A crash at any moment, and that the disk tells as before.
     ensures crash { KeepsOpening (D.device disk.old) (D.device disk.new) }

@@ -1,12 +1,12 @@
 //! The opening of an area.
-ghost use Rattle.std.specs.Prelude.{◌≡◌, ◌≤◌, IfErr, IfOk, List, OnOk, ℕ, length};
+ghost use Rattle.std.specs.Prelude.{◌≡◌, ◌≤◌, IfErr, IfOk, List, ℕ, length};
 ghost use Rattle.std.specs.Option.{ForSome};
 ghost use Rattle.jb_area.specs.Area.{IsResting, device_of, loaded_of, rules_of};
 ghost use Rattle.jb_area.specs.Calls.{HasRest};
-ghost use Rattle.jb_area_open.specs.Opening.{OpeningFaultRose, IsOpenAt, IsRecovered, KeepsOpening, OpensFirmly, Refuses, device_after};
+ghost use Rattle.jb_area_open.specs.Opening.{IsOpenAt, IsRecovered, KeepsOpening, OpensFirmly, Refuses, device_after, is_opening_fault};
 ghost use Rattle.jb_limits.specs.declared.limits.TheConstants.{MOST_ADDRESS_BYTES, MOST_SLOTS};
 ghost use Rattle.jb_decide.specs.Holds.{AreTexts};
-ghost use Rattle.jb_disk.specs.Device.{TellsAlike};
+ghost use Rattle.jb_disk.specs.Device.{CountsFaults, TellsAlike};
 ghost use Rattle.jb_journal.specs.Recover.{IsGrowthSafe};
 
 use crate::OpeningError;
@@ -43,17 +43,16 @@ pub fn open_area<D: Disk>(
     ensures rest { IfOk result (HasRest D.device) }
     ensures rules { IfOk result (λ area. rules_of area ≡ rules) }
 
-    // Refused: for the first thing that is wrong, or for a fault that the disk counted; want of memory hides no fault.
+    // Refused: for the first thing that is wrong, or for a fault that the disk counted; nothing else hides one.
     ensures refused { IfErr result (λ back. Refuses rules.slots (D.device disk) (D.device back.0) back.1) }
-    ensures cause { IfErr result (λ back. OpeningFaultRose (D.device disk).faults (D.device back.0).faults back.1) }
 
     // Either way: a crash at any moment leaves files that open to exactly what some open to that it might have left at the
     // start, and once the first syncs are done, to what those open to that were read at the start. A disk that tells its files
     // goes on telling them, and one that tells nothing goes on so.
     ensures crash { KeepsOpening (D.device disk) (device_after D.device result) }
     ensures firm { OpensFirmly (D.device disk) (device_after D.device result) }
-    ensures quiet { OnOk result ((device_after D.device result).faults ≡ (D.device disk).faults) }
-    ensures later { (D.device disk).faults ≤ (device_after D.device result).faults }
+    ensures faults { CountsFaults (λ back.
+        is_opening_fault back.1) (D.device disk) (device_after D.device result) result }
     ensures alike { TellsAlike (D.device disk) (device_after D.device result) }
 {
     let mut disk = disk;

@@ -18,7 +18,8 @@ pub struct Part<'a> {
 
 /// The subfield with which the bytes begin, where one is whole.
 pub fn first_part(bytes: &[u8]) -> Option<Part<'_>>
-    ensures { MatchOption result (HasNoWhole bytes.now) (λ part. BeginsWith bytes.now (record { id = part.id; hi = part.hi; bytes = part.content.now }) part.behind.now) }
+    ensures { MatchOption result (HasNoWhole bytes.now) (λ part. BeginsWith bytes.now
+        (record { id = part.id; hi = part.hi; bytes = part.content.now }) part.behind.now) }
 {
     if bytes.len() < HEAD {
         return None;

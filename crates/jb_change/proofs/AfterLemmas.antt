@@ -1,35 +1,32 @@
 -- What the area after a change is, by what is put into its files.
-use Rattle.std.proofs.Common.{◌≡◌, ℕ, zero, suc, ◌+◌, ◌<◌, ◌%◌, ◌^◌, List, [], ◌∷◌, ◌++◌, length, get_or, set, slice_get, Option, None, Some, ap, sym, refl, ◌∙◌, subst, arith}
+use Rattle.std.proofs.Common.{◌≡◌, ℕ, zero, suc, ◌+◌, ◌<◌, ◌%◌, ◌^◌, List, [], ◌∷◌, ◌++◌, length, set, Option, None, Some, ap, sym, refl, ◌∙◌, subst, arith}
 use Rattle.std.specs.Prelude.{slice_set}
 use Rattle.std.proofs.lemmas.Bool.{cond-true, cond-false}
 use Rattle.std.proofs.lemmas.List.{get_or_append_left, length-append, set-append_left}
 use Rattle.std.proofs.lemmas.List.Elements.{All-get_or}
 use Rattle.std.proofs.lemmas.Option.{get_or_from_slice_get, slice_get-get_or, slice_get_within}
 use Rattle.jb_limits.specs.declared.limits.TheConstants.{MOST_SLOTS}
-use Rattle.jb_model.specs.Change.{FitsBehind, IsLinkOf, IsReadingOf, headed, headed_where, killed_slot, live_messages, loaded_counted, with_slot_changed}
-use Rattle.jb_model.specs.Loaded.{IsMessageAt, slot_with_head, with_counts, with_head_at, with_killed_at, with_marks, with_message_behind, with_slot_at}
-use Rattle.jb_model.specs.Marks.{with_mark}
-use Rattle.jb_model.specs.Places.{HasNone, IsFirstOf, IsPlaceOf}
-use Rattle.jb_model.specs.Sound.{IsMessageWithin, IsSlotWithin, IsSound}
-use Rattle.jb_model.specs.declared.change.HeadAt.{HeadAt}
-use Rattle.jb_model.specs.declared.loaded.Loaded.{Loaded}
-use Rattle.jb_model.specs.declared.loaded.LoadedMessage.{LoadedMessage}
-use Rattle.jb_model.specs.declared.loaded.LoadedSlot.{LoadedSlot}
-use Rattle.jb_model.specs.declared.loaded.LoadedSlot.TheVariants.{Empty, Live}
-use Rattle.jb_model.specs.declared.mark.Mark.{Mark}
-use Rattle.jb_model.specs.declared.message.Head.{Head}
+use Rattle.jb_state.specs.Change.{FitsBehind, IsLinkOf, IsReadingOf, headed, headed_where, live_messages, loaded_counted}
+use Rattle.jb_state.specs.Loaded.{IsMessageAt, with_counts, with_head_at, with_marks, with_message_behind}
+use Rattle.jb_state.specs.Marks.{with_mark}
+use Rattle.jb_state.specs.Places.{HasNone, IsFirstOf, IsPlaceOf}
+use Rattle.jb_state.specs.Sound.{IsMessageWithin, IsSlotWithin, IsSound}
+use Rattle.jb_state.specs.declared.change.HeadAt.{HeadAt}
+use Rattle.jb_state.specs.declared.loaded.Loaded.{Loaded}
+use Rattle.jb_state.specs.declared.loaded.LoadedMessage.{LoadedMessage}
+use Rattle.jb_state.specs.declared.loaded.LoadedSlot.{LoadedSlot}
+use Rattle.jb_state.specs.declared.loaded.LoadedSlot.TheVariants.{Empty, Live}
+use Rattle.jb_state.specs.declared.mark.Mark.{Mark}
+use Rattle.jb_state.specs.declared.message.Head.{Head}
 use Rattle.jb_change.specs.Changing.{head_with_links, head_with_reading}
 use Rattle.jb_change.specs.Links.{HasNearHeaders}
 use Rattle.jb_change.specs.Post.{IsNext}
+use Rattle.jb_state.proofs.PlaceLaws.{headed_is, slot_is}
 
 -- the counts of an area that is counted
 pub counted_is : (loaded : Loaded) (counter active : ℕ) → counter ≡ (loaded.counter + 1) % 2 ^ 32 → active ≡ live_messages loaded → with_counts counter active loaded ≡ loaded_counted loaded
 counted_is loaded counter active counted live =
     ap (λ (n : ℕ). with_counts n active loaded) counted ∙ ap (λ (n : ℕ). with_counts ((loaded.counter + 1) % 2 ^ 32) n loaded) live
-
--- the slot at a place, from the message that stands there
-slot_is : (slots : List LoadedSlot) (place : ℕ) (message : LoadedMessage) → slice_get slots place ≡ Some (Live message) → get_or slots place Empty ≡ Live message
-slot_is slots place message here = get_or_from_slice_get slots place (Live message) Empty here
 
 -- one message stands at a place
 same_message : (from : Loaded) (place : ℕ) (one other : LoadedMessage) → IsMessageAt from place one → IsMessageAt from place other → one ≡ other
@@ -38,22 +35,13 @@ same_message from place one other first second = live_same one other (sym first 
     live_same : (one other : LoadedMessage) → Some (Live one) ≡ Some (Live other) → one ≡ other
     live_same one other is = cc
 
--- the header of the message at a place
-headed_is : (at : HeadAt) (message : LoadedMessage) (from : Loaded) → IsMessageAt from at.place message → with_head_at at.place at.head message from ≡ headed at from
-headed_is at message from here =
-    ap (λ (one : LoadedSlot). with_slot_at at.place (slot_with_head at.head one) from) (sym (slot_is from.slots at.place message here))
-
 -- the traces of a reading are all that the header of the message differs in
 pub reading_is : (at : HeadAt) (message : LoadedMessage) (from : Loaded) → IsMessageAt from at.place message → IsReadingOf at from
     → with_head_at at.place (head_with_reading at.head message.head) message from ≡ headed at from
 reading_is at message from here reading =
     let same : reading.message ≡ message = same_message from at.place reading.message message reading.here here in
     let head : head_with_reading at.head message.head ≡ at.head = ap (λ (m : LoadedMessage). head_with_reading at.head m.head) (sym same) ∙ sym reading.same in
-    ap (λ (h : Head). with_head_at at.place h message from) head ∙ headed_is at message from here
-
--- the kill of the message at a place
-pub killed_is : (place : ℕ) (message : LoadedMessage) (from : Loaded) → IsMessageAt from place message → with_killed_at place message from ≡ with_slot_changed place killed_slot from
-killed_is place message from here = ap (λ (one : LoadedSlot). with_slot_at place (killed_slot one) from) (sym (slot_is from.slots place message here))
+    ap (λ (h : Head). with_head_at at.place h message from) head ∙ sym (headed_is at message from here)
 
 -- a link is not counted
 pub counter_where : (neighbour : Option HeadAt) (from : Loaded) → (headed_where neighbour from).counter ≡ from.counter
@@ -88,13 +76,13 @@ linked_behind one message new from here link =
     let slot : LoadedSlot = Live (record message { head = one.head }) in
     ap (λ (h : Head). with_head_at one.place h message (with_message_behind new from)) (links_are one message from here link)
     ∙ ap (λ (s : List LoadedSlot). with_slots s (with_message_behind new from)) (set-append_left from.slots (Live new ∷ []) one.place slot (slice_get_within from.slots one.place (Live message) here))
-    ∙ ap (with_message_behind new) (headed_is one message from here)
+    ∙ ap (with_message_behind new) (sym (headed_is one message from here))
 
 -- a live message in a sound area is within its files
 within_is : (limit place : ℕ) (message : LoadedMessage) (from : Loaded) → IsMessageAt from place message → IsSound limit from
     → IsMessageWithin from.headers_len from.texts_len message
 within_is limit place message from here sound =
-    subst (IsSlotWithin from.headers_len from.texts_len) (slot_is from.slots place message here)
+    subst (IsSlotWithin from.headers_len from.texts_len) (slot_is from place message Empty here)
     (All-get_or (IsSlotWithin from.headers_len from.texts_len) from.slots place Empty (slice_get_within from.slots place _ here) sound.within)
 
 -- the headers of a sound area can be written

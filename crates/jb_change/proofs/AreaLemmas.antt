@@ -15,12 +15,12 @@ use Rattle.jb_disk.specs.Files.{Files, number_of, overwritten, written}
 use Rattle.jb_disk.specs.FileLaws.{with_file-here, with_file-other, same_files, length-of_length, length-overwritten}
 use Rattle.jb_disk.specs.ImageLaws.{get-of_length}
 use Rattle.jb_disk.specs.Memory.{of_length}
-use Rattle.jb_model.specs.Loaded.{with_counts, with_marks}
-use Rattle.jb_model.specs.Sound.{Covers}
-use Rattle.jb_model.specs.declared.loaded.Loaded.{Loaded}
-use Rattle.jb_model.specs.declared.loaded.LoadedSlot.{LoadedSlot}
-use Rattle.jb_model.specs.declared.loaded.LoadedSlot.TheVariants.{Empty, Killed, Live}
-use Rattle.jb_model.specs.declared.mark.Mark.{Mark}
+use Rattle.jb_state.specs.Loaded.{with_counts, with_marks}
+use Rattle.jb_state.specs.Sound.{Covers}
+use Rattle.jb_state.specs.declared.loaded.Loaded.{Loaded}
+use Rattle.jb_state.specs.declared.loaded.LoadedSlot.{LoadedSlot}
+use Rattle.jb_state.specs.declared.loaded.LoadedSlot.TheVariants.{Empty, Killed, Live}
+use Rattle.jb_state.specs.declared.mark.Mark.{Mark}
 use Rattle.jb_record.specs.declared.index.IndexRecord.{IndexRecord}
 use Rattle.jb_record.specs.Fixed.{IsFixedHeader, fixed_header_of}
 use Rattle.jb_record.specs.Lastread.{lastread_record_of}

@@ -10,6 +10,7 @@ use Rattle.jb_disk.specs.ImageLaws.{get-before, get-behind}
 use Rattle.jb_disk.specs.Steps.{Torn}
 use Rattle.jb_image.specs.Places.{bytes_at}
 use Rattle.jb_image.proofs.FileBytes.{length-bytes_at}
+use Rattle.jb_disk.proofs.StepLemmas.{get-inside}
 
 -- one of them
 pub get-bytes_at : (at len : ℕ) (bytes : List ℕ) (k : ℕ) → k < len → slice_index (bytes_at at len bytes) k ≡ slice_index bytes (at + k)
@@ -66,11 +67,6 @@ torn-then at len old now new first second = record {
   below = λ i under. second.below i under ∙ first.below i under;
   above = λ i past. second.above i past ∙ first.above i past;
 }
-
--- a place in a write
-get-inside : (at : ℕ) (bytes old : List ℕ) → at + length bytes ≤ length old → (i j : ℕ) → i ≡ at + j → j < length bytes → slice_index (overwritten at bytes old) i ≡ slice_index bytes j
-unfolding overwritten
-get-inside at bytes old within i j is low = grind (arith, places)
 
 -- bytes within what was written are those that were
 pub bytes_inside : (at : ℕ) (bytes old : List ℕ) (from r n : ℕ) → at + length bytes ≤ length old → from ≡ at + r → r + n ≤ length bytes

@@ -6,19 +6,19 @@ use Rattle.jb_base.specs.declared.attribute.TheConstants.{DELETED}
 use Rattle.jb_bytes.specs.Number.{number_bytes}
 use Rattle.jb_bytes.proofs.Numbers.{little_endian-back}
 use Rattle.jb_disk.specs.RedoView.{RedoView}
-use Rattle.jb_disk.specs.declared.file.FileId.TheVariants.{Jhr, Jdx}
+use Rattle.jb_disk.specs.declared.file.FileId.TheVariants.{Jhr}
 use Rattle.jb_disk.specs.Files.{Files, number_of, overwritten}
-use Rattle.jb_disk.specs.FileLaws.{with_file-here, with_file-other}
-use Rattle.jb_model.specs.Loaded.{IsMessageAt, with_head_at, with_killed_at}
-use Rattle.jb_model.specs.declared.loaded.Loaded.{Loaded}
-use Rattle.jb_model.specs.declared.loaded.LoadedMessage.{LoadedMessage}
-use Rattle.jb_model.specs.declared.loaded.LoadedSlot.TheVariants.{Live}
-use Rattle.jb_model.specs.declared.message.Head.{Head}
+use Rattle.jb_disk.specs.FileLaws.{with_file-here}
+use Rattle.jb_state.specs.Loaded.{IsMessageAt, with_head_at, with_killed_at}
+use Rattle.jb_state.specs.declared.loaded.Loaded.{Loaded}
+use Rattle.jb_state.specs.declared.loaded.LoadedMessage.{LoadedMessage}
+use Rattle.jb_state.specs.declared.loaded.LoadedSlot.TheVariants.{Live}
+use Rattle.jb_state.specs.declared.message.Head.{Head}
 use Rattle.jb_record.specs.declared.message.MessageHeader.{MessageHeader}
 use Rattle.jb_record.specs.Message.{message_header_of}
 use Rattle.jb_image.specs.Places.{bytes_at, header_in}
 use Rattle.jb_image.specs.Stands.{Loads, head_of, IsDeleted}
-use Rattle.jb_change.specs.Changing.{ChangesHead, ChangesHeader, ChangesMessage, LeavesIndex, WritesOnly, Puts, head_with_links, header_with_attribute, header_with_links}
+use Rattle.jb_change.specs.Changing.{ChangesHead, ChangesHeader, ChangesMessage, WritesOnly, Puts, head_with_links, header_with_attribute, header_with_links}
 use Rattle.jb_change.specs.Makes.{Makes}
 use Rattle.jb_redo.specs.Changes.{changed}
 use Rattle.jb_change.proofs.HeaderLemmas.{with_bytes, header_put}
@@ -115,9 +115,9 @@ module _ (at reply_to first next : ℕ) (old new : RedoView) (fits : at + 76 < 2
   pub links_header : ChangesHeader old new at (header_with_links reply_to first next)
   links_header files room = header_put_there at 24 (links_bytes reply_to first next) old new puts links_inside files room ∙ links_are (header_in (changed old files) at)
 
-  -- no byte outside it is another
-  pub links_only : WritesOnly old new Jhr at 76
-  links_only = header_only at 24 (links_bytes reply_to first next) old new puts links_inside
+  -- no byte outside them is another
+  pub links_only : WritesOnly old new Jhr (at + 24) 12
+  links_only = put_only Jhr (at + 24) (links_bytes reply_to first next) old new puts (at + 24) 12 (omega arith) (omega arith)
 
   -- what the change makes then
   pub links_make : ChangesHead old new at (head_with_links reply_to first next)
@@ -150,19 +150,9 @@ module _ (at attribute : ℕ) (old new : RedoView) (fits : at + 76 < 2 ^ 32) (sm
   pub kill_header : ChangesHeader old new at (header_with_attribute (bit_or attribute DELETED))
   kill_header files room = header_put_there at 52 kill_bytes old new puts kill_inside files room ∙ kill_is (header_in (changed old files) at)
 
-  -- no byte outside it is another
-  pub kill_only : WritesOnly old new Jhr at 76
-  kill_only = header_only at 52 kill_bytes old new puts kill_inside
-
-  -- nor is one outside its attribute
-  pub kill_attribute : WritesOnly old new Jhr (at + 52) 4
-  kill_attribute = put_only Jhr (at + 52) kill_bytes old new puts (at + 52) 4 (omega arith) (omega arith)
-
-  -- the index is as it was
-  pub kill_index : LeavesIndex old new
-  kill_index files =
-      ap (λ (f : Files). f Jdx) (put_done Jhr (at + 52) kill_bytes old new puts files)
-      ∙ with_file-other Jhr Jdx (overwritten (at + 52) kill_bytes (changed old files Jhr)) (changed old files) (λ same. absurd (omega (arith, ap number_of same)))
+  -- no byte outside its attribute is another
+  pub kill_only : WritesOnly old new Jhr (at + 52) 4
+  kill_only = put_only Jhr (at + 52) kill_bytes old new puts (at + 52) 4 (omega arith) (omega arith)
 
   -- what the change makes then
   pub kill_makes : ChangesMessage old new at with_killed_at

@@ -1,5 +1,5 @@
 -- Bytes written behind the old end of a file that was made longer for them.
-use Rattle.std.proofs.Common.{◌≡◌, ℕ, ◌+◌, ◌-◌, ◌≤◌, List, [], ◌∷◌, ◌++◌, length, take, drop, refl, ap, sym, ◌∙◌, arith, append_assoc, length-append, length-drop, length-take}
+use Rattle.std.proofs.Common.{◌≡◌, ℕ, ◌+◌, ◌-◌, ◌≤◌, List, [], ◌∷◌, ◌++◌, length, take, drop, refl, ap, sym, ◌∙◌, arith, append_assoc, length-append, length-drop}
 use Rattle.std.specs.Prelude.{replicate}
 use Rattle.std.proofs.lemmas.List.{append-nil, take_all, take_at, take-append-le, drop_at, drop-append-le, drop-drop, drop-replicate}
 use Rattle.jb_disk.specs.Files.{overwritten}
@@ -41,10 +41,6 @@ pub one_behind : (old bytes : List ℕ) (at len : ℕ) → at ≡ length old →
 one_behind old bytes at len at_is len_is =
     let room = room_for old (length bytes + 0) len (omega arith) in
     (λ i. overwritten (at_is i) bytes (room i)) ∙ over_zeros old bytes 0 ∙ append-nil (old ++ bytes)
-
--- a part of a file has its length
-pub length-bytes_at : (at len : ℕ) (bytes : List ℕ) → at + len ≤ length bytes → length (bytes_at at len bytes) ≡ len
-length-bytes_at at len bytes room = omega (arith, length-take len (drop at bytes), length-drop at bytes)
 
 -- the bytes of a file with others behind it
 pub kept_behind : (old new more : List ℕ) → new ≡ old ++ more → take (length old) new ≡ old

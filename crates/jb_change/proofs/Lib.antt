@@ -6,6 +6,7 @@ mod ChangeLemmas
 pub mod EndLemmas
 mod HeaderLemmas
 mod KeptLemmas
+pub mod LeavesLemmas
 mod LoadsLemmas
 mod LongerLemmas
 mod MarkLemmas

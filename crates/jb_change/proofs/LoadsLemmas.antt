@@ -11,13 +11,13 @@ use Rattle.jb_disk.specs.declared.file.FileId.TheVariants.{Jhr, Jdt, Jdx, Jlr}
 use Rattle.jb_disk.specs.Files.{Files, number_of, overwritten, written}
 use Rattle.jb_disk.specs.FileLaws.{with_file-here, with_file-other}
 use Rattle.jb_disk.specs.Steps.{Torn}
-use Rattle.jb_model.specs.Loaded.{IsMessageAt, with_slot_at, with_head_at, with_killed_at}
-use Rattle.jb_model.specs.Sound.{Covers, AreApart, IsWithin, IsTextWithin}
-use Rattle.jb_model.specs.declared.loaded.Loaded.{Loaded}
-use Rattle.jb_model.specs.declared.loaded.LoadedMessage.{LoadedMessage}
-use Rattle.jb_model.specs.declared.loaded.LoadedSlot.{LoadedSlot}
-use Rattle.jb_model.specs.declared.loaded.LoadedSlot.TheVariants.{Empty, Killed, Live}
-use Rattle.jb_model.specs.declared.message.Head.{Head}
+use Rattle.jb_state.specs.Loaded.{IsMessageAt, with_slot_at, with_head_at, with_killed_at}
+use Rattle.jb_state.specs.Sound.{Covers, AreApart, IsWithin, IsTextWithin}
+use Rattle.jb_state.specs.declared.loaded.Loaded.{Loaded}
+use Rattle.jb_state.specs.declared.loaded.LoadedMessage.{LoadedMessage}
+use Rattle.jb_state.specs.declared.loaded.LoadedSlot.{LoadedSlot}
+use Rattle.jb_state.specs.declared.loaded.LoadedSlot.TheVariants.{Empty, Killed, Live}
+use Rattle.jb_state.specs.declared.message.Head.{Head}
 use Rattle.jb_record.specs.declared.index.IndexRecord.{IndexRecord}
 use Rattle.jb_record.specs.declared.message.MessageHeader.{MessageHeader}
 use Rattle.jb_record.specs.Fixed.{IsFixedHeader, fixed_header_of}

@@ -4,16 +4,17 @@ use Rattle.std.specs.Prelude.{AllPairs, slice_index_or}
 use Rattle.std.proofs.lemmas.Bool.{cases_lt}
 use Rattle.std.proofs.lemmas.List.{append-nil, get_or_append_left, get_or_push, length_push}
 use Rattle.std.proofs.lemmas.List.Quantifiers.{all_pairs_push}
+use Rattle.jb_limits.specs.declared.limits.TheConstants.{MOST_SLOTS}
 use Rattle.jb_bytes.specs.Subfields.{IsSubfield, subfield_bytes}
 use Rattle.jb_disk.specs.Files.{Files}
 use Rattle.jb_disk.specs.declared.file.FileId.TheVariants.{Jhr, Jdt, Jdx, Jlr}
-use Rattle.jb_model.specs.Loaded.{header_size, with_marks, with_message_behind}
-use Rattle.jb_model.specs.Sound.{AreApart, Covers}
-use Rattle.jb_model.specs.declared.loaded.Loaded.{Loaded}
-use Rattle.jb_model.specs.declared.loaded.LoadedMessage.{LoadedMessage}
-use Rattle.jb_model.specs.declared.loaded.LoadedSlot.{LoadedSlot}
-use Rattle.jb_model.specs.declared.loaded.LoadedSlot.TheVariants.{Empty, Killed, Live}
-use Rattle.jb_model.specs.declared.mark.Mark.{Mark}
+use Rattle.jb_state.specs.Loaded.{header_size, with_marks, with_message_behind}
+use Rattle.jb_state.specs.Sound.{AreApart, Covers}
+use Rattle.jb_state.specs.declared.loaded.Loaded.{Loaded}
+use Rattle.jb_state.specs.declared.loaded.LoadedMessage.{LoadedMessage}
+use Rattle.jb_state.specs.declared.loaded.LoadedSlot.{LoadedSlot}
+use Rattle.jb_state.specs.declared.loaded.LoadedSlot.TheVariants.{Empty, Killed, Live}
+use Rattle.jb_state.specs.declared.mark.Mark.{Mark}
 use Rattle.jb_record.specs.Fixed.{IsFixedHeader, fixed_header_of}
 use Rattle.jb_record.specs.Index.{index_record_bytes, index_record_of}
 use Rattle.jb_record.specs.Lastread.{lastread_record_bytes, lastread_record_of}
@@ -24,9 +25,10 @@ use Rattle.jb_image.specs.Places.{bytes_at, entry_in, header_in, mark_in}
 use Rattle.jb_image.specs.Stands.{HasSlot, IsLiveHeader, IsLiveIn, Loads, head_of, mark_record}
 use Rattle.jb_change.specs.Post.{IsNext, number_behind}
 use Rattle.jb_image.specs.Records.{IsEntryReadAgain, IsHeaderReadAgain, IsMarkReadAgain, entry_for, message_bytes, numbered_header}
-use Rattle.jb_change.proofs.EndLemmas.{length-bytes_at, at_end, below_end, past_end}
+use Rattle.jb_change.proofs.EndLemmas.{at_end, below_end, past_end}
 use Rattle.jb_change.proofs.KeptLemmas.{entry_kept, mark_kept, slot_kept}
 use Rattle.jb_image.proofs.RecordLemmas.{length-entry, length-mark, length-message, shaped_header}
+use Rattle.jb_image.proofs.FileBytes.{length-bytes_at}
 
 -- .JHR is no shorter than the fixed header
 pub fixed_whole : (files : Files) (loaded : Loaded) → Loads loaded files → 1024 ≤ length (files Jhr)
@@ -169,7 +171,7 @@ module _ (files after : Files) (loaded : Loaded) (message : LoadedMessage) (text
         texts_len = omega (arith, loads.texts_len, next.text_len, ap length jdt, length-append (files Jdt) text);
       }
 
-module _ (files after : Files) (loaded : Loaded) (mark : Mark) (loads : Loads loaded files) (back : IsMarkReadAgain mark) (few : length loaded.marks < 65000)
+module _ (files after : Files) (loaded : Loaded) (mark : Mark) (loads : Loads loaded files) (back : IsMarkReadAgain mark) (few : length loaded.marks < MOST_SLOTS)
     (jhr : after Jhr ≡ files Jhr) (jdt : after Jdt ≡ files Jdt) (jdx : after Jdx ≡ files Jdx)
     (jlr : after Jlr ≡ files Jlr ++ lastread_record_bytes (mark_record mark)) where
   -- each mark is there

@@ -4,6 +4,7 @@ use Rattle.std.specs.List.{flat_map}
 use Rattle.std.proofs.lemmas.List.{append-nil}
 use Rattle.std.proofs.lemmas.List.Elements.{All-nil, All-cons}
 use Rattle.std.proofs.lemmas.List.Kept.{AllPairs-cons}
+use Rattle.jb_limits.specs.declared.limits.TheConstants.{MOST_SLOTS}
 use Rattle.jb_redo.specs.Changes.{changed, record_size}
 use Rattle.jb_disk.specs.RedoView.{RedoView}
 use Rattle.jb_disk.specs.Files.{Files}
@@ -13,9 +14,9 @@ use Rattle.jb_disk.specs.declared.piece.Length.{Length}
 use Rattle.jb_disk.specs.declared.piece.Piece.{Piece}
 use Rattle.jb_disk.specs.declared.piece.Piece.TheVariants.{Bytes}
 use Rattle.jb_image.specs.Stands.{Loads, mark_record}
-use Rattle.jb_model.specs.Loaded.{with_marks}
-use Rattle.jb_model.specs.declared.loaded.Loaded.{Loaded}
-use Rattle.jb_model.specs.declared.mark.Mark.{Mark}
+use Rattle.jb_state.specs.Loaded.{with_marks}
+use Rattle.jb_state.specs.declared.loaded.Loaded.{Loaded}
+use Rattle.jb_state.specs.declared.mark.Mark.{Mark}
 use Rattle.jb_record.specs.Lastread.{lastread_record_bytes}
 use Rattle.jb_redo.specs.Record.{piece_bytes}
 use Rattle.jb_redo.specs.Replay.{IsGrowthCovered, applied}
@@ -30,7 +31,7 @@ use Rattle.jb_image.proofs.RecordLemmas.{length-mark}
 use Rattle.jb_change.proofs.SizeLemmas.{length-pieces, length-record}
 
 -- its length is legal
-pub legal_mark_lengths : (count : ℕ) → count < 65000 → AreLegalLengths (mark_lengths count)
+pub legal_mark_lengths : (count : ℕ) → count < MOST_SLOTS → AreLegalLengths (mark_lengths count)
 legal_mark_lengths count few =
     let marks : Length = record { file = Jlr; len = 16 * count + 16 } in
     record {
@@ -39,7 +40,7 @@ legal_mark_lengths count few =
       rising = AllPairs-cons IsBefore marks [] (All-nil (IsBefore marks)) no_pairs;
     }
 
-module _ (count : ℕ) (mark : Mark) (few : count < 65000) where
+module _ (count : ℕ) (mark : Mark) (few : count < MOST_SLOTS) where
   -- how long its record is
   pub size_of_mark : (change : RedoView) → change.lengths ≡ mark_lengths count → change.pieces ≡ mark_pieces count mark → record_size change ≡ 52
   size_of_mark change lengths_are pieces_are =

@@ -12,12 +12,12 @@ use Rattle.jb_disk.specs.declared.piece.Length.{Length}
 use Rattle.jb_disk.specs.declared.piece.Piece.{Piece}
 use Rattle.jb_disk.specs.declared.piece.Piece.TheVariants.{Bytes}
 use Rattle.jb_disk.specs.Files.{Files, InFile, number_of, overwritten, written}
-use Rattle.jb_disk.specs.FileLaws.{same_file, same_files, InFile-with, with_file-here, with_file-other, number-injective, length-of_length, length-overwritten}
+use Rattle.jb_disk.specs.FileLaws.{same_file, same_files, InFile-with, with_file-here, with_file-other, number-injective, length-of_length}
 use Rattle.jb_disk.specs.Memory.{of_length}
 use Rattle.jb_disk.specs.Steps.{Span, Torn, IsCovered, IsWithin, patched}
 use Rattle.jb_image.specs.Stands.{Loads}
-use Rattle.jb_model.specs.declared.loaded.Loaded.{Loaded}
-use Rattle.jb_redo.specs.Record.{record_bytes, length_bytes, piece_bytes}
+use Rattle.jb_state.specs.declared.loaded.Loaded.{Loaded}
+use Rattle.jb_redo.specs.Record.{record_bytes, piece_bytes}
 use Rattle.jb_redo.specs.Replay.{applied, span_of, spans_in, writes, IsGrowthCovered}
 use Rattle.jb_redo.specs.Rules.{sizes_of, new_sizes, IsLegal, IsLegalPiece}
 use Rattle.jb_redo.proofs.SpanLemmas.{spans_in-here, spans_in-other, spans_within}
@@ -25,6 +25,8 @@ use Rattle.jb_change.specs.Makes.{Makes}
 use Rattle.jb_redo.specs.Changes.{changed, record_size}
 use Rattle.jb_change.specs.Changing.{Puts, WritesOnly}
 use Rattle.jb_change.proofs.ByteLemmas.{torn-overwritten, torn-then, torn-wider}
+use Rattle.jb_redo.proofs.ApplyLemmas.{length-patched, patched-push}
+use Rattle.jb_change.proofs.SizeLemmas.{length-record}
 
 -- what two lists of pieces write into a file
 spans-append : (files : Files) (one other : List Piece) (file : FileId) → spans_in files (one ++ other) file ≡ spans_in files one file ++ spans_in files other file
@@ -34,22 +36,6 @@ spans-append files one other file = ap (map (span_of files)) (filter-append (wri
 covered_more : (one other : List Span) (i : ℕ) → IsCovered one i → IsCovered (one ++ other) i
 covered_more [] other i covered = absurd covered
 covered_more (span ∷ one) other i covered = elim covered [ inl here ↦ inl here | inr there ↦ inr (covered_more one other i there) ]
-
--- one span more, written last
-patched-push : (spans : List Span) (span : Span) (old : List ℕ) → patched (spans ++ span ∷ []) old ≡ overwritten span.at span.bytes (patched spans old)
-patched-push [] span old = refl
-patched-push (first ∷ spans) span old = patched-push spans span (overwritten first.at first.bytes old)
-
--- spans within a file keep its length
-length-patched : (spans : List Span) (old : List ℕ) → IsWithin spans (length old) → length (patched spans old) ≡ length old
-length-patched [] old within = refl
-length-patched (span ∷ spans) old within =
-    let size = length-overwritten span.at span.bytes old within.0 in
-    length-patched spans (overwritten span.at span.bytes old) (subst (IsWithin spans) (sym size) within.1) ∙ size
-
--- the length of a record
-length-record : (lengths : List Length) (pieces : List Piece) → length (record_bytes lengths pieces) ≡ 16 + length (flat_map length_bytes lengths) + length (flat_map piece_bytes pieces)
-length-record lengths pieces = simp length-append (omega arith)
 
 -- the length of the files that a record makes
 length-applied : (files : Files) (lengths : List Length) (pieces : List Piece) (file : FileId) → IsLegal (sizes_of files) lengths pieces
@@ -166,3 +152,9 @@ only_then file at len old now new first second files room =
       here = torn-then at len (changed old files file) (changed now files file) (changed new files file) one.here two.here;
       others = λ other apart. two.others other apart ∙ one.others other apart;
     }
+
+-- one within a part of a range is one within the range
+pub only_wider : (file : FileId) (at len from n : ℕ) (old new : RedoView) → from ≤ at → at + len ≤ from + n → WritesOnly old new file at len → WritesOnly old new file from n
+only_wider file at len from n old new low high only files room =
+    let one = only files (omega (arith, room, high)) in
+    record { here = torn-wider at len from n (changed old files file) (changed new files file) low high one.here; others = one.others }

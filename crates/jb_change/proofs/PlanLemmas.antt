@@ -1,27 +1,25 @@
 -- What links do to an area, and what puts them there.
-use Rattle.std.proofs.Common.{◌≡◌, ℕ, zero, suc, ◌+◌, ◌-◌, ◌≤◌, ◌<◌, Bool, true, false, cond, ◌==◌, ◌&&◌, not, nat_lt, le-ltb, ltb-false, eqb-true, List, [], ◌∷◌, ◌++◌, All, length, map, get_or, set, slice_get, take, Option, None, Some, ap, sym, refl, ◌∙◌, subst, arith}
-use Rattle.std.proofs.Math.Seq.{take-suc}
+use Rattle.std.proofs.Common.{◌≡◌, ℕ, zero, suc, ◌+◌, ◌-◌, ◌≤◌, ◌<◌, Bool, true, false, cond, ◌==◌, ◌&&◌, not, nat_lt, le-ltb, ltb-false, eqb-true, List, [], ◌∷◌, ◌++◌, get_or, set, slice_get, Option, None, Some, ap, sym, refl, ◌∙◌, subst, arith}
 use Rattle.std.proofs.lemmas.Bool.{false≢true}
 use Rattle.std.proofs.lemmas.List.{set-get_or}
-use Rattle.std.proofs.lemmas.List.Elements.{All-cons, All-nil}
 use Rattle.std.proofs.lemmas.Option.{get_or_from_slice_get, slice_get-get_or}
 use Rattle.jb_disk.specs.RedoView.{RedoView}
 use Rattle.jb_disk.specs.declared.file.FileId.TheVariants.{Jhr}
-use Rattle.jb_model.specs.Linked.{IsPlaced, linked_head, with_links_in, with_links_of}
-use Rattle.jb_model.specs.Links.{Linkable}
-use Rattle.jb_model.specs.LiveSlots.{linkables_from, loaded_linkable, message_in}
-use Rattle.jb_model.specs.Loaded.{IsMessageAt, with_head_at}
-use Rattle.jb_model.specs.Plan.{differs, has_links, links_of, loaded_at, plan_of}
-use Rattle.jb_model.specs.declared.links.Links.{Links}
-use Rattle.jb_model.specs.declared.loaded.Loaded.{Loaded}
-use Rattle.jb_model.specs.declared.loaded.LoadedMessage.{LoadedMessage}
-use Rattle.jb_model.specs.declared.loaded.LoadedSlot.{LoadedSlot}
-use Rattle.jb_model.specs.declared.loaded.LoadedSlot.TheVariants.{Empty, Killed, Live}
-use Rattle.jb_model.specs.declared.message.Head.{Head}
+use Rattle.jb_state.specs.Linked.{IsPlaced, linked_head, with_links_in, with_links_of}
+use Rattle.jb_state.specs.LiveSlots.{message_in}
+use Rattle.jb_state.specs.Loaded.{IsMessageAt, with_head_at}
+use Rattle.jb_state.specs.Plan.{differs, has_links, loaded_at}
+use Rattle.jb_state.specs.declared.links.Links.{Links}
+use Rattle.jb_state.specs.declared.loaded.Loaded.{Loaded}
+use Rattle.jb_state.specs.declared.loaded.LoadedMessage.{LoadedMessage}
+use Rattle.jb_state.specs.declared.loaded.LoadedSlot.{LoadedSlot}
+use Rattle.jb_state.specs.declared.loaded.LoadedSlot.TheVariants.{Empty, Killed, Live}
+use Rattle.jb_state.specs.declared.message.Head.{Head}
 use Rattle.jb_change.specs.Changing.{ChangesHead, ChangesHeader, WritesOnly, head_with_links, header_with_links}
 use Rattle.jb_change.specs.Headers.{Updates}
 use Rattle.jb_change.specs.Links.{AreLeftAbove}
 use Rattle.jb_change.proofs.UpdateLemmas.{updates_links}
+use Rattle.jb_state.proofs.LinkedLaws.{links_of_more}
 
 -- a message that a number names stands at its place
 named_at_place : (loaded : Loaded) (number : ℕ) (message : LoadedMessage) → loaded_at loaded number ≡ Some message → (loaded.base ≤ number) × IsMessageAt loaded (number - loaded.base) message
@@ -47,12 +45,6 @@ pub counter_of : (plan : List Links) (loaded : Loaded) → (with_links_of plan l
 counter_of [] loaded = refl
 counter_of (links ∷ plan) loaded =
     counter_of plan (with_links_in links (loaded_at loaded links.number) loaded) ∙ counter_in links (loaded_at loaded links.number) loaded
-
--- the links of one message more behind a plan
-pub links_of_more : (plan : List Links) (links : Links) (loaded : Loaded)
-    → with_links_of (plan ++ links ∷ []) loaded ≡ with_links_in links (loaded_at (with_links_of plan loaded) links.number) (with_links_of plan loaded)
-links_of_more [] links loaded = refl
-links_of_more (first ∷ plan) links loaded = links_of_more plan links (with_links_in first (loaded_at loaded first.number) loaded)
 
 -- where the header of a message stands, where there is one
 abbrev header_of : Option LoadedMessage → Option ℕ
@@ -108,7 +100,7 @@ one_header one other is = cc
 -- the links of a live message are put behind those of others
 pub links_put : (old new : RedoView) (loaded : Loaded) (before : List Links) (links : Links) (message : LoadedMessage) → loaded_at loaded links.number ≡ Some message
     → ChangesHead old new message.header_at (head_with_links links.reply_to links.first links.next)
-    → ChangesHeader old new message.header_at (header_with_links links.reply_to links.first links.next) → WritesOnly old new Jhr message.header_at 76
+    → ChangesHeader old new message.header_at (header_with_links links.reply_to links.first links.next) → WritesOnly old new Jhr (message.header_at + 24) 12
     → Updates old loaded (with_links_of before loaded) [] → Updates new loaded (with_links_of (before ++ links ∷ []) loaded) []
 links_put old new loaded before links message here changes header only made = by_found (loaded_at to links.number) refl
   where
@@ -152,10 +144,6 @@ here_live loaded links slot message placed is live = loaded_at_is loaded links s
 pub here_none : (loaded : Loaded) (links : Links) (slot : LoadedSlot) → IsPlaced loaded links → slot ≡ get_or loaded.slots (links.number - loaded.base) slot
     → ((message : LoadedMessage) → slot ≡ Live message → ⊥) → loaded_at loaded links.number ≡ None
 here_none loaded links slot placed is none = loaded_at_is loaded links slot placed is ∙ not_live slot none
-
--- the plan up to the next links
-pub plan_more : (plan : List Links) (k : ℕ) (links : Links) → k < length plan → take (k + 1) plan ≡ take k plan ++ get_or plan k links ∷ []
-plan_more plan k links low = let next : k + 1 ≡ suc k = omega arith in ap (λ (n : ℕ). take n plan) next ∙ take-suc plan k links low
 
 -- all three
 all_three : (a b c : Bool) → (a && b && c) ≡ true → (a ≡ true) × (b ≡ true) × (c ≡ true)
@@ -228,19 +216,3 @@ left_above loaded before links last next left more past = λ number low.
     let to : Loaded = with_links_of before loaded in
     ap (λ (l : Loaded). loaded_at l number) (links_of_more before links loaded)
     ∙ above_in links (loaded_at to links.number) to number refl (omega (arith, past, low)) ∙ left number (omega (arith, more, low))
-
--- the links of slots from a place on are for slots from there on
-placed_from : (live : List Linkable) (loaded : Loaded) (k number : ℕ) (slots : List LoadedSlot) → number ≡ loaded.base + k → k + length slots ≡ length loaded.slots
-    → All (IsPlaced loaded) (map (links_of live) (linkables_from number slots))
-placed_from live loaded k number [] at rest = All-nil (IsPlaced loaded)
-placed_from live loaded k number (Empty ∷ slots) at rest = placed_from live loaded (k + 1) (number + 1) slots (omega arith) (omega arith)
-placed_from live loaded k number (Killed header_at ∷ slots) at rest = placed_from live loaded (k + 1) (number + 1) slots (omega arith) (omega arith)
-placed_from live loaded k number (Live message ∷ slots) at rest =
-    All-cons (IsPlaced loaded) (links_of live (loaded_linkable number message)) (map (links_of live) (linkables_from (number + 1) slots))
-    (record { low = omega arith; within = omega arith }) (placed_from live loaded (k + 1) (number + 1) slots (omega arith) (omega arith))
-
--- the links of an area are for its slots
-pub plan_is_placed : (loaded : Loaded) (plan : List Links) → plan ≡ plan_of (linkables_from loaded.base loaded.slots) → All (IsPlaced loaded) plan
-plan_is_placed loaded plan is =
-    let P : List Links → Type 0 = All (IsPlaced loaded) in
-    subst P (sym is) (placed_from (linkables_from loaded.base loaded.slots) loaded 0 loaded.base loaded.slots (omega arith) (omega arith))

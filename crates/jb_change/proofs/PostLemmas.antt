@@ -16,10 +16,10 @@ use Rattle.jb_disk.specs.declared.piece.Piece.{Piece}
 use Rattle.jb_disk.specs.declared.piece.Piece.TheVariants.{Bytes}
 use Rattle.jb_image.specs.Places.{header_in}
 use Rattle.jb_image.specs.Stands.{Loads}
-use Rattle.jb_model.specs.Loaded.{header_size, with_message_behind}
-use Rattle.jb_model.specs.declared.loaded.Loaded.{Loaded}
-use Rattle.jb_model.specs.declared.loaded.LoadedMessage.{LoadedMessage}
-use Rattle.jb_model.specs.declared.loaded.LoadedSlot.TheVariants.{Live}
+use Rattle.jb_state.specs.Loaded.{header_size, with_message_behind}
+use Rattle.jb_state.specs.declared.loaded.Loaded.{Loaded}
+use Rattle.jb_state.specs.declared.loaded.LoadedMessage.{LoadedMessage}
+use Rattle.jb_state.specs.declared.loaded.LoadedSlot.TheVariants.{Live}
 use Rattle.jb_record.specs.Index.{index_record_bytes}
 use Rattle.jb_record.specs.declared.message.MessageHeader.{MessageHeader}
 use Rattle.jb_redo.specs.Replay.{IsGrowthCovered, applied}

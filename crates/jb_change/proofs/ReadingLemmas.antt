@@ -8,12 +8,12 @@ use Rattle.jb_bytes.specs.Number.{number_bytes}
 use Rattle.jb_bytes.proofs.Numbers.{little_endian-back}
 use Rattle.jb_disk.specs.RedoView.{RedoView}
 use Rattle.jb_disk.specs.declared.file.FileId.TheVariants.{Jhr}
-use Rattle.jb_model.specs.Loaded.{IsMessageAt, with_head_at}
-use Rattle.jb_model.specs.declared.loaded.Loaded.{Loaded}
-use Rattle.jb_model.specs.declared.loaded.LoadedMessage.{LoadedMessage}
-use Rattle.jb_model.specs.declared.loaded.LoadedSlot.{LoadedSlot}
-use Rattle.jb_model.specs.declared.loaded.LoadedSlot.TheVariants.{Live}
-use Rattle.jb_model.specs.declared.message.Head.{Head}
+use Rattle.jb_state.specs.Loaded.{IsMessageAt, with_head_at}
+use Rattle.jb_state.specs.declared.loaded.Loaded.{Loaded}
+use Rattle.jb_state.specs.declared.loaded.LoadedMessage.{LoadedMessage}
+use Rattle.jb_state.specs.declared.loaded.LoadedSlot.{LoadedSlot}
+use Rattle.jb_state.specs.declared.loaded.LoadedSlot.TheVariants.{Live}
+use Rattle.jb_state.specs.declared.message.Head.{Head}
 use Rattle.jb_record.specs.declared.message.MessageHeader.{MessageHeader}
 use Rattle.jb_image.specs.Places.{header_in}
 use Rattle.jb_image.specs.Stands.{head_of}
@@ -22,7 +22,7 @@ use Rattle.jb_change.specs.Makes.{Makes}
 use Rattle.jb_redo.specs.Changes.{changed}
 use Rattle.jb_change.proofs.ChangeLemmas.{IsInHeader, one_inside, header_put_there, header_only, head_makes}
 use Rattle.jb_change.proofs.HeaderLemmas.{with_bytes}
-use Rattle.jb_change.proofs.PieceLemmas.{only_then}
+use Rattle.jb_change.proofs.PieceLemmas.{only_then, put_only}
 
 -- the message that was put at a place stands there
 message_put : (to : Loaded) (place : ℕ) (message : LoadedMessage) (head : Head) → IsMessageAt to place message → IsMessageAt (with_head_at place head message to) place (record message { head = head })
@@ -127,9 +127,14 @@ module _ (at : ℕ) (reading : Head) (first second third fourth : RedoView) (fit
   date_only : WritesOnly first third Jhr at 76
   date_only = only_then Jhr at 76 first second third times_only (header_only at 40 date second third puts_date date_inside)
 
-  -- after all of them
-  pub reading_only : WritesOnly first fourth Jhr at 76
-  reading_only = only_then Jhr at 76 first third fourth date_only (header_only at 52 bits third fourth puts_bits bits_inside)
+  -- nor one outside of TimesRead to Attribute, after all of them
+  pub reading_only : WritesOnly first fourth Jhr (at + 12) 44
+  reading_only =
+      only_then Jhr (at + 12) 44 first third fourth
+      (only_then Jhr (at + 12) 44 first second third
+      (put_only Jhr (at + 12) times first second puts_times (at + 12) 44 (omega arith) (omega arith))
+      (put_only Jhr (at + 40) date second third puts_date (at + 12) 44 (omega arith) (omega arith)))
+      (put_only Jhr (at + 52) bits third fourth puts_bits (at + 12) 44 (omega arith) (omega arith))
 
   -- what the header is then
   pub reading_header : ChangesHeader first fourth at (header_with_reading reading)

@@ -1,5 +1,5 @@
 -- How long the journal's record of a change is.
-use Rattle.std.proofs.Common.{◌≡◌, ℕ, ◌+◌, ◌*◌, List, [], ◌∷◌, ◌++◌, length, refl, arith, length-append}
+use Rattle.std.proofs.Common.{◌≡◌, ℕ, ◌+◌, ◌*◌, List, ◌∷◌, ◌++◌, length, arith, length-append}
 use Rattle.std.specs.List.{flat_map}
 use Rattle.jb_bytes.specs.Number.{number_bytes}
 use Rattle.jb_disk.specs.Files.{number_of}
@@ -8,11 +8,7 @@ use Rattle.jb_disk.specs.declared.piece.Length.{Length}
 use Rattle.jb_disk.specs.declared.piece.Piece.{Piece}
 use Rattle.jb_disk.specs.declared.piece.Piece.TheVariants.{Bytes}
 use Rattle.jb_redo.specs.Record.{length_bytes, piece_bytes, record_bytes, record_end, record_head}
-
--- each length takes eight bytes
-pub length-lengths : (lengths : List Length) → length (flat_map length_bytes lengths) ≡ 8 * length lengths
-length-lengths [] = refl
-length-lengths (entry ∷ lengths) = omega (arith, length-append (length_bytes entry) (flat_map length_bytes lengths), length-lengths lengths)
+use Rattle.jb_redo.proofs.RecordLemmas.{length-lengths}
 
 -- a piece of given bytes takes twelve bytes more than these
 pub length-pieces : (file : FileId) (at : ℕ) (bytes : List ℕ) (pieces : List Piece)

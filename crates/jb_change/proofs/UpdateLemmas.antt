@@ -1,9 +1,9 @@
 -- What keeps each header of an area in its place, and its number.
-use Rattle.std.proofs.Common.{◌≡◌, ◌≢◌, inl, inr, ℕ, zero, suc, ◌+◌, ◌*◌, ◌<◌, ◌≤◌, List, [], ◌∷◌, ◌++◌, length, drop, get_or, set, slice_get, None, Some, ap, sym, refl, ◌∙◌, subst, arith, length-take, length-drop}
-use Rattle.std.specs.Prelude.{AllPairs, option_and_then, slice_index, slice_set}
+use Rattle.std.proofs.Common.{◌≡◌, ◌≢◌, inl, inr, ℕ, zero, suc, ◌+◌, ◌*◌, ◌<◌, ◌≤◌, List, [], ◌∷◌, ◌++◌, length, drop, get_or, set, slice_get, None, Some, ap, sym, refl, ◌∙◌, subst, arith}
+use Rattle.std.specs.Prelude.{AllPairs, option_and_then, slice_set}
 use Rattle.std.proofs.lemmas.Bool.{cases_eq, cases_lt}
-use Rattle.std.proofs.lemmas.Grind.{same_number_lists}
-use Rattle.std.proofs.lemmas.List.{places, take-append-drop}
+use Rattle.std.proofs.lemmas.List.{take-append-drop}
+use Rattle.jb_change.proofs.ByteLemmas.{bytes_kept}
 use Rattle.jb_change.proofs.EndLemmas.{below_end, same_length}
 use Rattle.jb_change.specs.Behind.{AppendsOnly}
 use Rattle.jb_change.specs.Changing.{ChangesArea, ChangesHead, ChangesHeader, ChangesMark, ChangesMessage, WritesOnly, head_with_links, head_with_reading, header_with_attribute, header_with_links, header_with_reading}
@@ -12,25 +12,27 @@ use Rattle.jb_redo.specs.Changes.{changed}
 use Rattle.jb_disk.specs.RedoView.{RedoView}
 use Rattle.jb_disk.specs.Files.{Files, number_of}
 use Rattle.jb_disk.specs.Steps.{Torn}
-use Rattle.jb_disk.specs.declared.file.FileId.TheVariants.{Jhr, Jdx, Jlr}
+use Rattle.jb_disk.specs.declared.file.FileId.{FileId}
+use Rattle.jb_disk.specs.declared.file.FileId.TheVariants.{Jhr, Jlr}
 use Rattle.jb_disk.specs.declared.piece.Length.{Length}
 use Rattle.jb_disk.specs.declared.piece.Piece.{Piece}
 use Rattle.jb_image.specs.Places.{bytes_at, entry_in, header_in}
 use Rattle.jb_image.specs.Stands.{HasHeader, HasSlot, Loads}
-use Rattle.jb_model.specs.Loaded.{IsMessageAt, with_counts, with_head_at, with_killed_at, with_marks, with_message_behind, with_slot_at}
-use Rattle.jb_model.specs.Sound.{AreApart, Covers}
-use Rattle.jb_model.specs.declared.loaded.Loaded.{Loaded}
-use Rattle.jb_model.specs.declared.loaded.LoadedMessage.{LoadedMessage}
-use Rattle.jb_model.specs.declared.loaded.LoadedSlot.{LoadedSlot}
-use Rattle.jb_model.specs.declared.loaded.LoadedSlot.TheVariants.{Empty, Killed, Live}
-use Rattle.jb_model.specs.declared.mark.Mark.{Mark}
-use Rattle.jb_model.specs.declared.message.Head.{Head}
+use Rattle.jb_state.specs.Loaded.{IsMessageAt, with_counts, with_head_at, with_killed_at, with_marks, with_message_behind, with_slot_at}
+use Rattle.jb_state.specs.Sound.{AreApart, Covers}
+use Rattle.jb_state.specs.declared.loaded.Loaded.{Loaded}
+use Rattle.jb_state.specs.declared.loaded.LoadedMessage.{LoadedMessage}
+use Rattle.jb_state.specs.declared.loaded.LoadedSlot.{LoadedSlot}
+use Rattle.jb_state.specs.declared.loaded.LoadedSlot.TheVariants.{Empty, Killed, Live}
+use Rattle.jb_state.specs.declared.mark.Mark.{Mark}
+use Rattle.jb_state.specs.declared.message.Head.{Head}
 use Rattle.jb_record.specs.Message.{message_header_of}
 use Rattle.jb_record.specs.declared.index.IndexRecord.{IndexRecord}
 use Rattle.jb_record.specs.declared.message.MessageHeader.{MessageHeader}
 use Rattle.jb_redo.specs.Replay.{applied}
 use Rattle.jb_change.specs.Headers.{KeepsNumbers, Updates, header_place, header_place_at}
 use Rattle.jb_change.specs.Ready.{IsCleared, IsEmptied, IsReadyFor}
+use Rattle.jb_change.proofs.PieceLemmas.{only_wider}
 
 -- no place is that of a header
 no_place : (at : ℕ) → None ≡ Some at → ⊥
@@ -102,29 +104,7 @@ places_apart slots p q one other i apart different first second a b c d =
       | inr behind ↦ apart q p Empty (omega (arith, behind, different)) low i there here
     ]
 
--- bytes that have no place in the range of a write are as they were
-bytes_kept : (at len from n : ℕ) (old new : List ℕ) → Torn at len old new → ((i : ℕ) → from ≤ i → i < from + n → at ≤ i → i < at + len → ⊥)
-    → bytes_at from n new ≡ bytes_at from n old
-bytes_kept at len from n old new torn apart =
-    let size = torn.size in
-    let new_from = length-drop from new in
-    let old_from = length-drop from old in
-    let new_len = length-take n (drop from new) in
-    let old_len = length-take n (drop from old) in
-    same_number_lists (bytes_at from n new) (bytes_at from n old) (omega arith) (λ k low.
-    let short : k < n = omega arith in
-    byte new k short ∙ elim (cases_lt (from + k) at) [
-      | inl below ↦ torn.below (from + k) below
-      | inr high ↦ elim (cases_lt (from + k) (at + len)) [
-        | inl inside ↦ absurd (apart (from + k) (omega arith) (omega arith) high inside)
-        | inr past ↦ torn.above (from + k) past
-      ]
-    ] ∙ sym (byte old k short))
-  where
-    byte : (bytes : List ℕ) (k : ℕ) → k < n → slice_index (bytes_at from n bytes) k ≡ slice_index bytes (from + k)
-    byte bytes k short = grind (arith, places)
-
--- so is the number of a header there
+-- the number of a header that has no place in the range of a write is as it was
 number_kept : (at len from : ℕ) (old new : Files) → Torn at len (old Jhr) (new Jhr) → ((i : ℕ) → from ≤ i → i < from + 76 → at ≤ i → i < at + len → ⊥)
     → (header_in new from).number ≡ (header_in old from).number
 number_kept at len from old new torn apart = ap (λ (b : List ℕ). (message_header_of b).number) (bytes_kept at len from 76 (old Jhr) (new Jhr) torn apart)
@@ -191,17 +171,17 @@ pub numbers_beside : (old new : RedoView) (at len : ℕ) → WritesOnly old new 
 numbers_beside old new at len only files room loaded p from is =
     ap (λ (b : List ℕ). (message_header_of (bytes_at from 76 b)).number) ((only files room).others Jhr (λ same. let number = ap number_of same in omega (arith, number)))
 
--- a change of nothing leaves .JHR
-headers_left : (change : RedoView) (files : Files) → change.lengths ≡ [] → change.pieces ≡ [] → changed change files Jhr ≡ files Jhr
-headers_left change files no_lengths no_pieces =
-    ap (λ (l : List Length). applied l change.pieces files Jhr) no_lengths ∙ ap (λ (p : List Piece). applied [] p files Jhr) no_pieces ∙ same_length (files Jhr)
+-- a change of nothing leaves each file
+pub file_left : (change : RedoView) (files : Files) (file : FileId) → change.lengths ≡ [] → change.pieces ≡ [] → changed change files file ≡ files file
+file_left change files file no_lengths no_pieces =
+    ap (λ (l : List Length). applied l change.pieces files file) no_lengths ∙ ap (λ (p : List Piece). applied [] p files file) no_pieces ∙ same_length (files file)
 
 -- and updates each area to the same one
 updates_nothing : (change : RedoView) (loaded : Loaded) → change.lengths ≡ [] → change.pieces ≡ [] → Makes change loaded loaded [] → Updates change loaded loaded []
 updates_nothing change loaded no_lengths no_pieces makes = record {
   makes = makes;
   places = λ p at is. is;
-  numbers = λ files loads p at is. ap (λ (b : List ℕ). (message_header_of (bytes_at at 76 b)).number) (headers_left change files no_lengths no_pieces);
+  numbers = λ files loads p at is. ap (λ (b : List ℕ). (message_header_of (bytes_at at 76 b)).number) (file_left change files Jhr no_lengths no_pieces);
 }
 
 -- a message behind the others
@@ -225,45 +205,33 @@ updates_cleared redo loaded cleared = updates_nothing redo loaded cleared.no_len
 pub updates_ready : (count : ℕ) (redo : RedoView) (loaded : Loaded) → IsReadyFor count redo → Updates redo loaded loaded []
 updates_ready count redo loaded ready = updates_nothing redo loaded ready.no_lengths ready.no_pieces (ready.makes loaded)
 
--- a change of nothing leaves .JDX
-pub index_left : (change : RedoView) (files : Files) → change.lengths ≡ [] → change.pieces ≡ [] → changed change files Jdx ≡ files Jdx
-index_left change files no_lengths no_pieces =
-    ap (λ (l : List Length). applied l change.pieces files Jdx) no_lengths ∙ ap (λ (p : List Piece). applied [] p files Jdx) no_pieces ∙ same_length (files Jdx)
-
--- so do the counts
-pub index_counted : (old new : RedoView) → WritesOnly old new Jhr 8 8 → (files : Files) (to : Loaded) → Loads to (changed old files) → changed new files Jdx ≡ changed old files Jdx
-index_counted old new only files to loads =
-    let size = loads.header.size in
-    let taken = length-take 1024 (changed old files Jhr) in
-    (only files (omega (arith, size, taken))).others Jdx (λ same. let number = ap number_of same in omega (arith, number))
-
 -- other links in the header of a live message update the area
 pub updates_links : (old new : RedoView) (at reply_to first next : ℕ) → ChangesHead old new at (head_with_links reply_to first next) → ChangesHeader old new at (header_with_links reply_to first next)
-    → WritesOnly old new Jhr at 76 → (from to : Loaded) (text : List ℕ) (place : ℕ) (message : LoadedMessage) → Updates old from to text → IsMessageAt to place message → message.header_at ≡ at
+    → WritesOnly old new Jhr (at + 24) 12 → (from to : Loaded) (text : List ℕ) (place : ℕ) (message : LoadedMessage) → Updates old from to text → IsMessageAt to place message → message.header_at ≡ at
     → Updates new from (with_head_at place (head_with_links reply_to first next message.head) message to) text
 updates_links old new at reply_to first next makes header only from to text place message was here is =
-    updates_slot old new at (header_with_links reply_to first next) (λ h. refl) header only from to text place message (Live (record message { head = head_with_links reply_to first next message.head })) was here is
+    updates_slot old new at (header_with_links reply_to first next) (λ h. refl) header (only_wider Jhr (at + 24) 12 at 76 old new (omega arith) (omega arith) only) from to text place message (Live (record message { head = head_with_links reply_to first next message.head })) was here is
     (ap (λ (n : ℕ). Some n) is) (makes from to text place message was.makes here is)
 
 -- and they keep the numbers
-pub numbers_linked : (old new : RedoView) (at reply_to first next : ℕ) → ChangesHeader old new at (header_with_links reply_to first next) → WritesOnly old new Jhr at 76
+pub numbers_linked : (old new : RedoView) (at reply_to first next : ℕ) → ChangesHeader old new at (header_with_links reply_to first next) → WritesOnly old new Jhr (at + 24) 12
     → (files : Files) (to : Loaded) (place : ℕ) → Loads to (changed old files) → header_place_at to place ≡ Some at → KeepsNumbers to (changed old files) (changed new files)
-numbers_linked old new at reply_to first next header only = numbers_put old new at (header_with_links reply_to first next) (λ h. refl) header only
+numbers_linked old new at reply_to first next header only = numbers_put old new at (header_with_links reply_to first next) (λ h. refl) header (only_wider Jhr (at + 24) 12 at 76 old new (omega arith) (omega arith) only)
 
 -- so does a reading
 pub updates_reading : (old new : RedoView) (at : ℕ) (reading : Head) → ChangesHead old new at (head_with_reading reading) → ChangesHeader old new at (header_with_reading reading)
-    → WritesOnly old new Jhr at 76 → (from to : Loaded) (text : List ℕ) (place : ℕ) (message : LoadedMessage) → Updates old from to text → IsMessageAt to place message → message.header_at ≡ at
+    → WritesOnly old new Jhr (at + 12) 44 → (from to : Loaded) (text : List ℕ) (place : ℕ) (message : LoadedMessage) → Updates old from to text → IsMessageAt to place message → message.header_at ≡ at
     → Updates new from (with_head_at place (head_with_reading reading message.head) message to) text
 updates_reading old new at reading makes header only from to text place message was here is =
-    updates_slot old new at (header_with_reading reading) (λ h. refl) header only from to text place message (Live (record message { head = head_with_reading reading message.head })) was here is
+    updates_slot old new at (header_with_reading reading) (λ h. refl) header (only_wider Jhr (at + 12) 44 at 76 old new (omega arith) (omega arith) only) from to text place message (Live (record message { head = head_with_reading reading message.head })) was here is
     (ap (λ (n : ℕ). Some n) is) (makes from to text place message was.makes here is)
 
 -- so does a kill
 pub updates_kill : (old new : RedoView) (at attribute : ℕ) → ChangesMessage old new at with_killed_at → ChangesHeader old new at (header_with_attribute attribute)
-    → WritesOnly old new Jhr at 76 → (from to : Loaded) (text : List ℕ) (place : ℕ) (message : LoadedMessage) → Updates old from to text → IsMessageAt to place message → message.header_at ≡ at
+    → WritesOnly old new Jhr (at + 52) 4 → (from to : Loaded) (text : List ℕ) (place : ℕ) (message : LoadedMessage) → Updates old from to text → IsMessageAt to place message → message.header_at ≡ at
     → Updates new from (with_killed_at place message to) text
 updates_kill old new at attribute makes header only from to text place message was here is =
-    updates_slot old new at (header_with_attribute attribute) (λ h. refl) header only from to text place message (Killed message.header_at) was here is
+    updates_slot old new at (header_with_attribute attribute) (λ h. refl) header (only_wider Jhr (at + 52) 4 at 76 old new (omega arith) (omega arith) only) from to text place message (Killed message.header_at) was here is
     (ap (λ (n : ℕ). Some n) is) (makes from to text place message was.makes here is)
 
 -- so does a mark in the place of another

@@ -5,7 +5,7 @@ use Rattle.jb_disk.specs.RedoView.{RedoView}
 use Rattle.jb_disk.specs.Files.{Files}
 use Rattle.jb_disk.specs.declared.file.FileId.{FileId}
 use Rattle.jb_image.specs.Stands.{Loads}
-use Rattle.jb_model.specs.declared.loaded.Loaded.{Loaded}
+use Rattle.jb_state.specs.declared.loaded.Loaded.{Loaded}
 
 -- every byte that files of this area have stays as it is, also one that no slot and no mark shows
 abbrev pub AppendsOnly : RedoView → Loaded → Type 0

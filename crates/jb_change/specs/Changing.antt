@@ -3,15 +3,15 @@ use Rattle.std.specs.Prelude.{◌≡◌, ℕ, ◌+◌, ◌<◌, ◌≤◌, ◌^�
 use Rattle.jb_disk.specs.RedoView.{RedoView}
 use Rattle.jb_disk.specs.declared.file.FileId.{FileId}
 use Rattle.jb_disk.specs.declared.piece.Piece.TheVariants.{Bytes}
-use Rattle.jb_disk.specs.declared.file.FileId.TheVariants.{Jhr, Jdx}
+use Rattle.jb_disk.specs.declared.file.FileId.TheVariants.{Jhr}
 use Rattle.jb_disk.specs.Files.{Files, InFile}
 use Rattle.jb_disk.specs.Steps.{Torn}
 use Rattle.jb_image.specs.Places.{header_in}
-use Rattle.jb_model.specs.Loaded.{IsMessageAt, with_head_at, with_marks}
-use Rattle.jb_model.specs.declared.loaded.Loaded.{Loaded}
-use Rattle.jb_model.specs.declared.loaded.LoadedMessage.{LoadedMessage}
-use Rattle.jb_model.specs.declared.mark.Mark.{Mark}
-use Rattle.jb_model.specs.declared.message.Head.{Head}
+use Rattle.jb_state.specs.Loaded.{IsMessageAt, with_head_at, with_marks}
+use Rattle.jb_state.specs.declared.loaded.Loaded.{Loaded}
+use Rattle.jb_state.specs.declared.loaded.LoadedMessage.{LoadedMessage}
+use Rattle.jb_state.specs.declared.mark.Mark.{Mark}
+use Rattle.jb_state.specs.declared.message.Head.{Head}
 use Rattle.jb_record.specs.declared.message.MessageHeader.{MessageHeader}
 use Rattle.jb_change.specs.Makes.{Makes}
 use Rattle.jb_redo.specs.Changes.{changed}
@@ -43,10 +43,6 @@ ChangesHeader old new at act = (files : Files) → at + 76 ≤ length (changed o
 abbrev pub WritesOnly : RedoView → RedoView → FileId → ℕ → ℕ → Type 0
 WritesOnly old new file at len = (files : Files) → at + len ≤ length (changed old files file)
     → InFile file (Torn at len) (changed old files) (changed new files)
-
--- in the files that the change makes, the index is as it was: each record of it, and how many there are
-abbrev pub LeavesIndex : RedoView → RedoView → Type 0
-LeavesIndex old new = (files : Files) → changed new files Jdx ≡ changed old files Jdx
 
 -- a message's fields with other links
 abbrev pub head_with_links : ℕ → ℕ → ℕ → Head → Head

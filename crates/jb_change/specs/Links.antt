@@ -1,11 +1,11 @@
 -- Links that are put into the headers of an area.
 use Rattle.std.specs.Prelude.{◌≡◌, ℕ, ◌+◌, ◌^◌, ◌<◌, List}
-use Rattle.jb_model.specs.Linked.{with_links_of}
-use Rattle.jb_model.specs.Loaded.{IsMessageAt}
-use Rattle.jb_model.specs.Plan.{loaded_at}
-use Rattle.jb_model.specs.declared.links.Links.{Links}
-use Rattle.jb_model.specs.declared.loaded.Loaded.{Loaded}
-use Rattle.jb_model.specs.declared.loaded.LoadedMessage.{LoadedMessage}
+use Rattle.jb_state.specs.Linked.{with_links_of}
+use Rattle.jb_state.specs.Loaded.{IsMessageAt}
+use Rattle.jb_state.specs.Plan.{loaded_at}
+use Rattle.jb_state.specs.declared.links.Links.{Links}
+use Rattle.jb_state.specs.declared.loaded.Loaded.{Loaded}
+use Rattle.jb_state.specs.declared.loaded.LoadedMessage.{LoadedMessage}
 
 -- each live message's header stands where a change can name its place
 abbrev pub HasNearHeaders : Loaded → Type 0

@@ -9,8 +9,8 @@ use Rattle.jb_disk.specs.declared.piece.Length.{Length}
 use Rattle.jb_disk.specs.declared.piece.Piece.{Piece}
 use Rattle.jb_disk.specs.declared.piece.Piece.TheVariants.{Bytes}
 use Rattle.jb_image.specs.Stands.{Loads, fixed_of}
-use Rattle.jb_model.specs.State.{AreaState, state_of}
-use Rattle.jb_model.specs.declared.loaded.Loaded.{Loaded}
+use Rattle.jb_state.specs.State.{AreaState, state_of}
+use Rattle.jb_state.specs.declared.loaded.Loaded.{Loaded}
 use Rattle.jb_record.specs.Fixed.{fixed_header_bytes}
 use Rattle.jb_record.specs.declared.fixed.TheConstants.{FIXED_HEADER_BYTES, RESERVED_BYTES}
 use Rattle.jb_redo.specs.Rules.{AreLegalLengths}

@@ -7,9 +7,9 @@ use Rattle.jb_disk.specs.declared.piece.Length.{Length}
 use Rattle.jb_disk.specs.declared.piece.Piece.{Piece}
 use Rattle.jb_disk.specs.declared.piece.Piece.TheVariants.{Bytes}
 use Rattle.jb_image.specs.Stands.{mark_record}
-use Rattle.jb_model.specs.Loaded.{with_marks}
-use Rattle.jb_model.specs.declared.loaded.Loaded.{Loaded}
-use Rattle.jb_model.specs.declared.mark.Mark.{Mark}
+use Rattle.jb_state.specs.Loaded.{with_marks}
+use Rattle.jb_state.specs.declared.loaded.Loaded.{Loaded}
+use Rattle.jb_state.specs.declared.mark.Mark.{Mark}
 use Rattle.jb_record.specs.Lastread.{lastread_record_bytes}
 
 -- of each area with so many marks the change makes the area with this mark behind them

@@ -1,13 +1,17 @@
 -- Which changes are put into a redo, and what else they do there.
-use Rattle.std.specs.Prelude.{◌≡◌, ℕ, List, [], length}
+use Rattle.std.specs.Prelude.{◌≡◌, ◌⊎◌, ℕ, ◌+◌, ◌*◌, ◌<◌, ◌≤◌, List, [], Option, None, Some, length, slice_index}
 use Rattle.jb_redo.specs.Changes.{changed}
 use Rattle.jb_disk.specs.RedoView.{RedoView}
 use Rattle.jb_disk.specs.Files.{Files}
-use Rattle.jb_disk.specs.declared.file.FileId.TheVariants.{Jdx}
+use Rattle.jb_disk.specs.declared.file.FileId.{FileId}
+use Rattle.jb_disk.specs.declared.file.FileId.TheVariants.{Jhr, Jdx, Jlr}
 use Rattle.jb_image.specs.Stands.{Loads}
-use Rattle.jb_model.specs.declared.change.Change.{Change}
-use Rattle.jb_model.specs.declared.change.Change.TheVariants.{Posted, Killed, Relinked, Packed}
-use Rattle.jb_model.specs.declared.loaded.Loaded.{Loaded}
+use Rattle.jb_state.specs.declared.change.Change.{Change}
+use Rattle.jb_state.specs.declared.change.Change.TheVariants.{Nothing, Posted, Headed, Killed, Relinked, Marked, Packed}
+use Rattle.jb_state.specs.declared.change.HeadAt.{HeadAt}
+use Rattle.jb_state.specs.Loaded.{IsMessageAt}
+use Rattle.jb_state.specs.declared.loaded.Loaded.{Loaded}
+use Rattle.jb_state.specs.declared.loaded.LoadedMessage.{LoadedMessage}
 use Rattle.jb_change.specs.Post.{HasNextNumber}
 
 -- for a post this is the text of the message, and otherwise there is none
@@ -32,11 +36,60 @@ abbrev pub NumbersPosted : RedoView → Loaded → Change → Type 0
 NumbersPosted redo loaded (Posted message neighbour) = HasNextNumber redo loaded message
 NumbersPosted redo loaded _ = Unit {0}
 
--- the index of files that hold the area stays as it is: each record of it, and how many there are
-abbrev pub KeepsIndex : RedoView → Loaded → Type 0
-KeepsIndex redo loaded = (files : Files) → Loads loaded files → changed redo files Jdx ≡ files Jdx
+-- a place in ModCounter or ActiveMsgs
+abbrev pub IsInCounts : FileId → ℕ → Type 0
+IsInCounts file i = (file ≡ Jhr) × (8 ≤ i) × (i < 16)
+
+-- a place in so many bytes, from this one on, of the header of the live message that stands at a place of the index
+pub record IsInHeaderAt (loaded : Loaded) (place from len : ℕ) (file : FileId) (i : ℕ) : Type 0 where
+  pub message : LoadedMessage
+  pub here : IsMessageAt loaded place message
+  pub headers : file ≡ Jhr
+  pub low : message.header_at + from ≤ i
+  pub high : i < message.header_at + from + len
+
+-- a place in the links of some live message
+abbrev pub IsInLinks : Loaded → FileId → ℕ → Type 0
+IsInLinks loaded file i = (place : ℕ) × IsInHeaderAt loaded place 24 12 file i
+
+-- a place in the links of the neighbour, where there is one
+abbrev pub IsInNeighbour : Loaded → Option HeadAt → FileId → ℕ → Type 0
+IsInNeighbour loaded None file i = ⊥
+IsInNeighbour loaded (Some at) file i = IsInHeaderAt loaded at.place 24 12 file i
+
+-- a place in the record of the mark there, where one stands
+abbrev pub IsInMark : Option ℕ → FileId → ℕ → Type 0
+IsInMark None file i = ⊥
+IsInMark (Some place) file i = (file ≡ Jlr) × (16 * place ≤ i) × (i < 16 * place + 16)
+
+-- the bytes that a change may write of those that files of the area have: the counts, and the links of the neighbour, TimesRead to
+-- Attribute of a header that is read, Attribute of one that is killed, the links of a relink; or the record of a mark
+abbrev pub MayWrite : Loaded → Change → FileId → ℕ → Type 0
+MayWrite loaded Nothing file i = ⊥
+MayWrite loaded (Posted message neighbour) file i = IsInCounts file i ⊎ IsInNeighbour loaded neighbour file i
+MayWrite loaded (Headed at) file i = IsInCounts file i ⊎ IsInHeaderAt loaded at.place 12 44 file i
+MayWrite loaded (Killed place) file i = IsInCounts file i ⊎ IsInHeaderAt loaded place 52 4 file i
+MayWrite loaded (Relinked plan) file i = IsInCounts file i ⊎ IsInLinks loaded file i
+MayWrite loaded (Marked place mark) file i = IsInMark place file i
+MayWrite loaded (Packed plan base) file i = Unit {0}
+
+-- each byte that files of the area have stays as it is, but those
+abbrev pub LeavesBut : RedoView → Loaded → (FileId → ℕ → Type 0) → Type 0
+LeavesBut redo loaded places = (files : Files) → Loads loaded files → (file : FileId) (i : ℕ) → i < length (files file)
+    → places file i ⊎ (slice_index (changed redo files file) i ≡ slice_index (files file) i)
+
+-- but for a post and a pack the index of the files stays as it is: each record of it, and how many there are
+abbrev pub KeepsIndex : RedoView → Loaded → Change → Type 0
+KeepsIndex redo loaded (Posted message neighbour) = Unit {0}
+KeepsIndex redo loaded (Packed plan base) = Unit {0}
+KeepsIndex redo loaded _ = (files : Files) → Loads loaded files → changed redo files Jdx ≡ files Jdx
+
+-- what the change leaves as it is
+pub record LeavesRest (redo : RedoView) (loaded : Loaded) (change : Change) : Type 0 where
+  pub bytes : LeavesBut redo loaded (MayWrite loaded change)
+  pub index : KeepsIndex redo loaded change
 
 -- a kill leaves the index so
 abbrev pub KeepsIndexOnKill : RedoView → Loaded → Change → Type 0
-KeepsIndexOnKill redo loaded (Killed place) = KeepsIndex redo loaded
+KeepsIndexOnKill redo loaded (Killed place) = KeepsIndex redo loaded (Killed place)
 KeepsIndexOnKill redo loaded _ = Unit {0}

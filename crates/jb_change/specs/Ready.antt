@@ -2,7 +2,7 @@
 use Rattle.std.specs.Prelude.{◌≡◌, ℕ, ◌+◌, ◌*◌, ◌≤◌, [], length}
 use Rattle.jb_redo.specs.Changes.{record_size}
 use Rattle.jb_disk.specs.RedoView.{RedoView, HasRoom, held_by}
-use Rattle.jb_model.specs.declared.loaded.Loaded.{Loaded}
+use Rattle.jb_state.specs.declared.loaded.Loaded.{Loaded}
 use Rattle.jb_change.specs.Makes.{Makes}
 
 -- with nothing in it, there is room in the redo for each change that takes no memory

@@ -6,13 +6,13 @@ ghost use Rattle.jb_redo.specs.Changes.{KeepsRoom};
 ghost use Rattle.jb_redo.specs.Changes.{record_size};
 ghost use Rattle.jb_disk.specs.RedoView.{HasRoom, Spends};
 ghost use Rattle.jb_disk.specs.declared.file.FileId.TheVariants.{Jhr, Jlr};
-ghost use Rattle.jb_model.specs.Loaded.{with_counts};
+ghost use Rattle.jb_state.specs.Loaded.{with_counts};
 
 use crate::piece::{put_piece, two_numbers};
 use jb_disk::{FileId, Redo};
 use jb_image::mark_bytes;
-use jb_model::Mark;
 use jb_record::MARK_RECORD_BYTES;
+use jb_state::Mark;
 
 /// Where ModCounter stands in the fixed header, with ActiveMsgs behind it.
 const COUNTS_AT: u32 = 8;

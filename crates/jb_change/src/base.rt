@@ -7,8 +7,8 @@ ghost use Rattle.jb_record.specs.declared.fixed.TheConstants.{FIXED_HEADER_BYTES
 
 use jb_base::OutOfMemory;
 use jb_disk::{FileId, Length, Redo};
-use jb_model::{Loaded, LoadedMarks, LoadedSlots};
 use jb_record::{FIXED_HEADER_BYTES, FixedHeader, RESERVED_BYTES, encode_fixed};
+use jb_state::{Loaded, LoadedMarks, LoadedSlots};
 use std::alloc::Global;
 
 /// PasswordCRC of a base without a password.

@@ -2,13 +2,13 @@
 ghost use Rattle.std.specs.Prelude.{◌≡◌, ◌<◌, [], length, None, OnErr, OnOk};
 ghost use Rattle.jb_change.specs.Headers.{Updates};
 ghost use Rattle.jb_change.specs.Post.{HasNextNumber};
-ghost use Rattle.jb_change.specs.Put.{IsNoPacking, IsShort, IsTextOf, KeepsIndexOnKill, NumbersPosted};
+ghost use Rattle.jb_change.specs.Put.{IsNoPacking, IsShort, IsTextOf, LeavesRest, NumbersPosted};
 ghost use Rattle.jb_change.specs.Ready.{HasRoomInAll, IsCleared};
 ghost use Rattle.jb_limits.specs.declared.limits.TheConstants.{MOST_MARKS, MOST_SLOTS};
-ghost use Rattle.jb_model.specs.Change.{Fits, FitsBehind, IsNeighbourOf, after, live_messages};
-ghost use Rattle.jb_model.specs.Places.{IsPlaceOf};
-ghost use Rattle.jb_model.specs.Sound.{IsSound};
-ghost use Rattle.jb_model.specs.declared.change.Change.TheVariants.{Marked, Posted};
+ghost use Rattle.jb_state.specs.Change.{Fits, FitsBehind, IsNeighbourOf, after, live_messages};
+ghost use Rattle.jb_state.specs.Places.{IsPlaceOf};
+ghost use Rattle.jb_state.specs.Sound.{IsSound};
+ghost use Rattle.jb_state.specs.declared.change.Change.TheVariants.{Marked, Posted};
 ghost use Rattle.jb_redo.specs.Changes.{IsWritable, KeepsRoom};
 
 use crate::area::{put_counts, put_mark};
@@ -19,7 +19,7 @@ use crate::posting::put_post;
 use crate::relinking::put_relinked;
 use jb_base::OutOfMemory;
 use jb_disk::Redo;
-use jb_model::{Change, HeadAt, Loaded, LoadedMessage, Mark};
+use jb_state::{Change, HeadAt, Loaded, LoadedMessage, Mark};
 use std::alloc::Global;
 
 /// Puts the mark in its place, or behind the others.
@@ -29,6 +29,7 @@ fn put_marked(redo: &mut Redo, loaded: &Loaded, place: Option<usize>, mark: &Mar
     requires placed { IsPlaceOf mark.now.user_crc mark.now.user_id loaded.now.marks place }
     requires few { place ≡ None → length loaded.now.marks < MOST_MARKS }
     ensures makes { Updates redo.new loaded.now (after (Marked place mark.now) loaded.now) [] }
+    ensures leaves { LeavesRest redo.new loaded.now (Marked place mark.now) }
     ensures writable { IsWritable redo.new }
     ensures kept { KeepsRoom redo.old redo.new }
 {
@@ -46,9 +47,10 @@ pub fn put_short(redo: &mut Redo, loaded: &Loaded, change: &Change, active: u32)
     requires kind { IsShort change.now }
     requires active { active ≡ live_messages (after change.now loaded.now) }
 
-    // Of whatever files hold the area it makes files that hold the area after the change.
+    // Of whatever files hold the area it makes files that hold the area after the change, and it writes no byte but those that
+    // the change may write.
     ensures makes { Updates redo.new loaded.now (after change.now loaded.now) [] }
-    ensures index { KeepsIndexOnKill redo.new loaded.now change.now }
+    ensures leaves { LeavesRest redo.new loaded.now change.now }
     ensures writable { IsWritable redo.new }
 
     // Its room stays.
@@ -80,7 +82,9 @@ fn put_posted(
     requires neighbour { IsNeighbourOf neighbour loaded.now }
     requires text { message.now.text_len ≡ length text.now }
     requires active { active ≡ live_messages (after (Posted message.now neighbour) loaded.now) }
-    ensures makes { OnOk result (Updates redo.new loaded.now (after (Posted message.now neighbour) loaded.now) text.now) }
+    ensures makes { OnOk result (Updates redo.new loaded.now
+        (after (Posted message.now neighbour) loaded.now) text.now) }
+    ensures leaves { OnOk result (LeavesRest redo.new loaded.now (Posted message.now neighbour)) }
     ensures numbered { OnOk result (HasNextNumber redo.new loaded.now message.now) }
     ensures writable { OnOk result (IsWritable redo.new) }
     ensures kept { KeepsRoom redo.old redo.new }
@@ -107,10 +111,11 @@ pub fn put(
     requires text { IsTextOf change.now text.now }
     requires active { active ≡ live_messages (after change.now loaded.now) }
 
-    // Of whatever files hold the area it makes files that hold the area after the change.
+    // Of whatever files hold the area it makes files that hold the area after the change, and it writes no byte but those that
+    // the change may write.
     ensures makes { OnOk result (Updates redo.new loaded.now (after change.now loaded.now) text.now) }
+    ensures leaves { OnOk result (LeavesRest redo.new loaded.now change.now) }
     ensures numbered { OnOk result (NumbersPosted redo.new loaded.now change.now) }
-    ensures index { OnOk result (KeepsIndexOnKill redo.new loaded.now change.now) }
     ensures writable { OnOk result (IsWritable redo.new) }
 
     // Its room stays.

@@ -1,17 +1,17 @@
 //! Fields of a message header (JAM, "Message header").
 ghost use Rattle.std.specs.Prelude.{◌≡◌, ◌+◌, ◌<◌, ◌^◌, bit_and, bit_or};
 ghost use Rattle.jb_base.specs.declared.attribute.TheConstants.{DELETED};
-ghost use Rattle.jb_change.specs.Changing.{ChangesHead, ChangesHeader, ChangesMessage, LeavesIndex, WritesOnly, head_with_links, head_with_reading, header_with_attribute, header_with_links, header_with_reading};
+ghost use Rattle.jb_change.specs.Changing.{ChangesHead, ChangesHeader, ChangesMessage, WritesOnly, head_with_links, head_with_reading, header_with_attribute, header_with_links, header_with_reading};
 ghost use Rattle.jb_redo.specs.Changes.{KeepsRoom};
 ghost use Rattle.jb_redo.specs.Changes.{record_size};
 ghost use Rattle.jb_disk.specs.RedoView.{HasRoom, Spends};
 ghost use Rattle.jb_disk.specs.declared.file.FileId.TheVariants.{Jhr};
-ghost use Rattle.jb_model.specs.Loaded.{with_killed_at};
+ghost use Rattle.jb_state.specs.Loaded.{with_killed_at};
 
 use crate::piece::{one_number, put_piece, three_numbers};
 use jb_base::DELETED;
 use jb_disk::{FileId, Redo};
-use jb_model::Head;
+use jb_state::Head;
 
 /// Where TimesRead stands in a message header.
 const TIMES_READ_AT: u32 = 12;
@@ -30,7 +30,7 @@ pub fn put_links(redo: &mut Redo, at: u32, reply_to: u32, first: u32, next: u32)
     // The live message whose header stands there has these links, and no other field is another.
     ensures makes { ChangesHead redo.old redo.new at (head_with_links reply_to first next) }
     ensures header { ChangesHeader redo.old redo.new at (header_with_links reply_to first next) }
-    ensures only { WritesOnly redo.old redo.new Jhr at 76 }
+    ensures only { WritesOnly redo.old redo.new Jhr (at + 24) 12 }
 
     // What it takes of the redo and of the journal.
     ensures lengths { redo.new.lengths ≡ redo.old.lengths }
@@ -56,7 +56,7 @@ pub fn put_reading(redo: &mut Redo, at: u32, reading: &Head)
     // The live message whose header stands there has these three, and no other field is another.
     ensures makes { ChangesHead redo.old redo.new at (head_with_reading reading.now) }
     ensures header { ChangesHeader redo.old redo.new at (header_with_reading reading.now) }
-    ensures only { WritesOnly redo.old redo.new Jhr at 76 }
+    ensures only { WritesOnly redo.old redo.new Jhr (at + 12) 44 }
 
     // What it takes of the redo and of the journal.
     ensures lengths { redo.new.lengths ≡ redo.old.lengths }
@@ -92,11 +92,7 @@ pub fn put_kill(redo: &mut Redo, at: u32, attribute: u32)
     // The live message whose header stands there is killed; its header has that attribute, and no other field is another.
     ensures makes { ChangesMessage redo.old redo.new at with_killed_at }
     ensures header { ChangesHeader redo.old redo.new at (header_with_attribute (bit_or attribute DELETED)) }
-    ensures only { WritesOnly redo.old redo.new Jhr at 76 }
-
-    // Nothing else is another: no byte but the four of its Attribute, and no record of the index.
-    ensures attribute_alone { WritesOnly redo.old redo.new Jhr (at + 52) 4 }
-    ensures index { LeavesIndex redo.old redo.new }
+    ensures only { WritesOnly redo.old redo.new Jhr (at + 52) 4 }
 
     // What it takes of the redo and of the journal.
     ensures lengths { redo.new.lengths ≡ redo.old.lengths }

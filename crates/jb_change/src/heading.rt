@@ -3,21 +3,21 @@ ghost use Rattle.std.specs.Prelude.{◌≡◌, ◌≤◌, ◌+◌, ℕ, [], List
 ghost use Rattle.jb_change.specs.Headers.{Updates};
 ghost use Rattle.jb_change.specs.Makes.{Makes};
 ghost use Rattle.jb_change.specs.Post.{HasNextNumber};
-ghost use Rattle.jb_change.specs.Put.{KeepsIndex};
+ghost use Rattle.jb_change.specs.Put.{LeavesBut, LeavesRest, MayWrite};
 ghost use Rattle.jb_change.specs.Ready.{IsCleared};
 ghost use Rattle.jb_disk.specs.RedoView.{HasRoom, Spends};
 ghost use Rattle.jb_limits.specs.declared.limits.TheConstants.{MOST_SLOTS};
-ghost use Rattle.jb_model.specs.Change.{HasMessageAt, IsNeighbourOf, IsReadingOf, after, headed_where, live_messages};
-ghost use Rattle.jb_model.specs.Loaded.{IsMessageAt, with_message_behind};
-ghost use Rattle.jb_model.specs.Sound.{IsSound};
-ghost use Rattle.jb_model.specs.declared.change.Change.TheVariants.{Headed, Killed};
-ghost use Rattle.jb_model.specs.declared.loaded.LoadedMessage.{LoadedMessage};
+ghost use Rattle.jb_state.specs.Change.{HasMessageAt, IsNeighbourOf, IsReadingOf, after, headed_where, live_messages};
+ghost use Rattle.jb_state.specs.Loaded.{IsMessageAt, with_message_behind};
+ghost use Rattle.jb_state.specs.Sound.{IsSound};
+ghost use Rattle.jb_state.specs.declared.change.Change.TheVariants.{Headed, Killed, Posted};
+ghost use Rattle.jb_state.specs.declared.loaded.LoadedMessage.{LoadedMessage};
 ghost use Rattle.jb_redo.specs.Changes.{IsWritable, KeepsRoom, record_size};
 
 use crate::area::put_counts;
 use crate::header::{put_kill, put_links, put_reading};
 use jb_disk::Redo;
-use jb_model::{HeadAt, Loaded, LoadedMessage, LoadedSlot};
+use jb_state::{HeadAt, Loaded, LoadedMessage, LoadedSlot};
 
 /// The live message at this place of the index.
 fn message_at(loaded: &Loaded, place: usize) -> &LoadedMessage
@@ -37,6 +37,7 @@ pub(crate) fn put_headed(redo: &mut Redo, loaded: &Loaded, at: HeadAt, active: u
     requires fits { IsReadingOf at loaded.now }
     requires active { active ≡ live_messages (after (Headed at) loaded.now) }
     ensures makes { Updates redo.new loaded.now (after (Headed at) loaded.now) [] }
+    ensures leaves { LeavesRest redo.new loaded.now (Headed at) }
     ensures writable { IsWritable redo.new }
     ensures kept { KeepsRoom redo.old redo.new }
 {
@@ -52,7 +53,7 @@ pub(crate) fn put_killed(redo: &mut Redo, loaded: &Loaded, place: usize, active:
     requires fits { HasMessageAt place loaded.now }
     requires active { active ≡ live_messages (after (Killed place) loaded.now) }
     ensures makes { Updates redo.new loaded.now (after (Killed place) loaded.now) [] }
-    ensures index { KeepsIndex redo.new loaded.now }
+    ensures leaves { LeavesRest redo.new loaded.now (Killed place) }
     ensures writable { IsWritable redo.new }
     ensures kept { KeepsRoom redo.old redo.new }
 {
@@ -68,9 +69,15 @@ pub(crate) fn put_neighbour(redo: &mut Redo, loaded: &Loaded, neighbour: Option<
     requires fits { IsNeighbourOf neighbour loaded.now }
 
     // Where the change made the area with a message behind, that area's neighbour is linked now.
-    ensures makes { (message : LoadedMessage) (text : List ℕ) → Updates redo.old loaded.now (with_message_behind message loaded.now) text
+    ensures makes { (message : LoadedMessage) (text : List ℕ)
+        → Updates redo.old loaded.now (with_message_behind message loaded.now) text
         → Updates redo.new loaded.now (with_message_behind message (headed_where neighbour loaded.now)) text }
-    ensures numbered { (message : LoadedMessage) (text : List ℕ) → Makes redo.old loaded.now (with_message_behind message loaded.now) text
+    ensures leaves { (message : LoadedMessage) (text : List ℕ)
+        → Updates redo.old loaded.now (with_message_behind message loaded.now) text
+        → LeavesBut redo.old loaded.now (MayWrite loaded.now (Posted message neighbour))
+        → LeavesBut redo.new loaded.now (MayWrite loaded.now (Posted message neighbour)) }
+    ensures numbered { (message : LoadedMessage) (text : List ℕ)
+        → Makes redo.old loaded.now (with_message_behind message loaded.now) text
         → HasNextNumber redo.old loaded.now message → HasNextNumber redo.new loaded.now message }
 
     // What it takes of the redo and of the journal.

@@ -2,15 +2,18 @@
 //! "Header file", "Message header", "SubFields", "Index file", "Lastread file").
 //!
 //! The layer above may rely on this: of whatever files hold an area, the redo of a change ([`put`]) makes files that hold the
-//! area after it (`after` of `jb_model`), and keeps each header in its place. A kill writes 12 bytes of .JHR, a reading 20 of
-//! it, a mark 16 of .JLR; a post its header and subfields, its text, one index record and 20 bytes of .JHR at most beside; a
-//! relink 12 bytes for each message whose links are others, and 8.
+//! area after it (`after` of `jb_state`), and keeps each header in its place, with its MessageNumber (`makes`). A message that
+//! is posted has the next number (`numbered`). Of the bytes that the files have it may write these alone (`leaves`): ModCounter
+//! and ActiveMsgs, and of a header that is read TimesRead to Attribute, of one that is killed Attribute, at a post the links of
+//! the neighbour, at a relink those of live messages; or the record of a mark. All but a post leave the index as it is (`leaves`).
+//! The redo may be written into the journal (`writable`), and its room stays (`room`, `kept`). [`put_short`] says the same of the
+//! changes that take no memory.
 //!
 //! It is made of small changes, which stand alone too: where the redo so far makes of files that hold one area files that hold
-//! another, a small change puts itself behind, and the redo then makes files that hold that other area with the small change:
-//! other counts, other links, the traces of a reading, the bit of a kill, another mark. The small changes take no memory: the
-//! room that they spend is said, and is there before. [`put_post`] and [`put_new_mark`] begin an empty redo: they make the
-//! files longer, and leave each byte that these have. No piece of a redo is seen above.
+//! another, a small change puts itself behind, and the redo then makes files that hold that other area with the small change
+//! (`makes` of each): other counts, other links, the traces of a reading, the bit of a kill, another mark. The small changes take
+//! no memory: the room that they spend is said, and is there before (`room`). [`put_post`] and [`put_new_mark`] begin an empty
+//! redo: they make the files longer, and leave each byte that these have (`appends`). No piece of a redo is seen above.
 #![tactic(auto)]
 
 mod area;

@@ -4,7 +4,7 @@ ghost use Rattle.jb_limits.specs.declared.limits.TheConstants.{MOST_MARKS};
 ghost use Rattle.jb_redo.specs.Changes.{KeepsRoom};
 ghost use Rattle.jb_redo.specs.Changes.{record_size};
 ghost use Rattle.jb_disk.specs.RedoView.{HasRoom, Spends};
-ghost use Rattle.jb_model.specs.declared.loaded.Loaded.{Loaded};
+ghost use Rattle.jb_state.specs.declared.loaded.Loaded.{Loaded};
 ghost use Rattle.jb_redo.specs.Rules.{AreLegalLengths};
 ghost use Rattle.jb_change.specs.Behind.{AppendsOnly};
 ghost use Rattle.jb_change.specs.NewMark.{MakesMark, mark_lengths, mark_pieces};
@@ -12,8 +12,8 @@ ghost use Rattle.jb_image.specs.Records.{IsMarkReadAgain};
 
 use jb_disk::{FileId, Length, Redo};
 use jb_image::mark_bytes;
-use jb_model::Mark;
 use jb_record::MARK_RECORD_BYTES;
+use jb_state::Mark;
 
 /// Puts a mark behind the `count` marks of an area: the new length of .JLR, and the record at its end. It takes no memory.
 pub fn put_new_mark(redo: &mut Redo, count: u32, mark: &Mark)

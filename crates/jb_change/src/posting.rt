@@ -5,19 +5,19 @@ ghost use Rattle.jb_redo.specs.Changes.{KeepsRoom};
 ghost use Rattle.jb_change.specs.Makes.{Makes};
 ghost use Rattle.jb_redo.specs.Changes.{record_size};
 ghost use Rattle.jb_disk.specs.RedoView.{HasRoom, SameLists, Spends};
-ghost use Rattle.jb_model.specs.Loaded.{header_size, with_message_behind};
+ghost use Rattle.jb_state.specs.Loaded.{header_size, with_message_behind};
 ghost use Rattle.jb_redo.specs.Rules.{AreLegalLengths};
 ghost use Rattle.jb_change.specs.declared.posting.TheConstants.{SPARE_BYTES, SPARE_PIECES};
 ghost use Rattle.jb_change.specs.Behind.{AppendsOnly};
 ghost use Rattle.jb_change.specs.Post.{HasNextNumber, IsNext, number_behind, post_lengths, post_pieces};
 ghost use Rattle.jb_image.specs.Records.{IsEntryReadAgain, entry_for, message_bytes};
-ghost use Rattle.jb_model.specs.declared.loaded.LoadedSlot.TheVariants.{Live};
+ghost use Rattle.jb_state.specs.declared.loaded.LoadedSlot.TheVariants.{Live};
 
 use jb_base::OutOfMemory;
 use jb_disk::{FileId, Length, Redo};
 use jb_image::{entry_bytes, message_bytes};
-use jb_model::{Loaded, LoadedMessage};
 use jb_record::INDEX_RECORD_BYTES;
+use jb_state::{Loaded, LoadedMessage};
 use std::alloc::Global;
 
 /// Pieces for which [`put_post`] leaves room behind its own.
@@ -41,7 +41,8 @@ pub fn put_post(
 
     // Of files that hold the area it makes files that hold it with the message behind, under the next number, and it leaves
     // each byte that they have.
-    ensures makes { OnOk result (Makes redo.new loaded.now (with_message_behind message.now loaded.now) text.now) }
+    ensures makes { OnOk result (Makes redo.new loaded.now
+        (with_message_behind message.now loaded.now) text.now) }
     ensures appends { OnOk result (AppendsOnly redo.new loaded.now) }
     ensures numbered { OnOk result (HasNextNumber redo.new loaded.now message.now) }
 

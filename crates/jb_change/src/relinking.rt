@@ -2,15 +2,16 @@
 ghost use Rattle.std.specs.Prelude.{◌≡◌, ◌≤◌, ◌+◌, ◌*◌, ◌∷◌, ◌++◌, [], not, All, List, OnOk, length};
 ghost use Rattle.jb_change.specs.Headers.{Updates};
 ghost use Rattle.jb_change.specs.Links.{AreLeftAbove, HasNearHeaders};
+ghost use Rattle.jb_change.specs.Put.{IsInLinks, LeavesBut, LeavesRest};
 ghost use Rattle.jb_disk.specs.RedoView.{HasRoom, Spends};
 ghost use Rattle.jb_limits.specs.declared.limits.TheConstants.{MOST_SLOTS};
-ghost use Rattle.jb_model.specs.Change.{after, live_messages};
-ghost use Rattle.jb_model.specs.Linked.{IsPlaced, with_links_of};
-ghost use Rattle.jb_model.specs.LiveSlots.{linkables_from};
-ghost use Rattle.jb_model.specs.Plan.{differs, has_links, loaded_at, plan_of};
-ghost use Rattle.jb_model.specs.Sound.{IsSound};
-ghost use Rattle.jb_model.specs.declared.change.Change.TheVariants.{Relinked};
-ghost use Rattle.jb_model.specs.declared.links.Links.{Links};
+ghost use Rattle.jb_state.specs.Change.{after, live_messages};
+ghost use Rattle.jb_state.specs.Linked.{IsPlaced, with_links_of};
+ghost use Rattle.jb_state.specs.LiveSlots.{linkables_from};
+ghost use Rattle.jb_state.specs.Plan.{differs, has_links, loaded_at, plan_of};
+ghost use Rattle.jb_state.specs.Sound.{IsSound};
+ghost use Rattle.jb_state.specs.declared.change.Change.TheVariants.{Relinked};
+ghost use Rattle.jb_state.specs.declared.links.Links.{Links};
 ghost use Rattle.jb_redo.specs.Changes.{IsWritable, KeepsRoom, record_size};
 
 use crate::area::put_counts;
@@ -18,7 +19,7 @@ use crate::emptying::make_room;
 use crate::header::put_links;
 use jb_base::OutOfMemory;
 use jb_disk::Redo;
-use jb_model::{Head, Links, Loaded, LoadedSlot};
+use jb_state::{Head, Links, Loaded, LoadedSlot};
 
 /// Puts these links into the header of the message that they are for, where there is one.
 fn put_links_in(redo: &mut Redo, loaded: &Loaded, links: &Links)
@@ -29,6 +30,9 @@ fn put_links_in(redo: &mut Redo, loaded: &Loaded, links: &Links)
     // Where the change made the area with some links, it now makes it with these behind them.
     ensures makes { (before : List Links) → Updates redo.old loaded.now (with_links_of before loaded.now) []
         → Updates redo.new loaded.now (with_links_of (before ++ links.now ∷ []) loaded.now) [] }
+    ensures leaves { (before : List Links) → Updates redo.old loaded.now (with_links_of before loaded.now) []
+        → LeavesBut redo.old loaded.now (IsInLinks loaded.now)
+        → LeavesBut redo.new loaded.now (IsInLinks loaded.now) }
 
     // What it takes of the redo and of the journal.
     ensures lengths { redo.new.lengths ≡ redo.old.lengths }
@@ -77,8 +81,12 @@ fn put_other_links(redo: &mut Redo, loaded: &Loaded, links: &Links, last: u32)
     requires placed { IsPlaced loaded.now links.now }
 
     // Where the change made the area with some links, which are up to the last number, it now makes it with these behind them.
-    ensures makes { (before : List Links) → AreLeftAbove before last loaded.now → Updates redo.old loaded.now (with_links_of before loaded.now) []
+    ensures makes { (before : List Links) → AreLeftAbove before last loaded.now
+        → Updates redo.old loaded.now (with_links_of before loaded.now) []
         → Updates redo.new loaded.now (with_links_of (before ++ links.now ∷ []) loaded.now) [] }
+    ensures leaves { (before : List Links) → Updates redo.old loaded.now (with_links_of before loaded.now) []
+        → LeavesBut redo.old loaded.now (IsInLinks loaded.now)
+        → LeavesBut redo.new loaded.now (IsInLinks loaded.now) }
 
     // What it takes of the redo and of the journal.
     ensures lengths { redo.new.lengths ≡ redo.old.lengths }
@@ -96,7 +104,10 @@ fn put_plan(redo: &mut Redo, loaded: &Loaded, plan: &[Links])
     requires room { HasRoom 0 (length plan.now) (12 * length plan.now) redo.old }
     requires near { HasNearHeaders loaded.now }
     requires placed { All (IsPlaced loaded.now) plan.now }
-    ensures makes { Updates redo.old loaded.now loaded.now [] → Updates redo.new loaded.now (with_links_of plan.now loaded.now) [] }
+    ensures makes { Updates redo.old loaded.now loaded.now []
+        → Updates redo.new loaded.now (with_links_of plan.now loaded.now) [] }
+    ensures leaves { Updates redo.old loaded.now loaded.now [] → LeavesBut redo.old loaded.now
+        (IsInLinks loaded.now) → LeavesBut redo.new loaded.now (IsInLinks loaded.now) }
 
     // What it takes of the redo and of the journal.
     ensures lengths { redo.new.lengths ≡ redo.old.lengths }
@@ -122,6 +133,7 @@ pub(crate) fn put_relinked(
     requires fits { plan.now ≡ plan_of (linkables_from loaded.now.base loaded.now.slots) }
     requires active { active ≡ live_messages (after (Relinked plan.now) loaded.now) }
     ensures makes { OnOk result (Updates redo.new loaded.now (after (Relinked plan.now) loaded.now) []) }
+    ensures leaves { OnOk result (LeavesRest redo.new loaded.now (Relinked plan.now)) }
     ensures writable { OnOk result (IsWritable redo.new) }
     ensures kept { KeepsRoom redo.old redo.new }
 {

@@ -7,12 +7,12 @@ use Rattle.jb_disk.specs.Files.{Files}
 use Rattle.jb_disk.specs.declared.file.FileId.TheVariants.{Jdt, Jdx, Jhr, Jlr}
 use Rattle.jb_image.specs.Places.{bytes_at, entry_in, header_in}
 use Rattle.jb_image.specs.Stands.{Loads, HasHeader, HasSlot, IsLiveIn, IsLiveHeader, head_of}
-use Rattle.jb_model.specs.Loaded.{header_size}
-use Rattle.jb_model.specs.Sound.{IsWithin}
-use Rattle.jb_model.specs.declared.loaded.Loaded.{Loaded}
-use Rattle.jb_model.specs.declared.loaded.LoadedMessage.{LoadedMessage}
-use Rattle.jb_model.specs.declared.loaded.LoadedSlot.{LoadedSlot}
-use Rattle.jb_model.specs.declared.loaded.LoadedSlot.TheVariants.{Empty, Killed, Live}
+use Rattle.jb_state.specs.Loaded.{header_size}
+use Rattle.jb_state.specs.Sound.{IsWithin}
+use Rattle.jb_state.specs.declared.loaded.Loaded.{Loaded}
+use Rattle.jb_state.specs.declared.loaded.LoadedMessage.{LoadedMessage}
+use Rattle.jb_state.specs.declared.loaded.LoadedSlot.{LoadedSlot}
+use Rattle.jb_state.specs.declared.loaded.LoadedSlot.TheVariants.{Empty, Killed, Live}
 use Rattle.jb_model.specs.declared.reply.Reply.{Reply}
 use Rattle.jb_model.specs.declared.reply.Reply.TheVariants.{Posted}
 use Rattle.jb_model.specs.declared.reply.Reply.TheVariants as replies

@@ -5,14 +5,14 @@ use Rattle.std.proofs.lemmas.List.Elements.{All-head, All-tail}
 use Rattle.std.proofs.lemmas.List.Quantifiers.{all_pairs_push}
 use Rattle.jb_limits.specs.declared.limits.TheConstants.{LAST_POSTED_NUMBER}
 use Rattle.jb_model.proofs.RangeLaws.{all_push}
-use Rattle.jb_model.specs.Loaded.{header_size, with_message_behind}
-use Rattle.jb_model.specs.Message.{header_length}
-use Rattle.jb_model.specs.Sound.{AreApart, IsMessageWithin, IsSlotWithin, IsSound, IsTextWithin}
-use Rattle.jb_model.specs.State.{AreaState, LiveMessage, SlotState, live_message, slot_state, state_of, text_of}
-use Rattle.jb_model.specs.declared.loaded.Loaded.{Loaded}
-use Rattle.jb_model.specs.declared.loaded.LoadedMessage.{LoadedMessage}
-use Rattle.jb_model.specs.declared.loaded.LoadedSlot.{LoadedSlot}
-use Rattle.jb_model.specs.declared.loaded.LoadedSlot.TheVariants.{Empty, Killed, Live}
+use Rattle.jb_state.specs.Loaded.{header_size, with_message_behind}
+use Rattle.jb_state.specs.Message.{header_length}
+use Rattle.jb_state.specs.Sound.{AreApart, IsMessageWithin, IsSlotWithin, IsSound, IsTextWithin}
+use Rattle.jb_state.specs.State.{AreaState, LiveMessage, SlotState, live_message, slot_state, state_of, text_of}
+use Rattle.jb_state.specs.declared.loaded.Loaded.{Loaded}
+use Rattle.jb_state.specs.declared.loaded.LoadedMessage.{LoadedMessage}
+use Rattle.jb_state.specs.declared.loaded.LoadedSlot.{LoadedSlot}
+use Rattle.jb_state.specs.declared.loaded.LoadedSlot.TheVariants.{Empty, Killed, Live}
 
 -- a text that lies within the file is the same when bytes are put behind the file
 text_kept : (texts more : List ℕ) (message : LoadedMessage) → IsTextWithin (length texts) message.text_at message.text_len

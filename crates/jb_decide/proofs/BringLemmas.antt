@@ -1,9 +1,9 @@
 -- What a change makes of an area, as what it brings.
-use Rattle.std.proofs.Common.{◌≡◌, ℕ, List, [], ◌++◌, length, take, Option, ap, ◌∙◌, subst, arith}
-use Rattle.std.proofs.lemmas.List.{append-nil, take_all, take-append-le}
+use Rattle.std.proofs.Common.{◌≡◌, ℕ, List, ◌++◌, length, take, Option, ap, ◌∙◌, arith}
+use Rattle.std.proofs.lemmas.List.{take_all, take-append-le}
 use Rattle.jb_change.specs.Makes.{Makes}
 use Rattle.jb_disk.specs.RedoView.{RedoView}
-use Rattle.jb_model.specs.declared.loaded.Loaded.{Loaded}
+use Rattle.jb_state.specs.declared.loaded.Loaded.{Loaded}
 use Rattle.jb_pack.specs.Shadow.{Shadow}
 use Rattle.jb_decide.specs.Coming.{BringsComing}
 
@@ -18,12 +18,6 @@ brings change from to texts text copies makes = record {
     texts_are = (makes.made files has.holds.loads).texts ∙ ap (λ (t : List ℕ). t ++ text) has.holds.texts_are;
   };
 }
-
--- with the texts as they are
-pub brings_same : (change : RedoView) (from to : Loaded) (texts : List ℕ) (copies : Option Shadow) → Makes change from to []
-    → BringsComing change from texts copies (record { to = to; texts = texts })
-brings_same change from to texts copies makes =
-    subst (λ (after : List ℕ). BringsComing change from texts copies (record { to = to; texts = after })) (append-nil texts) (brings change from to texts [] copies makes)
 
 -- texts that stay begin with themselves
 pub keeps_same : (texts : List ℕ) → take (length texts) texts ≡ texts

@@ -5,14 +5,14 @@ use Rattle.jb_base.specs.declared.user.User.{User}
 use Rattle.jb_disk.specs.RedoView.{RedoView}
 use Rattle.jb_disk.specs.Files.{Files}
 use Rattle.jb_model.specs.declared.command.Command.{Command}
-use Rattle.jb_model.specs.declared.loaded.Loaded.{Loaded}
+use Rattle.jb_state.specs.declared.loaded.Loaded.{Loaded}
 use Rattle.jb_pack.specs.Shadow.{Shadow}
 use Rattle.jb_decide.specs.Coming.{Coming}
 use Rattle.jb_decide.specs.Decided.{IsDecided, IsPending}
 use Rattle.jb_decide.specs.Holds.{HoldsWith}
 use Rattle.jb_decide.specs.declared.decided.Decided.{Decided}
 use Rattle.jb_decide.specs.StepOf.{posted_text}
-use Rattle.jb_model.specs.declared.change.Change.{Change}
+use Rattle.jb_state.specs.declared.change.Change.{Change}
 
 -- files with copies of the texts hold the area without them
 bare : (from : Loaded) (texts : List ℕ) (copies : Option Shadow) (files : Files) → HoldsWith from texts copies files → HoldsWith from texts None files

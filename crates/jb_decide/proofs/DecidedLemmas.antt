@@ -1,6 +1,6 @@
 -- From what a command does in the loaded area to what is pending.
 use Rattle.std.proofs.Common.{◌≡◌, ◌≢◌, ◌⊎◌, inl, inr, ℕ, ◌+◌, ◌-◌, ◌≤◌, ◌++◌, List, [], ◌∷◌, length, take, drop, replicate, Option, None, Some, ap, sym, refl, ◌∙◌, subst, arith, length-append, length-set}
-use Rattle.std.proofs.lemmas.List.{append-nil, drop-append-le, drop_all, length-replicate, take-append-le, take_all}
+use Rattle.std.proofs.lemmas.List.{append-nil, drop-append-le, drop_all, length-replicate, nil_from_length, take-append-le, take_all}
 use Rattle.std.specs.Option.{ForSome}
 use Rattle.std.specs.Prelude.{IsSome}
 use Rattle.jb_base.specs.declared.area.AreaRules.{AreaRules}
@@ -9,34 +9,33 @@ use Rattle.jb_change.specs.Headers.{Updates}
 use Rattle.jb_change.specs.Put.{IsNoPacking, IsShort, IsTextOf, KeepsIndexOnKill, NumbersPosted}
 use Rattle.jb_disk.specs.Files.{Files}
 use Rattle.jb_disk.specs.RedoView.{RedoView}
-use Rattle.jb_held.specs.Pending.{HasReplies, MayApply}
+use Rattle.jb_held.specs.Pending.{HasReplies}
 use Rattle.jb_image.specs.Stands.{Loads}
-use Rattle.jb_limits.specs.declared.limits.TheConstants.{MOST_SLOTS}
 use Rattle.jb_link.specs.Index.{ReplyIndex}
-use Rattle.jb_model.specs.Change.{Fits, after, headed_where, texts_after}
-use Rattle.jb_model.specs.Linked.{with_links_in, with_links_of}
-use Rattle.jb_model.specs.Loaded.{IsMessageAt}
-use Rattle.jb_model.specs.Message.{letter_of}
-use Rattle.jb_model.specs.Plan.{loaded_at}
-use Rattle.jb_model.specs.Sound.{IsMessageWithin, IsSound, IsTextWithin}
-use Rattle.jb_model.specs.State.{state_of, text_of}
+use Rattle.jb_state.specs.Change.{Fits, after, headed_where, texts_after}
+use Rattle.jb_state.specs.Linked.{with_links_in, with_links_of}
+use Rattle.jb_state.specs.Loaded.{IsMessageAt}
+use Rattle.jb_model.specs.Letter.{letter_of}
+use Rattle.jb_state.specs.Plan.{loaded_at}
+use Rattle.jb_state.specs.Sound.{IsMessageWithin, IsSound, IsTextWithin}
+use Rattle.jb_state.specs.State.{state_of, text_of}
 use Rattle.jb_model.specs.Step.{Step}
-use Rattle.jb_model.specs.declared.change.Change.{Change}
-use Rattle.jb_model.specs.declared.change.Change.TheVariants.{Nothing, Posted, Headed, Killed, Relinked, Marked, Packed}
-use Rattle.jb_model.specs.declared.change.HeadAt.{HeadAt}
+use Rattle.jb_state.specs.declared.change.Change.{Change}
+use Rattle.jb_state.specs.declared.change.Change.TheVariants.{Nothing, Posted, Headed, Killed, Relinked, Marked, Packed}
+use Rattle.jb_state.specs.declared.change.HeadAt.{HeadAt}
 use Rattle.jb_model.specs.declared.command.Command.{Command}
-use Rattle.jb_model.specs.declared.links.Links.{Links}
-use Rattle.jb_model.specs.declared.loaded.Loaded.{Loaded}
-use Rattle.jb_model.specs.declared.loaded.LoadedMessage.{LoadedMessage}
-use Rattle.jb_model.specs.declared.loaded.LoadedSlot.TheVariants as slot
-use Rattle.jb_model.specs.declared.message.Head.{Head}
+use Rattle.jb_state.specs.declared.links.Links.{Links}
+use Rattle.jb_state.specs.declared.loaded.Loaded.{Loaded}
+use Rattle.jb_state.specs.declared.loaded.LoadedMessage.{LoadedMessage}
+use Rattle.jb_state.specs.declared.loaded.LoadedSlot.TheVariants as slot
+use Rattle.jb_state.specs.declared.message.Head.{Head}
 use Rattle.jb_model.specs.declared.reply.Letter.{Letter}
 use Rattle.jb_model.specs.declared.reply.Reply.{Reply}
 use Rattle.jb_model.specs.declared.reply.Reply.TheVariants as reply
 use Rattle.jb_pack.specs.Shadow.{Shadow}
 use Rattle.jb_redo.specs.Changes.{IsWritable, changed}
-use Rattle.jb_decide.specs.Coming.{BringsComing, Coming}
-use Rattle.jb_decide.specs.Decided.{HasShortRecord, IsAnswerBy, IsDecided, IsKeptFor, IsPacking, IsPending, IsTold, made}
+use Rattle.jb_decide.specs.Coming.{BringsComing, Coming, coming_of}
+use Rattle.jb_decide.specs.Decided.{HasShortRecord, IsAnswerBy, IsDecided, IsPacking, IsPending, IsTold, made}
 use Rattle.jb_decide.specs.Headers.{KeepsHeaders, PacksHeaders, StandsBehind}
 use Rattle.jb_decide.specs.Packs.{IsPacked}
 use Rattle.jb_decide.specs.Read.{letter_in}
@@ -45,7 +44,8 @@ use Rattle.jb_decide.specs.StepOf.{ChangesNothing, IsStepOf, NamesPosted, posted
 use Rattle.jb_decide.specs.declared.decided.Decided.{Decided}
 use Rattle.jb_decide.proofs.BringLemmas.{brings, keeps_more, keeps_same}
 use Rattle.jb_decide.proofs.HeaderLemmas.{keeps_all, keeps_headers, last_message}
-use Rattle.jb_decide.proofs.SoundLemmas.{slot_within}
+use Rattle.jb_decide.proofs.SoundLemmas.{as_many, slot_within}
+use Rattle.jb_state.proofs.LinkedLaws.{length_of}
 
 -- a change is nothing or something
 pub nothing_or : (change : Change) → (change ≡ Nothing) ⊎ (change ≢ Nothing)
@@ -93,55 +93,25 @@ fits_under limit more (Relinked plan) loaded under fits = fits
 fits_under limit more (Marked place mark) loaded under fits = fits
 fits_under limit more (Packed plan base) loaded under fits = fits
 
--- a change that takes no memory posts no message
-pub short_numbered : (redo : RedoView) (loaded : Loaded) (change : Change) → IsShort change → NumbersPosted redo loaded change
-short_numbered redo loaded Nothing short = tt
-short_numbered redo loaded (Posted message neighbour) short = absurd short
-short_numbered redo loaded (Headed at) short = tt
-short_numbered redo loaded (Killed place) short = tt
-short_numbered redo loaded (Relinked plan) short = tt
-short_numbered redo loaded (Marked place mark) short = tt
-short_numbered redo loaded (Packed plan base) short = tt
+-- a change that takes no memory posts no message, and no text
+pub short_is : (redo : RedoView) (loaded : Loaded) (change : Change) (text : List ℕ) → IsShort change → NumbersPosted redo loaded change × (text_behind change text ≡ [])
+short_is redo loaded Nothing text short = (tt, refl)
+short_is redo loaded (Posted message neighbour) text short = absurd short
+short_is redo loaded (Headed at) text short = (tt, refl)
+short_is redo loaded (Killed place) text short = (tt, refl)
+short_is redo loaded (Relinked plan) text short = (tt, refl)
+short_is redo loaded (Marked place mark) text short = (tt, refl)
+short_is redo loaded (Packed plan base) text short = (tt, refl)
 
--- nor a text
-pub short_text : (change : Change) (text : List ℕ) → IsShort change → text_behind change text ≡ []
-short_text Nothing text short = refl
-short_text (Posted message neighbour) text short = absurd short
-short_text (Headed at) text short = refl
-short_text (Killed place) text short = refl
-short_text (Relinked plan) text short = refl
-short_text (Marked place mark) text short = refl
-short_text (Packed plan base) text short = refl
-
--- what is none of a pack packs nothing
-not_packing : (change : Change) → IsNoPacking change → IsPacking change → ⊥
-not_packing Nothing none packing = packing
-not_packing (Posted message neighbour) none packing = packing
-not_packing (Headed at) none packing = packing
-not_packing (Killed place) none packing = packing
-not_packing (Relinked plan) none packing = packing
-not_packing (Marked place mark) none packing = packing
-not_packing (Packed plan base) none packing = none
-
--- it needs no index of replies
-no_replies : (change : Change) (replies : Option ReplyIndex) (loaded : Loaded) → IsNoPacking change → HasReplies change replies loaded
-no_replies Nothing replies loaded none = tt
-no_replies (Posted message neighbour) replies loaded none = tt
-no_replies (Headed at) replies loaded none = tt
-no_replies (Killed place) replies loaded none = tt
-no_replies (Relinked plan) replies loaded none = tt
-no_replies (Marked place mark) replies loaded none = tt
-no_replies (Packed plan base) replies loaded none = absurd none
-
--- nothing is said of its record
-no_record : (change : Change) (redo : RedoView) (to : Loaded) → IsNoPacking change → HasShortRecord change redo to
-no_record Nothing redo to none = tt
-no_record (Posted message neighbour) redo to none = tt
-no_record (Headed at) redo to none = tt
-no_record (Killed place) redo to none = tt
-no_record (Relinked plan) redo to none = tt
-no_record (Marked place mark) redo to none = tt
-no_record (Packed plan base) redo to none = absurd none
+-- what is none of a pack packs nothing, no index of replies lies beside it, and nothing is said of its record
+none_of_pack : (change : Change) (redo : RedoView) (from to : Loaded) → IsNoPacking change → (IsPacking change → ⊥) × HasReplies change None from × HasShortRecord change redo to
+none_of_pack Nothing redo from to none = (λ packing. packing, refl, tt)
+none_of_pack (Posted message neighbour) redo from to none = (λ packing. packing, refl, tt)
+none_of_pack (Headed at) redo from to none = (λ packing. packing, refl, tt)
+none_of_pack (Killed place) redo from to none = (λ packing. packing, refl, tt)
+none_of_pack (Relinked plan) redo from to none = (λ packing. packing, refl, tt)
+none_of_pack (Marked place mark) redo from to none = (λ packing. packing, refl, tt)
+none_of_pack (Packed plan base) redo from to none = absurd none
 
 -- its text comes behind the others
 texts_behind : (change : Change) (from : Loaded) (posted texts : List ℕ) → IsNoPacking change → texts_after change from posted texts ≡ texts ++ text_behind change posted
@@ -163,17 +133,6 @@ texts_of : (plan : List Links) (loaded : Loaded) → (with_links_of plan loaded)
 texts_of [] loaded = refl
 texts_of (links ∷ plan) loaded =
     texts_of plan (with_links_in links (loaded_at loaded links.number) loaded) ∙ texts_in links (loaded_at loaded links.number) loaded
-
--- links leave the number of slots
-length_in : (links : Links) (found : Option LoadedMessage) (loaded : Loaded) → length (with_links_in links found loaded).slots ≡ length loaded.slots
-length_in links None loaded = refl
-length_in links (Some message) loaded = length-set loaded.slots (links.number - loaded.base) _
-
--- so do those of a plan
-length_of : (plan : List Links) (loaded : Loaded) → length (with_links_of plan loaded).slots ≡ length loaded.slots
-length_of [] loaded = refl
-length_of (links ∷ plan) loaded =
-    length_of plan (with_links_in links (loaded_at loaded links.number) loaded) ∙ length_in links (loaded_at loaded links.number) loaded
 
 -- the length of the texts is then longer by that of this text
 longer : (change : Change) (from : Loaded) (posted : List ℕ) → IsNoPacking change → IsTextOf change (text_behind change posted)
@@ -205,11 +164,6 @@ stands answer from limit posted message neighbour redo files fits named numbered
       numbered = named ∙ ap (λ (n : ℕ). reply.Posted n) (sym (numbered files loads));
     })
 
--- a neighbour's header is no slot more
-as_many : (neighbour : Option HeadAt) (loaded : Loaded) → length (headed_where neighbour loaded).slots ≡ length loaded.slots
-as_many None loaded = refl
-as_many (Some one) loaded = length-set loaded.slots one.place _
-
 -- each header stays where it was, with its number, and a new one stands behind the others
 headers_kept : (answer : Reply) (limit : ℕ) (redo : RedoView) (from : Loaded) (change : Change) (text : List ℕ) → IsNoPacking change → IsPutIn redo from change text
     → Fits limit change from → NamesPosted change from answer → (files : Files) → Loads from files → KeepsHeaders answer from (after change from) files (changed redo files)
@@ -240,10 +194,6 @@ made_some (Relinked plan) redo files some = refl
 made_some (Marked place mark) redo files some = refl
 made_some (Packed plan base) redo files some = refl
 
--- what is to come of an area and its texts
-abbrev coming_of : Change → Loaded → List ℕ → List ℕ → Coming
-coming_of change from posted texts = record { to = after change from; texts = texts_after change from posted texts }
-
 -- what is put is pending
 pending_of : (limit : ℕ) (contents : Option Files) (redo : RedoView) (change : Change) (from : Loaded) (posted texts : List ℕ) → change ≢ Nothing → IsNoPacking change
     → IsTextOf change (text_behind change posted) → IsPutIn redo from change (text_behind change posted) → Fits limit change from → IsSound limit (after change from)
@@ -263,7 +213,7 @@ pending_of limit contents redo change from posted texts some kind is_text put fi
       fits = fits;
       sound = sound;
       sized = ap length behind ∙ length-append texts text ∙ ap (λ (n : ℕ). n + length text) sized ∙ sym (longer change from posted kind is_text);
-      short = no_record change redo (after change from) kind;
+      short = (none_of_pack change redo from (after change from) kind).2;
     }
 
 -- no other answer says how headers stand
@@ -288,8 +238,8 @@ none_packed (reply.MarksFull marks) other to files = tt
 pub step_decided : (rules : AreaRules) (from : Loaded) (texts : List ℕ) (contents : Option Files) (redo : RedoView) (user : User) (moment : ℕ) (command : Command) (shows : List ℕ → Reply) (decided : Decided)
     → IsStepOf rules from user moment command shows decided.pending.change → IsAnswerBy shows from texts contents decided.reply
     → (decided.pending.change ≢ Nothing → IsPutIn redo from decided.pending.change (text_behind decided.pending.change (posted_text command)))
-    → length texts ≡ from.texts_len → IsDecided rules from texts contents None redo user moment command decided
-step_decided rules from texts contents redo user moment command shows decided is answer put sized =
+    → decided.pending.replies ≡ None → length texts ≡ from.texts_len → IsDecided rules from texts contents None redo user moment command decided
+step_decided rules from texts contents redo user moment command shows decided is answer put bare sized =
     let change : Change = decided.pending.change in
     let posted : List ℕ = posted_text command in
     let coming : Coming = coming_of change from posted texts in
@@ -300,7 +250,7 @@ step_decided rules from texts contents redo user moment command shows decided is
         | inl none ↦ inl (record { none = none; same = unchanged none })
         | inr some ↦ inr (pending_of rules.slots contents redo change from posted texts some is.kind is.text (put some) is.fits is.sound sized)
       ];
-      replies = no_replies change decided.pending.replies from is.kind;
+      replies = subst (λ (o : Option ReplyIndex). HasReplies change o from) (sym bare) (none_of_pack change redo from from is.kind).1;
       step = λ told. subst (λ (r : Reply). Step rules (state_of texts from) user moment command r (state_of coming.texts coming.to)) (sym (answer.told told)) (is.step texts sized);
       somewhere = record {
         texts = answer.others;
@@ -311,7 +261,7 @@ step_decided rules from texts contents redo user moment command shows decided is
       idle = λ nothing.
           let none : change ≡ Nothing = is.idle answer.others (subst (ChangesNothing command) answer.answers nothing) in
           record { none = none; same = unchanged none };
-      kind = λ no packing. not_packing change is.kind packing;
+      kind = λ no. (none_of_pack change redo from from is.kind).0;
       packing = λ packed. absurd (is.unpacked answer.others (subst IsPacked answer.answers packed));
       headers = λ same files has. elim (nothing_or change) [
         | inl none ↦ subst (λ (c : Change). KeepsHeaders decided.reply from (after c from) files (made c redo files)) (sym none) (keeps_all decided.reply from files)
@@ -328,13 +278,13 @@ step_decided rules from texts contents redo user moment command shows decided is
 
 -- a step that changes nothing
 pub unchanged_decided : (rules : AreaRules) (from : Loaded) (texts : List ℕ) (contents : Option Files) (redo : RedoView) (user : User) (moment : ℕ) (command : Command) (shows : List ℕ → Reply) (decided : Decided) (answer : Reply)
-    → decided.reply ≡ answer → decided.pending.change ≡ Nothing → IsStepOf rules from user moment command shows Nothing → IsAnswerBy shows from texts contents answer
-    → length texts ≡ from.texts_len → IsDecided rules from texts contents None redo user moment command decided
-unchanged_decided rules from texts contents redo user moment command shows decided answer is none step by sized =
+    → decided.reply ≡ answer → decided.pending.change ≡ Nothing → decided.pending.replies ≡ None → IsStepOf rules from user moment command shows Nothing
+    → IsAnswerBy shows from texts contents answer → length texts ≡ from.texts_len → IsDecided rules from texts contents None redo user moment command decided
+unchanged_decided rules from texts contents redo user moment command shows decided answer is none bare step by sized =
     step_decided rules from texts contents redo user moment command shows decided
     (subst (IsStepOf rules from user moment command shows) (sym none) step)
     (subst (IsAnswerBy shows from texts contents) (sym is) by)
-    (λ some. absurd (some none)) sized
+    (λ some. absurd (some none)) bare sized
 
 -- a reply that is the same whatever the texts are
 pub same_answer : (from : Loaded) (texts : List ℕ) (contents : Option Files) (answer : Reply) → length texts ≡ from.texts_len → IsAnswerBy (λ texts. answer) from texts contents answer
@@ -357,18 +307,13 @@ record HasText (message : LoadedMessage) (text : List ℕ) (len : ℕ) : Type 0 
   pub sized : length texts ≡ len
   pub is : text_of texts message ≡ text
 
--- a list of no length is empty
-none_long : (xs : List ℕ) → length xs ≡ 0 → xs ≡ []
-none_long [] is = refl
-none_long (x ∷ xs) is = absurd (omega (arith, is))
-
 -- there are such texts, where there is room for that one
 has_text : (message : LoadedMessage) (text : List ℕ) (len : ℕ) → IsTextWithin len message.text_at message.text_len → length text ≡ message.text_len → HasText message text len
 has_text message text len within long = elim within.placed [
   | inl empty ↦ record {
     texts = replicate len 0;
     sized = length-replicate len 0;
-    is = ap (λ (n : ℕ). take n (drop message.text_at (replicate len 0))) empty ∙ sym (none_long text (long ∙ empty));
+    is = ap (λ (n : ℕ). take n (drop message.text_at (replicate len 0))) empty ∙ sym (nil_from_length text (long ∙ empty));
   }
   | inr placed ↦
       let at : ℕ = message.text_at in
@@ -401,18 +346,6 @@ letter_answer from texts contents number head message text letter within long sh
       sized = has.sized;
       answers = as_shown (text_of has.texts message) (sym has.is);
     }
-
--- what is decided of a kept area may be done in it
-pub may_apply : (rules : AreaRules) (from : Loaded) (texts : List ℕ) (contents : Option Files) (copies : Option Shadow) (redo : RedoView) (user : User) (moment : ℕ) (command : Command) (decided : Decided)
-    → IsKeptFor rules from → IsDecided rules from texts contents copies redo user moment command decided → MayApply decided.pending from
-may_apply rules from texts contents copies redo user moment command decided kept is = record {
-  sound = sound_under rules.slots MOST_SLOTS from kept.few_slots kept.sound;
-  fits = elim is.change [
-    | inl none ↦ subst (λ (c : Change). Fits MOST_SLOTS c from) (sym none.none) tt
-    | inr pending ↦ fits_under rules.slots MOST_SLOTS decided.pending.change from kept.few_slots pending.fits
-  ];
-  replies = is.replies;
-}
 
 -- the texts after a change that is none of a pack begin with those before
 texts_kept : (change : Change) (from : Loaded) (posted texts : List ℕ) → (IsPacking change → ⊥) → take (length texts) (texts_after change from posted texts) ≡ texts

@@ -5,10 +5,10 @@ use Rattle.jb_change.specs.Headers.{Updates}
 use Rattle.jb_disk.specs.Files.{Files}
 use Rattle.jb_disk.specs.RedoView.{RedoView}
 use Rattle.jb_image.specs.Stands.{Loads}
-use Rattle.jb_model.specs.declared.loaded.Loaded.{Loaded}
-use Rattle.jb_model.specs.declared.loaded.LoadedMessage.{LoadedMessage}
-use Rattle.jb_model.specs.declared.loaded.LoadedSlot.{LoadedSlot}
-use Rattle.jb_model.specs.declared.loaded.LoadedSlot.TheVariants.{Live}
+use Rattle.jb_state.specs.declared.loaded.Loaded.{Loaded}
+use Rattle.jb_state.specs.declared.loaded.LoadedMessage.{LoadedMessage}
+use Rattle.jb_state.specs.declared.loaded.LoadedSlot.{LoadedSlot}
+use Rattle.jb_state.specs.declared.loaded.LoadedSlot.TheVariants.{Live}
 use Rattle.jb_model.specs.declared.reply.Reply.{Reply}
 use Rattle.jb_redo.specs.Changes.{changed}
 use Rattle.jb_decide.specs.Headers.{KeepsHeaders}

@@ -5,23 +5,25 @@ use Rattle.jb_base.specs.declared.area.Action.TheVariants.{List as Listing, Kill
 use Rattle.jb_base.specs.declared.area.AreaRules.{AreaRules}
 use Rattle.jb_base.specs.declared.area.Rule.{Rule}
 use Rattle.jb_base.specs.declared.user.User.{User}
-use Rattle.jb_model.specs.Answered.{Answered, unless_denied, with_message, counted}
+use Rattle.jb_model.specs.Answered.{Answered, unless_denied, with_message}
+use Rattle.jb_state.specs.Live.{counted}
 use Rattle.jb_model.specs.Kill.{kill_done, kill_step}
-use Rattle.jb_model.specs.Loaded.{IsMessageAt, with_killed_at}
-use Rattle.jb_model.specs.Message.{envelope_of}
-use Rattle.jb_model.specs.Sound.{IsSound}
-use Rattle.jb_model.specs.State.{AreaState, LiveMessage, state_of}
-use Rattle.jb_model.specs.Visible.{visible_at}
+use Rattle.jb_state.specs.Loaded.{IsMessageAt, with_killed_at}
+use Rattle.jb_state.specs.Message.{envelope_of}
+use Rattle.jb_state.specs.Sound.{IsSound}
+use Rattle.jb_state.specs.State.{AreaState, LiveMessage, state_of}
+use Rattle.jb_state.specs.Visible.{visible_at}
 use Rattle.jb_model.specs.declared.command.Command.TheVariants.{Kill}
-use Rattle.jb_model.specs.declared.loaded.Loaded.{Loaded}
-use Rattle.jb_model.specs.declared.loaded.LoadedMessage.{LoadedMessage}
-use Rattle.jb_model.specs.declared.change.Change.TheVariants.{Killed as KilledAt}
-use Rattle.jb_model.specs.declared.loaded.LoadedSlot.TheVariants.{Killed, Live}
+use Rattle.jb_state.specs.declared.loaded.Loaded.{Loaded}
+use Rattle.jb_state.specs.declared.loaded.LoadedMessage.{LoadedMessage}
+use Rattle.jb_state.specs.declared.change.Change.TheVariants.{Killed as KilledAt}
+use Rattle.jb_state.specs.declared.loaded.LoadedSlot.TheVariants.{Killed, Live}
 use Rattle.jb_model.specs.declared.reply.Reply.TheVariants.{Denied, NoMessage, Killed as KilledReply}
-use Rattle.jb_model.specs.Change.{live_messages, loaded_counted}
+use Rattle.jb_state.specs.Change.{live_messages, loaded_counted}
 use Rattle.jb_decide.specs.Refusal.{IsRefusal}
 use Rattle.jb_decide.specs.StepOf.{IsStepOf}
-use Rattle.jb_decide.proofs.StepLemmas.{killed_is, not_packed, something}
+use Rattle.jb_decide.proofs.StepLemmas.{not_packed, something}
+use Rattle.jb_state.proofs.PlaceLaws.{killed_is}
 use Rattle.jb_decide.specs.Seen.{IsNamed, loaded_envelope, seen_at}
 use Rattle.jb_decide.proofs.CountLemmas.{counted_now}
 use Rattle.jb_decide.proofs.SoundLemmas.{slot_within, sound_after_set, sound_counted}
@@ -32,14 +34,6 @@ abbrev seen_rest : AreaRules → AreaState → User → ℕ → Answered
 seen_rest rules state user number =
     with_message state number (visible_at rules user state number)
     (λ message. unless_denied state (first_refusal user rules Killing (Some (envelope_of message))) (kill_done state number))
-
--- the user may not look
-pub kill_unread : (rules : AreaRules) (loaded : Loaded) (user : User) (number : ℕ) (rule : Rule) → first_refusal user rules Listing None ≡ Some rule
-    → IsRefusal rules loaded user (Kill number) (Denied rule)
-kill_unread rules loaded user number rule denied = record {
-  refusal = refl;
-  step = λ texts moment. denied_way (state_of texts loaded) (first_refusal user rules Listing None) rule (seen_rest rules (state_of texts loaded) user number) denied;
-}
 
 -- the user sees no such message
 pub kill_unseen : (rules : AreaRules) (loaded : Loaded) (user : User) (number : ℕ) → first_refusal user rules Listing None ≡ None → seen_at rules user loaded number ≡ None

@@ -15,3 +15,4 @@ mod RelinkLemmas
 mod SoundLemmas
 mod StateLemmas
 mod StepLemmas
+mod PostLaws

@@ -6,29 +6,25 @@ use Rattle.jb_bytes.specs.Crc.{jam_crc_of}
 use Rattle.jb_base.specs.Access.{first_refusal}
 use Rattle.jb_base.specs.declared.area.Action.TheVariants.{List as Listing}
 use Rattle.jb_base.specs.declared.area.AreaRules.{AreaRules}
-use Rattle.jb_base.specs.declared.area.Rule.{Rule}
 use Rattle.jb_limits.specs.declared.limits.TheConstants.{MOST_MARKS}
 use Rattle.jb_base.specs.declared.user.User.{User}
 use Rattle.jb_model.specs.Answered.{Answered, unless_refused}
-use Rattle.jb_model.specs.Loaded.{with_marks}
-use Rattle.jb_model.specs.Marks.{is_mark, mark_of, with_mark}
+use Rattle.jb_state.specs.Loaded.{with_marks}
+use Rattle.jb_state.specs.Marks.{is_mark, mark_of, with_mark}
 use Rattle.jb_model.specs.SetMark.{mark_at, mark_done, mark_refusal, set_mark_step}
-use Rattle.jb_model.specs.Sound.{IsSound}
-use Rattle.jb_model.specs.Standing.{is_refusal}
-use Rattle.jb_model.specs.State.{AreaState, slot_state, state_of}
+use Rattle.jb_state.specs.Sound.{IsSound}
+use Rattle.jb_state.specs.State.{AreaState, slot_state, state_of}
 use Rattle.jb_model.specs.declared.command.Command.TheVariants.{SetMark}
-use Rattle.jb_model.specs.declared.loaded.Loaded.{Loaded}
-use Rattle.jb_model.specs.declared.mark.Mark.{Mark}
-use Rattle.jb_model.specs.declared.reply.Reply.{Reply}
-use Rattle.jb_model.specs.declared.reply.Reply.TheVariants.{Denied, Marked, MarksFull, NoMessage}
-use Rattle.jb_decide.specs.Refusal.{IsRefusal}
+use Rattle.jb_state.specs.declared.loaded.Loaded.{Loaded}
+use Rattle.jb_state.specs.declared.mark.Mark.{Mark}
+use Rattle.jb_model.specs.declared.reply.Reply.TheVariants.{Marked, MarksFull, NoMessage}
 use Rattle.jb_decide.specs.StepOf.{IsStepOf}
 use Rattle.jb_decide.proofs.StepLemmas.{not_packed, something}
 use Rattle.jb_marks.proofs.MarkLemmas.{mark_of-none}
-use Rattle.jb_model.specs.Places.{HasNone, IsPlaceOf}
-use Rattle.jb_model.specs.declared.change.Change.TheVariants.{Marked as MarkedAt}
+use Rattle.jb_state.specs.Places.{HasNone, IsPlaceOf}
+use Rattle.jb_state.specs.declared.change.Change.TheVariants.{Marked as MarkedAt}
 use Rattle.jb_decide.specs.SetMark.{present_mark, raised, set_refusal}
-use Rattle.jb_decide.proofs.StateLemmas.{accepted_way, allowed_way, answer, denied_way, refused_way}
+use Rattle.jb_decide.proofs.StateLemmas.{accepted_way, allowed_way, answer}
 
 -- the refusal over the state is that over the loaded area
 refusal_of_state : (texts : List ℕ) (loaded : Loaded) (user : User) (number : ℕ)
@@ -41,35 +37,6 @@ refusal_of_state texts loaded user number =
 -- what follows the first rule
 abbrev mark_rest : AreaState → User → ℕ → Answered
 mark_rest state user number = unless_refused state (mark_refusal state user number) (mark_done state (mark_at state user number))
-
--- the user may not read
-pub mark_unread : (rules : AreaRules) (loaded : Loaded) (user : User) (number : ℕ) (rule : Rule) → first_refusal user rules Listing None ≡ Some rule
-    → IsRefusal rules loaded user (SetMark number) (Denied rule)
-mark_unread rules loaded user number rule denied = record {
-  refusal = refl;
-  step = λ texts moment. denied_way (state_of texts loaded) (first_refusal user rules Listing None) rule (mark_rest (state_of texts loaded) user number) denied;
-}
-
--- both reasons are refusals
-set_refusal_refuses : (loaded : Loaded) (present : Option Mark) (number : ℕ) (reply : Reply) → set_refusal loaded present number ≡ Some reply → is_refusal reply ≡ true
-set_refusal_refuses loaded present number reply is =
-    by_tests (nat_le (loaded.base + length loaded.slots) number) (is_none present && nat_le MOST_MARKS (length loaded.marks)) is
-  where
-    by_tests : (past full : Bool) → cond past (Some (NoMessage number)) (cond full (Some (MarksFull MOST_MARKS)) None) ≡ Some reply → is_refusal reply ≡ true
-    by_tests true full h = let e : NoMessage number ≡ reply = cc in ap is_refusal (sym e)
-    by_tests false true h = let e : MarksFull MOST_MARKS ≡ reply = cc in ap is_refusal (sym e)
-    by_tests false false h = absurd (cc)
-
--- the mark is not set
-pub mark_refused : (rules : AreaRules) (loaded : Loaded) (user : User) (number : ℕ) (reply : Reply) → first_refusal user rules Listing None ≡ None
-    → set_refusal loaded (present_mark loaded user) number ≡ Some reply → IsRefusal rules loaded user (SetMark number) reply
-mark_refused rules loaded user number reply listed refused = record {
-  refusal = set_refusal_refuses loaded (present_mark loaded user) number reply refused;
-  step = λ texts moment.
-      allowed_way (state_of texts loaded) (first_refusal user rules Listing None) (mark_rest (state_of texts loaded) user number) listed
-      ∙ refused_way (state_of texts loaded) (mark_refusal (state_of texts loaded) user number) reply
-      (mark_done (state_of texts loaded) (mark_at (state_of texts loaded) user number)) (refusal_of_state texts loaded user number ∙ refused);
-}
 
 -- the mark is set
 pub mark_way : (texts : List ℕ) (rules : AreaRules) (loaded : Loaded) (user : User) (number : ℕ) (mark : Mark) → first_refusal user rules Listing None ≡ None

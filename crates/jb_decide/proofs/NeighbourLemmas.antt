@@ -1,42 +1,31 @@
 -- The neighbour of a new message.
-use Rattle.std.proofs.Common.{◌≡◌, ℕ, ◌-◌, Bool, true, false, cond, nat_lt, ltb-false, List, slice_get, set, map, Option, Some, None, refl, sym, ◌∙◌, ap, subst, bit_and}
+use Rattle.std.proofs.Common.{◌≡◌, ℕ, ◌-◌, List, set, map, Option, Some, None, refl, sym, ◌∙◌, ap, subst, bit_and}
 use Rattle.std.specs.Option.{option_map}
 use Rattle.jb_base.specs.declared.attribute.TheConstants.{DELETED}
-use Rattle.jb_model.specs.Plan.{loaded_at}
-use Rattle.jb_model.specs.LiveSlots.{message_in}
+use Rattle.jb_state.specs.Plan.{loaded_at}
 use Rattle.jb_link.specs.Splice.{IsSplice}
 use Rattle.jb_link.specs.declared.splicing.Spliced.TheVariants.{None as Nothing}
-use Rattle.jb_model.specs.Live.{message_at}
-use Rattle.jb_model.specs.Loaded.{IsMessageAt, with_head_at}
-use Rattle.jb_model.specs.Post.{slots_with, spliced_slots}
-use Rattle.jb_model.specs.Sound.{IsSound}
-use Rattle.jb_model.specs.State.{LiveMessage, live_message, slot_state, state_of}
-use Rattle.jb_model.specs.declared.loaded.Loaded.{Loaded}
-use Rattle.jb_model.specs.declared.loaded.LoadedMessage.{LoadedMessage}
-use Rattle.jb_model.specs.declared.loaded.LoadedSlot.{LoadedSlot}
-use Rattle.jb_model.specs.declared.loaded.LoadedSlot.TheVariants.{Empty, Killed, Live}
-use Rattle.jb_model.specs.declared.message.Head.{Head}
+use Rattle.jb_state.specs.Live.{message_at}
+use Rattle.jb_state.specs.Loaded.{IsMessageAt, with_head_at}
+use Rattle.jb_state.specs.Posted.{slots_with, spliced_slots}
+use Rattle.jb_state.specs.Sound.{IsSound}
+use Rattle.jb_state.specs.State.{LiveMessage, live_message, slot_state, state_of}
+use Rattle.jb_state.specs.declared.loaded.Loaded.{Loaded}
+use Rattle.jb_state.specs.declared.loaded.LoadedMessage.{LoadedMessage}
+use Rattle.jb_state.specs.declared.loaded.LoadedSlot.TheVariants.{Live}
+use Rattle.jb_state.specs.declared.message.Head.{Head}
 use Rattle.jb_decide.specs.Neighbour.{HasNeighbour, neighbour_at}
-use Rattle.jb_decide.proofs.StepLemmas.{headed_is}
-use Rattle.jb_model.specs.Change.{headed}
+use Rattle.jb_state.proofs.PlaceLaws.{headed_is}
+use Rattle.jb_state.specs.Change.{headed}
 use Rattle.jb_decide.specs.Seen.{IsNamed, with_head, with_text}
-use Rattle.jb_model.specs.declared.change.HeadAt.{HeadAt}
+use Rattle.jb_state.specs.declared.change.HeadAt.{HeadAt}
 use Rattle.jb_decide.proofs.SoundLemmas.{slot_within, sound_after_set}
 use Rattle.jb_decide.proofs.StateLemmas.{message_at_loaded, state_with_slot, with_slots}
+use Rattle.jb_link.proofs.AreaLemmas.{named_is_in}
 
 -- a message that a number names stands at its place
 pub named_at_place : (loaded : Loaded) (number : ℕ) (message : LoadedMessage) → loaded_at loaded number ≡ Some message → IsNamed loaded number (number - loaded.base) message
-named_at_place loaded number message is = by_order (nat_lt number loaded.base) refl (slice_get loaded.slots (number - loaded.base)) refl is
-  where
-    by_order : (below : Bool) → nat_lt number loaded.base ≡ below → (slot : Option LoadedSlot) → slice_get loaded.slots (number - loaded.base) ≡ slot
-        → cond below None (message_in slot) ≡ Some message → IsNamed loaded number (number - loaded.base) message
-    by_order true t slot at h = absurd (cc)
-    by_order false t None at h = absurd (cc)
-    by_order false t (Some Empty) at h = absurd (cc)
-    by_order false t (Some (Killed header_at)) at h = absurd (cc)
-    by_order false t (Some (Live other)) at h =
-        let same : other ≡ message = cc in
-        record { low = ltb-false number loaded.base t; placed = refl; here = at ∙ ap (λ m. Some (Live m)) same }
+named_at_place loaded number message is = let found = named_is_in loaded number message is in record { low = found.low; placed = refl; here = found.at }
 
 -- another header without a bit that says that the message is killed keeps the area sound
 pub sound_with_head : (limit : ℕ) (loaded : Loaded) (place : ℕ) (head : Head) (message : LoadedMessage) → IsMessageAt loaded place message

@@ -1,6 +1,5 @@
 -- From what a pack comes to in the loaded area to what is pending.
-use Rattle.std.proofs.Common.{◌≡◌, ◌≢◌, true, inl, inr, ℕ, ◌+◌, ◌≤◌, List, [], ◌∷◌, All, length, Option, None, Some, ap, sym, refl, ◌∙◌, arith, length-append}
-use Rattle.std.proofs.lemmas.Bool.{cases_lt}
+use Rattle.std.proofs.Common.{◌≡◌, ◌≢◌, Bool, true, false, cond, nat_lt, lt-ltb, le-ltb, inr, ℕ, ◌+◌, ◌≤◌, List, [], ◌∷◌, All, length, Option, None, Some, ap, sym, refl, ◌∙◌, arith, length-append}
 use Rattle.std.proofs.lemmas.List.Elements.{All-head, All-tail}
 use Rattle.std.proofs.lemmas.List.Sums.{sum_by-cons}
 use Rattle.jb_base.specs.Access.{first_refusal}
@@ -11,23 +10,23 @@ use Rattle.jb_limits.specs.declared.limits.TheConstants.{MOST_SLOTS, TEXTS_CEILI
 use Rattle.jb_base.specs.declared.user.User.{User}
 use Rattle.jb_disk.specs.RedoView.{RedoView}
 use Rattle.jb_disk.specs.Files.{Files}
-use Rattle.jb_model.specs.Plan.{plan_of}
-use Rattle.jb_model.specs.LiveSlots.{linkables_from}
-use Rattle.jb_model.specs.Answered.{Answered, refused, unless_denied, unless_refused}
-use Rattle.jb_model.specs.Pack.{pack_done, pack_refusal, pack_step, packed_base, packed_state}
-use Rattle.jb_model.specs.Sound.{IsSlotWithin, IsSound}
-use Rattle.jb_model.specs.State.{AreaState, state_of, text_of}
+use Rattle.jb_state.specs.Plan.{plan_of}
+use Rattle.jb_state.specs.LiveSlots.{linkables_from}
+use Rattle.jb_model.specs.Answered.{refused, unless_denied, unless_refused}
+use Rattle.jb_model.specs.Pack.{pack_done, pack_refusal, pack_step}
+use Rattle.jb_state.specs.Tight.{texts_together}
+use Rattle.jb_state.specs.Sound.{IsSlotWithin, IsSound}
+use Rattle.jb_state.specs.State.{AreaState, state_of, text_of}
 use Rattle.jb_model.specs.declared.command.Command.TheVariants.{Pack}
-use Rattle.jb_model.specs.declared.links.Links.{Links}
-use Rattle.jb_model.specs.declared.loaded.Loaded.{Loaded}
-use Rattle.jb_model.specs.declared.loaded.LoadedSlot.{LoadedSlot}
-use Rattle.jb_model.specs.declared.loaded.LoadedSlot.TheVariants.{Empty, Killed, Live}
+use Rattle.jb_state.specs.declared.links.Links.{Links}
+use Rattle.jb_state.specs.declared.loaded.Loaded.{Loaded}
+use Rattle.jb_state.specs.declared.loaded.LoadedSlot.{LoadedSlot}
+use Rattle.jb_state.specs.declared.loaded.LoadedSlot.TheVariants.{Empty, Killed, Live}
 use Rattle.jb_model.specs.declared.reply.Reply.{Reply}
 use Rattle.jb_model.specs.declared.reply.Reply.TheVariants as reply
-use Rattle.jb_pack.proofs.PlanLemmas.{not_refused, refused_full}
 use Rattle.jb_pack.proofs.SoundLemmas.{packed_sound}
-use Rattle.jb_pack.proofs.StateLemmas.{base_packed, kept_within, length-text, state_packed, sum_of_kept}
-use Rattle.jb_model.specs.Packed.{kept_slots, new_base, packed, packed_texts, slot_text_size, texts_in, texts_size}
+use Rattle.jb_pack.proofs.StateLemmas.{base_packed, kept_within, length-text, state_packed, sum_of_kept, texts_of_state}
+use Rattle.jb_state.specs.Packed.{kept_slots, packed, packed_texts, slot_text_size, texts_in, texts_size}
 use Rattle.jb_pack.specs.Finish.{HoldsWithCopies, IsPackOfCopies}
 use Rattle.jb_pack.specs.Plan.{AnswersPack}
 use Rattle.jb_pack.specs.Shadow.{Shadow}
@@ -38,7 +37,7 @@ use Rattle.jb_decide.specs.Holds.{HoldsWith}
 use Rattle.jb_decide.proofs.StepLemmas.{no_pack, something}
 use Rattle.jb_decide.specs.StepOf.{IsStepOf}
 use Rattle.jb_model.specs.Standing.{is_refusal}
-use Rattle.jb_model.specs.declared.change.Change.TheVariants.{Nothing, Packed}
+use Rattle.jb_state.specs.declared.change.Change.TheVariants.{Nothing, Packed}
 
 -- the texts of live messages that lie within the texts have their lengths
 length-texts : (headers_len texts_len : ℕ) (texts : List ℕ) (slots : List LoadedSlot) → length texts ≡ texts_len → All (IsSlotWithin headers_len texts_len) slots
@@ -60,57 +59,42 @@ length-texts headers_len texts_len texts (Live message ∷ slots) size within =
       length-append (text_of texts message) (texts_in texts slots),
     )
 
--- what is not refused fits
-fits_when : (limit : ℕ) (loaded : Loaded) (texts : List ℕ) → IsSound limit loaded → length texts ≡ loaded.texts_len → pack_refusal (state_of texts loaded) ≡ None
+-- where a pack fits, so do the texts of the slots that are kept
+fits_kept : (limit : ℕ) (loaded : Loaded) (texts : List ℕ) → IsSound limit loaded → length texts ≡ loaded.texts_len → texts_together (state_of texts loaded).slots ≤ TEXTS_CEILING
     → texts_size (kept_slots loaded) ≤ TEXTS_CEILING
-fits_when limit loaded texts sound size none =
+fits_kept limit loaded texts sound size fits =
+    let together = texts_of_state loaded.headers_len loaded.texts_len texts loaded.slots size sound.within in
     let kept = sum_of_kept slot_text_size refl (λ at. refl) loaded in
-    elim (cases_lt TEXTS_CEILING (texts_size loaded.slots)) [
-      | inl more ↦ absurd (some_none (reply.TextFull (texts_size loaded.slots)) (sym (refused_full limit loaded sound texts size more) ∙ none))
-      | inr few ↦ omega (arith, few, kept)
-    ]
-  where
-    some_none : (answer : Reply) → Some answer ≡ None → ⊥
-    some_none answer is = cc
-
--- it is the new base that is answered
-pub base_answered : (loaded : Loaded) (texts : List ℕ) (base live dropped : ℕ) → AnswersPack (state_of texts loaded) (Fits base live dropped) → base ≡ new_base loaded
-base_answered loaded texts base live dropped answer = same (sym answer.1) ∙ base_packed texts loaded
-  where
-    same : reply.Packed base live dropped ≡ (pack_done (state_of texts loaded)).reply → base ≡ packed_base (state_of texts loaded)
-    same is = cc
+    omega (arith, fits, together, kept)
 
 -- something changes
 pub packed_some : (plan : List Links) (base : ℕ) → Packed plan base ≢ Nothing
 packed_some plan base is = cc
 
--- the sysop is answered as a pack of the state says
-step_of : (rules : AreaRules) (state : AreaState) (user : User) (done : Answered) → first_refusal user rules Tending None ≡ None → pack_refusal state ≡ None
-    → pack_done state ≡ done → pack_step rules state user ≡ done
-step_of rules state user done allowed fits is =
-    ap (λ (r : Option Rule). unless_denied state r (unless_refused state (pack_refusal state) (pack_done state))) allowed
-    ∙ ap (λ (r : Option Reply). unless_refused state r (pack_done state)) fits ∙ is
+-- the rule that keeps the user from it comes first
+pub pack_by : (rules : AreaRules) (state : AreaState) (user : User) (rule : Option Rule) → first_refusal user rules Tending None ≡ rule
+    → pack_step rules state user ≡ unless_denied state rule (unless_refused state (pack_refusal state) (pack_done state))
+pack_by rules state user rule is = ap (λ (r : Option Rule). unless_denied state r (unless_refused state (pack_refusal state) (pack_done state))) is
+
+-- else the answer hangs on the length of the texts together
+refused_by : (rules : AreaRules) (state : AreaState) (user : User) (long : Bool) → first_refusal user rules Tending None ≡ None → nat_lt TEXTS_CEILING (texts_together state.slots) ≡ long
+    → pack_step rules state user ≡ unless_refused state (cond long (Some (reply.TextFull (texts_together state.slots))) None) (pack_done state)
+refused_by rules state user long allowed is =
+    pack_by rules state user None allowed
+    ∙ ap (λ (b : Bool). unless_refused state (cond b (Some (reply.TextFull (texts_together state.slots))) None) (pack_done state)) is
 
 -- texts that are too long
 pub full_step : (rules : AreaRules) (state : AreaState) (user : User) (len : ℕ) → first_refusal user rules Tending None ≡ None → AnswersPack state (TextFull len)
     → pack_step rules state user ≡ refused state (reply.TextFull len)
 full_step rules state user len allowed full =
-    ap (λ (r : Option Rule). unless_denied state r (unless_refused state (pack_refusal state) (pack_done state))) allowed
-    ∙ ap (λ (r : Option Reply). unless_refused state r (pack_done state)) full
+    refused_by rules state user true allowed (lt-ltb TEXTS_CEILING (texts_together state.slots) full.0) ∙ ap (λ (n : ℕ). refused state (reply.TextFull n)) (sym full.1)
 
 -- but not where they fit
 pub not_full : (limit : ℕ) (loaded : Loaded) (texts : List ℕ) (len : ℕ) → IsSound limit loaded → length texts ≡ loaded.texts_len → texts_size loaded.slots ≤ TEXTS_CEILING
     → AnswersPack (state_of texts loaded) (TextFull len) → ⊥
-not_full limit loaded texts len sound size fits full = none_some (reply.TextFull len) (sym (not_refused limit loaded sound texts size fits) ∙ full)
-  where
-    none_some : (answer : Reply) → None ≡ Some answer → ⊥
-    none_some answer is = cc
-
--- a user who may not
-pub denied_step : (rules : AreaRules) (state : AreaState) (user : User) (rule : Rule) → first_refusal user rules Tending None ≡ Some rule
-    → pack_step rules state user ≡ refused state (reply.Denied rule)
-denied_step rules state user rule denied =
-    ap (λ (r : Option Rule). unless_denied state r (unless_refused state (pack_refusal state) (pack_done state))) denied
+not_full limit loaded texts len sound size fits full =
+    let long = full.0 in
+    absurd (omega (arith, long, fits, texts_of_state loaded.headers_len loaded.texts_len texts loaded.slots size sound.within))
 
 -- a pack that is refused
 pub pack_refused : (rules : AreaRules) (from : Loaded) (user : User) (moment : ℕ) (answer : Reply) → is_refusal answer ≡ true → IsSound rules.slots from
@@ -135,13 +119,13 @@ pub pack_decided : (rules : AreaRules) (from : Loaded) (texts : List ℕ) (conte
     → IsDecided rules from texts contents (Some shadow) redo user moment Pack (record { reply = reply.Packed base live dropped; pending = record { change = Packed plan base; replies = Some replies } })
 pack_decided rules from texts contents shadow redo user moment base live dropped plan replies allowed sound size answer is links index room =
     let state : AreaState = state_of texts from in
-    let fits : texts_size (kept_slots from) ≤ TEXTS_CEILING = fits_when rules.slots from texts sound size answer.0 in
+    let fits : texts_size (kept_slots from) ≤ TEXTS_CEILING = fits_kept rules.slots from texts sound size answer.fits in
     let brings = is.brings in
     let both : (files : Files) → HoldsWith from texts (Some shadow) files → HoldsWithCopies from shadow files =
     λ files has. record { loads = has.holds.loads; has = has.has } in
     let done : pack_step rules state user ≡ record { reply = reply.Packed base live dropped; state = state_of (packed_texts texts from) (packed from) } =
-    step_of rules state user _ allowed answer.0
-    ((λ i. record { reply = answer.1 i; state = packed_state state }) ∙ ap (λ (s : AreaState). record { reply = reply.Packed base live dropped; state = s }) (sym (state_packed rules.slots texts from sound size))) in
+    refused_by rules state user false allowed (le-ltb TEXTS_CEILING (texts_together state.slots) answer.fits)
+    ∙ (λ i. record { reply = reply.Packed (sym answer.base i) (sym answer.live i) (sym answer.dropped i); state = sym (state_packed rules.slots texts from sound size) i }) in
     record {
       coming = record { to = packed from; texts = packed_texts texts from };
       change = inr (record {
@@ -159,7 +143,7 @@ pack_decided rules from texts contents shadow redo user moment base live dropped
           };
           writable = is.writable;
         };
-        fits = (links, base_answered from texts base live dropped answer, fits);
+        fits = (links, answer.base ∙ base_packed texts from, fits);
         sound = packed_sound rules.slots from sound fits;
         sized = length-texts from.headers_len from.texts_len texts (kept_slots from) size (kept_within rules.slots texts from sound size);
         short = is.short;

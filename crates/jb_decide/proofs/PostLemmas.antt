@@ -1,8 +1,6 @@
 -- The ways through a post.
-use Rattle.std.proofs.Common.{◌≡◌, eqb-true, ◌^◌, ◌%◌, find, inr, ℕ, ◌+◌, ◌<◌, ◌≤◌, Bool, true, false, cond, not, ◌&&◌, ◌==◌, nat_le, nat_lt, ltb-false, leb-false, List, [], ◌++◌, length, Option, Some, None, refl, sym, ◌∙◌, ap, subst, arith, length-set}
-use Rattle.std.specs.Prelude.{IfSome, is_none}
-use Rattle.std.proofs.lemmas.Bool.{and_parts}
-use Rattle.jb_model.proofs.ThreadLaws.{find_passes}
+use Rattle.std.proofs.Common.{◌≡◌, ◌^◌, ◌%◌, inl, inr, ℕ, ◌+◌, ◌<◌, ◌≤◌, Bool, true, false, cond, not, ◌&&◌, ◌==◌, nat_le, nat_lt, ltb-false, leb-false, List, [], ◌++◌, length, Option, Some, None, refl, sym, ◌∙◌, ap, subst, arith}
+use Rattle.std.specs.Prelude.{is_none}
 use Rattle.std.specs.Option.{option_map}
 use Rattle.std.proofs.lemmas.List.{length-map}
 use Rattle.jb_base.specs.Access.{first_refusal}
@@ -14,25 +12,27 @@ use Rattle.jb_limits.specs.declared.limits.TheConstants.{HEADERS_CEILING, LAST_P
 use Rattle.jb_bytes.specs.declared.subfield.Subfield.{Subfield}
 use Rattle.jb_base.specs.declared.user.User.{User}
 use Rattle.jb_link.proofs.CopiedLemmas.{copied_of_state, parent_of_state}
+use Rattle.jb_link.proofs.ReplyLemmas.{found_kept, kept_if_live}
 use Rattle.jb_model.proofs.RangeLaws.{fit_draft, none_of, posted_in_range}
-use Rattle.jb_model.specs.Answered.{Answered, counted, unless_refused}
-use Rattle.jb_model.specs.Loaded.{header_size, with_message_behind}
-use Rattle.jb_model.specs.Message.{header_length}
-use Rattle.jb_model.specs.Post.{Draft, answer_refusal, draft_refusal, post_done, post_step, posted_message, posted_msgid, posted_parent, posted_replyid, room_refusal, told_length}
-use Rattle.jb_model.specs.Sound.{IsSound}
+use Rattle.jb_model.specs.Answered.{Answered, unless_refused}
+use Rattle.jb_state.specs.Live.{counted}
+use Rattle.jb_state.specs.Loaded.{header_size, with_message_behind}
+use Rattle.jb_state.specs.Message.{header_length, replyid_of}
+use Rattle.jb_model.specs.Post.{Draft, answer_refusal, draft_refusal, post_done, post_step, posted_message, posted_msgid, room_refusal, told_length}
+use Rattle.jb_state.specs.Posted.{posted_parent, posted_replyid}
+use Rattle.jb_state.specs.Sound.{IsSound}
 use Rattle.jb_model.specs.Standing.{is_refusal}
-use Rattle.jb_model.specs.State.{AreaState, IsMessageInRange, LiveMessage, next_number, slot_state, state_of}
-use Rattle.jb_model.specs.declared.loaded.Loaded.{Loaded}
-use Rattle.jb_model.specs.declared.loaded.LoadedMessage.{LoadedMessage}
-use Rattle.jb_model.specs.declared.message.Head.{Head}
+use Rattle.jb_state.specs.State.{AreaState, IsMessageInRange, LiveMessage, next_number, slot_state, state_of}
+use Rattle.jb_state.specs.declared.loaded.Loaded.{Loaded}
+use Rattle.jb_state.specs.declared.loaded.LoadedMessage.{LoadedMessage}
+use Rattle.jb_state.specs.declared.message.Head.{Head}
 use Rattle.jb_model.specs.declared.reply.Reply.{Reply}
 use Rattle.jb_model.specs.declared.command.Field.TheVariants.{To, Subject, Text as TextField}
 use Rattle.jb_base.specs.declared.area.Rule.{Rule}
 use Rattle.jb_model.specs.declared.reply.Reply.TheVariants.{Denied, EmptyName, HeadersFull, NoMessage, NumbersSpent, Posted, SlotsFull, TextFull, TooLong}
-use Rattle.jb_model.specs.Change.{FitsBehind, headed_where, live_messages, loaded_counted}
-use Rattle.jb_model.specs.Links.{Linkable, is_kept_by, number_or_0, parent_for}
-use Rattle.jb_model.specs.LiveSlots.{linkables}
-use Rattle.jb_model.specs.Message.{replyid_of}
+use Rattle.jb_state.specs.Change.{FitsBehind, headed_where, live_messages, loaded_counted}
+use Rattle.jb_state.specs.Links.{Linkable, parent_for}
+use Rattle.jb_state.specs.LiveSlots.{linkables}
 use Rattle.jb_link.specs.Parents.{copied_msgid, parent_behind}
 use Rattle.jb_decide.specs.Draft.{fields_with, head_with, new_fields, new_message, next_of, post_of}
 use Rattle.jb_decide.specs.Neighbour.{HasNeighbour, spliced_state}
@@ -41,11 +41,11 @@ use Rattle.jb_decide.proofs.StepLemmas.{not_packed, something}
 use Rattle.jb_decide.specs.Refusal.{IsRefusal}
 use Rattle.jb_decide.specs.Room.{file_refusal, new_refusal, number_refusal, or_refusal, unseen_refusal}
 use Rattle.jb_decide.specs.Seen.{seen_at, with_text}
-use Rattle.jb_model.specs.declared.change.Change.TheVariants.{Posted as PostedBehind}
-use Rattle.jb_model.specs.declared.change.HeadAt.{HeadAt}
+use Rattle.jb_state.specs.declared.change.Change.TheVariants.{Posted as PostedBehind}
+use Rattle.jb_state.specs.declared.change.HeadAt.{HeadAt}
 use Rattle.jb_decide.proofs.BehindLemmas.{grown, sound_behind, state_behind}
 use Rattle.jb_decide.proofs.CountLemmas.{counted_now}
-use Rattle.jb_decide.proofs.SoundLemmas.{sound_counted}
+use Rattle.jb_decide.proofs.SoundLemmas.{as_many, sound_counted}
 use Rattle.jb_decide.proofs.StateLemmas.{accepted_way, allowed_way, answer, denied_way, refused_way, visible_at_loaded}
 
 -- the next number
@@ -241,28 +241,15 @@ post_way texts rules loaded user moment draft neighbour accepted sound is h =
     (sym (state_behind rules.slots texts draft.text linked message (h.sound rules.slots sound) (is ∙ sym size) (sym size) refl))
     ∙ ap (answer (Posted (next_of loaded))) (sym (counted_now (texts ++ draft.text) (with_message_behind message linked)))
 
--- the lengths of an area with its neighbour's header written
-same_length : (neighbour : Option HeadAt) (loaded : Loaded) → length (headed_where neighbour loaded).slots ≡ length loaded.slots
-same_length None loaded = refl
-same_length (Some one) loaded = length-set loaded.slots one.place _
-
--- the kept number of what was found is found again
-kept_again : (live : List Linkable) (number kept : ℕ) (found : Option Linkable) → find (is_kept_by number kept) live ≡ found → IfSome found (λ one. is_kept_by number kept one ≡ true)
-    → number_or_0 (find (is_kept_by number (number_or_0 found)) live) ≡ number_or_0 found
-kept_again live number kept None is passes = found_none (find (is_kept_by number 0) live) (find_passes (is_kept_by number 0) live)
-  where
-    found_none : (found : Option Linkable) → IfSome found (λ one. is_kept_by number 0 one ≡ true) → number_or_0 found ≡ 0
-    found_none None passes = refl
-    found_none (Some one) passes = eqb-true one.number 0 (and_parts _ _ passes).1
-kept_again live number kept (Some one) is passes =
-    let same : kept ≡ one.number = sym (eqb-true one.number kept (and_parts _ _ passes).1) in
-    let P : ℕ → Type 0 = λ k. number_or_0 (find (is_kept_by number k) live) ≡ one.number in
-    subst P same (ap number_or_0 is)
-
 -- the parent of a message that keeps its parent is that
 parent_again : (live : List Linkable) (number : ℕ) (id : Option (List ℕ)) (kept : ℕ) → parent_for live number id kept ≡ parent_for live number id (parent_for live number id kept)
 parent_again live number (Some bytes) kept = refl
-parent_again live number None kept = sym (kept_again live number kept (find (is_kept_by number kept) live) refl (find_passes (is_kept_by number kept) live))
+parent_again live number None kept = elim (found_kept number kept live) [
+  | inl none ↦
+      (let again : kept_if_live live number 0 ≡ 0 = elim (found_kept number 0 live) [ inl zero ↦ zero | inr zero ↦ zero ] in
+      none ∙ sym (ap (kept_if_live live number) none ∙ again))
+  | inr same ↦ sym (ap (kept_if_live live number) same)
+]
 
 -- the REPLYID of a new message
 replyid_made : (user : User) (draft : Draft) (msgid : List ℕ) (replyid : Option (List ℕ)) → replyid_of (fields_with user draft msgid replyid) ≡ replyid
@@ -308,7 +295,7 @@ post_keeps_sound rules loaded message parent number neighbour place sound h =
     let base : linked.base ≡ loaded.base = ap (λ (s : AreaState). s.base) (h.spliced []) in
     let headers_len : linked.headers_len ≡ loaded.headers_len = ap (λ (s : AreaState). s.headers_len) (h.spliced []) in
     let texts_len : linked.texts_len ≡ loaded.texts_len = ap (λ (s : AreaState). s.texts_len) (h.spliced []) in
-    let slots : length linked.slots ≡ length loaded.slots = same_length neighbour loaded in
+    let slots : length linked.slots ≡ length loaded.slots = as_many neighbour loaded in
     let few_numbers : next_of loaded ≤ LAST_POSTED_NUMBER = place.number in
     let few_slots : length loaded.slots < rules.slots = place.slot in
     let headers_fit : loaded.headers_len + header ≤ HEADERS_CEILING = place.headers in

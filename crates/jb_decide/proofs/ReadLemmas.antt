@@ -5,92 +5,37 @@ use Rattle.jb_bytes.specs.Name.{same_name}
 use Rattle.jb_bytes.specs.Subfields.{receiver_of}
 use Rattle.jb_base.specs.declared.area.Action.TheVariants.{List as Listing}
 use Rattle.jb_base.specs.declared.area.AreaRules.{AreaRules}
-use Rattle.jb_base.specs.declared.area.Rule.{Rule}
 use Rattle.jb_base.specs.declared.attribute.TheConstants.{DELETED}
 use Rattle.jb_base.specs.declared.user.User.{User}
 use Rattle.jb_model.proofs.RangeLaws.{read_keeps_deleted}
-use Rattle.jb_model.specs.Answered.{Answered, counted, with_message}
-use Rattle.jb_model.specs.Loaded.{IsMessageAt, with_head_at}
-use Rattle.jb_model.specs.Message.{letter_of}
-use Rattle.jb_model.specs.Read.{peek_step, read_done, read_message, read_once_more, read_step, received_at}
-use Rattle.jb_model.specs.Sound.{IsSound}
-use Rattle.jb_model.specs.State.{AreaState, LiveMessage, state_of}
-use Rattle.jb_model.specs.Visible.{visible_at}
-use Rattle.jb_model.specs.declared.command.Command.TheVariants.{Peek, Read}
-use Rattle.jb_model.specs.declared.loaded.Loaded.{Loaded}
-use Rattle.jb_model.specs.declared.loaded.LoadedMessage.{LoadedMessage}
-use Rattle.jb_model.specs.declared.loaded.LoadedSlot.TheVariants.{Live}
-use Rattle.jb_model.specs.declared.message.Head.{Head}
-use Rattle.jb_model.specs.declared.reply.Reply.TheVariants.{Denied, NoMessage, Text}
-use Rattle.jb_model.specs.Change.{live_messages, loaded_counted}
-use Rattle.jb_decide.specs.Read.{IsLooking, IsReading, letter_in, read_head}
-use Rattle.jb_decide.proofs.StepLemmas.{headed_is, not_packed, something}
-use Rattle.jb_model.specs.declared.change.HeadAt.{HeadAt}
-use Rattle.jb_decide.specs.Refusal.{IsRefusal}
+use Rattle.jb_model.specs.Answered.{Answered, with_message}
+use Rattle.jb_state.specs.Live.{counted}
+use Rattle.jb_state.specs.Loaded.{IsMessageAt, with_head_at}
+use Rattle.jb_model.specs.Letter.{letter_of}
+use Rattle.jb_model.specs.Read.{read_done, read_message, read_once_more, read_step, received_at}
+use Rattle.jb_state.specs.Sound.{IsSound}
+use Rattle.jb_state.specs.State.{AreaState, LiveMessage, state_of}
+use Rattle.jb_state.specs.Visible.{visible_at}
+use Rattle.jb_model.specs.declared.command.Command.TheVariants.{Read}
+use Rattle.jb_state.specs.declared.loaded.Loaded.{Loaded}
+use Rattle.jb_state.specs.declared.loaded.LoadedMessage.{LoadedMessage}
+use Rattle.jb_state.specs.declared.loaded.LoadedSlot.TheVariants.{Live}
+use Rattle.jb_state.specs.declared.message.Head.{Head}
+use Rattle.jb_model.specs.declared.reply.Reply.TheVariants.{Text}
+use Rattle.jb_state.specs.Change.{live_messages, loaded_counted}
+use Rattle.jb_decide.specs.Read.{IsReading, letter_in, read_head}
+use Rattle.jb_decide.proofs.StepLemmas.{not_packed, something}
+use Rattle.jb_state.proofs.PlaceLaws.{headed_is}
+use Rattle.jb_state.specs.declared.change.HeadAt.{HeadAt}
 use Rattle.jb_decide.specs.Seen.{IsNamed, seen_at, with_head, with_text}
 use Rattle.jb_decide.proofs.CountLemmas.{counted_now}
 use Rattle.jb_decide.proofs.SoundLemmas.{slot_within, sound_after_set, sound_counted}
-use Rattle.jb_decide.proofs.StateLemmas.{allowed_way, answer, denied_way, message_way, none_way, state_with_slot, visible_found, visible_none}
+use Rattle.jb_decide.proofs.StateLemmas.{allowed_way, answer, message_way, state_with_slot, visible_found}
 
 -- what follows the first rule, in a reading
 abbrev read_rest : AreaRules → AreaState → User → ℕ → ℕ → Answered
 read_rest rules state user moment number =
     with_message state number (visible_at rules user state number) (λ message. read_done state number (read_message user moment message))
-
--- what follows the first rule, in a look
-abbrev look_rest : AreaRules → AreaState → User → ℕ → Answered
-look_rest rules state user number =
-    with_message state number (visible_at rules user state number) (λ message. record { reply = Text (letter_of number message); state = state })
-
--- the user may not read
-pub read_unread : (rules : AreaRules) (loaded : Loaded) (user : User) (number : ℕ) (rule : Rule) → first_refusal user rules Listing None ≡ Some rule
-    → IsRefusal rules loaded user (Read number) (Denied rule)
-read_unread rules loaded user number rule denied = record {
-  refusal = refl;
-  step = λ texts moment. denied_way (state_of texts loaded) (first_refusal user rules Listing None) rule (read_rest rules (state_of texts loaded) user moment number) denied;
-}
-
--- the user sees no such message
-pub read_unseen : (rules : AreaRules) (loaded : Loaded) (user : User) (number : ℕ) → first_refusal user rules Listing None ≡ None → seen_at rules user loaded number ≡ None
-    → IsRefusal rules loaded user (Read number) (NoMessage number)
-read_unseen rules loaded user number listed unseen = record {
-  refusal = refl;
-  step = λ texts moment.
-      allowed_way (state_of texts loaded) (first_refusal user rules Listing None) (read_rest rules (state_of texts loaded) user moment number) listed
-      ∙ none_way (state_of texts loaded) number (visible_at rules user (state_of texts loaded) number)
-      (λ message. read_done (state_of texts loaded) number (read_message user moment message))
-      (visible_none texts rules user loaded number unseen);
-}
-
--- the user may not look
-pub look_unread : (rules : AreaRules) (loaded : Loaded) (user : User) (number : ℕ) (rule : Rule) → first_refusal user rules Listing None ≡ Some rule
-    → IsRefusal rules loaded user (Peek number) (Denied rule)
-look_unread rules loaded user number rule denied = record {
-  refusal = refl;
-  step = λ texts moment. denied_way (state_of texts loaded) (first_refusal user rules Listing None) rule (look_rest rules (state_of texts loaded) user number) denied;
-}
-
--- the user sees no such message to look at
-pub look_unseen : (rules : AreaRules) (loaded : Loaded) (user : User) (number : ℕ) → first_refusal user rules Listing None ≡ None → seen_at rules user loaded number ≡ None
-    → IsRefusal rules loaded user (Peek number) (NoMessage number)
-look_unseen rules loaded user number listed unseen = record {
-  refusal = refl;
-  step = λ texts moment.
-      allowed_way (state_of texts loaded) (first_refusal user rules Listing None) (look_rest rules (state_of texts loaded) user number) listed
-      ∙ none_way (state_of texts loaded) number (visible_at rules user (state_of texts loaded) number)
-      (λ message. record { reply = Text (letter_of number message); state = state_of texts loaded })
-      (visible_none texts rules user loaded number unseen);
-}
-
--- the message is shown as it is
-pub look_way : (texts : List ℕ) (rules : AreaRules) (loaded : Loaded) (user : User) (number : ℕ) (message : LoadedMessage)
-    → first_refusal user rules Listing None ≡ None → seen_at rules user loaded number ≡ Some message
-    → peek_step rules (state_of texts loaded) user number ≡ answer (Text (letter_of number (with_text texts message))) (state_of texts loaded)
-look_way texts rules loaded user number message listed seen =
-    allowed_way (state_of texts loaded) (first_refusal user rules Listing None) (look_rest rules (state_of texts loaded) user number) listed
-    ∙ message_way (state_of texts loaded) number (visible_at rules user (state_of texts loaded) number) (with_text texts message)
-    (λ m. record { reply = Text (letter_of number m); state = state_of texts loaded })
-    (visible_found texts rules user loaded number message seen)
 
 -- the message as a reading leaves it, with its text
 message_read : (texts : List ℕ) (user : User) (moment : ℕ) (message : LoadedMessage)
@@ -186,22 +131,3 @@ reading_is rules loaded user moment number at message listed seen made named sou
         named = λ texts. tt;
       };
     }
-
--- a look that nothing refuses
-pub looking_is : (rules : AreaRules) (loaded : Loaded) (user : User) (number place : ℕ) (message : LoadedMessage)
-    → first_refusal user rules Listing None ≡ None → seen_at rules user loaded number ≡ Some message → IsNamed loaded number place message → IsSound rules.slots loaded
-    → IsLooking rules loaded user number place
-looking_is rules loaded user number place message listed seen named sound = record {
-  message = message;
-  here = named.here;
-  step = λ moment. record {
-    step = λ texts sized. look_way texts rules loaded user number message listed seen;
-    fits = tt;
-    sound = sound;
-    kind = tt;
-    text = refl;
-    idle = λ texts nothing. refl;
-    unpacked = λ texts packed. not_packed (letter_in number message.head message texts) (λ base live dropped is. cc) packed;
-    named = λ texts. tt;
-  };
-}

@@ -1,14 +1,17 @@
 -- A sound area stays sound when a slot is put in the place of one that took no less.
-use Rattle.std.proofs.Common.{◌≡◌, ℕ, ◌<◌, inl, inr, List, length, set, get_or, slice_get, Some, sym, subst, arith}
+use Rattle.std.proofs.Common.{◌≡◌, ℕ, ◌<◌, inl, inr, List, length, set, get_or, slice_get, Some, sym, subst, arith, Option, None, refl}
 use Rattle.std.proofs.lemmas.Bool.{cases_eq}
 use Rattle.std.proofs.lemmas.List.{get_or-set_other, get_or-set_same, length-set}
 use Rattle.std.proofs.lemmas.List.Elements.{All-set}
 use Rattle.std.proofs.lemmas.Option.{get_or_from_slice_get, slice_get_within}
-use Rattle.jb_model.specs.Loaded.{with_counts, with_slot_at}
-use Rattle.jb_model.specs.Sound.{AreApart, Covers, IsSlotWithin, IsSound}
-use Rattle.jb_model.specs.declared.loaded.Loaded.{Loaded}
-use Rattle.jb_model.specs.declared.loaded.LoadedSlot.{LoadedSlot}
+use Rattle.jb_state.specs.Loaded.{slot_with_head, with_counts, with_slot_at}
+use Rattle.jb_state.specs.Sound.{AreApart, Covers, IsSlotWithin, IsSound}
+use Rattle.jb_state.specs.declared.loaded.Loaded.{Loaded}
+use Rattle.jb_state.specs.declared.loaded.LoadedSlot.{LoadedSlot}
 use Rattle.std.specs.List.{AllPairs}
+use Rattle.jb_state.specs.Change.{headed_where}
+use Rattle.jb_state.specs.declared.change.HeadAt.{HeadAt}
+use Rattle.jb_state.proofs.PlaceLaws.{length_changed}
 
 -- each byte that the one slot takes, the other takes too
 abbrev pub TakesNoMore : LoadedSlot → LoadedSlot → Type 0
@@ -70,3 +73,8 @@ sound_counted limit loaded counter active sound = record {
   within = sound.within;
   apart = sound.apart;
 }
+
+-- a neighbour's header is no slot more
+pub as_many : (neighbour : Option HeadAt) (loaded : Loaded) → length (headed_where neighbour loaded).slots ≡ length loaded.slots
+as_many None loaded = refl
+as_many (Some at) loaded = length_changed at.place (slot_with_head at.head) loaded

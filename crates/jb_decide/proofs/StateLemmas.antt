@@ -7,17 +7,17 @@ use Rattle.jb_base.specs.Access.{is_visible}
 use Rattle.jb_base.specs.declared.area.AreaRules.{AreaRules}
 use Rattle.jb_base.specs.declared.area.Rule.{Rule}
 use Rattle.jb_base.specs.declared.user.User.{User}
-use Rattle.jb_model.specs.Plan.{loaded_at}
-use Rattle.jb_model.specs.LiveSlots.{message_in}
+use Rattle.jb_state.specs.Plan.{loaded_at}
+use Rattle.jb_state.specs.LiveSlots.{message_in}
 use Rattle.jb_model.specs.Answered.{Answered, unless_denied, unless_refused, with_message}
-use Rattle.jb_model.specs.Live.{live_of, message_at, with_slot}
-use Rattle.jb_model.specs.Loaded.{with_slot_at}
-use Rattle.jb_model.specs.State.{AreaState, LiveMessage, SlotState, slot_state, state_of}
-use Rattle.jb_model.specs.Visible.{if_shown, visible_at}
-use Rattle.jb_model.specs.declared.loaded.Loaded.{Loaded}
-use Rattle.jb_model.specs.declared.loaded.LoadedMessage.{LoadedMessage}
-use Rattle.jb_model.specs.declared.loaded.LoadedSlot.{LoadedSlot}
-use Rattle.jb_model.specs.declared.loaded.LoadedSlot.TheVariants.{Empty, Killed, Live}
+use Rattle.jb_state.specs.Live.{live_of, message_at, with_slot}
+use Rattle.jb_state.specs.Loaded.{with_slot_at}
+use Rattle.jb_state.specs.State.{AreaState, LiveMessage, SlotState, slot_state, state_of}
+use Rattle.jb_state.specs.Visible.{if_shown, visible_at}
+use Rattle.jb_state.specs.declared.loaded.Loaded.{Loaded}
+use Rattle.jb_state.specs.declared.loaded.LoadedMessage.{LoadedMessage}
+use Rattle.jb_state.specs.declared.loaded.LoadedSlot.{LoadedSlot}
+use Rattle.jb_state.specs.declared.loaded.LoadedSlot.TheVariants.{Empty, Killed, Live}
 use Rattle.jb_model.specs.declared.reply.Reply.{Reply}
 use Rattle.jb_model.specs.declared.reply.Reply.TheVariants.{Denied, NoMessage}
 use Rattle.jb_decide.specs.Seen.{if_seen, loaded_envelope, seen_at, with_text}

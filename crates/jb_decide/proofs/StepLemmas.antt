@@ -1,21 +1,14 @@
 -- What a command is answered with, and the area that it leaves.
 use Rattle.std.proofs.Common.{◌≡◌, inl, inr, ℕ, false, true, refl, sym, ◌∙◌, ap, subst}
 use Rattle.std.proofs.lemmas.Bool.{false≢true}
-use Rattle.std.proofs.lemmas.Option.{get_or_from_slice_get}
 use Rattle.jb_base.specs.declared.area.AreaRules.{AreaRules}
 use Rattle.jb_base.specs.declared.user.User.{User}
-use Rattle.jb_model.specs.Change.{headed, killed_slot, with_slot_changed}
-use Rattle.jb_model.specs.Loaded.{IsMessageAt, slot_with_head, with_head_at, with_killed_at, with_slot_at}
-use Rattle.jb_model.specs.Sound.{IsSound}
+use Rattle.jb_state.specs.Sound.{IsSound}
 use Rattle.jb_model.specs.Standing.{is_refusal}
-use Rattle.jb_model.specs.declared.change.Change.{Change}
-use Rattle.jb_model.specs.declared.change.Change.TheVariants.{Nothing}
-use Rattle.jb_model.specs.declared.change.HeadAt.{HeadAt}
+use Rattle.jb_state.specs.declared.change.Change.{Change}
+use Rattle.jb_state.specs.declared.change.Change.TheVariants.{Nothing}
 use Rattle.jb_model.specs.declared.command.Command.{Command}
-use Rattle.jb_model.specs.declared.loaded.Loaded.{Loaded}
-use Rattle.jb_model.specs.declared.loaded.LoadedMessage.{LoadedMessage}
-use Rattle.jb_model.specs.declared.loaded.LoadedSlot.{LoadedSlot}
-use Rattle.jb_model.specs.declared.loaded.LoadedSlot.TheVariants as slot
+use Rattle.jb_state.specs.declared.loaded.Loaded.{Loaded}
 use Rattle.jb_model.specs.declared.reply.Reply.{Reply}
 use Rattle.jb_model.specs.declared.reply.Reply.TheVariants as reply
 use Rattle.jb_decide.specs.Packs.{IsPacked}
@@ -36,16 +29,6 @@ pub something : (command : Command) (answer : Reply) → is_refusal answer ≡ f
 something command answer done acts links (inl refused) = false≢true (sym done ∙ refused)
 something command answer done acts links (inr (inl look)) = acts look
 something command answer done acts links (inr (inr none)) = links none
-
--- the area with other fields in the header of a message, by that message
-pub headed_is : (at : HeadAt) (message : LoadedMessage) (loaded : Loaded) → IsMessageAt loaded at.place message → headed at loaded ≡ with_head_at at.place at.head message loaded
-headed_is at message loaded here =
-    ap (λ (one : LoadedSlot). with_slot_at at.place (slot_with_head at.head one) loaded) (get_or_from_slice_get loaded.slots at.place (slot.Live message) slot.Empty here)
-
--- the area with a message killed, by that message
-pub killed_is : (place : ℕ) (message : LoadedMessage) (loaded : Loaded) → IsMessageAt loaded place message → with_slot_changed place killed_slot loaded ≡ with_killed_at place message loaded
-killed_is place message loaded here =
-    ap (λ (one : LoadedSlot). with_slot_at place (killed_slot one) loaded) (get_or_from_slice_get loaded.slots place (slot.Live message) slot.Empty here)
 
 -- a refusal changes nothing
 pub refused_step : (rules : AreaRules) (loaded : Loaded) (user : User) (moment : ℕ) (command : Command) (answer : Reply) → IsSound rules.slots loaded

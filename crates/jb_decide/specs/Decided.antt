@@ -7,14 +7,14 @@ use Rattle.jb_disk.specs.Files.{Files}
 use Rattle.jb_disk.specs.RedoView.{RedoView}
 use Rattle.jb_held.specs.Pending.{HasReplies}
 use Rattle.jb_limits.specs.declared.limits.TheConstants.{MOST_SLOTS}
-use Rattle.jb_model.specs.Change.{Fits, after, texts_after}
-use Rattle.jb_model.specs.Sound.{IsSound}
-use Rattle.jb_model.specs.State.{state_of}
+use Rattle.jb_state.specs.Change.{Fits, after, texts_after}
+use Rattle.jb_state.specs.Sound.{IsSound}
+use Rattle.jb_state.specs.State.{state_of}
 use Rattle.jb_model.specs.Step.{Step}
-use Rattle.jb_model.specs.declared.change.Change.{Change}
-use Rattle.jb_model.specs.declared.change.Change.TheVariants.{Nothing, Packed}
+use Rattle.jb_state.specs.declared.change.Change.{Change}
+use Rattle.jb_state.specs.declared.change.Change.TheVariants.{Nothing, Packed}
 use Rattle.jb_model.specs.declared.command.Command.{Command}
-use Rattle.jb_model.specs.declared.loaded.Loaded.{Loaded}
+use Rattle.jb_state.specs.declared.loaded.Loaded.{Loaded}
 use Rattle.jb_model.specs.declared.reply.Letter.{Letter}
 use Rattle.jb_model.specs.declared.reply.Reply.{Reply}
 use Rattle.jb_model.specs.declared.reply.Reply.TheVariants.{Text}

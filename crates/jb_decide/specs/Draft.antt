@@ -9,9 +9,9 @@ use Rattle.jb_link.specs.Parents.{copied_msgid, parent_behind}
 use Rattle.jb_model.specs.Post.{Draft, id_crc, plain_field, posted_attribute, posted_msgid}
 use Rattle.jb_model.specs.declared.command.Command.{Command}
 use Rattle.jb_model.specs.declared.command.Command.TheVariants.{Post}
-use Rattle.jb_model.specs.declared.loaded.Loaded.{Loaded}
-use Rattle.jb_model.specs.declared.loaded.LoadedMessage.{LoadedMessage}
-use Rattle.jb_model.specs.declared.message.Head.{Head}
+use Rattle.jb_state.specs.declared.loaded.Loaded.{Loaded}
+use Rattle.jb_state.specs.declared.loaded.LoadedMessage.{LoadedMessage}
+use Rattle.jb_state.specs.declared.message.Head.{Head}
 use Rattle.jb_decide.specs.declared.drafts.Draft.{Draft as LentDraft}
 
 -- what a user wrote, as the definitions see it

@@ -4,9 +4,9 @@ use Rattle.jb_change.specs.Headers.{KeepsNumbers, KeepsPlaces}
 use Rattle.jb_disk.specs.Files.{Files}
 use Rattle.jb_disk.specs.declared.file.FileId.TheVariants.{Jdt, Jhr}
 use Rattle.jb_image.specs.Places.{header_in}
-use Rattle.jb_model.specs.Loaded.{IsMessageAt}
-use Rattle.jb_model.specs.declared.loaded.Loaded.{Loaded}
-use Rattle.jb_model.specs.declared.loaded.LoadedMessage.{LoadedMessage}
+use Rattle.jb_state.specs.Loaded.{IsMessageAt}
+use Rattle.jb_state.specs.declared.loaded.Loaded.{Loaded}
+use Rattle.jb_state.specs.declared.loaded.LoadedMessage.{LoadedMessage}
 use Rattle.jb_model.specs.declared.reply.Reply.{Reply}
 use Rattle.jb_model.specs.declared.reply.Reply.TheVariants.{Packed, Posted}
 use Rattle.jb_pack.specs.Standing.{StandTogether}

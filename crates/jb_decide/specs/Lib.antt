@@ -12,3 +12,4 @@ pub mod Room
 pub mod Seen
 pub mod SetMark
 pub mod StepOf
+pub mod Laws

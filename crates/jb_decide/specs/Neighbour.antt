@@ -1,14 +1,14 @@
 -- The one other message whose header a post changes.
 use Rattle.std.specs.Prelude.{◌≡◌, ℕ, ◌-◌, List, Option, option_map}
-use Rattle.jb_model.specs.Change.{IsNeighbourOf, headed_where}
-use Rattle.jb_model.specs.Plan.{loaded_at}
-use Rattle.jb_model.specs.Post.{spliced_slots}
-use Rattle.jb_model.specs.Sound.{IsSound}
-use Rattle.jb_model.specs.State.{AreaState, state_of}
-use Rattle.jb_model.specs.declared.change.HeadAt.{HeadAt}
-use Rattle.jb_model.specs.declared.loaded.Loaded.{Loaded}
-use Rattle.jb_model.specs.declared.loaded.LoadedMessage.{LoadedMessage}
-use Rattle.jb_model.specs.declared.message.Head.{Head}
+use Rattle.jb_state.specs.Change.{IsNeighbourOf, headed_where}
+use Rattle.jb_state.specs.Plan.{loaded_at}
+use Rattle.jb_state.specs.Posted.{spliced_slots}
+use Rattle.jb_state.specs.Sound.{IsSound}
+use Rattle.jb_state.specs.State.{AreaState, state_of}
+use Rattle.jb_state.specs.declared.change.HeadAt.{HeadAt}
+use Rattle.jb_state.specs.declared.loaded.Loaded.{Loaded}
+use Rattle.jb_state.specs.declared.loaded.LoadedMessage.{LoadedMessage}
+use Rattle.jb_state.specs.declared.message.Head.{Head}
 
 -- the header's fields with another first reply
 abbrev pub first_reply_head : ℕ → Head → Head

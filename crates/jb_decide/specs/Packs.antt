@@ -7,11 +7,11 @@ use Rattle.jb_limits.specs.declared.limits.TheConstants.{TEXTS_CEILING}
 use Rattle.jb_base.specs.declared.user.User.{User}
 use Rattle.jb_model.specs.Pack.{pack_step}
 use Rattle.jb_model.specs.Standing.{is_refusal}
-use Rattle.jb_model.specs.State.{state_of}
-use Rattle.jb_model.specs.declared.loaded.Loaded.{Loaded}
+use Rattle.jb_state.specs.State.{state_of}
+use Rattle.jb_state.specs.declared.loaded.Loaded.{Loaded}
 use Rattle.jb_model.specs.declared.reply.Reply.{Reply}
 use Rattle.jb_model.specs.declared.reply.Reply.TheVariants.{Packed}
-use Rattle.jb_model.specs.Packed.{texts_size}
+use Rattle.jb_state.specs.Packed.{texts_size}
 
 -- a pack of the area, with these texts, would be refused
 abbrev pub is_pack_refused : AreaRules → List ℕ → Loaded → User → Bool

@@ -4,16 +4,16 @@ use Rattle.jb_base.specs.declared.area.AreaRules.{AreaRules}
 use Rattle.jb_base.specs.declared.user.User.{User}
 use Rattle.jb_bytes.specs.Name.{same_name}
 use Rattle.jb_bytes.specs.Subfields.{receiver_of}
-use Rattle.jb_model.specs.Loaded.{IsMessageAt}
-use Rattle.jb_model.specs.Message.{letter_of}
+use Rattle.jb_state.specs.Loaded.{IsMessageAt}
+use Rattle.jb_model.specs.Letter.{letter_of}
 use Rattle.jb_model.specs.Read.{read_once_more, received_at}
-use Rattle.jb_model.specs.State.{text_of}
-use Rattle.jb_model.specs.declared.change.Change.TheVariants.{Headed, Nothing}
-use Rattle.jb_model.specs.declared.change.HeadAt.{HeadAt}
+use Rattle.jb_state.specs.State.{text_of}
+use Rattle.jb_state.specs.declared.change.Change.TheVariants.{Headed, Nothing}
+use Rattle.jb_state.specs.declared.change.HeadAt.{HeadAt}
 use Rattle.jb_model.specs.declared.command.Command.TheVariants.{Peek, Read}
-use Rattle.jb_model.specs.declared.loaded.Loaded.{Loaded}
-use Rattle.jb_model.specs.declared.loaded.LoadedMessage.{LoadedMessage}
-use Rattle.jb_model.specs.declared.message.Head.{Head}
+use Rattle.jb_state.specs.declared.loaded.Loaded.{Loaded}
+use Rattle.jb_state.specs.declared.loaded.LoadedMessage.{LoadedMessage}
+use Rattle.jb_state.specs.declared.message.Head.{Head}
 use Rattle.jb_model.specs.declared.reply.Reply.{Reply}
 use Rattle.jb_model.specs.declared.reply.Reply.TheVariants.{Text}
 use Rattle.jb_decide.specs.Seen.{shown}

@@ -5,7 +5,7 @@ use Rattle.jb_base.specs.declared.area.AreaRules.{AreaRules}
 use Rattle.jb_limits.specs.declared.limits.TheConstants.{HEADERS_CEILING, LAST_POSTED_NUMBER, TEXTS_CEILING}
 use Rattle.jb_base.specs.declared.user.User.{User}
 use Rattle.jb_model.specs.Post.{Draft, told_length}
-use Rattle.jb_model.specs.declared.loaded.Loaded.{Loaded}
+use Rattle.jb_state.specs.declared.loaded.Loaded.{Loaded}
 use Rattle.jb_model.specs.declared.reply.Reply.{Reply}
 use Rattle.jb_model.specs.declared.reply.Reply.TheVariants.{HeadersFull, NoMessage, NumbersSpent, SlotsFull, TextFull}
 use Rattle.jb_decide.specs.Draft.{new_fields, next_of}

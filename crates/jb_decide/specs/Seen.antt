@@ -4,12 +4,12 @@ use Rattle.jb_base.specs.Access.{Envelope, is_visible}
 use Rattle.jb_bytes.specs.Subfields.{receiver_of, sender_of}
 use Rattle.jb_base.specs.declared.area.AreaRules.{AreaRules}
 use Rattle.jb_base.specs.declared.user.User.{User}
-use Rattle.jb_model.specs.Plan.{loaded_at}
-use Rattle.jb_model.specs.Loaded.{IsMessageAt}
-use Rattle.jb_model.specs.State.{LiveMessage, text_of}
-use Rattle.jb_model.specs.declared.loaded.Loaded.{Loaded}
-use Rattle.jb_model.specs.declared.loaded.LoadedMessage.{LoadedMessage}
-use Rattle.jb_model.specs.declared.message.Head.{Head}
+use Rattle.jb_state.specs.Plan.{loaded_at}
+use Rattle.jb_state.specs.Loaded.{IsMessageAt}
+use Rattle.jb_state.specs.State.{LiveMessage, text_of}
+use Rattle.jb_state.specs.declared.loaded.Loaded.{Loaded}
+use Rattle.jb_state.specs.declared.loaded.LoadedMessage.{LoadedMessage}
+use Rattle.jb_state.specs.declared.message.Head.{Head}
 
 -- the loaded message, with its text out of the file of texts
 abbrev pub with_text : List ℕ → LoadedMessage → LiveMessage

@@ -1,9 +1,10 @@
 //! What a command comes to.
 ghost use Rattle.std.specs.Prelude.{◌≡◌, None};
-ghost use Rattle.jb_model.specs.declared.change.Change.TheVariants.{Nothing};
+ghost use Rattle.jb_state.specs.declared.change.Change.TheVariants.{Nothing};
 
 use jb_held::Pending;
-use jb_model::{Change, Reply};
+use jb_model::Reply;
+use jb_state::Change;
 
 /// The reply that was decided, and what is pending.
 #[derive(Drop)]

@@ -1,13 +1,13 @@
 //! What a command does is put into the redo, and is pending then.
-ghost use Rattle.std.specs.Prelude.{◌≡◌, ℕ, [], List, Option, IfOk, None, length};
+ghost use Rattle.std.specs.Prelude.{◌≡◌, ℕ, [], List, Option, IfOk, None};
 ghost use Rattle.jb_base.specs.declared.area.AreaRules.{AreaRules};
 ghost use Rattle.jb_base.specs.declared.user.User.{User};
 ghost use Rattle.jb_change.specs.Put.{IsNoPacking, IsShort, IsTextOf};
 ghost use Rattle.jb_change.specs.Ready.{HasRoomInAll};
 ghost use Rattle.jb_disk.specs.Files.{Files};
 ghost use Rattle.jb_limits.specs.declared.limits.TheConstants.{MOST_SLOTS};
-ghost use Rattle.jb_model.specs.Change.{Fits};
-ghost use Rattle.jb_model.specs.Sound.{IsSound};
+ghost use Rattle.jb_state.specs.Change.{Fits};
+ghost use Rattle.jb_state.specs.Sound.{IsSound};
 ghost use Rattle.jb_model.specs.declared.command.Command.{Command};
 ghost use Rattle.jb_model.specs.declared.command.Command.TheVariants.{Kill, SetMark};
 ghost use Rattle.jb_model.specs.declared.reply.Reply.{Reply};
@@ -25,7 +25,7 @@ use jb_change::{put, put_short};
 use jb_crc::jam_crc;
 use jb_disk::Redo;
 use jb_held::{Held, Pending};
-use jb_model::Change;
+use jb_state::Change;
 use std::alloc::Global;
 
 /// The text that a change puts behind the others, where this is that of its command.
@@ -44,9 +44,12 @@ pub(crate) fn decide_short(held: &Held, redo: &mut Redo, outcome: Outcome) -> De
     requires sound { IsSound MOST_SLOTS held.now }
     requires fits { Fits MOST_SLOTS outcome.change held.now }
     requires kind { IsShort outcome.change }
-    ensures decided { (rules : AreaRules) (user : User) (moment : ℕ) (command : Command) (reply : List ℕ → Reply) (texts : List ℕ) (contents : Option Files)
-        → IsSound rules.slots held.now → AreTexts held.now texts contents → IsStepOf rules held.now user moment command reply outcome.change
-        → IsAnswerBy reply held.now texts contents outcome.reply → IsDecided rules held.now texts contents None redo.new user moment command result }
+    ensures decided { (rules : AreaRules) (user : User) (moment : ℕ) (command : Command)
+        (reply : List ℕ → Reply) (texts : List ℕ) (contents : Option Files)
+        → IsSound rules.slots held.now → AreTexts held.now texts contents
+        → IsStepOf rules held.now user moment command reply outcome.change
+        → IsAnswerBy reply held.now texts contents outcome.reply
+        → IsDecided rules held.now texts contents None redo.new user moment command result }
     ensures room { HasRoomInAll redo.new }
 {
     let Outcome { reply, change } = outcome;
@@ -72,10 +75,13 @@ pub(crate) fn decide_long(
     requires fits { Fits MOST_SLOTS outcome.change held.now }
     requires kind { IsNoPacking outcome.change }
     requires text { IsTextOf outcome.change (text_behind outcome.change text.now) }
-    ensures decided { IfOk result (λ decided. (rules : AreaRules) (user : User) (moment : ℕ) (command : Command) (reply : List ℕ → Reply) (texts : List ℕ) (contents : Option Files)
-        → IsSound rules.slots held.now → AreTexts held.now texts contents → IsStepOf rules held.now user moment command reply outcome.change
+    ensures decided { IfOk result (λ decided. (rules : AreaRules) (user : User) (moment : ℕ)
+        (command : Command) (reply : List ℕ → Reply) (texts : List ℕ) (contents : Option Files)
+        → IsSound rules.slots held.now → AreTexts held.now texts contents
+        → IsStepOf rules held.now user moment command reply outcome.change
         → posted_text command ≡ text.now
-        → IsAnswerBy reply held.now texts contents outcome.reply → IsDecided rules held.now texts contents None redo.new user moment command decided) }
+        → IsAnswerBy reply held.now texts contents outcome.reply
+        → IsDecided rules held.now texts contents None redo.new user moment command decided) }
     ensures room { KeepsRoom redo.old redo.new }
 {
     let Outcome { reply, change } = outcome;
@@ -99,7 +105,8 @@ pub fn decide_mark(
 ) -> Decided
     requires kept { IsKeptFor rules.now held.now }
     requires room { HasRoomInAll redo.old }
-    ensures decided { (moment : ℕ) (texts : List ℕ) (contents : Option Files) → AreTexts held.now texts contents
+    ensures decided { (moment : ℕ) (texts : List ℕ) (contents : Option Files)
+        → AreTexts held.now texts contents
         → IsDecided rules.now held.now texts contents None redo.new user.now moment (SetMark number) result }
     ensures room { HasRoomInAll redo.new }
 {
@@ -120,7 +127,8 @@ pub fn decide_kill(
 ) -> Decided
     requires kept { IsKeptFor rules.now held.now }
     requires room { HasRoomInAll redo.old }
-    ensures decided { (moment : ℕ) (texts : List ℕ) (contents : Option Files) → AreTexts held.now texts contents
+    ensures decided { (moment : ℕ) (texts : List ℕ) (contents : Option Files)
+        → AreTexts held.now texts contents
         → IsDecided rules.now held.now texts contents None redo.new user.now moment (Kill number) result }
     ensures room { HasRoomInAll redo.new }
 {

@@ -8,7 +8,7 @@ ghost use Rattle.jb_decide.specs.Seen.{loaded_envelope};
 
 use jb_access::{Action, Parties, allowed};
 use jb_base::{AreaRules, RECEIVER_NAME, Rule, SENDER_NAME, Subfields, User};
-use jb_model::LoadedMessage;
+use jb_state::LoadedMessage;
 
 /// The data of the first subfield of a kind, empty where there is none.
 pub(crate) fn field(subfields: &Subfields, id: u16) -> &[u8]

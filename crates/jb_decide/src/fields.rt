@@ -32,7 +32,8 @@ pub(crate) fn subfields_of(
     msgid: &[u8],
     replyid: Option<&[u8]>,
 ) -> Result<Subfields, OutOfMemory>
-    ensures { IfOk result (λ fields. fields ≡ fields_with user.now (draft_of draft.entry) msgid.now (option_map (λ (b : Bor _). b.now) replyid.entry)) }
+    ensures { IfOk result (λ fields. fields ≡ fields_with user.now (draft_of draft.entry) msgid.now
+        (option_map (λ (b : Bor _). b.now) replyid.entry)) }
 {
     let mut subfields = Subfields::new(alloc);
     put_field(alloc, &mut subfields, SENDER_NAME, user.name.as_slice())?;

@@ -1,7 +1,7 @@
 //! The message that a number names.
 ghost use Rattle.std.specs.Prelude.{◌≡◌, ◌+◌, ◌≤◌, length, IfSome, option_map};
 ghost use Rattle.jb_base.specs.Access.{is_visible};
-ghost use Rattle.jb_model.specs.Plan.{loaded_at};
+ghost use Rattle.jb_state.specs.Plan.{loaded_at};
 ghost use Rattle.jb_decide.specs.Seen.{IsNamed, loaded_envelope, seen_at};
 ghost use Rattle.jb_decide.specs.declared.found.Found.{Found};
 
@@ -9,7 +9,7 @@ use crate::denial::parties;
 use jb_access::{Action, allowed};
 use jb_base::{AreaRules, User};
 use jb_link::message_at;
-use jb_model::{Loaded, LoadedMessage};
+use jb_state::{Loaded, LoadedMessage};
 
 /// A live message, and the place of its slot.
 #[derive(Clone, Copy)]
@@ -50,7 +50,8 @@ pub(crate) fn seen_at<'a>(
     loaded: &'a Loaded,
     number: u32,
 ) -> Option<Found<'a>>
-    ensures named { option_map (λ (found : Found). found.message.now) result ≡ seen_at rules.now user.now loaded.now number }
+    ensures named { option_map (λ (found : Found). found.message.now) result
+        ≡ seen_at rules.now user.now loaded.now number }
     ensures placed { IfSome result (λ found. IsNamed loaded.now number found.place found.message.now) }
 {
     let found = found_at(loaded, number)?;

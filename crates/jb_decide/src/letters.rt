@@ -1,11 +1,12 @@
 //! A message as it is shown.
 ghost use Rattle.std.specs.Prelude.{◌≡◌, IfOk};
-ghost use Rattle.jb_model.specs.Message.{letter_of};
+ghost use Rattle.jb_model.specs.Letter.{letter_of};
 ghost use Rattle.jb_decide.specs.Seen.{shown};
 
 use crate::denial::field;
 use jb_base::{Bytes, MSGID, Name, OutOfMemory, RECEIVER_NAME, REPLYID, SENDER_NAME, SUBJECT};
-use jb_model::{Head, Letter, LoadedMessage};
+use jb_model::Letter;
+use jb_state::{Head, LoadedMessage};
 use std::alloc::Global;
 
 /// The message with this number as it is shown, with these fields in its header and this text.

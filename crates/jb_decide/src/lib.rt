@@ -1,15 +1,18 @@
 //! What each command comes to over an open area: its reply, and its change, as it is done in memory and as a redo.
 //!
 //! The layer above may rely on this. Over a `Held` of `jb_held`, which is an area as it is loaded, each call answers what the
-//! definition of the command says (`Step` of `jb_model`), and what is pending then is the one `Change` that the command makes: the
-//! area to come is `after` that change, its texts are `texts_after` it, and the redo, done in whatever files hold the area, gives
-//! files that hold that one. No decision writes or changes what is kept. A letter is right where the disk tells its texts, and on
-//! each disk it is that of some texts of the area's length. A pack moves the texts as they are copied in .NDT, where a packer has
-//! put them before.
+//! definition of the command says (`Step` of `jb_model`), and what is pending then is nothing, or one `Change` that fits: the area
+//! to come is `after` it, its texts are `texts_after` it, and that is what the command leaves. Where the disk tells its files, the
+//! redo makes of whatever files hold the area files that hold the one to come, and on each disk it can be committed; that of a
+//! pack, of files that hold the packer's copies of the texts too. A letter is right where the disk tells its texts, and on each
+//! disk it is that of some texts of the area's length. A disk is at most read.
 //!
-//! A redo holds what changed and no more. A kill has 12 bytes of .JHR, a mark 16 of .JLR, a reading 20 of .JHR; a post its
-//! header and subfields, its text, one index record and 20 bytes of .JHR at most beside; a relink 12 bytes for each message whose
-//! links are others, and 8; a pack all of .JHR and .JDX as they are then, and the places of the texts.
+//! But for a pack no header is moved or gets another number, and a post stands behind the others; a kill leaves .JDX as it is.
+//! After a pack the live messages stand one behind another, each with its number in its header, and its record is short beside
+//! the headers and the index. Which bytes a change writes is said by `jb_change`.
+//!
+//! A pack is refused just where its definition refuses it ([`refuse_pack`]). The disk's count of faults rises just where a read or
+//! a look tells a fault. A linked area stays linked whatever is posted ([`posts_keep_links`]).
 #![tactic(auto)]
 
 mod decided;
@@ -20,6 +23,7 @@ mod error;
 mod fields;
 mod found;
 mod kills;
+mod laws;
 mod letters;
 mod marks;
 mod neighbours;
@@ -37,6 +41,7 @@ pub use decided::Decided;
 pub use deciding::{decide_kill, decide_mark};
 pub use drafts::Draft;
 pub use error::AreaError;
+pub use laws::posts_keep_links;
 pub use packing::{decide_pack, refuse_pack};
 pub use posting::decide_post;
 pub use reading::{decide_peek, decide_read};

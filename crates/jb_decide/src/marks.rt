@@ -2,8 +2,8 @@
 ghost use Rattle.std.specs.Prelude.{◌≡◌, ℕ, ◌+◌, ◌≤◌, length};
 ghost use Rattle.jb_bytes.specs.Crc.{jam_crc_of};
 ghost use Rattle.jb_change.specs.Put.{IsShort};
-ghost use Rattle.jb_model.specs.Places.{IsPlaceOf};
-ghost use Rattle.jb_model.specs.Sound.{IsSound};
+ghost use Rattle.jb_state.specs.Places.{IsPlaceOf};
+ghost use Rattle.jb_state.specs.Sound.{IsSound};
 ghost use Rattle.jb_model.specs.declared.command.Command.TheVariants.{SetMark};
 ghost use Rattle.jb_decide.specs.SetMark.{present_mark, raised, set_refusal};
 ghost use Rattle.jb_decide.specs.StepOf.{IsStepOf};
@@ -14,7 +14,8 @@ use crate::outcome::Outcome;
 use jb_access::Action;
 use jb_base::{AreaRules, MOST_MARKS, User};
 use jb_crc::jam_crc;
-use jb_model::{Change, Loaded, Mark, Reply};
+use jb_model::Reply;
+use jb_state::{Change, Loaded, Mark};
 
 /// Why the mark of a user who has this one is not set to the number.
 fn refusal(loaded: &Loaded, present: Option<Mark>, number: u32) -> Option<Reply>
@@ -59,7 +60,8 @@ pub(crate) fn set_mark(
     requires sound { IsSound rules.now.slots loaded.now }
     requires present { present ≡ present_mark loaded.now user.now }
     requires placed { IsPlaceOf (jam_crc_of user.now.name) user.now.id loaded.now.marks place }
-    ensures step { (moment : ℕ) → IsStepOf rules.now loaded.now user.now moment (SetMark number) (λ texts. result.reply) result.change }
+    ensures step { (moment : ℕ) → IsStepOf rules.now loaded.now user.now moment (SetMark number)
+        (λ texts. result.reply) result.change }
     ensures short { IsShort result.change }
 {
     if let Some(rule) = denied(user, rules, Action::List) {

@@ -1,12 +1,12 @@
 //! The one other message whose header a post changes.
 ghost use Rattle.std.specs.Prelude.{◌≡◌, ◌⊎◌, ◌+◌, ◌≤◌, length};
-ghost use Rattle.jb_model.specs.LiveSlots.{IsLive};
+ghost use Rattle.jb_state.specs.LiveSlots.{IsLive};
 ghost use Rattle.jb_link.specs.Index.{IsIndexOf};
 ghost use Rattle.jb_decide.specs.Neighbour.{HasNeighbour, first_reply_head, neighbour_at, next_reply_head};
 
 use crate::found::found_at;
 use jb_link::{Replies, Spliced};
-use jb_model::{Head, HeadAt, Loaded};
+use jb_state::{Head, HeadAt, Loaded};
 
 /// A number as the first reply of the message that another number names.
 fn named_first(loaded: &Loaded, of: u32, number: u32) -> Option<HeadAt>

@@ -1,8 +1,9 @@
 //! What a command is answered with, and what it changes.
 ghost use Rattle.std.specs.Prelude.{◌≡◌};
-ghost use Rattle.jb_model.specs.declared.change.Change.TheVariants.{Nothing};
+ghost use Rattle.jb_state.specs.declared.change.Change.TheVariants.{Nothing};
 
-use jb_model::{Change, Reply};
+use jb_model::Reply;
+use jb_state::Change;
 
 /// What a command is answered with, and what it changes.
 #[derive(Drop)]

@@ -10,14 +10,14 @@ ghost use Rattle.jb_redo.specs.Changes.{KeepsRoom};
 ghost use Rattle.jb_disk.specs.RedoView.{RedoView};
 ghost use Rattle.jb_disk.specs.Files.{Files};
 ghost use Rattle.jb_image.specs.Stands.{Loads};
-ghost use Rattle.jb_model.specs.Sound.{IsSound};
+ghost use Rattle.jb_state.specs.Sound.{IsSound};
 ghost use Rattle.jb_model.specs.declared.command.Command.TheVariants.{Pack};
-ghost use Rattle.jb_model.specs.Packed.{texts_size};
+ghost use Rattle.jb_state.specs.Packed.{texts_size};
 ghost use Rattle.jb_pack.specs.Shadow.{HasCopies, left};
 ghost use Rattle.jb_decide.specs.Decided.{IsDecided, IsKeptFor};
 ghost use Rattle.jb_decide.specs.Holds.{AreTexts};
 ghost use Rattle.jb_decide.specs.Packs.{MayPack, is_pack_refused};
-ghost use Rattle.jb_model.specs.declared.change.Change.TheVariants.{Nothing};
+ghost use Rattle.jb_state.specs.declared.change.Change.TheVariants.{Nothing};
 
 use crate::decided::Decided;
 use jb_access::{Action, allowed};
@@ -25,8 +25,9 @@ use jb_base::{AreaRules, OutOfMemory, Rule, User};
 use jb_disk::{Disk, Redo};
 use jb_held::{Held, Pending};
 use jb_link::relink_plan;
-use jb_model::{Change, Reply};
+use jb_model::Reply;
 use jb_pack::{Packer, Packing, pack_comes_to};
+use jb_state::Change;
 use std::alloc::Global;
 
 /// The rule that keeps the user from packing the area, if one does.
@@ -49,10 +50,13 @@ fn empty(redo: &mut Redo)
 /// longer than .JDT may be. It takes no memory and calls no device.
 pub fn refuse_pack(held: &Held, rules: &AreaRules, user: &User) -> Option<Reply>
     requires kept { IsKeptFor rules.now held.now }
-    ensures refused { ForSome result (λ reply. (moment : ℕ) (texts : List ℕ) (contents : Option Files) (redo : RedoView) → AreTexts held.now texts contents
-        → IsDecided rules.now held.now texts contents None redo user.now moment Pack (record { reply = reply; pending = record { change = Nothing; replies = None } })) }
+    ensures refused { ForSome result (λ reply. (moment : ℕ) (texts : List ℕ)
+        (contents : Option Files) (redo : RedoView) → AreTexts held.now texts contents
+        → IsDecided rules.now held.now texts contents None redo user.now moment Pack
+        (record { reply = reply; pending = record { change = Nothing; replies = None } })) }
     ensures may { result ≡ None → MayPack rules.now held.now user.now }
-    ensures says { (texts : List ℕ) → length texts ≡ held.now.texts_len → is_pack_refused rules.now texts held.now user.now ≡ is_some result }
+    ensures says { (texts : List ℕ) → length texts ≡ held.now.texts_len
+        → is_pack_refused rules.now texts held.now user.now ≡ is_some result }
 {
     if let Some(rule) = denied(user, rules) {
         return Some(Reply::Denied { rule });
@@ -77,10 +81,12 @@ pub fn decide_pack<D: Disk>(
     requires all { left packer.now held.now.slots ≡ 0 }
     requires holds { ForSome (D.device disk.now).contents (Loads held.now) }
     requires has { ForSome (D.device disk.now).contents (HasCopies packer.now) }
-    ensures decided { IfOk result (λ decided. (rules : AreaRules) (user : User) (moment : ℕ) (texts : List ℕ) (contents : Option Files)
+    ensures decided { IfOk result (λ decided.
+        (rules : AreaRules) (user : User) (moment : ℕ) (texts : List ℕ) (contents : Option Files)
         → IsKeptFor rules held.now → MayPack rules held.now user → AreTexts held.now texts contents
         → IsDecided rules held.now texts contents (Some packer.now) redo.new user moment Pack decided) }
-    ensures changes { IfOk result (λ decided. texts_size held.now.slots ≤ TEXTS_CEILING → decided.pending.change ≢ Nothing) }
+    ensures changes { IfOk result (λ decided. texts_size held.now.slots ≤ TEXTS_CEILING
+        → decided.pending.change ≢ Nothing) }
     ensures room { KeepsRoom redo.old redo.new }
 {
     let loaded = held.loaded();

@@ -29,8 +29,10 @@ pub fn decide_post(
     requires kept { IsKeptFor rules.now held.now }
     requires name { length user.now.name ≤ MOST_NAME_BYTES }
     requires address { length rules.now.address ≤ MOST_ADDRESS_BYTES }
-    ensures decided { IfOk result (λ decided. (texts : List ℕ) (contents : Option Files) → AreTexts held.now texts contents
-        → IsDecided rules.now held.now texts contents None redo.new user.now moment (post_of (draft_of draft.entry)) decided) }
+    ensures decided { IfOk result (λ decided. (texts : List ℕ) (contents : Option Files)
+        → AreTexts held.now texts contents
+        → IsDecided rules.now held.now texts contents None redo.new user.now moment
+        (post_of (draft_of draft.entry)) decided) }
     ensures room { KeepsRoom redo.old redo.new }
 {
     let loaded = held.loaded();

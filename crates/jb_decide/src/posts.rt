@@ -3,9 +3,9 @@ ghost use Rattle.std.specs.Prelude.{◌≡◌, ◌⊎◌, ◌+◌, ◌≤◌, If
 ghost use Rattle.std.specs.Borrow.{Bor};
 ghost use Rattle.jb_bytes.specs.Subfields.{subfield_bytes};
 ghost use Rattle.jb_limits.specs.declared.limits.TheConstants.{MOST_ADDRESS_BYTES, MOST_NAME_BYTES, MOST_POSTED_TEXT_BYTES};
-ghost use Rattle.jb_model.specs.LiveSlots.{IsLive};
+ghost use Rattle.jb_state.specs.LiveSlots.{IsLive};
 ghost use Rattle.jb_model.specs.Post.{id_crc};
-ghost use Rattle.jb_model.specs.Sound.{IsSound};
+ghost use Rattle.jb_state.specs.Sound.{IsSound};
 ghost use Rattle.jb_link.specs.Index.{IsIndexOf};
 ghost use Rattle.jb_decide.specs.Draft.{draft_of, head_with, new_message, next_of, post_of};
 ghost use Rattle.jb_decide.specs.Room.{file_refusal, new_refusal, number_refusal, unseen_refusal};
@@ -24,7 +24,8 @@ use jb_base::{
 };
 use jb_crc::jam_crc;
 use jb_link::{Replies, copied_msgid};
-use jb_model::{Change, Head, Loaded, LoadedMessage, Reply, posted_attribute, posted_msgid};
+use jb_model::{Reply, posted_attribute, posted_msgid};
+use jb_state::{Change, Head, Loaded, LoadedMessage};
 use jb_subfield::headed_length;
 use std::alloc::Global;
 
@@ -60,7 +61,8 @@ fn no_number(loaded: &Loaded, rules: &AreaRules) -> Option<Reply>
 
 /// Why the files have no room for a message of these subfields and this text.
 fn no_room(loaded: &Loaded, subfields: &Subfields, text: &[u8]) -> Option<Reply>
-    ensures { result ≡ file_refusal loaded.now (76 + length (subfield_bytes subfields.now)) (length text.now) }
+    ensures { result ≡ file_refusal loaded.now (76 + length (subfield_bytes subfields.now))
+        (length text.now) }
 {
     let headers = loaded.headers_len.saturating_add(headed_length(subfields));
     let texts = loaded.texts_len.saturating_add(text.len() as u64);
@@ -92,7 +94,8 @@ fn head_of(
     replyid: Option<&[u8]>,
     parent: u32,
 ) -> Head
-    ensures { result ≡ head_with rules.now moment (draft_of draft.entry) msgid.now (option_map (λ (b : Bor _). b.now) replyid.entry) parent }
+    ensures { result ≡ head_with rules.now moment (draft_of draft.entry) msgid.now
+        (option_map (λ (b : Bor _). b.now) replyid.entry) parent }
 {
     Head {
         reserved: 0,
@@ -125,10 +128,14 @@ fn message_of(
     requires index { IsIndexOf replies.now loaded.now }
     requires number { next_of loaded.now ≤ LAST_POSTED_NUMBER }
     requires text { length draft.text.now ≤ MOST_POSTED_TEXT_BYTES }
-    ensures full { IfOk result (λ made. IfErr made (λ reply. new_refusal rules.now loaded.now user.now (draft_of draft.entry) ≡ Some reply)) }
-    ensures room { IfOk result (λ made. IfOk made (λ message. new_refusal rules.now loaded.now user.now (draft_of draft.entry) ≡ None)) }
-    ensures made { IfOk result (λ made. IfOk made (λ message. message ≡ new_message rules.now loaded.now user.now moment (draft_of draft.entry))) }
-    ensures live { IfOk result (λ made. IfOk made (λ message. (message.head.reply_to ≡ 0) ⊎ IsLive loaded.now message.head.reply_to)) }
+    ensures full { IfOk result (λ made. IfErr made (λ reply.
+        new_refusal rules.now loaded.now user.now (draft_of draft.entry) ≡ Some reply)) }
+    ensures room { IfOk result (λ made. IfOk made (λ message.
+        new_refusal rules.now loaded.now user.now (draft_of draft.entry) ≡ None)) }
+    ensures made { IfOk result (λ made. IfOk made (λ message.
+        message ≡ new_message rules.now loaded.now user.now moment (draft_of draft.entry))) }
+    ensures live { IfOk result (λ made. IfOk made (λ message. (message.head.reply_to ≡ 0)
+        ⊎ IsLive loaded.now message.head.reply_to)) }
 {
     let number = next_number(loaded);
     let msgid = posted_msgid(alloc, rules, number)?;
@@ -164,7 +171,8 @@ pub(crate) fn post(
     requires sound { IsSound rules.now.slots loaded.now }
     requires name { length user.now.name ≤ MOST_NAME_BYTES }
     requires address { length rules.now.address ≤ MOST_ADDRESS_BYTES }
-    ensures { IfOk result (λ outcome. IsStepOf rules.now loaded.now user.now moment (post_of (draft_of draft.entry)) (λ texts. outcome.reply) outcome.change) }
+    ensures { IfOk result (λ outcome. IsStepOf rules.now loaded.now user.now moment
+        (post_of (draft_of draft.entry)) (λ texts. outcome.reply) outcome.change) }
 {
     if let Some(rule) = denied(user, rules, Action::Post) {
         return Ok(Outcome::unchanged(Reply::Denied { rule }));

@@ -1,17 +1,17 @@
 //! A message is read, or looked at.
-ghost use Rattle.std.specs.Prelude.{◌≡◌, ◌≤◌, ℕ, [], List, IfErr, IfOk, length, OnOk, None};
+ghost use Rattle.std.specs.Prelude.{ℕ, List, IfOk, None};
 ghost use Rattle.std.specs.Option.{ForSome};
 ghost use Rattle.jb_change.specs.Ready.{HasRoomInAll};
 ghost use Rattle.jb_disk.specs.RedoView.{RedoView};
-ghost use Rattle.jb_disk.specs.Device.{OnlyReads};
+ghost use Rattle.jb_disk.specs.Device.{OnlyReads, CountsFaults};
 ghost use Rattle.jb_disk.specs.declared.file.FileId.TheVariants.{Jdt as texts_file};
-ghost use Rattle.jb_model.specs.Change.{HasMessageAt};
-ghost use Rattle.jb_model.specs.Loaded.{IsMessageAt};
+ghost use Rattle.jb_state.specs.Change.{HasMessageAt};
+ghost use Rattle.jb_state.specs.Loaded.{IsMessageAt};
 ghost use Rattle.jb_model.specs.declared.command.Command.TheVariants.{Peek, Read};
-ghost use Rattle.jb_model.specs.declared.loaded.Loaded.{Loaded};
-ghost use Rattle.jb_model.specs.declared.loaded.LoadedMessage.{LoadedMessage};
+ghost use Rattle.jb_state.specs.declared.loaded.Loaded.{Loaded};
+ghost use Rattle.jb_state.specs.declared.loaded.LoadedMessage.{LoadedMessage};
 ghost use Rattle.jb_decide.specs.Decided.{IsDecided, IsKeptFor};
-ghost use Rattle.jb_decide.specs.Errors.{AreaFaultRose};
+ghost use Rattle.jb_decide.specs.Errors.{is_area_fault};
 ghost use Rattle.jb_decide.specs.Holds.{AreTexts, Holds};
 
 use crate::AreaError;
@@ -24,7 +24,8 @@ use crate::texts::read_text;
 use jb_base::{AreaRules, User};
 use jb_disk::{Disk, Redo};
 use jb_held::Held;
-use jb_model::{Change, Loaded, LoadedMessage, LoadedSlot, Reply};
+use jb_model::Reply;
+use jb_state::{Change, Loaded, LoadedMessage, LoadedSlot};
 use std::alloc::Global;
 
 /// The live message at a place.
@@ -52,15 +53,15 @@ pub fn decide_read<D: Disk>(
     requires kept { IsKeptFor rules.now held.now }
     requires room { HasRoomInAll redo.old }
     requires holds { ForSome (D.device disk.old).contents (λ files. Holds held.now (files texts_file) files) }
-    ensures decided { IfOk result (λ decided. (texts : List ℕ) → AreTexts held.now texts (D.device disk.old).contents
-        → IsDecided rules.now held.now texts (D.device disk.old).contents None redo.new user.now moment (Read number) decided) }
+    ensures decided { IfOk result (λ decided. (texts : List ℕ)
+        → AreTexts held.now texts (D.device disk.old).contents
+        → IsDecided rules.now held.now texts
+        (D.device disk.old).contents None redo.new user.now moment (Read number) decided) }
     ensures room { HasRoomInAll redo.new }
 
     // The disk is only read.
     ensures reads { OnlyReads (D.device disk.old) (D.device disk.new) }
-    ensures quiet { OnOk result ((D.device disk.new).faults ≡ (D.device disk.old).faults) }
-    ensures later { (D.device disk.old).faults ≤ (D.device disk.new).faults }
-    ensures cause { IfErr result (AreaFaultRose (D.device disk.old).faults (D.device disk.new).faults) }
+    ensures faults { CountsFaults is_area_fault (D.device disk.old) (D.device disk.new) result }
 {
     let loaded = held.loaded();
     match read(loaded, rules, user, moment, number) {
@@ -89,14 +90,14 @@ pub fn decide_peek<D: Disk>(
 ) -> Result<Decided, AreaError>
     requires kept { IsKeptFor rules.now held.now }
     requires holds { ForSome (D.device disk.old).contents (λ files. Holds held.now (files texts_file) files) }
-    ensures decided { IfOk result (λ decided. (moment : ℕ) (redo : RedoView) (texts : List ℕ) → AreTexts held.now texts (D.device disk.old).contents
-        → IsDecided rules.now held.now texts (D.device disk.old).contents None redo user.now moment (Peek number) decided) }
+    ensures decided { IfOk result (λ decided. (moment : ℕ) (redo : RedoView) (texts : List ℕ)
+        → AreTexts held.now texts (D.device disk.old).contents
+        → IsDecided rules.now held.now texts (D.device disk.old).contents None redo user.now moment
+        (Peek number) decided) }
 
     // The disk is only read.
     ensures reads { OnlyReads (D.device disk.old) (D.device disk.new) }
-    ensures quiet { OnOk result ((D.device disk.new).faults ≡ (D.device disk.old).faults) }
-    ensures later { (D.device disk.old).faults ≤ (D.device disk.new).faults }
-    ensures cause { IfErr result (AreaFaultRose (D.device disk.old).faults (D.device disk.new).faults) }
+    ensures faults { CountsFaults is_area_fault (D.device disk.old) (D.device disk.new) result }
 {
     let loaded = held.loaded();
     match peek(loaded, rules, user, number) {

@@ -1,7 +1,7 @@
 //! A message is read, or looked at.
 ghost use Rattle.std.specs.Prelude.{◌≡◌, ℕ, IfErr, IfOk};
-ghost use Rattle.jb_model.specs.Sound.{IsSound};
-ghost use Rattle.jb_model.specs.declared.change.Change.TheVariants.{Nothing};
+ghost use Rattle.jb_state.specs.Sound.{IsSound};
+ghost use Rattle.jb_state.specs.declared.change.Change.TheVariants.{Nothing};
 ghost use Rattle.jb_model.specs.declared.command.Command.TheVariants.{Peek, Read};
 ghost use Rattle.jb_decide.specs.Read.{IsLooking, IsReading, read_head};
 ghost use Rattle.jb_decide.specs.StepOf.{IsStepOf};
@@ -10,7 +10,8 @@ use crate::denial::{denied, field};
 use crate::found::seen_at;
 use jb_access::Action;
 use jb_base::{AreaRules, READ, RECEIVER_NAME, User};
-use jb_model::{Head, HeadAt, Loaded, LoadedMessage, Reply};
+use jb_model::Reply;
+use jb_state::{Head, HeadAt, Loaded, LoadedMessage};
 
 /// The header's fields as a reading by this user leaves them.
 fn read_head(user: &User, moment: u32, message: &LoadedMessage) -> Head
@@ -38,7 +39,8 @@ pub(crate) fn read(
     number: u32,
 ) -> Result<HeadAt, Reply>
     requires sound { IsSound rules.now.slots loaded.now }
-    ensures refused { IfErr result (λ reply. IsStepOf rules.now loaded.now user.now moment (Read number) (λ texts. reply) Nothing) }
+    ensures refused { IfErr result (λ reply.
+        IsStepOf rules.now loaded.now user.now moment (Read number) (λ texts. reply) Nothing) }
     ensures done { IfOk result (λ at. IsReading rules.now loaded.now user.now moment number at) }
 {
     if let Some(rule) = denied(user, rules, Action::List) {
@@ -61,7 +63,8 @@ pub(crate) fn peek(
     number: u32,
 ) -> Result<usize, Reply>
     requires sound { IsSound rules.now.slots loaded.now }
-    ensures refused { IfErr result (λ reply. (moment : ℕ) → IsStepOf rules.now loaded.now user.now moment (Peek number) (λ texts. reply) Nothing) }
+    ensures refused { IfErr result (λ reply. (moment : ℕ)
+        → IsStepOf rules.now loaded.now user.now moment (Peek number) (λ texts. reply) Nothing) }
     ensures done { IfOk result (λ place. IsLooking rules.now loaded.now user.now number place) }
 {
     if let Some(rule) = denied(user, rules, Action::List) {

@@ -23,7 +23,8 @@ pub fn decide_relink(
     user: &User,
 ) -> Result<Decided, OutOfMemory>
     requires kept { IsKeptFor rules.now held.now }
-    ensures decided { IfOk result (λ decided. (moment : ℕ) (texts : List ℕ) (contents : Option Files) → AreTexts held.now texts contents
+    ensures decided { IfOk result (λ decided.
+        (moment : ℕ) (texts : List ℕ) (contents : Option Files) → AreTexts held.now texts contents
         → IsDecided rules.now held.now texts contents None redo.new user.now moment Relink decided) }
     ensures room { KeepsRoom redo.old redo.new }
 {

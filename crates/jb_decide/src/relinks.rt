@@ -1,6 +1,6 @@
 //! The reply links of an area are computed anew.
 ghost use Rattle.std.specs.Prelude.{ℕ, IfOk};
-ghost use Rattle.jb_model.specs.Sound.{IsSound};
+ghost use Rattle.jb_state.specs.Sound.{IsSound};
 ghost use Rattle.jb_model.specs.declared.command.Command.TheVariants.{Relink};
 ghost use Rattle.jb_decide.specs.StepOf.{IsStepOf};
 
@@ -9,7 +9,8 @@ use crate::outcome::Outcome;
 use jb_access::Action;
 use jb_base::{AreaRules, OutOfMemory, User};
 use jb_link::{changed, relink_plan};
-use jb_model::{Change, Loaded, Reply};
+use jb_model::Reply;
+use jb_state::{Change, Loaded};
 use std::alloc::Global;
 
 /// What a relink does: the headers have the links of a plan from now on, and nothing changes where no message has another.
@@ -20,7 +21,9 @@ pub(crate) fn relink(
     user: &User,
 ) -> Result<Outcome, OutOfMemory>
     requires sound { IsSound rules.now.slots loaded.now }
-    ensures { IfOk result (λ outcome. (moment : ℕ) → IsStepOf rules.now loaded.now user.now moment Relink (λ texts. outcome.reply) outcome.change) }
+    ensures { IfOk result (λ outcome. (moment : ℕ)
+        → IsStepOf rules.now loaded.now user.now moment Relink (λ texts.
+        outcome.reply) outcome.change) }
 {
     if let Some(rule) = denied(user, rules, Action::Tend) {
         return Ok(Outcome::unchanged(Reply::Denied { rule }));

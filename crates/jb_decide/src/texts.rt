@@ -1,17 +1,16 @@
 //! The text of a message.
-ghost use Rattle.std.specs.Prelude.{◌≡◌, ◌≤◌, length, IfOk, IfErr, OnOk};
+ghost use Rattle.std.specs.Prelude.{◌≡◌, length, IfOk};
 ghost use Rattle.std.specs.Option.{ForSome};
-ghost use Rattle.jb_bytes.specs.Fault.{Rose};
-ghost use Rattle.jb_disk.specs.Device.{OnlyReads};
+ghost use Rattle.jb_disk.specs.Device.{OnlyReads, CountsFaults};
 ghost use Rattle.jb_disk.specs.declared.file.FileId.TheVariants.{Jdt as texts_file};
-ghost use Rattle.jb_model.specs.Sound.{IsTextWithin};
-ghost use Rattle.jb_model.specs.State.{text_of};
-ghost use Rattle.jb_decide.specs.Errors.{AreaFaultRose};
+ghost use Rattle.jb_state.specs.Sound.{IsTextWithin};
+ghost use Rattle.jb_state.specs.State.{text_of};
+ghost use Rattle.jb_decide.specs.Errors.{is_area_fault};
 
 use crate::AreaError;
 use jb_base::Bytes;
 use jb_disk::{Disk, FileId};
-use jb_model::LoadedMessage;
+use jb_state::LoadedMessage;
 use std::alloc::Global;
 
 /// The text of a live message: one device read, and none where it is empty, since the place of an empty text is that of no
@@ -23,12 +22,11 @@ pub(crate) fn read_text<D: Disk>(
 ) -> Result<Bytes, AreaError>
     requires within { ForSome (D.device disk.old).contents (λ files.
         IsTextWithin (length (files texts_file)) message.now.text_at message.now.text_len) }
-    ensures found { IfOk result (λ text. ForSome (D.device disk.old).contents (λ files. text ≡ text_of (files texts_file) message.now)) }
+    ensures found { IfOk result (λ text. ForSome (D.device disk.old).contents (λ files.
+        text ≡ text_of (files texts_file) message.now)) }
     ensures sized { IfOk result (λ text. length text ≡ message.now.text_len) }
     ensures kept { OnlyReads (D.device disk.old) (D.device disk.new) }
-    ensures quiet { OnOk result ((D.device disk.new).faults ≡ (D.device disk.old).faults) }
-    ensures later { (D.device disk.old).faults ≤ (D.device disk.new).faults }
-    ensures cause { IfErr result (AreaFaultRose (D.device disk.old).faults (D.device disk.new).faults) }
+    ensures faults { CountsFaults is_area_fault (D.device disk.old) (D.device disk.new) result }
 {
     if message.text_len == 0 {
         return Ok(Bytes::new(alloc));

@@ -1,4 +1,5 @@
 mod CrashLemmas
+pub mod FileLemmas
 mod KeptLemmas
 mod MemoryLemmas
 pub mod RunLemmas

@@ -228,7 +228,7 @@ agree-resized u len one other one_now other_now one_left other_left one_is other
     }
 
 -- a place in a write
-get-inside : (at : ℕ) (bytes old : List ℕ) → at + length bytes ≤ length old → (i j : ℕ) → i ≡ at + j → j < length bytes → slice_index (overwritten at bytes old) i ≡ slice_index bytes j
+pub get-inside : (at : ℕ) (bytes old : List ℕ) → at + length bytes ≤ length old → (i j : ℕ) → i ≡ at + j → j < length bytes → slice_index (overwritten at bytes old) i ≡ slice_index bytes j
 unfolding overwritten
 get-inside at bytes old within i j is low = grind (arith, places)
 

@@ -1,5 +1,5 @@
 -- What is known of a disk before and after a call.
-use Rattle.std.specs.Prelude.{◌≡◌, ◌≢◌, ◌⊎◌, ℕ, ◌<◌, ◌≤◌, List, [], ◌∷◌, length, is_some, Option, Some, None, Result, IsErr, OnOk, OnErr}
+use Rattle.std.specs.Prelude.{◌≡◌, ◌≢◌, ◌⊎◌, ℕ, ◌<◌, ◌≤◌, List, [], ◌∷◌, length, is_some, Bool, true, false, Option, Some, None, Result, IsErr, IfErr, OnOk, OnErr}
 use Rattle.std.specs.Option.{ForSome}
 use Rattle.jb_bytes.specs.Fault.{Rose}
 use Rattle.jb_disk.specs.declared.file.FileId.{FileId}
@@ -68,6 +68,21 @@ IsPast (Some files) file end = length (files file) < end
 -- a disk that tells its contents goes on telling them, and one that tells nothing goes on telling nothing
 abbrev pub TellsAlike : Device → Device → Type 0
 TellsAlike old new = is_some new.contents ≡ is_some old.contents
+
+-- what becomes of the count of faults where a call is refused: a fault of the disk raises it, and no other refusal does
+abbrev pub RoseIf : Bool → ℕ → ℕ → Type 0
+RoseIf true before now = Rose before now
+RoseIf false before now = now ≡ before
+
+-- each refusal is a fault, where it is by the disk alone
+abbrev pub is_disk_fault : {E : Type 0} → E → Bool
+is_disk_fault error = true
+
+-- calls of a disk, and what its count of faults tells of them: it stays where they are done, never falls, and rises exactly where the refusal is a fault
+pub record CountsFaults {T E : Type 0} (is_fault : E → Bool) (old new : Device) (result : Result T E) : Type 0 where
+  pub quiet : OnOk result (new.faults ≡ old.faults)
+  pub later : old.faults ≤ new.faults
+  pub cause : IfErr result (λ error. RoseIf (is_fault error) old.faults new.faults)
 
 -- a call that is done raises no count; a refusal has a cause: the count rose, or the range passed the file's end, which raises no count; and the disk tells as before
 pub record FailsBy {T E : Type 0} (past : Type 0) (old new : Device) (result : Result T E) : Type 0 where

@@ -66,6 +66,10 @@ pub record Recording : Type 0 where
 abbrev pub FailsNext : Recording → Type 0
 FailsNext disk = Contains disk.failing (length disk.calls + 1)
 
+-- a fault may refuse a call that the disk was told to fail, and one that it has no memory to keep
+abbrev pub MayFail : Recording → Recording → Type 0
+MayFail old new = FailsNext old ⊎ (new.calls ≡ old.calls)
+
 -- the device that has been called so
 abbrev pub device_after : Files → List Call → ℕ → Device
 device_after first calls faults = record {

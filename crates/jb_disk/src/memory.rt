@@ -1,7 +1,7 @@
 //! Six files in memory that tell what a crash at each moment may leave.
 ghost use Rattle.std.specs.Prelude.{◌≡◌, ◌⊎◌, ◌+◌, ◌<◌, ◌≤◌, ◌↔◌, IsTrue, ◌++◌, [], ◌∷◌, Contains, length, reverse, true, false, IfOk, IsErr, OnOk, OnErr};
 ghost use Rattle.jb_bytes.specs.Fault.{Rose};
-ghost use Rattle.jb_disk.specs.Memory.{FailsNext, listed, device_of, fresh_device, IsQuiet};
+ghost use Rattle.jb_disk.specs.Memory.{FailsNext, MayFail, listed, device_of, fresh_device, IsQuiet};
 ghost use Rattle.jb_disk.specs.MemoryLaws.{tells_an_image};
 ghost use Rattle.jb_disk.specs.Images.{IsImage};
 ghost use Rattle.jb_disk.specs.Moments.{MightLeave};
@@ -98,7 +98,9 @@ impl MemDisk {
 
         // The disk holds what the pick asks for, synced.
         ensures fresh { IfOk result (λ disk. device_of disk ≡ fresh_device (listed disk.first)) }
-        ensures found { IfOk result (λ disk. (file : FileId) → IsPicked pick (images_at after self.now file) (contents_at after self.now file) (listed disk.first file)) }
+        ensures found { IfOk result (λ disk. (file : FileId)
+            → IsPicked pick (images_at after self.now file) (contents_at after self.now file)
+            (listed disk.first file)) }
 
         // A crash after so many calls might have left that.
         ensures image { IfOk result (λ disk. IsImage (images_at after self.now) (listed disk.first)) }
@@ -120,7 +122,8 @@ impl MemDisk {
     fn left(&self, file: FileId, after: usize, pick: u8) -> Result<Bytes, OutOfMemory>
         requires within { after ≤ length self.now.calls }
         requires known { pick ≤ 3 }
-        ensures { IfOk result (λ bytes. IsPicked pick (images_at after self.now file) (contents_at after self.now file) bytes) }
+        ensures { IfOk result (λ bytes. IsPicked pick (images_at after self.now file)
+            (contents_at after self.now file) bytes) }
     {
         let first = self.first[file.number() as usize].as_slice();
         let trace = Trace::of(self.alloc, file, first, &self.calls[..after])?;
@@ -132,6 +135,8 @@ impl Disk for MemDisk {
     ghost device = { device_of };
 
     ghost fails_next = { FailsNext };
+
+    ghost may_fail = { MayFail };
 
     fn len(&mut self, file: FileId) -> Result<u64, DiskFailed> {
         note(
@@ -210,7 +215,7 @@ pub(crate) fn passes(len: usize, at: u64, count: usize) -> bool
 
 // Whether the call that comes now is one that fails.
 fn fails(failing: &[u64], calls: &[Call]) -> bool
-    ensures { Contains failing.now (length calls.now + 1) → IsTrue result }
+    ensures { IsTrue result ↔ Contains failing.now (length calls.now + 1) }
 {
     failing.contains(&(calls.len() as u64 + 1))
 }
@@ -235,7 +240,8 @@ fn refuse(calls: &mut Vec<Call>) -> DiskFailed
 // Keeps a call. One that fails is kept too, for a crash may leave it half made.
 fn keep(calls: &mut Vec<Call>, call: Call, fails: bool, faults: &mut u64) -> Result<(), DiskFailed>
     ensures ok { OnOk result ((fails ≡ false) × (calls.new.items ≡ calls.old.items ++ call ∷ [])) }
-    ensures err { OnErr result ((calls.new.items ≡ calls.old.items) ⊎ ((fails ≡ true) × (calls.new.items ≡ calls.old.items ++ call ∷ []))) }
+    ensures err { OnErr result ((calls.new.items ≡ calls.old.items)
+        ⊎ ((fails ≡ true) × (calls.new.items ≡ calls.old.items ++ call ∷ []))) }
     ensures quiet { OnOk result (faults.new ≡ faults.old) }
     ensures counted { OnErr result (Rose faults.old faults.new) }
     ensures later { faults.old ≤ faults.new }
@@ -256,6 +262,8 @@ fn note(
     ensures ok { OnOk result (calls.new.items ≡ calls.old.items ++ call ∷ []) }
     ensures err { OnErr result (IsQuiet calls.old.items calls.new.items) }
     ensures listed { Contains failing.now (length calls.old.items + 1) → IsErr result }
+    ensures spared { OnErr result (Contains failing.now (length calls.old.items + 1)
+        ⊎ (calls.new.items ≡ calls.old.items)) }
     ensures quiet { OnOk result (faults.new ≡ faults.old) }
     ensures counted { OnErr result (Rose faults.old faults.new) }
     ensures later { faults.old ≤ faults.new }

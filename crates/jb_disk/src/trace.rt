@@ -108,7 +108,9 @@ impl Trace {
     }
 
     fn write(&mut self, at: u64, bytes: &[u8], done: bool)
-        ensures { (u : Unsynced) (was : List ℕ) → IsTrace u was self.old → IsTrace (torn at (length bytes.now) u) (if done && nat_le (at + length bytes.now) (length was) then overwritten at bytes.now was else was) self.new }
+        ensures { (u : Unsynced) (was : List ℕ) → IsTrace u was self.old
+            → IsTrace (torn at (length bytes.now) u) (if done && nat_le (at + length bytes.now)
+            (length was) then overwritten at bytes.now was else was) self.new }
     {
         mar(&mut self.marred, at, bytes.len());
         if done && !passes(self.written.len(), at, bytes.len()) {
@@ -117,7 +119,8 @@ impl Trace {
     }
 
     fn resize(&mut self, len: usize, done: bool) -> Result<(), OutOfMemory>
-        ensures { OnOk result ((u : Unsynced) (was : List ℕ) → IsTrace u was self.old → IsTrace (cut len u) (if done then of_length len was else was) self.new) }
+        ensures { OnOk result ((u : Unsynced) (was : List ℕ) → IsTrace u was self.old
+            → IsTrace (cut len u) (if done then of_length len was else was) self.new) }
     {
         self.marred.truncate(len);
         self.greatest = self.greatest.max(len);
@@ -131,7 +134,8 @@ impl Trace {
     /// that is left open, 3 as written but cut to the least length.
     pub(crate) fn picked(self, pick: u8) -> Result<Bytes, OutOfMemory>
         requires { pick ≤ 3 }
-        ensures { IfOk result (λ bytes. (u : Unsynced) (was : List ℕ) → u.least ≤ u.greatest → IsTrace u was self → IsPicked pick u was bytes) }
+        ensures { IfOk result (λ bytes. (u : Unsynced) (was : List ℕ) → u.least ≤ u.greatest
+            → IsTrace u was self → IsPicked pick u was bytes) }
     {
         let Trace {
             synced,
@@ -157,8 +161,10 @@ impl Trace {
 // Puts 0xA5 into each byte of the range that is there.
 fn mar(bytes: &mut Vec<u8>, at: u64, len: usize)
     ensures same { length bytes.new.items ≡ length bytes.old.items }
-    ensures inside { (i : ℕ) → i < length bytes.old.items → at ≤ i → i < at + len → slice_index bytes.new.items i ≡ 0xA5 }
-    ensures outside { (i : ℕ) → (at ≤ i → i < at + len → ⊥) → slice_index bytes.new.items i ≡ slice_index bytes.old.items i }
+    ensures inside { (i : ℕ) → i < length bytes.old.items → at ≤ i → i < at + len
+        → slice_index bytes.new.items i ≡ 0xA5 }
+    ensures outside { (i : ℕ) → (at ≤ i → i < at + len → ⊥)
+        → slice_index bytes.new.items i ≡ slice_index bytes.old.items i }
 {
     let most = bytes.len() as u64;
     let from = at.min(most);

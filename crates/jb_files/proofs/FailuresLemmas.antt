@@ -1,5 +1,5 @@
 -- What is known of the failed syncs of some files, after a change of one.
-use Rattle.std.proofs.Common.{◌≡◌, ◌≢◌, ℕ, Bool, false, List, ◌∙◌, ap, slice_index_or, slice_set}
+use Rattle.std.proofs.Common.{ℕ, Bool, false, List, ◌∙◌, ap, slice_index_or, slice_set}
 use Rattle.std.proofs.lemmas.List.{map-set, get_or-set_other}
 use Rattle.jb_files.specs.declared.real.RealFile.{RealFile}
 use Rattle.jb_files.specs.Failures.{OthersStay, failures}

@@ -3,17 +3,7 @@ use Rattle.std.proofs.Common.{◌≡◌, ℕ, ◌+◌, ◌-◌, ◌≤◌, List,
 use Rattle.std.specs.Option.{ForSome, option_map}
 use Rattle.std.proofs.lemmas.List.{same_lists, places}
 use Rattle.jb_disk.specs.Files.{overwritten}
-
--- nothing is written
-overwritten-nil : (at : ℕ) (old : List ℕ) → overwritten at [] old ≡ old
-unfolding overwritten
-overwritten-nil at old = same_lists _ _ (grind (arith, places)) (λ k d h. grind (arith, places))
-
--- two writes one behind the other are one
-overwritten-append : (at : ℕ) (front back old : List ℕ) → at + length front + length back ≤ length old
-    → overwritten (at + length front) back (overwritten at front old) ≡ overwritten at (front ++ back) old
-unfolding overwritten
-overwritten-append at front back old within = same_lists _ _ (grind (arith, places)) (λ k d h. grind (arith, places))
+use Rattle.jb_disk.proofs.FileLemmas.{overwritten-append, overwritten-nil}
 
 -- two parts one behind the other are one
 take-parts : (bytes : List ℕ) (n m : ℕ) → take n bytes ++ take m (drop n bytes) ≡ take (n + m) bytes

@@ -76,8 +76,10 @@ impl<R: Files<File = File> + Drop> Folder<R> {
     pub(crate) fn set_len(&mut self, file: FileId, len: u64) -> io::Result<()>
         ensures paths { KeepsPaths self.old.files self.new.files }
         ensures others { OthersStay (number_of file) self.old.files self.new.files }
-        ensures stays { len ≢ 0 → HasFailed self.old.files (number_of file) → HasFailed self.new.files (number_of file) }
-        ensures names { IsTrue self.old.names.has_failed_sync → IsErr result × IsTrue self.new.names.has_failed_sync }
+        ensures stays { len ≢ 0 → HasFailed self.old.files (number_of file)
+            → HasFailed self.new.files (number_of file) }
+        ensures names { IsTrue self.old.names.has_failed_sync → IsErr result
+            × IsTrue self.new.names.has_failed_sync }
     {
         self.hold()?;
         if file == FileId::Ndt && len == 0 && !self.has_copies()? {
@@ -113,7 +115,8 @@ impl<R: Files<File = File> + Drop> Folder<R> {
     fn resize(&mut self, file: FileId, len: u64) -> io::Result<()>
         ensures paths { KeepsPaths self.old.files self.new.files }
         ensures others { OthersStay (number_of file) self.old.files self.new.files }
-        ensures stays { len ≢ 0 → HasFailed self.old.files (number_of file) → HasFailed self.new.files (number_of file) }
+        ensures stays { len ≢ 0 → HasFailed self.old.files (number_of file)
+            → HasFailed self.new.files (number_of file) }
         ensures names { self.new.names ≡ self.old.names }
     {
         let n = file.number() as usize;
@@ -124,7 +127,8 @@ impl<R: Files<File = File> + Drop> Folder<R> {
     pub(crate) fn sync(&mut self, file: FileId) -> io::Result<()>
         ensures paths { KeepsPaths self.old.files self.new.files }
         ensures others { OthersStay (number_of file) self.old.files self.new.files }
-        ensures stays { HasFailed self.old.files (number_of file) → IsErr result × HasFailed self.new.files (number_of file) }
+        ensures stays { HasFailed self.old.files (number_of file) → IsErr result
+            × HasFailed self.new.files (number_of file) }
         ensures names { IsTrue self.old.names.has_failed_sync → IsTrue self.new.names.has_failed_sync }
     {
         self.hold()?;

@@ -18,7 +18,8 @@ pub(crate) trait TakesParts {
     /// Writes the first of these bytes at a place, and says how many it took.
     fn write_part(&mut self, at: u64, bytes: &[u8]) -> io::Result<usize>
         ensures count { IfOk result (λ count. count ≤ length bytes.now) }
-        ensures took { IfOk result (λ count. held self.new ≡ option_map (overwritten at (take count bytes.now)) (held self.old)) };
+        ensures took { IfOk result (λ count.
+            held self.new ≡ option_map (overwritten at (take count bytes.now)) (held self.old)) };
 }
 
 /// An open file of the system, which tells nothing.

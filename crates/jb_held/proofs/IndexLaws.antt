@@ -6,22 +6,19 @@ use Rattle.jb_link.specs.IdLists.{IsIdList}
 use Rattle.jb_link.specs.Index.{HasSameLists, IsIndexOf, ReplyIndex}
 use Rattle.jb_link.specs.IndexLaws.{IsIndexAfterKill, IsIndexBefore}
 use Rattle.jb_link.specs.Kept.{IsKeptList}
-use Rattle.jb_model.specs.Change.{HasMessageAt, IsNeighbourOf, IsReadingOf, after, headed, headed_where, killed_slot, loaded_counted, with_slot_changed}
-use Rattle.jb_model.specs.Linked.{with_links_of}
-use Rattle.jb_model.specs.LiveSlots.{linkables_from}
-use Rattle.jb_model.specs.Loaded.{IsMessageAt, with_message_behind, with_slot_at}
-use Rattle.jb_model.specs.Plan.{plan_of}
-use Rattle.jb_model.specs.declared.change.Change.TheVariants.{Headed, Marked, Packed, Posted, Relinked, Killed as Kills}
-use Rattle.jb_model.specs.declared.change.HeadAt.{HeadAt}
-use Rattle.jb_model.specs.declared.links.Links.{Links}
-use Rattle.jb_model.specs.declared.loaded.Loaded.{Loaded}
-use Rattle.jb_model.specs.declared.loaded.LoadedMessage.{LoadedMessage}
-use Rattle.jb_model.specs.declared.loaded.LoadedSlot.TheVariants.{Killed, Live}
-use Rattle.jb_model.specs.declared.mark.Mark.{Mark}
-use Rattle.jb_model.specs.declared.message.Head.{Head}
-use Rattle.jb_held.proofs.PackIndexLemmas.{packed_index}
-use Rattle.jb_held.proofs.PlaceLemmas.{headed_is, killed_is}
-use Rattle.jb_held.proofs.PlanLemmas.{base_of, links_of_state}
+use Rattle.jb_state.specs.Change.{IsNeighbourOf, IsReadingOf, headed, headed_where, loaded_counted}
+use Rattle.jb_state.specs.Linked.{with_links_of}
+use Rattle.jb_state.specs.LiveSlots.{linkables_from}
+use Rattle.jb_state.specs.Loaded.{IsMessageAt, with_message_behind, with_slot_at}
+use Rattle.jb_state.specs.Plan.{plan_of}
+use Rattle.jb_state.specs.declared.change.HeadAt.{HeadAt}
+use Rattle.jb_state.specs.declared.links.Links.{Links}
+use Rattle.jb_state.specs.declared.loaded.Loaded.{Loaded}
+use Rattle.jb_state.specs.declared.loaded.LoadedMessage.{LoadedMessage}
+use Rattle.jb_state.specs.declared.loaded.LoadedSlot.TheVariants.{Killed, Live}
+use Rattle.jb_state.specs.declared.message.Head.{Head}
+use Rattle.jb_state.proofs.PlaceLaws.{headed_is}
+use Rattle.jb_state.proofs.LinkedLaws.{base_of, links_of_state}
 
 -- the same lists are the same index
 pub same_lists : (old new : ReplyIndex) (loaded : Loaded) → HasSameLists old new → IsIndexOf old loaded → IsIndexOf new loaded
@@ -67,45 +64,8 @@ index_there replies loaded place header_at gone =
     let same : loaded.base + place - loaded.base ≡ place = omega arith in
     subst (λ (n : ℕ). IsIndexOf replies (with_slot_at n (Killed header_at) loaded)) same (gone header_at)
 
--- so of the area with that message killed, before it is counted
-pub killed_index : (replies : ReplyIndex) (place : ℕ) (loaded : Loaded) → HasMessageAt place loaded → IsIndexAfterKill replies loaded (loaded.base + place)
-    → IsIndexOf replies (with_slot_changed place killed_slot loaded)
-killed_index replies place loaded fits gone =
-    subst (IsIndexOf replies) (sym (killed_is place fits.message loaded fits.here)) (index_there replies loaded place fits.message.header_at gone)
-
 -- the links of all messages leave the index as it is
 pub linked_index : (replies : ReplyIndex) (plan : List Links) (loaded : Loaded) → 1 ≤ loaded.base → plan ≡ plan_of (linkables_from loaded.base loaded.slots)
     → IsIndexOf replies loaded → IsIndexOf replies (with_links_of plan loaded)
 linked_index replies plan loaded one is index =
     stays_under_relink replies loaded (with_links_of plan loaded) one (base_of plan loaded) (links_of_state loaded plan is) index
-
--- after a post it is the one into which the message was taken
-pub index_after_post : (replies : ReplyIndex) (message : LoadedMessage) (neighbour : Option HeadAt) (loaded : Loaded)
-    → IsIndexOf replies (with_message_behind message (headed_where neighbour loaded)) → IsIndexOf replies (after (Posted message neighbour) loaded)
-index_after_post replies message neighbour loaded is = counted_index replies (with_message_behind message (headed_where neighbour loaded)) is
-
--- after a reading the index is as it was
-pub index_after_reading : (replies : ReplyIndex) (at : HeadAt) (loaded : Loaded) → IsReadingOf at loaded → IsIndexOf replies loaded
-    → IsIndexOf replies (after (Headed at) loaded)
-index_after_reading replies at loaded fits is = counted_index replies (headed at loaded) (headed_index replies at loaded fits is)
-
--- after a kill it is the one out of which the message was taken
-pub index_after_kill : (replies : ReplyIndex) (place : ℕ) (loaded : Loaded) → HasMessageAt place loaded → IsIndexAfterKill replies loaded (loaded.base + place)
-    → IsIndexOf replies (after (Kills place) loaded)
-index_after_kill replies place loaded fits gone =
-    counted_index replies (with_slot_changed place killed_slot loaded) (killed_index replies place loaded fits gone)
-
--- after a relink the index is as it was
-pub index_after_relink : (replies : ReplyIndex) (plan : List Links) (loaded : Loaded) → 1 ≤ loaded.base → plan ≡ plan_of (linkables_from loaded.base loaded.slots)
-    → IsIndexOf replies loaded → IsIndexOf replies (after (Relinked plan) loaded)
-index_after_relink replies plan loaded one is index = counted_index replies (with_links_of plan loaded) (linked_index replies plan loaded one is index)
-
--- after a mark too
-pub index_after_mark : (replies : ReplyIndex) (place : Option ℕ) (mark : Mark) (loaded : Loaded) → IsIndexOf replies loaded
-    → IsIndexOf replies (after (Marked place mark) loaded)
-index_after_mark replies place mark loaded is = rests_on_slots replies loaded (after (Marked place mark) loaded) refl refl is
-
--- and after a pack
-pub index_after_pack : (replies : ReplyIndex) (plan : List Links) (base : ℕ) (loaded : Loaded) → 1 ≤ loaded.base → IsIndexOf replies loaded
-    → IsIndexOf replies (after (Packed plan base) loaded)
-index_after_pack replies plan base loaded one is = packed_index loaded replies one is

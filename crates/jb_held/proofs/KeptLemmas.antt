@@ -3,9 +3,9 @@ use Rattle.std.proofs.Common.{◌≡◌, ℕ, ◌+◌, List, length, sym, ◌∙
 use Rattle.jb_limits.specs.declared.limits.TheConstants.{MOST_SLOTS}
 use Rattle.jb_link.specs.Index.{IsIndexOf, ReplyIndex}
 use Rattle.jb_marks.specs.Order.{IsOrdered}
-use Rattle.jb_model.specs.Change.{live_messages, loaded_counted}
-use Rattle.jb_model.specs.declared.loaded.Loaded.{Loaded}
-use Rattle.jb_model.specs.declared.mark.Mark.{Mark}
+use Rattle.jb_state.specs.Change.{live_messages, loaded_counted}
+use Rattle.jb_state.specs.declared.loaded.Loaded.{Loaded}
+use Rattle.jb_state.specs.declared.mark.Mark.{Mark}
 use Rattle.jb_held.proofs.IndexLaws.{counted_index}
 use Rattle.jb_held.specs.Held.{IsKeptWhole}
 use Rattle.jb_held.specs.declared.held.Held.TheInside.{Inside}

@@ -2,24 +2,23 @@
 use Rattle.std.proofs.Common.{◌≡◌, ℕ, ◌+◌, cond, List, [], ◌∷◌, Option, Some, None, refl, sym, ◌∙◌, ap, arith}
 use Rattle.std.specs.Prelude.{sum_by}
 use Rattle.std.proofs.lemmas.List.Sums.{sum_by-cons}
-use Rattle.jb_model.specs.Change.{HasMessageAt, IsNeighbourOf, IsReadingOf, after, headed_where, live_messages}
-use Rattle.jb_model.specs.Links.{Linkable}
-use Rattle.jb_model.specs.LiveSlots.{linkables_from, loaded_linkable}
-use Rattle.jb_model.specs.Loaded.{header_size}
-use Rattle.jb_model.specs.Packed.{is_live_slot, kept_slots, moved, new_base, packed, packed_from}
-use Rattle.jb_model.specs.Plan.{links_of}
-use Rattle.jb_model.specs.declared.change.Change.TheVariants.{Headed, Marked, Packed, Posted, Relinked, Killed as Kills}
-use Rattle.jb_model.specs.declared.change.HeadAt.{HeadAt}
-use Rattle.jb_model.specs.declared.links.Links.{Links}
-use Rattle.jb_model.specs.declared.loaded.Loaded.{Loaded}
-use Rattle.jb_model.specs.declared.loaded.LoadedMessage.{LoadedMessage}
-use Rattle.jb_model.specs.declared.loaded.LoadedSlot.{LoadedSlot}
-use Rattle.jb_model.specs.declared.loaded.LoadedSlot.TheVariants.{Empty, Killed, Live}
-use Rattle.jb_model.specs.declared.mark.Mark.{Mark}
+use Rattle.jb_state.specs.Change.{HasMessageAt, IsNeighbourOf, IsReadingOf, after, headed_where, live_messages}
+use Rattle.jb_state.specs.Links.{Linkable}
+use Rattle.jb_state.specs.LiveSlots.{linkables_from, loaded_linkable}
+use Rattle.jb_state.specs.Loaded.{header_size}
+use Rattle.jb_state.specs.Packed.{is_live_slot, kept_slots, moved, new_base, packed, packed_from}
+use Rattle.jb_state.specs.Plan.{links_of}
+use Rattle.jb_state.specs.declared.change.Change.TheVariants.{Headed, Packed, Posted, Relinked, Killed as Kills}
+use Rattle.jb_state.specs.declared.change.HeadAt.{HeadAt}
+use Rattle.jb_state.specs.declared.links.Links.{Links}
+use Rattle.jb_state.specs.declared.loaded.Loaded.{Loaded}
+use Rattle.jb_state.specs.declared.loaded.LoadedMessage.{LoadedMessage}
+use Rattle.jb_state.specs.declared.loaded.LoadedSlot.{LoadedSlot}
+use Rattle.jb_state.specs.declared.loaded.LoadedSlot.TheVariants.{Empty, Killed, Live}
 use Rattle.jb_pack.proofs.StateLemmas.{live_of_state, sum_of_kept}
-use Rattle.jb_held.proofs.CountLemmas.{live_behind, live_read, live_without}
-use Rattle.jb_held.proofs.PlaceLemmas.{headed_is, killed_is}
-use Rattle.jb_held.proofs.PlanLemmas.{links_keep_live}
+use Rattle.jb_state.proofs.CountLaws.{live_behind, live_read, live_without}
+use Rattle.jb_state.proofs.PlaceLaws.{headed_is, killed_is}
+use Rattle.jb_state.proofs.LinkedLaws.{links_keep_live}
 
 -- as many with the header of a neighbour
 live_beside : (neighbour : Option HeadAt) (loaded : Loaded) → IsNeighbourOf neighbour loaded → live_messages (headed_where neighbour loaded) ≡ live_messages loaded
@@ -44,10 +43,6 @@ live_killed place loaded is =
 -- as many after a relink
 pub live_relinked : (plan : List Links) (loaded : Loaded) → live_messages (after (Relinked plan) loaded) ≡ live_messages loaded
 live_relinked plan loaded = links_keep_live plan loaded
-
--- as many after a mark
-pub live_marked : (place : Option ℕ) (mark : Mark) (loaded : Loaded) → live_messages (after (Marked place mark) loaded) ≡ live_messages loaded
-live_marked place mark loaded = refl
 
 -- one live slot more or none
 abbrev one_live : LoadedSlot → ℕ

@@ -4,11 +4,11 @@ use Rattle.std.specs.Prelude.{slice_set}
 use Rattle.jb_marks.proofs.MarkLemmas.{with_mark-first, with_mark-none}
 use Rattle.jb_marks.proofs.OrderLemmas.{ordered-set}
 use Rattle.jb_marks.specs.Order.{IsOrdered}
-use Rattle.jb_model.specs.Places.{IsPlaceOf}
-use Rattle.jb_model.specs.Loaded.{with_marks}
-use Rattle.jb_model.specs.Marks.{with_mark}
-use Rattle.jb_model.specs.declared.loaded.Loaded.{Loaded}
-use Rattle.jb_model.specs.declared.mark.Mark.{Mark}
+use Rattle.jb_state.specs.Places.{IsPlaceOf}
+use Rattle.jb_state.specs.Loaded.{with_marks}
+use Rattle.jb_state.specs.Marks.{with_mark}
+use Rattle.jb_state.specs.declared.loaded.Loaded.{Loaded}
+use Rattle.jb_state.specs.declared.mark.Mark.{Mark}
 
 -- in its place
 pub marked_first : (mark : Mark) (place : ℕ) (loaded : Loaded) → IsPlaceOf mark.user_crc mark.user_id loaded.marks (Some place)

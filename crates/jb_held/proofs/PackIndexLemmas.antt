@@ -1,28 +1,29 @@
 -- An index of the replies of an area is one of the packed area too.
-use Rattle.std.proofs.Common.{◌≡◌, inl, inr, ℕ, zero, suc, ◌+◌, ◌-◌, ◌≤◌, ◌<◌, cond, le-ltb, lt-ltb, List, [], ◌∷◌, length, drop, slice_get, refl, sym, ◌∙◌, ap, subst, arith, length-drop}
+use Rattle.std.proofs.Common.{◌≡◌, inl, inr, ℕ, zero, suc, ◌+◌, ◌-◌, ◌≤◌, ◌<◌, List, [], ◌∷◌, length, drop, slice_get, refl, sym, ◌∙◌, ap, subst, arith, length-drop}
 use Rattle.std.specs.List.{position_or_len}
 use Rattle.std.specs.Prelude.{◌↔◌, Contains, IsSome, Option, Some, None, option_and_then, unwrap_or}
 use Rattle.std.proofs.lemmas.Bool.{cases_lt}
 use Rattle.jb_bytes.specs.Subfields.{first_of}
 use Rattle.jb_bytes.specs.declared.subfield.TheConstants.{MSGID, REPLYID}
-use Rattle.jb_model.specs.Plan.{loaded_at}
-use Rattle.jb_model.specs.LiveSlots.{linkables_from, message_in}
-use Rattle.jb_model.specs.Links.{Linkable}
-use Rattle.jb_model.specs.Message.{replyid_of}
-use Rattle.jb_model.specs.Loaded.{header_size}
-use Rattle.jb_model.specs.declared.loaded.Loaded.{Loaded}
-use Rattle.jb_model.specs.declared.loaded.LoadedMessage.{LoadedMessage}
-use Rattle.jb_model.specs.declared.loaded.LoadedSlot.{LoadedSlot}
-use Rattle.jb_model.specs.declared.loaded.LoadedSlot.TheVariants.{Empty, Killed, Live}
+use Rattle.jb_state.specs.Plan.{loaded_at}
+use Rattle.jb_state.specs.LiveSlots.{linkables_from, message_in}
+use Rattle.jb_state.specs.Links.{Linkable}
+use Rattle.jb_state.specs.Message.{replyid_of}
+use Rattle.jb_state.specs.Loaded.{header_size}
+use Rattle.jb_state.specs.declared.loaded.Loaded.{Loaded}
+use Rattle.jb_state.specs.declared.loaded.LoadedMessage.{LoadedMessage}
+use Rattle.jb_state.specs.declared.loaded.LoadedSlot.{LoadedSlot}
+use Rattle.jb_state.specs.declared.loaded.LoadedSlot.TheVariants.{Empty, Killed, Live}
 use Rattle.jb_pack.proofs.HeldLemmas.{length-packed}
 use Rattle.jb_pack.proofs.PlanLemmas.{base_within, new_base_at}
-use Rattle.jb_model.specs.Packed.{is_live_slot, kept_slots, new_base, packed, packed_from}
+use Rattle.jb_state.specs.Packed.{is_live_slot, kept_slots, new_base, packed, packed_from}
 use Rattle.jb_link.proofs.LawLemmas.{stays_under_relink}
-use Rattle.jb_held.proofs.PlanLemmas.{linked_slots, linked_state}
+use Rattle.jb_state.proofs.LinkedLaws.{linked_slots, linked_state}
 use Rattle.jb_link.specs.IdLists.{IsIdList, id_at}
 use Rattle.jb_link.specs.Index.{IsIndexOf, ReplyIndex}
 use Rattle.jb_link.specs.Kept.{IsKeptList, Keeps}
 use Rattle.jb_link.specs.Order.{IsRising, id_order}
+use Rattle.jb_link.proofs.AreaLemmas.{below_base, by_place}
 
 -- a message and what it becomes: with the same subfields and the same ReplyTo
 abbrev Alike : Option LoadedMessage → Option LoadedMessage → Type 0
@@ -152,14 +153,6 @@ none_before live number (Killed at ∷ slots) zero low = refl
 none_before live number (Killed at ∷ slots) (suc k) low = none_before live (number + 1) slots k (omega (arith, low))
 none_before live number (Live message ∷ slots) k low = absurd (omega (arith, low))
 
--- below the base no number names a message
-at_low : (loaded : Loaded) (number : ℕ) → number < loaded.base → loaded_at loaded number ≡ None
-at_low loaded number low = ap (λ b. cond b None (message_in (slice_get loaded.slots (number - loaded.base)))) (lt-ltb number loaded.base low)
-
--- from there on it names that of its slot
-at_place : (loaded : Loaded) (number : ℕ) → loaded.base ≤ number → loaded_at loaded number ≡ message_in (slice_get loaded.slots (number - loaded.base))
-at_place loaded number from = ap (λ b. cond b None (message_in (slice_get loaded.slots (number - loaded.base)))) (le-ltb number loaded.base from)
-
 module _ (loaded : Loaded) where
   -- the live messages on which the links rest
   abbrev live : List Linkable
@@ -179,19 +172,19 @@ module _ (loaded : Loaded) where
       let within = base_within loaded in
       let above = within.0 in
       elim (cases_lt number loaded.base) [
-        | inl below ↦ both_none _ _ (at_low mid number below) (at_low (packed loaded) number (omega (arith, below, above)))
+        | inl below ↦ both_none _ _ (below_base mid number below) (below_base (packed loaded) number (omega (arith, below, above)))
         | inr from ↦ elim (cases_lt number (new_base loaded)) [
           | inl cut ↦ both_none _ _
-              (at_place mid number from ∙ none_before live loaded.base loaded.slots (number - loaded.base) (omega (arith, from, cut, new_base_at loaded)))
-              (at_low (packed loaded) number cut)
+              (by_place mid number from ∙ none_before live loaded.base loaded.slots (number - loaded.base) (omega (arith, from, cut, new_base_at loaded)))
+              (below_base (packed loaded) number cut)
           | inr kept ↦
               let n : ℕ = new_base loaded - loaded.base in
               let k : ℕ = number - new_base loaded in
               let base : loaded.base + n ≡ new_base loaded = omega (arith, above) in
               let is = cut_alike live n loaded.base 1024 0 loaded.slots k (number - loaded.base) (omega (arith, from, kept, above)) in
-              subst (λ (o : Option LoadedMessage). Alike o (loaded_at (packed loaded) number)) (sym (at_place mid number from))
+              subst (λ (o : Option LoadedMessage). Alike o (loaded_at (packed loaded) number)) (sym (by_place mid number from))
               (subst (λ (o : Option LoadedMessage). Alike (message_in (slice_get (linked_slots live loaded.base loaded.slots) (number - loaded.base))) o)
-              (ap (λ m. message_in (slice_get (packed_from live m 1024 0 (kept_slots loaded)) k)) base ∙ sym (at_place (packed loaded) number kept)) is)
+              (ap (λ m. message_in (slice_get (packed_from live m 1024 0 (kept_slots loaded)) k)) base ∙ sym (by_place (packed loaded) number kept)) is)
         ]
       ]
 
@@ -213,4 +206,4 @@ module _ (loaded : Loaded) where
   -- an index of the area is one of the packed area
   pub packed_index : (replies : ReplyIndex) → 1 ≤ loaded.base → IsIndexOf replies loaded → IsIndexOf replies (packed loaded)
   packed_index replies one index =
-      index_alike replies mid (packed loaded) next_stays pack_alike (stays_under_relink replies loaded mid one refl (linked_state live loaded.base loaded.slots) index)
+      index_alike replies mid (packed loaded) next_stays pack_alike (stays_under_relink replies loaded mid one refl (linked_state [] live loaded.base loaded.slots) index)

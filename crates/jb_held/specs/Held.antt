@@ -3,7 +3,7 @@ use Rattle.std.specs.Prelude.{◌≡◌, ◌+◌, ◌≤◌, length}
 use Rattle.jb_limits.specs.declared.limits.TheConstants.{MOST_MARKS, MOST_SLOTS}
 use Rattle.jb_marks.specs.Order.{IsOrdered}
 use Rattle.jb_link.specs.Index.{IsIndexOf}
-use Rattle.jb_model.specs.Change.{live_messages}
+use Rattle.jb_state.specs.Change.{live_messages}
 use Rattle.jb_held.specs.declared.held.Held.TheInside.{Inside}
 
 -- the count of live messages and the indexes of marks and of replies are those of what is loaded, and there is room for all

@@ -3,16 +3,16 @@ ghost use Rattle.std.specs.Prelude.{◌≡◌, ◌<◌, ◌≤◌, ◌+◌, All,
 ghost use Rattle.jb_limits.specs.declared.limits.TheConstants.{HEADERS_CEILING, MOST_MARKS, MOST_SLOTS, TEXTS_CEILING};
 ghost use Rattle.jb_link.specs.Index.{IsIndexOf};
 ghost use Rattle.jb_marks.specs.Order.{IsOrdered};
-ghost use Rattle.jb_model.specs.Change.{Fits, FitsBehind, HasMessageAt, IsNeighbourOf, after, headed, headed_where, killed_slot, live_messages, loaded_counted, with_slot_changed};
-ghost use Rattle.jb_model.specs.Linked.{IsPlaced, with_links_in, with_links_of};
-ghost use Rattle.jb_model.specs.Loaded.{header_size, with_message_behind};
-ghost use Rattle.jb_model.specs.Marks.{with_mark};
-ghost use Rattle.jb_model.specs.Plan.{loaded_at};
-ghost use Rattle.jb_model.specs.declared.change.Change.TheVariants.{Marked};
+ghost use Rattle.jb_state.specs.Change.{Fits, FitsBehind, HasMessageAt, IsNeighbourOf, after, headed, headed_where, killed_slot, live_messages, loaded_counted, with_slot_changed};
+ghost use Rattle.jb_state.specs.Linked.{IsPlaced, with_links_in, with_links_of};
+ghost use Rattle.jb_state.specs.Loaded.{header_size, with_message_behind};
+ghost use Rattle.jb_state.specs.Marks.{with_mark};
+ghost use Rattle.jb_state.specs.Plan.{loaded_at};
+ghost use Rattle.jb_state.specs.declared.change.Change.TheVariants.{Marked};
 
 use jb_link::Replies;
 use jb_marks::MarkIndex;
-use jb_model::{HeadAt, Links, Loaded, LoadedMessage, LoadedSlot, Mark};
+use jb_state::{HeadAt, Links, Loaded, LoadedMessage, LoadedSlot, Mark};
 use jb_subfield::headed_length;
 
 /// Counts a change: modcounter is one more, and activemsgs is this number of live messages.

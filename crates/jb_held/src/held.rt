@@ -2,12 +2,12 @@
 ghost use Rattle.std.specs.Prelude.{◌≡◌, ◌≤◌, ◌+◌, length, IfOk};
 ghost use Rattle.jb_limits.specs.declared.limits.TheConstants.{MOST_MARKS, MOST_SLOTS};
 ghost use Rattle.jb_link.specs.Index.{IsIndexOf};
-ghost use Rattle.jb_model.specs.Change.{Fits, after, live_messages};
-ghost use Rattle.jb_model.specs.Marks.{mark_of};
-ghost use Rattle.jb_model.specs.Packed.{new_base, packed};
-ghost use Rattle.jb_model.specs.Places.{IsPlaceOf};
-ghost use Rattle.jb_model.specs.Sound.{IsSound};
-ghost use Rattle.jb_model.specs.declared.change.Change.TheVariants.{Headed, Killed, Marked, Packed, Posted, Relinked};
+ghost use Rattle.jb_state.specs.Change.{Fits, after, live_messages};
+ghost use Rattle.jb_state.specs.Marks.{mark_of};
+ghost use Rattle.jb_state.specs.Packed.{new_base, packed};
+ghost use Rattle.jb_state.specs.Places.{IsPlaceOf};
+ghost use Rattle.jb_state.specs.Sound.{IsSound};
+ghost use Rattle.jb_state.specs.declared.change.Change.TheVariants.{Headed, Killed, Marked, Packed, Posted, Relinked};
 ghost use Rattle.jb_held.specs.Pending.{HasReplies, MayApply};
 
 use crate::applying::{
@@ -18,8 +18,8 @@ use crate::pending::Pending;
 use jb_base::{MOST_SLOTS, OutOfMemory};
 use jb_link::Replies;
 use jb_marks::MarkIndex;
-use jb_model::{Change, HeadAt, Links, Loaded, LoadedMessage, Mark};
 use jb_pack::pack_loaded;
+use jb_state::{Change, HeadAt, Links, Loaded, LoadedMessage, Mark};
 use std::alloc::Global;
 use std::marker::Model;
 
@@ -47,7 +47,7 @@ impl Drop for Held {
 }
 
 impl Model for Held {
-    ghost use Rattle.jb_model.specs.declared.loaded.Loaded.{Loaded};
+    ghost use Rattle.jb_state.specs.declared.loaded.Loaded.{Loaded};
 
     ghost Value = { Loaded };
 

@@ -2,14 +2,14 @@
 ghost use Rattle.std.specs.Prelude.{◌≡◌, ◌≤◌, ◌+◌, [], length, map, IfOk};
 ghost use Rattle.jb_limits.specs.declared.limits.TheConstants.{MOST_MARKS, MOST_SLOTS};
 ghost use Rattle.jb_marks.specs.Order.{IsOrdered};
-ghost use Rattle.jb_model.specs.Live.{live_count};
-ghost use Rattle.jb_model.specs.State.{slot_state};
+ghost use Rattle.jb_state.specs.Live.{live_count};
+ghost use Rattle.jb_state.specs.State.{slot_state};
 ghost use Rattle.jb_link.specs.Index.{IsIndexOf};
 
 use jb_base::{MOST_MARKS, MOST_SLOTS, OutOfMemory};
 use jb_link::Replies;
 use jb_marks::MarkIndex;
-use jb_model::{Loaded, LoadedSlot};
+use jb_state::{Loaded, LoadedSlot};
 use std::alloc::Global;
 
 /// How many messages are live.

@@ -1,9 +1,9 @@
 //! A change that is to be done in an area.
 
 use jb_link::Replies;
-use jb_model::Change;
+use jb_state::Change;
 
-/// A change that was decided, and for a pack the index of the area's replies then, with room for all slots.
+/// A change that was decided, and for a pack, and nothing else, the index of the area's replies then, with room for all slots.
 #[derive(Drop)]
 pub struct Pending {
     pub change: Change,

@@ -4,7 +4,7 @@ use Rattle.jb_bytes.specs.Subfields.{IsCutAt, IsSubfieldList}
 use Rattle.jb_limits.specs.declared.limits.TheConstants.{MOST_SUBFIELD_BYTES}
 use Rattle.jb_disk.specs.Files.{Files}
 use Rattle.jb_disk.specs.declared.file.FileId.TheVariants.{Jhr}
-use Rattle.jb_model.specs.Sound.{IsWithin}
+use Rattle.jb_state.specs.Sound.{IsWithin}
 use Rattle.jb_record.specs.declared.index.IndexRecord.{IndexRecord}
 use Rattle.jb_image.specs.declared.error.Damage.{Damage}
 use Rattle.jb_image.specs.declared.error.Damage.TheVariants as damaged

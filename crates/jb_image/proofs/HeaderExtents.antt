@@ -9,9 +9,9 @@ use Rattle.jb_disk.specs.Files.{Files}
 use Rattle.jb_image.specs.Extents.{AreDisjoint, Holds, IsFirstOverlap}
 use Rattle.jb_image.specs.declared.extent.Extent.{Extent}
 use Rattle.jb_image.specs.declared.overlapping.Overlap.{Overlap}
-use Rattle.jb_model.specs.Sound.{AreApart, Covers, IsSlotWithin}
-use Rattle.jb_model.specs.declared.loaded.LoadedSlot.{LoadedSlot}
-use Rattle.jb_model.specs.declared.loaded.LoadedSlot.TheVariants as loaded
+use Rattle.jb_state.specs.Sound.{AreApart, Covers, IsSlotWithin}
+use Rattle.jb_state.specs.declared.loaded.LoadedSlot.{LoadedSlot}
+use Rattle.jb_state.specs.declared.loaded.LoadedSlot.TheVariants as loaded
 use Rattle.jb_record.specs.declared.index.IndexRecord.{IndexRecord}
 use Rattle.jb_record.specs.declared.index.TheConstants.{EMPTY_SLOT}
 use Rattle.jb_record.specs.declared.message.MessageHeader.{MessageHeader}

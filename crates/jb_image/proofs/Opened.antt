@@ -1,9 +1,9 @@
 -- What a base that is opened passes.
 use Rattle.std.proofs.Common.{ℕ, sym, subst}
 use Rattle.jb_disk.specs.Files.{Files}
-use Rattle.jb_model.specs.declared.loaded.LoadedMessage.{LoadedMessage}
-use Rattle.jb_model.specs.declared.loaded.LoadedSlot.{LoadedSlot}
-use Rattle.jb_model.specs.declared.loaded.LoadedSlot.TheVariants.{Empty, Killed, Live}
+use Rattle.jb_state.specs.declared.loaded.LoadedMessage.{LoadedMessage}
+use Rattle.jb_state.specs.declared.loaded.LoadedSlot.{LoadedSlot}
+use Rattle.jb_state.specs.declared.loaded.LoadedSlot.TheVariants.{Empty, Killed, Live}
 use Rattle.jb_record.specs.declared.index.IndexRecord.{IndexRecord}
 use Rattle.jb_image.specs.Stands.{HasSlot, IsKilledAt, IsLiveIn}
 use Rattle.jb_image.specs.Tests.{SlotTest, header_placed, header_signed, header_revised, subfields_placed, subfields_whole, text_placed, PassesAsHeader, IsWholeSlot}

@@ -2,8 +2,8 @@
 use Rattle.std.proofs.Common.{◌≡◌, ℕ, length, refl, arith, length-append}
 use Rattle.jb_bytes.specs.Subfields.{subfield_bytes}
 use Rattle.jb_image.specs.Records.{message_bytes, numbered_header}
-use Rattle.jb_model.specs.Loaded.{header_size}
-use Rattle.jb_model.specs.declared.loaded.LoadedMessage.{LoadedMessage}
+use Rattle.jb_state.specs.Loaded.{header_size}
+use Rattle.jb_state.specs.declared.loaded.LoadedMessage.{LoadedMessage}
 use Rattle.jb_record.specs.Index.{index_record_bytes}
 use Rattle.jb_record.specs.Lastread.{lastread_record_bytes}
 use Rattle.jb_record.specs.Message.{IsMessageHeader, message_header_bytes}

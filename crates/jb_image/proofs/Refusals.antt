@@ -2,7 +2,6 @@
 use Rattle.std.proofs.Common.{◌≡◌, ℕ, ◌+◌, ◌<◌, Option, Some, None, Result, Ok, Err, ap, sym, ◌∙◌, subst}
 use Rattle.std.specs.Prelude.{IfErr, IfNone, IfSome, IsErrAnd}
 use Rattle.std.specs.Option.{ForSome}
-use Rattle.jb_bytes.specs.Fault.{Rose}
 use Rattle.jb_disk.specs.Files.{Files}
 use Rattle.jb_image.specs.declared.error.Damage.{Damage}
 use Rattle.jb_image.specs.declared.error.Damage.TheVariants as damaged
@@ -10,7 +9,7 @@ use Rattle.jb_image.specs.declared.error.OpenError.{OpenError}
 use Rattle.jb_image.specs.declared.error.OpenError.TheVariants as refused
 use Rattle.jb_image.specs.declared.error.ReadError.{ReadError}
 use Rattle.jb_image.specs.declared.error.ReadError.TheVariants as unread
-use Rattle.jb_image.specs.Answers.{IsDamaged, IsFirstDamaged, OpenFaultRose, ReadFaultRose, opening_of, refusal_of}
+use Rattle.jb_image.specs.Answers.{IsDamaged, IsFirstDamaged, opening_of, refusal_of}
 use Rattle.jb_image.specs.Places.{entry_in, fixed_in}
 use Rattle.jb_image.specs.Reading.{IsRefusedAmongSlots, IsRefusedBySlot}
 use Rattle.jb_image.specs.Tests.{IsWholeSlot, slots_in}
@@ -61,18 +60,7 @@ pub refused_among_slots : (files : Files) (error : OpenError) → IsRefusedBySlo
 refused_among_slots files (refused.HeadersOverlap a b) is = absurd is
 refused_among_slots files _ is = is
 
--- a part that is not read, as a base that is not opened, has the same cause
-opened_cause : (before mid now : ℕ) (part : ReadError) → mid ≡ before → ReadFaultRose mid now part → OpenFaultRose before now (opening_of part)
-opened_cause before mid now unread.StoreFault same rose = subst (λ (n : ℕ). Rose n now) same rose
-opened_cause before mid now unread.OutOfMemory same is = is ∙ same
-
--- the same of what is answered then
-pub opening_cause : {T : Type 0} (result : Result T OpenError) (before mid now : ℕ) (part : ReadError) → IsErrAnd result (λ (error : OpenError). error ≡ opening_of part)
-    → mid ≡ before → ReadFaultRose mid now part → IfErr result (OpenFaultRose before now)
-opening_cause (Ok value) before mid now part is same rose = tt
-opening_cause (Err error) before mid now part is same rose = subst (OpenFaultRose before now) (sym is) (opened_cause before mid now part same rose)
-
--- it is no refusal of a slot
+-- a part that is not read is no refusal of a slot
 opened_refused : (files : Files) (part : ReadError) → IsRefusedBySlot files (opening_of part)
 opened_refused files unread.StoreFault = tt
 opened_refused files unread.OutOfMemory = tt
@@ -82,15 +70,3 @@ pub opening_refused : {T : Type 0} (result : Result T OpenError) (contents : Opt
     → IfErr result (λ (error : OpenError). ForSome contents (λ files. IsRefusedBySlot files error))
 opening_refused (Ok value) contents part is = tt
 opening_refused (Err error) contents part is = λ files contents_is. subst (IsRefusedBySlot files) (sym is) (opened_refused files part)
-
--- a damaged slot is no fault
-refusal_cause : (before now number : ℕ) (damage : Damage) → now ≡ before → OpenFaultRose before now (refusal_of number damage)
-refusal_cause before now number damaged.HeaderPlace same = same
-refusal_cause before now number damaged.HeaderSignature same = same
-refusal_cause before now number damaged.HeaderRevision same = same
-refusal_cause before now number (damaged.Subfields at) same = same
-refusal_cause before now number damaged.TextPlace same = same
-
--- the same of a refusal that is the same
-pub damage_cause : (before now number : ℕ) (damage : Damage) (error : OpenError) → error ≡ refusal_of number damage → now ≡ before → OpenFaultRose before now error
-damage_cause before now number damage error error_is same = subst (OpenFaultRose before now) (sym error_is) (refusal_cause before now number damage same)

@@ -6,8 +6,8 @@ use Rattle.std.proofs.lemmas.List.{length_push}
 use Rattle.std.proofs.lemmas.List.Elements.{All-push, All-weaker}
 use Rattle.std.proofs.lemmas.List.Quantifiers.{all_pairs_push}
 use Rattle.jb_disk.specs.Device.{Device, OnlyReads}
-use Rattle.jb_model.specs.declared.loaded.LoadedSlot.{LoadedSlot}
-use Rattle.jb_model.specs.Sound.{AreApart, Covers, IsSlotWithin}
+use Rattle.jb_state.specs.declared.loaded.LoadedSlot.{LoadedSlot}
+use Rattle.jb_state.specs.Sound.{AreApart, Covers, IsSlotWithin}
 use Rattle.jb_image.specs.declared.seen.SeenSlot.{SeenSlot}
 use Rattle.jb_image.specs.Places.{entry_in}
 use Rattle.jb_image.specs.Reading.{AreSlotsOf, IsEndBehind, IsLoadedFrom, IsSeenWithin, extent_seen}

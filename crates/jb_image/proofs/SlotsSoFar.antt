@@ -7,8 +7,8 @@ use Rattle.std.proofs.lemmas.Bool.{cases_lt}
 use Rattle.std.proofs.lemmas.List.Elements.{All-push}
 use Rattle.jb_disk.specs.Device.{Device, OnlyReads}
 use Rattle.jb_disk.specs.Files.{Files}
-use Rattle.jb_model.specs.declared.loaded.LoadedSlot.{LoadedSlot}
-use Rattle.jb_model.specs.declared.mark.Mark.{Mark}
+use Rattle.jb_state.specs.declared.loaded.LoadedSlot.{LoadedSlot}
+use Rattle.jb_state.specs.declared.mark.Mark.{Mark}
 use Rattle.jb_image.specs.declared.seen.SeenSlot.{SeenSlot}
 use Rattle.jb_image.specs.Places.{entry_in, mark_in}
 use Rattle.jb_image.specs.Reading.{AreSlotsOf, IsLoadedFrom, IsSeenAs, IsSeenWithin}

@@ -1,9 +1,8 @@
 -- What the opening of a base answers, and why.
-use Rattle.std.specs.Prelude.{◌≡◌, ◌⊎◌, ℕ, ◌+◌, ◌<◌, ◌≤◌, length, Result, Ok, Err}
-use Rattle.jb_bytes.specs.Fault.{Rose}
+use Rattle.std.specs.Prelude.{◌≡◌, ◌⊎◌, ℕ, ◌+◌, ◌<◌, ◌≤◌, length, Result, Ok, Err, Bool, true, false}
 use Rattle.jb_bytes.specs.Subfields.{IsCutAt}
 use Rattle.jb_disk.specs.Files.{Files}
-use Rattle.jb_model.specs.declared.loaded.Loaded.{Loaded}
+use Rattle.jb_state.specs.declared.loaded.Loaded.{Loaded}
 use Rattle.jb_record.specs.declared.index.IndexRecord.{IndexRecord}
 use Rattle.jb_image.specs.declared.error.OpenError.{OpenError}
 use Rattle.jb_image.specs.declared.error.OpenError.TheVariants as refused
@@ -96,12 +95,12 @@ refusal_of number HeaderRevision = refused.HeaderRevision number
 refusal_of number (Subfields at) = refused.Subfields number at
 refusal_of number TextPlace = refused.TextPlace number
 
--- a fault has its cause: the disk's count rose; and want of memory hides none
-abbrev pub ReadFaultRose : ℕ → ℕ → ReadError → Type 0
-ReadFaultRose before now FaultInPart = Rose before now
-ReadFaultRose before now NoMemoryForPart = now ≡ before
+-- which refusals are faults of the disk
+abbrev pub is_read_fault : ReadError → Bool
+is_read_fault FaultInPart = true
+is_read_fault NoMemoryForPart = false
 
--- the same of a base that is not opened: no other refusal hides a fault
-abbrev pub OpenFaultRose : ℕ → ℕ → OpenError → Type 0
-OpenFaultRose before now refused.StoreFault = Rose before now
-OpenFaultRose before now _ = now ≡ before
+-- the same of a base that is not opened
+abbrev pub is_open_fault : OpenError → Bool
+is_open_fault refused.StoreFault = true
+is_open_fault _ = false

@@ -1,8 +1,8 @@
 -- What makes the answers of the opening the only ones.
 use Rattle.std.specs.Prelude.{◌≡◌, ℕ}
 use Rattle.jb_disk.specs.Files.{Files}
-use Rattle.jb_model.specs.State.{AreaState}
-use Rattle.jb_model.specs.declared.loaded.Loaded.{Loaded}
+use Rattle.jb_state.specs.State.{AreaState}
+use Rattle.jb_state.specs.declared.loaded.Loaded.{Loaded}
 use Rattle.jb_image.specs.declared.error.OpenError.{OpenError}
 use Rattle.jb_image.specs.declared.error.OpenError.TheVariants.{StoreFault, OutOfMemory}
 use Rattle.jb_image.specs.Answers.{IsRefusedBy, OpensTo}

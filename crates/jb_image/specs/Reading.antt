@@ -10,10 +10,10 @@ use Rattle.jb_disk.specs.declared.file.FileId.TheVariants.{Jhr}
 use Rattle.jb_image.specs.Extents.{Holds, IsFirstOverlap}
 use Rattle.jb_image.specs.declared.extent.Extent.{Extent}
 use Rattle.jb_image.specs.declared.overlapping.Overlap.{Overlap}
-use Rattle.jb_model.specs.declared.loaded.LoadedSlot.{LoadedSlot}
-use Rattle.jb_model.specs.declared.loaded.LoadedSlot.TheVariants as loaded
-use Rattle.jb_model.specs.declared.mark.Mark.{Mark}
-use Rattle.jb_model.specs.Sound.{IsTextWithin, IsWithin}
+use Rattle.jb_state.specs.declared.loaded.LoadedSlot.{LoadedSlot}
+use Rattle.jb_state.specs.declared.loaded.LoadedSlot.TheVariants as loaded
+use Rattle.jb_state.specs.declared.mark.Mark.{Mark}
+use Rattle.jb_state.specs.Sound.{IsTextWithin, IsWithin}
 use Rattle.jb_record.specs.declared.fixed.FixedHeader.{FixedHeader}
 use Rattle.jb_record.specs.declared.index.IndexRecord.{IndexRecord}
 use Rattle.jb_record.specs.declared.index.TheConstants.{EMPTY_SLOT}

@@ -2,12 +2,12 @@
 use Rattle.std.specs.Prelude.{◌≡◌, ℕ, List, ◌++◌, length}
 use Rattle.jb_bytes.specs.Subfields.{subfield_bytes}
 use Rattle.jb_image.specs.Stands.{fixed_of, mark_record}
-use Rattle.jb_model.specs.declared.loaded.Loaded.{Loaded}
-use Rattle.jb_model.specs.declared.loaded.LoadedMessage.{LoadedMessage}
-use Rattle.jb_model.specs.declared.loaded.LoadedSlot.{LoadedSlot}
-use Rattle.jb_model.specs.declared.loaded.LoadedSlot.TheVariants.{Empty, Killed, Live}
-use Rattle.jb_model.specs.declared.mark.Mark.{Mark}
-use Rattle.jb_model.specs.declared.message.Head.{Head}
+use Rattle.jb_state.specs.declared.loaded.Loaded.{Loaded}
+use Rattle.jb_state.specs.declared.loaded.LoadedMessage.{LoadedMessage}
+use Rattle.jb_state.specs.declared.loaded.LoadedSlot.{LoadedSlot}
+use Rattle.jb_state.specs.declared.loaded.LoadedSlot.TheVariants.{Empty, Killed, Live}
+use Rattle.jb_state.specs.declared.mark.Mark.{Mark}
+use Rattle.jb_state.specs.declared.message.Head.{Head}
 use Rattle.jb_record.specs.Fixed.{fixed_header_bytes, fixed_header_of}
 use Rattle.jb_record.specs.Index.{index_record_bytes, index_record_of}
 use Rattle.jb_record.specs.Lastread.{lastread_record_bytes, lastread_record_of}

@@ -6,7 +6,7 @@ use Rattle.jb_limits.specs.declared.limits.TheConstants.{LASTREAD_CEILING, MOST_
 use Rattle.jb_bytes.specs.declared.subfield.Subfield.{Subfield}
 use Rattle.jb_disk.specs.Files.{Files}
 use Rattle.jb_disk.specs.declared.file.FileId.TheVariants.{Jhr, Jdt, Jdx, Jlr}
-use Rattle.jb_model.specs.Sound.{IsWithin, IsTextWithin}
+use Rattle.jb_state.specs.Sound.{IsWithin, IsTextWithin}
 use Rattle.jb_base.specs.declared.attribute.TheConstants.{DELETED}
 use Rattle.jb_record.specs.Fields.{signature}
 use Rattle.jb_record.specs.declared.index.IndexRecord.{IndexRecord}

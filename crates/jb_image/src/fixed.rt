@@ -1,10 +1,10 @@
 //! The tests of the files as a whole: the fixed header and the lengths.
-ghost use Rattle.std.specs.Prelude.{◌≡◌, ◌+◌, ◌≤◌, IfOk, IfErr, length, take, OnOk};
+ghost use Rattle.std.specs.Prelude.{◌≡◌, ◌+◌, ◌≤◌, IfOk, IfErr};
 ghost use Rattle.std.specs.Option.{ForSome};
-ghost use Rattle.jb_disk.specs.Device.{OnlyReads};
+ghost use Rattle.jb_disk.specs.Device.{OnlyReads, CountsFaults};
 ghost use Rattle.jb_record.specs.Fixed.{IsFixedHeader};
 ghost use Rattle.jb_disk.specs.declared.file.FileId.TheVariants.{Jhr as headers_file};
-ghost use Rattle.jb_image.specs.Answers.{IsRefusedBy, OpenFaultRose};
+ghost use Rattle.jb_image.specs.Answers.{IsRefusedBy, is_open_fault};
 ghost use Rattle.jb_image.specs.Lengths.{AreLengths};
 ghost use Rattle.jb_image.specs.Places.{bytes_at, fixed_in};
 ghost use Rattle.jb_image.specs.Reading.{IsCount, IsMiscounted};
@@ -36,9 +36,7 @@ pub(crate) fn read_fixed<D: Disk>(
         IsRefusedBy limit files error)) }
     ensures window { IsWindowOn headers_file lengths.now.headers (D.device disk.new).contents window.new }
     ensures kept { OnlyReads (D.device disk.old) (D.device disk.new) }
-    ensures quiet { OnOk result ((D.device disk.new).faults ≡ (D.device disk.old).faults) }
-    ensures later { (D.device disk.old).faults ≤ (D.device disk.new).faults }
-    ensures cause { IfErr result (OpenFaultRose (D.device disk.old).faults (D.device disk.new).faults) }
+    ensures faults { CountsFaults is_open_fault (D.device disk.old) (D.device disk.new) result }
 {
     if lengths.headers < FIXED_HEADER_BYTES as u64 {
         return Err(OpenError::ShortHeader);

@@ -1,11 +1,11 @@
 //! The first look at a slot: its header, without the subfields.
 ghost use Rattle.std.specs.Prelude.{◌≡◌, ◌≢◌, ◌+◌, ◌≤◌, ◌↔◌, IsTrue, IfOk, IfErr, OnOk, length, take};
 ghost use Rattle.std.specs.Option.{ForSome};
-ghost use Rattle.jb_disk.specs.Device.{OnlyReads};
-ghost use Rattle.jb_model.specs.Sound.{IsWithin};
+ghost use Rattle.jb_disk.specs.Device.{OnlyReads, CountsFaults};
+ghost use Rattle.jb_state.specs.Sound.{IsWithin};
 ghost use Rattle.jb_record.specs.Fields.{signature};
 ghost use Rattle.jb_record.specs.declared.index.TheConstants.{EMPTY_SLOT as empty_slot};
-ghost use Rattle.jb_image.specs.Answers.{ReadFaultRose, IsDamaged};
+ghost use Rattle.jb_image.specs.Answers.{IsDamaged, is_read_fault};
 ghost use Rattle.jb_image.specs.Lengths.{AreLengths};
 ghost use Rattle.jb_image.specs.Places.{header_in};
 ghost use Rattle.jb_image.specs.Reading.{IsSeenAs, IsSeenWithin};
@@ -44,13 +44,12 @@ fn read_header<D: Disk>(
     ensures inside { IfOk result (λ read. OnOk read (IsWithin lengths.now.headers entry.now.offset 76)) }
     ensures found { IfOk result (λ read. IfOk read (λ header. ForSome (D.device disk.old).contents (λ files.
         HasHeader files entry.now.offset × (header ≡ header_in files entry.now.offset)))) }
-    ensures damaged { IfOk result (λ read. IfErr read (λ damage. ForSome (D.device disk.old).contents (λ files.
+    ensures damaged { IfOk result (λ read.
+        IfErr read (λ damage. ForSome (D.device disk.old).contents (λ files.
         IsDamaged files entry.now damage))) }
     ensures window { IsWindowOn headers_file lengths.now.headers (D.device disk.new).contents window.new }
     ensures kept { OnlyReads (D.device disk.old) (D.device disk.new) }
-    ensures quiet { OnOk result ((D.device disk.new).faults ≡ (D.device disk.old).faults) }
-    ensures later { (D.device disk.old).faults ≤ (D.device disk.new).faults }
-    ensures cause { IfErr result (ReadFaultRose (D.device disk.old).faults (D.device disk.new).faults) }
+    ensures faults { CountsFaults is_read_fault (D.device disk.old) (D.device disk.new) result }
 {
     if !is_within(lengths.headers, entry.offset, MESSAGE_HEADER_BYTES as u32) {
         return Ok(Err(Damage::HeaderPlace));
@@ -90,15 +89,14 @@ pub(crate) fn see_slot<D: Disk>(
     ensures within { IfOk result (λ read. IfOk read (IsSeenWithin lengths.now.headers)) }
     ensures found { IfOk result (λ read. IfOk read (λ slot. ForSome (D.device disk.old).contents (λ files.
         IsSeenAs files entry.now slot))) }
-    ensures damaged { IfOk result (λ read. IfErr read (λ damage. ForSome (D.device disk.old).contents (λ files.
+    ensures damaged { IfOk result (λ read.
+        IfErr read (λ damage. ForSome (D.device disk.old).contents (λ files.
         IsDamaged files entry.now damage))) }
 
     // The disk is only read.
     ensures window { IsWindowOn headers_file lengths.now.headers (D.device disk.new).contents window.new }
     ensures kept { OnlyReads (D.device disk.old) (D.device disk.new) }
-    ensures quiet { OnOk result ((D.device disk.new).faults ≡ (D.device disk.old).faults) }
-    ensures later { (D.device disk.old).faults ≤ (D.device disk.new).faults }
-    ensures cause { IfErr result (ReadFaultRose (D.device disk.old).faults (D.device disk.new).faults) }
+    ensures faults { CountsFaults is_read_fault (D.device disk.old) (D.device disk.new) result }
 {
     if entry.offset == EMPTY_SLOT {
         return Ok(Ok(SeenSlot::Empty));

@@ -1,9 +1,9 @@
 //! The index, and the first look at the slots that it names.
-ghost use Rattle.std.specs.Prelude.{◌≡◌, ◌+◌, ◌*◌, ◌<◌, ◌≤◌, IfOk, IfErr, IfSome, IfNone, All, length, vec_len, OnOk};
+ghost use Rattle.std.specs.Prelude.{◌≡◌, ◌+◌, ◌*◌, ◌<◌, ◌≤◌, IfOk, IfSome, IfNone, All, length};
 ghost use Rattle.std.specs.Option.{ForSome};
-ghost use Rattle.jb_disk.specs.Device.{OnlyReads};
+ghost use Rattle.jb_disk.specs.Device.{OnlyReads, CountsFaults};
 ghost use Rattle.jb_disk.specs.declared.file.FileId.TheVariants.{Jdx as index_file, Jhr as headers_file};
-ghost use Rattle.jb_image.specs.Answers.{ReadFaultRose, IsDamaged};
+ghost use Rattle.jb_image.specs.Answers.{IsDamaged, is_read_fault};
 ghost use Rattle.jb_image.specs.Lengths.{AreLengths};
 ghost use Rattle.jb_image.specs.Places.{entry_in};
 ghost use Rattle.jb_image.specs.Reading.{AreSeen, IsSeenWithin};
@@ -31,9 +31,7 @@ pub(crate) fn read_entry<D: Disk>(
         entry ≡ entry_in files k)) }
     ensures index { IsWindowOn index_file index_len (D.device disk.new).contents index.new }
     ensures kept { OnlyReads (D.device disk.old) (D.device disk.new) }
-    ensures quiet { OnOk result ((D.device disk.new).faults ≡ (D.device disk.old).faults) }
-    ensures later { (D.device disk.old).faults ≤ (D.device disk.new).faults }
-    ensures cause { IfErr result (ReadFaultRose (D.device disk.old).faults (D.device disk.new).faults) }
+    ensures faults { CountsFaults is_read_fault (D.device disk.old) (D.device disk.new) result }
 {
     let at = (INDEX_RECORD_BYTES * k) as u64;
     index.reach(disk, at, INDEX_RECORD_BYTES)?;
@@ -75,15 +73,14 @@ pub(crate) fn see_slots<D: Disk>(
         AreSeen files seen.slots.items)) }
     ensures whole { IfOk result (λ seen. IfNone seen.damage (length seen.slots.items ≡ count)) }
     ensures part { IfOk result (λ seen. IfSome seen.damage (λ _. length seen.slots.items < count)) }
-    ensures damaged { IfOk result (λ seen. IfSome seen.damage (λ damage. ForSome (D.device disk.old).contents (λ files.
+    ensures damaged { IfOk result (λ seen.
+        IfSome seen.damage (λ damage. ForSome (D.device disk.old).contents (λ files.
         IsDamaged files (entry_in files (length seen.slots.items)) damage))) }
 
     // The disk is only read.
     ensures window { IsWindowOn headers_file lengths.now.headers (D.device disk.new).contents window.new }
     ensures kept { OnlyReads (D.device disk.old) (D.device disk.new) }
-    ensures quiet { OnOk result ((D.device disk.new).faults ≡ (D.device disk.old).faults) }
-    ensures later { (D.device disk.old).faults ≤ (D.device disk.new).faults }
-    ensures cause { IfErr result (ReadFaultRose (D.device disk.old).faults (D.device disk.new).faults) }
+    ensures faults { CountsFaults is_read_fault (D.device disk.old) (D.device disk.new) result }
 {
     let mut slots = Vec::new(alloc);
     let mut index = Window::new(alloc, FileId::Jdx, lengths.index);

@@ -1,8 +1,8 @@
 //! The lengths of an area's files.
-ghost use Rattle.std.specs.Prelude.{◌≤◌, IfOk, IfErr, ◌≡◌, OnOk};
+ghost use Rattle.std.specs.Prelude.{IfOk};
 ghost use Rattle.std.specs.Option.{ForSome};
-ghost use Rattle.jb_disk.specs.Device.{OnlyReads};
-ghost use Rattle.jb_image.specs.Answers.{ReadFaultRose};
+ghost use Rattle.jb_disk.specs.Device.{OnlyReads, CountsFaults};
+ghost use Rattle.jb_image.specs.Answers.{is_read_fault};
 ghost use Rattle.jb_image.specs.Lengths.{AreLengths};
 
 use crate::error::ReadError;
@@ -22,9 +22,7 @@ impl Lengths {
     pub(crate) fn of<D: Disk>(disk: &mut D) -> Result<Lengths, ReadError>
         ensures found { IfOk result (λ lengths. ForSome (D.device disk.old).contents (AreLengths lengths)) }
         ensures kept { OnlyReads (D.device disk.old) (D.device disk.new) }
-        ensures quiet { OnOk result ((D.device disk.new).faults ≡ (D.device disk.old).faults) }
-        ensures later { (D.device disk.old).faults ≤ (D.device disk.new).faults }
-        ensures cause { IfErr result (ReadFaultRose (D.device disk.old).faults (D.device disk.new).faults) }
+        ensures faults { CountsFaults is_read_fault (D.device disk.old) (D.device disk.new) result }
     {
         Ok(Lengths {
             headers: disk.len(FileId::Jhr)?,

@@ -1,10 +1,10 @@
 //! The second look at the slots: their tests in order, and their loading.
 ghost use Rattle.std.specs.Prelude.{◌≡◌, ◌+◌, ◌<◌, ◌≤◌, ℕ, IfOk, IfErr, IfSome, IfNone, OnOk, All, length};
 ghost use Rattle.std.specs.Option.{ForSome};
-ghost use Rattle.jb_disk.specs.Device.{OnlyReads};
+ghost use Rattle.jb_disk.specs.Device.{OnlyReads, CountsFaults};
 ghost use Rattle.jb_disk.specs.declared.file.FileId.TheVariants.{Jhr as headers_file};
 ghost use Rattle.jb_record.specs.declared.index.IndexRecord.{IndexRecord};
-ghost use Rattle.jb_image.specs.Answers.{IsDamaged, OpenFaultRose, ReadFaultRose};
+ghost use Rattle.jb_image.specs.Answers.{IsDamaged, is_read_fault, is_open_fault};
 ghost use Rattle.jb_image.specs.Lengths.{AreLengths};
 ghost use Rattle.jb_image.specs.Places.{entry_in, fixed_in};
 ghost use Rattle.jb_image.specs.Reading.{AreLoadedFrom, AreSeen, AreSlotsOf, AreWholeAt, IsRefusedBySlot, IsSeenAs, IsSeenWithin};
@@ -18,7 +18,7 @@ use crate::message::load_slot;
 use crate::seen::SeenSlot;
 use crate::window::Window;
 use jb_disk::Disk;
-use jb_model::LoadedSlots;
+use jb_state::LoadedSlots;
 use std::alloc::Global;
 use std::collections::BTreeSet;
 
@@ -40,7 +40,8 @@ fn test_slot<D: Disk>(
     // Nothing, or the first test that it fails.
     ensures passed { IfOk result (λ some. IfNone some (ForSome (D.device disk.old).contents (λ files.
         (entry : IndexRecord) → IsSeenAs files entry slot.now → IsWholeSlot files entry))) }
-    ensures damaged { IfOk result (λ some. IfSome some (λ damage. ForSome (D.device disk.old).contents (λ files.
+    ensures damaged { IfOk result (λ some.
+        IfSome some (λ damage. ForSome (D.device disk.old).contents (λ files.
         (entry : IndexRecord) → IsSeenAs files entry slot.now → IsDamaged files entry damage))) }
     ensures whole { ForSome (D.device disk.old).contents (λ files.
         (entry : IndexRecord) → IsSeenAs files entry slot.now → AreWholeAt files whole.new) }
@@ -48,9 +49,7 @@ fn test_slot<D: Disk>(
     // The disk is only read.
     ensures window { IsWindowOn headers_file lengths.now.headers (D.device disk.new).contents window.new }
     ensures kept { OnlyReads (D.device disk.old) (D.device disk.new) }
-    ensures quiet { OnOk result ((D.device disk.new).faults ≡ (D.device disk.old).faults) }
-    ensures later { (D.device disk.old).faults ≤ (D.device disk.new).faults }
-    ensures cause { IfErr result (ReadFaultRose (D.device disk.old).faults (D.device disk.new).faults) }
+    ensures faults { CountsFaults is_read_fault (D.device disk.old) (D.device disk.new) result }
 {
     let place = slot.named();
     if whole.contains(&place) {
@@ -90,9 +89,7 @@ pub(crate) fn test_slots<D: Disk>(
 
     // The disk is only read.
     ensures kept { OnlyReads (D.device disk.old) (D.device disk.new) }
-    ensures quiet { OnOk result ((D.device disk.new).faults ≡ (D.device disk.old).faults) }
-    ensures later { (D.device disk.old).faults ≤ (D.device disk.new).faults }
-    ensures cause { IfErr result (OpenFaultRose (D.device disk.old).faults (D.device disk.new).faults) }
+    ensures faults { CountsFaults is_open_fault (D.device disk.old) (D.device disk.new) result }
 {
     let mut whole = BTreeSet::new(alloc);
     let mut number = base;
@@ -124,15 +121,14 @@ pub(crate) fn load_slots<D: Disk>(
 
     // All of them, or the first that is damaged.
     ensures found { IfOk result (AreLoadedFrom lengths.now.texts seen.now) }
-    ensures named { IfOk result (λ slots. ForSome (D.device disk.old).contents (λ files. AreSlotsOf files slots)) }
+    ensures named { IfOk result (λ slots.
+        ForSome (D.device disk.old).contents (λ files. AreSlotsOf files slots)) }
     ensures refused { IfErr result (λ error. ForSome (D.device disk.old).contents (λ files.
         IsRefusedBySlot files error)) }
 
     // The disk is only read.
     ensures kept { OnlyReads (D.device disk.old) (D.device disk.new) }
-    ensures quiet { OnOk result ((D.device disk.new).faults ≡ (D.device disk.old).faults) }
-    ensures later { (D.device disk.old).faults ≤ (D.device disk.new).faults }
-    ensures cause { IfErr result (OpenFaultRose (D.device disk.old).faults (D.device disk.new).faults) }
+    ensures faults { CountsFaults is_open_fault (D.device disk.old) (D.device disk.new) result }
 {
     let mut slots = LoadedSlots::new(alloc)?;
     let mut number = base;

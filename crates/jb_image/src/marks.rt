@@ -1,9 +1,9 @@
 //! The reading of the lastread records.
-ghost use Rattle.std.specs.Prelude.{◌≡◌, ◌+◌, ◌*◌, ◌%◌, ◌≤◌, IfOk, IfErr, length, vec_len, OnOk};
+ghost use Rattle.std.specs.Prelude.{◌≡◌, ◌+◌, ◌*◌, ◌%◌, ◌≤◌, IfOk, length};
 ghost use Rattle.std.specs.Option.{ForSome};
-ghost use Rattle.jb_disk.specs.Device.{OnlyReads};
+ghost use Rattle.jb_disk.specs.Device.{OnlyReads, CountsFaults};
 ghost use Rattle.jb_disk.specs.declared.file.FileId.TheVariants.{Jlr as lastread_file};
-ghost use Rattle.jb_image.specs.Answers.{ReadFaultRose};
+ghost use Rattle.jb_image.specs.Answers.{is_read_fault};
 ghost use Rattle.jb_image.specs.Places.{mark_in};
 ghost use Rattle.jb_image.specs.Reading.{AreMarksIn};
 ghost use Rattle.jb_image.specs.Stands.{mark_record};
@@ -12,8 +12,8 @@ ghost use Rattle.jb_image.specs.Windows.{IsWindowOn};
 use crate::error::ReadError;
 use crate::window::Window;
 use jb_disk::{Disk, FileId};
-use jb_model::{LoadedMarks, Mark};
 use jb_record::{MARK_RECORD_BYTES, decode_mark};
+use jb_state::{LoadedMarks, Mark};
 use std::alloc::Global;
 
 /// The mark at a place, counted in records, by a window on .JLR.
@@ -29,9 +29,7 @@ fn read_mark<D: Disk>(
         mark_record mark ≡ mark_in files k)) }
     ensures window { IsWindowOn lastread_file len (D.device disk.new).contents window.new }
     ensures kept { OnlyReads (D.device disk.old) (D.device disk.new) }
-    ensures quiet { OnOk result ((D.device disk.new).faults ≡ (D.device disk.old).faults) }
-    ensures later { (D.device disk.old).faults ≤ (D.device disk.new).faults }
-    ensures cause { IfErr result (ReadFaultRose (D.device disk.old).faults (D.device disk.new).faults) }
+    ensures faults { CountsFaults is_read_fault (D.device disk.old) (D.device disk.new) result }
 {
     let at = (MARK_RECORD_BYTES * k) as u64;
     window.reach(disk, at, MARK_RECORD_BYTES)?;
@@ -57,9 +55,7 @@ pub(crate) fn read_marks<D: Disk>(
     ensures found { IfOk result (λ marks. ForSome (D.device disk.old).contents (λ files.
         AreMarksIn (files lastread_file) marks)) }
     ensures kept { OnlyReads (D.device disk.old) (D.device disk.new) }
-    ensures quiet { OnOk result ((D.device disk.new).faults ≡ (D.device disk.old).faults) }
-    ensures later { (D.device disk.old).faults ≤ (D.device disk.new).faults }
-    ensures cause { IfErr result (ReadFaultRose (D.device disk.old).faults (D.device disk.new).faults) }
+    ensures faults { CountsFaults is_read_fault (D.device disk.old) (D.device disk.new) result }
 {
     let mut window = Window::new(alloc, FileId::Jlr, len);
     let mut marks = LoadedMarks::new(alloc)?;

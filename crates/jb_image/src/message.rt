@@ -1,12 +1,11 @@
 //! The second look at a slot: the subfields of a live message, and the place of its text.
-ghost use Rattle.std.specs.Prelude.{◌≡◌, ◌+◌, ◌≤◌, IfOk, IfErr, length, OnOk};
+ghost use Rattle.std.specs.Prelude.{◌≡◌, ◌+◌, ◌≤◌, IfOk, IfErr, length};
 ghost use Rattle.std.specs.Option.{ForSome};
 ghost use Rattle.jb_bytes.specs.Subfields.{IsSubfieldList, subfield_bytes};
-ghost use Rattle.jb_disk.specs.Device.{OnlyReads};
+ghost use Rattle.jb_disk.specs.Device.{OnlyReads, CountsFaults};
 ghost use Rattle.jb_disk.specs.declared.file.FileId.TheVariants.{Jhr as headers_file};
-ghost use Rattle.jb_model.specs.Sound.{IsTextWithin};
 ghost use Rattle.jb_record.specs.declared.index.IndexRecord.{IndexRecord};
-ghost use Rattle.jb_image.specs.Answers.{ReadFaultRose, IsDamaged};
+ghost use Rattle.jb_image.specs.Answers.{IsDamaged, is_read_fault};
 ghost use Rattle.jb_image.specs.Lengths.{AreLengths};
 ghost use Rattle.jb_image.specs.Places.{bytes_at};
 ghost use Rattle.jb_image.specs.Reading.{IsCutBy, IsLoadedFrom, IsSeenAs, IsSeenLive, IsSeenWithin};
@@ -20,8 +19,8 @@ use crate::seen::{SeenMessage, SeenSlot};
 use crate::window::Window;
 use jb_base::Subfields;
 use jb_disk::Disk;
-use jb_model::{Head, LoadedMessage, LoadedSlot};
 use jb_record::{MESSAGE_HEADER_BYTES, MessageHeader};
+use jb_state::{Head, LoadedMessage, LoadedSlot};
 use jb_subfield::SubfieldError;
 use std::alloc::Global;
 
@@ -45,9 +44,7 @@ fn read_subfields<D: Disk>(
         IsCutBy (bytes_at at len (files headers_file)) damage))) }
     ensures window { IsWindowOn headers_file headers_len (D.device disk.new).contents window.new }
     ensures kept { OnlyReads (D.device disk.old) (D.device disk.new) }
-    ensures quiet { OnOk result ((D.device disk.new).faults ≡ (D.device disk.old).faults) }
-    ensures later { (D.device disk.old).faults ≤ (D.device disk.new).faults }
-    ensures cause { IfErr result (ReadFaultRose (D.device disk.old).faults (D.device disk.new).faults) }
+    ensures faults { CountsFaults is_read_fault (D.device disk.old) (D.device disk.new) result }
 {
     window.reach(disk, at as u64, len as usize)?;
     let bytes = window.view(at as u64, len as usize);
@@ -97,13 +94,12 @@ fn load_message<D: Disk>(
     ensures live { IfOk result (λ read. IfOk read (λ message. ForSome (D.device disk.old).contents (λ files.
         (entry : IndexRecord) → IsSeenLive files entry seen.now
         → (entry.user_crc ≡ message.owner) × IsLiveIn files message))) }
-    ensures damaged { IfOk result (λ read. IfErr read (λ damage. ForSome (D.device disk.old).contents (λ files.
+    ensures damaged { IfOk result (λ read.
+        IfErr read (λ damage. ForSome (D.device disk.old).contents (λ files.
         (entry : IndexRecord) → IsSeenLive files entry seen.now → IsDamaged files entry damage))) }
     ensures window { IsWindowOn headers_file lengths.now.headers (D.device disk.new).contents window.new }
     ensures kept { OnlyReads (D.device disk.old) (D.device disk.new) }
-    ensures quiet { OnOk result ((D.device disk.new).faults ≡ (D.device disk.old).faults) }
-    ensures later { (D.device disk.old).faults ≤ (D.device disk.new).faults }
-    ensures cause { IfErr result (ReadFaultRose (D.device disk.old).faults (D.device disk.new).faults) }
+    ensures faults { CountsFaults is_read_fault (D.device disk.old) (D.device disk.new) result }
 {
     let header = &seen.header;
     let begin = seen.header_at + MESSAGE_HEADER_BYTES as u32;
@@ -149,15 +145,14 @@ pub(crate) fn load_slot<D: Disk>(
     ensures found { IfOk result (λ read. IfOk read (IsLoadedFrom lengths.now.texts seen.now)) }
     ensures named { IfOk result (λ read. IfOk read (λ slot. ForSome (D.device disk.old).contents (λ files.
         (entry : IndexRecord) → IsSeenAs files entry seen.now → HasSlot files entry slot))) }
-    ensures damaged { IfOk result (λ read. IfErr read (λ damage. ForSome (D.device disk.old).contents (λ files.
+    ensures damaged { IfOk result (λ read.
+        IfErr read (λ damage. ForSome (D.device disk.old).contents (λ files.
         (entry : IndexRecord) → IsSeenAs files entry seen.now → IsDamaged files entry damage))) }
 
     // The disk is only read.
     ensures window { IsWindowOn headers_file lengths.now.headers (D.device disk.new).contents window.new }
     ensures kept { OnlyReads (D.device disk.old) (D.device disk.new) }
-    ensures quiet { OnOk result ((D.device disk.new).faults ≡ (D.device disk.old).faults) }
-    ensures later { (D.device disk.old).faults ≤ (D.device disk.new).faults }
-    ensures cause { IfErr result (ReadFaultRose (D.device disk.old).faults (D.device disk.new).faults) }
+    ensures faults { CountsFaults is_read_fault (D.device disk.old) (D.device disk.new) result }
 {
     match seen {
         SeenSlot::Empty => Ok(Ok(LoadedSlot::Empty)),

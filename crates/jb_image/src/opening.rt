@@ -1,15 +1,15 @@
 //! The opening of a base.
-ghost use Rattle.std.specs.Prelude.{◌≡◌, ◌+◌, ◌*◌, ◌≤◌, ℕ, IfOk, IfErr, IfSome, IfNone, All, AllPairs, length, map, OnOk};
+ghost use Rattle.std.specs.Prelude.{◌≡◌, ◌+◌, ◌*◌, ◌≤◌, false, IfOk, IfErr, IfSome, IfNone, All, AllPairs, length, map};
 ghost use Rattle.std.specs.Option.{ForSome};
-ghost use Rattle.jb_disk.specs.Device.{OnlyReads};
+ghost use Rattle.jb_disk.specs.Device.{OnlyReads, CountsFaults};
 ghost use Rattle.jb_disk.specs.declared.file.FileId.TheVariants.{Jhr as headers_file};
 ghost use Rattle.jb_image.specs.Extents.{AreDisjoint};
-ghost use Rattle.jb_model.specs.Sound.{IsSound, IsSlotWithin, AreApart};
-ghost use Rattle.jb_image.specs.Answers.{AnswersFor, ReadFaultRose, IsRefusedBy, OpenFaultRose, OpensTo};
+ghost use Rattle.jb_state.specs.Sound.{IsSound, IsSlotWithin, AreApart};
+ghost use Rattle.jb_image.specs.Answers.{AnswersFor, IsRefusedBy, OpensTo, is_open_fault};
 ghost use Rattle.jb_image.specs.Laws.{HasOneStateAtMost, IsNotRefusedWhereOpen, IsRefusedOnceAtMost};
 ghost use Rattle.jb_image.specs.Lengths.{AreLengths};
-ghost use Rattle.jb_image.specs.Places.{entry_in, fixed_in};
-ghost use Rattle.jb_image.specs.Reading.{AreSeen, AreSlotsOf, IsLaterRefusal, IsRefusedAmongSlots, extent_seen};
+ghost use Rattle.jb_image.specs.Places.{fixed_in};
+ghost use Rattle.jb_image.specs.Reading.{AreSlotsOf, IsLaterRefusal, IsRefusedAmongSlots, extent_seen};
 ghost use Rattle.jb_image.specs.Stands.{fixed_of};
 ghost use Rattle.jb_image.specs.Windows.{IsWindowOn};
 
@@ -25,15 +25,16 @@ use crate::rising::load_rising;
 use crate::window::Window;
 use jb_base::OutOfMemory;
 use jb_disk::{Disk, FileId};
-use jb_model::{Loaded, LoadedMarks, LoadedSlots};
 use jb_record::FixedHeader;
+use jb_state::{Loaded, LoadedMarks, LoadedSlots};
 use std::alloc::Global;
 
 /// The refusal that comes where the slots that were seen are whole: the next one is damaged, or two headers overlap.
 fn later_refusal(alloc: Global, seen: &Seen, base: u32) -> Result<Option<OpenError>, OutOfMemory>
     requires numbers { base + length seen.now.slots.items ≤ 4_294_967_295 }
-    ensures found { IfOk result (λ some. IfSome some (IsLaterRefusal base seen.now.slots.items seen.now.damage)) }
-    ensures quiet { IfOk result (λ some. IfSome some (λ error. (before now : ℕ) → now ≡ before → OpenFaultRose before now error)) }
+    ensures found { IfOk result (λ some.
+        IfSome some (IsLaterRefusal base seen.now.slots.items seen.now.damage)) }
+    ensures quiet { IfOk result (λ some. IfSome some (λ error. is_open_fault error ≡ false)) }
     ensures none { IfOk result (λ some. IfNone some (IfNone seen.now.damage
         (AllPairs AreDisjoint (map extent_seen seen.now.slots.items)))) }
     ensures whole { IfOk result (λ some. IfNone some (IfSome seen.now.damage (λ _. ⊥))) }
@@ -75,15 +76,14 @@ fn read_mixed_slots<D: Disk>(
     ensures count_is { IfOk result (λ slots. length slots ≡ count) }
     ensures within { IfOk result (All (IsSlotWithin lengths.now.headers lengths.now.texts)) }
     ensures apart { IfOk result (AllPairs AreApart) }
-    ensures named { IfOk result (λ slots. ForSome (D.device disk.old).contents (λ files. AreSlotsOf files slots)) }
+    ensures named { IfOk result (λ slots.
+        ForSome (D.device disk.old).contents (λ files. AreSlotsOf files slots)) }
     ensures refused { IfErr result (λ error. ForSome (D.device disk.old).contents (λ files.
         IsRefusedAmongSlots files error)) }
 
     // The disk is only read.
     ensures kept { OnlyReads (D.device disk.old) (D.device disk.new) }
-    ensures quiet { OnOk result ((D.device disk.new).faults ≡ (D.device disk.old).faults) }
-    ensures later { (D.device disk.old).faults ≤ (D.device disk.new).faults }
-    ensures cause { IfErr result (OpenFaultRose (D.device disk.old).faults (D.device disk.new).faults) }
+    ensures faults { CountsFaults is_open_fault (D.device disk.old) (D.device disk.new) result }
 {
     window.reach_all(disk)?;
     let seen = see_slots(alloc, disk, window, lengths, count as usize)?;
@@ -117,15 +117,14 @@ fn read_slots<D: Disk>(
     ensures count_is { IfOk result (λ slots. length slots ≡ count) }
     ensures within { IfOk result (All (IsSlotWithin lengths.now.headers lengths.now.texts)) }
     ensures apart { IfOk result (AllPairs AreApart) }
-    ensures named { IfOk result (λ slots. ForSome (D.device disk.old).contents (λ files. AreSlotsOf files slots)) }
+    ensures named { IfOk result (λ slots.
+        ForSome (D.device disk.old).contents (λ files. AreSlotsOf files slots)) }
     ensures refused { IfErr result (λ error. ForSome (D.device disk.old).contents (λ files.
         IsRefusedAmongSlots files error)) }
 
     // The disk is only read.
     ensures kept { OnlyReads (D.device disk.old) (D.device disk.new) }
-    ensures quiet { OnOk result ((D.device disk.new).faults ≡ (D.device disk.old).faults) }
-    ensures later { (D.device disk.old).faults ≤ (D.device disk.new).faults }
-    ensures cause { IfErr result (OpenFaultRose (D.device disk.old).faults (D.device disk.new).faults) }
+    ensures faults { CountsFaults is_open_fault (D.device disk.old) (D.device disk.new) result }
 {
     match load_rising(alloc, disk, window, lengths, base, count)? {
         Some(slots) => Ok(slots),
@@ -169,15 +168,14 @@ fn read_area<D: Disk>(
 ) -> Result<Loaded, OpenError>
     requires lengths { ForSome (D.device disk.old).contents (AreLengths lengths.now) }
     ensures sound { IfOk result (IsSound limit) }
-    ensures opens { IfOk result (λ loaded. ForSome (D.device disk.old).contents (λ files. OpensTo limit files loaded)) }
+    ensures opens { IfOk result (λ loaded.
+        ForSome (D.device disk.old).contents (λ files. OpensTo limit files loaded)) }
     ensures refused { IfErr result (λ error. ForSome (D.device disk.old).contents (λ files.
         IsRefusedBy limit files error)) }
 
     // The disk is only read.
     ensures kept { OnlyReads (D.device disk.old) (D.device disk.new) }
-    ensures quiet { OnOk result ((D.device disk.new).faults ≡ (D.device disk.old).faults) }
-    ensures later { (D.device disk.old).faults ≤ (D.device disk.new).faults }
-    ensures cause { IfErr result (OpenFaultRose (D.device disk.old).faults (D.device disk.new).faults) }
+    ensures faults { CountsFaults is_open_fault (D.device disk.old) (D.device disk.new) result }
 {
     let mut window = Window::new(alloc, FileId::Jhr, lengths.headers);
     let fixed = read_fixed(disk, &mut window, lengths, limit)?;
@@ -192,9 +190,7 @@ fn read_base<D: Disk>(alloc: Global, disk: &mut D, slots: u32) -> Result<Loaded,
     ensures answer { ForSome (D.device disk.old).contents (λ files. AnswersFor slots files result) }
     ensures sound { IfOk result (IsSound slots) }
     ensures kept { OnlyReads (D.device disk.old) (D.device disk.new) }
-    ensures quiet { OnOk result ((D.device disk.new).faults ≡ (D.device disk.old).faults) }
-    ensures later { (D.device disk.old).faults ≤ (D.device disk.new).faults }
-    ensures cause { IfErr result (OpenFaultRose (D.device disk.old).faults (D.device disk.new).faults) }
+    ensures faults { CountsFaults is_open_fault (D.device disk.old) (D.device disk.new) result }
 {
     let lengths = Lengths::of(disk)?;
     read_area(alloc, disk, &lengths, slots)
@@ -211,7 +207,7 @@ pub fn decode<D: Disk>(alloc: Global, disk: &mut D, slots: u32) -> Result<Loaded
     // What the files say, where the disk tells them; a fault comes only where the count rose, and each other answer only where
     // it did not.
     ensures answer { ForSome (D.device disk.old).contents (λ files. AnswersFor slots files result) }
-    ensures cause { IfErr result (OpenFaultRose (D.device disk.old).faults (D.device disk.new).faults) }
+    ensures faults { CountsFaults is_open_fault (D.device disk.old) (D.device disk.new) result }
 
     // The files have no other answer.
     ensures alone { HasOneStateAtMost }
@@ -221,8 +217,6 @@ pub fn decode<D: Disk>(alloc: Global, disk: &mut D, slots: u32) -> Result<Loaded
     // On every disk.
     ensures sound { IfOk result (IsSound slots) }
     ensures kept { OnlyReads (D.device disk.old) (D.device disk.new) }
-    ensures quiet { OnOk result ((D.device disk.new).faults ≡ (D.device disk.old).faults) }
-    ensures later { (D.device disk.old).faults ≤ (D.device disk.new).faults }
 {
     read_base(alloc, disk, slots)
 }

@@ -1,5 +1,5 @@
 //! The headers that share a byte.
-ghost use Rattle.std.specs.Prelude.{◌≡◌, IfOk, IfSome, IfNone, AllPairs, length, map};
+ghost use Rattle.std.specs.Prelude.{◌≡◌, IfOk, IfSome, IfNone, AllPairs, map};
 ghost use Rattle.jb_image.specs.Extents.{AreDisjoint, IsFirstOverlap};
 ghost use Rattle.jb_image.specs.Reading.{extent_seen};
 

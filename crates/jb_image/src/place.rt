@@ -1,6 +1,6 @@
 //! Tests of places and lengths.
 ghost use Rattle.std.specs.Prelude.{◌↔◌, IsTrue};
-ghost use Rattle.jb_model.specs.Sound.{IsWithin, IsTextWithin};
+ghost use Rattle.jb_state.specs.Sound.{IsWithin, IsTextWithin};
 
 use jb_base::{HEADERS_CEILING, MOST_TEXT_BYTES, TEXTS_CEILING};
 use jb_record::FIXED_HEADER_BYTES;

@@ -5,15 +5,15 @@ ghost use Rattle.jb_bytes.specs.Subfields.{IsSubfield, subfield_bytes};
 ghost use Rattle.jb_limits.specs.declared.limits.TheConstants.{MOST_SUBFIELD_BYTES};
 ghost use Rattle.jb_image.specs.Records.{IsEntryReadAgain, IsHeaderReadAgain, IsMarkReadAgain, message_bytes, numbered_header, with_fields};
 ghost use Rattle.jb_image.specs.Stands.{fixed_of, mark_record};
-ghost use Rattle.jb_model.specs.Loaded.{header_size};
+ghost use Rattle.jb_state.specs.Loaded.{header_size};
 ghost use Rattle.jb_record.specs.Index.{index_record_bytes};
 ghost use Rattle.jb_record.specs.Lastread.{lastread_record_bytes};
 
 use jb_base::{Bytes, OutOfMemory};
-use jb_model::{Head, Loaded, LoadedMessage, Mark};
 use jb_record::{
     FixedHeader, IndexRecord, MarkRecord, MessageHeader, encode_index, encode_mark, encode_message,
 };
+use jb_state::{Head, Loaded, LoadedMessage, Mark};
 use std::alloc::Global;
 
 /// The fixed header of an area.
@@ -73,7 +73,8 @@ pub fn write_message(
     text_at: u32,
 ) -> Result<(), OutOfMemory>
     requires { length (subfield_bytes message.now.subfields) ≤ MOST_SUBFIELD_BYTES }
-    ensures exact { OnOk result (into.new.items ≡ message_bytes number (with_fields head.now text_at message.now)) }
+    ensures exact { OnOk result (into.new.items
+        ≡ message_bytes number (with_fields head.now text_at message.now)) }
     ensures size { OnOk result (length into.new.items ≡ header_size message.now) }
     ensures back { OnOk result (IsHeaderReadAgain number (with_fields head.now text_at message.now)) }
     ensures fit { OnOk result (All IsSubfield message.now.subfields) }
@@ -95,7 +96,8 @@ pub fn message_bytes(
     text_at: u32,
 ) -> Result<Bytes, OutOfMemory>
     requires { length (subfield_bytes message.now.subfields) ≤ MOST_SUBFIELD_BYTES }
-    ensures exact { IfOk result (λ bytes. bytes ≡ message_bytes number (with_fields head.now text_at message.now)) }
+    ensures exact { IfOk result (λ bytes.
+        bytes ≡ message_bytes number (with_fields head.now text_at message.now)) }
     ensures size { IfOk result (λ bytes. length bytes ≡ header_size message.now) }
     ensures back { OnOk result (IsHeaderReadAgain number (with_fields head.now text_at message.now)) }
     ensures fit { OnOk result (All IsSubfield message.now.subfields) }

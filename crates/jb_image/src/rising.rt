@@ -1,10 +1,10 @@
 //! The loading of a base whose headers stand in the order of its index.
-ghost use Rattle.std.specs.Prelude.{◌≡◌, ◌+◌, ◌*◌, ◌≤◌, IfOk, IfErr, IfSome, OnOk, All, AllPairs, length};
+ghost use Rattle.std.specs.Prelude.{◌≡◌, ◌+◌, ◌*◌, ◌≤◌, IfOk, IfErr, IfSome, All, AllPairs, length};
 ghost use Rattle.std.specs.Option.{ForSome};
-ghost use Rattle.jb_disk.specs.Device.{OnlyReads};
+ghost use Rattle.jb_disk.specs.Device.{OnlyReads, CountsFaults};
 ghost use Rattle.jb_disk.specs.declared.file.FileId.TheVariants.{Jhr as headers_file};
-ghost use Rattle.jb_model.specs.Sound.{AreApart, IsSlotWithin};
-ghost use Rattle.jb_image.specs.Answers.{OpenFaultRose};
+ghost use Rattle.jb_state.specs.Sound.{AreApart, IsSlotWithin};
+ghost use Rattle.jb_image.specs.Answers.{is_open_fault};
 ghost use Rattle.jb_image.specs.Lengths.{AreLengths};
 ghost use Rattle.jb_image.specs.Places.{fixed_in};
 ghost use Rattle.jb_image.specs.Reading.{AreSlotsOf, IsRefusedBySlot};
@@ -17,7 +17,7 @@ use crate::lengths::Lengths;
 use crate::message::load_slot;
 use crate::window::Window;
 use jb_disk::{Disk, FileId};
-use jb_model::LoadedSlots;
+use jb_state::LoadedSlots;
 use std::alloc::Global;
 
 /// The slots that the index names, with the subfields of the live messages, where each header stands behind those of the
@@ -38,7 +38,8 @@ pub(crate) fn load_rising<D: Disk>(
 
     // The slots, where they rise.
     ensures count_is { IfOk result (λ some. IfSome some (λ slots. length slots ≡ count)) }
-    ensures within { IfOk result (λ some. IfSome some (All (IsSlotWithin lengths.now.headers lengths.now.texts))) }
+    ensures within { IfOk result (λ some.
+        IfSome some (All (IsSlotWithin lengths.now.headers lengths.now.texts))) }
     ensures apart { IfOk result (λ some. IfSome some (AllPairs AreApart)) }
     ensures named { IfOk result (λ some. IfSome some (λ slots. ForSome (D.device disk.old).contents (λ files.
         AreSlotsOf files slots))) }
@@ -48,9 +49,7 @@ pub(crate) fn load_rising<D: Disk>(
     // The disk is only read.
     ensures window { IsWindowOn headers_file lengths.now.headers (D.device disk.new).contents window.new }
     ensures kept { OnlyReads (D.device disk.old) (D.device disk.new) }
-    ensures quiet { OnOk result ((D.device disk.new).faults ≡ (D.device disk.old).faults) }
-    ensures later { (D.device disk.old).faults ≤ (D.device disk.new).faults }
-    ensures cause { IfErr result (OpenFaultRose (D.device disk.old).faults (D.device disk.new).faults) }
+    ensures faults { CountsFaults is_open_fault (D.device disk.old) (D.device disk.new) result }
 {
     let mut slots = LoadedSlots::new(alloc)?;
     let mut index = Window::new(alloc, FileId::Jdx, lengths.index);

@@ -28,7 +28,8 @@ pub(crate) enum SeenSlot {
 impl SeenSlot {
     /// The place of .JHR that its index record names.
     pub(crate) fn named(&self) -> u32
-        ensures { (files : Files) (entry : IndexRecord) → IsSeenAs files entry self.now → entry.offset ≡ result }
+        ensures { (files : Files) (entry : IndexRecord) → IsSeenAs files entry self.now
+            → entry.offset ≡ result }
     {
         match self {
             SeenSlot::Empty => EMPTY_SLOT,

@@ -1,11 +1,10 @@
 //! A window on a file: its bytes, read in large pieces and looked into.
-ghost use Rattle.std.specs.Prelude.{◌≡◌, ◌+◌, ◌≤◌, ◌↔◌, IsTrue, IfErr, OnOk, OnErr, length, [], take, drop, vec_len};
+ghost use Rattle.std.specs.Prelude.{◌≡◌, ◌+◌, ◌≤◌, ◌↔◌, IsTrue, OnOk, length, [], vec_len};
 ghost use Rattle.std.specs.Option.{ForSome};
-ghost use Rattle.jb_bytes.specs.Fault.{Rose};
-ghost use Rattle.jb_disk.specs.Device.{OnlyReads};
-ghost use Rattle.jb_image.specs.Answers.{ReadFaultRose};
+ghost use Rattle.jb_disk.specs.Device.{OnlyReads, CountsFaults, is_disk_fault};
+ghost use Rattle.jb_image.specs.Answers.{is_read_fault};
 ghost use Rattle.jb_image.specs.Places.{bytes_at};
-ghost use Rattle.jb_image.specs.Windows.{Covers, IsWindowOn, ShowsIn, seen_at};
+ghost use Rattle.jb_image.specs.Windows.{Covers, IsWindowOn, seen_at};
 
 use crate::error::ReadError;
 use jb_disk::{Disk, DiskFailed, FileId};
@@ -91,9 +90,7 @@ impl Window {
         ensures at_is { OnOk result (self.new.at ≡ range.at) }
         ensures len_is { OnOk result (vec_len self.new.bytes ≡ range.len) }
         ensures kept { OnlyReads (D.device disk.old) (D.device disk.new) }
-        ensures quiet { OnOk result ((D.device disk.new).faults ≡ (D.device disk.old).faults) }
-        ensures later { (D.device disk.old).faults ≤ (D.device disk.new).faults }
-        ensures cause { IfErr result (ReadFaultRose (D.device disk.old).faults (D.device disk.new).faults) }
+        ensures faults { CountsFaults is_read_fault (D.device disk.old) (D.device disk.new) result }
     {
         self.bytes.resize(range.len, 0)?;
         match read_into(disk, self.file, range.at, &mut self.bytes) {
@@ -128,9 +125,7 @@ impl Window {
 
         // The disk is only read.
         ensures kept { OnlyReads (D.device disk.old) (D.device disk.new) }
-        ensures quiet { OnOk result ((D.device disk.new).faults ≡ (D.device disk.old).faults) }
-        ensures later { (D.device disk.old).faults ≤ (D.device disk.new).faults }
-        ensures cause { IfErr result (ReadFaultRose (D.device disk.old).faults (D.device disk.new).faults) }
+        ensures faults { CountsFaults is_read_fault (D.device disk.old) (D.device disk.new) result }
     {
         if !self.holds(at, len) {
             let range = self.next(at, len);
@@ -147,9 +142,7 @@ impl Window {
 
         // The disk is only read.
         ensures kept { OnlyReads (D.device disk.old) (D.device disk.new) }
-        ensures quiet { OnOk result ((D.device disk.new).faults ≡ (D.device disk.old).faults) }
-        ensures later { (D.device disk.old).faults ≤ (D.device disk.new).faults }
-        ensures cause { IfErr result (ReadFaultRose (D.device disk.old).faults (D.device disk.new).faults) }
+        ensures faults { CountsFaults is_read_fault (D.device disk.old) (D.device disk.new) result }
     {
         let file_len = self.file_len;
         self.reach(disk, 0, file_len as usize)
@@ -178,9 +171,7 @@ fn read_into<D: Disk>(
     ensures found { OnOk result (ForSome (D.device disk.old).contents (λ files.
         bytes.new.items ≡ bytes_at at (vec_len bytes.old) (files file))) }
     ensures kept { OnlyReads (D.device disk.old) (D.device disk.new) }
-    ensures quiet { OnOk result ((D.device disk.new).faults ≡ (D.device disk.old).faults) }
-    ensures later { (D.device disk.old).faults ≤ (D.device disk.new).faults }
-    ensures cause { OnErr result (Rose (D.device disk.old).faults (D.device disk.new).faults) }
+    ensures faults { CountsFaults is_disk_fault (D.device disk.old) (D.device disk.new) result }
 {
     disk.read_at(file, at, bytes.as_mut_slice())
 }

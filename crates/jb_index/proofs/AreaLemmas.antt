@@ -13,19 +13,19 @@ use Rattle.jb_base.specs.declared.area.AreaRules.{AreaRules}
 use Rattle.jb_base.specs.declared.area.Rule.TheVariants.{A1, A3}
 use Rattle.jb_base.specs.declared.attribute.TheConstants.{NODISP, PRIVATE}
 use Rattle.jb_base.specs.declared.user.User.{User}
-use Rattle.jb_model.specs.Links.{Linkable, linkable, linkables_of, parent_at, parent_or_0, root_within, thread_root}
-use Rattle.jb_model.specs.Live.{Numbered, live_in}
-use Rattle.jb_model.specs.Message.{envelope_of}
-use Rattle.jb_model.specs.Short.{short_of}
-use Rattle.jb_model.specs.State.{AreaState}
-use Rattle.jb_model.specs.Visible.{is_shown, last_read_by, shown_to, unlinked, unread_by, visible_at, visible_to}
-use Rattle.jb_model.specs.declared.look.Answer.TheVariants.{Summaries as Listed, Figures as Counted}
-use Rattle.jb_model.specs.declared.look.Question.TheVariants.{List as Listing, Unread, Thread, To, Figures as Counting}
-use Rattle.jb_model.specs.declared.summary.Figures.{Figures}
-use Rattle.jb_model.specs.declared.summary.Summary.{Summary}
-use Rattle.jb_model.proofs.RelinkLaws.{map-map}
-use Rattle.jb_model.proofs.ThreadLaws.{find_passes, parent_at_is_lower}
-use Rattle.jb_model.proofs.VisibleLaws.{visible_at-shown}
+use Rattle.jb_state.specs.Links.{Linkable, linkable, linkables_of, parent_at, parent_or_0, root_within, thread_root}
+use Rattle.jb_state.specs.Live.{Numbered, live_in}
+use Rattle.jb_state.specs.Message.{envelope_of}
+use Rattle.jb_state.specs.Short.{short_of}
+use Rattle.jb_state.specs.State.{AreaState}
+use Rattle.jb_state.specs.Visible.{is_shown, last_read_by, shown_to, unlinked, unread_by, visible_at, visible_to}
+use Rattle.jb_state.specs.declared.look.Answer.TheVariants.{Summaries as Listed, Figures as Counted}
+use Rattle.jb_state.specs.declared.look.Question.TheVariants.{List as Listing, Unread, Thread, To, Figures as Counting}
+use Rattle.jb_state.specs.declared.summary.Figures.{Figures}
+use Rattle.jb_state.specs.declared.summary.Summary.{Summary}
+use Rattle.jb_state.proofs.RelinkLaws.{map-map}
+use Rattle.jb_state.proofs.ThreadLaws.{find_passes, parent_at_is_lower}
+use Rattle.jb_state.proofs.VisibleLaws.{visible_at-shown}
 use Rattle.jb_index.specs.Answer.{envelope_in, figures_to, first_from, is_listed, listed_to, name_in, received_by, thread_to, unread_to}
 use Rattle.jb_index.specs.Area.{figures_of, from_on, thread_shown, to_user}
 use Rattle.jb_index.specs.Index.{index_of, summary_of}

@@ -6,24 +6,24 @@ use Rattle.std.proofs.lemmas.List.{length-map, length-set, map-set}
 use Rattle.std.proofs.lemmas.Option.{get_or_from_slice_get, slice_get-map}
 use Rattle.jb_base.specs.declared.area.AreaRules.{AreaRules}
 use Rattle.jb_limits.specs.declared.limits.TheConstants.{MOST_MARKS}
-use Rattle.jb_model.specs.Change.{Fits, IsReadingOf, after, with_slot_changed}
-use Rattle.jb_model.specs.Links.{Linkable, linkable, linkables_of, parent_at}
-use Rattle.jb_model.specs.Live.{live_from}
-use Rattle.jb_model.specs.Loaded.{IsMessageAt, slot_with_head}
-use Rattle.jb_model.specs.Marks.{is_mark, mark_of}
-use Rattle.jb_model.specs.Message.{msgid_of, replyid_of}
-use Rattle.jb_model.specs.Places.{IsPlaceOf}
-use Rattle.jb_model.specs.Sound.{IsSound}
-use Rattle.jb_model.specs.State.{LiveMessage, SlotState, live_message, slot_state, state_of, text_of}
-use Rattle.jb_model.specs.declared.change.Change.{Change}
-use Rattle.jb_model.specs.declared.change.Change.TheVariants.{Headed, Marked, Nothing}
-use Rattle.jb_model.specs.declared.change.HeadAt.{HeadAt}
-use Rattle.jb_model.specs.declared.loaded.Loaded.{Loaded}
-use Rattle.jb_model.specs.declared.loaded.LoadedMessage.{LoadedMessage}
-use Rattle.jb_model.specs.declared.loaded.LoadedSlot.{LoadedSlot}
-use Rattle.jb_model.specs.declared.loaded.LoadedSlot.TheVariants.{Empty, Live}
-use Rattle.jb_model.specs.declared.mark.Mark.{Mark}
-use Rattle.jb_model.specs.declared.message.Head.{Head}
+use Rattle.jb_state.specs.Change.{Fits, IsReadingOf, after, with_slot_changed}
+use Rattle.jb_state.specs.Links.{Linkable, linkable, linkables_of, parent_at}
+use Rattle.jb_state.specs.Live.{live_from}
+use Rattle.jb_state.specs.Loaded.{IsMessageAt, slot_with_head}
+use Rattle.jb_state.specs.Marks.{is_mark, mark_of}
+use Rattle.jb_state.specs.Message.{msgid_of, replyid_of}
+use Rattle.jb_state.specs.Places.{IsPlaceOf}
+use Rattle.jb_state.specs.Sound.{IsSound}
+use Rattle.jb_state.specs.State.{LiveMessage, SlotState, live_message, slot_state, state_of, text_of}
+use Rattle.jb_state.specs.declared.change.Change.{Change}
+use Rattle.jb_state.specs.declared.change.Change.TheVariants.{Headed, Marked, Nothing}
+use Rattle.jb_state.specs.declared.change.HeadAt.{HeadAt}
+use Rattle.jb_state.specs.declared.loaded.Loaded.{Loaded}
+use Rattle.jb_state.specs.declared.loaded.LoadedMessage.{LoadedMessage}
+use Rattle.jb_state.specs.declared.loaded.LoadedSlot.{LoadedSlot}
+use Rattle.jb_state.specs.declared.loaded.LoadedSlot.TheVariants.{Empty, Live}
+use Rattle.jb_state.specs.declared.mark.Mark.{Mark}
+use Rattle.jb_state.specs.declared.message.Head.{Head}
 use Rattle.jb_link.proofs.SpliceLemmas.{linkables_set}
 use Rattle.jb_index.specs.Change.{Follows}
 use Rattle.jb_index.specs.Edit.{absorbed, fits_mark, with_attribute}

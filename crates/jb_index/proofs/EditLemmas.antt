@@ -4,7 +4,7 @@ use Rattle.std.specs.Prelude.{All, insert, is_some, remove}
 use Rattle.std.proofs.lemmas.Bool.{cases_lt, cond_both, eqb-false, ltb-true}
 use Rattle.std.proofs.lemmas.List.{get_or-map, length-map, set_split}
 use Rattle.std.proofs.lemmas.List.Elements.{All-append, All-cons, All-filter, All-head, All-tail, All-weaker, filter_passes}
-use Rattle.jb_model.specs.declared.summary.Summary.{Summary}
+use Rattle.jb_state.specs.declared.summary.Summary.{Summary}
 use Rattle.jb_index.specs.Cut.{IsCutAt, NumbersRise}
 use Rattle.jb_index.specs.Edit.{above, below, changed_at, fits, with_summary, without}
 use Rattle.jb_index.proofs.ListLemmas.{filter_all, filter_cut}

@@ -5,17 +5,17 @@ use Rattle.std.proofs.lemmas.Bool.{eqb-false}
 use Rattle.std.proofs.lemmas.List.{length-set}
 use Rattle.std.proofs.lemmas.List.Elements.{All-cons, All-filter, All-nil, filter_agree}
 use Rattle.jb_base.specs.declared.area.AreaRules.{AreaRules}
-use Rattle.jb_model.specs.Change.{HasMessageAt, after, killed_slot}
-use Rattle.jb_model.specs.LiveSlots.{linkables}
-use Rattle.jb_model.specs.Links.{Linkable, is_answered_by, is_kept_by, is_reply_to, linkable, linkables_of, number_or_0, parent_at, parent_for, parent_of, parent_or_0}
-use Rattle.jb_model.specs.Live.{Numbered, live_from, live_in}
-use Rattle.jb_model.specs.State.{AreaState, LiveMessage, SlotState, killed_message, live_message, next_number, no_message, state_of}
-use Rattle.jb_model.specs.declared.change.Change.TheVariants.{Killed}
-use Rattle.jb_model.specs.declared.loaded.Loaded.{Loaded}
-use Rattle.jb_model.specs.declared.mark.Mark.{Mark}
-use Rattle.jb_model.specs.declared.summary.Summary.{Summary}
-use Rattle.jb_model.proofs.RelinkLaws.{map-map}
-use Rattle.jb_model.proofs.ThreadLaws.{parent_is_lower}
+use Rattle.jb_state.specs.Change.{HasMessageAt, after, killed_slot}
+use Rattle.jb_state.specs.LiveSlots.{linkables}
+use Rattle.jb_state.specs.Links.{Linkable, is_answered_by, is_kept_by, is_reply_to, linkable, linkables_of, number_or_0, parent_at, parent_for, parent_of, parent_or_0}
+use Rattle.jb_state.specs.Live.{Numbered, live_from, live_in}
+use Rattle.jb_state.specs.State.{AreaState, LiveMessage, SlotState, killed_message, live_message, next_number, no_message, state_of}
+use Rattle.jb_state.specs.declared.change.Change.TheVariants.{Killed}
+use Rattle.jb_state.specs.declared.loaded.Loaded.{Loaded}
+use Rattle.jb_state.specs.declared.mark.Mark.{Mark}
+use Rattle.jb_state.specs.declared.summary.Summary.{Summary}
+use Rattle.jb_state.proofs.RelinkLaws.{map-map}
+use Rattle.jb_state.proofs.ThreadLaws.{parent_is_lower}
 use Rattle.jb_link.specs.Orphans.{orphan_of, orphans_of, without_one}
 use Rattle.jb_link.specs.declared.orphans.Orphan.{Orphan}
 use Rattle.jb_index.specs.Change.{Follows, edits_of_kill}

@@ -11,20 +11,20 @@ use Rattle.std.proofs.lemmas.Option.{get_or_from_slice_get, slice_get-get_or, sl
 use Rattle.jb_bytes.specs.Number.{number_bytes}
 use Rattle.jb_bytes.specs.Subfields.{first_of, one_subfield, subfield_bytes}
 use Rattle.jb_bytes.specs.declared.subfield.Subfield.{Subfield}
-use Rattle.jb_model.specs.Links.{Linkable, linkables_of, parent_at, parent_of}
-use Rattle.jb_model.specs.Live.{live_from, live_in}
-use Rattle.jb_model.specs.State.{slot_state, state_of}
-use Rattle.jb_model.specs.declared.loaded.Loaded.{Loaded}
-use Rattle.jb_model.specs.declared.mark.Mark.{Mark}
+use Rattle.jb_state.specs.Links.{Linkable, linkables_of, parent_at, parent_of}
+use Rattle.jb_state.specs.Live.{live_from, live_in}
+use Rattle.jb_state.specs.State.{slot_state, state_of}
+use Rattle.jb_state.specs.declared.loaded.Loaded.{Loaded}
+use Rattle.jb_state.specs.declared.mark.Mark.{Mark}
 use Rattle.jb_base.specs.declared.area.AreaRules.{AreaRules}
 use Rattle.jb_index.specs.Cut.{NumbersRise}
-use Rattle.jb_model.specs.declared.loaded.LoadedMessage.{LoadedMessage}
-use Rattle.jb_model.specs.declared.loaded.LoadedSlot.{LoadedSlot}
-use Rattle.jb_model.specs.declared.loaded.LoadedSlot.TheVariants.{Empty, Killed, Live}
-use Rattle.jb_model.specs.declared.short.Short.{Short}
-use Rattle.jb_model.specs.declared.summary.Summary.{Summary}
+use Rattle.jb_state.specs.declared.loaded.LoadedMessage.{LoadedMessage}
+use Rattle.jb_state.specs.declared.loaded.LoadedSlot.{LoadedSlot}
+use Rattle.jb_state.specs.declared.loaded.LoadedSlot.TheVariants.{Empty, Killed, Live}
+use Rattle.jb_state.specs.declared.short.Short.{Short}
+use Rattle.jb_state.specs.declared.summary.Summary.{Summary}
 use Rattle.jb_index.specs.Index.{AreaIndex, summary_of, summary_with}
-use Rattle.jb_model.specs.LiveSlots.{linkables_from, loaded_linkable}
+use Rattle.jb_state.specs.LiveSlots.{linkables_from, loaded_linkable}
 use Rattle.jb_link.proofs.LiveLemmas.{linkables_with_texts}
 use Rattle.jb_link.proofs.ParentLemmas.{parent_of_message}
 

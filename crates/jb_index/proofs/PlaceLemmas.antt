@@ -4,7 +4,7 @@ use Rattle.std.specs.Prelude.{All, is_some}
 use Rattle.std.proofs.lemmas.Bool.{cases_order, cond_both}
 use Rattle.std.proofs.lemmas.Option.{get_or_from_slice_get}
 use Rattle.std.proofs.lemmas.List.{get_or_default}
-use Rattle.jb_model.specs.declared.summary.Summary.{Summary}
+use Rattle.jb_state.specs.declared.summary.Summary.{Summary}
 use Rattle.jb_index.specs.Cut.{IsCutAt, IsPlaceOf, NumbersRise}
 
 -- where another number stands at the place of this one, none has it

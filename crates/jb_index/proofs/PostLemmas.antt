@@ -1,27 +1,26 @@
 -- What a post makes of the index of an area.
-use Rattle.std.proofs.Common.{◌≡◌, inl, inr, ℕ, suc, ◌+◌, ◌<◌, ◌≤◌, true, false, ◌==◌, cond, List, [], ◌∷◌, ◌++◌, Option, Some, None, find, map, length, slice_get, refl, sym, ◌∙◌, ap, subst, arith, eq-eqb, ne_eqb, eqb-true}
+use Rattle.std.proofs.Common.{◌≡◌, ℕ, suc, ◌+◌, ◌<◌, ◌≤◌, true, false, ◌==◌, cond, List, [], ◌∷◌, ◌++◌, Option, Some, None, find, map, length, slice_get, refl, sym, ◌∙◌, ap, subst, arith, eq-eqb, ne_eqb, eqb-true}
 use Rattle.std.specs.Prelude.{All, IfSome, max, min}
 use Rattle.std.specs.Option.{option_or}
 use Rattle.std.proofs.lemmas.List.{length-append, length-map, length-set, map-append}
 use Rattle.std.proofs.lemmas.List.Folds.{find-append}
 use Rattle.jb_base.specs.declared.area.AreaRules.{AreaRules}
 use Rattle.jb_limits.specs.declared.limits.TheConstants.{LAST_POSTED_NUMBER}
-use Rattle.jb_model.specs.Change.{FitsBehind, IsNeighbourOf, after, headed_where}
-use Rattle.jb_model.specs.Links.{Linkable, linkable, linkables_of, parent_at, parent_for, parent_or_0}
-use Rattle.jb_model.specs.Live.{Numbered, live_from, live_in}
-use Rattle.jb_model.specs.Loaded.{slot_with_head}
-use Rattle.jb_model.specs.Message.{msgid_of, replyid_of}
-use Rattle.jb_model.specs.State.{AreaState, LiveMessage, SlotState, live_message, next_number, slot_state, state_of}
-use Rattle.jb_model.specs.declared.change.Change.TheVariants.{Posted}
-use Rattle.jb_model.specs.declared.change.HeadAt.{HeadAt}
-use Rattle.jb_model.specs.declared.loaded.Loaded.{Loaded}
-use Rattle.jb_model.specs.declared.loaded.LoadedMessage.{LoadedMessage}
-use Rattle.jb_model.specs.declared.loaded.LoadedSlot.TheVariants.{Live}
-use Rattle.jb_model.specs.declared.message.Head.{Head}
-use Rattle.jb_model.specs.declared.summary.Summary.{Summary}
-use Rattle.jb_model.proofs.ThreadLaws.{find_passes}
+use Rattle.jb_state.specs.Change.{FitsBehind, IsNeighbourOf, after, headed_where}
+use Rattle.jb_state.specs.Links.{Linkable, linkable, linkables_of, parent_at, parent_for, parent_or_0}
+use Rattle.jb_state.specs.Live.{Numbered, live_from, live_in}
+use Rattle.jb_state.specs.Loaded.{slot_with_head}
+use Rattle.jb_state.specs.Message.{msgid_of, replyid_of}
+use Rattle.jb_state.specs.State.{AreaState, LiveMessage, SlotState, live_message, next_number, slot_state, state_of}
+use Rattle.jb_state.specs.declared.change.Change.TheVariants.{Posted}
+use Rattle.jb_state.specs.declared.change.HeadAt.{HeadAt}
+use Rattle.jb_state.specs.declared.loaded.Loaded.{Loaded}
+use Rattle.jb_state.specs.declared.loaded.LoadedMessage.{LoadedMessage}
+use Rattle.jb_state.specs.declared.loaded.LoadedSlot.TheVariants.{Live}
+use Rattle.jb_state.specs.declared.message.Head.{Head}
+use Rattle.jb_state.specs.declared.summary.Summary.{Summary}
+use Rattle.jb_state.proofs.ThreadLaws.{find_passes}
 use Rattle.jb_link.proofs.PostLemmas.{parent_kept}
-use Rattle.jb_link.proofs.ReplyLemmas.{found_kept, kept_if_live}
 use Rattle.jb_index.specs.Change.{Follows}
 use Rattle.jb_index.specs.Edit.{absorbed, with_summary}
 use Rattle.jb_index.specs.Index.{AreaIndex, index_of, summary_of, summary_with}
@@ -30,6 +29,7 @@ use Rattle.jb_index.proofs.ChangeLemmas.{changed_slots, follows, index_on, state
 use Rattle.jb_index.proofs.EditLemmas.{all_below, fits_room}
 use Rattle.jb_index.proofs.MakingLemmas.{same_index}
 use Rattle.jb_index.proofs.SlotLemmas.{all_made, live_all, live_few, live_from-append, map_agree, mapped_set, numbered}
+use Rattle.jb_link.proofs.PostingLemmas.{parent_again}
 
 -- a posted message with the next number
 abbrev pub new_one : AreaState → LiveMessage → Numbered
@@ -93,19 +93,6 @@ none_new state = nothing (linkables_of state)
     nothing (one ∷ live) none =
         let here : (one.number == next_number state) ≡ false = none 0 one (omega arith) in
         rw here (nothing live (λ k d within. none (suc k) d (omega arith)))
-
--- a parent is found again, where it is kept
-parent_again : (live : List Linkable) (n : ℕ) (reply : Option (List ℕ)) (kept parent : ℕ) → parent ≡ parent_for live n reply kept → parent_for live n reply parent ≡ parent
-parent_again live n (Some id) kept parent e = sym e
-parent_again live n None kept parent e =
-    elim (found_kept n kept live) [
-      | inl none ↦
-          (let zero_parent : parent ≡ 0 = e ∙ none in
-          elim (found_kept n parent live) [ inl zero_again ↦ zero_again ∙ sym zero_parent | inr again ↦ again ])
-      | inr same ↦
-          (let is : parent ≡ kept = e ∙ same in
-          ap (kept_if_live live n) is ∙ sym e)
-    ]
 
 -- the new message has its parent
 parent_of_new : (state : AreaState) (message : LiveMessage) (kept : ℕ) → message.head.reply_to ≡ parent_for (linkables_of state) (next_number state) (replyid_of message.subfields) kept

@@ -1,27 +1,26 @@
 -- A relink and a pack keep the summaries of an area.
-use Rattle.std.proofs.Common.{◌≡◌, ℕ, zero, suc, ◌+◌, ◌-◌, ◌≤◌, ◌==◌, false, cond, nat_lt, le-ltb, List, [], ◌∷◌, ◌++◌, Option, Some, None, find, get_or, length, map, take, drop, set, slice_get, refl, sym, ◌∙◌, ap, arith, append_assoc, add-zero}
+use Rattle.std.proofs.Common.{◌≡◌, ℕ, ◌+◌, ◌-◌, ◌≤◌, ◌==◌, List, [], ◌∷◌, Option, Some, None, find, get_or, map, take, drop, refl, sym, ◌∙◌, ap, arith}
 use Rattle.std.specs.Prelude.{option_map}
-use Rattle.std.proofs.lemmas.List.{drop-map, length_push, set_at}
+use Rattle.std.proofs.lemmas.List.{drop-map}
 use Rattle.std.proofs.Math.Seq.{drop-nil, take-nil}
 use Rattle.jb_base.specs.declared.area.AreaRules.{AreaRules}
-use Rattle.jb_model.specs.Linked.{linked_head, with_links_in, with_links_of}
-use Rattle.jb_model.specs.Links.{Linkable, linkable, linkables_of, parent_at, parent_or_0}
-use Rattle.jb_model.specs.Live.{Numbered, change_live_from, live_in}
-use Rattle.jb_model.specs.LiveSlots.{linkables_from, loaded_linkable, message_in}
-use Rattle.jb_model.specs.Loaded.{header_size}
-use Rattle.jb_model.specs.Pack.{emptied, packed_base, packed_slots, packed_state}
-use Rattle.jb_model.specs.Packed.{kept_slots, new_base, packed, packed_from}
-use Rattle.jb_model.specs.Plan.{links_of, loaded_at, plan_of}
-use Rattle.jb_model.specs.Relink.{relinked, relinked_area}
-use Rattle.jb_model.specs.State.{AreaState, LiveMessage, SlotState, live_message, killed_message, no_message, slot_state, state_of}
-use Rattle.jb_model.specs.declared.change.Change.TheVariants.{Packed, Relinked}
-use Rattle.jb_model.specs.declared.links.Links.{Links}
-use Rattle.jb_model.specs.declared.loaded.Loaded.{Loaded}
-use Rattle.jb_model.specs.declared.loaded.LoadedMessage.{LoadedMessage}
-use Rattle.jb_model.specs.declared.loaded.LoadedSlot.{LoadedSlot}
-use Rattle.jb_model.specs.declared.loaded.LoadedSlot.TheVariants.{Empty, Killed, Live}
-use Rattle.jb_model.proofs.PackLaws.{length-relinked, live_in-packed, packed_base-within, packed_next}
-use Rattle.jb_model.proofs.RelinkLaws.{linkables-relinked, live_in-relinked, map-map, parent_of-kept, relinked_one, with_kept}
+use Rattle.jb_state.specs.Linked.{with_links_of}
+use Rattle.jb_state.specs.Links.{Linkable, linkable, linkables_of, parent_at, parent_or_0}
+use Rattle.jb_state.specs.Live.{Numbered, change_live_from, live_in}
+use Rattle.jb_state.specs.LiveSlots.{linkables_from}
+use Rattle.jb_state.specs.Loaded.{header_size}
+use Rattle.jb_state.specs.PackedState.{emptied, packed_base, packed_slots, packed_state}
+use Rattle.jb_state.specs.Packed.{kept_slots, new_base, packed, packed_from}
+use Rattle.jb_state.specs.Plan.{plan_of}
+use Rattle.jb_state.specs.Relinked.{relinked, relinked_area}
+use Rattle.jb_state.specs.State.{AreaState, LiveMessage, SlotState, live_message, no_message, slot_state, state_of}
+use Rattle.jb_state.specs.declared.change.Change.TheVariants.{Packed, Relinked}
+use Rattle.jb_state.specs.declared.links.Links.{Links}
+use Rattle.jb_state.specs.declared.loaded.Loaded.{Loaded}
+use Rattle.jb_state.specs.declared.loaded.LoadedSlot.{LoadedSlot}
+use Rattle.jb_state.specs.declared.loaded.LoadedSlot.TheVariants.{Empty, Killed, Live}
+use Rattle.jb_state.proofs.PackLaws.{length-relinked, live_in-packed, packed_base-within, packed_next, drop-change}
+use Rattle.jb_state.proofs.RelinkLaws.{linkables-relinked, live_in-relinked, map-map, parent_of-kept, relinked_one, with_kept}
 use Rattle.jb_index.specs.Change.{Follows}
 use Rattle.jb_index.specs.Edit.{absorbed}
 use Rattle.jb_index.specs.Index.{index_of, summary_of, summary_with}
@@ -30,6 +29,7 @@ use Rattle.jb_index.proofs.ChangeLemmas.{follows, index_on, textless, textless_s
 use Rattle.jb_index.proofs.ListLemmas.{find_map}
 use Rattle.jb_index.proofs.MakingLemmas.{same_index}
 use Rattle.jb_index.proofs.SlotLemmas.{map_agree}
+use Rattle.jb_state.proofs.LinkedLaws.{linked_state, links_of_area}
 
 -- the parent of a number is the same once all parents are written
 parent_at-kept : (live : List Linkable) (number : ℕ) → parent_at (map (with_kept live) live) number ≡ parent_at live number
@@ -58,75 +58,13 @@ relinked_summaries state later is =
 abbrev relink_by : List Linkable → ℕ → LiveMessage → LiveMessage
 relink_by live number message = relinked live (record { number = number; message = message })
 
--- the links of a live message with this number among these
-abbrev links_at : List Linkable → ℕ → LoadedMessage → Links
-links_at live number message = links_of live (loaded_linkable number message)
-
--- the message with these links
-abbrev linked_slot : Links → LoadedMessage → LoadedSlot
-linked_slot links message = Live (record message { head = linked_head links message.head })
-
--- slots with the links that these live messages give, the first of which has this number
-abbrev linked_slots : List Linkable → ℕ → List LoadedSlot → List LoadedSlot
-linked_slots live number [] = []
-linked_slots live number (Empty ∷ slots) = Empty ∷ linked_slots live (number + 1) slots
-linked_slots live number (Killed header_at ∷ slots) = Killed header_at ∷ linked_slots live (number + 1) slots
-linked_slots live number (Live message ∷ slots) = linked_slot (links_at live number message) message ∷ linked_slots live (number + 1) slots
-
--- the loaded area with other slots
-abbrev slotted : Loaded → List LoadedSlot → Loaded
-slotted loaded slots = record loaded { slots = slots }
-
--- what stands behind the first slots
-get_behind : (front : List LoadedSlot) (slot : LoadedSlot) (slots : List LoadedSlot) → slice_get (front ++ slot ∷ slots) (length front) ≡ Some slot
-get_behind [] slot slots = refl
-get_behind (first ∷ front) slot slots = get_behind front slot slots
-
--- the plan of slots behind others links just them
-links_behind : (live : List Linkable) (loaded : Loaded) (number : ℕ) (front slots : List LoadedSlot) → number ≡ loaded.base + length front
-    → with_links_of (map (links_of live) (linkables_from number slots)) (slotted loaded (front ++ slots)) ≡ slotted loaded (front ++ linked_slots live number slots)
-links_behind live loaded number front [] at = refl
-links_behind live loaded number front (Empty ∷ slots) at =
-    ap (λ s. with_links_of (map (links_of live) (linkables_from (number + 1) slots)) (slotted loaded s)) (sym (append_assoc front (Empty ∷ []) slots))
-    ∙ links_behind live loaded (number + 1) (front ++ Empty ∷ []) slots (omega (arith, length_push front Empty))
-    ∙ ap (slotted loaded) (append_assoc front (Empty ∷ []) (linked_slots live (number + 1) slots))
-links_behind live loaded number front (Killed header_at ∷ slots) at =
-    ap (λ s. with_links_of (map (links_of live) (linkables_from (number + 1) slots)) (slotted loaded s)) (sym (append_assoc front (Killed header_at ∷ []) slots))
-    ∙ links_behind live loaded (number + 1) (front ++ Killed header_at ∷ []) slots (omega (arith, length_push front (Killed header_at)))
-    ∙ ap (slotted loaded) (append_assoc front (Killed header_at ∷ []) (linked_slots live (number + 1) slots))
-links_behind live loaded number front (Live message ∷ slots) at =
-    let links : Links = links_at live number message in
-    let slot : LoadedSlot = linked_slot links message in
-    let before : Loaded = slotted loaded (front ++ Live message ∷ slots) in
-    let rest : List Links = map (links_of live) (linkables_from (number + 1) slots) in
-    let above : nat_lt number loaded.base ≡ false = le-ltb number loaded.base (omega arith) in
-    let place : number - loaded.base ≡ length front = omega arith in
-    let found : loaded_at before number ≡ Some message =
-    ap (λ b. cond b None (message_in (slice_get (front ++ Live message ∷ slots) (number - loaded.base)))) above
-    ∙ ap (λ k. message_in (slice_get (front ++ Live message ∷ slots) k)) place ∙ ap message_in (get_behind front (Live message) slots) in
-    ap (λ o. with_links_of rest (with_links_in links o before)) found
-    ∙ ap (λ k. with_links_of rest (slotted loaded (set (front ++ Live message ∷ slots) k slot))) place
-    ∙ ap (λ s. with_links_of rest (slotted loaded s)) (set_at front (Live message) slots slot (length front) refl)
-    ∙ ap (λ s. with_links_of rest (slotted loaded s)) (sym (append_assoc front (slot ∷ []) slots))
-    ∙ links_behind live loaded (number + 1) (front ++ slot ∷ []) slots (omega (arith, length_push front slot))
-    ∙ ap (slotted loaded) (append_assoc front (slot ∷ []) (linked_slots live (number + 1) slots))
-
--- linked slots are the relinked ones of the state
-linked_state : (live : List Linkable) (number : ℕ) (slots : List LoadedSlot)
-    → map (slot_state []) (linked_slots live number slots) ≡ change_live_from (relink_by live) number (map (slot_state []) slots)
-linked_state live number [] = refl
-linked_state live number (Empty ∷ slots) = ap (λ l. no_message ∷ l) (linked_state live (number + 1) slots)
-linked_state live number (Killed header_at ∷ slots) = ap (λ l. killed_message ∷ l) (linked_state live (number + 1) slots)
-linked_state live number (Live message ∷ slots) = ap (λ l. live_message (relink_by live number (textless message)) ∷ l) (linked_state live (number + 1) slots)
-
 -- the area with the links of a plan has the index of the relinked one
 linked_index : (rules : AreaRules) (plan : List Links) (loaded : Loaded) → plan ≡ plan_of (linkables_from loaded.base loaded.slots)
     → index_of rules (state_of [] (with_links_of plan loaded)) ≡ index_of rules (relinked_area (state_of [] loaded))
 linked_index rules plan loaded is =
     let live : List Linkable = linkables_from loaded.base loaded.slots in
-    ap (λ p. index_of rules (state_of [] (with_links_of p loaded))) is
-    ∙ ap (λ l. index_of rules (state_of [] l)) (links_behind live loaded loaded.base [] loaded.slots (sym (add-zero loaded.base)))
-    ∙ ap (index_on rules loaded.marks loaded.base) (linked_state live loaded.base loaded.slots)
+    ap (λ l. index_of rules (state_of [] l)) (links_of_area loaded plan is)
+    ∙ ap (index_on rules loaded.marks loaded.base) (linked_state [] live loaded.base loaded.slots)
 
 -- a relink changes no summary
 pub relinked_follows : (plan : List Links) (loaded : Loaded) → Follows (Relinked plan) loaded []
@@ -155,18 +93,6 @@ slots_packed live number header_at text_at (Live message ∷ slots) =
     ap (λ text. live_message (record (relink_by live number (textless message)) { text = text }) ∷ after) (no_text message.text_len text_at ∙ sym (no_text message.text_len message.text_at))
     ∙ ap (λ (rest : List SlotState). live_message (relink_by live number (textless message)) ∷ rest)
     (slots_packed live (number + 1) (header_at + header_size message) (text_at + message.text_len) slots)
-
--- changed messages from a place on
-drop-change : (change : ℕ → LiveMessage → LiveMessage) (n number : ℕ) (slots : List SlotState)
-    → drop n (change_live_from change number slots) ≡ change_live_from change (number + n) (drop n slots)
-drop-change change zero number slots = ap (λ k. change_live_from change k slots) (omega arith)
-drop-change change (suc n) number [] = refl
-drop-change change (suc n) number (no_message ∷ slots) =
-    drop-change change n (number + 1) slots ∙ ap (λ k. change_live_from change k (drop n slots)) (omega arith)
-drop-change change (suc n) number (killed_message ∷ slots) =
-    drop-change change n (number + 1) slots ∙ ap (λ k. change_live_from change k (drop n slots)) (omega arith)
-drop-change change (suc n) number (live_message message ∷ slots) =
-    drop-change change n (number + 1) slots ∙ ap (λ k. change_live_from change k (drop n slots)) (omega arith)
 
 -- the slots of a packed area
 packed_are : (loaded : Loaded) → textless_slots (packed loaded) ≡ packed_slots (state_of [] loaded)

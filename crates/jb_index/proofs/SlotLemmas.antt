@@ -2,9 +2,9 @@
 use Rattle.std.proofs.Common.{◌≡◌, ℕ, zero, suc, ◌+◌, ◌<◌, ◌≤◌, true, false, ◌==◌, List, [], ◌∷◌, ◌++◌, Some, map, length, slice_get, slice_set, refl, sym, ◌∙◌, ap, arith, eq-eqb, ne_eqb}
 use Rattle.std.specs.Prelude.{All}
 use Rattle.std.proofs.lemmas.List.Elements.{All-cons, All-nil}
-use Rattle.jb_model.specs.Live.{Numbered, live_from}
-use Rattle.jb_model.specs.State.{LiveMessage, SlotState, killed_message, live_message, no_message}
-use Rattle.jb_model.specs.declared.summary.Summary.{Summary}
+use Rattle.jb_state.specs.Live.{Numbered, live_from}
+use Rattle.jb_state.specs.State.{LiveMessage, SlotState, killed_message, live_message, no_message}
+use Rattle.jb_state.specs.declared.summary.Summary.{Summary}
 use Rattle.jb_index.specs.Edit.{changed_at}
 use Rattle.jb_index.proofs.EditLemmas.{changed_none}
 

@@ -9,12 +9,12 @@ use Rattle.jb_index.specs.Change.{edits_of_kill}
 use Rattle.jb_index.specs.Edit.{absorbed}
 use Rattle.jb_index.specs.Index.{AreaIndex}
 use Rattle.jb_index.specs.declared.op.OpEdit.TheVariants.{Drop, Parent}
-use Rattle.jb_model.specs.Links.{Linkable}
-use Rattle.jb_model.specs.Short.{short_of}
-use Rattle.jb_model.specs.declared.look.Answer.TheVariants.{Figures as Counted}
-use Rattle.jb_model.specs.declared.look.Question.TheVariants.{Figures as Counting}
-use Rattle.jb_model.specs.declared.mark.Mark.{Mark}
-use Rattle.jb_model.specs.declared.summary.Summary.{Summary}
+use Rattle.jb_state.specs.Links.{Linkable}
+use Rattle.jb_state.specs.Short.{short_of}
+use Rattle.jb_state.specs.declared.look.Answer.TheVariants.{Figures as Counted}
+use Rattle.jb_state.specs.declared.look.Question.TheVariants.{Figures as Counting}
+use Rattle.jb_state.specs.declared.mark.Mark.{Mark}
+use Rattle.jb_state.specs.declared.summary.Summary.{Summary}
 
 -- an area that level 10 reads and level 90 tends
 abbrev rules : AreaRules

@@ -3,11 +3,11 @@ use Rattle.std.proofs.Common.{◌≡◌, ◌≢◌, ◌⊎◌, inl, inr, ℕ, ze
 use Rattle.std.specs.Prelude.{All, IfSome, is_some}
 use Rattle.std.proofs.lemmas.Bool.{cases_lt, cond_both, ltb-true}
 use Rattle.std.proofs.lemmas.List.{get_or_default, get_or-map, get_or-take, length-map, map_more}
-use Rattle.jb_model.proofs.ThreadLaws.{find_passes}
-use Rattle.jb_model.specs.declared.summary.Summary.{Summary}
+use Rattle.jb_state.proofs.ThreadLaws.{find_passes}
+use Rattle.jb_state.specs.declared.summary.Summary.{Summary}
 use Rattle.jb_index.specs.Cut.{NumbersRise}
 use Rattle.jb_index.specs.Thread.{lower_parent, parent_in, root_in, thread_among, up_within}
-use Rattle.jb_model.specs.Short.{short_of}
+use Rattle.jb_state.specs.Short.{short_of}
 use Rattle.jb_index.proofs.ListLemmas.{filter_filter}
 use Rattle.jb_index.proofs.PlaceLemmas.{find_at_place, find_none}
 

@@ -7,16 +7,16 @@ use Rattle.jb_base.specs.declared.area.AreaRules.{AreaRules}
 use Rattle.jb_base.specs.declared.user.User.{User}
 use Rattle.jb_index.specs.Index.{AreaIndex}
 use Rattle.jb_index.specs.Thread.{thread_among}
-use Rattle.jb_model.specs.Marks.{mark_of}
-use Rattle.jb_model.specs.Short.{kept_of}
-use Rattle.jb_model.specs.declared.look.Answer.{Answer}
-use Rattle.jb_model.specs.declared.look.Answer.TheVariants.{Summaries as Listed, Figures as Counted}
-use Rattle.jb_model.specs.declared.look.Question.{Question}
-use Rattle.jb_model.specs.declared.look.Question.TheVariants.{List as Listing, Unread, Thread, To, Figures as Counting}
-use Rattle.jb_model.specs.declared.mark.Mark.{Mark}
-use Rattle.jb_model.specs.declared.short.Short.{Short}
-use Rattle.jb_model.specs.declared.summary.Figures.{Figures}
-use Rattle.jb_model.specs.declared.summary.Summary.{Summary}
+use Rattle.jb_state.specs.Marks.{mark_of}
+use Rattle.jb_state.specs.Short.{kept_of}
+use Rattle.jb_state.specs.declared.look.Answer.{Answer}
+use Rattle.jb_state.specs.declared.look.Answer.TheVariants.{Summaries as Listed, Figures as Counted}
+use Rattle.jb_state.specs.declared.look.Question.{Question}
+use Rattle.jb_state.specs.declared.look.Question.TheVariants.{List as Listing, Unread, Thread, To, Figures as Counting}
+use Rattle.jb_state.specs.declared.mark.Mark.{Mark}
+use Rattle.jb_state.specs.declared.short.Short.{Short}
+use Rattle.jb_state.specs.declared.summary.Figures.{Figures}
+use Rattle.jb_state.specs.declared.summary.Summary.{Summary}
 
 -- the name of a party; one that is longer than what is kept of it is nobody's, as the empty one
 abbrev pub name_in : Short 36 → List ℕ

@@ -5,15 +5,15 @@ use Rattle.jb_bytes.specs.Subfields.{receiver_of}
 use Rattle.jb_base.specs.declared.area.AreaRules.{AreaRules}
 use Rattle.jb_base.specs.declared.user.User.{User}
 use Rattle.jb_index.specs.Index.{summary_of}
-use Rattle.jb_model.specs.Links.{linkables_of, thread_root}
-use Rattle.jb_model.specs.Live.{Numbered}
-use Rattle.jb_model.specs.State.{AreaState, next_number}
-use Rattle.jb_model.specs.Visible.{highest_read_by, last_read_by, unread_by, visible_at, visible_to}
-use Rattle.jb_model.specs.declared.look.Answer.{Answer}
-use Rattle.jb_model.specs.declared.look.Answer.TheVariants.{Summaries as Listed, Figures as Counted}
-use Rattle.jb_model.specs.declared.look.Question.{Question}
-use Rattle.jb_model.specs.declared.look.Question.TheVariants.{List as Listing, Unread, Thread, To, Figures as Counting}
-use Rattle.jb_model.specs.declared.summary.Figures.{Figures}
+use Rattle.jb_state.specs.Links.{linkables_of, thread_root}
+use Rattle.jb_state.specs.Live.{Numbered}
+use Rattle.jb_state.specs.State.{AreaState, next_number}
+use Rattle.jb_state.specs.Visible.{highest_read_by, last_read_by, unread_by, visible_at, visible_to}
+use Rattle.jb_state.specs.declared.look.Answer.{Answer}
+use Rattle.jb_state.specs.declared.look.Answer.TheVariants.{Summaries as Listed, Figures as Counted}
+use Rattle.jb_state.specs.declared.look.Question.{Question}
+use Rattle.jb_state.specs.declared.look.Question.TheVariants.{List as Listing, Unread, Thread, To, Figures as Counting}
+use Rattle.jb_state.specs.declared.summary.Figures.{Figures}
 
 -- the messages that the user sees and whose receiver is the user
 abbrev pub to_user : AreaRules → User → AreaState → List Numbered

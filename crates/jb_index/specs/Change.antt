@@ -6,12 +6,12 @@ use Rattle.jb_index.specs.Index.{index_of}
 use Rattle.jb_index.specs.declared.op.OpEdit.{OpEdit}
 use Rattle.jb_index.specs.declared.op.OpEdit.TheVariants.{Drop, Parent}
 use Rattle.jb_link.specs.Orphans.{without_one}
-use Rattle.jb_model.specs.Change.{Fits, after}
-use Rattle.jb_model.specs.Links.{Linkable, parent_of}
-use Rattle.jb_model.specs.Sound.{IsSound}
-use Rattle.jb_model.specs.State.{state_of}
-use Rattle.jb_model.specs.declared.change.Change.{Change}
-use Rattle.jb_model.specs.declared.loaded.Loaded.{Loaded}
+use Rattle.jb_state.specs.Change.{Fits, after}
+use Rattle.jb_state.specs.Links.{Linkable, parent_of}
+use Rattle.jb_state.specs.Sound.{IsSound}
+use Rattle.jb_state.specs.State.{state_of}
+use Rattle.jb_state.specs.declared.change.Change.{Change}
+use Rattle.jb_state.specs.declared.loaded.Loaded.{Loaded}
 
 -- the edits make of the index of the area that of the area after the change, by whatever rules the change fits, and whatever its
 -- texts are

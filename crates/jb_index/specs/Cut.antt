@@ -1,6 +1,6 @@
 -- Where a number stands among summaries in rising order.
 use Rattle.std.specs.Prelude.{◌≡◌, ℕ, ◌<◌, ◌≤◌, ◌==◌, false, List, Option, None, Some, length, slice_index_or, All, AllPairs}
-use Rattle.jb_model.specs.declared.summary.Summary.{Summary}
+use Rattle.jb_state.specs.declared.summary.Summary.{Summary}
 
 -- each has a lower number than all behind it
 abbrev pub NumbersRise : List Summary → Type 0

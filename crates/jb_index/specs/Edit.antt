@@ -4,9 +4,9 @@ use Rattle.jb_limits.specs.declared.limits.TheConstants.{MOST_MARKS}
 use Rattle.jb_index.specs.Index.{AreaIndex}
 use Rattle.jb_index.specs.declared.op.OpEdit.{OpEdit}
 use Rattle.jb_index.specs.declared.op.OpEdit.TheVariants.{Put, Drop, Parent, Attribute, Base, Mark as Marking, Reset}
-use Rattle.jb_model.specs.Marks.{mark_of, with_mark}
-use Rattle.jb_model.specs.declared.mark.Mark.{Mark}
-use Rattle.jb_model.specs.declared.summary.Summary.{Summary}
+use Rattle.jb_state.specs.Marks.{mark_of, with_mark}
+use Rattle.jb_state.specs.declared.mark.Mark.{Mark}
+use Rattle.jb_state.specs.declared.summary.Summary.{Summary}
 
 -- those of them with numbers below this one
 abbrev pub below : ℕ → List Summary → List Summary

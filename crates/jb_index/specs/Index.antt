@@ -3,14 +3,14 @@ use Rattle.std.specs.Prelude.{ℕ, List, map}
 use Rattle.jb_bytes.specs.Subfields.{receiver_of, sender_of}
 use Rattle.jb_base.specs.declared.area.AreaRules.{AreaRules}
 use Rattle.jb_bytes.specs.declared.subfield.Subfield.{Subfield}
-use Rattle.jb_model.specs.Links.{Linkable, linkables_of, parent_at, parent_of}
-use Rattle.jb_model.specs.Live.{Numbered, live_in}
-use Rattle.jb_model.specs.Message.{subject_of}
-use Rattle.jb_model.specs.Short.{short_of}
-use Rattle.jb_model.specs.State.{AreaState, next_number}
-use Rattle.jb_model.specs.declared.mark.Mark.{Mark}
-use Rattle.jb_model.specs.declared.message.Head.{Head}
-use Rattle.jb_model.specs.declared.summary.Summary.{Summary}
+use Rattle.jb_state.specs.Links.{Linkable, linkables_of, parent_at, parent_of}
+use Rattle.jb_state.specs.Live.{Numbered, live_in}
+use Rattle.jb_state.specs.Message.{subject_of}
+use Rattle.jb_state.specs.Short.{short_of}
+use Rattle.jb_state.specs.State.{AreaState, next_number}
+use Rattle.jb_state.specs.declared.mark.Mark.{Mark}
+use Rattle.jb_state.specs.declared.message.Head.{Head}
+use Rattle.jb_state.specs.declared.summary.Summary.{Summary}
 
 -- summaries in rising order of their numbers, of which the rules' `slots` fit, the marks, the base number, the next number
 pub record AreaIndex : Type 0 where

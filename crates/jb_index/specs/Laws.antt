@@ -5,8 +5,8 @@ use Rattle.jb_base.specs.declared.user.User.{User}
 use Rattle.jb_index.specs.Answer.{answer_to}
 use Rattle.jb_index.specs.Area.{answer_of}
 use Rattle.jb_index.specs.Index.{index_of}
-use Rattle.jb_model.specs.State.{AreaState}
-use Rattle.jb_model.specs.declared.look.Question.{Question}
+use Rattle.jb_state.specs.State.{AreaState}
+use Rattle.jb_state.specs.declared.look.Question.{Question}
 
 -- to a user with a name of 1 to 36 bytes the index of an area answers what the area shows
 abbrev pub AnswersOfTheArea : Type 0

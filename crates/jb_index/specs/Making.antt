@@ -6,12 +6,12 @@ use Rattle.jb_limits.specs.declared.limits.TheConstants.{MOST_SUBFIELD_BYTES}
 use Rattle.jb_base.specs.declared.user.User.{User}
 use Rattle.jb_index.specs.Answer.{is_listed}
 use Rattle.jb_index.specs.Index.{summary_of}
-use Rattle.jb_model.specs.Links.{Linkable}
-use Rattle.jb_model.specs.Live.{live_from}
-use Rattle.jb_model.specs.State.{slot_state}
-use Rattle.jb_model.specs.declared.loaded.LoadedSlot.{LoadedSlot}
-use Rattle.jb_model.specs.declared.loaded.LoadedSlot.TheVariants.{Empty, Killed, Live}
-use Rattle.jb_model.specs.declared.summary.Summary.{Summary}
+use Rattle.jb_state.specs.Links.{Linkable}
+use Rattle.jb_state.specs.Live.{live_from}
+use Rattle.jb_state.specs.State.{slot_state}
+use Rattle.jb_state.specs.declared.loaded.LoadedSlot.{LoadedSlot}
+use Rattle.jb_state.specs.declared.loaded.LoadedSlot.TheVariants.{Empty, Killed, Live}
+use Rattle.jb_state.specs.declared.summary.Summary.{Summary}
 
 -- the subfields of a live message are not too long
 abbrev pub HasFewBytes : LoadedSlot → Type 0

@@ -1,6 +1,6 @@
 -- The room for summaries.
 use Rattle.std.specs.Prelude.{ℕ, ◌+◌, ◌≤◌, length}
-use Rattle.jb_model.specs.declared.summary.Summary.{Summary}
+use Rattle.jb_state.specs.declared.summary.Summary.{Summary}
 use Rattle.jb_tiered.specs.Tiered.{TieredList}
 
 -- no more than so many stand there, and so many fit in all

@@ -1,6 +1,6 @@
 -- The threads of an index: from parent to parent until there is none.
 use Rattle.std.specs.Prelude.{ℕ, zero, suc, nat_lt, ◌==◌, List, [], Option, Some, None, filter, find, is_some, if◌then◌else◌}
-use Rattle.jb_model.specs.declared.summary.Summary.{Summary}
+use Rattle.jb_state.specs.declared.summary.Summary.{Summary}
 
 -- the parent of a message in a list, where there is one; it has a lower number
 abbrev pub lower_parent : Option Summary → ℕ

@@ -5,7 +5,7 @@ use Rattle.jb_base.specs.declared.user.User.{User}
 use Rattle.jb_index.specs.Answer.{name_in}
 use Rattle.jb_index.specs.declared.shown.Wanted.{Wanted}
 use Rattle.jb_index.specs.declared.shown.Wanted.TheVariants.{All, Above, Received}
-use Rattle.jb_model.specs.declared.summary.Summary.{Summary}
+use Rattle.jb_state.specs.declared.summary.Summary.{Summary}
 
 -- the message is one of this kind
 abbrev pub is_kind : User → Wanted → Summary → Bool

@@ -6,15 +6,15 @@ ghost use Rattle.jb_index.specs.Change.{Follows};
 ghost use Rattle.jb_index.specs.Index.{summary_with};
 ghost use Rattle.jb_index.specs.declared.op.OpEdit.TheVariants.{Attribute, Put};
 ghost use Rattle.jb_link.specs.Index.{IsIndexOf};
-ghost use Rattle.jb_model.specs.Change.{Fits};
-ghost use Rattle.jb_model.specs.Sound.{IsSound};
+ghost use Rattle.jb_state.specs.Change.{Fits};
+ghost use Rattle.jb_state.specs.Sound.{IsSound};
 
 use crate::kills::killed;
 use crate::making::summary;
 use crate::{Op, OpEdit};
 use jb_base::OutOfMemory;
 use jb_link::Replies;
-use jb_model::{Change, HeadAt, Loaded, LoadedMessage};
+use jb_state::{Change, HeadAt, Loaded, LoadedMessage};
 use std::alloc::Global;
 
 /// The number of the slot at a place.
@@ -29,7 +29,8 @@ fn number_at(loaded: &Loaded, place: usize) -> u32
 fn posted(loaded: &Loaded, message: &LoadedMessage) -> OpEdit
     requires numbers { loaded.now.base + length loaded.now.slots ≤ 4_294_967_295 }
     requires few_bytes { length (subfield_bytes message.now.subfields) ≤ MOST_SUBFIELD_BYTES }
-    ensures { result ≡ Put (summary_with (loaded.now.base + length loaded.now.slots) message.now.head message.now.subfields
+    ensures { result ≡ Put (summary_with
+        (loaded.now.base + length loaded.now.slots) message.now.head message.now.subfields
         message.now.head.reply_to) }
 {
     let next = number_at(loaded, loaded.slots.as_slice().len());

@@ -4,17 +4,17 @@ ghost use Rattle.jb_bytes.specs.Crc.{jam_crc_of};
 ghost use Rattle.jb_index.specs.Answer.{last_of, unread_to};
 ghost use Rattle.jb_index.specs.Index.{index_of};
 ghost use Rattle.jb_index.specs.Making.{HasFewBytes, is_unread, slots_listed};
-ghost use Rattle.jb_model.specs.LiveSlots.{linkables_from};
-ghost use Rattle.jb_model.specs.Links.{Linkable};
-ghost use Rattle.jb_model.specs.Marks.{mark_of};
-ghost use Rattle.jb_model.specs.Sound.{IsSound};
-ghost use Rattle.jb_model.specs.State.{state_of};
+ghost use Rattle.jb_state.specs.LiveSlots.{linkables_from};
+ghost use Rattle.jb_state.specs.Links.{Linkable};
+ghost use Rattle.jb_state.specs.Marks.{mark_of};
+ghost use Rattle.jb_state.specs.Sound.{IsSound};
+ghost use Rattle.jb_state.specs.State.{state_of};
 
 use crate::making::summary;
 use crate::shown::{Wanted, is_wanted};
 use jb_base::{AreaRules, User};
 use jb_crc::jam_crc;
-use jb_model::{Loaded, LoadedSlot, Mark};
+use jb_state::{Loaded, LoadedSlot, Mark};
 
 /// The number that the user's mark has as read last, or 0.
 fn last_read(marks: &[Mark], user: &User) -> u32
@@ -30,7 +30,8 @@ fn last_read(marks: &[Mark], user: &User) -> u32
 /// 1 where the slot with this number is a message that the user sees, with a number above this one, else 0.
 fn unread_at(number: u32, slot: &LoadedSlot, rules: &AreaRules, user: &User, last: u32) -> u32
     requires few_bytes { HasFewBytes slot.now }
-    ensures count { (live : List Linkable) → result ≡ length (filter (is_unread rules.now user.now last) (slots_listed live number (slot.now ∷ []))) }
+    ensures count { (live : List Linkable) → result ≡ length
+        (filter (is_unread rules.now user.now last) (slots_listed live number (slot.now ∷ []))) }
     ensures one { result ≤ 1 }
 {
     let LoadedSlot::Live(message) = slot else {
@@ -49,7 +50,8 @@ fn unread_at(number: u32, slot: &LoadedSlot, rules: &AreaRules, user: &User, las
 fn unread_among(base: u32, slots: &[LoadedSlot], rules: &AreaRules, user: &User, last: u32) -> u32
     requires numbers { base + length slots.now ≤ 4_294_967_295 }
     requires few_bytes { All HasFewBytes slots.now }
-    ensures { result ≡ length (filter (is_unread rules.now user.now last) (slots_listed (linkables_from base slots.now) base slots.now)) }
+    ensures { result ≡ length (filter (is_unread rules.now user.now last)
+        (slots_listed (linkables_from base slots.now) base slots.now)) }
 {
     let mut count = 0;
     for place in 0..slots.len() {
@@ -62,7 +64,8 @@ fn unread_among(base: u32, slots: &[LoadedSlot], rules: &AreaRules, user: &User,
 /// each mark and at each slot.
 pub fn unread_in(loaded: &Loaded, rules: &AreaRules, user: &User) -> u32
     requires sound { IsSound rules.now.slots loaded.now }
-    ensures { (texts : List ℕ) → result ≡ length (unread_to (index_of rules.now (state_of texts loaded.now)) user.now) }
+    ensures { (texts : List ℕ) → result ≡ length
+        (unread_to (index_of rules.now (state_of texts loaded.now)) user.now) }
 {
     let last = last_read(loaded.marks.as_slice(), user);
     let slots = loaded.slots.as_slice();

@@ -5,7 +5,7 @@ ghost use Rattle.jb_index.specs.Edit.{changed_at, fits, with_attribute, with_par
 ghost use Rattle.jb_index.specs.Room.{HasPlaces};
 
 use crate::listing::{numbered_at, place_of};
-use jb_model::Summary;
+use jb_state::Summary;
 use jb_tiered::Tiered;
 
 /// Puts a summary in the place of the one with its number, or between the others, and says whether there is room for it;
@@ -14,7 +14,8 @@ pub(crate) fn put(summaries: &mut Tiered<Summary>, slots: u32, one: &Summary) ->
     requires rising { NumbersRise summaries.old.items }
     requires places { HasPlaces slots summaries.old }
     ensures fits { result ≡ fits slots one.now.number summaries.old.items }
-    ensures items { summaries.new.items ≡ (if result then with_summary one.now summaries.old.items else summaries.old.items) }
+    ensures items { summaries.new.items
+        ≡ (if result then with_summary one.now summaries.old.items else summaries.old.items) }
     ensures places { HasPlaces slots summaries.new }
 {
     if let Some(at) = numbered_at(summaries, one.number) {
@@ -33,7 +34,8 @@ pub(crate) fn put(summaries: &mut Tiered<Summary>, slots: u32, one: &Summary) ->
 pub(crate) fn remove(summaries: &mut Tiered<Summary>, number: u32)
     requires { NumbersRise summaries.old.items }
     ensures items { summaries.new.items ≡ without number summaries.old.items }
-    ensures places { length summaries.new.items + summaries.new.room ≡ length summaries.old.items + summaries.old.room }
+    ensures places { length summaries.new.items + summaries.new.room
+        ≡ length summaries.old.items + summaries.old.room }
     ensures fewer { length summaries.new.items ≤ length summaries.old.items }
 {
     if let Some(at) = numbered_at(summaries, number) {
@@ -81,7 +83,8 @@ fn clear(summaries: &mut Tiered<Summary>)
 pub(crate) fn refill(summaries: &mut Tiered<Summary>, from: &Tiered<Summary>)
     requires { length from.now.items ≤ length summaries.old.items + summaries.old.room }
     ensures items { summaries.new.items ≡ from.now.items }
-    ensures places { length summaries.new.items + summaries.new.room ≡ length summaries.old.items + summaries.old.room }
+    ensures places { length summaries.new.items + summaries.new.room
+        ≡ length summaries.old.items + summaries.old.room }
 {
     clear(summaries);
     for place in 0..from.len() {

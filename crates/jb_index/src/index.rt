@@ -5,8 +5,8 @@ ghost use Rattle.jb_index.specs.Answer.{answer_to, figures_to, first_from, last_
 ghost use Rattle.jb_index.specs.Edit.{absorbed, edited};
 ghost use Rattle.jb_index.specs.Index.{index_of, parents_in};
 ghost use Rattle.jb_index.specs.declared.op.OpEdit.TheVariants.{Put, Drop as Dropping, Parent, Attribute, Mark as Marking, Reset};
-ghost use Rattle.jb_model.specs.Sound.{IsSound};
-ghost use Rattle.jb_model.specs.State.{state_of};
+ghost use Rattle.jb_state.specs.Sound.{IsSound};
+ghost use Rattle.jb_state.specs.State.{state_of};
 
 use crate::editing::{put, refill, remove, set_attribute, set_parent};
 use crate::listing::{count_wanted, first_wanted};
@@ -17,7 +17,7 @@ use crate::{Op, OpEdit};
 use jb_base::{AreaRules, MOST_MARKS, OutOfMemory, User};
 use jb_crc::jam_crc;
 use jb_marks::Marks;
-use jb_model::{Answer, Figures, Loaded, Mark, Question, Summaries, Summary};
+use jb_state::{Answer, Figures, Loaded, Mark, Question, Summaries, Summary};
 use jb_tiered::Tiered;
 use std::alloc::Global;
 use std::marker::Model;
@@ -81,7 +81,8 @@ impl Index {
     ) -> Result<Index, OutOfMemory>
         requires sound { IsSound rules.now.slots loaded.now }
         requires parents { parents.now ≡ parents_in (state_of [] loaded.now) }
-        ensures { (texts : List ℕ) → IfOk result (λ index. index ≡ index_of rules.now (state_of texts loaded.now)) }
+        ensures { (texts : List ℕ) → IfOk result (λ index.
+            index ≡ index_of rules.now (state_of texts loaded.now)) }
     {
         let slots = loaded.slots.as_slice();
         let mut summaries = summaries_of(alloc, loaded.base, slots, parents)?;

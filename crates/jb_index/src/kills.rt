@@ -3,12 +3,12 @@ ghost use Rattle.std.specs.Prelude.{◌≡◌, ◌+◌, ◌≤◌, ◌++◌, [],
 ghost use Rattle.jb_index.specs.Change.{edits_of_kill};
 ghost use Rattle.jb_index.specs.declared.op.OpEdit.TheVariants.{Parent};
 ghost use Rattle.jb_link.specs.Index.{IsIndexOf};
-ghost use Rattle.jb_model.specs.LiveSlots.{IsLive, linkables};
+ghost use Rattle.jb_state.specs.LiveSlots.{IsLive, linkables};
 
 use crate::{Op, OpEdit};
 use jb_base::OutOfMemory;
 use jb_link::{Orphan, Replies};
-use jb_model::Loaded;
+use jb_state::Loaded;
 use std::alloc::Global;
 
 /// Puts the edits of these behind the others.

@@ -6,7 +6,7 @@ ghost use Rattle.jb_index.specs.Wanted.{is_kind};
 
 use crate::shown::{Wanted, is_wanted};
 use jb_base::{AreaRules, OutOfMemory, User};
-use jb_model::{Summaries, Summary};
+use jb_state::{Summaries, Summary};
 use jb_tiered::Tiered;
 use std::alloc::Global;
 
@@ -42,7 +42,10 @@ fn picked(
     start: usize,
     most: u32,
 ) -> Result<Summaries, OutOfMemory>
-    ensures { IfOk result (λ found. found ≡ take most (filter (λ one. is_listed rules.now user.now one && is_kind user.now wanted one) (drop start summaries.now.items))) }
+    ensures { IfOk result (λ found. found
+        ≡ take most (filter (λ one.
+        is_listed rules.now user.now one && is_kind user.now wanted one)
+        (drop start summaries.now.items))) }
 {
     let mut found = Summaries::new(alloc);
     for place in start..summaries.len() {
@@ -68,7 +71,10 @@ pub(crate) fn first_wanted(
     most: u32,
 ) -> Result<Summaries, OutOfMemory>
     requires { NumbersRise summaries.now.items }
-    ensures { IfOk result (λ found. found ≡ take most (filter (λ one. nat_le from one.number) (filter (λ one. is_kind user.now wanted one) (filter (is_listed rules.now user.now) summaries.now.items)))) }
+    ensures { IfOk result (λ found. found
+        ≡ take most (filter (λ one. nat_le from one.number) (filter (λ one.
+        is_kind user.now wanted one) (filter
+        (is_listed rules.now user.now) summaries.now.items)))) }
 {
     let start = place_of(summaries, from);
     picked(alloc, summaries, rules, user, wanted, start, most)
@@ -82,7 +88,8 @@ pub(crate) fn count_wanted(
     wanted: Wanted,
 ) -> u32
     requires { length summaries.now.items ≤ 4_294_967_295 }
-    ensures { result ≡ length (filter (λ one. is_kind user.now wanted one) (filter (is_listed rules.now user.now) summaries.now.items)) }
+    ensures { result ≡ length (filter (λ one.
+        is_kind user.now wanted one) (filter (is_listed rules.now user.now) summaries.now.items)) }
 {
     let mut count = 0;
     for place in 0..summaries.len() {

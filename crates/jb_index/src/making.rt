@@ -4,13 +4,13 @@ ghost use Rattle.jb_bytes.specs.Subfields.{first_of, subfield_bytes};
 ghost use Rattle.jb_limits.specs.declared.limits.TheConstants.{MOST_SUBFIELD_BYTES};
 ghost use Rattle.jb_index.specs.Index.{summary_of, summary_with};
 ghost use Rattle.jb_index.specs.Making.{HasFewBytes};
-ghost use Rattle.jb_model.specs.LiveSlots.{linkables_from};
-ghost use Rattle.jb_model.specs.Links.{parent_of};
-ghost use Rattle.jb_model.specs.Live.{live_from};
-ghost use Rattle.jb_model.specs.State.{slot_state};
+ghost use Rattle.jb_state.specs.LiveSlots.{linkables_from};
+ghost use Rattle.jb_state.specs.Links.{parent_of};
+ghost use Rattle.jb_state.specs.Live.{live_from};
+ghost use Rattle.jb_state.specs.State.{slot_state};
 
 use jb_base::{OutOfMemory, RECEIVER_NAME, SENDER_NAME, SUBJECT, Subfields};
-use jb_model::{LoadedMessage, LoadedSlot, Short, Summary};
+use jb_state::{LoadedMessage, LoadedSlot, Short, Summary};
 use jb_tiered::Tiered;
 use std::alloc::Global;
 
@@ -50,8 +50,10 @@ pub(crate) fn summaries_of(
 ) -> Result<Tiered<Summary>, OutOfMemory>
     requires numbers { base + length slots.now ≤ 4_294_967_295 }
     requires few_bytes { All HasFewBytes slots.now }
-    requires parents { parents.now ≡ map (parent_of (linkables_from base slots.now)) (linkables_from base slots.now) }
-    ensures { IfOk result (λ list. list.items ≡ map (summary_of (linkables_from base slots.now)) (live_from base (map (slot_state []) slots.now))) }
+    requires parents { parents.now ≡ map (parent_of (linkables_from base slots.now))
+        (linkables_from base slots.now) }
+    ensures { IfOk result (λ list. list.items ≡ map (summary_of (linkables_from base slots.now))
+        (live_from base (map (slot_state []) slots.now))) }
 {
     let mut list = Tiered::new(alloc);
     for place in 0..slots.len() {

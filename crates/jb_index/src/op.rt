@@ -3,7 +3,7 @@ ghost use Rattle.std.specs.Prelude.{◌≡◌, [], ◌∷◌, ◌++◌, OnOk, On
 
 use crate::Index;
 use jb_base::OutOfMemory;
-use jb_model::{Mark, Summary};
+use jb_state::{Mark, Summary};
 use std::alloc::Global;
 use std::marker::Model;
 

@@ -1,11 +1,11 @@
 //! The parents of all live messages, as an index wants them.
 ghost use Rattle.std.specs.Prelude.{◌≡◌, ◌+◌, ◌≤◌, [], IfOk, length, map};
 ghost use Rattle.jb_index.specs.Index.{parents_in};
-ghost use Rattle.jb_model.specs.State.{state_of};
+ghost use Rattle.jb_state.specs.State.{state_of};
 
 use jb_base::OutOfMemory;
 use jb_link::relink_plan;
-use jb_model::{Links, Loaded};
+use jb_state::{Links, Loaded};
 use std::alloc::Global;
 
 /// The parent of each live message, in rising order of their numbers. Its cost is that of a plan of all links.

@@ -7,7 +7,7 @@ ghost use Rattle.jb_index.specs.Wanted.{is_kind};
 
 use jb_access::{Action, Parties, allowed};
 use jb_base::{AreaRules, MOST_NAME_BYTES, User};
-use jb_model::{Short, Summary};
+use jb_state::{Short, Summary};
 
 /// Which of the messages that a user sees are asked for.
 #[derive(Clone, Copy)]

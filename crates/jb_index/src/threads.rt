@@ -3,12 +3,12 @@ ghost use Rattle.std.specs.Prelude.{◌≡◌, ◌==◌, ◌&&◌, ◌<◌, Bool
 ghost use Rattle.jb_index.specs.Answer.{is_listed};
 ghost use Rattle.jb_index.specs.Cut.{NumbersRise};
 ghost use Rattle.jb_index.specs.Thread.{lower_parent, root_in, thread_among};
-ghost use Rattle.jb_model.specs.declared.summary.Summary.{Summary};
+ghost use Rattle.jb_state.specs.declared.summary.Summary.{Summary};
 
 use crate::listing::numbered_at;
 use crate::shown::is_shown;
 use jb_base::{AreaRules, OutOfMemory, User};
-use jb_model::{Summaries, Summary};
+use jb_state::{Summaries, Summary};
 use jb_tiered::Tiered;
 use std::alloc::Global;
 
@@ -17,8 +17,10 @@ use std::alloc::Global;
 fn root_at(summaries: &Tiered<Summary>, roots: &[u32], place: usize) -> u32
     requires rising { NumbersRise summaries.now.items }
     requires place { place < length summaries.now.items }
-    requires roots { roots.now ≡ map (λ one. root_in summaries.now.items one.number) (take place summaries.now.items) }
-    ensures { (d : Summary) → result ≡ root_in summaries.now.items (slice_index_or summaries.now.items place d).number }
+    requires roots { roots.now ≡ map (λ one.
+        root_in summaries.now.items one.number) (take place summaries.now.items) }
+    ensures { (d : Summary) → result ≡ root_in summaries.now.items
+        (slice_index_or summaries.now.items place d).number }
 {
     let summary = &summaries[place];
     if summary.parent == 0 || summary.number <= summary.parent {
@@ -33,7 +35,8 @@ fn root_at(summaries: &Tiered<Summary>, roots: &[u32], place: usize) -> u32
 /// The message with which the thread of each of them begins, in their order.
 fn roots_of(alloc: Global, summaries: &Tiered<Summary>) -> Result<Vec<u32>, OutOfMemory>
     requires { NumbersRise summaries.now.items }
-    ensures { IfOk result (λ roots. roots.items ≡ map (λ one. root_in summaries.now.items one.number) summaries.now.items) }
+    ensures { IfOk result (λ roots. roots.items
+        ≡ map (λ one. root_in summaries.now.items one.number) summaries.now.items) }
 {
     let mut roots = Vec::new(alloc);
     for place in 0..summaries.len() {
@@ -51,9 +54,11 @@ fn shown_at(
     number: u32,
 ) -> Option<usize>
     requires { NumbersRise summaries.now.items }
-    ensures shown { is_some result ≡ is_some (find (λ one. one.number == number) (filter (is_listed rules.now user.now) summaries.now.items)) }
+    ensures shown { is_some result ≡ is_some (find (λ one.
+        one.number == number) (filter (is_listed rules.now user.now) summaries.now.items)) }
     ensures place { IfSome result (λ at. at < length summaries.now.items) }
-    ensures number { (d : Summary) → IfSome result (λ at. (slice_index_or summaries.now.items at d).number ≡ number) }
+    ensures number { (d : Summary) → IfSome result (λ at.
+        (slice_index_or summaries.now.items at d).number ≡ number) }
 {
     let at = numbered_at(summaries, number)?;
     if is_shown(rules, user, &summaries[at]) {
@@ -74,7 +79,9 @@ fn with_root(
     most: u32,
 ) -> Result<Summaries, OutOfMemory>
     requires { roots.now ≡ map (λ one. root_in summaries.now.items one.number) summaries.now.items }
-    ensures { IfOk result (λ found. found ≡ take most (filter (λ one. is_listed rules.now user.now one && (root_in summaries.now.items one.number == root)) summaries.now.items)) }
+    ensures { IfOk result (λ found. found
+        ≡ take most (filter (λ one. is_listed rules.now user.now one &&
+        (root_in summaries.now.items one.number == root)) summaries.now.items)) }
 {
     let mut found = Summaries::new(alloc);
     for place in 0..summaries.len() {
@@ -99,7 +106,8 @@ pub(crate) fn first_of_thread(
     most: u32,
 ) -> Result<Summaries, OutOfMemory>
     requires { NumbersRise summaries.now.items }
-    ensures { IfOk result (λ found. found ≡ take most (thread_among summaries.now.items (filter (is_listed rules.now user.now) summaries.now.items) number)) }
+    ensures { IfOk result (λ found. found ≡ take most (thread_among summaries.now.items
+        (filter (is_listed rules.now user.now) summaries.now.items) number)) }
 {
     let Some(at) = shown_at(summaries, rules, user, number) else {
         return Ok(Summaries::new(alloc));

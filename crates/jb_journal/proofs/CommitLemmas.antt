@@ -9,9 +9,10 @@ use Rattle.jb_journal.specs.Commit.{IsReady, IsBeforeOrAfter, committed}
 use Rattle.jb_journal.specs.Doubt.{IsLate}
 use Rattle.jb_journal.specs.Stages.{IsAtGate, IsGoing, IsClosing, IsUnderWay, closed, opened}
 use Rattle.jb_journal.proofs.Told.{told_back}
-use Rattle.jb_journal.proofs.SyncLemmas.{leaves_map, shows_map}
+use Rattle.jb_journal.proofs.SyncLemmas.{shows_map}
 use Rattle.jb_journal.proofs.OpenedLemmas.{shut_replays, not_one}
 use Rattle.jb_journal.proofs.ReadyLemmas.{opened_is, opened_going, closed-committed}
+use Rattle.jb_disk.proofs.FileLemmas.{leaves_map}
 
 -- nothing is not something
 none-some : (files : Files) → None ≡ Some files → ⊥

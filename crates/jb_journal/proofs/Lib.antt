@@ -13,10 +13,10 @@ mod PutsLemmas
 mod ReadyLemmas
 mod RecordAndOpen
 mod RecordLemmas
-mod RecoverLemmas
+pub mod RecoverLemmas
 mod SettingLemmas
 pub mod SettleLemmas
 mod SyncLemmas
-mod Told
+pub mod Told
 mod Touching
 mod WriteAndClose

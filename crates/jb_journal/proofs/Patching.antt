@@ -10,13 +10,7 @@ use Rattle.jb_disk.specs.Memory.{of_length}
 use Rattle.jb_disk.specs.Steps.{Span, IsCovered, IsWithin, patched}
 use Rattle.jb_redo.specs.OnTheWay.{IsBetween}
 use Rattle.jb_redo.proofs.WayLemmas.{resized_with_zeros}
-
--- pieces within a file keep its length
-pub length-patched : (spans : List Span) (old : List ℕ) → IsWithin spans (length old) → length (patched spans old) ≡ length old
-length-patched [] old within = refl
-length-patched (span ∷ spans) old within =
-    let size = length-overwritten span.at span.bytes old within.0 in
-    length-patched spans (overwritten span.at span.bytes old) (subst (IsWithin spans) (sym size) within.1) ∙ size
+use Rattle.jb_redo.proofs.ApplyLemmas.{length-patched}
 
 -- and each byte that none of them has
 pub patched-frame : (spans : List Span) (old : List ℕ) (i : ℕ) → IsWithin spans (length old) → IsCovered spans i ⊎ (slice_index (patched spans old) i ≡ slice_index old i)

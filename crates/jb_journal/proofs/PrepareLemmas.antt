@@ -11,8 +11,8 @@ use Rattle.jb_disk.specs.Images.{Images, Unsynced, just_synced, with_image}
 use Rattle.jb_disk.specs.ImageLaws.{with_image-here, with_image-other}
 use Rattle.jb_disk.specs.Runs.{LeavesNow, Shows, Keeps, IsAllSynced}
 use Rattle.jb_journal.specs.Prepare.{AddsNoneUnsynced, FromNewest, IsPrepared, IsPreparing}
-use Rattle.jb_journal.proofs.Told.{only_told, told_back}
-use Rattle.jb_journal.proofs.SyncLemmas.{leaves_map, leaves_both}
+use Rattle.jb_journal.proofs.Told.{told_back}
+use Rattle.jb_disk.proofs.FileLemmas.{leaves_both, leaves_map, only_told}
 
 -- a short journal while it is prepared
 preparing_short : (start files : Files) → length (start Jnl) ≤ 16 → IsPreparing start files → length (files Jnl) ≤ 16

@@ -11,6 +11,7 @@ use Rattle.jb_disk.specs.Images.{Images}
 use Rattle.jb_disk.specs.Device.{Device, TellsAnImage}
 use Rattle.jb_disk.specs.Runs.{LeavesNow, Runs, Shows, IsAllSynced}
 use Rattle.jb_disk.proofs.RunLemmas.{runs-weaken}
+use Rattle.jb_disk.proofs.FileLemmas.{leaves_both, leaves_map, only_told}
 use Rattle.jb_disk.specs.Gate.{IsGateOpen}
 use Rattle.jb_journal.specs.Commit.{IsReady, IsBeforeOrAfter, ReplaysTo}
 use Rattle.jb_redo.specs.Changes.{changed}
@@ -18,8 +19,6 @@ use Rattle.jb_journal.specs.Doubt.{IsEarly}
 use Rattle.jb_journal.specs.Opening.{StaysShut, OpensNowFor, WhereTold}
 use Rattle.jb_journal.specs.Stages.{IsUntouched, IsAtGate, IsGoing, recorded, opened}
 use Rattle.jb_journal.specs.Writing.{WidensFor}
-use Rattle.jb_journal.proofs.Told.{only_told}
-use Rattle.jb_journal.proofs.SyncLemmas.{leaves_map, leaves_both}
 use Rattle.jb_journal.proofs.OpenedLemmas.{at_gate_refl, going_replays, going_journal}
 use Rattle.jb_journal.proofs.OpeningLemmas.{stays_shut, stays_shut_before, opens_now, where_told, told_claim}
 use Rattle.jb_journal.proofs.ReadyLemmas.{opened_is, opened_going, opened-agrees, recorded-agrees, untouched_shut, untouched_early, early_replays, gate_or_not, from_opened}

@@ -15,6 +15,7 @@ use Rattle.jb_disk.specs.declared.piece.PieceHead.{PieceHead}
 use Rattle.jb_disk.specs.RedoView.{head_of, bytes_of}
 use Rattle.jb_redo.specs.Record.{record_head, record_end, length_bytes, piece_bytes, record_bytes}
 use Rattle.jb_journal.specs.Spelling.{nth_piece, head_bytes, tail_bytes, size_of, front_bytes, back_bytes}
+use Rattle.jb_redo.proofs.RecordLemmas.{length-lengths}
 
 -- a piece by its number
 pub head-nth : (pieces : List Piece) (k : ℕ) (head : PieceHead) → k < length pieces → Some head ≡ option_map head_of (slice_get pieces k) → head ≡ head_of (nth_piece pieces k)
@@ -39,11 +40,6 @@ piece-parts (Copy from from_at to to_at len) = refl
 pub length-piece : (piece : Piece) → length (piece_bytes piece) ≡ size_of (head_of piece)
 length-piece (Bytes file at bytes) = grind arith
 length-piece (Copy from from_at to to_at len) = refl
-
--- lengths one behind another
-pub length-lengths : (lengths : List Length) → length (flat_map length_bytes lengths) ≡ 8 * length lengths
-length-lengths [] = refl
-length-lengths (entry ∷ lengths) = omega (arith, length-append (length_bytes entry) (flat_map length_bytes lengths), length-lengths lengths)
 
 -- one length more
 pub more_lengths : (lengths : List Length) (i : ℕ) (d : Length) (code : List ℕ) → i < length lengths → code ≡ length_bytes (get_or lengths i d)

@@ -12,34 +12,19 @@ use Rattle.jb_disk.specs.FileLaws.{same_file, same_files, with_file-here, with_f
 use Rattle.jb_disk.specs.Images.{Images}
 use Rattle.jb_disk.specs.Device.{Device, TellsAnImage}
 use Rattle.jb_disk.specs.Runs.{LeavesNow, Shows, Keeps, IsAllSynced}
-use Rattle.jb_redo.specs.declared.error.RecordError.{RecordError}
-use Rattle.jb_redo.specs.declared.error.RecordError.TheVariants.{Bad, StoreFault as record_fault}
-use Rattle.jb_redo.specs.Answers.{RecordFaultRose}
-use Rattle.jb_redo.specs.Applying.{IsFault}
 use Rattle.jb_disk.specs.Gate.{IsGateOpen, with_gate_closed}
 use Rattle.jb_redo.specs.OnTheWay.{IsOnTheWay}
 use Rattle.jb_redo.specs.Reading.{IsRecordOf}
 use Rattle.jb_redo.proofs.WayLemmas.{way_start, way_kept, way_replays, replays_to_applied, one_replay}
-use Rattle.jb_journal.specs.declared.error.JournalError.TheVariants.{StoreFault}
 use Rattle.jb_journal.specs.Filing.{AgreeBelow}
 use Rattle.jb_journal.specs.Commit.{ReplaysTo}
 use Rattle.jb_redo.specs.Changes.{changed}
-use Rattle.jb_journal.specs.Recover.{error_of, IsGrowthSafe, JournalFaultRose, ReplaysAs, MightBe, ReplaysAsAtStart}
+use Rattle.jb_journal.specs.Recover.{IsGrowthSafe, ReplaysAs, MightBe, ReplaysAsAtStart}
 use Rattle.jb_journal.specs.Stages.{IsAtGate, IsOpened, closed}
-use Rattle.jb_journal.proofs.Told.{only_told}
-use Rattle.jb_journal.proofs.SyncLemmas.{leaves_map, leaves_both, shows_map}
+use Rattle.jb_journal.proofs.SyncLemmas.{shows_map}
 use Rattle.jb_journal.proofs.OpenedLemmas.{at_gate_refl, way_done, closed-agrees}
 use Rattle.jb_journal.proofs.Patching.{first_written}
-
--- only a fault
-pub fault_of : (error : RecordError) → IsFault error → error_of error ≡ StoreFault
-fault_of (Bad at) fault = absurd fault
-fault_of record_fault fault = refl
-
--- a fault's cause
-pub rose_of : (before now : ℕ) (error : RecordError) → RecordFaultRose before now error → JournalFaultRose before now (error_of error)
-rose_of before now (Bad at) rose = tt
-rose_of before now record_fault rose = rose
+use Rattle.jb_disk.proofs.FileLemmas.{leaves_both, leaves_map, only_told}
 
 -- all six files
 pub six_files : (final left : Files) → AgreeBelow 4 final left → left Jnl ≡ final Jnl → left Ndt ≡ final Ndt → left ≡ final

@@ -11,6 +11,7 @@ use Rattle.jb_disk.specs.FileLaws.{same_file, same_files}
 use Rattle.jb_disk.specs.Device.{Device, Turns, TellsAnImage}
 use Rattle.jb_disk.specs.Runs.{LeavesNow, Runs, Shows, Keeps, IsAllSynced}
 use Rattle.jb_disk.proofs.RunLemmas.{runs-refl, runs-then, runs-weaken}
+use Rattle.jb_disk.proofs.FileLemmas.{leaves_both, leaves_map}
 use Rattle.jb_disk.specs.Gate.{IsGateOpen}
 use Rattle.jb_journal.specs.declared.stopped.Stopped.{Stopped}
 use Rattle.jb_journal.specs.declared.stopped.Stopped.TheVariants.{Early, Late}
@@ -19,7 +20,7 @@ use Rattle.jb_redo.specs.Changes.{changed}
 use Rattle.jb_journal.specs.Doubt.{IsEarly, IsLate, IsInDoubt, HasStopped, DoubtReplays, IsSettledAt}
 use Rattle.jb_journal.specs.Prepare.{IsPrepared, IsPreparing}
 use Rattle.jb_journal.specs.Stages.{IsAtGate, IsGoing, IsClosing, IsUnderWay, closed, opened}
-use Rattle.jb_journal.proofs.SyncLemmas.{leaves_map, leaves_both, shows_map}
+use Rattle.jb_journal.proofs.SyncLemmas.{shows_map}
 use Rattle.jb_journal.proofs.WriteAndClose.{shows_silent, shows_is, told_is}
 use Rattle.jb_journal.proofs.OpenedLemmas.{going_journal, closing_going, closing_replays, length-closed, gate-closed, closed-agrees}
 use Rattle.jb_journal.proofs.ReadyLemmas.{opened_is, opened_going, early_opened, from_opened, closed-committed, changed-agrees, committed-agrees}

@@ -7,17 +7,7 @@ use Rattle.jb_disk.specs.Images.{Images}
 use Rattle.jb_disk.specs.Device.{Device, OnlyReads}
 use Rattle.jb_disk.specs.Runs.{LeavesNow, Shows, IsAllSynced}
 use Rattle.jb_journal.specs.Filing.{AgreeBelow}
-use Rattle.jb_journal.proofs.Told.{only_told}
-
--- a weaker property
-pub leaves_map : (P Q : Files → Type 0) (moments : List Images) → ((files : Files) → P files → Q files) → LeavesNow P moments → LeavesNow Q moments
-leaves_map P Q [] weaker all = tt
-leaves_map P Q (now ∷ earlier) weaker all = λ files image. weaker files (all files image)
-
--- from two
-pub leaves_both : (P Q R : Files → Type 0) (moments : List Images) → ((files : Files) → P files → Q files → R files) → LeavesNow P moments → LeavesNow Q moments → LeavesNow R moments
-leaves_both P Q R [] both p q = tt
-leaves_both P Q R (now ∷ earlier) both p q = λ files image. both files (p files image) (q files image)
+use Rattle.jb_disk.proofs.FileLemmas.{leaves_map, only_told}
 
 -- a weaker property of what is shown
 pub shows_map : (P Q : Files → Type 0) (device : Device) → ((files : Files) → P files → Q files) → Shows P device → Shows Q device

@@ -1,14 +1,14 @@
 -- What the disk tells, from call to call.
-use Rattle.std.proofs.Common.{◌≡◌, inl, inr, ℕ, ◌+◌, ◌<◌, ◌≤◌, List, [], ◌++◌, length, take, get_or, refl, sym, ◌∙◌, ap, subst, arith, length-append, Result, Ok, Err, OnOk, Option, Some, None, true, false}
-use Rattle.std.specs.Prelude.{IsErr, slice_index}
+use Rattle.std.proofs.Common.{◌≡◌, inl, inr, ℕ, ◌+◌, ◌≤◌, List, [], ◌++◌, length, take, refl, sym, ◌∙◌, ap, subst, arith, length-append, Result, Ok, Err, OnOk, Option, Some, None, true, false}
+use Rattle.std.specs.Prelude.{IsErr}
 use Rattle.std.specs.Option.{option_map, ForSome}
-use Rattle.std.proofs.lemmas.List.{same_lists, places, get_or_default}
 use Rattle.jb_disk.specs.declared.file.FileId.{FileId}
 use Rattle.jb_disk.specs.Files.{Files, with_file, overwritten, written, IsResized, InFile}
 use Rattle.jb_disk.specs.Device.{Device, IsPast, FailsBy, TellsAlike, Turns, and_then}
 use Rattle.jb_disk.specs.Images.{just_synced, with_image}
 use Rattle.jb_disk.specs.Runs.{LeavesNow}
 use Rattle.jb_disk.proofs.RunLemmas.{durable}
+use Rattle.jb_disk.proofs.FileLemmas.{take_same, written_end, overwritten-append, overwritten-nil}
 use Rattle.jb_disk.specs.FileLaws.{same_file, with_file-here, with_file-other, same_files, length-overwritten}
 use Rattle.jb_journal.specs.Writing.{Reaches}
 
@@ -88,12 +88,6 @@ pub option_map-id : {A : Type 0} (g : A → A) (o : Option A) → ((a : A) → o
 option_map-id g None each = refl
 option_map-id g (Some a) each = ap Some (each a refl)
 
--- what is told is one thing
-pub only_told : (o : Option Files) (files : Files) (P : Files → Type 0) → o ≡ Some files → P files → ForSome o P
-only_told o files P is here = λ other there.
-    let same : files ≡ other = cc in
-    subst P same here
-
 -- what was told before a change
 pub told_back : (o after : Option Files) (change : Files → Files) (now : Files) → after ≡ option_map change o → after ≡ Some now → (before : Files) × (o ≡ Some before) × (now ≡ change before)
 told_back None after change now is there = absurd (cc)
@@ -113,17 +107,6 @@ Reaches-written (Some old) b f g at end bytes is here reaches = λ files told.
     let now : files ≡ written f at bytes old = cc in
     let size : length (files g) ≡ length (old g) = ap (λ (x : Files). length (x g)) now ∙ length-written f g at bytes old (here old refl) in
     omega (arith, size, reaches old refl)
-
--- two writes one behind the other
-overwritten-append : (at : ℕ) (front back old : List ℕ) → at + length front + length back ≤ length old
-    → overwritten (at + length front) back (overwritten at front old) ≡ overwritten at (front ++ back) old
-unfolding overwritten
-overwritten-append at front back old within = same_lists _ _ (grind (arith, places)) (λ k d h. grind (arith, places))
-
--- a write of nothing
-overwritten-nil : (at : ℕ) (old : List ℕ) → overwritten at [] old ≡ old
-unfolding overwritten
-overwritten-nil at old = same_lists _ _ (grind (arith, places)) (λ k d h. grind (arith, places))
 
 -- the same of the files
 pub written-twice : (f : FileId) (at : ℕ) (front back : List ℕ) (files : Files) → at + length front + length back ≤ length (files f)
@@ -160,19 +143,6 @@ told_join o mid after f at place front back whole room place_is parts first seco
 pub durable_at : (f : FileId) (change : Files → Files) (o : Option Files) (old new : Device) → old.contents ≡ option_map change o
     → ForSome old.contents (λ files. new.moments ≡ and_then (with_image f (λ _. just_synced (files f))) old.moments) → ForSome o (λ files. LeavesNow (λ left. left f ≡ change files f) new.moments)
 durable_at f change o old new told done = λ files there. durable f (change files) old new (told ∙ ap (option_map change) there) done
-
--- the same first bytes
-take_same : (at : ℕ) (old new : List ℕ) → at ≤ length old → at ≤ length new → ((i : ℕ) → i < at → slice_index new i ≡ slice_index old i) → take at new ≡ take at old
-take_same at old new low high same = same_lists _ _ (grind (arith, places)) (λ k d inside.
-    let short : k < at = grind (arith, places) in
-    let a : get_or (take at new) k d ≡ get_or new k d = grind (arith, places) in
-    let b : get_or (take at old) k d ≡ get_or old k d = grind (arith, places) in
-    a ∙ get_or_default new k d 0 (omega arith) ∙ same k short ∙ get_or_default old k 0 d (omega arith) ∙ sym b)
-
--- the end of a file written anew
-written_end : (at : ℕ) (bytes new : List ℕ) → length new ≡ at + length bytes → overwritten at bytes new ≡ take at new ++ bytes
-unfolding overwritten
-written_end at bytes new size = same_lists _ _ (grind (arith, places)) (λ k d h. grind (arith, places))
 
 -- a file of another length with its end written
 overwritten-resized : (at len : ℕ) (bytes old new : List ℕ) → at ≤ length old → len ≡ at + length bytes → IsResized len old new → overwritten at bytes new ≡ take at old ++ bytes

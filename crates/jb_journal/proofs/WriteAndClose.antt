@@ -7,11 +7,12 @@ use Rattle.jb_disk.specs.Files.{Files, written}
 use Rattle.jb_disk.specs.Device.{Device, TellsAnImage}
 use Rattle.jb_disk.specs.Runs.{LeavesNow, Runs, Shows, Keeps, IsAllSynced}
 use Rattle.jb_disk.proofs.RunLemmas.{runs-weaken}
+use Rattle.jb_disk.proofs.FileLemmas.{leaves_both, leaves_map, only_told}
 use Rattle.jb_journal.specs.Commit.{ReplaysTo}
 use Rattle.jb_redo.specs.Changes.{changed}
 use Rattle.jb_journal.specs.Stages.{IsAtGate, IsOpened, IsGoing, IsClosing, IsUnderWay, closed}
-use Rattle.jb_journal.proofs.Told.{only_told, told_back}
-use Rattle.jb_journal.proofs.SyncLemmas.{leaves_map, leaves_both, shows_map}
+use Rattle.jb_journal.proofs.Told.{told_back}
+use Rattle.jb_journal.proofs.SyncLemmas.{shows_map}
 use Rattle.jb_journal.proofs.OpenedLemmas.{at_gate_refl, at_gate_written, done_some, closing_gate_replays, closed_from}
 
 -- a disk that tells nothing shows everything

@@ -1,6 +1,5 @@
 -- What opening makes of the files that a crash has left.
-use Rattle.std.specs.Prelude.{◌≡◌, ◌↔◌, ℕ, ◌<◌, List, [], ◌∷◌, ◌++◌, length, Some}
-use Rattle.jb_bytes.specs.Fault.{Rose}
+use Rattle.std.specs.Prelude.{◌≡◌, ◌↔◌, ◌<◌, List, [], ◌∷◌, ◌++◌, length, Some, Bool, true, false}
 use Rattle.jb_disk.specs.declared.piece.Length.{Length}
 use Rattle.jb_disk.specs.declared.piece.Piece.{Piece}
 use Rattle.jb_disk.specs.Device.{Device}
@@ -37,10 +36,10 @@ abbrev pub IsRefusedOver : JournalError → Device → Files → Type 0
 IsRefusedOver (BadRecord at) device was = IsGateOpen was × IsBadAt was at × (device.contents ≡ Some was) × LeavesNow (λ left. left ≡ was) device.moments
 IsRefusedOver StoreFault device was = Unit {0}
 
--- a fault has its cause: the disk's count rose
-abbrev pub JournalFaultRose : ℕ → ℕ → JournalError → Type 0
-JournalFaultRose before now (BadRecord at) = Unit {0}
-JournalFaultRose before now StoreFault = Rose before now
+-- which refusals are faults of the disk
+abbrev pub is_journal_fault : JournalError → Bool
+is_journal_fault (BadRecord at) = false
+is_journal_fault StoreFault = true
 
 -- the one files replay to exactly what the others do
 abbrev pub ReplaysAs : Files → Files → Type 0

@@ -1,9 +1,8 @@
 //! The four stages of a commit.
-ghost use Rattle.std.specs.Prelude.{◌≡◌, ◌≤◌, [], ◌∷◌, IfErr, OnOk, OnErr};
+ghost use Rattle.std.specs.Prelude.{◌≡◌, [], ◌∷◌, IfErr, OnOk};
 ghost use Rattle.std.specs.Option.{ForSome, option_map};
-ghost use Rattle.jb_bytes.specs.Fault.{Rose};
 ghost use Rattle.jb_disk.specs.declared.file.FileId.TheVariants.{Jnl};
-ghost use Rattle.jb_disk.specs.Device.{FailsBy, TellsAlike};
+ghost use Rattle.jb_disk.specs.Device.{FailsBy, TellsAlike, CountsFaults, is_disk_fault};
 ghost use Rattle.jb_disk.specs.Files.{Files};
 ghost use Rattle.jb_disk.specs.Runs.{Shows, Runs, LeavesOnly, IsAllSynced};
 ghost use Rattle.jb_redo.specs.Rules.{AreLegalLengths};
@@ -11,7 +10,7 @@ ghost use Rattle.jb_journal.specs.Coming.{ComeBy, SyncsChanged, HasSynced, journ
 ghost use Rattle.jb_journal.specs.Commit.{IsReady, IsBeforeOrAfter, ReplaysTo, committed};
 ghost use Rattle.jb_redo.specs.Changes.{IsWritable, changed};
 ghost use Rattle.jb_journal.specs.Doubt.{IsEarly, IsInDoubt, IsSettledAt};
-ghost use Rattle.jb_journal.specs.Opening.{StaysShut, OpensNow, OpensFor, WhereTold, OpensNowFor};
+ghost use Rattle.jb_journal.specs.Opening.{OpensFor, WhereTold, OpensNowFor};
 ghost use Rattle.jb_journal.specs.Stages.{IsOpened, IsGoing, IsClosing, IsUnderWay, closed, opened};
 
 use crate::Stopped;
@@ -97,9 +96,7 @@ pub fn commit<D: Disk>(disk: &mut D, redo: &Redo) -> Result<(), Stopped>
         Shows (IsSettledAt (changed redo.now start)) (D.device disk.new))) }
 
     // Stopped: only by a fault, and with what settling is to go on from.
-    ensures cause { OnErr result (Rose (D.device disk.old).faults (D.device disk.new).faults) }
-    ensures quiet { OnOk result ((D.device disk.new).faults ≡ (D.device disk.old).faults) }
-    ensures later { (D.device disk.old).faults ≤ (D.device disk.new).faults }
+    ensures faults { CountsFaults is_disk_fault (D.device disk.old) (D.device disk.new) result }
     ensures in_doubt { IfErr result (λ stopped. ForSome (D.device disk.old).contents (λ start.
         Shows (IsInDoubt stopped redo.now start) (D.device disk.new))) }
 

@@ -4,12 +4,11 @@ ghost use Rattle.std.specs.Option.{option_map, ForSome};
 ghost use Rattle.jb_disk.specs.declared.file.FileId.{FileId};
 ghost use Rattle.jb_disk.specs.declared.piece.Length.{Length};
 ghost use Rattle.jb_disk.specs.declared.piece.Piece.{Piece};
-ghost use Rattle.jb_disk.specs.RedoView.{head_of};
 ghost use Rattle.jb_disk.specs.Device.{FailsBy, Turns};
 ghost use Rattle.jb_disk.specs.Files.{Files, number_of};
 ghost use Rattle.jb_disk.specs.Runs.{LeavesNow, Shows, Keeps};
 ghost use Rattle.jb_redo.specs.OnTheWay.{IsOnTheWay};
-ghost use Rattle.jb_redo.specs.Replay.{target_of, span_of, applied, IsGrowthCovered};
+ghost use Rattle.jb_redo.specs.Replay.{target_of, applied, IsGrowthCovered};
 ghost use Rattle.jb_redo.specs.Rules.{sizes_of, AreLegalLengths, IsLegal};
 ghost use Rattle.jb_journal.specs.Coming.{ComeBy, SyncsIfChanged, SyncsChanged};
 ghost use Rattle.jb_journal.specs.Filing.{AreResized, AgreeBelow, with_piece, with_pieces, HasPlace, IsUnmentioned};
@@ -27,7 +26,8 @@ fn set_lengths<D: Disk>(disk: &mut D, lengths: &[Length]) -> Result<(), DiskFail
         (D.device disk.new).contents) }
     ensures keeps { (pieces : List Piece) (start : Files)
         → Keeps (IsOnTheWay lengths.now pieces start) (D.device disk.old) (D.device disk.new) }
-    ensures come { OnOk result (ComeBy lengths.now [] (D.device disk.old).moments (D.device disk.new).moments) }
+    ensures come { OnOk result (ComeBy lengths.now [] (D.device disk.old).moments
+        (D.device disk.new).moments) }
     ensures cause { FailsBy ⊥ (D.device disk.old) (D.device disk.new) result }
 {
     for entry in lengths {

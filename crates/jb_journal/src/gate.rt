@@ -1,5 +1,5 @@
 //! The journal's first byte.
-ghost use Rattle.std.specs.Prelude.{◌≡◌, ◌≤◌, ◌↔◌, IsTrue, ◌∷◌, [], length, IfOk, OnOk};
+ghost use Rattle.std.specs.Prelude.{◌≡◌, ◌↔◌, IsTrue, ◌∷◌, [], IfOk, OnOk};
 ghost use Rattle.std.specs.Option.{ForSome, option_map};
 ghost use Rattle.jb_disk.specs.declared.file.FileId.TheVariants.{Jnl};
 ghost use Rattle.jb_disk.specs.Device.{OnlyReads, FailsBy};
@@ -23,7 +23,8 @@ pub(crate) fn set_gate<D: Disk>(disk: &mut D, gate: u8) -> Result<(), DiskFailed
     ensures wide { WhereTold (D.device disk.old).moments (WidensFor result
         (D.device disk.old).moments (D.device disk.new).moments) }
     ensures keeps { (base : Files) → Keeps (IsAtGate base) (D.device disk.old) (D.device disk.new) }
-    ensures come { OnOk result (ComeBy [] (Jnl ∷ []) (D.device disk.old).moments (D.device disk.new).moments) }
+    ensures come { OnOk result (ComeBy [] (Jnl ∷ []) (D.device disk.old).moments
+        (D.device disk.new).moments) }
     ensures cause { FailsBy ⊥ (D.device disk.old) (D.device disk.new) result }
 {
     disk.write_at(FileId::Jnl, 0, &[gate])?;

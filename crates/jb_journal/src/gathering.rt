@@ -67,7 +67,8 @@ impl Gathering {
     fn append(&mut self, bytes: &[u8])
         requires room { length self.old.bytes + length bytes.now ≤ 16384 }
         requires fits { self.old.at + length self.old.bytes + length bytes.now < 2 ^ 63 }
-        ensures { self.new ≡ record { file = self.old.file; at = self.old.at; bytes = self.old.bytes ++ bytes.now } }
+        ensures { self.new
+            ≡ record { file = self.old.file; at = self.old.at; bytes = self.old.bytes ++ bytes.now } }
     {
         let end = self.filled + bytes.len();
         self.buffer[self.filled..end].copy_from_slice(bytes);

@@ -1,9 +1,8 @@
 //! A journal is given its head.
-ghost use Rattle.std.specs.Prelude.{◌≡◌, ◌≤◌, replicate, length, IfErr, OnOk, OnErr};
+ghost use Rattle.std.specs.Prelude.{◌≡◌, ◌≤◌, replicate, length, IfErr, OnOk};
 ghost use Rattle.std.specs.Option.{ForSome, option_map};
-ghost use Rattle.jb_bytes.specs.Fault.{Rose};
 ghost use Rattle.jb_disk.specs.declared.file.FileId.TheVariants.{Jnl};
-ghost use Rattle.jb_disk.specs.Device.{FailsBy, TellsAlike, Turns};
+ghost use Rattle.jb_disk.specs.Device.{FailsBy, TellsAlike, Turns, CountsFaults, is_disk_fault};
 ghost use Rattle.jb_disk.specs.Files.{Files, with_file};
 ghost use Rattle.jb_disk.specs.Runs.{LeavesNow, Shows, Keeps, LeavesOnly, IsAllSynced};
 ghost use Rattle.jb_journal.specs.declared.stopped.Stopped.TheVariants.{Early};
@@ -63,9 +62,7 @@ pub fn prepare<D: Disk>(disk: &mut D) -> Result<(), Stopped>
 
     // A refusal is early, and has a fault as its cause.
     ensures early { IfErr result (λ stopped. stopped ≡ Early) }
-    ensures cause { OnErr result (Rose (D.device disk.old).faults (D.device disk.new).faults) }
-    ensures quiet { OnOk result ((D.device disk.new).faults ≡ (D.device disk.old).faults) }
-    ensures later { (D.device disk.old).faults ≤ (D.device disk.new).faults }
+    ensures faults { CountsFaults is_disk_fault (D.device disk.old) (D.device disk.new) result }
 
     // At each moment, and after a refusal, the other files are as they were, and a gate that was closed stays so.
     ensures shows { ForSome (D.device disk.old).contents (λ start. IsAllSynced (D.device disk.old)

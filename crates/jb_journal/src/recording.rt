@@ -3,14 +3,13 @@ ghost use Rattle.std.specs.Prelude.{◌≡◌, ◌+◌, ◌*◌, ◌<◌, ◌≤
 ghost use Rattle.std.specs.List.{flat_map};
 ghost use Rattle.std.specs.Option.{ForSome, option_map};
 ghost use Rattle.jb_disk.specs.declared.file.FileId.TheVariants.{Jnl};
-ghost use Rattle.jb_disk.specs.RedoView.{head_of};
 ghost use Rattle.jb_disk.specs.Device.{FailsBy};
 ghost use Rattle.jb_disk.specs.Files.{Files, written};
 ghost use Rattle.jb_disk.specs.Runs.{LeavesNow, Keeps};
 ghost use Rattle.jb_redo.specs.Record.{length_bytes, piece_bytes, record_bytes};
 ghost use Rattle.jb_journal.specs.Coming.{ComeBy, journal_length};
 ghost use Rattle.jb_redo.specs.Changes.{IsWritable};
-ghost use Rattle.jb_journal.specs.Spelling.{nth_piece, size_of, tail_bytes, front_bytes, back_bytes};
+ghost use Rattle.jb_journal.specs.Spelling.{nth_piece, tail_bytes, front_bytes, back_bytes};
 ghost use Rattle.jb_journal.specs.Stages.{IsUntouched, recorded};
 ghost use Rattle.jb_journal.specs.Pending.{seen, IsBound, Puts};
 ghost use Rattle.jb_journal.specs.Writing.{Reaches};
@@ -45,7 +44,8 @@ fn put_lengths<D: Disk>(
     requires place { 16 ≤ at }
     requires fits { at + 8 * length lengths.now < 2 ^ 63 }
     requires bound { IsBound gathering.old (D.device disk.old).contents }
-    requires room { Reaches (seen gathering.old (D.device disk.old).contents) Jnl (at + 8 * length lengths.now) }
+    requires room { Reaches (seen gathering.old (D.device disk.old).contents) Jnl
+        (at + 8 * length lengths.now) }
     ensures { Puts at (flat_map length_bytes lengths.now) gathering.old (D.device disk.old)
         gathering.new (D.device disk.new) result }
 {
@@ -135,7 +135,8 @@ fn put_front<D: Disk>(
 ) -> Result<(), DiskFailed>
     requires few { length lengths.now ≤ 4 }
     requires bound { IsBound gathering.old (D.device disk.old).contents }
-    requires room { Reaches (seen gathering.old (D.device disk.old).contents) Jnl (28 + 8 * length lengths.now) }
+    requires room { Reaches (seen gathering.old (D.device disk.old).contents) Jnl
+        (28 + 8 * length lengths.now) }
     ensures { Puts 16 (front_bytes lengths.now pieces) gathering.old (D.device disk.old)
         gathering.new (D.device disk.new) result }
 {

@@ -1,12 +1,12 @@
 //! What a crash has left is made good.
-ghost use Rattle.std.specs.Prelude.{◌≡◌, ◌≤◌, List, Some, IsSome, IfOk, IfErr, OnOk};
+ghost use Rattle.std.specs.Prelude.{◌≡◌, List, Some, IsSome, IfOk, IfErr, OnOk};
 ghost use Rattle.std.specs.Option.{ForSome};
 ghost use Rattle.jb_disk.specs.declared.piece.Length.{Length};
 ghost use Rattle.jb_disk.specs.declared.piece.Piece.{Piece};
-ghost use Rattle.jb_disk.specs.Device.{FailsBy, TellsAlike};
+ghost use Rattle.jb_disk.specs.Device.{FailsBy, TellsAlike, CountsFaults};
 ghost use Rattle.jb_disk.specs.Files.{Files};
 ghost use Rattle.jb_disk.specs.Images.{Images};
-ghost use Rattle.jb_disk.specs.Runs.{LeavesNow, Runs, Shows, Keeps, LeavesOnly, IsAllSynced};
+ghost use Rattle.jb_disk.specs.Runs.{LeavesNow, Runs, Keeps, LeavesOnly, IsAllSynced};
 ghost use Rattle.jb_disk.specs.declared.file.FileId.TheVariants.{Jnl};
 ghost use Rattle.jb_disk.specs.Gate.{IsGateOpen, with_gate_closed};
 ghost use Rattle.jb_redo.specs.OnTheWay.{IsOnTheWay};
@@ -15,7 +15,7 @@ ghost use Rattle.jb_redo.specs.Replay.{Replays};
 ghost use Rattle.jb_journal.specs.declared.error.JournalError.TheVariants.{StoreFault};
 ghost use Rattle.jb_journal.specs.Filing.{AgreeBelow};
 ghost use Rattle.jb_journal.specs.Stages.{IsAtGate};
-ghost use Rattle.jb_journal.specs.Recover.{IsFound, IsGrowthSafe, IsRefusedOver, JournalFaultRose, FirmSince, ReplaysAs, MightBe, ReplaysAsAtStart};
+ghost use Rattle.jb_journal.specs.Recover.{IsFound, IsGrowthSafe, IsRefusedOver, FirmSince, ReplaysAs, MightBe, ReplaysAsAtStart, is_journal_fault};
 ghost use Rattle.jb_journal.specs.Writing.{Adds};
 
 use crate::gate::{is_gate_open, set_gate};
@@ -87,10 +87,8 @@ fn redo_record<D: Disk>(disk: &mut D) -> Result<(), JournalError>
         → Runs (ReplaysAs was) (D.device disk.old).moments (D.device disk.new).moments) }
     ensures fault { IfErr result (λ error. ForSome (D.device disk.old).contents (λ was.
         error ≡ StoreFault)) }
-    ensures quiet { OnOk result ((D.device disk.new).faults ≡ (D.device disk.old).faults) }
-    ensures later { (D.device disk.old).faults ≤ (D.device disk.new).faults }
+    ensures faults { CountsFaults is_journal_fault (D.device disk.old) (D.device disk.new) result }
     ensures alike { TellsAlike (D.device disk.old) (D.device disk.new) }
-    ensures cause { IfErr result (JournalFaultRose (D.device disk.old).faults (D.device disk.new).faults) }
 {
     apply_record(disk)?;
     sync_base(disk)?;
@@ -119,9 +117,7 @@ pub fn recover<D: Disk>(disk: &mut D) -> Result<Recovered, JournalError>
     // Why it is refused.
     ensures refused { IfErr result (λ error. ForSome
         (D.device disk.old).contents (IsRefusedOver error (D.device disk.new))) }
-    ensures cause { IfErr result (JournalFaultRose (D.device disk.old).faults (D.device disk.new).faults) }
-    ensures quiet { OnOk result ((D.device disk.new).faults ≡ (D.device disk.old).faults) }
-    ensures later { (D.device disk.old).faults ≤ (D.device disk.new).faults }
+    ensures faults { CountsFaults is_journal_fault (D.device disk.old) (D.device disk.new) result }
 
     // A crash at any moment leaves files that replay to what some files replay to that it might have left at the start.
     ensures crash { ForSome (D.device disk.old).contents (λ was. IsGrowthSafe was

@@ -1,10 +1,9 @@
 //! Whether a change that was stopped stands.
-ghost use Rattle.std.specs.Prelude.{◌≡◌, ◌≤◌, ◌↔◌, IsTrue, IfOk, IfErr, OnOk, OnErr};
+ghost use Rattle.std.specs.Prelude.{◌≡◌, ◌↔◌, IsTrue, IfOk, IfErr, OnOk};
 ghost use Rattle.std.specs.Option.{ForSome};
-ghost use Rattle.jb_bytes.specs.Fault.{Rose};
 ghost use Rattle.jb_disk.specs.declared.file.FileId.TheVariants.{Jnl};
 ghost use Rattle.jb_disk.specs.RedoView.{RedoView};
-ghost use Rattle.jb_disk.specs.Device.{FailsBy, MayChange, TellsAlike};
+ghost use Rattle.jb_disk.specs.Device.{FailsBy, MayChange, TellsAlike, CountsFaults, is_disk_fault};
 ghost use Rattle.jb_disk.specs.Files.{Files};
 ghost use Rattle.jb_disk.specs.Images.{just_synced, with_image};
 ghost use Rattle.jb_disk.specs.Runs.{LeavesNow, Shows, Keeps, LeavesOnly, IsAllSynced};
@@ -64,9 +63,7 @@ pub fn settle<D: Disk>(disk: &mut D, redo: &Redo, stopped: Stopped) -> Result<bo
 
     // Stopped again: only by a fault, with the doubt that it says. Late stays late, and early becomes late by an open gate
     // alone; by one it does, but for a stop that comes before the gate is read.
-    ensures cause { OnErr result (Rose (D.device disk.old).faults (D.device disk.new).faults) }
-    ensures quiet { OnOk result ((D.device disk.new).faults ≡ (D.device disk.old).faults) }
-    ensures later { (D.device disk.old).faults ≤ (D.device disk.new).faults }
+    ensures faults { CountsFaults is_disk_fault (D.device disk.old) (D.device disk.new) result }
     ensures still { IfErr result (λ again. (start : Files) → IsReady redo.now start
         → Shows (IsInDoubt stopped redo.now start) (D.device disk.old)
         → Shows (IsInDoubt again redo.now start) (D.device disk.new)) }

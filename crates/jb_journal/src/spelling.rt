@@ -1,8 +1,7 @@
 //! The bytes of a record, part by part.
-ghost use Rattle.std.specs.Prelude.{◌≡◌, ◌∷◌, [], ◌+◌, ◌≤◌, ◌++◌, length, if◌then◌else◌};
+ghost use Rattle.std.specs.Prelude.{◌≡◌, ◌+◌, ◌++◌, length, if◌then◌else◌};
 ghost use Rattle.jb_disk.specs.Files.{number_of};
 ghost use Rattle.jb_bytes.specs.Number.{number_bytes};
-ghost use Rattle.jb_limits.specs.declared.limits.TheConstants.{JOURNAL_CEILING};
 ghost use Rattle.jb_redo.specs.Record.{record_head, length_bytes, record_bytes};
 ghost use Rattle.jb_redo.specs.Changes.{IsWritable};
 ghost use Rattle.jb_journal.specs.Spelling.{head_bytes, size_of};

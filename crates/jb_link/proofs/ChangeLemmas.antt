@@ -4,16 +4,16 @@ use Rattle.std.proofs.lemmas.Bool.{and_from, and_parts, not-false, not_from_true
 use Rattle.std.proofs.lemmas.List.Elements.{All-cons, All-head, All-tail}
 use Rattle.std.proofs.lemmas.List.Sums.{count_by-le-length, sum_by-cons}
 use Rattle.std.proofs.lemmas.List.{length-map}
-use Rattle.jb_model.specs.Links.{HasItsLinks, IsLinked, Linkable, first_reply_of, linkable, linkables_of, next_reply_of, parent_of}
-use Rattle.jb_model.specs.Live.{Numbered, live_from, live_in}
-use Rattle.jb_model.specs.Relink.{has_its_links, wrongly_linked}
-use Rattle.jb_model.specs.State.{AreaState, slot_state, state_of, text_of}
-use Rattle.jb_model.specs.declared.loaded.Loaded.{Loaded}
-use Rattle.jb_model.specs.declared.loaded.LoadedSlot.{LoadedSlot}
-use Rattle.jb_model.specs.declared.loaded.LoadedSlot.TheVariants.{Empty, Killed, Live}
-use Rattle.jb_model.specs.declared.links.Links.{Links}
-use Rattle.jb_model.specs.Plan.{differs, links_of, loaded_at, plan_of}
-use Rattle.jb_model.specs.LiveSlots.{linkables_from, loaded_linkable, message_in}
+use Rattle.jb_state.specs.Links.{HasItsLinks, IsLinked, Linkable, first_reply_of, linkable, linkables_of, next_reply_of, parent_of}
+use Rattle.jb_state.specs.Live.{Numbered, live_from, live_in}
+use Rattle.jb_state.specs.Relinked.{has_its_links, wrongly_linked}
+use Rattle.jb_state.specs.State.{AreaState, slot_state, state_of, text_of}
+use Rattle.jb_state.specs.declared.loaded.Loaded.{Loaded}
+use Rattle.jb_state.specs.declared.loaded.LoadedSlot.{LoadedSlot}
+use Rattle.jb_state.specs.declared.loaded.LoadedSlot.TheVariants.{Empty, Killed, Live}
+use Rattle.jb_state.specs.declared.links.Links.{Links}
+use Rattle.jb_state.specs.Plan.{differs, links_of, loaded_at, plan_of}
+use Rattle.jb_state.specs.LiveSlots.{linkables_from, loaded_linkable, message_in}
 use Rattle.jb_link.proofs.LiveLemmas.{linkables_with_texts}
 
 -- 1 where it is true

@@ -3,17 +3,17 @@ use Rattle.std.proofs.Common.{◌≡◌, ℕ, ◌+◌, ◌-◌, nat_lt, Bool, tr
 use Rattle.std.specs.Prelude.{option_and_then, option_map}
 use Rattle.std.proofs.lemmas.Option.{slice_get-map}
 use Rattle.std.proofs.lemmas.List.{length-map}
-use Rattle.jb_model.specs.Links.{Linkable, parent_for}
-use Rattle.jb_model.specs.Live.{live_of}
-use Rattle.jb_model.specs.Message.{msgid_of}
-use Rattle.jb_model.specs.Post.{if_copied, posted_parent, posted_replyid}
-use Rattle.jb_model.specs.State.{LiveMessage, next_number, slot_state, state_of}
-use Rattle.jb_model.specs.declared.loaded.Loaded.{Loaded}
-use Rattle.jb_model.specs.declared.loaded.LoadedMessage.{LoadedMessage}
-use Rattle.jb_model.specs.declared.loaded.LoadedSlot.{LoadedSlot}
-use Rattle.jb_model.specs.declared.loaded.LoadedSlot.TheVariants.{Empty, Killed, Live}
+use Rattle.jb_state.specs.Links.{Linkable, parent_for}
+use Rattle.jb_state.specs.Live.{live_of}
+use Rattle.jb_state.specs.Message.{msgid_of}
+use Rattle.jb_state.specs.Posted.{if_copied, posted_parent, posted_replyid}
+use Rattle.jb_state.specs.State.{LiveMessage, next_number, slot_state, state_of}
+use Rattle.jb_state.specs.declared.loaded.Loaded.{Loaded}
+use Rattle.jb_state.specs.declared.loaded.LoadedMessage.{LoadedMessage}
+use Rattle.jb_state.specs.declared.loaded.LoadedSlot.{LoadedSlot}
+use Rattle.jb_state.specs.declared.loaded.LoadedSlot.TheVariants.{Empty, Killed, Live}
 use Rattle.jb_link.specs.Parents.{copied_msgid, parent_behind}
-use Rattle.jb_model.specs.LiveSlots.{linkables, message_in}
+use Rattle.jb_state.specs.LiveSlots.{linkables, message_in}
 use Rattle.jb_link.proofs.LiveLemmas.{linkables_with_texts}
 
 -- the MSGID that is copied, of the area as it is loaded

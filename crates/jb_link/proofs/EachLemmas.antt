@@ -4,11 +4,11 @@ use Rattle.std.proofs.lemmas.Bool.{false≢true}
 use Rattle.std.proofs.lemmas.List.{reverse-append, reverse-reverse}
 use Rattle.std.proofs.lemmas.List.Folds.{find-append}
 use Rattle.std.specs.Option.{option_or}
-use Rattle.jb_model.specs.Links.{Linkable}
-use Rattle.jb_model.specs.declared.loaded.LoadedMessage.{LoadedMessage}
-use Rattle.jb_model.specs.declared.loaded.LoadedSlot.{LoadedSlot}
-use Rattle.jb_model.specs.declared.loaded.LoadedSlot.TheVariants.{Empty, Killed, Live}
-use Rattle.jb_model.specs.LiveSlots.{linkables_from, loaded_linkable}
+use Rattle.jb_state.specs.Links.{Linkable}
+use Rattle.jb_state.specs.declared.loaded.LoadedMessage.{LoadedMessage}
+use Rattle.jb_state.specs.declared.loaded.LoadedSlot.{LoadedSlot}
+use Rattle.jb_state.specs.declared.loaded.LoadedSlot.TheVariants.{Empty, Killed, Live}
+use Rattle.jb_state.specs.LiveSlots.{linkables_from, loaded_linkable}
 
 -- it holds of each
 abbrev pub Each : (Linkable → Type 0) → List Linkable → Type 0

@@ -6,16 +6,16 @@ use Rattle.std.specs.Prelude.{nat_eq, not, option_map, slice_get, Contains, Opti
 use Rattle.std.proofs.lemmas.Bool.{and_from, and_parts, both_ways, not-true, not-false, cases_lt, eq-eqb, eqb-true, lt-ltb, ltb-true}
 use Rattle.std.proofs.lemmas.List.Elements.{All-contains}
 use Rattle.jb_bytes.specs.declared.subfield.TheConstants.{MSGID, REPLYID}
-use Rattle.jb_model.specs.Plan.{loaded_at}
-use Rattle.jb_model.specs.LiveSlots.{IsLive, linkables, loaded_linkable, message_in}
+use Rattle.jb_state.specs.Plan.{loaded_at}
+use Rattle.jb_state.specs.LiveSlots.{IsLive, linkables, loaded_linkable, message_in}
 use Rattle.jb_link.proofs.LiveLemmas.{live_from_stands, stands_from_live}
-use Rattle.jb_model.specs.Links.{IsGreatest, IsLeast, Linkable, is_answered_by, is_id, is_kept_by, is_reply_to, last_reply_of, number_or_0, parent_for, parent_of}
-use Rattle.jb_model.specs.Message.{msgid_of, replyid_of}
-use Rattle.jb_model.specs.State.{state_of}
-use Rattle.jb_model.specs.declared.loaded.Loaded.{Loaded}
-use Rattle.jb_model.specs.declared.loaded.LoadedMessage.{LoadedMessage}
-use Rattle.jb_model.specs.declared.loaded.LoadedSlot.TheVariants.{Live}
-use Rattle.jb_model.proofs.LinkLaws.{found_is_least, last_is_greatest, linkables_rise}
+use Rattle.jb_state.specs.Links.{IsGreatest, IsLeast, Linkable, is_answered_by, is_id, is_kept_by, is_reply_to, last_reply_of, number_or_0, parent_for, parent_of}
+use Rattle.jb_state.specs.Message.{msgid_of, replyid_of}
+use Rattle.jb_state.specs.State.{state_of}
+use Rattle.jb_state.specs.declared.loaded.Loaded.{Loaded}
+use Rattle.jb_state.specs.declared.loaded.LoadedMessage.{LoadedMessage}
+use Rattle.jb_state.specs.declared.loaded.LoadedSlot.TheVariants.{Live}
+use Rattle.jb_state.proofs.LinkLaws.{found_is_least, last_is_greatest, linkables_rise}
 use Rattle.jb_link.proofs.AreaLemmas.{by_place, listed_named, named_is_in, named_listed, some_named}
 use Rattle.jb_link.proofs.IdListLemmas.{bytes_had, has_bytes, known, live_with}
 use Rattle.jb_link.proofs.KeptLemmas.{none_there}

@@ -10,10 +10,10 @@ use Rattle.std.specs.Cmp.Lexicographic.{bytes_decides, nat_list_cmp_total, nat_l
 use Rattle.std.specs.Map.{KeepsOthers, lookup}
 use Rattle.std.specs.Ordering.{is_eq, nat_cmp, ordering_then}
 use Rattle.std.specs.declared.cmp.Ordering.{Ordering}
-use Rattle.jb_model.specs.Links.{is_id}
-use Rattle.jb_model.specs.declared.loaded.LoadedSlot.{LoadedSlot}
+use Rattle.jb_state.specs.Links.{is_id}
+use Rattle.jb_state.specs.declared.loaded.LoadedSlot.{LoadedSlot}
 use Rattle.jb_link.specs.Ids.{IsKept, IsSettled, KeepsLowest, at_seat, hash_of, msgid_at, number_among, number_of}
-use Rattle.jb_model.specs.LiveSlots.{msgid_in}
+use Rattle.jb_state.specs.LiveSlots.{msgid_in}
 use Rattle.jb_link.specs.declared.ids.Ids.{Ids}
 
 -- the order of the hashes and then of the bytes

@@ -14,10 +14,10 @@ use Rattle.std.proofs.lemmas.List.Quantifiers.{all_pairs_push, all_pairs_remove}
 use Rattle.std.proofs.lemmas.List.Sorted.{Contains-permutation, IsPermutation-sym}
 use Rattle.std.proofs.lemmas.Slice.Eq.{bytes_eq-Decides}
 use Rattle.jb_bytes.specs.Subfields.{first_of}
-use Rattle.jb_model.specs.Plan.{loaded_at}
-use Rattle.jb_model.specs.Links.{is_id}
-use Rattle.jb_model.specs.declared.loaded.Loaded.{Loaded}
-use Rattle.jb_model.specs.declared.loaded.LoadedMessage.{LoadedMessage}
+use Rattle.jb_state.specs.Plan.{loaded_at}
+use Rattle.jb_state.specs.Links.{is_id}
+use Rattle.jb_state.specs.declared.loaded.Loaded.{Loaded}
+use Rattle.jb_state.specs.declared.loaded.LoadedMessage.{LoadedMessage}
 use Rattle.jb_link.proofs.AreaLemmas.{named_is_in}
 use Rattle.jb_link.proofs.MemberLemmas.{HasNoTwice, inserted_cases, inserted_new, inserted_old, permuted_apart, removed_gone, removed_old, removed_rest, rising_apart}
 use Rattle.jb_link.proofs.OrderLemmas.{hash_order_total, id_order_total, same_ids, same_numbers}

@@ -5,12 +5,12 @@ use Rattle.std.specs.declared.cmp.Ordering.{Ordering}
 use Rattle.std.proofs.lemmas.Bool.{cases_eq}
 use Rattle.std.proofs.lemmas.List.Elements.{Contains-get_or}
 use Rattle.jb_bytes.specs.Subfields.{first_of}
-use Rattle.jb_model.specs.Plan.{loaded_at}
-use Rattle.jb_model.specs.Loaded.{with_slot_at}
-use Rattle.jb_model.specs.declared.loaded.Loaded.{Loaded}
-use Rattle.jb_model.specs.declared.loaded.LoadedMessage.{LoadedMessage}
-use Rattle.jb_model.specs.declared.loaded.LoadedSlot.{LoadedSlot}
-use Rattle.jb_model.specs.declared.loaded.LoadedSlot.TheVariants.{Killed}
+use Rattle.jb_state.specs.Plan.{loaded_at}
+use Rattle.jb_state.specs.Loaded.{with_slot_at}
+use Rattle.jb_state.specs.declared.loaded.Loaded.{Loaded}
+use Rattle.jb_state.specs.declared.loaded.LoadedMessage.{LoadedMessage}
+use Rattle.jb_state.specs.declared.loaded.LoadedSlot.{LoadedSlot}
+use Rattle.jb_state.specs.declared.loaded.LoadedSlot.TheVariants.{Killed}
 use Rattle.jb_link.proofs.AreaLemmas.{killed_names_none, length_set, named_before, named_beside, named_is_in}
 use Rattle.jb_link.proofs.IdListLemmas.{id_is_in}
 use Rattle.jb_link.proofs.KeptLemmas.{keeps_pair}

@@ -13,7 +13,7 @@ use Rattle.std.proofs.lemmas.List.{get_or-map, length-map, map_push}
 use Rattle.std.proofs.lemmas.List.Elements.{All-push}
 use Rattle.std.proofs.lemmas.List.Sorted.{All-permutation, IsPermutation-map}
 use Rattle.jb_link.specs.Ids.{hash_of}
-use Rattle.jb_model.specs.declared.loaded.Loaded.{Loaded}
+use Rattle.jb_state.specs.declared.loaded.Loaded.{Loaded}
 use Rattle.jb_link.proofs.IdListLemmas.{ids_more, ids_same, ids_sorted}
 use Rattle.jb_link.proofs.SearchLemmas.{less_nat}
 use Rattle.jb_link.specs.IdLists.{AreIdsBelow, IsIdList, hash_at, id_at, id_place}

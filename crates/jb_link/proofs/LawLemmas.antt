@@ -4,19 +4,19 @@ use Rattle.std.specs.Prelude.{◌↔◌, Option, Some, None, IsSome, is_some, sl
 use Rattle.std.proofs.lemmas.Bool.{cases_eq, cases_lt}
 use Rattle.jb_bytes.specs.Subfields.{first_of}
 use Rattle.jb_bytes.specs.declared.subfield.TheConstants.{MSGID, REPLYID}
-use Rattle.jb_model.specs.Plan.{loaded_at}
-use Rattle.jb_model.specs.LiveSlots.{linkables, loaded_linkable, message_in}
-use Rattle.jb_model.specs.Links.{Linkable, parent_for, parent_of}
-use Rattle.jb_model.specs.Live.{change_live_from}
-use Rattle.jb_model.specs.Loaded.{IsMessageAt, with_head_at}
-use Rattle.jb_model.specs.Message.{replyid_of}
-use Rattle.jb_model.specs.Relink.{relinked}
-use Rattle.jb_model.specs.State.{LiveMessage, SlotState, slot_state, text_of}
-use Rattle.jb_model.specs.declared.loaded.Loaded.{Loaded}
-use Rattle.jb_model.specs.declared.loaded.LoadedMessage.{LoadedMessage}
-use Rattle.jb_model.specs.declared.loaded.LoadedSlot.{LoadedSlot}
-use Rattle.jb_model.specs.declared.loaded.LoadedSlot.TheVariants.{Empty, Killed, Live}
-use Rattle.jb_model.specs.declared.message.Head.{Head}
+use Rattle.jb_state.specs.Plan.{loaded_at}
+use Rattle.jb_state.specs.LiveSlots.{linkables, loaded_linkable, message_in}
+use Rattle.jb_state.specs.Links.{Linkable, parent_for, parent_of}
+use Rattle.jb_state.specs.Live.{change_live_from}
+use Rattle.jb_state.specs.Loaded.{IsMessageAt, with_head_at}
+use Rattle.jb_state.specs.Message.{replyid_of}
+use Rattle.jb_state.specs.Relinked.{relinked}
+use Rattle.jb_state.specs.State.{LiveMessage, SlotState, slot_state, text_of}
+use Rattle.jb_state.specs.declared.loaded.Loaded.{Loaded}
+use Rattle.jb_state.specs.declared.loaded.LoadedMessage.{LoadedMessage}
+use Rattle.jb_state.specs.declared.loaded.LoadedSlot.{LoadedSlot}
+use Rattle.jb_state.specs.declared.loaded.LoadedSlot.TheVariants.{Empty, Killed, Live}
+use Rattle.jb_state.specs.declared.message.Head.{Head}
 use Rattle.jb_link.proofs.AreaLemmas.{below_base, by_place, get_put, length_set, named_beside, named_is_in, some_named}
 use Rattle.jb_link.proofs.IndexLemmas.{id_of, rises_alike}
 use Rattle.jb_link.proofs.FoundLemmas.{kept_is_parent, parent_kept_live}

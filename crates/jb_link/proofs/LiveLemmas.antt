@@ -5,15 +5,15 @@ use Rattle.std.proofs.lemmas.Bool.Decides.{nat_tests}
 use Rattle.std.proofs.lemmas.Bool.{false≢true}
 use Rattle.std.proofs.lemmas.Option.{slice_get-map}
 use Rattle.std.specs.Option.{is_some, option_map}
-use Rattle.jb_model.specs.Links.{Linkable, is_id, linkable, number_or_0, parent_for}
-use Rattle.jb_model.specs.Message.{msgid_of}
-use Rattle.jb_model.specs.Live.{live_from, live_of, message_at}
-use Rattle.jb_model.specs.State.{slot_state, state_of}
-use Rattle.jb_model.specs.declared.loaded.Loaded.{Loaded}
-use Rattle.jb_model.specs.declared.loaded.LoadedMessage.{LoadedMessage}
-use Rattle.jb_model.specs.declared.loaded.LoadedSlot.{LoadedSlot}
-use Rattle.jb_model.specs.declared.loaded.LoadedSlot.TheVariants.{Empty, Killed, Live}
-use Rattle.jb_model.specs.LiveSlots.{IsLive, is_live_and, linkables_from, loaded_linkable, message_in}
+use Rattle.jb_state.specs.Links.{Linkable, is_id, linkable, number_or_0, parent_for}
+use Rattle.jb_state.specs.Message.{msgid_of}
+use Rattle.jb_state.specs.Live.{live_from, live_of, message_at}
+use Rattle.jb_state.specs.State.{slot_state, state_of}
+use Rattle.jb_state.specs.declared.loaded.Loaded.{Loaded}
+use Rattle.jb_state.specs.declared.loaded.LoadedMessage.{LoadedMessage}
+use Rattle.jb_state.specs.declared.loaded.LoadedSlot.{LoadedSlot}
+use Rattle.jb_state.specs.declared.loaded.LoadedSlot.TheVariants.{Empty, Killed, Live}
+use Rattle.jb_state.specs.LiveSlots.{IsLive, is_live_and, linkables_from, loaded_linkable, message_in}
 
 -- no text bears on the links
 pub linkables_with_texts : (texts : List ℕ) (number : ℕ) (slots : List LoadedSlot) → map linkable (live_from number (map (slot_state texts) slots)) ≡ linkables_from number slots

@@ -9,21 +9,21 @@ use Rattle.std.proofs.lemmas.List.Kept.{AllPairs-cons, AllPairs-filter}
 use Rattle.std.proofs.lemmas.List.Sorted.{Contains-permutation, IsPermutation-sym}
 use Rattle.jb_bytes.specs.Subfields.{first_of}
 use Rattle.jb_bytes.specs.declared.subfield.TheConstants.{MSGID, REPLYID}
-use Rattle.jb_model.specs.Links.{Linkable, RisesFrom, is_reply_to, parent_for, parent_of}
-use Rattle.jb_model.specs.Loaded.{with_slot_at}
-use Rattle.jb_model.specs.Message.{replyid_of}
-use Rattle.jb_model.specs.State.{state_of}
-use Rattle.jb_model.specs.declared.loaded.Loaded.{Loaded}
-use Rattle.jb_model.specs.declared.loaded.LoadedMessage.{LoadedMessage}
-use Rattle.jb_model.specs.declared.loaded.LoadedSlot.TheVariants.{Killed}
-use Rattle.jb_model.proofs.LinkLaws.{linkables_rise, rises_above}
+use Rattle.jb_state.specs.Links.{Linkable, RisesFrom, is_reply_to, parent_for, parent_of}
+use Rattle.jb_state.specs.Loaded.{with_slot_at}
+use Rattle.jb_state.specs.Message.{replyid_of}
+use Rattle.jb_state.specs.State.{state_of}
+use Rattle.jb_state.specs.declared.loaded.Loaded.{Loaded}
+use Rattle.jb_state.specs.declared.loaded.LoadedMessage.{LoadedMessage}
+use Rattle.jb_state.specs.declared.loaded.LoadedSlot.TheVariants.{Killed}
+use Rattle.jb_state.proofs.LinkLaws.{linkables_rise, rises_above}
 use Rattle.jb_link.specs.IdLists.{IsIdList, IsNextWith, id_at, id_place}
 use Rattle.jb_link.specs.Kept.{IsKeptList}
 use Rattle.jb_link.specs.Order.{IsPartWith, id_order, pair_order}
 use Rattle.jb_link.specs.Orphans.{AddsOrphans, AreOrphans, IsOrphan, orphan_of, orphans_of, without_one}
 use Rattle.jb_link.specs.Part.{part}
-use Rattle.jb_model.specs.Plan.{loaded_at}
-use Rattle.jb_model.specs.LiveSlots.{IsLive, linkables, loaded_linkable}
+use Rattle.jb_state.specs.Plan.{loaded_at}
+use Rattle.jb_state.specs.LiveSlots.{IsLive, linkables, loaded_linkable}
 use Rattle.jb_link.specs.declared.orphans.Orphan.{Orphan}
 use Rattle.jb_link.proofs.AreaLemmas.{killed_names_none, listed_named, named_beside, named_is_in, named_listed}
 use Rattle.jb_link.proofs.FoundLemmas.{IsReplyById, listed_reply, live_named, no_parent_by_id, no_parent_kept, parent_as_kept, parent_by_id, reply_has_id, reply_keeps, reply_listed, same_id}

@@ -4,14 +4,14 @@ use Rattle.std.proofs.lemmas.Grind.{common_steps, take_at_read}
 use Rattle.std.proofs.lemmas.List.Folds.{find-append}
 use Rattle.std.proofs.lemmas.Option.{get_or_from_slice_get, slice_get-get_or}
 use Rattle.std.specs.Option.{option_or}
-use Rattle.jb_model.specs.Links.{Linkable, is_id, number_or_0, parent_at, parent_for, parent_of, parent_or_0}
-use Rattle.jb_model.specs.Message.{msgid_of, replyid_of}
-use Rattle.jb_model.specs.declared.loaded.LoadedMessage.{LoadedMessage}
-use Rattle.jb_model.specs.declared.loaded.LoadedSlot.{LoadedSlot}
-use Rattle.jb_model.specs.declared.loaded.LoadedSlot.TheVariants.{Empty, Killed, Live}
+use Rattle.jb_state.specs.Links.{Linkable, is_id, number_or_0, parent_at, parent_for, parent_of, parent_or_0}
+use Rattle.jb_state.specs.Message.{msgid_of, replyid_of}
+use Rattle.jb_state.specs.declared.loaded.LoadedMessage.{LoadedMessage}
+use Rattle.jb_state.specs.declared.loaded.LoadedSlot.{LoadedSlot}
+use Rattle.jb_state.specs.declared.loaded.LoadedSlot.TheVariants.{Empty, Killed, Live}
 use Rattle.jb_link.specs.Ids.{HasLowest, KeepsLowest}
 use Rattle.jb_link.specs.Parents.{AreParents}
-use Rattle.jb_model.specs.LiveSlots.{linkables_from, loaded_linkable, msgid_in}
+use Rattle.jb_state.specs.LiveSlots.{linkables_from, loaded_linkable, msgid_in}
 use Rattle.jb_link.proofs.LiveLemmas.{find_below, find_numbered, linkable_in, linkables_from-append}
 use Rattle.jb_link.proofs.RangeLemmas.{found_from}
 

@@ -7,15 +7,15 @@ use Rattle.std.proofs.lemmas.List.{reverse-append, take-append-drop}
 use Rattle.std.proofs.lemmas.List.Folds.{find-append}
 use Rattle.std.proofs.Math.Seq.{drop-cons}
 use Rattle.std.specs.Option.{is_some, option_or}
-use Rattle.jb_model.specs.Links.{Linkable, first_reply_of, is_id, next_reply_of, number_or_0, parent_for, parent_of}
-use Rattle.jb_model.specs.Message.{replyid_of}
-use Rattle.jb_model.specs.declared.links.Links.{Links}
-use Rattle.jb_model.specs.declared.loaded.LoadedMessage.{LoadedMessage}
-use Rattle.jb_model.specs.declared.loaded.LoadedSlot.{LoadedSlot}
-use Rattle.jb_model.specs.declared.loaded.LoadedSlot.TheVariants.{Empty, Killed, Live}
+use Rattle.jb_state.specs.Links.{Linkable, first_reply_of, is_id, next_reply_of, number_or_0, parent_for, parent_of}
+use Rattle.jb_state.specs.Message.{replyid_of}
+use Rattle.jb_state.specs.declared.links.Links.{Links}
+use Rattle.jb_state.specs.declared.loaded.LoadedMessage.{LoadedMessage}
+use Rattle.jb_state.specs.declared.loaded.LoadedSlot.{LoadedSlot}
+use Rattle.jb_state.specs.declared.loaded.LoadedSlot.TheVariants.{Empty, Killed, Live}
 use Rattle.jb_link.specs.Parents.{AreParents}
-use Rattle.jb_model.specs.Plan.{links_of}
-use Rattle.jb_model.specs.LiveSlots.{linkables_from, loaded_linkable, message_in}
+use Rattle.jb_state.specs.Plan.{links_of}
+use Rattle.jb_state.specs.LiveSlots.{linkables_from, loaded_linkable, message_in}
 use Rattle.jb_link.proofs.LiveLemmas.{find_below, linkables_from-append}
 use Rattle.jb_link.proofs.ParentLemmas.{parent_of_message}
 use Rattle.jb_link.proofs.RangeLemmas.{found_in_range, found_lower, never_found, same_found}

@@ -3,13 +3,13 @@ use Rattle.std.proofs.Common.{◌≡◌, ◌≢◌, ℕ, zero, suc, ◌+◌, ◌
 use Rattle.std.proofs.lemmas.List.Elements.{All-cons, All-head, All-nil, All-tail}
 use Rattle.std.proofs.lemmas.List.Folds.{find-append}
 use Rattle.std.specs.Option.{option_or}
-use Rattle.jb_model.specs.Links.{Linkable, first_reply_of, is_id, linkable, next_reply_of, number_or_0, parent_for, parent_of}
-use Rattle.jb_model.specs.Live.{Numbered, live_from}
-use Rattle.jb_model.specs.State.{LiveMessage, SlotState, killed_message, live_message, no_message}
-use Rattle.jb_model.specs.declared.loaded.LoadedMessage.{LoadedMessage}
-use Rattle.jb_model.specs.declared.loaded.LoadedSlot.{LoadedSlot}
-use Rattle.jb_model.specs.declared.loaded.LoadedSlot.TheVariants.{Empty, Killed, Live}
-use Rattle.jb_model.specs.LiveSlots.{linkables_from, loaded_linkable}
+use Rattle.jb_state.specs.Links.{Linkable, first_reply_of, is_id, linkable, next_reply_of, number_or_0, parent_for, parent_of}
+use Rattle.jb_state.specs.Live.{Numbered, live_from}
+use Rattle.jb_state.specs.State.{LiveMessage, SlotState, killed_message, live_message, no_message}
+use Rattle.jb_state.specs.declared.loaded.LoadedMessage.{LoadedMessage}
+use Rattle.jb_state.specs.declared.loaded.LoadedSlot.{LoadedSlot}
+use Rattle.jb_state.specs.declared.loaded.LoadedSlot.TheVariants.{Empty, Killed, Live}
+use Rattle.jb_state.specs.LiveSlots.{linkables_from, loaded_linkable}
 use Rattle.jb_link.proofs.RangeLemmas.{found_from, option_or_none, same_found}
 
 -- a message without its text and its places

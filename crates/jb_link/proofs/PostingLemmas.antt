@@ -5,15 +5,15 @@ use Rattle.std.proofs.lemmas.List.{length-map, map-append}
 use Rattle.std.proofs.lemmas.List.Folds.{find-append}
 use Rattle.std.proofs.lemmas.Option.{slice_get_within}
 use Rattle.std.specs.Option.{option_or}
-use Rattle.jb_model.specs.Links.{HasItsLinks, Linkable, first_reply_of, linkable, next_reply_of, number_or_0, parent_for, parent_of}
-use Rattle.jb_model.specs.Live.{live_from}
-use Rattle.jb_model.specs.Message.{replyid_of}
-use Rattle.jb_model.specs.Post.{with_first_reply, with_next_reply}
-use Rattle.jb_model.specs.State.{LiveMessage, SlotState, live_message}
-use Rattle.jb_model.specs.declared.loaded.LoadedMessage.{LoadedMessage}
-use Rattle.jb_model.specs.declared.loaded.LoadedSlot.{LoadedSlot}
-use Rattle.jb_model.specs.declared.loaded.LoadedSlot.TheVariants.{Live}
-use Rattle.jb_model.specs.LiveSlots.{linkables_from, loaded_linkable}
+use Rattle.jb_state.specs.Links.{HasItsLinks, Linkable, first_reply_of, linkable, next_reply_of, number_or_0, parent_for, parent_of}
+use Rattle.jb_state.specs.Live.{live_from}
+use Rattle.jb_state.specs.Message.{replyid_of}
+use Rattle.jb_state.specs.Posted.{with_first_reply, with_next_reply}
+use Rattle.jb_state.specs.State.{LiveMessage, SlotState, live_message}
+use Rattle.jb_state.specs.declared.loaded.LoadedMessage.{LoadedMessage}
+use Rattle.jb_state.specs.declared.loaded.LoadedSlot.{LoadedSlot}
+use Rattle.jb_state.specs.declared.loaded.LoadedSlot.TheVariants.{Live}
+use Rattle.jb_state.specs.LiveSlots.{linkables_from, loaded_linkable}
 use Rattle.jb_link.proofs.EachLemmas.{Each, each_at, each_from, each_of_reverse, each_reversed, each_then, found_each, none_passes, nothing_found}
 use Rattle.jb_link.proofs.LiveLemmas.{linkables_from-append}
 use Rattle.jb_link.proofs.PlanLemmas.{parent_lower}
@@ -44,7 +44,7 @@ pub record IsPosting (base : ℕ) (slots : List SlotState) (message : LiveMessag
   pub no_next : message.head.reply_next ≡ 0
 
 -- a parent is found again, where it is kept
-parent_again : (live : List Linkable) (n : ℕ) (reply : Option (List ℕ)) (kept parent : ℕ) → parent ≡ parent_for live n reply kept → parent_for live n reply parent ≡ parent
+pub parent_again : (live : List Linkable) (n : ℕ) (reply : Option (List ℕ)) (kept parent : ℕ) → parent ≡ parent_for live n reply kept → parent_for live n reply parent ≡ parent
 parent_again live n (Some id) kept parent e = sym e
 parent_again live n None kept parent e =
     elim (found_kept n kept live) [

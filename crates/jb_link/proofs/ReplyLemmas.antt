@@ -8,16 +8,16 @@ use Rattle.std.proofs.lemmas.Slice.Eq.{bytes_eq-Decides}
 use Rattle.std.proofs.lemmas.Option.{get_or_from_slice_get, slice_get_within}
 use Rattle.std.proofs.Math.Seq.{split_at}
 use Rattle.std.specs.Option.{option_or}
-use Rattle.jb_model.specs.Links.{linkables_of, Linkable, is_id, last_reply_of, number_or_0, parent_for, parent_of}
-use Rattle.jb_model.specs.Message.{msgid_of}
-use Rattle.jb_model.specs.Live.{message_at}
-use Rattle.jb_model.specs.Post.{slots_with, spliced_slots, with_first_reply, with_next_reply}
-use Rattle.jb_model.specs.State.{AreaState, state_of}
-use Rattle.jb_model.specs.declared.loaded.Loaded.{Loaded}
-use Rattle.jb_model.specs.declared.loaded.LoadedMessage.{LoadedMessage}
-use Rattle.jb_model.specs.declared.loaded.LoadedSlot.{LoadedSlot}
-use Rattle.jb_model.specs.declared.loaded.LoadedSlot.TheVariants.{Empty, Killed, Live}
-use Rattle.jb_model.specs.LiveSlots.{IsLive, is_live_and, linkables_from, loaded_linkable, msgid_in}
+use Rattle.jb_state.specs.Links.{linkables_of, Linkable, is_id, last_reply_of, number_or_0, parent_for, parent_of}
+use Rattle.jb_state.specs.Message.{msgid_of}
+use Rattle.jb_state.specs.Live.{message_at}
+use Rattle.jb_state.specs.Posted.{slots_with, spliced_slots, with_first_reply, with_next_reply}
+use Rattle.jb_state.specs.State.{AreaState, state_of}
+use Rattle.jb_state.specs.declared.loaded.Loaded.{Loaded}
+use Rattle.jb_state.specs.declared.loaded.LoadedMessage.{LoadedMessage}
+use Rattle.jb_state.specs.declared.loaded.LoadedSlot.{LoadedSlot}
+use Rattle.jb_state.specs.declared.loaded.LoadedSlot.TheVariants.{Empty, Killed, Live}
+use Rattle.jb_state.specs.LiveSlots.{IsLive, is_live_and, linkables_from, loaded_linkable, msgid_in}
 use Rattle.jb_link.specs.Splice.{answers, own_id, spliced, with_spliced}
 use Rattle.jb_link.specs.declared.splicing.Spliced.{Spliced}
 use Rattle.jb_link.specs.declared.splicing.Spliced.TheVariants.{None as Nothing, First, After}

@@ -1,13 +1,13 @@
 -- A linked area stays linked under a post.
 use Rattle.std.proofs.Common.{◌≡◌, ◌≢◌, ◌⊎◌, inl, inr, ℕ, zero, suc, ◌+◌, ◌<◌, nat_lt, Bool, true, false, ◌&&◌, ◌==◌, cond, List, [], ◌∷◌, ◌++◌, Some, find, map, length, slice_get, slice_set, refl, sym, ◌∙◌, ap, arith, ne_eqb, eq-eqb}
 use Rattle.std.proofs.lemmas.Bool.{eqb-false}
-use Rattle.jb_model.specs.Links.{Linkable, first_reply_of, linkable, next_reply_of, number_or_0, parent_of}
-use Rattle.jb_model.specs.Live.{live_from}
-use Rattle.jb_model.specs.State.{LiveMessage, SlotState, killed_message, live_message, no_message}
-use Rattle.jb_model.specs.declared.loaded.LoadedMessage.{LoadedMessage}
-use Rattle.jb_model.specs.declared.loaded.LoadedSlot.{LoadedSlot}
-use Rattle.jb_model.specs.declared.loaded.LoadedSlot.TheVariants.{Live}
-use Rattle.jb_model.specs.LiveSlots.{linkables_from}
+use Rattle.jb_state.specs.Links.{Linkable, first_reply_of, linkable, next_reply_of, number_or_0, parent_of}
+use Rattle.jb_state.specs.Live.{live_from}
+use Rattle.jb_state.specs.State.{LiveMessage, SlotState, killed_message, live_message, no_message}
+use Rattle.jb_state.specs.declared.loaded.LoadedMessage.{LoadedMessage}
+use Rattle.jb_state.specs.declared.loaded.LoadedSlot.{LoadedSlot}
+use Rattle.jb_state.specs.declared.loaded.LoadedSlot.TheVariants.{Live}
+use Rattle.jb_state.specs.LiveSlots.{linkables_from}
 use Rattle.jb_link.proofs.PostLemmas.{HasNew, first_then, next_then, unload, unloaded}
 
 -- a number that is 0 or stays

@@ -1,12 +1,12 @@
 -- Reply links and threads after the JAM proposal ("Reply linking"): small areas by hand, and a drawn one by the rule of the parent
 -- as it was written out plainly in another language.
 use Rattle.std.proofs.Common.{◌≡◌, ℕ, List, [], ◌∷◌, Option, Some, None, codes, map, refl}
-use Rattle.jb_model.specs.Plan.{plan_of}
+use Rattle.jb_state.specs.Plan.{plan_of}
 use Rattle.jb_link.specs.Splice.{spliced}
 use Rattle.jb_link.specs.Thread.{thread_of}
 use Rattle.jb_link.specs.declared.splicing.Spliced.TheVariants.{None as Nothing, First, After}
-use Rattle.jb_model.specs.Links.{Linkable, parent_for}
-use Rattle.jb_model.specs.declared.links.Links.{Links}
+use Rattle.jb_state.specs.Links.{Linkable, parent_for}
+use Rattle.jb_state.specs.declared.links.Links.{Links}
 
 -- a live message: its number, its MSGID and its REPLYID where it has them, and the ReplyTo that its header keeps
 abbrev one : ℕ → Option (List ℕ) → Option (List ℕ) → ℕ → Linkable

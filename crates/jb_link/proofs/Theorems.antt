@@ -1,22 +1,13 @@
 -- A linked area stays linked under a post.
-use Rattle.std.proofs.Common.{◌≡◌, ◌≢◌, ◌⊎◌, inl, inr, ℕ, ◌+◌, ◌-◌, ◌≤◌, nat_lt, Bool, true, false, ◌&&◌, ◌==◌, cond, List, [], ◌∷◌, ◌++◌, All, reverse, Option, Some, None, find, map, slice_get, slice_set, length-set, refl, sym, ◌∙◌, ap, arith, subst, ne_eqb, eq-eqb, eqb-true, le-ltb, option_map, option_to_list}
-use Rattle.jb_base.specs.Access.{first_refusal}
-use Rattle.jb_base.specs.declared.area.Action.TheVariants.{Post as Posting}
-use Rattle.jb_base.specs.declared.area.AreaRules.{AreaRules}
-use Rattle.jb_base.specs.declared.area.Rule.{Rule}
-use Rattle.jb_bytes.specs.declared.subfield.TheConstants.{SENDER_NAME, RECEIVER_NAME, MSGID, REPLYID, SUBJECT}
-use Rattle.jb_base.specs.declared.user.User.{User}
-use Rattle.jb_model.specs.Answered.{Answered, unless_denied, unless_refused}
-use Rattle.jb_model.specs.Links.{HasItsLinks, IsLinked, Linkable, is_id, last_reply_of, linkable, linkables_of, number_or_0, parent_for, parent_of}
-use Rattle.jb_model.specs.Live.{live_from, live_of, message_at}
-use Rattle.jb_model.specs.Message.{replyid_of}
-use Rattle.jb_model.specs.Post.{Draft, answer_refusal, draft_refusal, plain_field, post_done, posted_message, posted_msgid, posted_replyid, posted_state, posted_subfields, room_refusal, slots_with, spliced_slots, with_first_reply, with_next_reply}
-use Rattle.jb_model.specs.State.{AreaState, LiveMessage, SlotState, live_message, next_number}
-use Rattle.jb_model.specs.declared.loaded.LoadedSlot.{LoadedSlot}
-use Rattle.jb_model.specs.declared.loaded.LoadedSlot.TheVariants.{Live}
-use Rattle.jb_model.specs.declared.reply.Reply.{Reply}
-use Rattle.jb_link.specs.Laws.{PostsKeepLinks}
-use Rattle.jb_model.specs.LiveSlots.{loaded_linkable}
+use Rattle.std.proofs.Common.{◌≡◌, ◌≢◌, ◌⊎◌, inl, inr, ℕ, ◌+◌, ◌-◌, ◌≤◌, nat_lt, Bool, true, false, ◌&&◌, ◌==◌, cond, List, [], ◌∷◌, ◌++◌, All, reverse, Option, Some, None, find, map, slice_get, slice_set, length-set, refl, sym, ◌∙◌, ap, arith, subst, ne_eqb, eq-eqb, eqb-true, le-ltb, option_map}
+use Rattle.jb_state.specs.Links.{HasItsLinks, IsLinked, Linkable, is_id, last_reply_of, linkable, linkables_of, number_or_0, parent_for, parent_of}
+use Rattle.jb_state.specs.Live.{live_from, live_of, message_at}
+use Rattle.jb_state.specs.Message.{replyid_of}
+use Rattle.jb_state.specs.Posted.{posted_state, slots_with, spliced_slots, with_first_reply, with_next_reply}
+use Rattle.jb_state.specs.State.{AreaState, LiveMessage, SlotState, live_message, next_number}
+use Rattle.jb_state.specs.declared.loaded.LoadedSlot.{LoadedSlot}
+use Rattle.jb_state.specs.declared.loaded.LoadedSlot.TheVariants.{Live}
+use Rattle.jb_state.specs.LiveSlots.{loaded_linkable}
 use Rattle.jb_link.proofs.EachLemmas.{Each, IsOneOf, each_is_one, each_reversed, each_then, found_each, greatest_found}
 use Rattle.jb_link.proofs.LiveLemmas.{StandsAt, found_stands}
 use Rattle.jb_link.proofs.PostLemmas.{linkables_unloaded, unload, unloaded}
@@ -139,34 +130,3 @@ posted_is_linked state message kept above linked found no_first no_next =
       no_first = no_first;
       no_next = no_next;
     })
-
--- the REPLYID of a posted message is the one that was chosen for it
-replyid_posted : (rules : AreaRules) (state : AreaState) (user : User) (draft : Draft) → replyid_of (posted_subfields rules state user draft) ≡ posted_replyid state draft.reply_to
-replyid_posted rules state user draft = by_reply (posted_replyid state draft.reply_to)
-  where
-    by_reply : (reply : Option (List ℕ))
-        → replyid_of ((plain_field SENDER_NAME user.name ∷ plain_field RECEIVER_NAME draft.to ∷ plain_field MSGID (posted_msgid rules (next_number state)) ∷ [])
-        ++ map (plain_field REPLYID) (option_to_list reply) ++ plain_field SUBJECT draft.subject ∷ []) ≡ reply
-    by_reply None = refl
-    by_reply (Some id) = refl
-
--- a refusal keeps the area, and so its links
-unless_refused_linked : (state : AreaState) (refusal : Option Reply) (rest : Answered) → IsLinked state → IsLinked rest.state → IsLinked (unless_refused state refusal rest).state
-unless_refused_linked state (Some reply) rest linked after_it = linked
-unless_refused_linked state None rest linked after_it = after_it
-
-unless_denied_linked : (state : AreaState) (rule : Option Rule) (rest : Answered) → IsLinked state → IsLinked rest.state → IsLinked (unless_denied state rule rest).state
-unless_denied_linked state (Some rule) rest linked after_it = linked
-unless_denied_linked state None rest linked after_it = after_it
-
--- a linked area stays linked whatever is posted
-pub posts_keep_links : PostsKeepLinks
-posts_keep_links rules state user moment draft above linked =
-    let message : LiveMessage = posted_message rules state user moment draft in
-    unless_denied_linked state (first_refusal user rules Posting None) _ linked
-    (unless_refused_linked state (draft_refusal draft) _ linked
-    (unless_refused_linked state (answer_refusal rules state user draft) _ linked
-    (unless_refused_linked state (room_refusal rules state message) (post_done state message) linked
-    (posted_is_linked state message draft.reply_to above linked
-    (ap (λ reply. parent_for (linkables_of state) (next_number state) reply draft.reply_to) (sym (replyid_posted rules state user draft)))
-    refl refl))))

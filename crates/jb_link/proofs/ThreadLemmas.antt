@@ -5,13 +5,13 @@ use Rattle.std.proofs.lemmas.List.{append-nil, map-append}
 use Rattle.std.proofs.lemmas.List.Elements.{filter-append}
 use Rattle.std.proofs.lemmas.Option.{slice_get-get_or, slice_get_within}
 use Rattle.std.specs.Option.{is_some}
-use Rattle.jb_model.specs.Links.{Linkable, parent_at, parent_of, parent_or_0, root_within, thread_root}
-use Rattle.jb_model.specs.Message.{replyid_of}
-use Rattle.jb_model.specs.declared.loaded.Loaded.{Loaded}
-use Rattle.jb_model.specs.declared.loaded.LoadedMessage.{LoadedMessage}
-use Rattle.jb_model.specs.declared.loaded.LoadedSlot.{LoadedSlot}
-use Rattle.jb_model.specs.declared.loaded.LoadedSlot.TheVariants.{Empty, Killed, Live}
-use Rattle.jb_model.specs.LiveSlots.{IsLive, linkables_from, loaded_linkable, message_in}
+use Rattle.jb_state.specs.Links.{Linkable, parent_at, parent_of, parent_or_0, root_within, thread_root}
+use Rattle.jb_state.specs.Message.{replyid_of}
+use Rattle.jb_state.specs.declared.loaded.Loaded.{Loaded}
+use Rattle.jb_state.specs.declared.loaded.LoadedMessage.{LoadedMessage}
+use Rattle.jb_state.specs.declared.loaded.LoadedSlot.{LoadedSlot}
+use Rattle.jb_state.specs.declared.loaded.LoadedSlot.TheVariants.{Empty, Killed, Live}
+use Rattle.jb_state.specs.LiveSlots.{IsLive, linkables_from, loaded_linkable, message_in}
 use Rattle.jb_link.specs.Thread.{AreRoots}
 use Rattle.jb_link.proofs.LiveLemmas.{StandsAt, stands_from_live}
 use Rattle.jb_link.proofs.ParentLemmas.{one_more, parent_of_message, parent_of_no_message}

@@ -2,8 +2,8 @@
 use Rattle.std.specs.Prelude.{◌≡◌, ◌≢◌, ◌↔◌, ℕ, ◌<◌, ◌≤◌, List, [], AllPairs, Contains, IsSome, Option, Some, None, option_and_then, unwrap_or}
 use Rattle.jb_bytes.specs.Subfields.{first_of}
 use Rattle.jb_link.specs.Ids.{hash_of}
-use Rattle.jb_model.specs.Plan.{loaded_at}
-use Rattle.jb_model.specs.declared.loaded.Loaded.{Loaded}
+use Rattle.jb_state.specs.Plan.{loaded_at}
+use Rattle.jb_state.specs.declared.loaded.Loaded.{Loaded}
 use Rattle.jb_link.specs.Order.{IsRising, id_order}
 
 -- the first subfield of this kind of the live message that a number names, where there are both

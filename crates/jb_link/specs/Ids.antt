@@ -5,10 +5,10 @@ use Rattle.std.specs.BTreeMap.{BTreeMap, get_by}
 use Rattle.std.specs.Cmp.Lexicographic.{slice_cmp}
 use Rattle.std.specs.Hash.FoldHasher as folding
 use Rattle.std.specs.Ordering.{nat_cmp, ordering_then}
-use Rattle.jb_model.specs.Links.{Linkable, is_id, number_or_0}
-use Rattle.jb_model.specs.declared.loaded.LoadedSlot.{LoadedSlot}
+use Rattle.jb_state.specs.Links.{Linkable, is_id, number_or_0}
+use Rattle.jb_state.specs.declared.loaded.LoadedSlot.{LoadedSlot}
 use Rattle.jb_link.specs.declared.ids.Ids.{Ids}
-use Rattle.jb_model.specs.LiveSlots.{msgid_in}
+use Rattle.jb_state.specs.LiveSlots.{msgid_in}
 
 -- a number that ids with the same bytes share, and others hardly ever
 unfoldable pub hash_of : List ℕ → ℕ

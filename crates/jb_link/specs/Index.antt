@@ -1,7 +1,7 @@
 -- The index of an area's replies.
 use Rattle.std.specs.Prelude.{◌≡◌, ℕ, List}
 use Rattle.jb_bytes.specs.declared.subfield.TheConstants.{MSGID, REPLYID}
-use Rattle.jb_model.specs.declared.loaded.Loaded.{Loaded}
+use Rattle.jb_state.specs.declared.loaded.Loaded.{Loaded}
 use Rattle.jb_link.specs.IdLists.{IsIdList}
 use Rattle.jb_link.specs.Kept.{IsKeptList}
 

@@ -1,13 +1,13 @@
 -- How the index of an area goes with its changes.
 use Rattle.std.specs.Prelude.{◌≡◌, ℕ, ◌≤◌, ◌++◌, ◌∷◌, ◌-◌, [], map}
-use Rattle.jb_model.specs.Loaded.{IsMessageAt, with_head_at, with_slot_at}
-use Rattle.jb_model.specs.Relink.{relinked_slots}
-use Rattle.jb_model.specs.State.{slot_state, state_of}
-use Rattle.jb_model.specs.declared.loaded.Loaded.{Loaded}
-use Rattle.jb_model.specs.declared.loaded.LoadedMessage.{LoadedMessage}
-use Rattle.jb_model.specs.declared.loaded.LoadedSlot.{LoadedSlot}
-use Rattle.jb_model.specs.declared.loaded.LoadedSlot.TheVariants.{Killed}
-use Rattle.jb_model.specs.declared.message.Head.{Head}
+use Rattle.jb_state.specs.Loaded.{IsMessageAt, with_head_at, with_slot_at}
+use Rattle.jb_state.specs.Relinked.{relinked_slots}
+use Rattle.jb_state.specs.State.{slot_state, state_of}
+use Rattle.jb_state.specs.declared.loaded.Loaded.{Loaded}
+use Rattle.jb_state.specs.declared.loaded.LoadedMessage.{LoadedMessage}
+use Rattle.jb_state.specs.declared.loaded.LoadedSlot.{LoadedSlot}
+use Rattle.jb_state.specs.declared.loaded.LoadedSlot.TheVariants.{Killed}
+use Rattle.jb_state.specs.declared.message.Head.{Head}
 use Rattle.jb_link.specs.Index.{IsIndexOf, ReplyIndex}
 
 -- the second area has one slot more than the first, behind the others

@@ -1,9 +1,9 @@
 -- The live messages that have no REPLYID and keep the number of a lower message, in the order of those numbers.
 use Rattle.std.specs.Prelude.{◌≡◌, ◌≢◌, ◌↔◌, ℕ, ◌+◌, ◌<◌, ◌≤◌, nat_le, nat_lt, ◌&&◌, is_none, List, AllPairs, Contains, IsSome, length, Option, Some, None, if◌then◌else◌}
-use Rattle.jb_model.specs.Plan.{loaded_at}
-use Rattle.jb_model.specs.Message.{replyid_of}
-use Rattle.jb_model.specs.declared.loaded.Loaded.{Loaded}
-use Rattle.jb_model.specs.declared.loaded.LoadedMessage.{LoadedMessage}
+use Rattle.jb_state.specs.Plan.{loaded_at}
+use Rattle.jb_state.specs.Message.{replyid_of}
+use Rattle.jb_state.specs.declared.loaded.Loaded.{Loaded}
+use Rattle.jb_state.specs.declared.loaded.LoadedMessage.{LoadedMessage}
 use Rattle.jb_link.specs.Order.{IsRising, pair_order}
 
 -- the number names a live message without REPLYID, whose header keeps this ReplyTo

@@ -1,6 +1,6 @@
 -- Keys of messages with ids: the upper bits of a hash, and below them the place of the message.
 use Rattle.std.specs.Prelude.{◌≡◌, ℕ, ◌+◌, ◌/◌, ◌%◌, List, All, map}
-use Rattle.jb_model.specs.declared.loaded.Loaded.{Loaded}
+use Rattle.jb_state.specs.declared.loaded.Loaded.{Loaded}
 use Rattle.jb_link.specs.IdLists.{AreIdsBelow, hash_at, id_place}
 
 -- the number of the message with a key

@@ -2,7 +2,6 @@ pub mod Splice
 pub mod Ids
 pub mod Parents
 pub mod Thread
-pub mod Laws
 pub mod Order
 pub mod IdLists
 pub mod Kept

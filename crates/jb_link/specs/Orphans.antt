@@ -1,12 +1,12 @@
 -- The messages that one leaves behind when it goes.
 use Rattle.std.specs.Prelude.{◌≡◌, ◌↔◌, ℕ, ◌<◌, ◌==◌, [], ◌++◌, not, Bool, true, List, Option, AllPairs, Contains, filter, map}
 use Rattle.jb_link.specs.Replied.{IsReply}
-use Rattle.jb_model.specs.LiveSlots.{linkables, loaded_linkable}
+use Rattle.jb_state.specs.LiveSlots.{linkables, loaded_linkable}
 use Rattle.jb_link.specs.declared.orphans.Orphan.{Orphan}
-use Rattle.jb_model.specs.Links.{Linkable, is_reply_to, parent_of}
-use Rattle.jb_model.specs.Message.{replyid_of}
-use Rattle.jb_model.specs.declared.loaded.Loaded.{Loaded}
-use Rattle.jb_model.specs.declared.loaded.LoadedMessage.{LoadedMessage}
+use Rattle.jb_state.specs.Links.{Linkable, is_reply_to, parent_of}
+use Rattle.jb_state.specs.Message.{replyid_of}
+use Rattle.jb_state.specs.declared.loaded.Loaded.{Loaded}
+use Rattle.jb_state.specs.declared.loaded.LoadedMessage.{LoadedMessage}
 
 -- all live messages but the one with this number
 abbrev pub without_one : ℕ → List Linkable → List Linkable

@@ -1,11 +1,11 @@
 -- The parents of messages: by their places, and of a message behind all others.
 use Rattle.std.specs.Prelude.{◌≡◌, ℕ, ◌+◌, ◌<◌, List, [], Option, length, option_and_then, slice_index}
-use Rattle.jb_model.specs.Plan.{loaded_at}
-use Rattle.jb_model.specs.LiveSlots.{linkables}
-use Rattle.jb_model.specs.Links.{Linkable, parent_at, parent_for}
-use Rattle.jb_model.specs.Message.{msgid_of}
-use Rattle.jb_model.specs.Post.{if_copied}
-use Rattle.jb_model.specs.declared.loaded.Loaded.{Loaded}
+use Rattle.jb_state.specs.Plan.{loaded_at}
+use Rattle.jb_state.specs.LiveSlots.{linkables}
+use Rattle.jb_state.specs.Links.{Linkable, parent_at, parent_for}
+use Rattle.jb_state.specs.Message.{msgid_of}
+use Rattle.jb_state.specs.Posted.{if_copied}
+use Rattle.jb_state.specs.declared.loaded.Loaded.{Loaded}
 
 -- at each of so many places, of which the first has the number `base`, the parent of that number, or 0
 pub record AreParents (live : List Linkable) (base count : ℕ) (parents : List ℕ) : Type 0 where

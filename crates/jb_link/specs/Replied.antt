@@ -1,11 +1,11 @@
 -- The replies of a message in a loaded area.
 use Rattle.std.specs.Prelude.{◌≡◌, ◌⊎◌, ℕ, ◌≤◌, [], Bool, true, List, Option, Some}
-use Rattle.jb_model.specs.Plan.{loaded_at}
-use Rattle.jb_model.specs.LiveSlots.{linkables, loaded_linkable}
-use Rattle.jb_model.specs.Links.{parent_of}
-use Rattle.jb_model.specs.Message.{replyid_of}
-use Rattle.jb_model.specs.declared.loaded.Loaded.{Loaded}
-use Rattle.jb_model.specs.declared.loaded.LoadedMessage.{LoadedMessage}
+use Rattle.jb_state.specs.Plan.{loaded_at}
+use Rattle.jb_state.specs.LiveSlots.{linkables, loaded_linkable}
+use Rattle.jb_state.specs.Links.{parent_of}
+use Rattle.jb_state.specs.Message.{replyid_of}
+use Rattle.jb_state.specs.declared.loaded.Loaded.{Loaded}
+use Rattle.jb_state.specs.declared.loaded.LoadedMessage.{LoadedMessage}
 
 -- this live message has that parent
 pub record IsReply (loaded : Loaded) (parent number : ℕ) (message : LoadedMessage) : Type 0 where

@@ -1,11 +1,11 @@
 -- The header that one more reply changes beside its own.
 use Rattle.std.specs.Prelude.{◌≡◌, ℕ, Bool, ◌==◌, List, Option, Some, None, find, option_map, reverse, if◌then◌else◌}
-use Rattle.jb_model.specs.Links.{Linkable, is_id, last_reply_of, number_or_0}
-use Rattle.jb_model.specs.Live.{message_at}
-use Rattle.jb_model.specs.Message.{replyid_of}
-use Rattle.jb_model.specs.Post.{slots_with, spliced_slots, with_first_reply, with_next_reply}
-use Rattle.jb_model.specs.State.{AreaState, SlotState}
-use Rattle.jb_model.specs.declared.loaded.LoadedMessage.{LoadedMessage}
+use Rattle.jb_state.specs.Links.{Linkable, is_id, last_reply_of, number_or_0}
+use Rattle.jb_state.specs.Live.{message_at}
+use Rattle.jb_state.specs.Message.{replyid_of}
+use Rattle.jb_state.specs.Posted.{slots_with, spliced_slots, with_first_reply, with_next_reply}
+use Rattle.jb_state.specs.State.{AreaState, SlotState}
+use Rattle.jb_state.specs.declared.loaded.LoadedMessage.{LoadedMessage}
 use Rattle.jb_link.specs.declared.splicing.Spliced.{Spliced}
 use Rattle.jb_link.specs.declared.splicing.Spliced.TheVariants.{None as Nothing, First, After}
 

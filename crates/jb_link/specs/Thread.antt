@@ -1,6 +1,6 @@
 -- The thread of a message, and the roots of messages by their places.
 use Rattle.std.specs.Prelude.{◌≡◌, ℕ, ◌+◌, ◌<◌, ◌==◌, List, filter, length, map, slice_index}
-use Rattle.jb_model.specs.Links.{Linkable, thread_root}
+use Rattle.jb_state.specs.Links.{Linkable, thread_root}
 
 -- the live numbers whose thread begins with this message, in rising order
 abbrev pub thread_from : List Linkable → ℕ → List ℕ

@@ -1,12 +1,12 @@
 //! In how many messages a link is another than the area gives.
 ghost use Rattle.std.specs.Prelude.{◌≡◌, ◌↔◌, ◌+◌, ◌≤◌, not, ℕ, List, count_by, length};
-ghost use Rattle.jb_model.specs.Links.{IsLinked};
-ghost use Rattle.jb_model.specs.Relink.{wrongly_linked};
-ghost use Rattle.jb_model.specs.State.{state_of};
-ghost use Rattle.jb_model.specs.Plan.{differs, has_links, loaded_at, plan_of};
-ghost use Rattle.jb_model.specs.LiveSlots.{linkables};
+ghost use Rattle.jb_state.specs.Links.{IsLinked};
+ghost use Rattle.jb_state.specs.Relinked.{wrongly_linked};
+ghost use Rattle.jb_state.specs.State.{state_of};
+ghost use Rattle.jb_state.specs.Plan.{differs, has_links, loaded_at, plan_of};
+ghost use Rattle.jb_state.specs.LiveSlots.{linkables};
 
-use jb_model::{Head, Links, Loaded, LoadedSlot};
+use jb_state::{Head, Links, Loaded, LoadedSlot};
 
 /// In how many live messages a link field is another than in this plan, which is that of
 /// [`relink_plan`](crate::relink_plan).

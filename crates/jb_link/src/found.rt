@@ -4,11 +4,11 @@ ghost use Rattle.std.specs.Borrow.{Bor};
 ghost use Rattle.jb_link.specs.Ids.{lent};
 ghost use Rattle.jb_link.specs.IdLists.{id_at};
 ghost use Rattle.jb_link.specs.Parents.{copied_msgid};
-ghost use Rattle.jb_model.specs.Plan.{loaded_at};
-ghost use Rattle.jb_model.specs.Loaded.{IsMessageAt};
+ghost use Rattle.jb_state.specs.Plan.{loaded_at};
+ghost use Rattle.jb_state.specs.Loaded.{IsMessageAt};
 
 use jb_base::{MOST_COPIED_MSGID_BYTES, MSGID};
-use jb_model::{Loaded, LoadedMessage, LoadedSlot};
+use jb_state::{Loaded, LoadedMessage, LoadedSlot};
 
 /// The live message that a number names. It stands in the slot at the place of the number.
 pub fn message_at(loaded: &Loaded, number: u32) -> Option<&LoadedMessage>

@@ -7,7 +7,7 @@ ghost use Rattle.jb_link.specs.Order.{bytes_order, hashed_order};
 
 use crate::found::id_at;
 use crate::id::hash_of;
-use jb_model::Loaded;
+use jb_state::Loaded;
 use std::cmp::Ordering;
 
 /// The id of this kind of the message with this number; without one, no bytes.
@@ -38,7 +38,8 @@ pub(crate) fn is_before(
     id: &[u8],
     number: u32,
 ) -> bool
-    ensures { result ≡ is_lt (hashed_order (hash_at kind loaded.now one, id_place kind loaded.now one) (hash, (id.now, number))) }
+    ensures { result ≡ is_lt (hashed_order
+        (hash_at kind loaded.now one, id_place kind loaded.now one) (hash, (id.now, number))) }
 {
     match hash_of(id_or_empty(loaded, kind, one)).cmp(&hash) {
         Ordering::Equal => compare_bytes(loaded, kind, one, id, number).is_lt(),

@@ -1,6 +1,6 @@
 //! Ids, compared by their bytes.
 ghost use Rattle.std.specs.Prelude.{◌≡◌};
-ghost use Rattle.jb_model.specs.Links.{is_id};
+ghost use Rattle.jb_state.specs.Links.{is_id};
 ghost use Rattle.jb_link.specs.Ids.{hash_of, lent};
 
 use std::hash::{FoldHasher, Hasher};

@@ -1,13 +1,13 @@
 //! Lists of numbers of messages, in the order of one of their ids and then of the numbers.
 ghost use Rattle.std.specs.Prelude.{◌≡◌, ◌+◌, ◌<◌, ◌≤◌, length};
-ghost use Rattle.jb_model.specs.Links.{is_id};
+ghost use Rattle.jb_state.specs.Links.{is_id};
 ghost use Rattle.jb_link.specs.IdLists.{IsGreatestWith, IsIdList, IsIdListBut, IsLeastWith, IsNextWith, id_at, id_place};
 ghost use Rattle.jb_link.specs.Order.{IsPartWith, IsRising, IsSplitAt, id_order};
 
 use crate::found::id_at;
 use crate::hashed::is_before;
 use crate::id::hash_of;
-use jb_model::Loaded;
+use jb_state::Loaded;
 use jb_tiered::Tiered;
 
 /// Where in the list this id and this number stand, or would stand.
@@ -74,7 +74,8 @@ pub(crate) fn part_with(
 ) -> (usize, usize)
     requires list { IsIdList kind loaded.now numbers.now.items }
     requires from { from ≤ 4_294_967_295 }
-    ensures { IsPartWith id_order (id_place kind loaded.now) numbers.now.items id.now from 4_294_967_295 result.0 result.1 }
+    ensures { IsPartWith id_order
+        (id_place kind loaded.now) numbers.now.items id.now from 4_294_967_295 result.0 result.1 }
 {
     let start = place_of(loaded, kind, numbers, id, from);
     let end = place_of(loaded, kind, numbers, id, u32::MAX);

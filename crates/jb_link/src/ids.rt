@@ -1,13 +1,13 @@
 //! The lowest number with each id, of the messages met so far.
 ghost use Rattle.std.specs.Prelude.{◌≡◌, ◌%◌, ◌<◌, ◌≤◌, ℕ, List, IfOk, OnOk, length};
-ghost use Rattle.jb_model.specs.declared.loaded.LoadedSlot.{LoadedSlot};
+ghost use Rattle.jb_state.specs.declared.loaded.LoadedSlot.{LoadedSlot};
 ghost use Rattle.jb_link.specs.Ids.{IsKept, IsSettled, at_seat, hash_of, msgid_at, number_of};
 
 use crate::id::{hash_of, is_id};
 use crate::others::Others;
 use crate::scan::msgid_at;
 use jb_base::OutOfMemory;
-use jb_model::LoadedSlot;
+use jb_state::LoadedSlot;
 use std::alloc::Global;
 
 /// Seats for each message. Of ids whose hashes fall as if drawn at random one in nine finds its seat taken.
@@ -25,7 +25,8 @@ impl<'a> Ids<'a> {
     /// None yet, and seats for so many messages.
     pub fn new(alloc: Global, count: usize) -> Result<Ids<'a>, OutOfMemory>
         requires { count ≤ 4_294_967_295 }
-        ensures { IfOk result (λ ids. IsSettled ids × ((base : ℕ) (slots : List LoadedSlot) (id : List ℕ) → number_of base slots ids id ≡ 0)) }
+        ensures { IfOk result (λ ids. IsSettled ids × ((base : ℕ) (slots : List LoadedSlot)
+            (id : List ℕ) → number_of base slots ids id ≡ 0)) }
     {
         Ok(Ids {
             seats: vec![in alloc; 0; SEATS * count + 1]?,
@@ -57,7 +58,8 @@ impl<'a> Ids<'a> {
         requires number { 1 ≤ number }
         requires id { msgid_at base slots.now number ≡ Some id.now }
         requires settled { IsSettled self.old }
-        ensures { OnOk result (IsSettled self.new × IsKept (number_of base slots.now self.old) (number_of base slots.now self.new) id.now number) }
+        ensures { OnOk result (IsSettled self.new × IsKept (number_of base slots.now self.old)
+            (number_of base slots.now self.new) id.now number) }
     {
         let seat = seat_of(self.seats.len(), id);
         let first = self.seats[seat];

@@ -6,7 +6,7 @@ ghost use Rattle.jb_link.specs.Order.{IsPartWith, IsRising, IsSplitAt, pair_orde
 
 use crate::found::message_at;
 use jb_base::{OutOfMemory, REPLYID};
-use jb_model::Loaded;
+use jb_state::Loaded;
 use jb_tiered::Tiered;
 use std::alloc::Global;
 
@@ -26,7 +26,8 @@ fn pair_at(loaded: &Loaded, number: u32) -> Option<(u32, u32)>
 /// The pairs of all messages, in the order of the messages.
 fn pairs_of(alloc: Global, loaded: &Loaded) -> Result<Vec<(u32, u32)>, OutOfMemory>
     requires { loaded.now.base + length loaded.now.slots ≤ 4_294_967_295 }
-    ensures { IfOk result (λ pairs. ArePairsBelow loaded.now (loaded.now.base + length loaded.now.slots) pairs.items) }
+    ensures { IfOk result (λ pairs. ArePairsBelow loaded.now
+        (loaded.now.base + length loaded.now.slots) pairs.items) }
 {
     let mut pairs = Vec::new(alloc);
     for place in 0..loaded.slots.as_slice().len() {

@@ -9,7 +9,7 @@ use crate::found::id_at;
 use crate::hashed::id_or_empty;
 use crate::id::hash_of;
 use jb_base::OutOfMemory;
-use jb_model::Loaded;
+use jb_state::Loaded;
 use jb_tiered::Tiered;
 use std::alloc::Global;
 use std::cmp::Ordering;
@@ -56,7 +56,8 @@ fn compare_ids(loaded: &Loaded, kind: u16, one: u32, other: u32) -> Ordering
 /// How two keys stand to one another. Nearly all lie so far apart that their upper bits differ, which is seen without a
 /// division; the ids are looked at only where these bits are the same, as of equal ids.
 fn compare_keys(loaded: &Loaded, kind: u16, keying: Keying, one: u64, other: u64) -> Ordering
-    ensures { result ≡ key_order (key_place kind loaded.now keying.base keying.wide one) (key_place kind loaded.now keying.base keying.wide other) }
+    ensures { result ≡ key_order (key_place kind loaded.now keying.base keying.wide one)
+        (key_place kind loaded.now keying.base keying.wide other) }
 {
     if one < other && keying.wide <= other - one {
         return Ordering::Less;
@@ -79,7 +80,8 @@ fn keys_of(
 ) -> Result<Vec<u64>, OutOfMemory>
     requires base { keying.base ≡ loaded.now.base }
     requires wide { length loaded.now.slots < keying.wide }
-    ensures { IfOk result (λ keys. AreKeysBelow kind loaded.now keying.wide (loaded.now.base + length loaded.now.slots) keys.items) }
+    ensures { IfOk result (λ keys. AreKeysBelow kind loaded.now keying.wide
+        (loaded.now.base + length loaded.now.slots) keys.items) }
 {
     let slots = loaded.slots.as_slice().len();
     let mut keys = Vec::with_capacity(alloc, slots)?;

@@ -3,7 +3,7 @@
 //! The parent of a message with a REPLYID is the lowest live lower-numbered message whose MSGID has the same bytes,
 //! without one the ReplyTo that its header keeps, where that is live and lower. Reply1st is the least live number with
 //! this parent, ReplyNext the least greater one with the same. The layer above may rely on the definitions of
-//! `jb_model`: each call gives what they say of the state that is loaded, whatever its texts are, since no text bears
+//! `jb_state`: each call gives what they say of the state that is loaded, whatever its texts are, since no text bears
 //! on a link.
 //!
 //! Ids are compared by their bytes and never by the CRCs that headers tell, so a base in which all ids have one CRC costs
@@ -44,7 +44,7 @@ mod threads;
 
 pub use changes::changed;
 pub use found::{copied_msgid, message_at};
-pub use laws::{posts_keep_links, rests_on_slots, stays_under_heads, stays_under_relink};
+pub use laws::{rests_on_slots, stays_under_heads, stays_under_relink};
 pub use lists::Numbers;
 pub use orphans::Orphan;
 pub use relinking::relink_plan;

@@ -5,14 +5,14 @@ ghost use Rattle.jb_link.specs.IdLists.{IsIdList};
 ghost use Rattle.jb_link.specs.Kept.{IsKeptList};
 ghost use Rattle.jb_link.specs.Orphans.{AddsOrphans};
 ghost use Rattle.jb_link.specs.Part.{part};
-ghost use Rattle.jb_model.specs.LiveSlots.{IsLive};
+ghost use Rattle.jb_state.specs.LiveSlots.{IsLive};
 ghost use Rattle.jb_link.specs.declared.orphans.Orphan.{Orphan};
 
 use crate::found::id_at;
 use crate::id_lists::{least_with, next_with, part_with};
 use crate::kept;
 use jb_base::{MSGID, OutOfMemory, REPLYID};
-use jb_model::Loaded;
+use jb_state::Loaded;
 use jb_tiered::Tiered;
 
 /// A live message whose parent is another one, and the parent that it has once that is gone, or 0.
@@ -32,7 +32,10 @@ fn put_heirs(
 ) -> Result<(), OutOfMemory>
     requires from { from ≤ to }
     requires to { to ≤ length numbers.now.items }
-    ensures { OnOk result (orphans.new.items ≡ orphans.old.items ++ map (λ one. record { number = one; parent = if nat_lt heir one then heir else 0 }) (part from to numbers.now.items)) }
+    ensures { OnOk result (orphans.new.items
+        ≡ orphans.old.items ++ map (λ one.
+        record { number = one; parent = if nat_lt heir one then heir else 0 })
+        (part from to numbers.now.items)) }
 {
     for at in from..to {
         let number = numbers[at];
@@ -51,7 +54,8 @@ fn put_kept(
 ) -> Result<(), OutOfMemory>
     requires from { from ≤ to }
     requires to { to ≤ length pairs.now.items }
-    ensures { OnOk result (orphans.new.items ≡ orphans.old.items ++ map (λ pair. record { number = pair.1; parent = 0 }) (part from to pairs.now.items)) }
+    ensures { OnOk result (orphans.new.items ≡ orphans.old.items ++ map (λ pair.
+        record { number = pair.1; parent = 0 }) (part from to pairs.now.items)) }
 {
     for at in from..to {
         let (_kept, number) = pairs[at];

@@ -33,7 +33,8 @@ impl<'a> Others<'a> {
     /// Gives the id this number, where it has none yet.
     pub fn keep(&mut self, id: &'a [u8], number: u32) -> Result<(), OutOfMemory>
         requires { 1 ≤ number }
-        ensures { OnOk result (IsKept (number_among self.old.numbers) (number_among self.new.numbers) id.now number) }
+        ensures { OnOk result (IsKept (number_among self.old.numbers)
+            (number_among self.new.numbers) id.now number) }
     {
         if self.number_of(id) == 0 {
             self.numbers.insert((hash_of(id), id), number)?;

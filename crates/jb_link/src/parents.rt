@@ -1,14 +1,14 @@
 //! The parents of all live messages.
 ghost use Rattle.std.specs.Prelude.{◌≡◌, ◌+◌, ◌<◌, ◌≤◌, IfOk, OnOk, length, slice_get, take};
-ghost use Rattle.jb_model.specs.Links.{parent_at};
+ghost use Rattle.jb_state.specs.Links.{parent_at};
 ghost use Rattle.jb_link.specs.Ids.{HasLowest, IsSettled, KeepsLowest, number_of};
-ghost use Rattle.jb_model.specs.LiveSlots.{linkables_from};
+ghost use Rattle.jb_state.specs.LiveSlots.{linkables_from};
 ghost use Rattle.jb_link.specs.Parents.{AreParents};
 
 use crate::ids::Ids;
 use crate::scan::{msgid_in, number_if_live};
 use jb_base::{OutOfMemory, REPLYID};
-use jb_model::LoadedSlot;
+use jb_state::LoadedSlot;
 use std::alloc::Global;
 
 /// The parent of the message at each place, or 0; the first slot has the number `base`.
@@ -19,7 +19,8 @@ pub(crate) fn parents_by_place(
 ) -> Result<Vec<u32>, OutOfMemory>
     requires base { 1 ≤ base }
     requires numbers { base + length slots.now ≤ 4_294_967_295 }
-    ensures { IfOk result (λ parents. AreParents (linkables_from base slots.now) base (length slots.now) parents.items) }
+    ensures { IfOk result (λ parents. AreParents (linkables_from base slots.now) base
+        (length slots.now) parents.items) }
 {
     let mut ids = Ids::new(alloc, slots.len())?;
     let mut parents = Vec::new(alloc);
@@ -57,7 +58,8 @@ fn keep_id<'a>(
     requires numbers { base + length slots.now ≤ 4_294_967_295 }
     requires place { place < length slots.now }
     requires settled { IsSettled ids.old }
-    ensures { OnOk result (IsSettled ids.new × KeepsLowest (number_of base slots.now ids.old) (number_of base slots.now ids.new) (base + place) (slice_get slots.now place)) }
+    ensures { OnOk result (IsSettled ids.new × KeepsLowest (number_of base slots.now ids.old)
+        (number_of base slots.now ids.new) (base + place) (slice_get slots.now place)) }
 {
     match msgid_in(&slots[place]) {
         Some(id) => ids.keep(base, slots, id, base + place as u32),

@@ -1,13 +1,13 @@
 //! The links of all live messages.
 ghost use Rattle.std.specs.Prelude.{◌≡◌, ◌⊎◌, ◌+◌, ◌-◌, ◌<◌, ◌≤◌, ◌==◌, ℕ, List, IfOk, length, reverse, slice_index, slice_set, if◌then◌else◌};
 ghost use Rattle.jb_link.specs.Parents.{AreParents};
-ghost use Rattle.jb_model.specs.Plan.{plan_of};
-ghost use Rattle.jb_model.specs.LiveSlots.{linkables, linkables_from};
+ghost use Rattle.jb_state.specs.Plan.{plan_of};
+ghost use Rattle.jb_state.specs.LiveSlots.{linkables, linkables_from};
 
 use crate::parents::parents_by_place;
 use crate::scan::is_live_slot;
 use jb_base::OutOfMemory;
-use jb_model::{Links, Loaded, LoadedSlot, Plan};
+use jb_state::{Links, Loaded, LoadedSlot, Plan};
 use std::alloc::Global;
 use std::mem;
 
@@ -61,7 +61,8 @@ fn links_from_the_end(
 fn put_first(firsts: &mut [u32], base: u32, parent: u32, number: u32) -> u32
     requires { (parent ≡ 0) ⊎ (base ≤ parent) × (parent < base + length firsts.old) }
     ensures next { result ≡ (if parent == 0 then 0 else slice_index firsts.old (parent - base)) }
-    ensures put { firsts.new ≡ (if parent == 0 then firsts.old else slice_set firsts.old (parent - base) number) }
+    ensures put { firsts.new ≡ (if parent == 0 then firsts.old else slice_set firsts.old
+        (parent - base) number) }
 {
     if parent == 0 {
         return 0;

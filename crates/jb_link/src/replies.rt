@@ -2,11 +2,11 @@
 ghost use Rattle.std.specs.Prelude.{◌≡◌, ◌⊎◌, ◌+◌, ◌<◌, ◌≤◌, ℕ, [], List, None, Some, max, length, is_none, is_some, IfOk, OnOk, OnErr};
 ghost use Rattle.jb_bytes.specs.declared.subfield.TheConstants.{MSGID};
 ghost use Rattle.jb_link.specs.Ids.{lent};
-ghost use Rattle.jb_model.specs.LiveSlots.{IsLive, linkables};
+ghost use Rattle.jb_state.specs.LiveSlots.{IsLive, linkables};
 ghost use Rattle.jb_link.specs.Splice.{IsSplice, spliced};
-ghost use Rattle.jb_model.specs.Links.{last_reply_of, parent_for};
-ghost use Rattle.jb_model.specs.State.{state_of};
-ghost use Rattle.jb_model.specs.declared.loaded.Loaded.{Loaded};
+ghost use Rattle.jb_state.specs.Links.{last_reply_of, parent_for};
+ghost use Rattle.jb_state.specs.State.{state_of};
+ghost use Rattle.jb_state.specs.declared.loaded.Loaded.{Loaded};
 ghost use Rattle.jb_link.specs.IdLists.{IsIdList};
 ghost use Rattle.jb_link.specs.Index.{HasSameLists, IsIndexOf};
 ghost use Rattle.jb_link.specs.IndexLaws.{IsIndexAfterKill, IsIndexBefore};
@@ -18,7 +18,7 @@ use crate::orphans::{Orphan, put_by_id, put_by_number};
 use crate::splicing::Spliced;
 use crate::{id_lists, kept, keys};
 use jb_base::{MSGID, OutOfMemory, REPLYID};
-use jb_model::Loaded;
+use jb_state::Loaded;
 use jb_tiered::Tiered;
 use std::alloc::Global;
 use std::marker::Model;
@@ -94,7 +94,8 @@ impl Replies {
     /// has none, as `jb_link::parent` says. One search at most.
     pub fn parent(&self, loaded: &Loaded, number: u32, reply: Option<&[u8]>, kept: u32) -> u32
         requires { IsIndexOf self.now loaded.now }
-        ensures found { (texts : List ℕ) → result ≡ parent_for (linkables texts loaded.now) number (lent reply.entry) kept }
+        ensures found { (texts : List ℕ)
+            → result ≡ parent_for (linkables texts loaded.now) number (lent reply.entry) kept }
         ensures live { (result ≡ 0) ⊎ IsLive loaded.now result }
     {
         match reply {

@@ -1,16 +1,16 @@
 //! The parent of one message, by a look at the messages below it.
 ghost use Rattle.std.specs.Prelude.{◌≡◌, ◌↔◌, IsTrue, ℕ, ◌+◌, ◌≤◌, ◌==◌, ◌⊎◌, List, find, length, position, slice_get};
 ghost use Rattle.std.specs.Option.{is_some};
-ghost use Rattle.jb_model.specs.Links.{is_id, number_or_0, parent_for};
-ghost use Rattle.jb_model.specs.State.{state_of};
-ghost use Rattle.jb_model.specs.Live.{message_at};
-ghost use Rattle.jb_model.specs.Message.{msgid_of};
+ghost use Rattle.jb_state.specs.Links.{is_id, number_or_0, parent_for};
+ghost use Rattle.jb_state.specs.State.{state_of};
+ghost use Rattle.jb_state.specs.Live.{message_at};
+ghost use Rattle.jb_state.specs.Message.{msgid_of};
 ghost use Rattle.jb_link.specs.Ids.{lent, msgid_at};
-ghost use Rattle.jb_model.specs.LiveSlots.{IsLive, is_live_and, linkables, linkables_from, message_in, msgid_in};
+ghost use Rattle.jb_state.specs.LiveSlots.{IsLive, is_live_and, linkables, linkables_from, message_in, msgid_in};
 
 use crate::id::is_id;
 use jb_base::MSGID;
-use jb_model::{Loaded, LoadedSlot};
+use jb_state::{Loaded, LoadedSlot};
 
 /// The parent of a live message with this number, this first REPLYID and this ReplyTo in its header, or 0 where it
 /// has none. With a REPLYID it is the lowest live lower-numbered message whose first MSGID has the same bytes,
@@ -18,7 +18,8 @@ use jb_model::{Loaded, LoadedSlot};
 pub fn parent(loaded: &Loaded, number: u32, reply: Option<&[u8]>, kept: u32) -> u32
     requires from { loaded.now.base ≤ number }
     requires to { number ≤ loaded.now.base + length loaded.now.slots }
-    ensures found { (texts : List ℕ) → result ≡ parent_for (linkables texts loaded.now) number (lent reply.entry) kept }
+    ensures found { (texts : List ℕ) → result
+        ≡ parent_for (linkables texts loaded.now) number (lent reply.entry) kept }
     ensures live { (result ≡ 0) ⊎ IsLive loaded.now result }
 {
     let below = &loaded.slots.as_slice()[..(number - loaded.base) as usize];
@@ -41,7 +42,8 @@ pub(crate) fn lowest_with_id(base: u32, slots: &[LoadedSlot], id: &[u8]) -> u32
 
 /// The place of the first live message whose MSGID has these bytes.
 fn place_of_id(slots: &[LoadedSlot], id: &[u8]) -> Option<usize>
-    ensures { result ≡ position (is_live_and (λ message. is_id id.now (msgid_of message.subfields))) slots.now }
+    ensures { result ≡ position (is_live_and (λ message.
+        is_id id.now (msgid_of message.subfields))) slots.now }
 {
     slots.iter().position(|slot| has_id(slot, id))
 }

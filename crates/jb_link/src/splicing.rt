@@ -1,14 +1,14 @@
 //! The header that one more reply changes beside its own.
 ghost use Rattle.std.specs.Prelude.{◌≡◌, ◌⊎◌, ◌+◌, ◌<◌, ◌≤◌, ℕ, List, length, slice_get, take};
-ghost use Rattle.jb_model.specs.State.{state_of};
+ghost use Rattle.jb_state.specs.State.{state_of};
 ghost use Rattle.jb_link.specs.Ids.{lent};
-ghost use Rattle.jb_model.specs.LiveSlots.{IsLive, is_live_and, linkables, linkables_from, msgid_in};
+ghost use Rattle.jb_state.specs.LiveSlots.{IsLive, is_live_and, linkables, linkables_from, msgid_in};
 ghost use Rattle.jb_link.specs.Splice.{IsSplice, is_answer, last_answer, own_id, spliced};
 
 use crate::id::is_id;
 use crate::scan::lowest_with_id;
 use jb_base::{MSGID, REPLYID};
-use jb_model::{Loaded, LoadedMessage, LoadedSlot};
+use jb_state::{Loaded, LoadedMessage, LoadedSlot};
 
 /// The header that one more reply changes beside its own.
 #[derive(Clone, Copy, PartialEq, Eq)]
@@ -49,7 +49,8 @@ pub fn splice(loaded: &Loaded, parent: u32) -> Spliced
 fn own_id(base: u32, slots: &[LoadedSlot], place: usize) -> Option<&[u8]>
     requires place { place < length slots.now }
     requires numbers { base + length slots.now ≤ 4_294_967_295 }
-    ensures { lent result ≡ own_id (linkables_from base (take place slots.now)) (msgid_in (slice_get slots.now place)) }
+    ensures { lent result ≡ own_id (linkables_from base (take place slots.now))
+        (msgid_in (slice_get slots.now place)) }
 {
     let LoadedSlot::Live(message) = &slots[place] else {
         return None;

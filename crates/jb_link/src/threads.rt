@@ -1,13 +1,13 @@
 //! The thread of a message.
 ghost use Rattle.std.specs.Prelude.{◌≡◌, ◌+◌, ◌≤◌, ℕ, List, IfOk, length};
-ghost use Rattle.jb_model.specs.LiveSlots.{IsLive, linkables, linkables_from};
+ghost use Rattle.jb_state.specs.LiveSlots.{IsLive, linkables, linkables_from};
 ghost use Rattle.jb_link.specs.Thread.{AreRoots, thread_from, thread_of};
 
 use crate::Numbers;
 use crate::parents::parents_by_place;
 use crate::scan::is_live_slot;
 use jb_base::OutOfMemory;
-use jb_model::{Loaded, LoadedSlot};
+use jb_state::{Loaded, LoadedSlot};
 use std::alloc::Global;
 
 /// The live numbers whose thread begins with the same message as that of `number`, in rising order.
@@ -15,7 +15,8 @@ pub fn thread(alloc: Global, loaded: &Loaded, number: u32) -> Result<Numbers, Ou
     requires base { 1 ≤ loaded.now.base }
     requires numbers { loaded.now.base + length loaded.now.slots ≤ 4_294_967_295 }
     requires live { IsLive loaded.now number }
-    ensures { (texts : List ℕ) → IfOk result (λ numbers. numbers ≡ thread_of (linkables texts loaded.now) number) }
+    ensures { (texts : List ℕ) → IfOk result (λ numbers.
+        numbers ≡ thread_of (linkables texts loaded.now) number) }
 {
     let slots = loaded.slots.as_slice();
     let roots = roots_by_place(alloc, loaded.base, slots)?;
@@ -29,7 +30,8 @@ pub fn thread(alloc: Global, loaded: &Loaded, number: u32) -> Result<Numbers, Ou
 fn roots_by_place(alloc: Global, base: u32, slots: &[LoadedSlot]) -> Result<Vec<u32>, OutOfMemory>
     requires base { 1 ≤ base }
     requires numbers { base + length slots.now ≤ 4_294_967_295 }
-    ensures { IfOk result (λ roots. AreRoots (linkables_from base slots.now) base (length slots.now) roots.items) }
+    ensures { IfOk result (λ roots. AreRoots (linkables_from base slots.now) base
+        (length slots.now) roots.items) }
 {
     let parents = parents_by_place(alloc, base, slots)?;
     let mut roots = Vec::new(alloc);

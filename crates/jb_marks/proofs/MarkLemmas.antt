@@ -2,9 +2,9 @@
 use Rattle.std.proofs.Common.{◌≡◌, ◌<◌, ◌+◌, ℕ, zero, suc, ◌⊎◌, inl, inr, List, [], ◌∷◌, ◌++◌, length, get_or, set, refl, ◌∙◌, ap, arith}
 use Rattle.std.specs.Prelude.{Some, None, IsSome}
 use Rattle.std.proofs.lemmas.Bool.{cond-true, cond-false}
-use Rattle.jb_model.specs.declared.mark.Mark.{Mark}
-use Rattle.jb_model.specs.Marks.{mark_of, with_mark}
-use Rattle.jb_model.specs.Places.{HasNone, IsFirstOf}
+use Rattle.jb_state.specs.declared.mark.Mark.{Mark}
+use Rattle.jb_state.specs.Marks.{mark_of, with_mark}
+use Rattle.jb_state.specs.Places.{HasNone, IsFirstOf}
 use Rattle.jb_marks.specs.Store.{MarkStore}
 
 -- the first mark of a pair, at a place, is the one that is found

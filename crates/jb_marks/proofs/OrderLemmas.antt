@@ -9,10 +9,10 @@ use Rattle.std.proofs.Math.ListN.{length-append, length-set}
 use Rattle.std.proofs.lemmas.List.Elements.{All-push, Contains-append_left, Contains-push}
 use Rattle.std.proofs.lemmas.List.Sorted.{IsPermutation-insert, All-permutation, Contains-permutation, length_permutation, IsNonDecreasingBy-insert}
 use Rattle.std.proofs.lemmas.Option.{slice_get-get_or}
-use Rattle.jb_model.specs.declared.mark.Mark.{Mark}
-use Rattle.jb_model.specs.Marks.{is_mark}
+use Rattle.jb_state.specs.declared.mark.Mark.{Mark}
+use Rattle.jb_state.specs.Marks.{is_mark}
 use Rattle.jb_marks.proofs.MarkLemmas.{length-last}
-use Rattle.jb_model.specs.Places.{IsFirstOf}
+use Rattle.jb_state.specs.Places.{IsFirstOf}
 use Rattle.jb_marks.specs.Order.{AreBelow, IsGapFor, IsOrdered, IsSplit, pair_in, pair_number, pair_of, place_number}
 
 -- a mark of a pair has the number of the pair

@@ -3,9 +3,9 @@ use Rattle.std.proofs.Common.{◌≡◌, ℕ, true, false, cond, inl, inr, List,
 use Rattle.std.specs.Prelude.{Option, Some}
 use Rattle.std.proofs.lemmas.Bool.{cases_Bool, cond-true, cond-false}
 use Rattle.std.proofs.lemmas.Bool.Decides.{nat_tests}
-use Rattle.jb_model.specs.declared.mark.Mark.{Mark}
-use Rattle.jb_model.specs.Marks.{is_mark, mark_of, with_mark}
-use Rattle.jb_model.specs.Places.{FindOthersAlike}
+use Rattle.jb_state.specs.declared.mark.Mark.{Mark}
+use Rattle.jb_state.specs.Marks.{is_mark, mark_of, with_mark}
+use Rattle.jb_state.specs.Places.{FindOthersAlike}
 
 -- a mark is of its own pair
 own_pair : (mark : Mark) → is_mark mark.user_crc mark.user_id mark ≡ true

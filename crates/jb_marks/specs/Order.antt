@@ -1,8 +1,8 @@
 -- The index of a list of marks.
 use Rattle.std.specs.Prelude.{◌≡◌, ℕ, ◌+◌, ◌*◌, ◌^◌, ◌<◌, ◌≤◌, List, length, slice_get, slice_index_or, All, Contains, Option, None, Some, Result, Ok, Err}
 use Rattle.std.specs.List.Sorted.{IsNonDecreasingBy}
-use Rattle.jb_model.specs.declared.mark.Mark.{Mark}
-use Rattle.jb_model.specs.Places.{HasNone, IsFirstOf}
+use Rattle.jb_state.specs.declared.mark.Mark.{Mark}
+use Rattle.jb_state.specs.Places.{HasNone, IsFirstOf}
 
 -- the pairs in their order, as numbers
 abbrev pub pair_number : ℕ → ℕ → ℕ

@@ -1,6 +1,6 @@
 -- The marks of an open area, and their order.
 use Rattle.std.specs.Prelude.{ℕ, List}
-use Rattle.jb_model.specs.declared.mark.Mark.{Mark}
+use Rattle.jb_state.specs.declared.mark.Mark.{Mark}
 
 -- marks in the order of the lastread file, and how many more fit
 pub record MarkStore : Type 0 where

@@ -1,13 +1,13 @@
 //! An index of marks that stand elsewhere.
 ghost use Rattle.std.specs.Prelude.{◌≡◌, ◌+◌, ◌<◌, ◌≤◌, [], ◌∷◌, ◌++◌, length, IfOk, OnOk, OnErr};
 ghost use Rattle.jb_limits.specs.declared.limits.TheConstants.{MOST_MARKS};
-ghost use Rattle.jb_model.specs.Marks.{mark_of};
+ghost use Rattle.jb_state.specs.Marks.{mark_of};
 ghost use Rattle.jb_marks.specs.Order.{IsOrdered};
-ghost use Rattle.jb_model.specs.Places.{HasNone, IsPlaceOf};
+ghost use Rattle.jb_state.specs.Places.{HasNone, IsPlaceOf};
 
 use crate::order::{ordered_places, refill, search};
 use jb_base::OutOfMemory;
-use jb_model::Mark;
+use jb_state::Mark;
 use std::alloc::Global;
 use std::marker::Model;
 

@@ -1,13 +1,13 @@
 //! The marks, their index and the room.
 ghost use Rattle.std.specs.Prelude.{◌≡◌, ◌+◌, ◌<◌, ◌≤◌, ◌⊎◌, [], ◌∷◌, ◌++◌, length, max, IfOk, OnOk, OnErr, IsSome, Some};
 ghost use Rattle.jb_limits.specs.declared.limits.TheConstants.{MOST_MARKS};
-ghost use Rattle.jb_model.specs.Marks.{mark_of, with_mark};
-ghost use Rattle.jb_model.specs.Places.{FindOthersAlike, HasNone, IsPlaceOf};
+ghost use Rattle.jb_state.specs.Marks.{mark_of, with_mark};
+ghost use Rattle.jb_state.specs.Places.{FindOthersAlike, HasNone, IsPlaceOf};
 
 use crate::index::MarkIndex;
 use crate::order::refill;
 use jb_base::OutOfMemory;
-use jb_model::Mark;
+use jb_state::Mark;
 use std::alloc::Global;
 use std::marker::Model;
 

@@ -5,7 +5,7 @@ ghost use Rattle.jb_limits.specs.declared.limits.TheConstants.{MOST_MARKS};
 ghost use Rattle.jb_marks.specs.Order.{EndsSearch, IsOrdered, IsSplit, pair_in, pair_number, place_number};
 
 use jb_base::OutOfMemory;
-use jb_model::Mark;
+use jb_state::Mark;
 use std::alloc::Global;
 use std::cmp::Ordering;
 

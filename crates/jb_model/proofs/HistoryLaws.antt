@@ -7,12 +7,12 @@ use Rattle.std.proofs.lemmas.List.{append-nil, length-map, length_push, map-appe
 use Rattle.std.proofs.lemmas.List.Elements.{filter-append, filter_map-append}
 use Rattle.std.proofs.lemmas.List.FromFn.{map-range_with_len_more}
 use Rattle.jb_bytes.specs.Fault.{Rose}
-use Rattle.jb_model.proofs.LinkLaws.{true_not_false}
+use Rattle.jb_state.proofs.LinkLaws.{true_not_false}
 use Rattle.jb_model.specs.declared.entry.Entry.TheVariants.{Called, Reopened}
 use Rattle.jb_base.specs.declared.area.AreaRules.{AreaRules}
 use Rattle.jb_model.specs.History.{AllowsEach, AreNumbered, IsLegal, IsNextCall, MayFollow, Rises, last_told, call_number, calls_of, faults_of, is_call_of, standing_after, standing_from}
 use Rattle.jb_model.specs.Standing.{Standing, Settled, Allows, after_entry}
-use Rattle.jb_model.specs.State.{AreaState}
+use Rattle.jb_state.specs.State.{AreaState}
 use Rattle.jb_model.specs.declared.entry.Entry.{Entry}
 
 -- where an area stands after one list of entries and then another
@@ -37,7 +37,7 @@ rises_front before [] behind risen = tt
 rises_front before (faults ∷ front) behind risen = (risen.0, rises_front faults front behind risen.1)
 
 -- counts that have risen, and then one that rises
-rises_push : (before : ℕ) (told : List ℕ) (faults : ℕ) → Rises before told → Rose (last_told before told) faults → Rises before (told ++ faults ∷ [])
+pub rises_push : (before : ℕ) (told : List ℕ) (faults : ℕ) → Rises before told → Rose (last_told before told) faults → Rises before (told ++ faults ∷ [])
 rises_push before [] faults risen more = (more, tt)
 rises_push before (first ∷ rest) faults risen more = (risen.0, rises_push first rest faults risen.1 more)
 

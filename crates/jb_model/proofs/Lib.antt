@@ -1,11 +1,6 @@
 pub mod HistoryLaws
-pub mod LinkLaws
-pub mod PackLaws
 pub mod RangeLaws
-pub mod RelinkLaws
+pub mod RelinkStepLaws
 mod Rows
 pub mod SettledLaws
-pub mod SoundLaws
 pub mod StepLaws
-pub mod ThreadLaws
-pub mod VisibleLaws

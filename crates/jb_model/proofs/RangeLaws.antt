@@ -17,11 +17,12 @@ use Rattle.jb_limits.specs.declared.limits.TheConstants.{LAST_POSTED_NUMBER, MOS
 use Rattle.jb_bytes.specs.declared.subfield.Subfield.{Subfield}
 use Rattle.jb_bytes.specs.declared.subfield.TheConstants.{SENDER_NAME, RECEIVER_NAME, MSGID, REPLYID, SUBJECT}
 use Rattle.jb_base.specs.declared.user.User.{User}
-use Rattle.jb_model.specs.Live.{change_live_from, live_of, message_at}
-use Rattle.jb_model.specs.Message.{msgid_of}
-use Rattle.jb_model.specs.Post.{Draft, draft_refusal, hex_digits, if_copied, kind_attribute, plain_field, posted_message, posted_msgid, posted_replyid, room_refusal}
+use Rattle.jb_state.specs.Live.{change_live_from, live_of, message_at}
+use Rattle.jb_state.specs.Message.{msgid_of}
+use Rattle.jb_model.specs.Post.{Draft, draft_refusal, hex_digits, kind_attribute, plain_field, posted_message, posted_msgid, room_refusal}
+use Rattle.jb_state.specs.Posted.{if_copied, posted_replyid}
 use Rattle.jb_model.specs.Read.{read_message, read_once_more, received_at}
-use Rattle.jb_model.specs.State.{AreaState, IsMessageInRange, IsSlotInRange, LiveMessage, SlotState, next_number, no_message, killed_message, live_message}
+use Rattle.jb_state.specs.State.{AreaState, IsMessageInRange, IsSlotInRange, LiveMessage, SlotState, next_number, no_message, killed_message, live_message}
 use Rattle.jb_model.specs.declared.reply.Reply.{Reply}
 
 -- one element is replaced by one of which the same holds

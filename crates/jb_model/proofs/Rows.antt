@@ -5,20 +5,20 @@ use Rattle.jb_base.specs.declared.area.AreaRules.{AreaRules}
 use Rattle.jb_base.specs.declared.area.Kind.TheVariants.{Local}
 use Rattle.jb_base.specs.declared.area.Rule.TheVariants.{A1, A2, A4, A5}
 use Rattle.jb_base.specs.declared.user.User.{User}
-use Rattle.jb_model.specs.Links.{linkables_of, thread_root}
-use Rattle.jb_model.specs.Live.{Numbered, live_in}
-use Rattle.jb_model.specs.Marks.{mark_of, with_mark}
+use Rattle.jb_state.specs.Links.{linkables_of, thread_root}
+use Rattle.jb_state.specs.Live.{Numbered, live_in}
+use Rattle.jb_state.specs.Marks.{mark_of, with_mark}
 use Rattle.jb_model.specs.Run.{Ran, run_of}
-use Rattle.jb_model.specs.State.{AreaState}
-use Rattle.jb_model.specs.Tight.{tight_state}
-use Rattle.jb_model.specs.Visible.{unread_by}
-use Rattle.jb_model.specs.declared.area.Slot.{Slot}
-use Rattle.jb_model.specs.declared.area.Slot.TheVariants.{Live}
+use Rattle.jb_state.specs.State.{AreaState}
+use Rattle.jb_state.specs.Tight.{tight_state}
+use Rattle.jb_state.specs.Visible.{unread_by}
+use Rattle.jb_state.specs.declared.area.Slot.{Slot}
+use Rattle.jb_state.specs.declared.area.Slot.TheVariants.{Live}
 use Rattle.jb_model.specs.declared.command.Field.TheVariants.{To, Subject, Text}
 use Rattle.jb_model.specs.declared.command.Asked.{Asked}
 use Rattle.jb_model.specs.declared.command.Command.{Command}
 use Rattle.jb_model.specs.declared.command.Command.TheVariants.{Post, Read, Peek, Kill, SetMark, Pack, Relink}
-use Rattle.jb_model.specs.declared.mark.Mark.{Mark}
+use Rattle.jb_state.specs.declared.mark.Mark.{Mark}
 use Rattle.jb_model.specs.declared.reply.Reply.{Reply}
 use Rattle.jb_model.specs.declared.reply.Reply.TheVariants.{Posted, Text as Shown, Killed, Marked, Packed, Relinked, Denied, NoMessage, NumbersSpent, SlotsFull, HeadersFull, TextFull, EmptyName, TooLong}
 

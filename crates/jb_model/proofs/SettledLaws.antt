@@ -6,9 +6,9 @@ use Rattle.std.proofs.lemmas.List.{length-take, length_push, take-append-le, tak
 use Rattle.jb_base.specs.declared.area.AreaRules.{AreaRules}
 use Rattle.jb_model.specs.History.{settled_prefix, settled_within, standing_after}
 use Rattle.jb_model.specs.Standing.{is_settled}
-use Rattle.jb_model.specs.State.{AreaState}
+use Rattle.jb_state.specs.State.{AreaState}
 use Rattle.jb_model.specs.declared.entry.Entry.{Entry}
-use Rattle.jb_model.proofs.LinkLaws.{true_not_false}
+use Rattle.jb_state.proofs.LinkLaws.{true_not_false}
 
 -- the area is settled after these entries
 abbrev pub settles : AreaRules → AreaState → List Entry → Bool

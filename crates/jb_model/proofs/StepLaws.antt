@@ -5,24 +5,27 @@ use Rattle.jb_base.specs.Access.{first_refusal}
 use Rattle.jb_base.specs.declared.area.AreaRules.{AreaRules}
 use Rattle.jb_base.specs.declared.area.Rule.{Rule}
 use Rattle.jb_base.specs.declared.user.User.{User}
-use Rattle.jb_model.specs.Answered.{Answered, counted, unless_denied, unless_refused, with_message}
+use Rattle.jb_model.specs.Answered.{Answered, unless_denied, unless_refused, with_message}
+use Rattle.jb_state.specs.Live.{counted}
 use Rattle.jb_base.specs.declared.area.Action.TheVariants.{List as Listing, Post as Posting, Kill as Killing, Tend as Tending}
 use Rattle.jb_model.specs.Kill.{kill_done}
-use Rattle.jb_model.specs.Message.{envelope_of, letter_of}
+use Rattle.jb_state.specs.Message.{envelope_of}
+use Rattle.jb_model.specs.Letter.{letter_of}
 use Rattle.jb_model.specs.Pack.{pack_done, pack_refusal, pack_step}
 use Rattle.jb_model.specs.Post.{Draft, answer_refusal, draft_refusal, post_done, post_step, posted_message, room_refusal}
 use Rattle.jb_model.specs.Read.{read_done, read_message}
-use Rattle.jb_model.specs.Relink.{relink_done, relink_step, relinked_slots, wrongly_linked}
+use Rattle.jb_model.specs.Relink.{relink_done, relink_step}
+use Rattle.jb_state.specs.Relinked.{relinked_slots, wrongly_linked}
 use Rattle.jb_model.specs.SetMark.{mark_at, mark_done, mark_refusal, set_mark_step}
-use Rattle.jb_model.specs.Visible.{visible_at}
+use Rattle.jb_state.specs.Visible.{visible_at}
 use Rattle.jb_model.specs.declared.reply.Reply.TheVariants.{Relinked, Text}
 use Rattle.jb_model.specs.Standing.{is_refusal}
-use Rattle.jb_model.specs.State.{AreaState, LiveMessage}
+use Rattle.jb_state.specs.State.{AreaState, LiveMessage}
 use Rattle.jb_model.specs.Step.{Step, step}
 use Rattle.jb_model.specs.declared.command.Command.{Command}
 use Rattle.jb_model.specs.declared.command.Command.TheVariants.{Post, Read, Peek, Kill, SetMark, Pack, Relink}
 use Rattle.jb_model.specs.declared.reply.Reply.{Reply}
-use Rattle.jb_model.proofs.LinkLaws.{true_not_false}
+use Rattle.jb_state.proofs.LinkLaws.{true_not_false}
 
 -- a command is answered in exactly one way, and leaves exactly one state
 pub one_answer : (rules : AreaRules) (state : AreaState) (user : User) (moment : ℕ) (command : Command) (reply other : Reply) (after else : AreaState) → Step rules state user moment command reply after → Step rules state user moment command other else → (reply ≡ other) × (after ≡ else)

@@ -1,8 +1,7 @@
 -- The answer to a command: a reply, and the state that it leaves. A refusal leaves the state as it was.
-use Rattle.std.specs.Prelude.{ℕ, ◌+◌, ◌%◌, ◌^◌, Option, Some, None}
+use Rattle.std.specs.Prelude.{ℕ, Option, Some, None}
 use Rattle.jb_base.specs.declared.area.Rule.{Rule}
-use Rattle.jb_model.specs.Live.{live_count}
-use Rattle.jb_model.specs.State.{AreaState, LiveMessage}
+use Rattle.jb_state.specs.State.{AreaState, LiveMessage}
 use Rattle.jb_model.specs.declared.reply.Reply.{Reply}
 use Rattle.jb_model.specs.declared.reply.Reply.TheVariants.{Denied, NoMessage}
 
@@ -29,7 +28,3 @@ unless_denied state None rest = rest
 abbrev pub with_message : AreaState → ℕ → Option LiveMessage → (LiveMessage → Answered) → Answered
 with_message state number None act = refused state (NoMessage number)
 with_message state number (Some message) act = act message
-
--- the change is counted: modcounter is one more, and activemsgs the number of live messages
-abbrev pub counted : AreaState → AreaState
-counted state = record state { counter = (state.counter + 1) % 2 ^ 32; active = live_count state.slots }

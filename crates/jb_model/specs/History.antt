@@ -4,7 +4,7 @@ use Rattle.std.specs.List.{range_with_len}
 use Rattle.jb_bytes.specs.Fault.{Rose}
 use Rattle.jb_base.specs.declared.area.AreaRules.{AreaRules}
 use Rattle.jb_model.specs.Standing.{Standing, Settled, Allows, after_entry, is_settled}
-use Rattle.jb_model.specs.State.{AreaState}
+use Rattle.jb_state.specs.State.{AreaState}
 use Rattle.jb_model.specs.declared.entry.Entry.{Entry}
 use Rattle.jb_model.specs.declared.entry.Entry.TheVariants.{Called, Reopened}
 use Rattle.jb_model.specs.declared.entry.Outcome.{Outcome}

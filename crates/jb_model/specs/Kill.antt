@@ -4,11 +4,11 @@ use Rattle.jb_base.specs.Access.{first_refusal}
 use Rattle.jb_base.specs.declared.area.Action.TheVariants.{List as Listing, Kill as Killing}
 use Rattle.jb_base.specs.declared.area.AreaRules.{AreaRules}
 use Rattle.jb_base.specs.declared.user.User.{User}
-use Rattle.jb_model.specs.Answered.{Answered, counted, unless_denied, with_message}
-use Rattle.jb_model.specs.Live.{with_slot}
-use Rattle.jb_model.specs.Message.{envelope_of}
-use Rattle.jb_model.specs.State.{AreaState, killed_message}
-use Rattle.jb_model.specs.Visible.{visible_at}
+use Rattle.jb_model.specs.Answered.{Answered, unless_denied, with_message}
+use Rattle.jb_state.specs.Live.{counted, with_slot}
+use Rattle.jb_state.specs.Message.{envelope_of}
+use Rattle.jb_state.specs.State.{AreaState, killed_message}
+use Rattle.jb_state.specs.Visible.{visible_at}
 use Rattle.jb_model.specs.declared.reply.Reply.TheVariants.{Killed}
 
 -- the number names a killed message; no other slot changes, and no link

@@ -1,5 +1,5 @@
 -- A message is posted.
-use Rattle.std.specs.Prelude.{ℕ, zero, suc, ◌+◌, ◌-◌, ◌*◌, ◌/◌, ◌%◌, ◌^◌, min, nat_lt, nat_le, Bool, not, ◌&&◌, ◌==◌, List, [], ◌∷◌, ◌++◌, Option, Some, None, is_none, option_map, option_to_list, option_and_then, length, map, slice_set, if◌then◌else◌}
+use Rattle.std.specs.Prelude.{ℕ, zero, suc, ◌+◌, ◌-◌, ◌*◌, ◌/◌, ◌%◌, ◌^◌, min, nat_lt, nat_le, Bool, not, ◌&&◌, ◌==◌, List, [], ◌∷◌, ◌++◌, Option, Some, None, is_none, option_to_list, length, map, if◌then◌else◌}
 use Rattle.std.specs.Char.{digit_char}
 use Rattle.jb_base.specs.Access.{first_refusal}
 use Rattle.jb_bytes.specs.Crc.{jam_crc_of}
@@ -8,20 +8,19 @@ use Rattle.jb_base.specs.declared.area.AreaRules.{AreaRules}
 use Rattle.jb_base.specs.declared.area.Kind.{Kind}
 use Rattle.jb_base.specs.declared.area.Kind.TheVariants.{Local, Echo}
 use Rattle.jb_base.specs.declared.attribute.TheConstants.{LOCAL, PRIVATE, TYPELOCAL, TYPEECHO}
-use Rattle.jb_limits.specs.declared.limits.TheConstants.{HEADERS_CEILING, LAST_POSTED_NUMBER, MOST_COPIED_MSGID_BYTES, MOST_NAME_BYTES, MOST_POSTED_TEXT_BYTES, MOST_SUBJECT_BYTES, TEXTS_CEILING}
+use Rattle.jb_limits.specs.declared.limits.TheConstants.{HEADERS_CEILING, LAST_POSTED_NUMBER, MOST_NAME_BYTES, MOST_POSTED_TEXT_BYTES, MOST_SUBJECT_BYTES, TEXTS_CEILING}
 use Rattle.jb_bytes.specs.declared.subfield.Subfield.{Subfield}
 use Rattle.jb_bytes.specs.declared.subfield.TheConstants.{SENDER_NAME, RECEIVER_NAME, MSGID, REPLYID, SUBJECT}
 use Rattle.jb_base.specs.declared.user.User.{User}
-use Rattle.jb_model.specs.Answered.{Answered, counted, unless_denied, unless_refused}
-use Rattle.jb_model.specs.Links.{last_reply_of, linkables_of, parent_for}
-use Rattle.jb_model.specs.Live.{message_at}
-use Rattle.jb_model.specs.Message.{header_length, msgid_of}
-use Rattle.jb_model.specs.State.{AreaState, LiveMessage, SlotState, live_message, next_number}
-use Rattle.jb_model.specs.Visible.{visible_at}
+use Rattle.jb_model.specs.Answered.{Answered, unless_denied, unless_refused}
+use Rattle.jb_state.specs.Message.{header_length}
+use Rattle.jb_state.specs.State.{AreaState, LiveMessage, next_number}
+use Rattle.jb_state.specs.Visible.{visible_at}
 use Rattle.jb_model.specs.declared.command.Field.TheVariants.{To, Subject, Text}
-use Rattle.jb_model.specs.declared.message.Head.{Head}
+use Rattle.jb_state.specs.declared.message.Head.{Head}
 use Rattle.jb_model.specs.declared.reply.Reply.{Reply}
 use Rattle.jb_model.specs.declared.reply.Reply.TheVariants.{EmptyName, HeadersFull, NoMessage, NumbersSpent, Posted, SlotsFull, TextFull, TooLong}
+use Rattle.jb_state.specs.Posted.{posted_replyid, posted_state, posted_parent}
 
 -- what the user wrote, to whom, in reply to which number or to 0, and whether it is private
 pub record Draft : Type 0 where
@@ -68,19 +67,6 @@ hex_digits (suc width) number = hex_digits width (number / 16) ++ digit_char (nu
 -- the MSGID of a posted message: the area's address, a space, and a serial of the area's ordinal and the number
 abbrev pub posted_msgid : AreaRules → ℕ → List ℕ
 posted_msgid rules number = rules.address ++ 32 ∷ hex_digits 8 (rules.ordinal * 2 ^ 24 + number)
-
--- the id, where it is not too long to be copied
-abbrev pub if_copied : List ℕ → Option (List ℕ)
-if_copied id = if nat_le (length id) MOST_COPIED_MSGID_BYTES then Some id else None
-
--- the REPLYID of an answer: the MSGID of the message that it answers, where that has one that is copied
-abbrev pub posted_replyid : AreaState → ℕ → Option (List ℕ)
-posted_replyid state reply_to = option_and_then if_copied (option_and_then (λ answered. msgid_of answered.subfields) (message_at state reply_to))
-
--- the parent of the message that is posted
-abbrev pub posted_parent : AreaState → ℕ → ℕ
-posted_parent state reply_to =
-    parent_for (linkables_of state) (next_number state) (posted_replyid state reply_to) reply_to
 
 -- the attribute bit of an area's kind
 abbrev pub kind_attribute : Kind → ℕ
@@ -134,35 +120,6 @@ posted_message rules state user moment draft = record {
   subfields = posted_subfields rules state user draft;
   text = draft.text;
 }
-
--- the slots with this message in the place of the one that the number names, where there is one
-abbrev pub slots_with : AreaState → ℕ → Option LiveMessage → List SlotState
-slots_with state number None = state.slots
-slots_with state number (Some message) = slice_set state.slots (number - state.base) (live_message message)
-
--- the message with another first reply
-abbrev pub with_first_reply : ℕ → LiveMessage → LiveMessage
-with_first_reply number message = record message { head = record message.head { reply_first = number } }
-
--- the message with another next reply
-abbrev pub with_next_reply : ℕ → LiveMessage → LiveMessage
-with_next_reply number message = record message { head = record message.head { reply_next = number } }
-
--- the slots as a new reply to this parent leaves them: the parent names it where it has no live reply, else its last reply does
-abbrev pub spliced_slots : AreaState → ℕ → ℕ → List SlotState
-spliced_slots state parent number =
-    let last = last_reply_of (linkables_of state) parent in
-    if parent == 0 then state.slots
-    else if last == 0 then slots_with state parent (option_map (with_first_reply number) (message_at state parent))
-    else slots_with state last (option_map (with_next_reply number) (message_at state last))
-
--- the area with this message at its end
-abbrev pub posted_state : AreaState → LiveMessage → AreaState
-posted_state state message = counted (record state {
-  slots = spliced_slots state message.head.reply_to (next_number state) ++ live_message message ∷ [];
-  headers_len = state.headers_len + header_length message;
-  texts_len = state.texts_len + length message.text;
-})
 
 -- the message has the next number
 abbrev pub post_done : AreaState → LiveMessage → Answered

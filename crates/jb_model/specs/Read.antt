@@ -7,12 +7,12 @@ use Rattle.jb_base.specs.declared.area.Action.TheVariants.{List as Listing}
 use Rattle.jb_base.specs.declared.area.AreaRules.{AreaRules}
 use Rattle.jb_base.specs.declared.attribute.TheConstants.{READ}
 use Rattle.jb_base.specs.declared.user.User.{User}
-use Rattle.jb_model.specs.Answered.{Answered, counted, unless_denied, with_message}
-use Rattle.jb_model.specs.Live.{with_slot}
-use Rattle.jb_model.specs.Message.{letter_of}
-use Rattle.jb_model.specs.State.{AreaState, LiveMessage, live_message}
-use Rattle.jb_model.specs.Visible.{visible_at}
-use Rattle.jb_model.specs.declared.message.Head.{Head}
+use Rattle.jb_model.specs.Answered.{Answered, unless_denied, with_message}
+use Rattle.jb_state.specs.Live.{counted, with_slot}
+use Rattle.jb_model.specs.Letter.{letter_of}
+use Rattle.jb_state.specs.State.{AreaState, LiveMessage, live_message}
+use Rattle.jb_state.specs.Visible.{visible_at}
+use Rattle.jb_state.specs.declared.message.Head.{Head}
 use Rattle.jb_model.specs.declared.reply.Reply.TheVariants.{Text}
 
 -- TimesRead is one more, and stays at its greatest value

@@ -1,12 +1,12 @@
 -- A list of commands, one after another.
 use Rattle.std.specs.Prelude.{List, [], ◌∷◌, map}
 use Rattle.jb_base.specs.declared.area.AreaRules.{AreaRules}
-use Rattle.jb_model.specs.State.{AreaState, LiveMessage, SlotState, no_message, killed_message, live_message}
+use Rattle.jb_state.specs.State.{AreaState, LiveMessage, SlotState, no_message, killed_message, live_message}
 use Rattle.jb_model.specs.Step.{step}
-use Rattle.jb_model.specs.declared.area.Area.{Area}
-use Rattle.jb_model.specs.declared.area.Message.{Message}
-use Rattle.jb_model.specs.declared.area.Slot.{Slot}
-use Rattle.jb_model.specs.declared.area.Slot.TheVariants.{Empty, Killed, Live}
+use Rattle.jb_state.specs.declared.area.Area.{Area}
+use Rattle.jb_state.specs.declared.area.Message.{Message}
+use Rattle.jb_state.specs.declared.area.Slot.{Slot}
+use Rattle.jb_state.specs.declared.area.Slot.TheVariants.{Empty, Killed, Live}
 use Rattle.jb_model.specs.declared.command.Asked.{Asked}
 use Rattle.jb_model.specs.declared.reply.Reply.{Reply}
 

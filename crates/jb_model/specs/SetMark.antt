@@ -7,10 +7,10 @@ use Rattle.jb_base.specs.declared.area.AreaRules.{AreaRules}
 use Rattle.jb_limits.specs.declared.limits.TheConstants.{MOST_MARKS}
 use Rattle.jb_base.specs.declared.user.User.{User}
 use Rattle.jb_model.specs.Answered.{Answered, unless_denied, unless_refused}
-use Rattle.jb_model.specs.Marks.{with_mark}
-use Rattle.jb_model.specs.State.{AreaState, next_number}
-use Rattle.jb_model.specs.Visible.{highest_read_by, mark_of_user}
-use Rattle.jb_model.specs.declared.mark.Mark.{Mark}
+use Rattle.jb_state.specs.Marks.{with_mark}
+use Rattle.jb_state.specs.State.{AreaState, next_number}
+use Rattle.jb_state.specs.Visible.{highest_read_by, mark_of_user}
+use Rattle.jb_state.specs.declared.mark.Mark.{Mark}
 use Rattle.jb_model.specs.declared.reply.Reply.{Reply}
 use Rattle.jb_model.specs.declared.reply.Reply.TheVariants.{Marked, MarksFull, NoMessage}
 

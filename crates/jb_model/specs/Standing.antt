@@ -2,7 +2,7 @@
 use Rattle.std.specs.Prelude.{◌≡◌, Bool, true, false, Option, Some, None, if◌then◌else◌}
 use Rattle.jb_base.specs.declared.area.AreaRules.{AreaRules}
 use Rattle.jb_model.specs.Answered.{Answered}
-use Rattle.jb_model.specs.State.{AreaState}
+use Rattle.jb_state.specs.State.{AreaState}
 use Rattle.jb_model.specs.Step.{step}
 use Rattle.jb_model.specs.declared.entry.Entry.{Entry}
 use Rattle.jb_model.specs.declared.entry.Entry.TheVariants.{Called, Reopened}

@@ -9,7 +9,7 @@ use Rattle.jb_model.specs.Post.{post_step}
 use Rattle.jb_model.specs.Read.{peek_step, read_step}
 use Rattle.jb_model.specs.Relink.{relink_step}
 use Rattle.jb_model.specs.SetMark.{set_mark_step}
-use Rattle.jb_model.specs.State.{AreaState}
+use Rattle.jb_state.specs.State.{AreaState}
 use Rattle.jb_model.specs.declared.command.Command.{Command}
 use Rattle.jb_model.specs.declared.command.Command.TheVariants.{Post, Read, Peek, Kill, SetMark, Pack, Relink}
 use Rattle.jb_model.specs.declared.reply.Reply.{Reply}

@@ -17,7 +17,8 @@ pub struct Address {
 
 /// The address with which the text begins.
 pub fn address_of(alloc: Global, text: &[u8]) -> Result<Address, MsgIdError>
-    ensures ok { IfOk result (λ address. (address.end ≤ length text.now) × HasAddress text.now address.bytes (drop address.end text.now)) }
+    ensures ok { IfOk result (λ address. (address.end ≤ length text.now)
+        × HasAddress text.now address.bytes (drop address.end text.now)) }
     ensures err { IfErr result (IsAddressError text.now) }
 {
     match text.first() {
@@ -29,7 +30,8 @@ pub fn address_of(alloc: Global, text: &[u8]) -> Result<Address, MsgIdError>
 
 /// The address up to the first space or the end.
 fn plain_address(alloc: Global, text: &[u8]) -> Result<Address, OutOfMemory>
-    ensures end { IfOk result (λ address. address.end ≡ unwrap_or (position (λ byte. byte == 32) text.now) (length text.now)) }
+    ensures end { IfOk result (λ address.
+        address.end ≡ unwrap_or (position (λ byte. byte == 32) text.now) (length text.now)) }
     ensures bytes { IfOk result (λ address. address.bytes ≡ take address.end text.now) }
 {
     let end = first_space(text).unwrap_or(text.len());
@@ -46,7 +48,9 @@ fn first_space(text: &[u8]) -> Option<usize>
 /// The address between quotes, of which the first begins the text.
 fn quoted_address(alloc: Global, text: &[u8]) -> Result<Address, MsgIdError>
     requires { slice_get text.now 0 ≡ Some 34 }
-    ensures ok { IfOk result (λ address. (address.end ≤ length text.now) × IsQuoted text.now address.bytes (drop address.end text.now) × (0 < length address.bytes)) }
+    ensures ok { IfOk result (λ address. (address.end ≤ length text.now)
+        × IsQuoted text.now address.bytes (drop address.end text.now)
+        × (0 < length address.bytes)) }
     ensures err { IfErr result (IsAddressError text.now) }
 {
     match unquoted(alloc, &text[1..])? {
@@ -80,7 +84,8 @@ fn unquoted(alloc: Global, text: &[u8]) -> Result<Option<Address>, OutOfMemory>
 
 /// The next byte between quotes and the bytes behind it, where neither the closing quote nor the end comes first.
 fn next_inner(text: &[u8]) -> Option<(u8, &[u8])>
-    ensures inner { MatchOption result (IsEnd text.now) (λ next. text.now ≡ doubled (next.0 ∷ []) ++ next.1.now) }
+    ensures inner { MatchOption result (IsEnd text.now) (λ next.
+        text.now ≡ doubled (next.0 ∷ []) ++ next.1.now) }
     ensures shorter { IfSome result (λ next. length next.1.now < length text.now) }
 {
     let (byte, behind) = text.split_first()?;

@@ -16,8 +16,10 @@ pub fn parse(alloc: Global, text: &[u8]) -> Result<MsgId, MsgIdError>
 
     // Each text has one answer.
     ensures value { (value : MsgId) → IsMsgId text.now value → IsUnlessMemory result (Ok value) }
-    ensures no_serial { (at : ℕ) → LacksSerial text.now at → IsUnlessMemory result (Err (MsgIdError.NoSerial at)) }
-    ensures bad_quote { IsUnclosed text.now → IsUnlessMemory result (Err (MsgIdError.BadQuote (length text.now))) }
+    ensures no_serial { (at : ℕ) → LacksSerial text.now at
+        → IsUnlessMemory result (Err (MsgIdError.NoSerial at)) }
+    ensures bad_quote { IsUnclosed text.now
+        → IsUnlessMemory result (Err (MsgIdError.BadQuote (length text.now))) }
     ensures empty { HasNoAddress text.now → IsUnlessMemory result (Err MsgIdError.EmptyAddress) }
 {
     read(alloc, text)

@@ -1,5 +1,5 @@
 -- The texts that are left, as they are copied into .NDT one after another.
-use Rattle.std.proofs.Common.{◌≡◌, ◌≢◌, inl, inr, ℕ, ◌+◌, ◌-◌, ◌≤◌, ◌<◌, List, [], ◌∷◌, ◌++◌, Some, length, min, take, drop, get_or, set, replicate, All, refl, sym, ◌∙◌, ap, subst, arith, append_assoc, length-append, length-take, length-drop}
+use Rattle.std.proofs.Common.{◌≡◌, ◌≢◌, inl, inr, ℕ, ◌+◌, ◌-◌, ◌≤◌, ◌<◌, List, [], ◌∷◌, ◌++◌, Some, length, min, take, drop, get_or, set, replicate, All, refl, sym, ◌∙◌, ap, subst, arith, append_assoc, length-append, length-take}
 use Rattle.std.specs.Prelude.{sum}
 use Rattle.std.specs.Option.{ForSome}
 use Rattle.std.proofs.lemmas.List.{append-nil, drop_more, get_or-append_right, get_or-drop, get_or-take, get_or_read, length-replicate, length-set, places, replicate_more, same_lists, set_at, take-take}
@@ -9,12 +9,13 @@ use Rattle.jb_limits.specs.declared.limits.TheConstants.{SHADOW_CEILING, TEXTS_C
 use Rattle.jb_disk.specs.Device.{Device, Turns}
 use Rattle.jb_disk.specs.Files.{Files}
 use Rattle.jb_disk.specs.declared.file.FileId.TheVariants.{Jdt, Ndt}
+use Rattle.jb_image.proofs.FileBytes.{length-bytes_at}
 use Rattle.jb_image.specs.Places.{bytes_at}
-use Rattle.jb_model.specs.Sound.{IsSlotWithin, IsTextWithin}
-use Rattle.jb_model.specs.declared.loaded.Loaded.{Loaded}
-use Rattle.jb_model.specs.declared.loaded.LoadedMessage.{LoadedMessage}
-use Rattle.jb_model.specs.declared.loaded.LoadedSlot.{LoadedSlot}
-use Rattle.jb_model.specs.declared.loaded.LoadedSlot.TheVariants.{Empty, Live}
+use Rattle.jb_state.specs.Sound.{IsSlotWithin, IsTextWithin}
+use Rattle.jb_state.specs.declared.loaded.Loaded.{Loaded}
+use Rattle.jb_state.specs.declared.loaded.LoadedMessage.{LoadedMessage}
+use Rattle.jb_state.specs.declared.loaded.LoadedSlot.{LoadedSlot}
+use Rattle.jb_state.specs.declared.loaded.LoadedSlot.TheVariants.{Empty, Live}
 use Rattle.jb_pack.specs.Advance.{CopiesFirst}
 use Rattle.jb_pack.specs.Laws.{CopiesStay}
 use Rattle.jb_pack.specs.Runs.{IsJoined, IsRun}
@@ -24,10 +25,6 @@ use Rattle.jb_pack.specs.declared.copied.CopiedText.{CopiedText}
 use Rattle.jb_pack.specs.declared.run.Run.{Run}
 use Rattle.jb_pack.proofs.ShadowLemmas.{left-copied, left-whole, length-lefts, lefts-at, lefts-set}
 use Rattle.jb_pack.proofs.TouchLemmas.{told_before, touches-none, touches-then}
-
--- a part that lies within a file has its length
-pub length-bytes : (at len : ℕ) (file : List ℕ) → at + len ≤ length file → length (bytes_at at len file) ≡ len
-length-bytes at len file inside = omega (arith, length-take len (drop at file), length-drop at file)
 
 -- bytes behind a file change none of its parts
 bytes-before : (at len : ℕ) (file more : List ℕ) → at + len ≤ length file → bytes_at at len (file ++ more) ≡ bytes_at at len file
@@ -51,7 +48,7 @@ copy_longer texts shadow more copied is =
 copy_behind : (texts shadow : List ℕ) (from len at : ℕ) → at ≡ length shadow → from + len ≤ length texts
     → IsCopyIn texts (shadow ++ bytes_at from len texts) (record { from = from; len = len; at = at })
 copy_behind texts shadow from len at at_is inside =
-    let size = length-bytes from len texts inside in
+    let size = length-bytes_at from len texts inside in
     record {
       inside = inside;
       there = omega (arith, length-append shadow (bytes_at from len texts));
@@ -293,7 +290,7 @@ module _ (loaded : Loaded) (initial : Device) (start : List CopiedText) (len : �
         let end_is = copying.end_is in
         let within = copying.run_is.inside in
         copies_more (files Jdt) (with_run run files) copies k message.text_at message.text_len next has.each
-        (omega (arith, length-append (files Ndt) (bytes_at run.at run.len (files Jdt)), length-bytes run.at run.len (files Jdt) (omega arith)))
+        (omega (arith, length-append (files Ndt) (bytes_at run.at run.len (files Jdt)), length-bytes_at run.at run.len (files Jdt) (omega arith)))
         (omega arith)
 
     -- the text stands right behind the part, which grows
@@ -349,7 +346,7 @@ module _ (loaded : Loaded) (initial : Device) (start : List CopiedText) (len : �
               let long = before.long in
               let texts : files Jdt ≡ was Jdt = step.others Jdt texts_apart in
               record {
-                sized = omega (arith, ap length step.shadow, length-append (was Ndt) (bytes_at run.at run.len (was Jdt)), length-bytes run.at run.len (was Jdt) (omega arith));
+                sized = omega (arith, ap length step.shadow, length-append (was Ndt) (bytes_at run.at run.len (was Jdt)), length-bytes_at run.at run.len (was Jdt) (omega arith));
                 long = ap length texts ∙ before.long;
                 each = subst (λ (l : List ℕ). All (IsCopyIn (files Jdt) (l ++ bytes_at message.text_at message.text_len (files Jdt))) (set copies k (copy_at next message)))
                     (sym step.shadow)
@@ -376,7 +373,7 @@ module _ (loaded : Loaded) (initial : Device) (start : List CopiedText) (len : �
       let long = before.long in
       let texts : files Jdt ≡ was Jdt = step.others Jdt texts_apart in
       record {
-        size = omega (arith, ap length step.shadow, length-append (was Ndt) (bytes_at run.at run.len (was Jdt)), length-bytes run.at run.len (was Jdt) (omega arith));
+        size = omega (arith, ap length step.shadow, length-append (was Ndt) (bytes_at run.at run.len (was Jdt)), length-bytes_at run.at run.len (was Jdt) (omega arith));
         each = subst (λ (l : List ℕ). All (IsCopyIn (files Jdt) l) copies) (sym step.shadow)
             (subst (λ (l : List ℕ). All (IsCopyIn l (with_run run was)) copies) (sym texts) before.each);
       }

@@ -11,15 +11,15 @@ use Rattle.jb_disk.specs.RedoView.{RedoView}
 use Rattle.jb_disk.specs.Files.{Files}
 use Rattle.jb_disk.specs.declared.file.FileId.TheVariants.{Jdt}
 use Rattle.jb_image.specs.Places.{bytes_at}
-use Rattle.jb_model.specs.Sound.{IsSlotWithin, IsTextWithin}
-use Rattle.jb_model.specs.State.{text_of}
-use Rattle.jb_model.specs.declared.loaded.Loaded.{Loaded}
-use Rattle.jb_model.specs.declared.loaded.LoadedMessage.{LoadedMessage}
-use Rattle.jb_model.specs.declared.loaded.LoadedSlot.{LoadedSlot}
-use Rattle.jb_model.specs.declared.loaded.LoadedSlot.TheVariants.{Empty, Killed, Live}
+use Rattle.jb_state.specs.Sound.{IsSlotWithin, IsTextWithin}
+use Rattle.jb_state.specs.State.{text_of}
+use Rattle.jb_state.specs.declared.loaded.Loaded.{Loaded}
+use Rattle.jb_state.specs.declared.loaded.LoadedMessage.{LoadedMessage}
+use Rattle.jb_state.specs.declared.loaded.LoadedSlot.{LoadedSlot}
+use Rattle.jb_state.specs.declared.loaded.LoadedSlot.TheVariants.{Empty, Killed, Live}
 use Rattle.jb_pack.specs.Copying.{PutsRun, PutsTexts}
 use Rattle.jb_pack.specs.Laid.{Lays, laid}
-use Rattle.jb_model.specs.Packed.{slot_text_size, texts_in, texts_size}
+use Rattle.jb_state.specs.Packed.{slot_text_size, texts_in, texts_size}
 use Rattle.jb_pack.specs.Runs.{IsJoined, IsPlaced, IsRun}
 use Rattle.jb_pack.specs.declared.run.Run.{Run}
 use Rattle.jb_pack.proofs.SlotLemmas.{keeps_then, lays_fewer, lays_none, lays_then}

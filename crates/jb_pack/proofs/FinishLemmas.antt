@@ -8,7 +8,7 @@ use Rattle.std.proofs.lemmas.List.{append-nil, drop-drop}
 use Rattle.std.proofs.lemmas.List.Elements.{All-append, All-cons, All-head, All-nil, All-tail}
 use Rattle.std.proofs.lemmas.List.Sums.{count_by-le-length, sum_by-cons}
 use Rattle.std.proofs.Math.Seq.{drop-append-add, take-append_seam}
-use Rattle.jb_limits.specs.declared.limits.TheConstants.{HEADERS_CEILING, SHADOW_CEILING, TEXTS_CEILING}
+use Rattle.jb_limits.specs.declared.limits.TheConstants.{HEADERS_CEILING, SHADOW_CEILING, TEXTS_CEILING, MOST_SLOTS}
 use Rattle.jb_redo.specs.Changes.{changed, record_size}
 use Rattle.jb_disk.specs.RedoView.{RedoView, bytes_of}
 use Rattle.jb_disk.specs.Files.{Files, number_of, overwritten}
@@ -19,11 +19,11 @@ use Rattle.jb_disk.specs.declared.piece.Length.{Length}
 use Rattle.jb_disk.specs.declared.piece.Piece.{Piece}
 use Rattle.jb_disk.specs.declared.piece.Piece.TheVariants.{Bytes, Copy}
 use Rattle.jb_image.specs.Places.{bytes_at}
-use Rattle.jb_model.specs.LiveSlots.{linkables_from}
-use Rattle.jb_model.specs.Sound.{IsSound}
-use Rattle.jb_model.specs.declared.loaded.Loaded.{Loaded}
-use Rattle.jb_model.specs.declared.loaded.LoadedSlot.{LoadedSlot}
-use Rattle.jb_model.specs.declared.loaded.LoadedSlot.TheVariants.{Empty, Killed, Live}
+use Rattle.jb_state.specs.LiveSlots.{linkables_from}
+use Rattle.jb_state.specs.Sound.{IsSound}
+use Rattle.jb_state.specs.declared.loaded.Loaded.{Loaded}
+use Rattle.jb_state.specs.declared.loaded.LoadedSlot.{LoadedSlot}
+use Rattle.jb_state.specs.declared.loaded.LoadedSlot.TheVariants.{Empty, Killed, Live}
 use Rattle.jb_redo.specs.Record.{piece_bytes}
 use Rattle.jb_redo.specs.Replay.{span_of, spans_in, writes}
 use Rattle.jb_redo.specs.Rules.{AreLegalLengths, IsLegalPiece, sizes_of}
@@ -31,12 +31,12 @@ use Rattle.jb_redo.proofs.SpanLemmas.{spans_in-here, spans_in-other}
 use Rattle.jb_pack.specs.Bytes.{index_file}
 use Rattle.jb_pack.specs.Finish.{BringsNoText, HoldsWithCopies, IsPackOfCopies, PutsCopies}
 use Rattle.jb_pack.specs.Laid.{IsLaidOut, laid, pieces_into}
-use Rattle.jb_model.specs.Packed.{headers_size, is_live_slot, kept_slots, live_slots, new_base, packed, slot_header_size, slot_text_size, texts_size}
+use Rattle.jb_state.specs.Packed.{headers_size, is_live_slot, kept_slots, live_slots, new_base, packed, slot_header_size, slot_text_size, texts_size}
 use Rattle.jb_pack.specs.Plan.{PutsBase, StandPacked, lengths_with}
 use Rattle.jb_pack.specs.Runs.{IsRun, bytes_in, copies_of, runs_size}
 use Rattle.jb_pack.specs.Shadow.{Shadow}
 use Rattle.jb_pack.specs.declared.run.Run.{Run}
-use Rattle.jb_pack.proofs.CopiesLemmas.{length-bytes}
+use Rattle.jb_image.proofs.FileBytes.{length-bytes_at}
 use Rattle.jb_pack.proofs.FitLemmas.{headers_fit_kept}
 use Rattle.jb_pack.proofs.HeldLemmas.{length-index, length-packed}
 use Rattle.jb_pack.proofs.LaidLemmas.{length-record, spans-append}
@@ -52,7 +52,7 @@ length-in file (run ∷ runs) inside =
     omega (
       arith,
       length-append (bytes_at run.at run.len file) (bytes_in file runs),
-      length-bytes run.at run.len file here.inside,
+      length-bytes_at run.at run.len file here.inside,
       length-in file runs (All-tail (IsRun (length file)) run runs inside),
       sum_by-cons (λ (r : Run). r.len) run runs,
     )
@@ -89,7 +89,7 @@ module _ (files : Files) where
       let here = All-head (IsRun (length (files Ndt))) run runs inside in
       let rest = All-tail (IsRun (length (files Ndt))) run runs inside in
       let bytes : List ℕ = bytes_at run.at run.len (files Ndt) in
-      let size : length bytes ≡ run.len = length-bytes run.at run.len (files Ndt) here.inside in
+      let size : length bytes ≡ run.len = length-bytes_at run.at run.len (files Ndt) here.inside in
       let next : at + run.len ≡ length (front ++ bytes) = omega (arith, length-append front bytes) in
       ap (λ (l : List Span). patched l (front ++ old)) (spans_in-here files (Copy Ndt run.at Jdt at run.len) (copies_of (at + run.len) runs) Jdt refl)
       ∙ ap (patched (spans_in files (copies_of (at + run.len) runs) Jdt)) (over_behind front bytes old at at_is ∙ ap (λ n. (front ++ bytes) ++ drop n old) size)
@@ -107,7 +107,7 @@ module _ (files : Files) where
   copies_cover at (run ∷ runs) i inside from low =
       let here = All-head (IsRun (length (files Ndt))) run runs inside in
       let rest = All-tail (IsRun (length (files Ndt))) run runs inside in
-      let size : length (bytes_at run.at run.len (files Ndt)) ≡ run.len = length-bytes run.at run.len (files Ndt) here.inside in
+      let size : length (bytes_at run.at run.len (files Ndt)) ≡ run.len = length-bytes_at run.at run.len (files Ndt) here.inside in
       let more = sum_by-cons (λ (r : Run). r.len) run runs in
       subst (λ (l : List Span). IsCovered l i) (sym (spans_in-here files (Copy Ndt run.at Jdt at run.len) (copies_of (at + run.len) runs) Jdt refl))
       (elim (cases_lt i (at + run.len)) [
@@ -279,7 +279,7 @@ copies_record two new runs lengths_are pieces_are =
     omega (arith, length-record new.lengths new.pieces, length-record two.lengths two.pieces, ap (λ (l : List Length). length l) lengths_are)
 
 -- all parts of a pack by copies, put one after another
-pub copied_pack_of : (limit : ℕ) (loaded : Loaded) (shadow : Shadow) (two new : RedoView) → IsSound limit loaded → limit ≤ 65000
+pub copied_pack_of : (limit : ℕ) (loaded : Loaded) (shadow : Shadow) (two new : RedoView) → IsSound limit loaded → limit ≤ MOST_SLOTS
     → texts_size loaded.slots ≤ TEXTS_CEILING → PutsBase loaded two → PutsCopies shadow.texts loaded.slots two new → IsPackOfCopies loaded shadow new
 copied_pack_of limit loaded shadow two new sound limited fits base copies =
     let no_texts : pieces_into two.pieces Jdt ≡ [] = base.others Jdt texts_apart.0 texts_apart.1 in
@@ -294,7 +294,7 @@ copied_pack_of limit loaded shadow two new sound limited fits base copies =
     let size : (files : Files) → HoldsWithCopies loaded shadow files → length (bytes_in (files Ndt) copies.runs) ≡ texts_size (kept_slots loaded) =
     λ files holds. length-in (files Ndt) copies.runs (copies.texts files holds.has.each).inside ∙ copies.size ∙ sym (sum_of_kept slot_text_size refl (λ at. refl) loaded) in
     let headers_fit : 1024 + headers_size (kept_slots loaded) ≤ HEADERS_CEILING = headers_fit_kept limit loaded sound in
-    let kept : length (kept_slots loaded) ≤ 65000 = omega (arith, sound.few_slots, length-drop (new_base loaded - loaded.base) loaded.slots) in
+    let kept : length (kept_slots loaded) ≤ MOST_SLOTS = omega (arith, sound.few_slots, length-drop (new_base loaded - loaded.base) loaded.slots) in
     let slots_are : length (packed loaded).slots ≡ length (kept_slots loaded) =
     length-packed (linkables_from loaded.base loaded.slots) (new_base loaded) 1024 0 (kept_slots loaded) in
     let index_is : length (index_file (packed loaded)) ≡ 8 * length (kept_slots loaded) = length-index (packed loaded).slots ∙ ap (λ n. 8 * n) slots_are in

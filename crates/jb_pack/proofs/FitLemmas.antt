@@ -5,12 +5,12 @@ use Rattle.std.proofs.lemmas.Bool.{cases_lt}
 use Rattle.std.proofs.lemmas.List.Sums.{sum_by-cons}
 use Rattle.std.proofs.lemmas.List.Elements.{All-head, All-tail}
 use Rattle.jb_limits.specs.declared.limits.TheConstants.{HEADERS_CEILING}
-use Rattle.jb_model.specs.Loaded.{header_size}
-use Rattle.jb_model.specs.Sound.{AreApart, Covers, IsSlotWithin, IsSound}
-use Rattle.jb_model.specs.declared.loaded.Loaded.{Loaded}
-use Rattle.jb_model.specs.declared.loaded.LoadedSlot.{LoadedSlot}
-use Rattle.jb_model.specs.declared.loaded.LoadedSlot.TheVariants.{Empty, Killed, Live}
-use Rattle.jb_model.specs.Packed.{headers_size, kept_slots, slot_header_size}
+use Rattle.jb_state.specs.Loaded.{header_size}
+use Rattle.jb_state.specs.Sound.{AreApart, Covers, IsSlotWithin, IsSound}
+use Rattle.jb_state.specs.declared.loaded.Loaded.{Loaded}
+use Rattle.jb_state.specs.declared.loaded.LoadedSlot.{LoadedSlot}
+use Rattle.jb_state.specs.declared.loaded.LoadedSlot.TheVariants.{Empty, Killed, Live}
+use Rattle.jb_state.specs.Packed.{headers_size, kept_slots, slot_header_size}
 use Rattle.jb_pack.proofs.StateLemmas.{sum_of_kept}
 
 -- how many bytes of a live message's header lie below this place

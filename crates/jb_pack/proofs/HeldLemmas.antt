@@ -15,17 +15,17 @@ use Rattle.jb_disk.specs.Files.{Files}
 use Rattle.jb_disk.specs.declared.file.FileId.TheVariants.{Jhr, Jdt, Jdx}
 use Rattle.jb_image.specs.Places.{bytes_at, entry_in, header_in}
 use Rattle.jb_image.specs.Stands.{HasSlot, IsLiveHeader, IsLiveIn, Loads, fixed_of, head_of}
-use Rattle.jb_model.specs.Plan.{links_of}
-use Rattle.jb_model.specs.LiveSlots.{linkables_from, loaded_linkable}
-use Rattle.jb_model.specs.Links.{Linkable}
-use Rattle.jb_model.specs.Loaded.{header_size}
-use Rattle.jb_model.specs.Sound.{AreApart, Covers, IsSlotWithin, IsSound}
-use Rattle.jb_model.specs.State.{slot_state, state_of}
-use Rattle.jb_model.specs.declared.loaded.Loaded.{Loaded}
-use Rattle.jb_model.specs.declared.loaded.LoadedMessage.{LoadedMessage}
-use Rattle.jb_model.specs.declared.loaded.LoadedSlot.{LoadedSlot}
-use Rattle.jb_model.specs.declared.loaded.LoadedSlot.TheVariants.{Empty, Killed, Live}
-use Rattle.jb_model.proofs.PackLaws.{packed_base-within}
+use Rattle.jb_state.specs.Plan.{links_of}
+use Rattle.jb_state.specs.LiveSlots.{linkables_from, loaded_linkable}
+use Rattle.jb_state.specs.Links.{Linkable}
+use Rattle.jb_state.specs.Loaded.{header_size}
+use Rattle.jb_state.specs.Sound.{AreApart, Covers, IsSlotWithin, IsSound}
+use Rattle.jb_state.specs.State.{slot_state, state_of}
+use Rattle.jb_state.specs.declared.loaded.Loaded.{Loaded}
+use Rattle.jb_state.specs.declared.loaded.LoadedMessage.{LoadedMessage}
+use Rattle.jb_state.specs.declared.loaded.LoadedSlot.{LoadedSlot}
+use Rattle.jb_state.specs.declared.loaded.LoadedSlot.TheVariants.{Empty, Killed, Live}
+use Rattle.jb_state.proofs.PackLaws.{packed_base-within}
 use Rattle.jb_record.specs.Fixed.{IsFixedHeader, fixed_header_bytes, fixed_header_of}
 use Rattle.jb_record.specs.Index.{index_record_bytes, index_record_of}
 use Rattle.jb_record.specs.Lastread.{lastread_record_of}
@@ -37,7 +37,7 @@ use Rattle.jb_record.specs.declared.message.MessageHeader.{MessageHeader}
 use Rattle.jb_pack.specs.Bytes.{AreEntriesReadAgain, AreHeadersReadAgain, IsReadAgain, headers_bytes, index_bytes}
 use Rattle.jb_pack.specs.Laws.{ArePacked, HoldsPacked}
 use Rattle.jb_pack.proofs.FitLemmas.{headers_fit_kept}
-use Rattle.jb_model.specs.Packed.{headers_size, kept_slots, moved, new_base, packed, packed_from, slot_header_size, slot_text_size, texts_size}
+use Rattle.jb_state.specs.Packed.{headers_size, kept_slots, moved, new_base, packed, packed_from, slot_header_size, slot_text_size, texts_size}
 
 -- the first part of bytes behind others
 pub first_behind : (front first rest all : List ℕ) (at len : ℕ) → all ≡ front ++ (first ++ rest) → at ≡ length front → len ≡ length first → bytes_at at len all ≡ first

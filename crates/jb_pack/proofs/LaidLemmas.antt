@@ -22,6 +22,7 @@ use Rattle.jb_pack.specs.Laid.{IsLaidOut, IsLegalIn, Lays, laid, pieces_into}
 use Rattle.jb_redo.specs.Changes.{record_size}
 use Rattle.jb_bytes.specs.Number.{number_bytes}
 use Rattle.jb_disk.specs.declared.piece.Length.{Length}
+use Rattle.jb_redo.proofs.RecordLemmas.{length-lengths}
 
 -- spans behind others are written last
 pub patched-append : (first second : List Span) (old : List ℕ) → patched (first ++ second) old ≡ patched second (patched first old)
@@ -165,11 +166,6 @@ module _ (pieces : List Piece) (file : FileId) (at : ℕ) (bytes : List ℕ) whe
           (All-nil (IsLegalIn (λ f. length (laid more f)))));
       few = few;
     }
-
--- each length takes eight bytes
-length-lengths : (lengths : List Length) → length (flat_map length_bytes lengths) ≡ 8 * length lengths
-length-lengths [] = refl
-length-lengths (entry ∷ lengths) = omega (arith, length-append (length_bytes entry) (flat_map length_bytes lengths), length-lengths lengths)
 
 -- the rest of a record takes sixteen
 pub length-record : (lengths : List Length) (pieces : List Piece) → length (record_bytes lengths pieces) ≡ 16 + 8 * length lengths + length (flat_map piece_bytes pieces)

@@ -2,17 +2,17 @@
 use Rattle.std.proofs.Common.{◌≡◌, ℕ, zero, suc, ◌+◌, ◌≤◌, ◌<◌, List, [], ◌∷◌, ◌++◌, cond, length, drop, get_or, map, set, refl, sym, ◌∙◌, ap, arith, append_assoc, length-append, length-drop}
 use Rattle.std.proofs.lemmas.List.{drop-drop, get_or-drop, set_at}
 use Rattle.std.proofs.lemmas.List.Sums.{sum_by-cons}
-use Rattle.jb_model.specs.Plan.{links_of}
-use Rattle.jb_model.specs.LiveSlots.{linkables_from, loaded_linkable}
-use Rattle.jb_model.specs.Links.{Linkable}
-use Rattle.jb_model.specs.Loaded.{header_size, slot_moved_to}
-use Rattle.jb_model.specs.declared.links.Links.{Links}
-use Rattle.jb_model.specs.declared.loaded.LoadedMessage.{LoadedMessage}
-use Rattle.jb_model.specs.declared.loaded.LoadedSlot.{LoadedSlot}
-use Rattle.jb_model.specs.declared.loaded.LoadedSlot.TheVariants.{Empty, Killed, Live}
-use Rattle.jb_model.specs.declared.message.Head.{Head}
-use Rattle.jb_model.specs.Packed.{headers_size, is_live_slot, live_slots, moved, packed_from, slot_header_size, slot_text_size, texts_size}
-use Rattle.jb_model.specs.Linked.{linked_head}
+use Rattle.jb_state.specs.Plan.{links_of}
+use Rattle.jb_state.specs.LiveSlots.{linkables_from, loaded_linkable}
+use Rattle.jb_state.specs.Links.{Linkable}
+use Rattle.jb_state.specs.Loaded.{header_size, slot_moved_to}
+use Rattle.jb_state.specs.declared.links.Links.{Links}
+use Rattle.jb_state.specs.declared.loaded.LoadedMessage.{LoadedMessage}
+use Rattle.jb_state.specs.declared.loaded.LoadedSlot.{LoadedSlot}
+use Rattle.jb_state.specs.declared.loaded.LoadedSlot.TheVariants.{Empty, Killed, Live}
+use Rattle.jb_state.specs.declared.message.Head.{Head}
+use Rattle.jb_state.specs.Packed.{headers_size, is_live_slot, live_slots, moved, packed_from, slot_header_size, slot_text_size, texts_size}
+use Rattle.jb_state.specs.Linked.{linked_head}
 use Rattle.jb_pack.specs.Places.{IsBehind}
 use Rattle.jb_pack.specs.declared.place.Place.{Place}
 use Rattle.jb_pack.proofs.SlotLemmas.{from_place}

@@ -1,6 +1,6 @@
 -- One step of a packer, put together from its parts.
 use Rattle.std.proofs.Common.{◌≡◌, ◌≢◌, ◌⊎◌, inl, inr, ℕ, ◌+◌, ◌-◌, ◌≤◌, ◌<◌, nat_lt, lt-ltb, le-ltb, List, [], ◌++◌, Option, length, take, drop, replicate, All, refl, sym, ◌∙◌, ap, subst, arith}
-use Rattle.std.specs.Prelude.{Err, IfErr, Ok, Result, sum}
+use Rattle.std.specs.Prelude.{Err, Ok, Result, sum}
 use Rattle.std.specs.Option.{ForSome}
 use Rattle.std.specs.Result.{IsErrAnd}
 use Rattle.std.proofs.lemmas.List.{drop_all}
@@ -9,13 +9,13 @@ use Rattle.std.proofs.lemmas.List.Folds.{sum_by-replicate}
 use Rattle.std.proofs.lemmas.List.Sums.{sum_by-append, sum_by-take-drop, sum_by-take-le}
 use Rattle.jb_limits.specs.declared.limits.TheConstants.{SHADOW_CEILING, TEXTS_CEILING}
 use Rattle.jb_bytes.specs.Fault.{Rose}
-use Rattle.jb_disk.specs.Device.{Turns}
+use Rattle.jb_disk.specs.Device.{CountsFaults, Device, RoseIf, Turns}
 use Rattle.jb_disk.specs.Files.{Files}
 use Rattle.jb_disk.specs.declared.file.FileId.TheVariants.{Jdt, Ndt}
-use Rattle.jb_model.specs.declared.loaded.LoadedSlot.{LoadedSlot}
+use Rattle.jb_state.specs.declared.loaded.LoadedSlot.{LoadedSlot}
 use Rattle.jb_pack.specs.Advance.{Copies, CopiesFirst, CopiesWithin}
-use Rattle.jb_pack.specs.Copying.{PackFaultRose}
-use Rattle.jb_model.specs.Packed.{texts_size}
+use Rattle.jb_pack.specs.Copying.{is_pack_fault}
+use Rattle.jb_state.specs.Packed.{texts_size}
 use Rattle.jb_pack.specs.Reaching.{IsReach, Starts, StopsFor, leaves_more}
 use Rattle.jb_pack.specs.Shadow.{HasCopies, IsBelowCeiling, IsCopyIn, Shadow, left, left_first, lefts, not_copied, nothing_copied}
 use Rattle.jb_pack.specs.Touching.{AgreeButShadow, Empties}
@@ -250,6 +250,8 @@ texts_kept n old new size turns = λ files there.
     texts_apart same = cc
 
 -- a fault of the device, handed on
-pub fault_rose : {T : Type 0} (before now : ℕ) (result : Result T PackError) → IsErrAnd result (λ (error : PackError). error ≡ StoreFault) → Rose before now → IfErr result (PackFaultRose before now)
-fault_rose before now (Ok value) is rose = tt
-fault_rose before now (Err error) is rose = subst (PackFaultRose before now) (sym is) rose
+pub fault_counted : {T : Type 0} (old new : Device) (result : Result T PackError) → IsErrAnd result (λ (error : PackError). error ≡ StoreFault) → old.faults ≤ new.faults
+    → Rose old.faults new.faults ⊎ ⊥ → CountsFaults is_pack_fault old new result
+fault_counted old new (Ok value) is later rose = absurd is
+fault_counted old new (Err error) is later (inl rose) = record { quiet = tt; later = later; cause = subst (λ (e : PackError). RoseIf (is_pack_fault e) old.faults new.faults) (sym is) rose }
+fault_counted old new (Err error) is later (inr none) = absurd none

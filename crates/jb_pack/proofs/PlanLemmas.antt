@@ -1,36 +1,34 @@
 -- The pieces of a pack make of files that hold an area files that hold the packed one.
-use Rattle.std.proofs.Common.{◌≡◌, ◌≢◌, ℕ, ◌+◌, ◌-◌, ◌≤◌, ◌<◌, nat_lt, lt-ltb, le-ltb, List, [], ◌∷◌, ◌++◌, Option, cond, length, map, refl, sym, ◌∙◌, ap, subst, arith, length-append, length-drop}
-use Rattle.std.specs.Prelude.{Some, None, slice_index_or, ◌^◌}
+use Rattle.std.proofs.Common.{◌≡◌, ◌≢◌, ℕ, ◌+◌, ◌-◌, ◌≤◌, ◌<◌, List, [], ◌∷◌, ◌++◌, Option, length, map, refl, sym, ◌∙◌, ap, subst, arith, length-append, length-drop}
+use Rattle.std.specs.Prelude.{slice_index_or, ◌^◌}
 use Rattle.std.specs.List.{flat_map, position_or_len}
 use Rattle.std.proofs.lemmas.List.Sums.{sum_by-le}
 use Rattle.jb_redo.specs.Record.{piece_bytes}
 use Rattle.jb_pack.proofs.LaidLemmas.{length-record}
-use Rattle.jb_pack.proofs.StateLemmas.{base_packed, killed_of_state, live_of_state, texts_of_state}
-use Rattle.jb_model.specs.declared.reply.Reply.TheVariants.{Packed, TextFull}
 use Rattle.std.proofs.lemmas.List.{length-map}
 use Rattle.std.proofs.lemmas.List.Elements.{All-nil}
-use Rattle.jb_limits.specs.declared.limits.TheConstants.{HEADERS_CEILING, TEXTS_CEILING}
+use Rattle.jb_limits.specs.declared.limits.TheConstants.{HEADERS_CEILING, TEXTS_CEILING, MOST_SLOTS}
 use Rattle.jb_redo.specs.Changes.{changed}
 use Rattle.jb_disk.specs.RedoView.{RedoView, bytes_of}
 use Rattle.jb_disk.specs.Files.{Files, number_of}
 use Rattle.jb_disk.specs.declared.file.FileId.TheVariants.{Jhr, Jdt, Jdx, Jlr}
 use Rattle.jb_disk.specs.declared.piece.Piece.{Piece}
 use Rattle.jb_image.specs.Stands.{fixed_of}
-use Rattle.jb_model.specs.LiveSlots.{linkables_from}
-use Rattle.jb_model.specs.Live.{live_from}
-use Rattle.jb_model.specs.Pack.{first_number_or, pack_done, pack_refusal}
-use Rattle.jb_model.specs.Sound.{IsSlotWithin, IsSound}
-use Rattle.jb_model.specs.State.{slot_state, state_of}
-use Rattle.jb_model.proofs.PackLaws.{packed_base-within}
-use Rattle.jb_model.specs.declared.loaded.Loaded.{Loaded}
-use Rattle.jb_model.specs.declared.loaded.LoadedSlot.{LoadedSlot}
-use Rattle.jb_model.specs.declared.loaded.LoadedSlot.TheVariants.{Empty, Killed, Live}
+use Rattle.jb_state.specs.LiveSlots.{linkables_from}
+use Rattle.jb_state.specs.Live.{live_from}
+use Rattle.jb_state.specs.PackedState.{first_number_or}
+use Rattle.jb_state.specs.Sound.{IsSlotWithin, IsSound}
+use Rattle.jb_state.specs.State.{slot_state, state_of}
+use Rattle.jb_state.proofs.PackLaws.{packed_base-within}
+use Rattle.jb_state.specs.declared.loaded.Loaded.{Loaded}
+use Rattle.jb_state.specs.declared.loaded.LoadedSlot.{LoadedSlot}
+use Rattle.jb_state.specs.declared.loaded.LoadedSlot.TheVariants.{Empty, Killed, Live}
 use Rattle.jb_record.specs.Fixed.{fixed_header_bytes}
 use Rattle.jb_redo.specs.Rules.{AreLegalLengths}
 use Rattle.jb_pack.specs.Bytes.{IsReadAgain, headers_bytes, headers_file, index_file}
 use Rattle.jb_pack.specs.Copying.{PutsTexts}
 use Rattle.jb_pack.specs.Laid.{IsLaidOut, IsLegalIn, Lays, laid, pieces_into}
-use Rattle.jb_model.specs.Packed.{headers_size, is_live_slot, kept_slots, killed_slots, live_slots, new_base, packed, slot_text_size, texts_size}
+use Rattle.jb_state.specs.Packed.{headers_size, is_live_slot, kept_slots, new_base, packed, slot_text_size, texts_size}
 use Rattle.jb_pack.specs.Plan.{IsPackOf, PutsArea, PutsBase, StandPacked, lengths_with}
 use Rattle.jb_pack.proofs.FitLemmas.{headers_fit_kept}
 use Rattle.jb_pack.proofs.HeldLemmas.{length-headers, length-index, length-packed}
@@ -100,7 +98,7 @@ new_base_at loaded =
     first_at loaded.base (loaded.base + length (map (slot_state []) loaded.slots)) loaded.slots (omega (arith, length-map loaded.slots (slot_state [])))
 
 -- the index is short
-pub index_short : (limit : ℕ) (loaded : Loaded) → IsSound limit loaded → limit ≤ 65000 → length (index_file (packed loaded)) ≤ 520000
+pub index_short : (limit : ℕ) (loaded : Loaded) → IsSound limit loaded → limit ≤ MOST_SLOTS → length (index_file (packed loaded)) ≤ 520000
 index_short limit loaded sound limited =
     omega (
       arith,
@@ -137,7 +135,7 @@ pub marks_apart : (Jlr ≢ Jhr) × (Jlr ≢ Jdx)
 marks_apart = (λ same. absurd (omega (arith, ap number_of same)), λ same. absurd (omega (arith, ap number_of same)))
 
 -- all parts of a pack, put one after another
-pub pack_of : (limit : ℕ) (loaded : Loaded) (two new : RedoView) (contents : Option Files) → IsSound limit loaded → limit ≤ 65000
+pub pack_of : (limit : ℕ) (loaded : Loaded) (two new : RedoView) (contents : Option Files) → IsSound limit loaded → limit ≤ MOST_SLOTS
     → texts_size (kept_slots loaded) ≤ TEXTS_CEILING → PutsBase loaded two → PutsTexts contents (kept_slots loaded) two new → IsPackOf contents loaded new
 pack_of limit loaded two new contents sound limited fits base texts =
     let lays = texts.lays in
@@ -149,7 +147,7 @@ pack_of limit loaded two new contents sound limited fits base texts =
     let all_texts : laid new.pieces Jdt ≡ texts.bytes = lays.here ∙ ap (λ (l : List ℕ). l ++ texts.bytes) no_texts in
     let no_marks : laid new.pieces Jlr ≡ [] =
     ap (flat_map bytes_of) (lays.others Jlr (λ same. absurd (omega (arith, ap number_of same))) ∙ base.others Jlr marks_apart.0 marks_apart.1) in
-    let many : length (kept_slots loaded) ≤ 65000 = omega (arith, sound.few_slots, length-drop (new_base loaded - loaded.base) loaded.slots) in
+    let many : length (kept_slots loaded) ≤ MOST_SLOTS = omega (arith, sound.few_slots, length-drop (new_base loaded - loaded.base) loaded.slots) in
     let headers_fit : 1024 + headers_size (kept_slots loaded) ≤ HEADERS_CEILING = headers_fit_kept limit loaded sound in
     let out : IsLaidOut new.pieces = lays.kept base.laid_out in
     let texts_len = texts.size in
@@ -177,7 +175,7 @@ pack_of limit loaded two new contents sound limited fits base texts =
     }
 
 -- texts together are no more bytes than a number of 64 bits counts
-pub texts_small : (limit : ℕ) (loaded : Loaded) → IsSound limit loaded → limit ≤ 65000 → texts_size loaded.slots < 2 ^ 64
+pub texts_small : (limit : ℕ) (loaded : Loaded) → IsSound limit loaded → limit ≤ MOST_SLOTS → texts_size loaded.slots < 2 ^ 64
 texts_small limit loaded sound limited =
     omega (arith, sum_by-le slot_text_size 1048576 loaded.slots (λ k d low. short (slice_index_or loaded.slots k d) (sound.within k d low)), sound.few_slots)
   where
@@ -185,24 +183,6 @@ texts_small limit loaded sound limited =
     short Empty within = omega arith
     short (Killed at) within = omega arith
     short (Live message) within = within.text.short
-
-module _ (limit : ℕ) (loaded : Loaded) (sound : IsSound limit loaded) (texts : List ℕ) (size : length texts ≡ loaded.texts_len) where
-  -- what is refused hangs on the length of the texts together
-  refused_by : pack_refusal (state_of texts loaded) ≡ cond (nat_lt TEXTS_CEILING (texts_size loaded.slots)) (Some (TextFull (texts_size loaded.slots))) None
-  refused_by =
-      ap (λ n. cond (nat_lt TEXTS_CEILING n) (Some (TextFull n)) None) (texts_of_state loaded.headers_len loaded.texts_len texts loaded.slots size sound.within)
-
-  -- too long
-  pub refused_full : TEXTS_CEILING < texts_size loaded.slots → pack_refusal (state_of texts loaded) ≡ Some (TextFull (texts_size loaded.slots))
-  refused_full more = refused_by ∙ ap (λ b. cond b (Some (TextFull (texts_size loaded.slots))) None) (lt-ltb TEXTS_CEILING (texts_size loaded.slots) more)
-
-  -- not too long
-  pub not_refused : texts_size loaded.slots ≤ TEXTS_CEILING → pack_refusal (state_of texts loaded) ≡ None
-  not_refused fits = refused_by ∙ ap (λ b. cond b (Some (TextFull (texts_size loaded.slots))) None) (le-ltb TEXTS_CEILING (texts_size loaded.slots) fits)
-
-  -- the reply
-  pub replied : (pack_done (state_of texts loaded)).reply ≡ Packed (new_base loaded) (live_slots loaded.slots) (killed_slots loaded.slots)
-  replied = λ i. Packed (base_packed texts loaded i) (live_of_state texts loaded.slots i) (killed_of_state texts loaded.slots i)
 
 -- the new base lies among the numbers of the area, or right behind
 pub base_within : (loaded : Loaded) → (loaded.base ≤ new_base loaded) × (new_base loaded ≤ loaded.base + length loaded.slots)

@@ -12,14 +12,14 @@ use Rattle.jb_disk.specs.declared.file.FileId.TheVariants.{Jdt, Ndt}
 use Rattle.jb_disk.specs.declared.piece.Piece.{Piece}
 use Rattle.jb_disk.specs.declared.piece.Piece.TheVariants.{Copy}
 use Rattle.jb_image.specs.Places.{bytes_at}
-use Rattle.jb_model.specs.Sound.{IsMessageWithin, IsSlotWithin}
-use Rattle.jb_model.specs.State.{text_of}
-use Rattle.jb_model.specs.declared.loaded.Loaded.{Loaded}
-use Rattle.jb_model.specs.declared.loaded.LoadedMessage.{LoadedMessage}
-use Rattle.jb_model.specs.declared.loaded.LoadedSlot.{LoadedSlot}
-use Rattle.jb_model.specs.declared.loaded.LoadedSlot.TheVariants.{Empty, Killed, Live}
+use Rattle.jb_state.specs.Sound.{IsMessageWithin, IsSlotWithin}
+use Rattle.jb_state.specs.State.{text_of}
+use Rattle.jb_state.specs.declared.loaded.Loaded.{Loaded}
+use Rattle.jb_state.specs.declared.loaded.LoadedMessage.{LoadedMessage}
+use Rattle.jb_state.specs.declared.loaded.LoadedSlot.{LoadedSlot}
+use Rattle.jb_state.specs.declared.loaded.LoadedSlot.TheVariants.{Empty, Killed, Live}
 use Rattle.jb_pack.specs.Finish.{PutsCopies}
-use Rattle.jb_model.specs.Packed.{is_live_slot, live_slots, slot_text_size, texts_in, texts_size}
+use Rattle.jb_state.specs.Packed.{is_live_slot, live_slots, slot_text_size, texts_in, texts_size}
 use Rattle.jb_pack.specs.Runs.{IsJoined, IsPlaced, IsRun, bytes_in, copies_of, runs_size}
 use Rattle.jb_pack.specs.Shadow.{IsBelowCeiling, IsCopyIn, left_of, not_copied}
 use Rattle.jb_pack.specs.declared.copied.CopiedText.{CopiedText}

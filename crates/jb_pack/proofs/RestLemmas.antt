@@ -4,8 +4,8 @@ use Rattle.std.specs.Prelude.{sum}
 use Rattle.std.proofs.lemmas.List.Sums.{sum_by-cons, sum_by-take-le}
 use Rattle.jb_limits.specs.declared.limits.TheConstants.{SHADOW_CEILING}
 use Rattle.jb_disk.specs.Device.{Device}
-use Rattle.jb_model.specs.declared.loaded.Loaded.{Loaded}
-use Rattle.jb_model.specs.declared.loaded.LoadedSlot.{LoadedSlot}
+use Rattle.jb_state.specs.declared.loaded.Loaded.{Loaded}
+use Rattle.jb_state.specs.declared.loaded.LoadedSlot.{LoadedSlot}
 use Rattle.jb_pack.specs.Advance.{Copies, CopiesFirst}
 use Rattle.jb_pack.specs.Reaching.{IsReach, Starts, StopsFor, leaves_more, most_for, most_of}
 use Rattle.jb_pack.specs.Shadow.{Shadow, left, left_first, lefts}

@@ -4,10 +4,10 @@ use Rattle.std.specs.Prelude.{◌&&◌, sum}
 use Rattle.std.proofs.lemmas.Bool.{cases_lt, eq-eqb, eqb-true, false≢true}
 use Rattle.std.proofs.lemmas.List.{same_lists, get_or-append_right, get_or-take, get_or_append_left, get_or_default, get_or_past, get_or_read}
 use Rattle.std.proofs.lemmas.List.Sums.{sum_by-cons, sum_by_more, get_or-le-sum_by}
-use Rattle.jb_model.specs.declared.loaded.LoadedMessage.{LoadedMessage}
-use Rattle.jb_model.specs.declared.loaded.LoadedSlot.{LoadedSlot}
-use Rattle.jb_model.specs.declared.loaded.LoadedSlot.TheVariants.{Empty, Killed, Live}
-use Rattle.jb_model.specs.Packed.{slot_text_size, texts_size}
+use Rattle.jb_state.specs.declared.loaded.LoadedMessage.{LoadedMessage}
+use Rattle.jb_state.specs.declared.loaded.LoadedSlot.{LoadedSlot}
+use Rattle.jb_state.specs.declared.loaded.LoadedSlot.TheVariants.{Empty, Killed, Live}
+use Rattle.jb_state.specs.Packed.{slot_text_size, texts_size}
 use Rattle.jb_pack.specs.Shadow.{left_of, lefts, not_copied}
 use Rattle.jb_pack.specs.declared.copied.CopiedText.{CopiedText}
 

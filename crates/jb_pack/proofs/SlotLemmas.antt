@@ -10,24 +10,24 @@ use Rattle.jb_redo.specs.Changes.{KeepsRoom}
 use Rattle.jb_disk.specs.RedoView.{RedoView}
 use Rattle.jb_disk.specs.declared.file.FileId.{FileId}
 use Rattle.jb_disk.specs.declared.file.FileId.TheVariants.{Jhr}
-use Rattle.jb_model.specs.Plan.{links_of, plan_of}
-use Rattle.jb_model.specs.LiveSlots.{linkables_from, loaded_linkable}
-use Rattle.jb_model.specs.Links.{Linkable, linkable}
-use Rattle.jb_model.specs.Live.{live_from}
-use Rattle.jb_model.specs.Loaded.{header_size}
-use Rattle.jb_model.specs.Sound.{IsSlotWithin, IsSound}
-use Rattle.jb_model.specs.State.{slot_state, state_of}
-use Rattle.jb_model.specs.declared.links.Links.{Links}
-use Rattle.jb_model.specs.declared.loaded.Loaded.{Loaded}
-use Rattle.jb_model.specs.declared.loaded.LoadedMessage.{LoadedMessage}
-use Rattle.jb_model.specs.declared.loaded.LoadedSlot.{LoadedSlot}
-use Rattle.jb_model.specs.declared.loaded.LoadedSlot.TheVariants.{Empty, Killed, Live}
-use Rattle.jb_model.proofs.PackLaws.{live_from-first, packed_base-within}
+use Rattle.jb_state.specs.Plan.{links_of, plan_of}
+use Rattle.jb_state.specs.LiveSlots.{linkables_from, loaded_linkable}
+use Rattle.jb_state.specs.Links.{Linkable, linkable}
+use Rattle.jb_state.specs.Live.{live_from}
+use Rattle.jb_state.specs.Loaded.{header_size}
+use Rattle.jb_state.specs.Sound.{IsSlotWithin, IsSound}
+use Rattle.jb_state.specs.State.{slot_state, state_of}
+use Rattle.jb_state.specs.declared.links.Links.{Links}
+use Rattle.jb_state.specs.declared.loaded.Loaded.{Loaded}
+use Rattle.jb_state.specs.declared.loaded.LoadedMessage.{LoadedMessage}
+use Rattle.jb_state.specs.declared.loaded.LoadedSlot.{LoadedSlot}
+use Rattle.jb_state.specs.declared.loaded.LoadedSlot.TheVariants.{Empty, Killed, Live}
+use Rattle.jb_state.proofs.PackLaws.{live_from-first, packed_base-within}
 use Rattle.jb_record.specs.Index.{index_record_bytes}
 use Rattle.jb_image.specs.Records.{IsEntryReadAgain, IsHeaderReadAgain, entry_for, message_bytes}
 use Rattle.jb_pack.specs.Bytes.{AreEntriesReadAgain, AreHeadersReadAgain, headers_bytes, index_bytes, index_file}
 use Rattle.jb_pack.specs.Laid.{Lays, laid}
-use Rattle.jb_model.specs.Packed.{headers_size, kept_slots, moved, new_base, packed, packed_from, slot_header_size, slot_text_size, texts_size}
+use Rattle.jb_state.specs.Packed.{headers_size, kept_slots, moved, new_base, packed, packed_from, slot_header_size, slot_text_size, texts_size}
 use Rattle.jb_pack.specs.Places.{IsBehind}
 use Rattle.jb_pack.specs.declared.place.Place.{Place}
 use Rattle.jb_pack.proofs.FitLemmas.{headers_fit_kept}

@@ -3,15 +3,15 @@ use Rattle.std.proofs.Common.{inr, ℕ, ◌+◌, ◌-◌, ◌≤◌, List, [], �
 use Rattle.std.proofs.lemmas.List.Sums.{sum_by-cons}
 use Rattle.std.proofs.lemmas.List.Elements.{All-cons, All-drop, All-head, All-nil, All-tail}
 use Rattle.jb_limits.specs.declared.limits.TheConstants.{HEADERS_CEILING, TEXTS_CEILING}
-use Rattle.jb_model.specs.Plan.{links_of}
-use Rattle.jb_model.specs.LiveSlots.{linkables_from, loaded_linkable}
-use Rattle.jb_model.specs.Links.{Linkable}
-use Rattle.jb_model.specs.Loaded.{header_size}
-use Rattle.jb_model.specs.Sound.{IsSlotWithin}
-use Rattle.jb_model.specs.declared.loaded.LoadedSlot.{LoadedSlot}
-use Rattle.jb_model.specs.declared.loaded.LoadedSlot.TheVariants.{Empty, Killed, Live}
+use Rattle.jb_state.specs.Plan.{links_of}
+use Rattle.jb_state.specs.LiveSlots.{linkables_from, loaded_linkable}
+use Rattle.jb_state.specs.Links.{Linkable}
+use Rattle.jb_state.specs.Loaded.{header_size}
+use Rattle.jb_state.specs.Sound.{IsSlotWithin}
+use Rattle.jb_state.specs.declared.loaded.LoadedSlot.{LoadedSlot}
+use Rattle.jb_state.specs.declared.loaded.LoadedSlot.TheVariants.{Empty, Killed, Live}
 use Rattle.jb_pack.specs.Laws.{PackKeepsSound}
-use Rattle.jb_model.specs.Packed.{headers_size, kept_slots, moved, new_base, packed_from, slot_header_size, slot_text_size, texts_size}
+use Rattle.jb_state.specs.Packed.{headers_size, kept_slots, moved, new_base, packed_from, slot_header_size, slot_text_size, texts_size}
 use Rattle.jb_pack.proofs.FitLemmas.{headers_fit_kept}
 use Rattle.jb_pack.proofs.HeldLemmas.{apart_packed, length-packed}
 use Rattle.jb_pack.proofs.PlanLemmas.{base_within}

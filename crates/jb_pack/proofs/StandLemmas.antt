@@ -7,14 +7,14 @@ use Rattle.jb_disk.specs.Files.{Files}
 use Rattle.jb_disk.specs.declared.file.FileId.TheVariants.{Jdt, Jhr}
 use Rattle.jb_image.specs.Places.{header_in}
 use Rattle.jb_image.specs.Stands.{Loads, fixed_of}
-use Rattle.jb_model.specs.LiveSlots.{linkables_from}
-use Rattle.jb_model.specs.Links.{Linkable}
-use Rattle.jb_model.specs.Loaded.{header_size}
-use Rattle.jb_model.specs.Sound.{IsSound}
-use Rattle.jb_model.specs.declared.loaded.Loaded.{Loaded}
-use Rattle.jb_model.specs.declared.loaded.LoadedMessage.{LoadedMessage}
-use Rattle.jb_model.specs.declared.loaded.LoadedSlot.{LoadedSlot}
-use Rattle.jb_model.specs.declared.loaded.LoadedSlot.TheVariants.{Empty, Killed, Live}
+use Rattle.jb_state.specs.LiveSlots.{linkables_from}
+use Rattle.jb_state.specs.Links.{Linkable}
+use Rattle.jb_state.specs.Loaded.{header_size}
+use Rattle.jb_state.specs.Sound.{IsSound}
+use Rattle.jb_state.specs.declared.loaded.Loaded.{Loaded}
+use Rattle.jb_state.specs.declared.loaded.LoadedMessage.{LoadedMessage}
+use Rattle.jb_state.specs.declared.loaded.LoadedSlot.{LoadedSlot}
+use Rattle.jb_state.specs.declared.loaded.LoadedSlot.TheVariants.{Empty, Killed, Live}
 use Rattle.jb_record.specs.Fixed.{fixed_header_bytes}
 use Rattle.jb_record.specs.Index.{index_record_bytes}
 use Rattle.jb_record.specs.Message.{message_header_bytes, message_header_of}
@@ -22,7 +22,7 @@ use Rattle.jb_record.specs.declared.message.MessageHeader.{MessageHeader}
 use Rattle.jb_image.specs.Records.{entry_for, message_bytes, numbered_header}
 use Rattle.jb_pack.specs.Bytes.{IsReadAgain, headers_bytes}
 use Rattle.jb_pack.specs.Laws.{ArePacked}
-use Rattle.jb_model.specs.Packed.{kept_slots, new_base, packed, packed_from, slot_text_size, texts_size}
+use Rattle.jb_state.specs.Packed.{kept_slots, new_base, packed, packed_from, slot_text_size, texts_size}
 use Rattle.jb_pack.specs.Standing.{StandTogether}
 use Rattle.jb_image.proofs.RecordLemmas.{length-header}
 use Rattle.jb_pack.proofs.HeldLemmas.{IsLaid, first_behind, laid_message, laid_packed, next_empty, next_live}

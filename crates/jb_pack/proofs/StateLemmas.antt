@@ -1,26 +1,26 @@
 -- The loaded area after a pack stands for the packed state.
-use Rattle.std.proofs.Common.{◌≡◌, inl, inr, ℕ, zero, suc, ◌+◌, ◌-◌, ◌≤◌, List, [], ◌∷◌, ◌++◌, cond, length, take, drop, map, All, refl, sym, ◌∙◌, ap, arith, append_assoc, length-append, length-take, length-drop}
+use Rattle.std.proofs.Common.{◌≡◌, inl, inr, ℕ, suc, ◌+◌, ◌-◌, ◌≤◌, List, [], ◌∷◌, ◌++◌, cond, length, take, drop, map, All, refl, sym, ◌∙◌, ap, arith, append_assoc, length-append, length-take, length-drop}
 use Rattle.std.specs.Prelude.{sum_by}
 use Rattle.std.proofs.lemmas.List.{length-map, drop-map, drop_all}
 use Rattle.std.proofs.lemmas.List.Sums.{sum_by-cons}
 use Rattle.std.proofs.Math.Seq.{drop-append_seam, take-append_seam}
 use Rattle.std.proofs.lemmas.List.Elements.{All-head, All-tail, All-drop}
 use Rattle.jb_link.proofs.LiveLemmas.{linkables_with_texts}
-use Rattle.jb_model.specs.LiveSlots.{linkables_from}
-use Rattle.jb_model.specs.Links.{Linkable}
-use Rattle.jb_model.specs.Live.{change_live_from, is_killed, is_live, killed_count, live_count, live_from}
-use Rattle.jb_model.specs.Loaded.{header_size}
-use Rattle.jb_model.specs.Pack.{emptied, first_number_or, packed_base, packed_slots, packed_state}
-use Rattle.jb_model.specs.Relink.{relinked}
-use Rattle.jb_model.specs.Sound.{IsSlotWithin, IsSound, IsTextWithin}
-use Rattle.jb_model.specs.State.{LiveMessage, SlotState, killed_message, live_message, next_number, no_message, slot_state, state_of, text_of}
-use Rattle.jb_model.specs.Tight.{header_bytes, headers_together, text_bytes, texts_together}
-use Rattle.jb_model.specs.declared.loaded.Loaded.{Loaded}
-use Rattle.jb_model.specs.declared.loaded.LoadedMessage.{LoadedMessage}
-use Rattle.jb_model.specs.declared.loaded.LoadedSlot.{LoadedSlot}
-use Rattle.jb_model.specs.declared.loaded.LoadedSlot.TheVariants.{Empty, Killed, Live}
-use Rattle.jb_model.proofs.PackLaws.{packed_base-within}
-use Rattle.jb_model.specs.Packed.{headers_size, is_killed_slot, is_live_slot, kept_slots, killed_slots, live_slots, new_base, packed, packed_from, packed_texts, slot_header_size, slot_text_size, texts_in, texts_size}
+use Rattle.jb_state.specs.LiveSlots.{linkables_from}
+use Rattle.jb_state.specs.Links.{Linkable}
+use Rattle.jb_state.specs.Live.{change_live_from, is_killed, is_live, killed_count, live_count, live_from}
+use Rattle.jb_state.specs.Loaded.{header_size}
+use Rattle.jb_state.specs.PackedState.{emptied, first_number_or, packed_base, packed_slots, packed_state}
+use Rattle.jb_state.specs.Relinked.{relinked}
+use Rattle.jb_state.specs.Sound.{IsSlotWithin, IsSound, IsTextWithin}
+use Rattle.jb_state.specs.State.{LiveMessage, SlotState, live_message, next_number, no_message, slot_state, state_of, text_of}
+use Rattle.jb_state.specs.Tight.{header_bytes, headers_together, text_bytes, texts_together}
+use Rattle.jb_state.specs.declared.loaded.Loaded.{Loaded}
+use Rattle.jb_state.specs.declared.loaded.LoadedMessage.{LoadedMessage}
+use Rattle.jb_state.specs.declared.loaded.LoadedSlot.{LoadedSlot}
+use Rattle.jb_state.specs.declared.loaded.LoadedSlot.TheVariants.{Empty, Killed, Live}
+use Rattle.jb_state.proofs.PackLaws.{packed_base-within, drop-change}
+use Rattle.jb_state.specs.Packed.{headers_size, is_killed_slot, is_live_slot, kept_slots, killed_slots, live_slots, new_base, packed, packed_from, packed_texts, slot_header_size, slot_text_size, texts_in, texts_size}
 
 -- a text that lies within the texts has its length
 pub length-text : (texts_len : ℕ) (texts : List ℕ) (message : LoadedMessage) → IsTextWithin texts_len message.text_at message.text_len → length texts ≡ texts_len
@@ -62,18 +62,6 @@ slots_packed live headers_len texts_len texts all front number header_at text_at
     (all_is ∙ sym (append_assoc front (text_of texts message) (texts_in texts slots)))
     (omega (arith, length-append front (text_of texts message))) in
     λ i. live_message (record (relink_by live number (record { owner = message.owner; head = message.head; subfields = message.subfields; text = text_of texts message })) { text = text_is i }) ∷ rest i
-
--- changed messages from a place on
-drop-change : (change : ℕ → LiveMessage → LiveMessage) (n number : ℕ) (slots : List SlotState)
-    → drop n (change_live_from change number slots) ≡ change_live_from change (number + n) (drop n slots)
-drop-change change zero number slots = ap (λ k. change_live_from change k slots) (omega arith)
-drop-change change (suc n) number [] = refl
-drop-change change (suc n) number (no_message ∷ slots) =
-    drop-change change n (number + 1) slots ∙ ap (λ k. change_live_from change k (drop n slots)) (omega arith)
-drop-change change (suc n) number (killed_message ∷ slots) =
-    drop-change change n (number + 1) slots ∙ ap (λ k. change_live_from change k (drop n slots)) (omega arith)
-drop-change change (suc n) number (live_message message ∷ slots) =
-    drop-change change n (number + 1) slots ∙ ap (λ k. change_live_from change k (drop n slots)) (omega arith)
 
 -- no text bears on the first live number
 first_without_texts : (texts : List ℕ) (last number : ℕ) (slots : List LoadedSlot)

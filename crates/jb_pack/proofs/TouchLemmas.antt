@@ -1,16 +1,16 @@
 -- Calls of a disk that touch .NDT alone, one after another.
-use Rattle.std.proofs.Common.{◌≡◌, inl, inr, ℕ, ◌+◌, ◌<◌, ◌≤◌, List, [], ◌∷◌, ◌++◌, length, take, get_or, refl, sym, ◌∙◌, ap, subst, arith, Result, Ok, Err, OnOk, Option, Some, None}
-use Rattle.std.specs.Prelude.{IsErr, is_some, slice_index}
+use Rattle.std.proofs.Common.{◌≡◌, inl, inr, ℕ, ◌+◌, List, [], ◌∷◌, ◌++◌, length, refl, sym, ◌∙◌, ap, subst, arith, Result, Ok, Err, OnOk, Option, Some, None}
+use Rattle.std.specs.Prelude.{IsErr, is_some}
 use Rattle.std.specs.Option.{ForSome, option_map}
-use Rattle.std.proofs.lemmas.List.{get_or_default, places, same_lists, take_all}
+use Rattle.std.proofs.lemmas.List.{take_all}
 use Rattle.jb_disk.specs.Device.{Device, FailsBy, IsPast, OnlyReads, Resizes, Syncs, Tears, TellsAnImage, Turns}
 use Rattle.jb_disk.specs.FileLaws.{same_file, same_files, with_file-here, with_file-other}
 use Rattle.jb_disk.specs.Files.{Files, InFile, IsResized, overwritten, written}
-use Rattle.jb_disk.specs.Images.{Images}
-use Rattle.jb_disk.specs.Runs.{IsAllSynced, LeavesNow, Shows}
+use Rattle.jb_disk.specs.Runs.{IsAllSynced, Shows}
 use Rattle.jb_disk.specs.declared.file.FileId.{FileId}
 use Rattle.jb_disk.specs.declared.file.FileId.TheVariants.{Jdt, Ndt}
 use Rattle.jb_disk.proofs.RunLemmas.{durable, keeps-reads, keeps-refl, keeps-resize, keeps-sync, keeps-then, keeps-write}
+use Rattle.jb_disk.proofs.FileLemmas.{leaves_both, leaves_map, only_told, take_same, written_end}
 use Rattle.jb_image.specs.Places.{bytes_at}
 use Rattle.jb_pack.specs.Touching.{AgreeButShadow, Appends, Empties, TouchesShadow}
 use Rattle.jb_pack.specs.declared.run.Run.{Run}
@@ -120,22 +120,6 @@ fails-as old new (Err error) (Ok value) fails err cause = absurd (cc)
 fails-as old new (Err error) (Err other) fails err cause =
     record { kept = tt; later = cause.later; failed = cause.failed; refused = λ none. absurd none; alike = cause.alike }
 
--- what is told is one thing
-pub only_told : (o : Option Files) (files : Files) (P : Files → Type 0) → o ≡ Some files → P files → ForSome o P
-only_told o files P is here = λ other there.
-    let same : files ≡ other = cc in
-    subst P same here
-
--- a weaker property
-pub leaves_map : (P Q : Files → Type 0) (moments : List Images) → ((files : Files) → P files → Q files) → LeavesNow P moments → LeavesNow Q moments
-leaves_map P Q [] weaker all = tt
-leaves_map P Q (now ∷ earlier) weaker all = λ files image. weaker files (all files image)
-
--- from two
-pub leaves_both : (P Q R : Files → Type 0) (moments : List Images) → ((files : Files) → P files → Q files → R files) → LeavesNow P moments → LeavesNow Q moments → LeavesNow R moments
-leaves_both P Q R [] both p q = tt
-leaves_both P Q R (now ∷ earlier) both p q = λ files image. both files (p files image) (q files image)
-
 -- where all is synced, the files are shown as they are
 shows_now : (start : Files) (device : Device) → device.contents ≡ Some start → IsAllSynced device → Shows (AgreeButShadow start) device
 shows_now start device there synced = record {
@@ -174,19 +158,6 @@ pub synced-ok : {T E : Type 0} (old mid new : Device) (result : Result T E) (val
     → IsAllSynced old → IsAllSynced new
 synced-ok old mid new (Ok done) value was one two syncs = synced-again old mid new (Ok done) one two syncs
 synced-ok old mid new (Err error) value was one two syncs = absurd (cc)
-
--- the same first bytes
-take_same : (at : ℕ) (old new : List ℕ) → at ≤ length old → at ≤ length new → ((i : ℕ) → i < at → slice_index new i ≡ slice_index old i) → take at new ≡ take at old
-take_same at old new low high same = same_lists _ _ (grind (arith, places)) (λ k d inside.
-    let short : k < at = grind (arith, places) in
-    let a : get_or (take at new) k d ≡ get_or new k d = grind (arith, places) in
-    let b : get_or (take at old) k d ≡ get_or old k d = grind (arith, places) in
-    a ∙ get_or_default new k d 0 (omega arith) ∙ same k short ∙ get_or_default old k 0 d (omega arith) ∙ sym b)
-
--- the end of a file written anew
-written_end : (at : ℕ) (bytes new : List ℕ) → length new ≡ at + length bytes → overwritten at bytes new ≡ take at new ++ bytes
-unfolding overwritten
-written_end at bytes new size = same_lists _ _ (grind (arith, places)) (λ k d h. grind (arith, places))
 
 -- a file that grew, with its end written
 grown_end : (len : ℕ) (bytes old new : List ℕ) → len ≡ length old + length bytes → IsResized len old new → overwritten (length old) bytes new ≡ old ++ bytes

@@ -4,7 +4,7 @@ use Rattle.std.specs.Prelude.{AllPairs, ◌^◌, replicate, slice_index_or}
 use Rattle.std.proofs.lemmas.List.{append-nil, drop_all, take_all}
 use Rattle.std.proofs.lemmas.List.Elements.{All-nil, All-cons}
 use Rattle.std.proofs.lemmas.List.Kept.{AllPairs-cons}
-use Rattle.jb_limits.specs.declared.limits.TheConstants.{HEADERS_CEILING, TEXTS_CEILING}
+use Rattle.jb_limits.specs.declared.limits.TheConstants.{HEADERS_CEILING, TEXTS_CEILING, MOST_SLOTS}
 use Rattle.jb_redo.specs.Changes.{changed}
 use Rattle.jb_disk.specs.RedoView.{RedoView}
 use Rattle.jb_disk.specs.Files.{Files, number_of}
@@ -17,15 +17,15 @@ use Rattle.jb_disk.specs.declared.piece.Length.{Length}
 use Rattle.jb_disk.specs.declared.piece.Piece.{Piece}
 use Rattle.jb_disk.specs.declared.piece.Piece.TheVariants.{Bytes, Copy}
 use Rattle.jb_image.specs.Stands.{Loads}
-use Rattle.jb_model.specs.LiveSlots.{linkables_from}
-use Rattle.jb_model.specs.Sound.{IsSound}
-use Rattle.jb_model.specs.declared.loaded.Loaded.{Loaded}
+use Rattle.jb_state.specs.LiveSlots.{linkables_from}
+use Rattle.jb_state.specs.Sound.{IsSound}
+use Rattle.jb_state.specs.declared.loaded.Loaded.{Loaded}
 use Rattle.jb_redo.specs.Replay.{IsGrowthCovered, spans_in}
 use Rattle.jb_redo.specs.Rules.{AreLegalLengths, IsBefore, IsLegal, IsLegalLength, IsLegalPiece, new_sizes, sizes_of}
 use Rattle.jb_pack.specs.Bytes.{IsReadAgain, headers_file, index_file}
 use Rattle.jb_pack.specs.Laid.{IsLaidOut, IsLegalIn, laid}
 use Rattle.jb_pack.specs.Laws.{ArePacked}
-use Rattle.jb_model.specs.Packed.{headers_size, kept_slots, new_base, packed, texts_size}
+use Rattle.jb_state.specs.Packed.{headers_size, kept_slots, new_base, packed, texts_size}
 use Rattle.jb_pack.specs.Plan.{StandPacked, lengths_with}
 use Rattle.jb_pack.proofs.FitLemmas.{headers_fit_kept}
 use Rattle.jb_pack.proofs.HeldLemmas.{length-index, length-packed, loads_packed}
@@ -81,7 +81,7 @@ module _ (change : RedoView) (files : Files) (bytes : FileId → List ℕ) (laid
       ∙ ap (λ n. of_length n (files file)) size ∙ same_length (files file)
 
 -- a pack's lengths are legal
-pub legal_lengths : (headers texts slots : ℕ) → 1024 + headers ≤ HEADERS_CEILING → texts ≤ TEXTS_CEILING → slots ≤ 65000 → AreLegalLengths (lengths_with headers texts slots)
+pub legal_lengths : (headers texts slots : ℕ) → 1024 + headers ≤ HEADERS_CEILING → texts ≤ TEXTS_CEILING → slots ≤ MOST_SLOTS → AreLegalLengths (lengths_with headers texts slots)
 legal_lengths headers texts slots headers_fit texts_fit few =
     let one : Length = record { file = Jhr; len = 1024 + headers } in
     let two : Length = record { file = Jdt; len = texts } in
@@ -103,7 +103,7 @@ legal_lengths headers texts slots headers_fit texts_fit few =
     no_pairs : AllPairs IsBefore []
     no_pairs i j d order low = absurd (omega (arith, low))
 
-module _ (limit : ℕ) (loaded : Loaded) (change : RedoView) (sound : IsSound limit loaded) (limited : limit ≤ 65000)
+module _ (limit : ℕ) (loaded : Loaded) (change : RedoView) (sound : IsSound limit loaded) (limited : limit ≤ MOST_SLOTS)
     (fits : texts_size (kept_slots loaded) ≤ TEXTS_CEILING)
     (lengths_are : change.lengths ≡ lengths_with (headers_size (kept_slots loaded)) (texts_size (kept_slots loaded)) (length (kept_slots loaded)))
     (back : IsReadAgain (packed loaded))
@@ -111,7 +111,7 @@ module _ (limit : ℕ) (loaded : Loaded) (change : RedoView) (sound : IsSound li
     (headers : bytes Jhr ≡ headers_file (packed loaded)) (headers_long : length (headers_file (packed loaded)) ≡ 1024 + headers_size (kept_slots loaded))
     (index : bytes Jdx ≡ index_file (packed loaded)) (size : length (bytes Jdt) ≡ texts_size (kept_slots loaded)) (marks : bytes Jlr ≡ []) where
   -- the slots that are kept are few
-  few_kept : length (kept_slots loaded) ≤ 65000
+  few_kept : length (kept_slots loaded) ≤ MOST_SLOTS
   few_kept = omega (arith, sound.few_slots, length-drop (new_base loaded - loaded.base) loaded.slots)
 
   -- as many as are packed

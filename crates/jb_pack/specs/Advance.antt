@@ -1,7 +1,7 @@
 -- How much of the texts one step of a packer copies.
 use Rattle.std.specs.Prelude.{◌≡◌, ◌⊎◌, ℕ, ◌+◌, ◌-◌, ◌<◌, ◌≤◌, List, ◌++◌, drop, length, replicate}
 use Rattle.jb_limits.specs.declared.limits.TheConstants.{SHADOW_CEILING}
-use Rattle.jb_model.specs.declared.loaded.LoadedSlot.{LoadedSlot}
+use Rattle.jb_state.specs.declared.loaded.LoadedSlot.{LoadedSlot}
 use Rattle.jb_pack.specs.Shadow.{Shadow, left_first, lefts, nothing_copied}
 
 -- what was left of the first so many slots is copied behind what .NDT had, and of the others as much is left as before

@@ -1,14 +1,13 @@
 -- How texts are put, in parts that are read at once.
-use Rattle.std.specs.Prelude.{◌≡◌, ℕ, ◌+◌, List, length, Option}
+use Rattle.std.specs.Prelude.{◌≡◌, ℕ, ◌+◌, List, length, Option, Bool, true, false}
 use Rattle.std.specs.Option.{ForSome}
-use Rattle.jb_bytes.specs.Fault.{Rose}
 use Rattle.jb_disk.specs.RedoView.{RedoView}
 use Rattle.jb_disk.specs.Files.{Files}
 use Rattle.jb_disk.specs.declared.file.FileId.TheVariants.{Jdt}
 use Rattle.jb_image.specs.Places.{bytes_at}
-use Rattle.jb_model.specs.declared.loaded.LoadedSlot.{LoadedSlot}
+use Rattle.jb_state.specs.declared.loaded.LoadedSlot.{LoadedSlot}
 use Rattle.jb_pack.specs.Laid.{Lays}
-use Rattle.jb_model.specs.Packed.{texts_in, texts_size}
+use Rattle.jb_state.specs.Packed.{texts_in, texts_size}
 use Rattle.jb_pack.specs.declared.error.PackError.{PackError}
 use Rattle.jb_pack.specs.declared.error.PackError.TheVariants.{OutOfMemory, StoreFault}
 use Rattle.jb_pack.specs.declared.run.Run.{Run}
@@ -27,7 +26,7 @@ pub record PutsTexts (contents : Option Files) (slots : List LoadedSlot) (old ne
   pub lays : Lays Jdt (length slots + 1) bytes old new
   pub told : ForSome contents (λ files. bytes ≡ texts_in (files Jdt) slots)
 
--- a fault has its cause: the disk's count rose; and want of memory hides none
-abbrev pub PackFaultRose : ℕ → ℕ → PackError → Type 0
-PackFaultRose before now StoreFault = Rose before now
-PackFaultRose before now OutOfMemory = now ≡ before
+-- which refusals are faults of the disk
+abbrev pub is_pack_fault : PackError → Bool
+is_pack_fault StoreFault = true
+is_pack_fault OutOfMemory = false

@@ -8,9 +8,9 @@ use Rattle.jb_disk.specs.declared.file.FileId.TheVariants.{Jdt, Ndt}
 use Rattle.jb_disk.specs.declared.piece.Piece.{Piece}
 use Rattle.jb_disk.specs.declared.piece.Piece.TheVariants.{Bytes, Copy}
 use Rattle.jb_image.specs.Stands.{Loads}
-use Rattle.jb_model.specs.declared.loaded.Loaded.{Loaded}
-use Rattle.jb_model.specs.declared.loaded.LoadedSlot.{LoadedSlot}
-use Rattle.jb_model.specs.Packed.{live_slots, packed, packed_texts, texts_in, texts_size}
+use Rattle.jb_state.specs.declared.loaded.Loaded.{Loaded}
+use Rattle.jb_state.specs.declared.loaded.LoadedSlot.{LoadedSlot}
+use Rattle.jb_state.specs.Packed.{live_slots, packed, packed_texts, texts_in, texts_size}
 use Rattle.jb_pack.specs.Plan.{StandPacked}
 use Rattle.jb_pack.specs.Runs.{IsRun, bytes_in, copies_of, runs_size}
 use Rattle.jb_pack.specs.Shadow.{HasCopies, IsCopyIn, Shadow}

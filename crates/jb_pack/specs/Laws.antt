@@ -4,12 +4,12 @@ use Rattle.jb_limits.specs.declared.limits.TheConstants.{TEXTS_CEILING}
 use Rattle.jb_disk.specs.Files.{Files}
 use Rattle.jb_disk.specs.declared.file.FileId.TheVariants.{Jhr, Jdt, Jdx, Jlr, Ndt}
 use Rattle.jb_image.specs.Stands.{Loads}
-use Rattle.jb_model.specs.Pack.{packed_state}
-use Rattle.jb_model.specs.Sound.{IsSound}
-use Rattle.jb_model.specs.State.{state_of}
-use Rattle.jb_model.specs.declared.loaded.Loaded.{Loaded}
+use Rattle.jb_state.specs.PackedState.{packed_state}
+use Rattle.jb_state.specs.Sound.{IsSound}
+use Rattle.jb_state.specs.State.{state_of}
+use Rattle.jb_state.specs.declared.loaded.Loaded.{Loaded}
 use Rattle.jb_pack.specs.Bytes.{IsReadAgain, headers_file, index_file}
-use Rattle.jb_model.specs.Packed.{packed, packed_texts}
+use Rattle.jb_state.specs.Packed.{packed, packed_texts}
 use Rattle.jb_pack.specs.Shadow.{HasCopies, Shadow}
 
 -- with the texts put together, the loaded area after a pack stands for the packed state

@@ -1,7 +1,7 @@
 -- Where the next message goes.
 use Rattle.std.specs.Prelude.{◌≡◌, ◌+◌}
-use Rattle.jb_model.specs.Loaded.{header_size}
-use Rattle.jb_model.specs.declared.loaded.LoadedMessage.{LoadedMessage}
+use Rattle.jb_state.specs.Loaded.{header_size}
+use Rattle.jb_state.specs.declared.loaded.LoadedMessage.{LoadedMessage}
 use Rattle.jb_pack.specs.declared.place.Place.{Place}
 
 -- the place right behind a live message that is put at this one

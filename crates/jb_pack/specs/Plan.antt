@@ -1,5 +1,5 @@
 -- The change that packs an area, and what is answered with it.
-use Rattle.std.specs.Prelude.{◌≡◌, ◌≢◌, ℕ, ◌+◌, ◌*◌, ◌≤◌, List, [], ◌∷◌, length, Option, Some, None}
+use Rattle.std.specs.Prelude.{◌≡◌, ◌≢◌, ℕ, ◌+◌, ◌*◌, ◌<◌, ◌≤◌, List, [], ◌∷◌, length, Option}
 use Rattle.std.specs.Option.{ForSome}
 use Rattle.jb_limits.specs.declared.limits.TheConstants.{TEXTS_CEILING}
 use Rattle.jb_redo.specs.Changes.{Brings, record_size, IsWritable}
@@ -9,14 +9,15 @@ use Rattle.jb_disk.specs.declared.file.FileId.{FileId}
 use Rattle.jb_disk.specs.declared.file.FileId.TheVariants.{Jhr, Jdt, Jdx}
 use Rattle.jb_disk.specs.declared.piece.Length.{Length}
 use Rattle.jb_image.specs.Stands.{Loads}
-use Rattle.jb_model.specs.Pack.{pack_done, pack_refusal}
-use Rattle.jb_model.specs.State.{AreaState}
-use Rattle.jb_model.specs.declared.loaded.Loaded.{Loaded}
-use Rattle.jb_model.specs.declared.loaded.LoadedSlot.{LoadedSlot}
-use Rattle.jb_model.specs.declared.reply.Reply.TheVariants as reply
+use Rattle.jb_state.specs.Live.{killed_count, live_count}
+use Rattle.jb_state.specs.PackedState.{packed_base}
+use Rattle.jb_state.specs.State.{AreaState}
+use Rattle.jb_state.specs.Tight.{texts_together}
+use Rattle.jb_state.specs.declared.loaded.Loaded.{Loaded}
+use Rattle.jb_state.specs.declared.loaded.LoadedSlot.{LoadedSlot}
 use Rattle.jb_pack.specs.Bytes.{IsReadAgain, headers_file, index_file}
 use Rattle.jb_pack.specs.Laid.{IsLaidOut, laid, pieces_into}
-use Rattle.jb_model.specs.Packed.{headers_size, kept_slots, killed_slots, live_slots, new_base, packed, packed_texts, texts_size}
+use Rattle.jb_state.specs.Packed.{headers_size, kept_slots, killed_slots, live_slots, new_base, packed, packed_texts, texts_size}
 use Rattle.jb_pack.specs.Standing.{StandTogether}
 use Rattle.jb_pack.specs.declared.packing.Packing.{Packing}
 use Rattle.jb_pack.specs.declared.packing.Packing.TheVariants.{Fits, TextFull}
@@ -72,10 +73,17 @@ pub record IsPackOf (contents : Option Files) (loaded : Loaded) (change : RedoVi
   pub writable : IsWritable change
   pub told : ForSome contents (λ files. texts ≡ packed_texts (files Jdt) loaded)
 
--- the answer is what a pack of this state answers to the sysop
+-- the live texts fit, and a pack gives this base, with so many messages live and so many dropped
+pub record FitsWith (state : AreaState) (first kept gone : ℕ) : Type 0 where
+  pub fits : texts_together state.slots ≤ TEXTS_CEILING
+  pub base : first ≡ packed_base state
+  pub live : kept ≡ live_count state.slots
+  pub dropped : gone ≡ killed_count state.slots
+
+-- what a pack of this state comes to: it fits, or its texts are too long together
 abbrev pub AnswersPack : AreaState → Packing → Type 0
-AnswersPack state (Fits base live dropped) = (pack_refusal state ≡ None) × ((pack_done state).reply ≡ reply.Packed base live dropped)
-AnswersPack state (TextFull len) = pack_refusal state ≡ Some (reply.TextFull len)
+AnswersPack state (Fits base live dropped) = FitsWith state base live dropped
+AnswersPack state (TextFull len) = (TEXTS_CEILING < texts_together state.slots) × (len ≡ texts_together state.slots)
 
 -- where it fits, the base is that after a pack
 abbrev pub IsPackingOf : Loaded → Packing → Type 0

@@ -1,7 +1,7 @@
 -- How far the texts that are left may be copied, and why no further.
 use Rattle.std.specs.Prelude.{◌≡◌, ◌≢◌, ◌⊎◌, ℕ, ◌+◌, ◌-◌, ◌<◌, ◌≤◌, Bool, true, false, List, [], length}
 use Rattle.jb_limits.specs.declared.limits.TheConstants.{SHADOW_CEILING}
-use Rattle.jb_model.specs.declared.loaded.LoadedSlot.{LoadedSlot}
+use Rattle.jb_state.specs.declared.loaded.LoadedSlot.{LoadedSlot}
 use Rattle.jb_pack.specs.Shadow.{Shadow, left_first, lefts}
 use Rattle.jb_pack.specs.declared.reaching.Reach.{Reach}
 use Rattle.jb_pack.specs.declared.reaching.Stop.{Stop}

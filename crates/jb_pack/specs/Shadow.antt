@@ -4,9 +4,9 @@ use Rattle.jb_limits.specs.declared.limits.TheConstants.{SHADOW_CEILING}
 use Rattle.jb_disk.specs.Files.{Files}
 use Rattle.jb_disk.specs.declared.file.FileId.TheVariants.{Jdt, Ndt}
 use Rattle.jb_image.specs.Places.{bytes_at}
-use Rattle.jb_model.specs.declared.loaded.LoadedSlot.{LoadedSlot}
-use Rattle.jb_model.specs.declared.loaded.LoadedSlot.TheVariants.{Empty, Killed, Live}
-use Rattle.jb_model.specs.Packed.{slot_text_size}
+use Rattle.jb_state.specs.declared.loaded.LoadedSlot.{LoadedSlot}
+use Rattle.jb_state.specs.declared.loaded.LoadedSlot.TheVariants.{Empty, Killed, Live}
+use Rattle.jb_state.specs.Packed.{slot_text_size}
 use Rattle.jb_pack.specs.declared.copied.CopiedText.{CopiedText}
 
 -- for the slots in order the copies of their texts, and how many bytes .NDT has

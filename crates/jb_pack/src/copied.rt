@@ -2,7 +2,7 @@
 ghost use Rattle.std.specs.Prelude.{◌≡◌, ◌≤◌, length, replicate, slice_index_or};
 ghost use Rattle.jb_pack.specs.Shadow.{left_of, not_copied};
 
-use jb_model::LoadedSlot;
+use jb_state::LoadedSlot;
 
 /// A text that was copied: where it began in .JDT, how many bytes it has, and where it begins in .NDT.
 #[derive(Clone, Copy)]

@@ -4,7 +4,7 @@ ghost use Rattle.std.specs.Option.{ForSome};
 ghost use Rattle.jb_limits.specs.declared.limits.TheConstants.{MOST_TEXT_BYTES, SHADOW_CEILING};
 ghost use Rattle.jb_disk.specs.Device.{FailsBy};
 ghost use Rattle.jb_disk.specs.declared.file.FileId.TheVariants.{Jdt as texts_file};
-ghost use Rattle.jb_model.specs.Sound.{IsSlotWithin};
+ghost use Rattle.jb_state.specs.Sound.{IsSlotWithin};
 ghost use Rattle.jb_pack.specs.Advance.{CopiesFirst};
 ghost use Rattle.jb_pack.specs.Shadow.{HasCopies, IsBelowCeiling, left_first};
 ghost use Rattle.jb_pack.specs.Touching.{TouchesShadow};
@@ -14,7 +14,7 @@ use crate::reaching::Reach;
 use crate::run::{Run, joined};
 use crate::shadow::append;
 use jb_disk::{Disk, DiskFailed};
-use jb_model::{Loaded, LoadedSlot};
+use jb_state::{Loaded, LoadedSlot};
 
 /// Copies what is left of the texts of the first slots behind what .NDT has, as far as it reaches, and answers how many bytes
 /// .NDT has then. Texts that stand one behind another in .JDT are copied at once, up to 1,048,576 bytes.
@@ -25,20 +25,26 @@ pub(crate) fn copy_texts<D: Disk>(
     reach: Reach,
     buffer: &mut [u8],
 ) -> Result<u32, DiskFailed>
-    requires told { ForSome (D.device disk.old).contents (λ files. length (files texts_file) ≡ loaded.now.texts_len) }
+    requires told { ForSome (D.device disk.old).contents (λ files.
+        length (files texts_file) ≡ loaded.now.texts_len) }
     requires within { All (IsSlotWithin loaded.now.headers_len loaded.now.texts_len) loaded.now.slots }
-    requires has { ForSome (D.device disk.old).contents (HasCopies (record { texts = copies.old; len = reach.behind })) }
+    requires has { ForSome (D.device disk.old).contents
+        (HasCopies (record { texts = copies.old; len = reach.behind })) }
     requires slots { length copies.old ≡ length loaded.now.slots }
     requires each { All IsBelowCeiling copies.old }
     requires some { reach.slots ≤ length loaded.now.slots }
-    requires room { reach.behind + left_first reach.slots (record { texts = copies.old; len = reach.behind }) loaded.now.slots ≤ SHADOW_CEILING }
+    requires room { reach.behind + left_first reach.slots
+        (record { texts = copies.old; len = reach.behind }) loaded.now.slots ≤ SHADOW_CEILING }
     requires buffer { min MOST_TEXT_BYTES reach.bytes ≤ length buffer.old }
-    requires bytes { reach.bytes ≡ left_first reach.slots (record { texts = copies.old; len = reach.behind }) loaded.now.slots }
+    requires bytes { reach.bytes ≡ left_first reach.slots
+        (record { texts = copies.old; len = reach.behind }) loaded.now.slots }
 
     // What is copied then.
-    ensures copies { IfOk result (λ end. CopiesFirst reach.slots loaded.now.slots (record { texts = copies.old; len = reach.behind })
+    ensures copies { IfOk result (λ end.
+        CopiesFirst reach.slots loaded.now.slots (record { texts = copies.old; len = reach.behind })
         (record { texts = copies.new; len = end })) }
-    ensures has { IfOk result (λ end. ForSome (D.device disk.new).contents (HasCopies (record { texts = copies.new; len = end }))) }
+    ensures has { IfOk result (λ end. ForSome (D.device disk.new).contents
+        (HasCopies (record { texts = copies.new; len = end }))) }
     ensures each { All IsBelowCeiling copies.new }
 
     // Only .NDT is touched.

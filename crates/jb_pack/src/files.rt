@@ -5,12 +5,12 @@ ghost use Rattle.jb_redo.specs.Changes.{KeepsRoom};
 ghost use Rattle.jb_image.specs.Records.{IsFixedReadAgain};
 ghost use Rattle.jb_disk.specs.declared.file.FileId.TheVariants.{Jhr as headers_file_id, Jdx as index_file_id};
 ghost use Rattle.jb_image.specs.Stands.{fixed_of};
-ghost use Rattle.jb_model.specs.Plan.{plan_of};
-ghost use Rattle.jb_model.specs.LiveSlots.{linkables_from};
-ghost use Rattle.jb_model.specs.Sound.{IsSound};
+ghost use Rattle.jb_state.specs.Plan.{plan_of};
+ghost use Rattle.jb_state.specs.LiveSlots.{linkables_from};
+ghost use Rattle.jb_state.specs.Sound.{IsSound};
 ghost use Rattle.jb_record.specs.Fixed.{fixed_header_bytes};
 ghost use Rattle.jb_pack.specs.Laid.{Lays, laid};
-ghost use Rattle.jb_model.specs.Packed.{kept_slots, live_slots, new_base, packed, texts_size};
+ghost use Rattle.jb_state.specs.Packed.{kept_slots, live_slots, new_base, packed, texts_size};
 ghost use Rattle.jb_pack.specs.Plan.{PutsArea};
 
 use crate::laying::put;
@@ -18,8 +18,8 @@ use crate::slots::put_slots;
 use jb_base::{Bytes, OutOfMemory};
 use jb_disk::{FileId, Redo};
 use jb_image::fixed_of;
-use jb_model::{Links, Loaded, LoadedSlot};
 use jb_record::{FixedHeader, encode_fixed};
+use jb_state::{Links, Loaded, LoadedSlot};
 use std::alloc::Global;
 
 /// The fixed header with the new base and the number of live messages; a change more is counted.
@@ -42,7 +42,8 @@ fn put_fixed(redo: &mut Redo, loaded: &Loaded, base: u32, live: u32) -> Result<(
     requires base { base ≡ new_base loaded.now }
     requires live { live ≡ live_slots (kept_slots loaded.now) }
     requires begin { length (laid redo.old.pieces headers_file_id) ≡ 0 }
-    ensures lays { OnOk result (Lays headers_file_id 1 (fixed_header_bytes (fixed_of (packed loaded.now))) redo.old redo.new) }
+    ensures lays { OnOk result (Lays headers_file_id 1
+        (fixed_header_bytes (fixed_of (packed loaded.now))) redo.old redo.new) }
     ensures size { OnOk result (length (fixed_header_bytes (fixed_of (packed loaded.now))) ≡ 1024) }
     ensures back { OnOk result (IsFixedReadAgain (packed loaded.now)) }
     ensures kept { KeepsRoom redo.old redo.new }

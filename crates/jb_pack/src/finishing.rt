@@ -4,11 +4,11 @@ ghost use Rattle.jb_limits.specs.declared.limits.TheConstants.{MOST_SLOTS, TEXTS
 ghost use Rattle.jb_redo.specs.Changes.{KeepsRoom};
 ghost use Rattle.jb_disk.specs.declared.file.FileId.TheVariants.{Jdt as texts_file, Ndt as shadow_file};
 ghost use Rattle.jb_disk.specs.declared.piece.Piece.TheVariants.{Copy};
-ghost use Rattle.jb_model.specs.Plan.{plan_of};
-ghost use Rattle.jb_model.specs.LiveSlots.{linkables};
-ghost use Rattle.jb_model.specs.Sound.{IsSlotWithin, IsSound};
+ghost use Rattle.jb_state.specs.Plan.{plan_of};
+ghost use Rattle.jb_state.specs.LiveSlots.{linkables};
+ghost use Rattle.jb_state.specs.Sound.{IsSlotWithin, IsSound};
 ghost use Rattle.jb_pack.specs.Finish.{IsPackOfCopies, PutsCopies};
-ghost use Rattle.jb_model.specs.Packed.{new_base, texts_size};
+ghost use Rattle.jb_state.specs.Packed.{new_base, texts_size};
 ghost use Rattle.jb_pack.specs.Plan.{AreSizesOf};
 ghost use Rattle.jb_pack.specs.Shadow.{IsBelowCeiling, lefts};
 
@@ -18,14 +18,15 @@ use crate::run::{Run, joined};
 use crate::sizes::Sizes;
 use jb_base::OutOfMemory;
 use jb_disk::{FileId, Redo};
-use jb_model::{Links, Loaded, LoadedSlot};
+use jb_state::{Links, Loaded, LoadedSlot};
 use std::alloc::Global;
 
 /// Puts a copy of a part of .NDT to the place in .JDT where the copies before it end, and answers where it ends.
 fn put_copy(redo: &mut Redo, run: Run, end: u32) -> Result<u32, OutOfMemory>
     requires fits { end + run.len ≤ TEXTS_CEILING }
     ensures lengths { OnOk result (redo.new.lengths ≡ redo.old.lengths) }
-    ensures pieces { OnOk result (redo.new.pieces ≡ redo.old.pieces ++ Copy shadow_file run.at texts_file end run.len ∷ []) }
+    ensures pieces { OnOk result (redo.new.pieces
+        ≡ redo.old.pieces ++ Copy shadow_file run.at texts_file end run.len ∷ []) }
     ensures few { OnOk result (length redo.new.pieces < 2 ^ 32) }
     ensures next { IfOk result (λ next. next ≡ end + run.len) }
     ensures room { KeepsRoom redo.old redo.new }
@@ -87,7 +88,8 @@ pub(crate) fn put_copied_pack(
     requires fits { texts_size loaded.now.slots ≤ TEXTS_CEILING }
     requires no_lengths { redo.old.lengths ≡ [] }
     requires no_pieces { redo.old.pieces ≡ [] }
-    ensures packs { OnOk result ((len : ℕ) → IsPackOfCopies loaded.now (record { texts = copies.now; len = len }) redo.new) }
+    ensures packs { OnOk result ((len : ℕ)
+        → IsPackOfCopies loaded.now (record { texts = copies.now; len = len }) redo.new) }
     ensures room { KeepsRoom redo.old redo.new }
 {
     put_base(alloc, redo, loaded, links, base, sizes, 0)?;

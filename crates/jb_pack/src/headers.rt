@@ -5,10 +5,10 @@ ghost use Rattle.jb_limits.specs.declared.limits.TheConstants.{HEADERS_CEILING, 
 ghost use Rattle.jb_redo.specs.Changes.{KeepsRoom};
 ghost use Rattle.jb_image.specs.Records.{IsHeaderReadAgain, message_bytes};
 ghost use Rattle.jb_disk.specs.declared.file.FileId.TheVariants.{Jhr};
-ghost use Rattle.jb_model.specs.Loaded.{header_size};
+ghost use Rattle.jb_state.specs.Loaded.{header_size};
 ghost use Rattle.jb_pack.specs.Laid.{Lays, laid};
-ghost use Rattle.jb_model.specs.Packed.{moved};
-ghost use Rattle.jb_model.specs.Linked.{linked_head};
+ghost use Rattle.jb_state.specs.Packed.{moved};
+ghost use Rattle.jb_state.specs.Linked.{linked_head};
 ghost use Rattle.jb_pack.specs.Places.{IsBehind};
 
 use crate::laying::put;
@@ -16,7 +16,7 @@ use crate::place::{Place, behind};
 use jb_base::OutOfMemory;
 use jb_disk::{FileId, Redo};
 use jb_image::write_message;
-use jb_model::{Head, Links, LoadedMessage};
+use jb_state::{Head, Links, LoadedMessage};
 
 /// The header's fields with these links.
 pub(crate) fn linked(head: Head, links: &Links) -> Head
@@ -45,8 +45,10 @@ pub(crate) fn put_message(
     requires texts { place.text_at + message.now.text_len ≤ TEXTS_CEILING }
     requires number { place.number + 1 < 2 ^ 32 }
     requires live { place.live + 1 < 2 ^ 32 }
-    ensures lays { OnOk result (Lays Jhr 1 (message_bytes place.number (moved links.now place.header_at place.text_at message.now)) redo.old redo.new) }
-    ensures back { OnOk result (IsHeaderReadAgain place.number (moved links.now place.header_at place.text_at message.now)) }
+    ensures lays { OnOk result (Lays Jhr 1 (message_bytes place.number
+        (moved links.now place.header_at place.text_at message.now)) redo.old redo.new) }
+    ensures back { OnOk result (IsHeaderReadAgain place.number
+        (moved links.now place.header_at place.text_at message.now)) }
     ensures next { IfOk result (IsBehind message.now place) }
     ensures kept { KeepsRoom redo.old redo.new }
 {

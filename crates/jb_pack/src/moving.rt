@@ -1,17 +1,17 @@
 //! An area in memory is packed where it is.
 ghost use Rattle.std.specs.Prelude.{◌≡◌, ◌+◌, ◌<◌, ◌≤◌, ◌^◌, List, length, map};
 ghost use Rattle.jb_limits.specs.declared.limits.TheConstants.{HEADERS_CEILING, MOST_SLOTS, TEXTS_CEILING};
-ghost use Rattle.jb_model.specs.Plan.{links_of, plan_of};
-ghost use Rattle.jb_model.specs.LiveSlots.{linkables_from};
-ghost use Rattle.jb_model.specs.Links.{Linkable};
-ghost use Rattle.jb_model.specs.Sound.{IsSound};
+ghost use Rattle.jb_state.specs.Plan.{links_of, plan_of};
+ghost use Rattle.jb_state.specs.LiveSlots.{linkables_from};
+ghost use Rattle.jb_state.specs.Links.{Linkable};
+ghost use Rattle.jb_state.specs.Sound.{IsSound};
 ghost use Rattle.jb_pack.specs.Moving.{HasLinks};
-ghost use Rattle.jb_model.specs.Packed.{headers_size, kept_slots, live_slots, new_base, packed, packed_from, texts_size};
+ghost use Rattle.jb_state.specs.Packed.{headers_size, kept_slots, live_slots, new_base, packed, packed_from, texts_size};
 
 use crate::headers::linked;
 use crate::place::{Place, behind};
-use jb_model::{Links, Loaded, LoadedSlot, LoadedSlots};
 use jb_record::FIXED_HEADER_BYTES;
+use jb_state::{Links, Loaded, LoadedSlot, LoadedSlots};
 
 /// Moves the live messages of slots of which the first has the number `base` behind one another, with their links, and
 /// empties the other slots. Answers the place behind the last.

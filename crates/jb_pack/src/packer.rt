@@ -3,17 +3,18 @@ ghost use Rattle.std.specs.Prelude.{◌≡◌, ◌≤◌, List, ℕ, [], IfErr, 
 ghost use Rattle.std.specs.Option.{ForSome};
 ghost use Rattle.jb_limits.specs.declared.limits.TheConstants.{MOST_SLOTS, TEXTS_CEILING};
 ghost use Rattle.jb_redo.specs.Changes.{KeepsRoom};
+ghost use Rattle.jb_disk.specs.Device.{CountsFaults};
 ghost use Rattle.jb_disk.specs.Runs.{IsAllSynced};
 ghost use Rattle.jb_disk.specs.declared.file.FileId.TheVariants.{Jdt as texts_file};
 ghost use Rattle.jb_image.specs.Stands.{Loads};
-ghost use Rattle.jb_model.specs.Plan.{plan_of};
-ghost use Rattle.jb_model.specs.LiveSlots.{linkables};
-ghost use Rattle.jb_model.specs.Sound.{IsSound};
-ghost use Rattle.jb_model.specs.State.{state_of};
+ghost use Rattle.jb_state.specs.Plan.{plan_of};
+ghost use Rattle.jb_state.specs.LiveSlots.{linkables};
+ghost use Rattle.jb_state.specs.Sound.{IsSound};
+ghost use Rattle.jb_state.specs.State.{state_of};
 ghost use Rattle.jb_pack.specs.Advance.{Copies};
-ghost use Rattle.jb_pack.specs.Copying.{PackFaultRose};
+ghost use Rattle.jb_pack.specs.Copying.{is_pack_fault};
 ghost use Rattle.jb_pack.specs.Finish.{FinishesPack};
-ghost use Rattle.jb_model.specs.Packed.{texts_size};
+ghost use Rattle.jb_state.specs.Packed.{texts_size};
 ghost use Rattle.jb_pack.specs.Plan.{AnswersPack};
 ghost use Rattle.jb_pack.specs.Shadow.{HasCopies, left, nothing_copied};
 ghost use Rattle.jb_pack.specs.Touching.{IsUntouched, StaysUnlessFault, TouchesShadow};
@@ -28,7 +29,7 @@ use crate::stepping::step;
 use crate::{PackError, Packing};
 use jb_base::{MOST_TEXT_BYTES, OutOfMemory};
 use jb_disk::{Disk, Redo};
-use jb_model::{Links, Loaded};
+use jb_state::{Links, Loaded};
 use std::alloc::Global;
 use std::marker::Model;
 
@@ -52,6 +53,7 @@ pub struct Packer {
 
 impl Model for Packer {
     ghost use Rattle.std.specs.Prelude.{All, ◌≤◌};
+    ghost use Rattle.jb_disk.specs.Device.{CountsFaults};
     ghost use Rattle.jb_limits.specs.declared.limits.TheConstants.{SHADOW_CEILING};
     ghost use Rattle.jb_pack.specs.Shadow.{Shadow, IsBelowCeiling};
 
@@ -73,9 +75,7 @@ impl Packer {
         ensures durable { OnOk result (IsAllSynced (D.device disk.old) → IsAllSynced (D.device disk.new)) }
         ensures kept { TouchesShadow (D.device disk.old) (D.device disk.new) }
         ensures unchanged { IfErr result (IsUntouched (D.device disk.old) (D.device disk.new)) }
-        ensures quiet { OnOk result ((D.device disk.new).faults ≡ (D.device disk.old).faults) }
-        ensures later { (D.device disk.old).faults ≤ (D.device disk.new).faults }
-        ensures cause { IfErr result (PackFaultRose (D.device disk.old).faults (D.device disk.new).faults) }
+        ensures faults { CountsFaults is_pack_fault (D.device disk.old) (D.device disk.new) result }
     {
         let copies = Vec::with_capacity(alloc, loaded.slots.as_slice().len())?;
         empty_shadow(disk)?;
@@ -103,7 +103,8 @@ impl Packer {
         budget: u32,
     ) -> Result<bool, PackError>
         requires sound { IsSound MOST_SLOTS loaded.now }
-        requires told { ForSome (D.device disk.old).contents (λ files. length (files texts_file) ≡ loaded.now.texts_len) }
+        requires told { ForSome (D.device disk.old).contents (λ files.
+            length (files texts_file) ≡ loaded.now.texts_len) }
         requires fits { texts_size loaded.now.slots ≤ TEXTS_CEILING }
 
         // What was copied was only kept since, in .JDT and in .NDT.
@@ -121,10 +122,9 @@ impl Packer {
         // Only .NDT is touched, and it is synced then; without memory nothing is.
         ensures durable { OnOk result (IsAllSynced (D.device disk.old) → IsAllSynced (D.device disk.new)) }
         ensures kept { TouchesShadow (D.device disk.old) (D.device disk.new) }
-        ensures unchanged { IfErr result (StaysUnlessFault self.old self.new (D.device disk.old) (D.device disk.new)) }
-        ensures quiet { OnOk result ((D.device disk.new).faults ≡ (D.device disk.old).faults) }
-        ensures later { (D.device disk.old).faults ≤ (D.device disk.new).faults }
-        ensures cause { IfErr result (PackFaultRose (D.device disk.old).faults (D.device disk.new).faults) }
+        ensures unchanged { IfErr result
+            (StaysUnlessFault self.old self.new (D.device disk.old) (D.device disk.new)) }
+        ensures faults { CountsFaults is_pack_fault (D.device disk.old) (D.device disk.new) result }
     {
         let slots = loaded.slots.as_slice();
         let first = reach_of(self.copies.as_slice(), self.len, slots, budget);

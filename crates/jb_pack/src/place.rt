@@ -1,9 +1,9 @@
 //! Where the next message goes.
 ghost use Rattle.std.specs.Prelude.{◌+◌, ◌<◌, ◌≤◌, ◌^◌};
 ghost use Rattle.jb_limits.specs.declared.limits.TheConstants.{HEADERS_CEILING, TEXTS_CEILING};
-ghost use Rattle.jb_model.specs.Loaded.{header_size};
+ghost use Rattle.jb_state.specs.Loaded.{header_size};
 
-use jb_model::LoadedMessage;
+use jb_state::LoadedMessage;
 use jb_subfield::headed_length;
 
 /// The number of the next slot, the places in bytes of the next header in .JHR and of the next text in .JDT, and how many

@@ -3,14 +3,14 @@ ghost use Rattle.std.specs.Prelude.{◌≡◌, ◌+◌, ◌-◌, ◌≤◌, ℕ,
 ghost use Rattle.std.specs.Option.{ForSome};
 ghost use Rattle.jb_limits.specs.declared.limits.TheConstants.{HEADERS_CEILING, MOST_SLOTS, TEXTS_CEILING};
 ghost use Rattle.jb_redo.specs.Changes.{KeepsRoom};
-ghost use Rattle.jb_disk.specs.Device.{OnlyReads};
+ghost use Rattle.jb_disk.specs.Device.{OnlyReads, CountsFaults};
 ghost use Rattle.jb_disk.specs.declared.file.FileId.TheVariants.{Jdt as texts_file};
-ghost use Rattle.jb_model.specs.Plan.{plan_of};
-ghost use Rattle.jb_model.specs.LiveSlots.{linkables};
-ghost use Rattle.jb_model.specs.Sound.{IsSound};
-ghost use Rattle.jb_model.specs.State.{state_of};
-ghost use Rattle.jb_pack.specs.Copying.{PackFaultRose};
-ghost use Rattle.jb_model.specs.Packed.{kept_slots, new_base, texts_size};
+ghost use Rattle.jb_state.specs.Plan.{plan_of};
+ghost use Rattle.jb_state.specs.LiveSlots.{linkables};
+ghost use Rattle.jb_state.specs.Sound.{IsSound};
+ghost use Rattle.jb_state.specs.State.{state_of};
+ghost use Rattle.jb_pack.specs.Copying.{is_pack_fault};
+ghost use Rattle.jb_state.specs.Packed.{kept_slots, new_base, texts_size};
 ghost use Rattle.jb_pack.specs.Plan.{AnswersPack, AreSizesOf, IsPackOf, IsPackingOf, PlansPack, PutsBase, lengths_with};
 
 use crate::files::put_area;
@@ -19,8 +19,8 @@ use crate::texts::put_texts;
 use crate::{PackError, Packing};
 use jb_base::{OutOfMemory, TEXTS_CEILING};
 use jb_disk::{Disk, FileId, Length, Redo};
-use jb_model::{Links, Loaded, LoadedSlot};
 use jb_record::{FIXED_HEADER_BYTES, INDEX_RECORD_BYTES};
+use jb_state::{Links, Loaded, LoadedSlot};
 use std::alloc::Global;
 
 /// Puts the new lengths of .JHR, .JDT and .JDX, and takes the room for all pieces at once: a header each slot at most, a
@@ -94,7 +94,8 @@ pub(crate) fn put_base(
 pub(crate) fn packing_of(loaded: &Loaded, sizes: Sizes) -> Packing
     requires sound { IsSound MOST_SLOTS loaded.now }
     requires sizes { AreSizesOf loaded.now.slots sizes }
-    ensures answer { (texts : List ℕ) → length texts ≡ loaded.now.texts_len → AnswersPack (state_of texts loaded.now) result }
+    ensures answer { (texts : List ℕ) → length texts ≡ loaded.now.texts_len
+        → AnswersPack (state_of texts loaded.now) result }
     ensures fits { IsPackingOf loaded.now result }
 {
     if sizes.texts > TEXTS_CEILING {
@@ -112,7 +113,8 @@ pub(crate) fn packing_of(loaded: &Loaded, sizes: Sizes) -> Packing
 /// What a pack of the area comes to, whoever asks for it. Linear in the slots; it takes no memory and calls no device.
 pub fn pack_comes_to(loaded: &Loaded) -> Packing
     requires sound { IsSound MOST_SLOTS loaded.now }
-    ensures answer { (texts : List ℕ) → length texts ≡ loaded.now.texts_len → AnswersPack (state_of texts loaded.now) result }
+    ensures answer { (texts : List ℕ) → length texts ≡ loaded.now.texts_len
+        → AnswersPack (state_of texts loaded.now) result }
     ensures fits { IsPackingOf loaded.now result }
 {
     packing_of(loaded, sizes_of(loaded.slots.as_slice()))
@@ -128,7 +130,8 @@ fn put_pack<D: Disk>(
     base: u32,
     sizes: Sizes,
 ) -> Result<(), PackError>
-    requires told { ForSome (D.device disk.old).contents (λ files. length (files texts_file) ≡ loaded.now.texts_len) }
+    requires told { ForSome (D.device disk.old).contents (λ files.
+        length (files texts_file) ≡ loaded.now.texts_len) }
     requires sound { IsSound MOST_SLOTS loaded.now }
     requires links { (texts : List ℕ) → links.now ≡ plan_of (linkables texts loaded.now) }
     requires base { base ≡ new_base loaded.now }
@@ -141,9 +144,7 @@ fn put_pack<D: Disk>(
 
     // The disk is only read.
     ensures kept { OnlyReads (D.device disk.old) (D.device disk.new) }
-    ensures quiet { OnOk result ((D.device disk.new).faults ≡ (D.device disk.old).faults) }
-    ensures later { (D.device disk.old).faults ≤ (D.device disk.new).faults }
-    ensures cause { IfErr result (PackFaultRose (D.device disk.old).faults (D.device disk.new).faults) }
+    ensures faults { CountsFaults is_pack_fault (D.device disk.old) (D.device disk.new) result }
 {
     put_base(alloc, redo, loaded, links, base, sizes, sizes.texts)?;
     let slots = kept_of(loaded, (base - loaded.base) as usize);
@@ -165,7 +166,8 @@ pub fn plan<D: Disk>(
     links: &[Links],
     redo: &mut Redo,
 ) -> Result<Packing, PackError>
-    requires told { ForSome (D.device disk.old).contents (λ files. length (files texts_file) ≡ loaded.now.texts_len) }
+    requires told { ForSome (D.device disk.old).contents (λ files.
+        length (files texts_file) ≡ loaded.now.texts_len) }
     requires sound { IsSound MOST_SLOTS loaded.now }
     requires links { (texts : List ℕ) → links.now ≡ plan_of (linkables texts loaded.now) }
     requires no_lengths { redo.old.lengths ≡ [] }
@@ -179,9 +181,7 @@ pub fn plan<D: Disk>(
 
     // The disk is only read.
     ensures kept { OnlyReads (D.device disk.old) (D.device disk.new) }
-    ensures quiet { OnOk result ((D.device disk.new).faults ≡ (D.device disk.old).faults) }
-    ensures later { (D.device disk.old).faults ≤ (D.device disk.new).faults }
-    ensures cause { IfErr result (PackFaultRose (D.device disk.old).faults (D.device disk.new).faults) }
+    ensures faults { CountsFaults is_pack_fault (D.device disk.old) (D.device disk.new) result }
 {
     let sizes = sizes_of(loaded.slots.as_slice());
     let packing = packing_of(loaded, sizes);

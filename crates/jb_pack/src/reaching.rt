@@ -5,7 +5,7 @@ ghost use Rattle.jb_pack.specs.Reaching.{IsReach, leaves_more, most_of};
 
 use crate::copied::{CopiedText, copy_of, left_of};
 use jb_base::SHADOW_CEILING;
-use jb_model::LoadedSlot;
+use jb_state::LoadedSlot;
 
 /// Why no further text is copied.
 #[derive(Clone, Copy)]

@@ -28,11 +28,13 @@ pub(crate) fn append<D: Disk>(
     end: u32,
     buffer: &mut [u8],
 ) -> Result<u32, DiskFailed>
-    requires within { ForSome (D.device disk.old).contents (λ files. run.at + run.len ≤ length (files texts_file)) }
+    requires within { ForSome (D.device disk.old).contents (λ files.
+        run.at + run.len ≤ length (files texts_file)) }
     requires end { ForSome (D.device disk.old).contents (λ files. length (files shadow_file) ≡ end) }
     requires fits { end + run.len ≤ SHADOW_CEILING }
     requires buffer { run.len ≤ length buffer.old }
-    ensures told { OnOk result (Turns (Appends run) (D.device disk.old).contents (D.device disk.new).contents) }
+    ensures told { OnOk result (Turns (Appends run) (D.device disk.old).contents
+        (D.device disk.new).contents) }
     ensures next { IfOk result (λ next. next ≡ end + run.len) }
     ensures kept { TouchesShadow (D.device disk.old) (D.device disk.new) }
     ensures cause { FailsBy ⊥ (D.device disk.old) (D.device disk.new) result }

@@ -2,10 +2,10 @@
 ghost use Rattle.std.specs.Prelude.{◌≡◌, ◌+◌, ◌<◌, ◌≤◌, ◌^◌, if◌then◌else◌, length, position};
 ghost use Rattle.std.specs.List.{position_or_len};
 ghost use Rattle.jb_limits.specs.declared.limits.TheConstants.{HEADERS_CEILING, MOST_SLOTS};
-ghost use Rattle.jb_model.specs.Packed.{headers_size, is_killed_slot, is_live_slot, slot_header_size, slot_text_size, texts_size};
+ghost use Rattle.jb_state.specs.Packed.{headers_size, is_killed_slot, is_live_slot, slot_header_size, slot_text_size, texts_size};
 ghost use Rattle.jb_pack.specs.Plan.{AreSizesOf};
 
-use jb_model::LoadedSlot;
+use jb_state::LoadedSlot;
 use jb_subfield::headed_length;
 
 /// How many messages are live and how many were killed, and the bytes that the headers of the live ones, with their

@@ -4,26 +4,27 @@ ghost use Rattle.jb_limits.specs.declared.limits.TheConstants.{MOST_SLOTS, TEXTS
 ghost use Rattle.jb_redo.specs.Changes.{KeepsRoom};
 ghost use Rattle.jb_image.specs.Records.{IsEntryReadAgain};
 ghost use Rattle.jb_disk.specs.declared.file.FileId.TheVariants.{Jhr};
-ghost use Rattle.jb_model.specs.Plan.{plan_of};
-ghost use Rattle.jb_model.specs.LiveSlots.{linkables_from};
-ghost use Rattle.jb_model.specs.Sound.{IsSound};
+ghost use Rattle.jb_state.specs.Plan.{plan_of};
+ghost use Rattle.jb_state.specs.LiveSlots.{linkables_from};
+ghost use Rattle.jb_state.specs.Sound.{IsSound};
 ghost use Rattle.jb_record.specs.Index.{index_record_bytes};
 ghost use Rattle.jb_pack.specs.Bytes.{AreEntriesReadAgain, AreHeadersReadAgain, headers_bytes, index_file};
 ghost use Rattle.jb_pack.specs.Laid.{Lays, laid};
-ghost use Rattle.jb_model.specs.Packed.{kept_slots, new_base, packed, texts_size};
+ghost use Rattle.jb_state.specs.Packed.{kept_slots, new_base, packed, texts_size};
 
 use crate::headers::put_message;
 use crate::place::Place;
 use jb_base::{Bytes, OutOfMemory};
 use jb_disk::Redo;
 use jb_image::entry_bytes;
-use jb_model::{Links, Loaded, LoadedSlot};
 use jb_record::{EMPTY_SLOT, FIXED_HEADER_BYTES};
+use jb_state::{Links, Loaded, LoadedSlot};
 use std::alloc::Global;
 
 /// Puts an index record behind the others.
 fn push_entry(index: &mut Bytes, user_crc: u32, offset: u32) -> Result<(), OutOfMemory>
-    ensures ok { OnOk result (index.new ≡ index.old ++ index_record_bytes (record { user_crc = user_crc; offset = offset })) }
+    ensures ok { OnOk result (index.new ≡ index.old ++ index_record_bytes
+        (record { user_crc = user_crc; offset = offset })) }
     ensures back { IsEntryReadAgain (record { user_crc = user_crc; offset = offset }) }
 {
     index.append(&entry_bytes(user_crc, offset))
@@ -50,7 +51,8 @@ pub(crate) fn put_slots(
     requires index { index.old ≡ [] }
 
     // The headers and the index of the packed area.
-    ensures lays { OnOk result (Lays Jhr (length slots.now) (headers_bytes base (packed loaded.now).slots) redo.old redo.new) }
+    ensures lays { OnOk result (Lays Jhr (length slots.now)
+        (headers_bytes base (packed loaded.now).slots) redo.old redo.new) }
     ensures index { OnOk result (index.new ≡ index_file (packed loaded.now)) }
     ensures headers_back { OnOk result (AreHeadersReadAgain base (packed loaded.now).slots) }
     ensures entries_back { OnOk result (AreEntriesReadAgain (packed loaded.now).slots) }

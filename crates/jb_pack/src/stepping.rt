@@ -5,9 +5,9 @@ ghost use Rattle.jb_limits.specs.declared.limits.TheConstants.{MOST_SLOTS, MOST_
 ghost use Rattle.jb_disk.specs.Device.{FailsBy};
 ghost use Rattle.jb_disk.specs.Runs.{IsAllSynced};
 ghost use Rattle.jb_disk.specs.declared.file.FileId.TheVariants.{Jdt as texts_file};
-ghost use Rattle.jb_model.specs.Sound.{IsSound};
+ghost use Rattle.jb_state.specs.Sound.{IsSound};
 ghost use Rattle.jb_pack.specs.Advance.{Copies};
-ghost use Rattle.jb_model.specs.Packed.{texts_size};
+ghost use Rattle.jb_state.specs.Packed.{texts_size};
 ghost use Rattle.jb_pack.specs.Reaching.{IsReach, Starts, most_of};
 ghost use Rattle.jb_pack.specs.Shadow.{HasCopies, IsBelowCeiling, left};
 ghost use Rattle.jb_pack.specs.Touching.{TouchesShadow};
@@ -17,7 +17,7 @@ use crate::copying::copy_texts;
 use crate::reaching::{Reach, Stop, leaves_more, reach_of};
 use crate::shadow::empty_shadow;
 use jb_disk::{Disk, DiskFailed, FileId};
-use jb_model::{Loaded, LoadedSlot};
+use jb_state::{Loaded, LoadedSlot};
 
 /// What a step comes to: how many bytes .NDT has then, and whether a text is left.
 #[derive(Clone, Copy)]
@@ -37,11 +37,14 @@ fn start<D: Disk>(
 ) -> Result<Reach, DiskFailed>
     requires first { IsReach budget slots.now (record { texts = copies.old; len = first.behind }) first }
     requires each { All IsBelowCeiling copies.old }
-    requires has { ForSome (D.device disk.old).contents (HasCopies (record { texts = copies.old; len = first.behind })) }
-    ensures starts { IfOk result (λ reach. Starts budget slots.now (record { texts = copies.old; len = first.behind })
+    requires has { ForSome (D.device disk.old).contents
+        (HasCopies (record { texts = copies.old; len = first.behind })) }
+    ensures starts { IfOk result (λ reach.
+        Starts budget slots.now (record { texts = copies.old; len = first.behind })
         (record { texts = copies.new; len = reach.behind }) reach) }
     ensures most { IfOk result (λ reach. reach.bytes ≤ most_of budget first) }
-    ensures has { IfOk result (λ reach. ForSome (D.device disk.new).contents (HasCopies (record { texts = copies.new; len = reach.behind }))) }
+    ensures has { IfOk result (λ reach. ForSome (D.device disk.new).contents
+        (HasCopies (record { texts = copies.new; len = reach.behind }))) }
     ensures each { All IsBelowCeiling copies.new }
 
     // Only .NDT is touched.
@@ -68,17 +71,23 @@ pub(crate) fn step<D: Disk>(
     buffer: &mut [u8],
 ) -> Result<StepDone, DiskFailed>
     requires sound { IsSound MOST_SLOTS loaded.now }
-    requires told { ForSome (D.device disk.old).contents (λ files. length (files texts_file) ≡ loaded.now.texts_len) }
+    requires told { ForSome (D.device disk.old).contents (λ files.
+        length (files texts_file) ≡ loaded.now.texts_len) }
     requires fits { texts_size loaded.now.slots ≤ TEXTS_CEILING }
-    requires first { IsReach budget loaded.now.slots (record { texts = copies.old; len = first.behind }) first }
+    requires first { IsReach budget loaded.now.slots
+        (record { texts = copies.old; len = first.behind }) first }
     requires each { All IsBelowCeiling copies.old }
     requires slots { length copies.old ≡ length loaded.now.slots }
-    requires has { ForSome (D.device disk.old).contents (HasCopies (record { texts = copies.old; len = first.behind })) }
+    requires has { ForSome (D.device disk.old).contents
+        (HasCopies (record { texts = copies.old; len = first.behind })) }
     requires buffer { min MOST_TEXT_BYTES (most_of budget first) ≤ length buffer.old }
-    ensures copies { IfOk result (λ step. Copies budget loaded.now.slots (record { texts = copies.old; len = first.behind })
+    ensures copies { IfOk result (λ step.
+        Copies budget loaded.now.slots (record { texts = copies.old; len = first.behind })
         (record { texts = copies.new; len = step.len })) }
-    ensures has { IfOk result (λ step. ForSome (D.device disk.new).contents (HasCopies (record { texts = copies.new; len = step.len }))) }
-    ensures more { IfOk result (λ step. step.more ≡ nat_lt 0 (left (record { texts = copies.new; len = step.len }) loaded.now.slots)) }
+    ensures has { IfOk result (λ step. ForSome (D.device disk.new).contents
+        (HasCopies (record { texts = copies.new; len = step.len }))) }
+    ensures more { IfOk result (λ step. step.more
+        ≡ nat_lt 0 (left (record { texts = copies.new; len = step.len }) loaded.now.slots)) }
     ensures each { All IsBelowCeiling copies.new }
     ensures below { IfOk result (λ step. step.len ≤ SHADOW_CEILING) }
 

@@ -3,18 +3,18 @@ ghost use Rattle.std.specs.Prelude.{◌≡◌, ◌+◌, ◌≤◌, All, IfErr, I
 ghost use Rattle.std.specs.Option.{ForSome};
 ghost use Rattle.jb_limits.specs.declared.limits.TheConstants.{TEXTS_CEILING};
 ghost use Rattle.jb_redo.specs.Changes.{KeepsRoom};
-ghost use Rattle.jb_disk.specs.Device.{OnlyReads};
+ghost use Rattle.jb_disk.specs.Device.{OnlyReads, CountsFaults};
 ghost use Rattle.jb_disk.specs.declared.file.FileId.TheVariants.{Jdt as texts_file};
-ghost use Rattle.jb_model.specs.Sound.{IsSlotWithin};
-ghost use Rattle.jb_pack.specs.Copying.{PackFaultRose, PutsRun, PutsTexts};
+ghost use Rattle.jb_state.specs.Sound.{IsSlotWithin};
+ghost use Rattle.jb_pack.specs.Copying.{PutsRun, PutsTexts, is_pack_fault};
 ghost use Rattle.jb_pack.specs.Laid.{laid};
-ghost use Rattle.jb_model.specs.Packed.{texts_size};
+ghost use Rattle.jb_state.specs.Packed.{texts_size};
 
 use crate::PackError;
 use crate::laying::put;
 use crate::run::{Run, joined};
 use jb_disk::{Disk, FileId, Redo};
-use jb_model::{Loaded, LoadedSlot};
+use jb_state::{Loaded, LoadedSlot};
 use std::alloc::Global;
 
 /// Reads a part of .JDT and puts it behind what the redo writes there, and answers where that ends then.
@@ -25,7 +25,8 @@ fn put_run<D: Disk>(
     run: Run,
     end: u32,
 ) -> Result<u32, PackError>
-    requires within { ForSome (D.device disk.old).contents (λ files. run.at + run.len ≤ length (files texts_file)) }
+    requires within { ForSome (D.device disk.old).contents (λ files.
+        run.at + run.len ≤ length (files texts_file)) }
     requires end { end ≡ length (laid redo.old.pieces texts_file) }
     requires fits { end + run.len ≤ TEXTS_CEILING }
 
@@ -36,9 +37,7 @@ fn put_run<D: Disk>(
 
     // The disk is only read.
     ensures kept { OnlyReads (D.device disk.old) (D.device disk.new) }
-    ensures quiet { OnOk result ((D.device disk.new).faults ≡ (D.device disk.old).faults) }
-    ensures later { (D.device disk.old).faults ≤ (D.device disk.new).faults }
-    ensures cause { IfErr result (PackFaultRose (D.device disk.old).faults (D.device disk.new).faults) }
+    ensures faults { CountsFaults is_pack_fault (D.device disk.old) (D.device disk.new) result }
 {
     let mut bytes = vec![in alloc; 0; run.len as usize]?;
     disk.read_at(FileId::Jdt, run.at as u64, bytes.as_mut_slice())?;
@@ -55,7 +54,8 @@ pub(crate) fn put_texts<D: Disk>(
     loaded: &Loaded,
     slots: &[LoadedSlot],
 ) -> Result<(), PackError>
-    requires told { ForSome (D.device disk.old).contents (λ files. length (files texts_file) ≡ loaded.now.texts_len) }
+    requires told { ForSome (D.device disk.old).contents (λ files.
+        length (files texts_file) ≡ loaded.now.texts_len) }
     requires within { All (IsSlotWithin loaded.now.headers_len loaded.now.texts_len) slots.now }
     requires fits { texts_size slots.now ≤ TEXTS_CEILING }
     requires begin { length (laid redo.old.pieces texts_file) ≡ 0 }
@@ -66,9 +66,7 @@ pub(crate) fn put_texts<D: Disk>(
 
     // The disk is only read.
     ensures kept { OnlyReads (D.device disk.old) (D.device disk.new) }
-    ensures quiet { OnOk result ((D.device disk.new).faults ≡ (D.device disk.old).faults) }
-    ensures later { (D.device disk.old).faults ≤ (D.device disk.new).faults }
-    ensures cause { IfErr result (PackFaultRose (D.device disk.old).faults (D.device disk.new).faults) }
+    ensures faults { CountsFaults is_pack_fault (D.device disk.old) (D.device disk.new) result }
 {
     let mut run = Run { at: 0, len: 0 };
     let mut end = 0;

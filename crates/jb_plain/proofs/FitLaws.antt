@@ -8,12 +8,12 @@ use Rattle.std.proofs.lemmas.List.Elements.{All-cons, All-head, All-nil, All-tai
 use Rattle.jb_bytes.specs.Subfields.{subfield_bytes}
 use Rattle.jb_base.specs.declared.attribute.TheConstants.{DELETED}
 use Rattle.jb_limits.specs.declared.limits.TheConstants.{MOST_MARKS, MOST_SUBFIELD_BYTES, MOST_TEXT_BYTES}
-use Rattle.jb_model.specs.State.{IsMessageInRange, IsSlotInRange, IsWellFormed}
-use Rattle.jb_model.specs.Tight.{owned, owned_slot, tight_state}
-use Rattle.jb_model.specs.declared.area.Area.{Area}
-use Rattle.jb_model.specs.declared.area.Message.{Message}
-use Rattle.jb_model.specs.declared.area.Slot.{Slot}
-use Rattle.jb_model.specs.declared.area.Slot.TheVariants.{Empty, Killed, Live}
+use Rattle.jb_state.specs.State.{IsMessageInRange, IsSlotInRange, IsWellFormed}
+use Rattle.jb_state.specs.Tight.{owned, owned_slot, tight_state}
+use Rattle.jb_state.specs.declared.area.Area.{Area}
+use Rattle.jb_state.specs.declared.area.Message.{Message}
+use Rattle.jb_state.specs.declared.area.Slot.{Slot}
+use Rattle.jb_state.specs.declared.area.Slot.TheVariants.{Empty, Killed, Live}
 use Rattle.jb_plain.specs.Fit.{area_fits, message_fits, slot_fits}
 
 -- a message that fits is in range

@@ -2,17 +2,17 @@
 use Rattle.std.proofs.Common.{◌≡◌, ℕ, zero, suc, ◌+◌, ◌-◌, ◌<◌, ◌≤◌, List, [], ◌∷◌, ◌++◌, length, get_or, set, take, drop, map, refl, sym, ◌∙◌, ap, arith, length-take, append_assoc}
 use Rattle.std.specs.Prelude.{Option}
 use Rattle.std.proofs.lemmas.List.{drop_more, get_or-append_right, set_at, take_more, take_all, drop_all, append-nil}
-use Rattle.jb_model.specs.Links.{Linkable}
-use Rattle.jb_model.specs.Live.{change_live_from, live_from}
-use Rattle.jb_model.specs.Pack.{emptied, first_number_or}
-use Rattle.jb_model.specs.Relink.{relinked}
+use Rattle.jb_state.specs.Links.{Linkable}
+use Rattle.jb_state.specs.Live.{change_live_from, live_from}
+use Rattle.jb_state.specs.PackedState.{emptied, first_number_or}
+use Rattle.jb_state.specs.Relinked.{relinked}
 use Rattle.jb_model.specs.Run.{plain_slot}
-use Rattle.jb_model.specs.State.{no_message, killed_message, live_message}
-use Rattle.jb_model.specs.declared.message.Head.{Head}
+use Rattle.jb_state.specs.State.{no_message, killed_message, live_message}
+use Rattle.jb_state.specs.declared.message.Head.{Head}
 use Rattle.jb_plain.specs.Walk.{front_of, heads_from, numbered, with_heads, with_some_head, without_killed}
-use Rattle.jb_model.specs.Tight.{owned_slot}
-use Rattle.jb_model.specs.declared.area.Slot.{Slot}
-use Rattle.jb_model.specs.declared.area.Slot.TheVariants.{Empty, Killed, Live}
+use Rattle.jb_state.specs.Tight.{owned_slot}
+use Rattle.jb_state.specs.declared.area.Slot.{Slot}
+use Rattle.jb_state.specs.declared.area.Slot.TheVariants.{Empty, Killed, Live}
 
 -- one more element is changed
 pub mixed_step : {X : Type 0} (changed old : List X) (p : ℕ) (x d : X) → length changed ≡ length old → p < length old → x ≡ get_or changed p d → set (take p changed ++ drop p old) p x ≡ take (p + 1) changed ++ drop (p + 1) old

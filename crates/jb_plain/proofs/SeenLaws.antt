@@ -7,17 +7,18 @@ use Rattle.jb_base.specs.declared.area.AreaRules.{AreaRules}
 use Rattle.jb_base.specs.declared.user.User.{User}
 use Rattle.jb_model.specs.Answered.{Answered, unless_denied, unless_refused, with_message}
 use Rattle.jb_model.specs.Kill.{kill_done, kill_step}
-use Rattle.jb_model.specs.Message.{envelope_of, header_length}
+use Rattle.jb_state.specs.Message.{envelope_of, header_length}
 use Rattle.jb_model.specs.Pack.{pack_done, pack_refusal, pack_step}
-use Rattle.jb_model.specs.Post.{Draft, answer_refusal, draft_refusal, post_done, post_step, posted_message, room_refusal, slots_with, told_length}
+use Rattle.jb_model.specs.Post.{Draft, answer_refusal, draft_refusal, post_done, post_step, posted_message, room_refusal, told_length}
+use Rattle.jb_state.specs.Posted.{slots_with}
 use Rattle.jb_limits.specs.declared.limits.TheConstants.{HEADERS_CEILING, LAST_POSTED_NUMBER, TEXTS_CEILING}
 use Rattle.jb_model.specs.declared.reply.Reply.TheVariants.{HeadersFull, NumbersSpent, SlotsFull, TextFull}
 use Rattle.std.proofs.lemmas.Bool.{cond-true, lt-ltb}
 use Rattle.jb_model.specs.Read.{read_done, read_message, read_step}
 use Rattle.jb_model.specs.SetMark.{mark_at, mark_done, mark_refusal, set_mark_step}
-use Rattle.jb_model.specs.State.{AreaState, LiveMessage, SlotState, next_number}
-use Rattle.jb_model.specs.Visible.{visible_at}
-use Rattle.jb_model.specs.declared.mark.Mark.{Mark}
+use Rattle.jb_state.specs.State.{AreaState, LiveMessage, SlotState, next_number}
+use Rattle.jb_state.specs.Visible.{visible_at}
+use Rattle.jb_state.specs.declared.mark.Mark.{Mark}
 use Rattle.jb_model.specs.declared.reply.Reply.{Reply}
 
 -- the state with other slots

@@ -12,20 +12,24 @@ use Rattle.jb_base.specs.declared.area.AreaRules.{AreaRules}
 use Rattle.jb_base.specs.declared.area.Rule.{Rule}
 use Rattle.jb_limits.specs.declared.limits.TheConstants.{HEADERS_CEILING, LAST_POSTED_NUMBER, TEXTS_CEILING}
 use Rattle.jb_base.specs.declared.user.User.{User}
-use Rattle.jb_model.specs.Answered.{Answered, counted, unless_denied, unless_refused, with_message}
+use Rattle.jb_model.specs.Answered.{Answered, unless_denied, unless_refused, with_message}
+use Rattle.jb_state.specs.Live.{counted, change_live_from, live_of, message_at}
 use Rattle.jb_model.specs.Kill.{kill_done}
-use Rattle.jb_model.specs.Links.{last_reply_of, linkables_of}
-use Rattle.jb_model.specs.Live.{change_live_from, live_of, message_at}
-use Rattle.jb_model.specs.Message.{envelope_of, header_length, letter_of}
-use Rattle.jb_model.specs.Pack.{emptied, pack_done, pack_refusal, packed_base, packed_slots}
-use Rattle.jb_model.specs.Post.{Draft, answer_refusal, draft_refusal, post_done, posted_message, room_refusal, slots_with, spliced_slots, with_first_reply, with_next_reply}
+use Rattle.jb_state.specs.Links.{last_reply_of, linkables_of}
+use Rattle.jb_state.specs.Message.{envelope_of, header_length}
+use Rattle.jb_model.specs.Letter.{letter_of}
+use Rattle.jb_state.specs.PackedState.{emptied, packed_base, packed_slots}
+use Rattle.jb_model.specs.Pack.{pack_done, pack_refusal}
+use Rattle.jb_model.specs.Post.{Draft, answer_refusal, draft_refusal, post_done, posted_message, room_refusal}
+use Rattle.jb_state.specs.Posted.{slots_with, spliced_slots, with_first_reply, with_next_reply}
 use Rattle.jb_model.specs.Read.{read_done, read_message, read_once_more, received_at}
-use Rattle.jb_model.specs.Relink.{relink_done, relinked, relinked_slots, wrongly_linked}
+use Rattle.jb_model.specs.Relink.{relink_done}
+use Rattle.jb_state.specs.Relinked.{relinked, relinked_slots, wrongly_linked}
 use Rattle.jb_model.specs.SetMark.{mark_at, mark_done, mark_refusal}
-use Rattle.jb_model.specs.State.{AreaState, IsSlotInRange, LiveMessage, SlotState, next_number, no_message, killed_message, live_message}
+use Rattle.jb_state.specs.State.{AreaState, IsSlotInRange, LiveMessage, SlotState, next_number, no_message, killed_message, live_message}
 use Rattle.jb_model.specs.Step.{step}
-use Rattle.jb_model.specs.Tight.{header_bytes, headers_together, text_bytes, texts_together}
-use Rattle.jb_model.specs.Visible.{if_shown, is_shown, visible_at}
+use Rattle.jb_state.specs.Tight.{header_bytes, headers_together, text_bytes, texts_together}
+use Rattle.jb_state.specs.Visible.{if_shown, is_shown, visible_at}
 use Rattle.jb_model.specs.declared.command.Command.{Command}
 use Rattle.jb_model.specs.declared.command.Command.TheVariants.{Post, Read, Peek, Kill, SetMark, Pack, Relink}
 use Rattle.jb_model.specs.declared.reply.Reply.{Reply}

@@ -1,14 +1,15 @@
 -- The changes of a command, one after another.
 use Rattle.std.specs.Prelude.{ℕ, List, [], ◌∷◌, ◌++◌, ◌+◌, ◌-◌, drop, map, Option, option_map, option_to_list, min, ◌^◌}
-use Rattle.jb_model.specs.Live.{message_at}
-use Rattle.jb_model.specs.Pack.{emptied}
-use Rattle.jb_model.specs.Tight.{headers_together, texts_together}
+use Rattle.jb_state.specs.Live.{message_at}
+use Rattle.jb_state.specs.PackedState.{emptied}
+use Rattle.jb_state.specs.Tight.{headers_together, texts_together}
 use Rattle.jb_bytes.specs.declared.subfield.Subfield.{Subfield}
 use Rattle.jb_bytes.specs.declared.subfield.TheConstants.{SENDER_NAME, RECEIVER_NAME, MSGID, REPLYID, SUBJECT}
 use Rattle.jb_base.specs.declared.user.User.{User}
-use Rattle.jb_model.specs.Post.{Draft, plain_field, slots_with, spliced_slots}
-use Rattle.jb_model.specs.Relink.{relinked_slots}
-use Rattle.jb_model.specs.State.{AreaState, LiveMessage}
+use Rattle.jb_model.specs.Post.{Draft, plain_field}
+use Rattle.jb_state.specs.Posted.{slots_with, spliced_slots}
+use Rattle.jb_state.specs.Relinked.{relinked_slots}
+use Rattle.jb_state.specs.State.{AreaState, LiveMessage}
 use Rattle.jb_plain.specs.declared.post.Draft.{Draft as LentDraft}
 
 -- the area with its links written

@@ -4,10 +4,10 @@ use Rattle.std.specs.List.{list_all}
 use Rattle.jb_bytes.specs.Subfields.{subfield_bytes}
 use Rattle.jb_base.specs.declared.attribute.TheConstants.{DELETED}
 use Rattle.jb_limits.specs.declared.limits.TheConstants.{MOST_MARKS, MOST_SUBFIELD_BYTES, MOST_TEXT_BYTES}
-use Rattle.jb_model.specs.declared.area.Area.{Area}
-use Rattle.jb_model.specs.declared.area.Message.{Message}
-use Rattle.jb_model.specs.declared.area.Slot.{Slot}
-use Rattle.jb_model.specs.declared.area.Slot.TheVariants.{Empty, Killed, Live}
+use Rattle.jb_state.specs.declared.area.Area.{Area}
+use Rattle.jb_state.specs.declared.area.Message.{Message}
+use Rattle.jb_state.specs.declared.area.Slot.{Slot}
+use Rattle.jb_state.specs.declared.area.Slot.TheVariants.{Empty, Killed, Live}
 
 -- the message keeps the limits of a base, and no bit says that it is killed
 abbrev pub message_fits : Message → Bool

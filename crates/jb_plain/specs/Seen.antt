@@ -1,11 +1,11 @@
 -- The state that the plain program holds.
 use Rattle.std.specs.Prelude.{◌≡◌, ℕ, ◌-◌, ◌<◌, ◌≤◌, List, Some, length, map, replicate, slice_get, slice_set}
-use Rattle.jb_model.specs.State.{AreaState, LiveMessage}
-use Rattle.jb_model.specs.declared.message.Head.{Head}
-use Rattle.jb_model.specs.Tight.{owned_slot}
-use Rattle.jb_model.specs.declared.area.Message.{Message}
-use Rattle.jb_model.specs.declared.area.Slot.{Slot}
-use Rattle.jb_model.specs.declared.area.Slot.TheVariants.{Live}
+use Rattle.jb_state.specs.State.{AreaState, LiveMessage}
+use Rattle.jb_state.specs.declared.message.Head.{Head}
+use Rattle.jb_state.specs.Tight.{owned_slot}
+use Rattle.jb_state.specs.declared.area.Message.{Message}
+use Rattle.jb_state.specs.declared.area.Slot.{Slot}
+use Rattle.jb_state.specs.declared.area.Slot.TheVariants.{Live}
 use Rattle.jb_plain.specs.declared.held.PlainState.{PlainState}
 
 -- the state of an area that began with files without a byte that is no message's

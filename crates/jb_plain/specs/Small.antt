@@ -1,7 +1,7 @@
 -- Messages of which a sum of many is a number of eight bytes.
 use Rattle.std.specs.Prelude.{◌≤◌, List, [], ◌∷◌}
-use Rattle.jb_model.specs.State.{SlotState}
-use Rattle.jb_model.specs.Tight.{header_bytes, text_bytes}
+use Rattle.jb_state.specs.State.{SlotState}
+use Rattle.jb_state.specs.Tight.{header_bytes, text_bytes}
 
 -- the slot's message takes no more of a file than the file may have
 pub record IsSmall (slot : SlotState) : Type 0 where

@@ -1,13 +1,13 @@
 -- Walks over the slots of an area.
 use Rattle.std.specs.Prelude.{ℕ, ◌+◌, Bool, false, not, List, [], ◌∷◌, Option, Some, None, count_by, find, map, if◌then◌else◌}
-use Rattle.jb_model.specs.Links.{Linkable, linkable, number_or_0}
-use Rattle.jb_model.specs.Live.{Numbered, live_from}
-use Rattle.jb_model.specs.Relink.{has_its_links, relinked}
-use Rattle.jb_model.specs.Tight.{owned, owned_slot}
-use Rattle.jb_model.specs.declared.area.Message.{Message}
-use Rattle.jb_model.specs.declared.area.Slot.{Slot}
-use Rattle.jb_model.specs.declared.area.Slot.TheVariants.{Empty, Killed, Live}
-use Rattle.jb_model.specs.declared.message.Head.{Head}
+use Rattle.jb_state.specs.Links.{Linkable, linkable, number_or_0}
+use Rattle.jb_state.specs.Live.{Numbered, live_from}
+use Rattle.jb_state.specs.Relinked.{has_its_links, relinked}
+use Rattle.jb_state.specs.Tight.{owned, owned_slot}
+use Rattle.jb_state.specs.declared.area.Message.{Message}
+use Rattle.jb_state.specs.declared.area.Slot.{Slot}
+use Rattle.jb_state.specs.declared.area.Slot.TheVariants.{Empty, Killed, Live}
+use Rattle.jb_state.specs.declared.message.Head.{Head}
 
 -- the live messages of slots of which the first has this number
 abbrev pub live_of_slots : ℕ → List Slot → List Numbered

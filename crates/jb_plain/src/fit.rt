@@ -1,12 +1,12 @@
 //! Whether an area may be run.
 ghost use Rattle.std.specs.Prelude.{◌≡◌, ◌↔◌, IsTrue};
 ghost use Rattle.std.specs.List.{list_all};
-ghost use Rattle.jb_model.specs.State.{IsWellFormed};
-ghost use Rattle.jb_model.specs.Tight.{tight_state};
+ghost use Rattle.jb_state.specs.State.{IsWellFormed};
+ghost use Rattle.jb_state.specs.Tight.{tight_state};
 ghost use Rattle.jb_plain.specs.Fit.{area_fits, message_fits, slot_fits};
 
 use jb_base::{DELETED, MOST_MARKS, MOST_SUBFIELD_BYTES, MOST_TEXT_BYTES};
-use jb_model::{Area, Message, Slot};
+use jb_state::{Area, Message, Slot};
 
 /// Whether the message keeps the limits of a base, and no bit says that it is killed.
 fn fits_message(message: &Message) -> bool

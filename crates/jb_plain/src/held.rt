@@ -1,7 +1,7 @@
 //! The area as the plain program holds it.
 ghost use Rattle.std.specs.Prelude.{◌+◌, ◌≤◌, vec_len};
 
-use jb_model::{Mark, Slot};
+use jb_state::{Mark, Slot};
 
 /// An area with the numbers of its files that are more than its messages: modcounter, activemsgs, and the lengths of .JHR
 /// and .JDT in bytes, which killed messages still take up.

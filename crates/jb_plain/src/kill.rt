@@ -8,11 +8,13 @@ use crate::message::visible_at;
 use crate::rule::{denied, kill_denied};
 use jb_access::Action;
 use jb_base::{AreaRules, User};
-use jb_model::{Reply, Slot};
+use jb_model::Reply;
+use jb_state::Slot;
 
 /// A message is killed by its sender, its receiver or the sysop.
 pub(crate) fn kill(rules: &AreaRules, state: &mut PlainState, user: &User, number: u32) -> Reply
-    ensures { record { reply = result; state = seen state.new } ≡ kill_step rules.now (seen state.old) user.now number }
+    ensures { record { reply = result; state = seen state.new }
+        ≡ kill_step rules.now (seen state.old) user.now number }
 {
     if let Some(rule) = denied(user, rules, Action::List) {
         return Reply::Denied { rule };

@@ -1,13 +1,13 @@
 //! The reply links, by walks over all slots (JAM, "Reply linking").
 ghost use Rattle.std.specs.Prelude.{◌≡◌, ◌+◌, ◌≤◌, ◌==◌, ◌&&◌, nat_lt, length, map, Option, option_map};
 ghost use Rattle.std.specs.Borrow.{Bor};
-ghost use Rattle.jb_model.specs.Links.{first_reply_of, is_answered_by, is_kept_by, is_id, is_next_reply, is_reply_to, last_reply_of, linkable, next_reply_of, parent_for, parent_of};
-ghost use Rattle.jb_model.specs.Message.{msgid_of};
-ghost use Rattle.jb_model.specs.Relink.{has_its_links, relinked};
+ghost use Rattle.jb_state.specs.Links.{first_reply_of, is_answered_by, is_kept_by, is_id, is_next_reply, is_reply_to, last_reply_of, linkable, next_reply_of, parent_for, parent_of};
+ghost use Rattle.jb_state.specs.Message.{msgid_of};
+ghost use Rattle.jb_state.specs.Relinked.{has_its_links, relinked};
 ghost use Rattle.jb_plain.specs.Walk.{found_in, last_from, linkables_from, numbered, slot_head, slot_passes, slot_wrong};
 
 use jb_base::{MSGID, REPLYID};
-use jb_model::{Head, Message, Slot};
+use jb_state::{Head, Message, Slot};
 
 /// Whether the message has this id.
 fn has_id(message: &Message, id: &[u8]) -> bool
@@ -80,7 +80,8 @@ pub(crate) fn parent_with(
     kept: u32,
 ) -> u32
     requires { base + length slots.now ≤ 4294967295 }
-    ensures { result ≡ parent_for (linkables_from base slots.now) number (option_map (λ (b : Bor _). b.now) id.entry) kept }
+    ensures { result ≡ parent_for (linkables_from base slots.now) number
+        (option_map (λ (b : Bor _). b.now) id.entry) kept }
 {
     match id {
         Some(id) => least_with_id(slots, base, number, id),
@@ -143,7 +144,8 @@ pub(crate) fn last_reply(slots: &[Slot], base: u32, number: u32) -> u32
 /// Whether the slot under a number is live, above another number, and its parent is this one.
 fn answers_next(slots: &[Slot], base: u32, slot: &Slot, one: u32, number: u32, parent: u32) -> bool
     requires { base + length slots.now ≤ 4294967295 }
-    ensures { result ≡ slot_passes (is_next_reply (linkables_from base slots.now) number parent) one slot.now }
+    ensures { result ≡ slot_passes (is_next_reply
+        (linkables_from base slots.now) number parent) one slot.now }
 {
     match slot {
         Slot::Live(_) => number < one && answers(slots, base, slot, one, parent),

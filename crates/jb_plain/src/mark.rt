@@ -1,8 +1,8 @@
 //! A user's mark is set.
 ghost use Rattle.std.specs.Prelude.{◌≡◌, IfOk, OnOk};
-ghost use Rattle.jb_model.specs.Marks.{is_mark, mark_of, with_mark};
+ghost use Rattle.jb_state.specs.Marks.{is_mark, mark_of, with_mark};
 ghost use Rattle.jb_model.specs.SetMark.{mark_at, mark_refusal, set_mark_step};
-ghost use Rattle.jb_model.specs.Visible.{mark_of_user};
+ghost use Rattle.jb_state.specs.Visible.{mark_of_user};
 ghost use Rattle.jb_plain.specs.Seen.{seen};
 
 use crate::held::PlainState;
@@ -10,7 +10,8 @@ use crate::rule::denied;
 use jb_access::Action;
 use jb_base::{AreaRules, MOST_MARKS, OutOfMemory, User};
 use jb_crc::jam_crc;
-use jb_model::{Mark, Reply};
+use jb_model::Reply;
+use jb_state::Mark;
 
 /// Whether the mark is that of this pair.
 fn is_pair(mark: &Mark, user_crc: u32, user_id: u32) -> bool
@@ -90,7 +91,8 @@ pub(crate) fn set_mark(
     user: &User,
     number: u32,
 ) -> Result<Reply, OutOfMemory>
-    ensures { IfOk result (λ reply. record { reply = reply; state = seen state.new } ≡ set_mark_step rules.now (seen state.old) user.now number) }
+    ensures { IfOk result (λ reply. record { reply = reply; state = seen state.new }
+        ≡ set_mark_step rules.now (seen state.old) user.now number) }
 {
     if let Some(rule) = denied(user, rules, Action::List) {
         return Ok(Reply::Denied { rule });

@@ -3,10 +3,11 @@ ghost use Rattle.std.specs.Prelude.{◌≡◌, IfOk, IfSome, option_map, unwrap_
 ghost use Rattle.std.specs.Borrow.{Bor};
 ghost use Rattle.jb_access.specs.Parties.{envelope};
 ghost use Rattle.jb_bytes.specs.Subfields.{first_of, sender_of, receiver_of};
-ghost use Rattle.jb_model.specs.Live.{message_at};
-ghost use Rattle.jb_model.specs.Message.{envelope_of, letter_of};
-ghost use Rattle.jb_model.specs.Tight.{owned};
-ghost use Rattle.jb_model.specs.Visible.{is_shown, visible_at};
+ghost use Rattle.jb_state.specs.Live.{message_at};
+ghost use Rattle.jb_state.specs.Message.{envelope_of};
+ghost use Rattle.jb_model.specs.Letter.{letter_of};
+ghost use Rattle.jb_state.specs.Tight.{owned};
+ghost use Rattle.jb_state.specs.Visible.{is_shown, visible_at};
 ghost use Rattle.jb_plain.specs.Seen.{HasAt, seen, with_head};
 
 use crate::held::PlainState;
@@ -15,7 +16,8 @@ use jb_base::{
     AreaRules, Bytes, MSGID, Name, OutOfMemory, RECEIVER_NAME, REPLYID, SENDER_NAME, SUBJECT,
     Subfields, User,
 };
-use jb_model::{Head, Letter, Message, Slot};
+use jb_model::Letter;
+use jb_state::{Head, Message, Slot};
 use std::alloc::Global;
 
 /// The data of the first subfield of a kind, empty where there is none.
@@ -67,7 +69,8 @@ pub(crate) fn visible_at<'a>(
     state: &'a PlainState,
     number: u32,
 ) -> Option<&'a Message>
-    ensures named { option_map (λ (m : Bor _). owned m.now) result ≡ visible_at rules.now user.now (seen state.now) number }
+    ensures named { option_map (λ (m : Bor _). owned m.now) result
+        ≡ visible_at rules.now user.now (seen state.now) number }
     ensures placed { IfSome result (λ m. HasAt state.now number m.now) }
 {
     let message = message_at(state, number)?;
@@ -94,7 +97,11 @@ fn copies(
     first: u16,
     second: u16,
 ) -> Result<(Bytes, Bytes), OutOfMemory>
-    ensures { IfOk result (λ copies. copies ≡ (unwrap_or (first_of first subfields.now) [], unwrap_or (first_of second subfields.now) [])) }
+    ensures { IfOk result (λ copies. copies ≡ (
+      unwrap_or
+          (first_of first subfields.now) [],
+      unwrap_or (first_of second subfields.now) [],
+    )) }
 {
     let one = Bytes::copy(alloc, field(subfields, first))?;
     let other = Bytes::copy(alloc, field(subfields, second))?;

@@ -1,7 +1,7 @@
 //! Killed messages are dropped.
 ghost use Rattle.std.specs.Prelude.{◌≡◌, ◌<◌, ◌≤◌, ◌^◌, IfOk, vec_len};
 ghost use Rattle.jb_model.specs.Pack.{pack_refusal, pack_step};
-ghost use Rattle.jb_model.specs.Tight.{texts_together};
+ghost use Rattle.jb_state.specs.Tight.{texts_together};
 ghost use Rattle.jb_plain.specs.Changes.{cut_area, tightened_area};
 ghost use Rattle.jb_plain.specs.Seen.{seen};
 ghost use Rattle.jb_plain.specs.Small.{AreSmall};
@@ -56,7 +56,8 @@ pub(crate) fn pack(
     user: &User,
 ) -> Result<Reply, OutOfMemory>
     requires { AreSmall (seen state.old).slots }
-    ensures { IfOk result (λ reply. record { reply = reply; state = seen state.new } ≡ pack_step rules.now (seen state.old) user.now) }
+    ensures { IfOk result (λ reply. record { reply = reply; state = seen state.new }
+        ≡ pack_step rules.now (seen state.old) user.now) }
 {
     if let Some(rule) = denied(user, rules, Action::Tend) {
         return Ok(Reply::Denied { rule });

@@ -1,10 +1,11 @@
 //! A message is posted.
 ghost use Rattle.std.specs.Prelude.{◌≡◌, ◌+◌, ◌<◌, ◌≤◌, ◌++◌, ◌∷◌, [], IfOk, OnOk, Some, length, option_map};
 ghost use Rattle.std.specs.Borrow.{Bor};
-ghost use Rattle.jb_model.specs.Message.{header_length};
-ghost use Rattle.jb_model.specs.Post.{answer_refusal, draft_refusal, id_crc, plain_field, post_step, posted_message, posted_replyid, posted_state, room_refusal, with_first_reply, with_next_reply};
-ghost use Rattle.jb_model.specs.State.{next_number};
-ghost use Rattle.jb_model.specs.Tight.{owned};
+ghost use Rattle.jb_state.specs.Message.{header_length};
+ghost use Rattle.jb_model.specs.Post.{answer_refusal, draft_refusal, id_crc, plain_field, post_step, posted_message, room_refusal};
+ghost use Rattle.jb_state.specs.Posted.{posted_replyid, posted_state, with_first_reply, with_next_reply};
+ghost use Rattle.jb_state.specs.State.{next_number};
+ghost use Rattle.jb_state.specs.Tight.{owned};
 ghost use Rattle.jb_plain.specs.Changes.{draft_of, fields_with, renamed_area, spliced_area};
 ghost use Rattle.jb_plain.specs.Seen.{seen};
 
@@ -19,7 +20,8 @@ use jb_base::{
     REPLYID, SENDER_NAME, SUBJECT, Subfield, Subfields, TEXTS_CEILING, User,
 };
 use jb_crc::jam_crc;
-use jb_model::{Field, Head, Message, Reply, Slot, posted_attribute, posted_msgid};
+use jb_model::{Field, Reply, posted_attribute, posted_msgid};
+use jb_state::{Head, Message, Slot};
 use jb_subfield::headed_length;
 use std::alloc::Global;
 
@@ -131,7 +133,8 @@ fn subfields_of(
     msgid: &[u8],
     replyid: Option<&[u8]>,
 ) -> Result<Subfields, OutOfMemory>
-    ensures { IfOk result (λ fields. fields ≡ fields_with user.now (draft_of draft.entry) msgid.now (option_map (λ (b : Bor _). b.now) replyid.entry)) }
+    ensures { IfOk result (λ fields. fields ≡ fields_with user.now (draft_of draft.entry) msgid.now
+        (option_map (λ (b : Bor _). b.now) replyid.entry)) }
 {
     let mut subfields = Subfields::new(alloc);
     put_field(alloc, &mut subfields, SENDER_NAME, user.name.as_slice())?;
@@ -164,7 +167,8 @@ fn message_of(
     draft: Draft<'_>,
 ) -> Result<Message, OutOfMemory>
     requires { next_number (seen state.now) ≤ LAST_POSTED_NUMBER }
-    ensures { IfOk result (λ message. owned message ≡ posted_message rules.now (seen state.now) user.now moment (draft_of draft.entry)) }
+    ensures { IfOk result (λ message. owned message
+        ≡ posted_message rules.now (seen state.now) user.now moment (draft_of draft.entry)) }
 {
     let number = state.next();
     let msgid = posted_msgid(alloc, rules, number)?;
@@ -262,7 +266,8 @@ pub(crate) fn post(
     moment: u32,
     draft: Draft<'_>,
 ) -> Result<Reply, OutOfMemory>
-    ensures { IfOk result (λ reply. record { reply = reply; state = seen state.new } ≡ post_step rules.now (seen state.old) user.now moment (draft_of draft.entry)) }
+    ensures { IfOk result (λ reply. record { reply = reply; state = seen state.new }
+        ≡ post_step rules.now (seen state.old) user.now moment (draft_of draft.entry)) }
 {
     if let Some(rule) = denied(user, rules, Action::Post) {
         return Ok(Reply::Denied { rule });

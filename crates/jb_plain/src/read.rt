@@ -1,7 +1,7 @@
 //! A message is read, or looked at.
 ghost use Rattle.std.specs.Prelude.{◌≡◌, IfOk};
 ghost use Rattle.jb_model.specs.Read.{peek_step, read_message, read_step};
-ghost use Rattle.jb_model.specs.Tight.{owned};
+ghost use Rattle.jb_state.specs.Tight.{owned};
 ghost use Rattle.jb_plain.specs.Seen.{seen, with_head};
 
 use crate::held::PlainState;
@@ -9,7 +9,8 @@ use crate::message::{field, letter, visible_at};
 use crate::rule::denied;
 use jb_access::Action;
 use jb_base::{AreaRules, OutOfMemory, READ, RECEIVER_NAME, User};
-use jb_model::{Head, Message, Reply};
+use jb_model::Reply;
+use jb_state::{Head, Message};
 use std::alloc::Global;
 
 /// The header's fields as a reading by this user leaves them.
@@ -37,7 +38,8 @@ pub(crate) fn read(
     moment: u32,
     number: u32,
 ) -> Result<Reply, OutOfMemory>
-    ensures { IfOk result (λ reply. record { reply = reply; state = seen state.new } ≡ read_step rules.now (seen state.old) user.now moment number) }
+    ensures { IfOk result (λ reply. record { reply = reply; state = seen state.new }
+        ≡ read_step rules.now (seen state.old) user.now moment number) }
 {
     if let Some(rule) = denied(user, rules, Action::List) {
         return Ok(Reply::Denied { rule });
@@ -60,7 +62,8 @@ pub(crate) fn peek(
     user: &User,
     number: u32,
 ) -> Result<Reply, OutOfMemory>
-    ensures { IfOk result (λ reply. record { reply = reply; state = seen state.now } ≡ peek_step rules.now (seen state.now) user.now number) }
+    ensures { IfOk result (λ reply. record { reply = reply; state = seen state.now }
+        ≡ peek_step rules.now (seen state.now) user.now number) }
 {
     if let Some(rule) = denied(user, rules, Action::List) {
         return Ok(Reply::Denied { rule });

@@ -11,7 +11,8 @@ use crate::rule::denied;
 use crate::slots::set_some_head;
 use jb_access::Action;
 use jb_base::{AreaRules, OutOfMemory, User};
-use jb_model::{Head, Reply, Slot};
+use jb_model::Reply;
+use jb_state::{Head, Slot};
 use std::alloc::Global;
 
 /// The header's fields of each slot's message with the links that the slots give it.
@@ -76,7 +77,8 @@ pub(crate) fn relink(
     state: &mut PlainState,
     user: &User,
 ) -> Result<Reply, OutOfMemory>
-    ensures { IfOk result (λ reply. record { reply = reply; state = seen state.new } ≡ relink_step rules.now (seen state.old) user.now) }
+    ensures { IfOk result (λ reply. record { reply = reply; state = seen state.new }
+        ≡ relink_step rules.now (seen state.old) user.now) }
 {
     if let Some(rule) = denied(user, rules, Action::Tend) {
         return Ok(Reply::Denied { rule });

@@ -2,13 +2,13 @@
 ghost use Rattle.std.specs.Prelude.{◌≡◌, Some, None};
 ghost use Rattle.jb_base.specs.Access.{first_refusal};
 ghost use Rattle.jb_base.specs.declared.area.Action.TheVariants.{Kill as Killing};
-ghost use Rattle.jb_model.specs.Message.{envelope_of};
-ghost use Rattle.jb_model.specs.Tight.{owned};
+ghost use Rattle.jb_state.specs.Message.{envelope_of};
+ghost use Rattle.jb_state.specs.Tight.{owned};
 
 use crate::message::parties;
 use jb_access::{Action, allowed};
 use jb_base::{AreaRules, Rule, User};
-use jb_model::Message;
+use jb_state::Message;
 
 /// The rule that refuses an act about no message, if one does.
 pub(crate) fn denied(user: &User, rules: &AreaRules, action: Action) -> Option<Rule>

@@ -1,9 +1,9 @@
 //! A list of commands, run over an area.
 ghost use Rattle.std.specs.Prelude.{◌≡◌, [], ◌∷◌, ◌++◌, OnOk, OnErr, IfOk};
 ghost use Rattle.jb_model.specs.Run.{area_of, run_of};
-ghost use Rattle.jb_model.specs.State.{IsWellFormed};
+ghost use Rattle.jb_state.specs.State.{IsWellFormed};
 ghost use Rattle.jb_model.specs.Step.{step as step_of};
-ghost use Rattle.jb_model.specs.Tight.{tight_state};
+ghost use Rattle.jb_state.specs.Tight.{tight_state};
 ghost use Rattle.jb_plain.specs.Seen.{seen};
 ghost use Rattle.jb_plain.specs.Small.{AreSmall};
 
@@ -15,7 +15,8 @@ use crate::post::{Draft, post};
 use crate::read::{peek, read};
 use crate::relink::relink;
 use jb_base::{AreaRules, OutOfMemory};
-use jb_model::{Area, Asked, Command, Reply};
+use jb_model::{Asked, Command, Reply};
+use jb_state::Area;
 use std::alloc::Global;
 use std::marker::Model;
 
@@ -51,7 +52,8 @@ fn step(
     asked: &Asked,
 ) -> Result<Reply, OutOfMemory>
     requires { AreSmall (seen state.old).slots }
-    ensures { IfOk result (λ reply. record { reply = reply; state = seen state.new } ≡ step_of rules.now (seen state.old) asked.now.user asked.now.moment asked.now.command) }
+    ensures { IfOk result (λ reply. record { reply = reply; state = seen state.new }
+        ≡ step_of rules.now (seen state.old) asked.now.user asked.now.moment asked.now.command) }
 {
     let user = &asked.user;
     match &asked.command {
@@ -90,7 +92,8 @@ pub fn run_slow(
 ) -> Result<(Area, Replies), OutOfMemory>
     requires { IsWellFormed rules.now.slots (tight_state area) }
     ensures replies { IfOk result (λ pair. pair.1 ≡ (run_of rules.now (tight_state area) list.now).replies) }
-    ensures area { IfOk result (λ pair. pair.0 ≡ area_of (run_of rules.now (tight_state area) list.now).state) }
+    ensures area { IfOk result (λ pair. pair.0
+        ≡ area_of (run_of rules.now (tight_state area) list.now).state) }
 {
     let mut state = PlainState::of(area, rules.slots);
     let mut replies = Vec::new(alloc);

@@ -1,11 +1,11 @@
 //! The slots of the plain program: their changes, and the bytes that they take.
 ghost use Rattle.std.specs.Prelude.{◌≡◌, ◌+◌, ◌<◌, ◌≤◌, length, map, min, ◌^◌, ◌-◌, count_by, drop, slice_index_or, slice_set, vec_len};
-ghost use Rattle.jb_model.specs.Live.{killed_count, live_count};
-ghost use Rattle.jb_model.specs.Tight.{header_bytes, headers_together, owned_slot, text_bytes, texts_together};
-ghost use Rattle.jb_model.specs.declared.area.Slot.{Slot};
+ghost use Rattle.jb_state.specs.Live.{killed_count, live_count};
+ghost use Rattle.jb_state.specs.Tight.{header_bytes, headers_together, owned_slot, text_bytes, texts_together};
+ghost use Rattle.jb_state.specs.declared.area.Slot.{Slot};
 ghost use Rattle.jb_plain.specs.Walk.{front_of, slot_with_head, with_some_head, without_killed};
 
-use jb_model::{Head, Slot};
+use jb_state::{Head, Slot};
 use jb_subfield::headed_length;
 
 /// Puts a slot in the place of another.
@@ -21,7 +21,8 @@ pub(crate) fn set_slot(slots: &mut Vec<Slot>, place: usize, slot: Slot)
 pub(crate) fn set_head(slots: &mut Vec<Slot>, place: usize, head: Head)
     requires { place < vec_len slots.old }
     ensures kept { vec_len slots.new ≡ vec_len slots.old }
-    ensures value { (d : Slot) → slots.new.items ≡ slice_set slots.old.items place (slot_with_head head (slice_index_or slots.old.items place d)) }
+    ensures value { (d : Slot) → slots.new.items ≡ slice_set slots.old.items place
+        (slot_with_head head (slice_index_or slots.old.items place d)) }
 {
     if let Slot::Live(message) = &mut slots[place] {
         message.head = head;
@@ -32,7 +33,8 @@ pub(crate) fn set_head(slots: &mut Vec<Slot>, place: usize, head: Head)
 pub(crate) fn set_some_head(slots: &mut Vec<Slot>, place: usize, head: Option<Head>)
     requires { place < vec_len slots.old }
     ensures kept { vec_len slots.new ≡ vec_len slots.old }
-    ensures value { (d : Slot) → slots.new.items ≡ slice_set slots.old.items place (with_some_head head (slice_index_or slots.old.items place d)) }
+    ensures value { (d : Slot) → slots.new.items ≡ slice_set slots.old.items place
+        (with_some_head head (slice_index_or slots.old.items place d)) }
 {
     if let Some(head) = head {
         set_head(slots, place, head);
@@ -43,7 +45,8 @@ pub(crate) fn set_some_head(slots: &mut Vec<Slot>, place: usize, head: Option<He
 fn empty_one(slots: &mut Vec<Slot>, place: usize)
     requires { place < vec_len slots.old }
     ensures kept { vec_len slots.new ≡ vec_len slots.old }
-    ensures value { (d : Slot) → slots.new.items ≡ slice_set slots.old.items place (without_killed (slice_index_or slots.old.items place d)) }
+    ensures value { (d : Slot) → slots.new.items ≡ slice_set slots.old.items place
+        (without_killed (slice_index_or slots.old.items place d)) }
 {
     if let Slot::Killed = slots[place] {
         slots[place] = Slot::Empty;

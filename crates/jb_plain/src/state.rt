@@ -1,17 +1,16 @@
 //! The numbers of an area that the plain program keeps, and its changes.
 ghost use Rattle.std.specs.Prelude.{◌≡◌, ◌+◌, ◌<◌, ◌≤◌, length, map, min, ◌^◌, ◌-◌, ◌++◌, ◌∷◌, [], OnOk};
 ghost use Rattle.jb_bytes.specs.Subfields.{subfield_bytes};
-ghost use Rattle.jb_model.specs.Answered.{counted};
-ghost use Rattle.jb_model.specs.Live.{live_count, with_slot};
+ghost use Rattle.jb_state.specs.Live.{counted, live_count, with_slot};
 ghost use Rattle.jb_model.specs.Run.{area_of};
-ghost use Rattle.jb_model.specs.State.{IsWellFormed, live_message, next_number};
-ghost use Rattle.jb_model.specs.Tight.{header_bytes, headers_together, owned, owned_slot, text_bytes, texts_together, tight_state};
-ghost use Rattle.jb_model.specs.declared.area.Message.{Message};
+ghost use Rattle.jb_state.specs.State.{IsWellFormed, live_message, next_number};
+ghost use Rattle.jb_state.specs.Tight.{header_bytes, headers_together, owned, owned_slot, text_bytes, texts_together, tight_state};
+ghost use Rattle.jb_state.specs.declared.area.Message.{Message};
 ghost use Rattle.jb_plain.specs.Seen.{HasAt, seen, with_head};
 
 use crate::held::PlainState;
 use crate::slots::{headers_length, live_messages, set_head, set_slot, texts_length};
-use jb_model::{Area, Head, Marks, Slot, Slots};
+use jb_state::{Area, Head, Marks, Slot, Slots};
 
 impl PlainState {
     /// The state of an area whose files hold nothing but its messages.
@@ -65,7 +64,8 @@ impl PlainState {
     pub(crate) fn put_head(&mut self, number: u32, head: Head)
         requires low { self.old.base ≤ number }
         requires inside { number - self.old.base < length self.old.slots.items }
-        ensures { (message : Message) → HasAt self.old number message → seen self.new ≡ with_slot (seen self.old) number (live_message (with_head head (owned message))) }
+        ensures { (message : Message) → HasAt self.old number message → seen self.new
+            ≡ with_slot (seen self.old) number (live_message (with_head head (owned message))) }
     {
         let place = (number - self.base) as usize;
         set_head(&mut self.slots, place, head);

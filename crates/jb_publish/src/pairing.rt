@@ -26,8 +26,11 @@ fn bind<T: Published<O, E> + Drop, O, E, J: NamesOpening<O>, R: Wait>(
     requires fresh { writer.desk.shown.value.begun ≡ false }
     requires stands { StandsFrom T.stands J.opening writer.desk.shown.value.value front.now.seen.log }
     ensures shown { result.desk.shown.value ≡ edition writer.desk.shown.value.value front.now true }
-    ensures spare { (result.desk.spare.value.value ≡ writer.desk.shown.value.value) × (result.desk.spare.value.begun ≡ true) }
-    ensures binds { Binds J.opening (view writer.desk.place) writer.desk.shown.value result.desk.shown.value (view result.desk.place) }
+    ensures spare { (result.desk.spare.value.value ≡ writer.desk.shown.value.value)
+        × (result.desk.spare.value.begun ≡ true) }
+    ensures binds { Binds J.opening
+        (view writer.desk.place) writer.desk.shown.value result.desk.shown.value
+        (view result.desk.place) }
 {
     let (open, mut spare) = writer.desk.open(rt);
     spare.settle(front);
@@ -43,7 +46,8 @@ impl<T: Published<O, E> + Absorbs<K> + Drop, K: Drop, O, E> Shower<T, K, O, E> {
         requires table { reader.place.table_id ≡ self.old.writer.desk.place.table_id }
         requires new { view reader.place ≡ blank }
         ensures same { publication_of self.new ≡ publication_of self.old }
-        ensures reader { account_of result ≡ arrived (publication_of self.old).mark (publication_of self.old).list }
+        ensures reader { account_of result
+            ≡ arrived (publication_of self.old).mark (publication_of self.old).list }
     {
         reader.learn::<Notes>(self.writer.desk.tell::<Notes>());
         Shown {
@@ -80,7 +84,8 @@ pub fn pair<T: Published<O, E> + Absorbs<K> + Drop, K: Drop, O, E, J: NamesOpeni
 
     // So many readers of this pair were shown nothing and told nothing.
     ensures count { IfOk result (λ r. length r.1.items ≡ readers) }
-    ensures fresh { IfOk result (λ r. (k : ℕ) (s : _) → slice_get r.1.items k ≡ Some s → IsFresh (publication_of r.0).mark s) }
+    ensures fresh { IfOk result (λ r. (k : ℕ) (s : _) → slice_get r.1.items k ≡ Some s
+        → IsFresh (publication_of r.0).mark s) }
 {
     let mut ends = Vec::with_capacity(alloc, readers as usize)?;
     let lacking = Vec::with_capacity(alloc, ROOM)?;

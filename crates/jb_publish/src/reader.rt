@@ -23,7 +23,8 @@ fn enter<T: Published<O, E> + Drop, O, E, J: Floor>(
     requires bound { is_some (view reader.place).mark ≡ true }
     ensures enough { IfOk result (λ r. least ≤ r.part.value.front.count) }
     ensures of { IfOk result (λ r. IsOf T.stands (view reader.place).mark r.part.value) }
-    ensures looks { IfOk result (λ r. view r.place ≡ known (view reader.place).mark ((view reader.place).looks ++ r.part.value.front.count ∷ [])) }
+    ensures looks { IfOk result (λ r. view r.place ≡ known (view reader.place).mark
+        ((view reader.place).looks ++ r.part.value.front.count ∷ [])) }
     ensures err { IfErr result (λ r. view r.place ≡ view reader.place) }
 {
     let reading = reader.enter_as::<Look<J>>()?;
@@ -61,9 +62,12 @@ impl<T: Published<O, E> + Drop, O, E> Shown<T, O, E> {
         requires { IsIn (account_of self.old).mark told }
 
         // It was told the longer of the two lists, which the other begins.
-        ensures longer { length (account_of self.old).told ≤ length (list_of told) → (account_of self.new).told ≡ list_of told }
-        ensures shorter { length (list_of told) < length (account_of self.old).told → (account_of self.new).told ≡ (account_of self.old).told }
-        ensures begins { IsPrefix (account_of self.old).told (account_of self.new).told × IsPrefix (list_of told) (account_of self.new).told }
+        ensures longer { length (account_of self.old).told ≤ length (list_of told)
+            → (account_of self.new).told ≡ list_of told }
+        ensures shorter { length (list_of told) < length (account_of self.old).told
+            → (account_of self.new).told ≡ (account_of self.old).told }
+        ensures begins { IsPrefix (account_of self.old).told (account_of self.new).told
+            × IsPrefix (list_of told) (account_of self.new).told }
 
         // All else stays.
         ensures same { account_of self.new ≡ told_with (account_of self.old) (account_of self.new).told }
@@ -79,11 +83,14 @@ impl<T: Published<O, E> + Drop, O, E> Shown<T, O, E> {
     /// is no less than what the reader knows.
     pub fn look(self) -> Result<Sight<T, O, E>, Shown<T, O, E>>
         // The look shows a list that begins with all that was shown and with all that was told, and the value stands for it.
-        ensures begins { IfOk result (λ sight. IsPrefix (account_of self).shown (account_in sight).shown × IsPrefix (account_of self).told (account_in sight).shown) }
-        ensures stands { IfOk result (λ sight. StandsFrom T.stands (opening_at (account_of self).mark) (value_in sight) (account_in sight).shown) }
+        ensures begins { IfOk result (λ sight. IsPrefix (account_of self).shown
+            (account_in sight).shown × IsPrefix (account_of self).told (account_in sight).shown) }
+        ensures stands { IfOk result (λ sight. StandsFrom T.stands
+            (opening_at (account_of self).mark) (value_in sight) (account_in sight).shown) }
 
         // Beside that it is counted how much it showed, and all else stays.
-        ensures looked { IfOk result (λ sight. account_in sight ≡ looked (account_of self) (account_in sight).shown) }
+        ensures looked { IfOk result (λ sight.
+            account_in sight ≡ looked (account_of self) (account_in sight).shown) }
 
         // A reader that was not let in counts that alone.
         ensures err { IfErr result (λ back. account_of back ≡ turned_away (account_of self)) }

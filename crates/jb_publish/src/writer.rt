@@ -33,7 +33,8 @@ fn bring_up<T: Absorbs<K>, K, E>(
     queued: &[K],
     front: &Front<E>,
 )
-    ensures { copy.new ≡ edition (fold T.changed (fold T.changed copy.old.value lacking.now) queued.now) front.now true }
+    ensures { copy.new ≡ edition (fold T.changed
+        (fold T.changed copy.old.value lacking.now) queued.now) front.now true }
 {
     absorb_all(&mut copy.value, lacking);
     absorb_all(&mut copy.value, queued);
@@ -51,7 +52,9 @@ impl<T: Published<O, E> + Absorbs<K> + Drop, K: Drop, O, E> Shower<T, K, O, E> {
     /// Queues a change, which no look sees before it is shown. It comes back where there is no memory, and so never while fewer than
     /// `ROOM` are queued.
     pub fn queue(&mut self, change: K) -> Result<(), K>
-        ensures queued { MatchResult result (λ _. publication_of self.new ≡ queued_with (publication_of self.old) change) (λ back. (back ≡ change) × (publication_of self.new ≡ publication_of self.old)) }
+        ensures queued { MatchResult result (λ _.
+            publication_of self.new ≡ queued_with (publication_of self.old) change) (λ back.
+            (back ≡ change) × (publication_of self.new ≡ publication_of self.old)) }
         ensures room { OnErr result (ROOM ≤ length (publication_of self.old).queued) }
     {
         match self.queued.push(change) {
@@ -72,7 +75,8 @@ impl<T: Published<O, E> + Absorbs<K> + Drop, K: Drop, O, E> Shower<T, K, O, E> {
     /// that still see the copy from before the last showing.
     pub fn show<J: NamesList<E>, R: Wait>(self, rt: &R, count: u64) -> Shower<T, K, O, E>
         requires longer { IsPrefix (publication_of self).list J.items × (count ≡ length J.items) }
-        requires stands { StandsFrom T.stands (opening_at (publication_of self).mark) (fold T.changed (publication_of self).value (publication_of self).queued) J.items }
+        requires stands { StandsFrom T.stands (opening_at (publication_of self).mark)
+            (fold T.changed (publication_of self).value (publication_of self).queued) J.items }
         ensures { publication_of result ≡ shown_with T.changed (publication_of self) J.items }
     {
         let Shower {
@@ -109,8 +113,12 @@ impl<T: Published<O, E> + Absorbs<K> + Drop, K: Drop, O, E> Shower<T, K, O, E> {
     /// they showed.
     pub fn covers(&self, shown: &Shown<T, O, E>) -> bool
         requires { (account_of shown.now).mark ≡ (publication_of self.now).mark }
-        ensures prefix { MatchBool result (IsPrefix (account_of shown.now).shown (publication_of self.now).list) (IsPrefix (publication_of self.now).list (account_of shown.now).shown) }
-        ensures length { MatchBool result (length (account_of shown.now).shown ≤ length (publication_of self.now).list) (length (publication_of self.now).list < length (account_of shown.now).shown) }
+        ensures prefix { MatchBool result
+            (IsPrefix (account_of shown.now).shown (publication_of self.now).list)
+            (IsPrefix (publication_of self.now).list (account_of shown.now).shown) }
+        ensures length { MatchBool result (length (account_of shown.now).shown
+            ≤ length (publication_of self.now).list)
+            (length (publication_of self.now).list < length (account_of shown.now).shown) }
     {
         self.front.covers(&shown.shown)
     }

@@ -73,12 +73,12 @@ turns_none R None all = tt
 turns_none R (Some files) all = all files refl
 
 -- one span more, written last
-patched-push : (spans : List Span) (span : Span) (old : List ℕ) → patched (spans ++ span ∷ []) old ≡ overwritten span.at span.bytes (patched spans old)
+pub patched-push : (spans : List Span) (span : Span) (old : List ℕ) → patched (spans ++ span ∷ []) old ≡ overwritten span.at span.bytes (patched spans old)
 patched-push [] span old = refl
 patched-push (first ∷ spans) span old = patched-push spans span (overwritten first.at first.bytes old)
 
 -- spans within a file keep its length
-length-patched : (spans : List Span) (old : List ℕ) → IsWithin spans (length old) → length (patched spans old) ≡ length old
+pub length-patched : (spans : List Span) (old : List ℕ) → IsWithin spans (length old) → length (patched spans old) ≡ length old
 length-patched [] old within = refl
 length-patched (span ∷ spans) old within =
     let size = length-overwritten span.at span.bytes old within.0 in

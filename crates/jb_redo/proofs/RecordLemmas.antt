@@ -1,5 +1,5 @@
 -- A record's lengths set, and its pieces written: what it makes of the files.
-use Rattle.std.proofs.Common.{◌≡◌, inl, inr, ℕ, List, ◌++◌, length, drop, refl, ap, sym, ◌∙◌, subst, arith}
+use Rattle.std.proofs.Common.{◌≡◌, inl, inr, ℕ, List, [], ◌∷◌, ◌++◌, length, drop, refl, ap, sym, ◌∙◌, subst, arith, length-append, ◌*◌}
 use Rattle.std.specs.Prelude.{Option, Some, None, IsSome, Result, Ok, Err, OnOk}
 use Rattle.std.specs.Option.{ForSome}
 use Rattle.jb_disk.specs.declared.file.FileId.{FileId}
@@ -20,7 +20,7 @@ use Rattle.jb_redo.specs.Answers.{RefusesFor}
 use Rattle.jb_redo.specs.Applying.{AreResized, pieced, HasPieced, ArePieced, KeepsWay, IsFault}
 use Rattle.jb_redo.specs.OnTheWay.{IsOnTheWay}
 use Rattle.jb_redo.specs.Reading.{BeginsWith, Lengths, beginning_bytes, IsRecordOf, HasRecord}
-use Rattle.jb_redo.specs.Record.{record_end}
+use Rattle.jb_redo.specs.Record.{record_end, length_bytes}
 use Rattle.jb_redo.specs.Replay.{spans_in, applied, IsGrowthCovered}
 use Rattle.jb_redo.specs.Rules.{sizes_of, new_sizes}
 use Rattle.jb_redo.specs.Walk.{size_in, journal_from, AreSizes, HasLengths}
@@ -29,6 +29,7 @@ use Rattle.jb_redo.proofs.OneReading.{one_record, record_or_bad_place, lengths_o
 use Rattle.jb_redo.proofs.SpanLemmas.{spans_within}
 use Rattle.jb_redo.proofs.WalkLemmas.{whole_record, bad_end}
 use Rattle.jb_redo.proofs.WayLemmas.{resized_with_zeros, between_start, between_patched, way_start, way_record, way_spans, way_ends, way_kept}
+use Rattle.std.specs.List.{flat_map}
 
 -- a refusal of files that hold a record is a fault
 pub fault_alone : (files : Files) (error : RecordError) → RefusesFor files error → HasRecord files → IsFault error
@@ -168,3 +169,8 @@ told_still (Ok value) None (Some half) new ends resized written = absurd resized
 told_still (Ok value) (Some was) None new ends resized written = absurd resized
 told_still (Ok value) (Some was) (Some half) None ends resized written = absurd written
 told_still (Ok value) (Some was) (Some half) (Some now) ends resized written = λ some. refl
+
+-- each length takes eight bytes
+pub length-lengths : (lengths : List Length) → length (flat_map length_bytes lengths) ≡ 8 * length lengths
+length-lengths [] = refl
+length-lengths (entry ∷ lengths) = omega (arith, length-append (length_bytes entry) (flat_map length_bytes lengths), length-lengths lengths)

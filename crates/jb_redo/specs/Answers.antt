@@ -1,6 +1,5 @@
 -- What the reading and the applying of a record answer, and why.
-use Rattle.std.specs.Prelude.{ℕ, Result, Ok, Err}
-use Rattle.jb_bytes.specs.Fault.{Rose}
+use Rattle.std.specs.Prelude.{Bool, true, false, Result, Ok, Err}
 use Rattle.jb_disk.specs.Files.{Files}
 use Rattle.jb_redo.specs.declared.error.RecordError.{RecordError}
 use Rattle.jb_redo.specs.declared.error.RecordError.TheVariants.{Bad, StoreFault}
@@ -16,7 +15,7 @@ abbrev pub AnswersFor : {T : Type 0} → Files → Result T RecordError → Type
 AnswersFor files (Ok value) = HasRecord files
 AnswersFor files (Err error) = RefusesFor files error
 
--- a fault has its cause: the disk's count rose
-abbrev pub RecordFaultRose : ℕ → ℕ → RecordError → Type 0
-RecordFaultRose before now (Bad at) = Unit {0}
-RecordFaultRose before now StoreFault = Rose before now
+-- a fault of the disk, and no record that is bad
+abbrev pub is_record_fault : RecordError → Bool
+is_record_fault (Bad at) = false
+is_record_fault StoreFault = true

@@ -1,15 +1,14 @@
 //! The applying of the journal's record.
-ghost use Rattle.std.specs.Prelude.{◌≡◌, ◌+◌, ◌^◌, ◌<◌, ◌≤◌, Some, length, IsSome, OnOk, OnErr, IfErr, IfOk, List, take, drop};
+ghost use Rattle.std.specs.Prelude.{◌≡◌, ◌+◌, ◌<◌, ◌≤◌, Some, length, IsSome, OnOk, IfErr, IfOk, List};
 ghost use Rattle.std.specs.Option.{ForSome, option_map};
-ghost use Rattle.jb_bytes.specs.Fault.{Rose};
 ghost use Rattle.jb_disk.specs.declared.file.FileId.{FileId};
 ghost use Rattle.jb_disk.specs.declared.piece.Length.{Length};
 ghost use Rattle.jb_disk.specs.declared.piece.Piece.{Piece};
-ghost use Rattle.jb_disk.specs.Device.{Turns, TellsAlike};
-ghost use Rattle.jb_disk.specs.Files.{Files, number_of, written, InFile, IsResized};
+ghost use Rattle.jb_disk.specs.Device.{Turns, TellsAlike, CountsFaults, is_disk_fault};
+ghost use Rattle.jb_disk.specs.Files.{Files, InFile, IsResized};
 ghost use Rattle.jb_disk.specs.Runs.{Keeps};
-ghost use Rattle.jb_redo.specs.Applying.{IsSound, HasRoom, copied, copied_chunk, AreResized, pieced, KeepsInRange, KeepsWay, ArePieced, HasPieced, IsFault};
-ghost use Rattle.jb_redo.specs.Answers.{RecordFaultRose};
+ghost use Rattle.jb_redo.specs.Applying.{IsSound, HasRoom, copied, copied_chunk, AreResized, KeepsInRange, KeepsWay, ArePieced, HasPieced, IsFault};
+ghost use Rattle.jb_redo.specs.Answers.{is_record_fault};
 ghost use Rattle.jb_redo.specs.Laws.{HasOneReplayAtMost, ReplayOnTheWay};
 ghost use Rattle.jb_redo.specs.Reading.{HasRecord};
 ghost use Rattle.jb_redo.specs.Replay.{IsAppliedTo};
@@ -46,11 +45,10 @@ fn copy_chunk<D: Disk>(
         ≡ option_map (copied_chunk part.now done (length chunk.old)) (D.device disk.old).contents) }
 
     // What a crash leaves, that the disk tells as before, and why it is refused.
-    ensures images { KeepsInRange part.now.to (part.now.to_at + done) (length chunk.old) (D.device disk.old) (D.device disk.new) }
+    ensures images { KeepsInRange part.now.to (part.now.to_at + done) (length chunk.old)
+        (D.device disk.old) (D.device disk.new) }
     ensures alike { TellsAlike (D.device disk.old) (D.device disk.new) }
-    ensures quiet { OnOk result ((D.device disk.new).faults ≡ (D.device disk.old).faults) }
-    ensures later { (D.device disk.old).faults ≤ (D.device disk.new).faults }
-    ensures cause { OnErr result (Rose (D.device disk.old).faults (D.device disk.new).faults) }
+    ensures faults { CountsFaults is_disk_fault (D.device disk.old) (D.device disk.new) result }
 {
     disk.read_at(part.from, part.from_at + done, chunk)?;
     disk.write_at(part.to, part.to_at + done, chunk)
@@ -68,11 +66,10 @@ fn copy_part<D: Disk>(disk: &mut D, part: &Part, buffer: &mut [u8]) -> Result<()
         ≡ option_map (copied part.now part.now.len) (D.device disk.old).contents) }
 
     // What a crash leaves, that the disk tells as before, and why it is refused.
-    ensures images { KeepsInRange part.now.to part.now.to_at part.now.len (D.device disk.old) (D.device disk.new) }
+    ensures images { KeepsInRange part.now.to part.now.to_at part.now.len (D.device disk.old)
+        (D.device disk.new) }
     ensures alike { TellsAlike (D.device disk.old) (D.device disk.new) }
-    ensures quiet { OnOk result ((D.device disk.new).faults ≡ (D.device disk.old).faults) }
-    ensures later { (D.device disk.old).faults ≤ (D.device disk.new).faults }
-    ensures cause { OnErr result (Rose (D.device disk.old).faults (D.device disk.new).faults) }
+    ensures faults { CountsFaults is_disk_fault (D.device disk.old) (D.device disk.new) result }
 {
     let mut done = 0;
     while done < part.len {
@@ -103,9 +100,7 @@ fn set_one<D: Disk>(
         → new_sizes lengths (sizes_of start) file ≡ size_in ends.now file
         → Keeps (IsOnTheWay lengths pieces start) (D.device disk.old) (D.device disk.new) }
     ensures alike { TellsAlike (D.device disk.old) (D.device disk.new) }
-    ensures quiet { OnOk result ((D.device disk.new).faults ≡ (D.device disk.old).faults) }
-    ensures later { (D.device disk.old).faults ≤ (D.device disk.new).faults }
-    ensures cause { OnErr result (Rose (D.device disk.old).faults (D.device disk.new).faults) }
+    ensures faults { CountsFaults is_disk_fault (D.device disk.old) (D.device disk.new) result }
 {
     let len = ends.get(file);
     if len == sizes.get(file) {
@@ -120,16 +115,15 @@ fn set_lengths<D: Disk>(disk: &mut D, sizes: &Sizes, ends: &Sizes) -> Result<(),
     requires sizes { ForSome (D.device disk.old).contents (AreSizes sizes.now) }
 
     // What a read gives then.
-    ensures ok { OnOk result (Turns (AreResized ends.now) (D.device disk.old).contents (D.device disk.new).contents) }
+    ensures ok { OnOk result (Turns (AreResized ends.now) (D.device disk.old).contents
+        (D.device disk.new).contents) }
 
     // What a crash leaves, that the disk tells as before, and why it is refused.
     ensures images { (lengths : List Length) (pieces : List Piece) (start : Files)
         → ((file : FileId) → new_sizes lengths (sizes_of start) file ≡ size_in ends.now file)
         → Keeps (IsOnTheWay lengths pieces start) (D.device disk.old) (D.device disk.new) }
     ensures alike { TellsAlike (D.device disk.old) (D.device disk.new) }
-    ensures quiet { OnOk result ((D.device disk.new).faults ≡ (D.device disk.old).faults) }
-    ensures later { (D.device disk.old).faults ≤ (D.device disk.new).faults }
-    ensures cause { OnErr result (Rose (D.device disk.old).faults (D.device disk.new).faults) }
+    ensures faults { CountsFaults is_disk_fault (D.device disk.old) (D.device disk.new) result }
 {
     set_one(disk, FileId::Jhr, sizes, ends)?;
     set_one(disk, FileId::Jdt, sizes, ends)?;
@@ -153,9 +147,7 @@ fn apply_pieces<D: Disk>(disk: &mut D, lengths: &NewLengths) -> Result<u64, Reco
     ensures images { KeepsWay (D.device disk.old) (D.device disk.new) }
     ensures fault { IfErr result (λ error. ForSome (D.device disk.old).contents (λ _. IsFault error)) }
     ensures alike { TellsAlike (D.device disk.old) (D.device disk.new) }
-    ensures quiet { OnOk result ((D.device disk.new).faults ≡ (D.device disk.old).faults) }
-    ensures later { (D.device disk.old).faults ≤ (D.device disk.new).faults }
-    ensures cause { IfErr result (RecordFaultRose (D.device disk.old).faults (D.device disk.new).faults) }
+    ensures faults { CountsFaults is_record_fault (D.device disk.old) (D.device disk.new) result }
 {
     let end = lengths.ends.get(FileId::Jnl);
     let mut at = lengths.at;
@@ -188,9 +180,7 @@ fn write_pieces<D: Disk>(disk: &mut D, lengths: &NewLengths) -> Result<(), Recor
     ensures images { KeepsWay (D.device disk.old) (D.device disk.new) }
     ensures fault { IfErr result (λ error. ForSome (D.device disk.old).contents (λ _. IsFault error)) }
     ensures alike { TellsAlike (D.device disk.old) (D.device disk.new) }
-    ensures quiet { OnOk result ((D.device disk.new).faults ≡ (D.device disk.old).faults) }
-    ensures later { (D.device disk.old).faults ≤ (D.device disk.new).faults }
-    ensures cause { IfErr result (RecordFaultRose (D.device disk.old).faults (D.device disk.new).faults) }
+    ensures faults { CountsFaults is_record_fault (D.device disk.old) (D.device disk.new) result }
 {
     let at = apply_pieces(disk, lengths)?;
     if !has_mark(disk, lengths.ends.get(FileId::Jnl), at, &END)? {
@@ -212,9 +202,7 @@ fn apply<D: Disk>(disk: &mut D) -> Result<(), RecordError>
     ensures images { KeepsWay (D.device disk.old) (D.device disk.new) }
     ensures fault { IfErr result (λ error. ForSome (D.device disk.old).contents (λ _. IsFault error)) }
     ensures alike { TellsAlike (D.device disk.old) (D.device disk.new) }
-    ensures quiet { OnOk result ((D.device disk.new).faults ≡ (D.device disk.old).faults) }
-    ensures later { (D.device disk.old).faults ≤ (D.device disk.new).faults }
-    ensures cause { IfErr result (RecordFaultRose (D.device disk.old).faults (D.device disk.new).faults) }
+    ensures faults { CountsFaults is_record_fault (D.device disk.old) (D.device disk.new) result }
 {
     let sizes = Sizes::of(disk)?;
     let lengths = read_lengths(disk, &sizes)?;
@@ -245,9 +233,7 @@ pub fn apply_record<D: Disk>(disk: &mut D) -> Result<(), RecordError>
 
     // Why it is refused.
     ensures fault { IfErr result (λ error. ForSome (D.device disk.old).contents (λ _. IsFault error)) }
-    ensures quiet { OnOk result ((D.device disk.new).faults ≡ (D.device disk.old).faults) }
-    ensures later { (D.device disk.old).faults ≤ (D.device disk.new).faults }
-    ensures cause { IfErr result (RecordFaultRose (D.device disk.old).faults (D.device disk.new).faults) }
+    ensures faults { CountsFaults is_record_fault (D.device disk.old) (D.device disk.new) result }
 
     // A disk that tells its files goes on telling them, and one that tells nothing goes on so, whatever is answered.
     ensures alike { TellsAlike (D.device disk.old) (D.device disk.new) }

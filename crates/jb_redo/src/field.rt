@@ -1,9 +1,8 @@
 //! The reading of one field of the journal.
-ghost use Rattle.std.specs.Prelude.{◌≡◌, ◌+◌, ◌^◌, ◌<◌, ◌≤◌, ℕ, IfOk, IfSome, IfNone, IsTrue, OnErr, length, take, drop, true, false, OnOk};
+ghost use Rattle.std.specs.Prelude.{◌≡◌, ◌+◌, ◌^◌, ◌<◌, ◌≤◌, IfOk, IfSome, IfNone, length, true, false};
 ghost use Rattle.std.specs.Option.{ForSome};
-ghost use Rattle.jb_bytes.specs.Fault.{Rose};
 ghost use Rattle.jb_bytes.specs.Number.{number_bytes};
-ghost use Rattle.jb_disk.specs.Device.{OnlyReads};
+ghost use Rattle.jb_disk.specs.Device.{OnlyReads, CountsFaults, is_disk_fault};
 ghost use Rattle.jb_disk.specs.declared.file.FileId.TheVariants.{Jnl as journal};
 ghost use Rattle.jb_redo.specs.Reading.{BeginsWith};
 ghost use Rattle.jb_redo.specs.Walk.{journal_from};
@@ -31,9 +30,7 @@ pub(crate) fn read_bytes<D: Disk>(
 
     // The disk is only read.
     ensures kept { OnlyReads (D.device disk.old) (D.device disk.new) }
-    ensures quiet { OnOk result ((D.device disk.new).faults ≡ (D.device disk.old).faults) }
-    ensures later { (D.device disk.old).faults ≤ (D.device disk.new).faults }
-    ensures cause { OnErr result (Rose (D.device disk.old).faults (D.device disk.new).faults) }
+    ensures faults { CountsFaults is_disk_fault (D.device disk.old) (D.device disk.new) result }
 {
     if at > end || end - at < into.len() as u64 {
         return Ok(false);
@@ -61,9 +58,7 @@ pub(crate) fn read_number<D: Disk>(
 
     // The disk is only read.
     ensures kept { OnlyReads (D.device disk.old) (D.device disk.new) }
-    ensures quiet { OnOk result ((D.device disk.new).faults ≡ (D.device disk.old).faults) }
-    ensures later { (D.device disk.old).faults ≤ (D.device disk.new).faults }
-    ensures cause { OnErr result (Rose (D.device disk.old).faults (D.device disk.new).faults) }
+    ensures faults { CountsFaults is_disk_fault (D.device disk.old) (D.device disk.new) result }
 {
     let mut bytes = [0; 4];
     if !read_bytes(disk, end, at, &mut bytes)? {
@@ -90,9 +85,7 @@ pub(crate) fn has_mark<D: Disk>(
 
     // The disk is only read.
     ensures kept { OnlyReads (D.device disk.old) (D.device disk.new) }
-    ensures quiet { OnOk result ((D.device disk.new).faults ≡ (D.device disk.old).faults) }
-    ensures later { (D.device disk.old).faults ≤ (D.device disk.new).faults }
-    ensures cause { OnErr result (Rose (D.device disk.old).faults (D.device disk.new).faults) }
+    ensures faults { CountsFaults is_disk_fault (D.device disk.old) (D.device disk.new) result }
 {
     let mut bytes = [0; 4];
     if !read_bytes(disk, end, at, &mut bytes)? {

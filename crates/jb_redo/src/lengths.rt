@@ -1,16 +1,15 @@
 //! The first part of a record: the new lengths.
-ghost use Rattle.std.specs.Prelude.{◌≡◌, ◌+◌, ◌^◌, ◌<◌, ◌≤◌, ℕ, IfOk, IfErr, IfSome, IfNone, [], OnErr, length, OnOk};
+ghost use Rattle.std.specs.Prelude.{◌≡◌, ◌+◌, ◌<◌, ◌≤◌, IfOk, IfErr, IfSome, IfNone, [], length};
 ghost use Rattle.std.specs.Option.{ForSome};
-ghost use Rattle.jb_bytes.specs.Fault.{Rose};
-ghost use Rattle.jb_disk.specs.Device.{OnlyReads};
+ghost use Rattle.jb_disk.specs.Device.{OnlyReads, CountsFaults, is_disk_fault};
 ghost use Rattle.jb_disk.specs.Files.{number_of};
 ghost use Rattle.jb_disk.specs.declared.file.FileId.TheVariants.{Jnl as journal};
 ghost use Rattle.jb_disk.specs.declared.piece.Length.{Length};
-ghost use Rattle.jb_redo.specs.Answers.{RecordFaultRose, RefusesFor};
+ghost use Rattle.jb_redo.specs.Answers.{is_record_fault, RefusesFor};
 ghost use Rattle.jb_redo.specs.Reading.{BeginsWith, Lengths};
 ghost use Rattle.jb_redo.specs.Record.{length_bytes};
 ghost use Rattle.jb_redo.specs.Rules.{IsLegalLength};
-ghost use Rattle.jb_redo.specs.Walk.{journal_from, size_in, AreSizes, AreWithin, IsReadTo, HasLengths};
+ghost use Rattle.jb_redo.specs.Walk.{journal_from, AreSizes, AreWithin, IsReadTo, HasLengths};
 
 use crate::RecordError;
 use crate::decode::decode_length;
@@ -52,9 +51,7 @@ fn read_length<D: Disk>(
 
     // The disk is only read.
     ensures kept { OnlyReads (D.device disk.old) (D.device disk.new) }
-    ensures quiet { OnOk result ((D.device disk.new).faults ≡ (D.device disk.old).faults) }
-    ensures later { (D.device disk.old).faults ≤ (D.device disk.new).faults }
-    ensures cause { OnErr result (Rose (D.device disk.old).faults (D.device disk.new).faults) }
+    ensures faults { CountsFaults is_disk_fault (D.device disk.old) (D.device disk.new) result }
 {
     let mut bytes = [0; 8];
     if !read_bytes(disk, end, at, &mut bytes)? {
@@ -76,9 +73,7 @@ fn read_count<D: Disk>(disk: &mut D, end: u64) -> Result<u32, RecordError>
 
     // The disk is only read.
     ensures kept { OnlyReads (D.device disk.old) (D.device disk.new) }
-    ensures quiet { OnOk result ((D.device disk.new).faults ≡ (D.device disk.old).faults) }
-    ensures later { (D.device disk.old).faults ≤ (D.device disk.new).faults }
-    ensures cause { IfErr result (RecordFaultRose (D.device disk.old).faults (D.device disk.new).faults) }
+    ensures faults { CountsFaults is_record_fault (D.device disk.old) (D.device disk.new) result }
 {
     if !has_mark(disk, end, RECORD_AT, &HEAD)? {
         return Err(RecordError::Bad { at: RECORD_AT });
@@ -106,9 +101,7 @@ pub(crate) fn read_lengths<D: Disk>(disk: &mut D, sizes: &Sizes) -> Result<NewLe
 
     // The disk is only read.
     ensures kept { OnlyReads (D.device disk.old) (D.device disk.new) }
-    ensures quiet { OnOk result ((D.device disk.new).faults ≡ (D.device disk.old).faults) }
-    ensures later { (D.device disk.old).faults ≤ (D.device disk.new).faults }
-    ensures cause { IfErr result (RecordFaultRose (D.device disk.old).faults (D.device disk.new).faults) }
+    ensures faults { CountsFaults is_record_fault (D.device disk.old) (D.device disk.new) result }
 {
     let end = sizes.get(FileId::Jnl);
     let count = read_count(disk, end)?;

@@ -1,8 +1,7 @@
 //! The lengths of the six files.
-ghost use Rattle.std.specs.Prelude.{◌≡◌, ◌≤◌, ◌^◌, ◌<◌, IfOk, OnErr, OnOk};
+ghost use Rattle.std.specs.Prelude.{◌≡◌, ◌<◌, IfOk};
 ghost use Rattle.std.specs.Option.{ForSome};
-ghost use Rattle.jb_bytes.specs.Fault.{Rose};
-ghost use Rattle.jb_disk.specs.Device.{OnlyReads};
+ghost use Rattle.jb_disk.specs.Device.{OnlyReads, CountsFaults, is_disk_fault};
 ghost use Rattle.jb_redo.specs.Rules.{with_size};
 ghost use Rattle.jb_redo.specs.Walk.{AreSizes, size_in};
 
@@ -19,9 +18,7 @@ impl Sizes {
     pub(crate) fn of<D: Disk>(disk: &mut D) -> Result<Sizes, DiskFailed>
         ensures found { IfOk result (λ sizes. ForSome (D.device disk.old).contents (AreSizes sizes)) }
         ensures kept { OnlyReads (D.device disk.old) (D.device disk.new) }
-        ensures quiet { OnOk result ((D.device disk.new).faults ≡ (D.device disk.old).faults) }
-        ensures later { (D.device disk.old).faults ≤ (D.device disk.new).faults }
-        ensures cause { OnErr result (Rose (D.device disk.old).faults (D.device disk.new).faults) }
+        ensures faults { CountsFaults is_disk_fault (D.device disk.old) (D.device disk.new) result }
     {
         let by_file = [
             disk.len(FileId::Jhr)?,

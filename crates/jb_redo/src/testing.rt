@@ -1,9 +1,8 @@
 //! Whether the journal holds a record.
-ghost use Rattle.std.specs.Prelude.{◌≡◌, ◌≤◌, ◌<◌, ◌^◌, IfOk, IfErr, IsErrOf, OnOk};
+ghost use Rattle.std.specs.Prelude.{◌<◌, IfOk, IfErr};
 ghost use Rattle.std.specs.Option.{ForSome};
-ghost use Rattle.jb_bytes.specs.Fault.{Rose};
-ghost use Rattle.jb_disk.specs.Device.{OnlyReads};
-ghost use Rattle.jb_redo.specs.Answers.{AnswersFor, RecordFaultRose, RefusesFor};
+ghost use Rattle.jb_disk.specs.Device.{OnlyReads, CountsFaults};
+ghost use Rattle.jb_redo.specs.Answers.{AnswersFor, is_record_fault, RefusesFor};
 ghost use Rattle.jb_redo.specs.Laws.{HasOneBadPlaceAtMost, HasOneRecordAtMost, HasRecordOrBadPlace};
 ghost use Rattle.jb_redo.specs.Walk.{AreSizes, HasLengths, HasPieces};
 
@@ -35,9 +34,7 @@ fn test_pieces<D: Disk>(
 
     // The disk is only read.
     ensures kept { OnlyReads (D.device disk.old) (D.device disk.new) }
-    ensures quiet { OnOk result ((D.device disk.new).faults ≡ (D.device disk.old).faults) }
-    ensures later { (D.device disk.old).faults ≤ (D.device disk.new).faults }
-    ensures cause { IfErr result (RecordFaultRose (D.device disk.old).faults (D.device disk.new).faults) }
+    ensures faults { CountsFaults is_record_fault (D.device disk.old) (D.device disk.new) result }
 {
     let mut at = lengths.at;
     let Some(count) = read_number(disk, sizes.get(FileId::Jnl), at)? else {
@@ -57,9 +54,7 @@ fn test_pieces<D: Disk>(
 fn walk_record<D: Disk>(disk: &mut D) -> Result<(), RecordError>
     ensures answer { ForSome (D.device disk.old).contents (λ files. AnswersFor files result) }
     ensures kept { OnlyReads (D.device disk.old) (D.device disk.new) }
-    ensures quiet { OnOk result ((D.device disk.new).faults ≡ (D.device disk.old).faults) }
-    ensures later { (D.device disk.old).faults ≤ (D.device disk.new).faults }
-    ensures cause { IfErr result (RecordFaultRose (D.device disk.old).faults (D.device disk.new).faults) }
+    ensures faults { CountsFaults is_record_fault (D.device disk.old) (D.device disk.new) result }
 {
     let sizes = Sizes::of(disk)?;
     let lengths = read_lengths(disk, &sizes)?;
@@ -83,9 +78,7 @@ pub fn test_record<D: Disk>(disk: &mut D) -> Result<(), RecordError>
 
     // On every disk.
     ensures kept { OnlyReads (D.device disk.old) (D.device disk.new) }
-    ensures quiet { OnOk result ((D.device disk.new).faults ≡ (D.device disk.old).faults) }
-    ensures later { (D.device disk.old).faults ≤ (D.device disk.new).faults }
-    ensures cause { IfErr result (RecordFaultRose (D.device disk.old).faults (D.device disk.new).faults) }
+    ensures faults { CountsFaults is_record_fault (D.device disk.old) (D.device disk.new) result }
 {
     walk_record(disk)
 }

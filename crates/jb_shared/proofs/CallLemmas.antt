@@ -15,7 +15,7 @@ use Rattle.jb_publish.specs.Publications.{publication_of}
 use Rattle.jb_publish.specs.declared.known.Mark.{Mark}
 use Rattle.jb_turn.specs.Rows.{Begins, StandsFrom}
 use Rattle.jb_turn.specs.Steps.{given, seen as took_in}
-use Rattle.jb_shared.specs.Calls.{Answers, Calls, IsCovered, ending, recording}
+use Rattle.jb_shared.specs.Calls.{Answers, Asks, IsCovered, ending, recording}
 use Rattle.jb_shared.specs.Histories.{IsHistory, settled_of}
 use Rattle.jb_shared.specs.InTurn.{IsToldOf, Performs, Runs, SeatRow, ended, next_call, recorded}
 use Rattle.jb_shared.specs.Inside.{known_by_both}
@@ -143,7 +143,7 @@ module _ {D : Type 0} (shown : D → Device) where
   pub calls_through : (account : Account Opening Entry) (old taken new : SeatRow) (front : List Entry) (state state' : ShownArea D) (user : User) (moment : ℕ) (command : Command) (result : Result Reply SharedError)
       → taken ≡ took_in old front → Begins old.front front → StandsFrom (IsKept shown) taken.opening state taken.front → Performs taken new user moment command result → length front < MOST_ENTRIES
       → StandsFrom (IsKept shown) new.opening state' new.front → Begins account.shown (settled_of front)
-      → Calls (known_by_both old account) (known_by_both new account) user moment command result
+      → Asks (known_by_both old account) (known_by_both new account) user moment command result
   calls_through account old taken new front state state' user moment command result took grows stands performs room later begins =
       let first = mark_known (IsKept shown) taken.opening state taken.front stands in
       let keeps = performs_keep taken new user moment command result performs in
@@ -168,7 +168,7 @@ module _ {D : Type 0} (shown : D → Device) where
   -- a call of a pass whose history is spent
   pub calls_spent : (account : Account Opening Entry) (old taken new : SeatRow) (front : List Entry) (state : ShownArea D) (user : User) (moment : ℕ) (command : Command)
       → taken ≡ took_in old front → Begins old.front front → StandsFrom (IsKept shown) taken.opening state taken.front → MOST_ENTRIES ≤ length front → new ≡ given taken (Some refusal.Spent)
-      → Calls (known_by_both old account) (known_by_both new account) user moment command (Err RunSpent)
+      → Asks (known_by_both old account) (known_by_both new account) user moment command (Err RunSpent)
   calls_spent account old taken new front state user moment command took grows stands spent is =
       let first = mark_known (IsKept shown) taken.opening state taken.front stands in
       let whole : new ≡ given (took_in old front) (Some refusal.Spent) = is ∙ ap (λ (k : SeatRow). given k (Some refusal.Spent)) took in
@@ -187,7 +187,7 @@ module _ {D : Type 0} (shown : D → Device) where
       → taken ≡ took_in old front → Begins old.front front → StandsFrom (IsKept shown) taken.opening state taken.front → length front < MOST_ENTRIES
       → count ≡ length account.shown → settled ≡ length (settled_of front) → Begins (settled_of front) account.shown → length (settled_of front) < length account.shown
       → new ≡ given taken (Some (refusal.Gap count settled))
-      → Calls (known_by_both old account) (known_by_both new account) user moment command (Err (Gap count settled))
+      → Asks (known_by_both old account) (known_by_both new account) user moment command (Err (Gap count settled))
   calls_gap account old taken new front state user moment command count settled took grows stands room counts settles begins longer is =
       let first = mark_known (IsKept shown) taken.opening state taken.front stands in
       let whole : new ≡ given (took_in old front) (Some (refusal.Gap count settled)) = is ∙ ap (λ (k : SeatRow). given k (Some (refusal.Gap count settled))) took in

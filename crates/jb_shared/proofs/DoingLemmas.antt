@@ -1,5 +1,5 @@
 -- A command that is begun, and finished or abandoned.
-use Rattle.std.proofs.Common.{◌≡◌, ◌≤◌, ℕ, List, Ok, Err, sym, ◌∙◌, ap, subst}
+use Rattle.std.proofs.Common.{◌≡◌, ℕ, List, Result, Ok, Err, sym, ◌∙◌, ap, subst}
 use Rattle.std.specs.Prelude.{is_some}
 use Rattle.jb_area.specs.Area.{IsBegun, IsResting, RestsAt, copied_of, device_of, loaded_of, rules_of}
 use Rattle.jb_area.specs.Calls.{BeginsCall, MeetsCall, OnlyReadsOrCopies}
@@ -7,16 +7,18 @@ use Rattle.jb_area.specs.declared.area.OpenArea.{OpenArea}
 use Rattle.jb_base.specs.declared.area.AreaRules.{AreaRules}
 use Rattle.jb_base.specs.declared.user.User.{User}
 use Rattle.jb_decide.specs.Coming.{Coming}
+use Rattle.jb_decide.specs.Errors.{is_area_fault}
+use Rattle.jb_decide.specs.declared.error.AreaError.{AreaError}
 use Rattle.jb_decide.specs.declared.error.AreaError.TheVariants as area
-use Rattle.jb_disk.specs.Device.{Device}
+use Rattle.jb_disk.specs.Device.{CountsFaults, Device}
 use Rattle.jb_index.specs.Edit.{absorbed}
 use Rattle.jb_index.specs.Index.{index_of}
 use Rattle.jb_index.specs.declared.op.OpEdit.{OpEdit}
 use Rattle.jb_model.specs.Answered.{Answered}
-use Rattle.jb_model.specs.State.{state_of}
+use Rattle.jb_state.specs.State.{state_of}
 use Rattle.jb_model.specs.Step.{step}
 use Rattle.jb_model.specs.declared.command.Command.{Command}
-use Rattle.jb_model.specs.declared.loaded.Loaded.{Loaded}
+use Rattle.jb_state.specs.declared.loaded.Loaded.{Loaded}
 use Rattle.jb_model.specs.declared.reply.Reply.{Reply}
 use Rattle.jb_shared.specs.Begun.{IsFollowed}
 use Rattle.jb_shared.specs.Keeping.{Follows, HasChange}
@@ -39,7 +41,7 @@ module _ {D : Type 0} (shown : D → Device) where
       → ((texts : List ℕ) (decided : Reply) (coming : Coming) → IsBegun shown mid texts decided coming → RestsAt shown new texts (loaded_of mid)) → device_of shown new ≡ device_of shown mid → rules_of new ≡ rules_of mid
       → copied_of new ≡ copied_of mid → MeetsCall shown old new user moment command (Err area.OutOfMemory)
   meets_abandoned old mid new user moment command value begins rests device rules copied =
-      let faults : (device_of shown new).faults ≡ (device_of shown old).faults = ap (λ (d : Device). d.faults) device ∙ begins.quiet in
+      let refused : Result Reply AreaError = Err area.OutOfMemory in
       record {
         answered = tt;
         failed = λ texts resting.
@@ -47,10 +49,8 @@ module _ {D : Type 0} (shown : D → Device) where
               subst (λ (l : Loaded). RestsAt shown new texts l) begins.loaded (rests texts begun.reply begun.coming begun.begun),
               subst (λ (d : Device). OnlyReadsOrCopies command (device_of shown old) d) (sym device) begins.reads,
             );
-        cause = faults;
-        quiet = tt;
+        faults = subst (λ (d : Device). CountsFaults is_area_fault (device_of shown old) d refused) (sym device) (record { quiet = tt; later = begins.faults.later; cause = begins.faults.quiet });
         alike = ap (λ (d : Device). is_some d.contents) device ∙ begins.alike;
-        later = subst (λ (d : Device). (device_of shown old).faults ≤ d.faults) (sym device) begins.later;
         rules = rules ∙ begins.rules;
         copies = λ kind. copied ∙ begins.copies kind;
         packed = tt;

@@ -9,16 +9,11 @@ use Rattle.jb_model.specs.History.{IsNextCall, Rises, calls_of, faults_of, last_
 use Rattle.jb_model.specs.Standing.{Allows, Settled}
 use Rattle.jb_model.specs.declared.entry.Entry.{Entry}
 use Rattle.jb_model.specs.declared.entry.Entry.TheVariants.{Called, Reopened}
-use Rattle.jb_model.proofs.HistoryLaws.{allowed_push, numbered_push}
+use Rattle.jb_model.proofs.HistoryLaws.{allowed_push, numbered_push, rises_push}
 use Rattle.jb_turn.specs.Rows.{calls, when}
 use Rattle.jb_shared.specs.Histories.{IsHistory, Tells, first_of, leads_to, stopped_behind}
 use Rattle.jb_shared.specs.Standing.{caller_of}
 use Rattle.jb_shared.specs.declared.opening.Opening.{Opening}
-
--- counts that have risen, and then one that rises
-rises_push : (before : ℕ) (told : List ℕ) (faults : ℕ) → Rises before told → Rose (last_told before told) faults → Rises before (told ++ faults ∷ [])
-rises_push before [] faults risen more = (more, tt)
-rises_push before (first ∷ rest) faults risen more = (risen.0, rises_push first rest faults risen.1 more)
 
 -- the same, by whether the entry tells a count
 rises_by : (before : ℕ) (told : List ℕ) (more : Option ℕ) → Rises before told → IfSome more (λ faults. Rose (last_told before told) faults) → Rises before (told ++ cons_option more [])

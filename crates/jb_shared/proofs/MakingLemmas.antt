@@ -13,9 +13,9 @@ use Rattle.jb_disk.specs.Files.{Files}
 use Rattle.jb_disk.specs.declared.file.FileId.TheVariants.{Jdt}
 use Rattle.jb_index.specs.Index.{AreaIndex, index_of}
 use Rattle.jb_model.specs.Standing.{Settled}
-use Rattle.jb_model.specs.State.{state_of}
+use Rattle.jb_state.specs.State.{state_of}
 use Rattle.jb_model.specs.declared.entry.Entry.{Entry}
-use Rattle.jb_model.specs.declared.loaded.Loaded.{Loaded}
+use Rattle.jb_state.specs.declared.loaded.Loaded.{Loaded}
 use Rattle.jb_publish.specs.Marks.{book_at, mark_with, opening_at}
 use Rattle.jb_publish.specs.Publications.{publication_of}
 use Rattle.jb_publish.specs.declared.ends.Shown.{Shown}

@@ -6,7 +6,7 @@ use mathlib.Core.List.{IsPrefix}
 use Rattle.jb_base.specs.declared.area.AreaRules.{AreaRules}
 use Rattle.jb_model.specs.History.{AllowsEach, settled_prefix, standing_after}
 use Rattle.jb_model.specs.Standing.{Standing, Settled, InDoubt, Allows, after_entry, is_settled}
-use Rattle.jb_model.specs.State.{AreaState}
+use Rattle.jb_state.specs.State.{AreaState}
 use Rattle.jb_model.specs.declared.entry.Entry.{Entry}
 use Rattle.jb_model.specs.declared.entry.Entry.TheVariants.{Called, Reopened}
 use Rattle.jb_model.specs.declared.entry.Outcome.TheVariants.{Replied, InDoubt as LeftInDoubt, NotBegun}

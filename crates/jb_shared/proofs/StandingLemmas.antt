@@ -13,13 +13,13 @@ use Rattle.jb_disk.specs.Device.{Device, TellsAlike}
 use Rattle.jb_model.specs.Answered.{Answered}
 use Rattle.jb_model.specs.History.{IsNextCall, calls_of, faults_of, last_faults}
 use Rattle.jb_model.specs.Standing.{Standing, Settled, InDoubt, Allows, StandsWithin, after_entry, change_of, is_refusal, is_settled}
-use Rattle.jb_model.specs.State.{AreaState, state_of}
+use Rattle.jb_state.specs.State.{AreaState, state_of}
 use Rattle.jb_model.specs.Step.{step}
 use Rattle.jb_model.specs.declared.command.Command.{Command}
 use Rattle.jb_model.specs.declared.entry.Entry.{Entry}
 use Rattle.jb_model.specs.declared.entry.Entry.TheVariants.{Called, Reopened}
 use Rattle.jb_model.specs.declared.entry.Outcome.TheVariants.{Replied, InDoubt as LeftInDoubt, NotBegun}
-use Rattle.jb_model.specs.declared.loaded.Loaded.{Loaded}
+use Rattle.jb_state.specs.declared.loaded.Loaded.{Loaded}
 use Rattle.jb_model.specs.declared.reply.Reply.{Reply}
 use Rattle.jb_model.proofs.HistoryLaws.{standing_after_push}
 use Rattle.jb_shared.specs.Histories.{Tells, first_of}
@@ -67,7 +67,7 @@ module _ {D : Type 0} (shown : D → Device) where
       let entry : Entry = Called node call user moment command (Replied reply) in
       let same : last_faults opening.faults (history ++ entry ∷ []) ≡ last_faults opening.faults history = last_same opening.faults history entry refl in (
         state_to done.coming,
-        stands_push old new opening history entry (Settled state) (Settled (state_to done.coming)) stands meets.rules meets.alike next (same ∙ stands.faults ∙ sym meets.quiet) tt
+        stands_push old new opening history entry (Settled state) (Settled (state_to done.coming)) stands meets.rules meets.alike next (same ∙ stands.faults ∙ sym meets.faults.quiet) tt
             (λ t. ap (λ (a : Answered). a.reply) (is t)) refl (done.coming.texts, done.rests.rests, ap (state_of done.coming.texts) done.rests.is) (λ t. ap (λ (a : Answered). Settled a.state) (sym (is t))),
       )
 
@@ -95,7 +95,7 @@ module _ {D : Type 0} (shown : D → Device) where
       let doubt = doubt_at old new opening state at.0 user moment command stopped.coming stands.rules at.2 (λ t. stands.told ∙ t) stopped.change stopped.doubt stopped.loaded in
       let entry : Entry = Called node call user moment command (LeftInDoubt (device_of shown new).faults) in
       let last : last_faults opening.faults (history ++ entry ∷ []) ≡ (device_of shown new).faults = last_new opening.faults history entry (device_of shown new).faults refl in
-      let rose = rose_from (last_faults opening.faults history) (device_of shown old).faults (device_of shown new).faults (omega (arith, stands.faults)) meets.cause in (
+      let rose = rose_from (last_faults opening.faults history) (device_of shown old).faults (device_of shown new).faults (omega (arith, stands.faults)) meets.faults.cause in (
         InDoubt state doubt.0,
         stands_push old new opening history entry (Settled state) (InDoubt state doubt.0) stands meets.rules meets.alike next last rose (λ t. tt)
             refl doubt.1 (λ t. ap (InDoubt state) (doubt.2 t)),
@@ -111,7 +111,7 @@ module _ {D : Type 0} (shown : D → Device) where
         record {
           rules = meets.rules ∙ stands.rules;
           history = stands.history;
-          faults = stands.faults ∙ sym meets.cause;
+          faults = stands.faults ∙ sym meets.faults.cause;
           told = meets.alike ∙ stands.told;
           at = (at.0, failed.0.rests, ap (state_of at.0) failed.0.is ∙ at.2);
           kind = stands.kind;

@@ -1,31 +1,40 @@
 -- A step of a pack, as a pack that was stopped or wanted memory; and what the steps make of what a pass knows.
-use Rattle.std.proofs.Common.{◌≡◌, inl, inr, ℕ, ◌<◌, ◌≤◌, Bool, true, false, MatchBool, List, length, None, Result, Ok, Err, refl, sym, ◌∙◌, ap, subst, arith}
-use Rattle.jb_area.specs.Area.{IsResting, copied_of, loaded_of}
-use Rattle.jb_area.specs.Calls.{FailsWith, MeetsCall, StepsPack}
-use Rattle.jb_area.specs.Copying.{HasCopiedSome}
+use Rattle.std.proofs.Common.{◌≡◌, inl, inr, ℕ, ◌+◌, ◌*◌, ◌/◌, ◌<◌, ◌≤◌, Bool, true, false, MatchBool, List, [], ◌∷◌, ◌++◌, length, Option, None, Some, Result, Ok, Err, is_some, IfSome, nat_lt, ltb-true, ltb-false, ◌^◌, refl, sym, ◌∙◌, ap, subst, arith}
+use Rattle.std.proofs.lemmas.Bool.{false≢true}
+use Rattle.jb_area.specs.Area.{IsResting, copied_of, loaded_of, rules_of}
+use Rattle.jb_area.specs.Calls.{FailsWith, HasRest, MeetsCall, StepsPack}
+use Rattle.jb_area.specs.Copying.{HasCopiedSome, begun_of}
 use Rattle.jb_area.specs.declared.area.OpenArea.{OpenArea}
 use Rattle.jb_limits.specs.declared.limits.TheConstants.{MOST_ENTRIES, MOST_TEXT_BYTES}
 use Rattle.jb_base.specs.declared.user.User.{User}
+use Rattle.jb_decide.specs.Packs.{is_pack_refused}
 use Rattle.jb_decide.specs.declared.error.AreaError.{AreaError}
 use Rattle.jb_decide.specs.declared.error.AreaError.TheVariants as failing
 use Rattle.jb_disk.specs.Device.{Device}
 use Rattle.jb_model.specs.declared.command.Command.{Command}
-use Rattle.jb_model.specs.declared.command.Command.TheVariants.{Pack}
+use Rattle.jb_model.specs.declared.command.Command.TheVariants.{Post, Read, Peek, Kill, SetMark, Pack, Relink}
 use Rattle.jb_model.specs.declared.entry.Entry.{Entry}
 use Rattle.jb_model.specs.declared.reply.Reply.{Reply}
+use Rattle.jb_pack.specs.Shadow.{Shadow, left}
+use Rattle.jb_pack.proofs.PlanLemmas.{texts_small}
 use Rattle.jb_publish.specs.Accounts.{Account}
 use Rattle.jb_publish.specs.declared.known.Mark.{Mark}
+use Rattle.jb_state.specs.Packed.{texts_size}
+use Rattle.jb_state.specs.declared.loaded.Loaded.{Loaded}
 use Rattle.jb_turn.specs.Rows.{Begins, StandsFrom}
-use Rattle.jb_turn.specs.Steps.{seen as took_in}
-use Rattle.jb_shared.specs.Calls.{Calls}
+use Rattle.jb_turn.specs.Steps.{given, seen as took_in}
+use Rattle.jb_turn.specs.declared.seat.Held.{Held}
+use Rattle.jb_shared.specs.Calls.{AreLast, AreLeft, AreSteps, Asks, Calls, HasSteps}
 use Rattle.jb_shared.specs.Histories.{settled_of}
-use Rattle.jb_shared.specs.InTurn.{SeatRow}
+use Rattle.jb_shared.specs.InTurn.{Runs, SeatRow}
 use Rattle.jb_shared.specs.Inside.{known_by_both}
 use Rattle.jb_shared.specs.Keeping.{HasChange, IsKept, IsKeptSettled}
-use Rattle.jb_shared.specs.Passes.{Known, seen}
-use Rattle.jb_shared.specs.Stepping.{CopiesOnePart, HasTaken, RunsStep, StepsAs}
+use Rattle.jb_shared.specs.Passes.{Known, refusing, seen, stepping}
+use Rattle.jb_shared.specs.Stepping.{CopiesOnePart, HasTaken, LeavesAs, MayCopy, RunsStep, StepsOn, uncopied}
 use Rattle.jb_shared.specs.declared.error.SharedError.{SharedError}
 use Rattle.jb_shared.specs.declared.opening.Opening.{Opening}
+use Rattle.jb_shared.specs.declared.refusal.Refusal.{Refusal}
+use Rattle.jb_shared.specs.declared.refusal.Refusal.TheVariants.{Gap, Spent, Stepped}
 use Rattle.jb_shared.specs.declared.shown.ShownArea.{ShownArea}
 use Rattle.jb_shared.proofs.CallLemmas.{Keeps, calls_through, keeps_as, performs_keep, runs_perform}
 use Rattle.jb_shared.proofs.IndexLemmas.{unchanged_no_change}
@@ -44,9 +53,7 @@ module _ {D : Type 0} (shown : D → Device) where
   meets_step old new user moment error steps = record {
     answered = tt;
     failed = fails_as old new user moment error steps;
-    cause = steps.cause;
-    quiet = tt;
-    later = steps.later;
+    faults = record { quiet = tt; later = steps.faults.later; cause = steps.faults.cause };
     alike = steps.alike;
     rules = steps.rules;
     copies = λ none. absurd none;
@@ -61,9 +68,7 @@ module _ {D : Type 0} (shown : D → Device) where
     opens = steps.opens;
     crash = steps.crash;
     touches = steps.touches;
-    cause = steps.quiet;
-    quiet = tt;
-    later = steps.later;
+    faults = record { quiet = tt; later = steps.faults.later; cause = steps.faults.quiet };
     alike = steps.alike;
     loaded = steps.loaded;
     rules = steps.rules;
@@ -115,51 +120,158 @@ pub taken_on : (old mid new : Known) → HasTaken old mid → HasTaken mid new �
 taken_on old mid new (front, grows, is) (more, further, are) =
     (more, begins_on old.front front more grows (subst (λ (k : Known). Begins k.front more) is further), are ∙ ap (λ (k : Known). seen k more) is)
 
+-- steps leave what was seen
+front_of : (known : Known) (steps : List Refusal) → (stepping known steps).front ≡ known.front
+front_of known [] = refl
+front_of known (step ∷ steps) = front_of (refusing known step) steps
+
+-- and it matters not when more was taken
+stepping_seen : (known : Known) (front : List Entry) (steps : List Refusal) → stepping (seen known front) steps ≡ seen (stepping known steps) front
+stepping_seen known front [] = refl
+stepping_seen known front (step ∷ steps) = stepping_seen (refusing known step) front steps
+
+-- one step more
+stepping_push : (known : Known) (steps : List Refusal) (step : Refusal) → stepping known (steps ++ step ∷ []) ≡ refusing (stepping known steps) step
+stepping_push known [] step = refl
+stepping_push known (first ∷ steps) step = stepping_push (refusing known first) steps step
+
+-- the same steps from more of the history
+taken_under : (old mid : Known) (steps : List Refusal) → HasTaken old mid → HasTaken (stepping old steps) (stepping mid steps)
+taken_under old mid steps (front, grows, is) =
+    (front, subst (λ (l : List Entry). Begins l front) (sym (front_of old steps)) grows, ap (λ (k : Known). stepping k steps) is ∙ stepping_seen old front steps)
+
+-- and then still more
+pub taken_steps : (old mid new : Known) (steps : List Refusal) → HasTaken old mid → HasTaken (stepping mid steps) new → HasTaken (stepping old steps) new
+taken_steps old mid new steps taken more = taken_on (stepping old steps) (stepping mid steps) new (taken_under old mid steps taken) more
+
+-- a step behind others
+pub taken_push : (old mid new : Known) (steps : List Refusal) (step : Refusal) → HasTaken (stepping old steps) mid → HasTaken (refusing mid step) new → HasTaken (stepping old (steps ++ step ∷ [])) new
+taken_push old mid new steps step taken more = subst (λ (k : Known). HasTaken k new) (sym (stepping_push old steps step)) (taken_steps (stepping old steps) mid new (step ∷ []) taken more)
+
 -- a call from more of the history
-call_from : (old new : Known) (front : List Entry) (user : User) (moment : ℕ) (command : Command) (result : Result Reply SharedError) → Begins old.front front → Calls (seen old front) new user moment command result
-    → Calls old new user moment command result
-call_from old new front user moment command result grows calls = record {
-  opening = calls.opening;
-  from = calls.from;
-  taken = calls.taken;
-  grows = begins_on old.front front calls.taken grows calls.grows;
-  answers = calls.answers;
-  covered = calls.covered;
-  history = calls.history;
+ask_from : (old new : Known) (front : List Entry) (user : User) (moment : ℕ) (command : Command) (result : Result Reply SharedError) → Begins old.front front → Asks (seen old front) new user moment command result
+    → Asks old new user moment command result
+ask_from old new front user moment command result grows asks = record {
+  opening = asks.opening;
+  from = asks.from;
+  taken = asks.taken;
+  grows = begins_on old.front front asks.taken grows asks.grows;
+  answers = asks.answers;
+  covered = asks.covered;
+  history = asks.history;
 }
 
 -- is a call from what was known before
-pub calls_from : (old mid new : Known) (user : User) (moment : ℕ) (command : Command) (result : Result Reply SharedError) → HasTaken old mid → Calls mid new user moment command result → Calls old new user moment command result
-calls_from old mid new user moment command result (front, grows, is) calls = call_from old new front user moment command result grows (subst (λ (k : Known). Calls k new user moment command result) is calls)
+pub asks_from : (old mid new : Known) (user : User) (moment : ℕ) (command : Command) (result : Result Reply SharedError) → HasTaken old mid → Asks mid new user moment command result → Asks old new user moment command result
+asks_from old mid new user moment command result (front, grows, is) asks = ask_from old new front user moment command result grows (subst (λ (k : Known). Asks k new user moment command result) is asks)
 
--- and steps from more of it are steps from before
-pub steps_from : {T : Type 0} (old mid new : Known) (user : User) (moment : ℕ) (result : Result T SharedError) → HasTaken old mid → StepsAs mid new user moment result → StepsAs old new user moment result
-steps_from old mid new user moment (Ok value) taken steps = taken_on old mid new taken steps
-steps_from old mid new user moment (Err error) taken steps = calls_from old mid new user moment Pack (Err error) taken steps
+-- also behind steps
+pub asks_steps : (old mid new : Known) (steps : List Refusal) (user : User) (moment : ℕ) (command : Command) (result : Result Reply SharedError) → HasTaken old mid → Asks (stepping mid steps) new user moment command result
+    → Asks (stepping old steps) new user moment command result
+asks_steps old mid new steps user moment command result taken asks = asks_from (stepping old steps) (stepping mid steps) new user moment command result (taken_under old mid steps taken) asks
 
--- so the steps go on that were done
-pub steps_ok : {T : Type 0} (old mid new : Known) (user : User) (moment : ℕ) (result : Result T SharedError) (value : T) → result ≡ Ok value → HasTaken old mid → StepsAs mid new user moment result → HasTaken old new
-steps_ok {T} old mid new user moment result value is taken steps = taken_on old mid new taken (subst (λ (r : Result T SharedError). StepsAs mid new user moment r) is steps)
+-- steps that each left a text, and one more that does
+pub left_push : (steps : List Refusal) (bytes : ℕ) → AreLeft steps → AreLeft (steps ++ Stepped (Some bytes) ∷ [])
+left_push [] bytes left = tt
+left_push (Gap shown held ∷ steps) bytes left = absurd left
+left_push (Spent ∷ steps) bytes left = absurd left
+left_push (Stepped None ∷ steps) bytes left = absurd left
+left_push (Stepped (Some first) ∷ steps) bytes left = left_push steps bytes left
 
--- and those end that were not
-pub steps_err : {T : Type 0} (old mid new : Known) (user : User) (moment : ℕ) (result : Result T SharedError) (error : SharedError) → result ≡ Err error → HasTaken old mid → StepsAs mid new user moment result
-    → Calls old new user moment Pack (Err error)
-steps_err {T} old mid new user moment result error is taken steps = calls_from old mid new user moment Pack (Err error) taken (subst (λ (r : Result T SharedError). StepsAs mid new user moment r) is steps)
+-- steps behind the first one
+pub steps_behind : (old mid new : Known) (user : User) (moment bytes most : ℕ) (result : Result (Unit {0}) SharedError) → most ≡ 2 * (bytes / MOST_TEXT_BYTES) + 1 → HasTaken (refusing old (Stepped (Some bytes))) mid
+    → StepsOn (AreLast most) mid new user moment result → StepsOn AreSteps old new user moment result
+steps_behind old mid new user moment bytes most (Ok done) is first (steps, last, taken) =
+    (Stepped (Some bytes) ∷ steps, subst (λ (n : ℕ). AreLast n steps) is last, taken_steps (refusing old (Stepped (Some bytes))) mid new steps first taken)
+steps_behind old mid new user moment bytes most (Err error) is first (steps, left, asks) =
+    (Stepped (Some bytes) ∷ steps, left, asks_steps (refusing old (Stepped (Some bytes))) mid new steps user moment Pack (Err error) first asks)
+
+-- a command that is no pack makes no step
+none_made : (command : Command) (result : Result Reply SharedError) → (command ≡ Pack → ⊥) → HasSteps command [] result
+none_made (Post to subject text reply_to private) result other = refl
+none_made (Read number) result other = refl
+none_made (Peek number) result other = refl
+none_made (Kill number) result other = refl
+none_made (SetMark number) result other = refl
+none_made Relink result other = refl
+none_made Pack result other = absurd (other refl)
+
+-- a pack has made all
+all_made : (result : Result Reply SharedError) (steps : List Refusal) → AreSteps steps → HasSteps Pack steps result
+all_made (Ok reply) steps all = all
+all_made (Err error) steps all = inl all
+
+-- a call that makes no step
+pub calls_at_once : (old new : Known) (user : User) (moment : ℕ) (command : Command) (result : Result Reply SharedError) → (command ≡ Pack → ⊥) → Asks old new user moment command result → Calls old new user moment command result
+calls_at_once old new user moment command result other asks = record { steps = []; stepped = none_made command result other; asks = asks }
+
+-- a pack that was stopped in a step
+pub calls_stopped : (old new : Known) (user : User) (moment : ℕ) (error : SharedError) → StepsOn AreSteps old new user moment (Err error) → Calls old new user moment Pack (Err error)
+calls_stopped old new user moment error (steps, left, asks) = record { steps = steps; stepped = inr left; asks = asks }
+
+-- a pack behind its steps
+pub calls_behind : (old mid new : Known) (user : User) (moment : ℕ) (result : Result Reply SharedError) (done : Unit {0}) → StepsOn AreSteps old mid user moment (Ok done) → Asks mid new user moment Pack result → Calls old new user moment Pack result
+calls_behind old mid new user moment result done (steps, all, taken) asks =
+    record { steps = steps; stepped = all_made result steps all; asks = asks_from (stepping old steps) mid new user moment Pack result taken asks }
 
 -- what is known has taken no less
 pub taken_itself : (known : Known) → HasTaken known known
 taken_itself known = (known.front, begins_itself known.front, refl)
 
--- a turn in which nothing was done
-pub taken_in : (account : Account Opening Entry) (old new : SeatRow) (front : List Entry) → new ≡ took_in old front → Begins old.front front → HasTaken (known_by_both old account) (known_by_both new account)
-taken_in account old new front took grows = (front, grows, ap (λ (k : SeatRow). known_by_both k account) took)
+-- a turn in which a step was made
+pub stepped_in : (account : Account Opening Entry) (old taken new : SeatRow) (front : List Entry) (left : Option ℕ) → taken ≡ took_in old front → Begins old.front front → new ≡ given taken (Some (Stepped left))
+    → HasTaken (refusing (known_by_both old account) (Stepped left)) (known_by_both new account)
+stepped_in account old taken new front left took grows is =
+    (front, grows, ap (λ (k : SeatRow). known_by_both k account) (is ∙ ap (λ (k : SeatRow). given k (Some (Stepped left))) took))
 
 module _ {D : Type 0} (shown : D → Device) where
-  -- a step in a turn of its own
-  pub steps_through : {T : Type 0} (account : Account Opening Entry) (old taken new : SeatRow) (front : List Entry) (state state' : ShownArea D) (user : User) (moment : ℕ) (result : Result T SharedError)
-      → taken ≡ took_in old front → Begins old.front front → StandsFrom (IsKept shown) taken.opening state taken.front → RunsStep taken new user moment result → length front < MOST_ENTRIES
+  -- a turn that ended the pack
+  pub stopped_in : (account : Account Opening Entry) (old taken new : SeatRow) (front : List Entry) (state state' : ShownArea D) (user : User) (moment : ℕ) (error : SharedError)
+      → taken ≡ took_in old front → Begins old.front front → StandsFrom (IsKept shown) taken.opening state taken.front → Runs taken new user moment Pack (Err error) → length front < MOST_ENTRIES
       → StandsFrom (IsKept shown) new.opening state' new.front → Begins account.shown (settled_of front)
-      → StepsAs (known_by_both old account) (known_by_both new account) user moment result
-  steps_through account old taken new front state state' user moment (Ok value) took grows stands is room later begins = taken_in account old new front (is ∙ took) grows
-  steps_through account old taken new front state state' user moment (Err error) took grows stands runs room later begins =
+      → Asks (known_by_both old account) (known_by_both new account) user moment Pack (Err error)
+  stopped_in account old taken new front state state' user moment error took grows stands runs room later begins =
       calls_through shown account old taken new front state state' user moment Pack (Err error) took grows stands (runs_perform taken taken new None user moment Pack (Err error) refl runs) room later begins
+
+-- of texts that were copied it is said whether one is left
+pub says_left : {D : Type 0} (old new : OpenArea D) (more : Bool) → (loaded_of new) ≡ (loaded_of old) → HasCopiedSome MOST_TEXT_BYTES (loaded_of old).slots (copied_of old) (copied_of new) more → more ≡ nat_lt 0 (uncopied new)
+says_left old new more same copied =
+    copied.says ∙ (ap (λ (l : Loaded). nat_lt 0 (left copied.shadow l.slots)) (sym same) ∙ ap (λ (k : Option Shadow). nat_lt 0 (left (begun_of k) (loaded_of new).slots)) (sym copied.kept))
+
+-- none
+no_left : (n : ℕ) → false ≡ nat_lt 0 n → n ≡ 0
+no_left n is = omega (arith, ltb-false 0 n (sym is))
+
+module _ {D : Type 0} (shown : D → Device) where
+  -- the texts of an area at rest are no more bytes than a number of 64 bits counts
+  pub texts_few : (area new : OpenArea D) → HasRest shown area → (loaded_of new) ≡ (loaded_of area) → texts_size (loaded_of new).slots < 2 ^ 64
+  texts_few area new rest same =
+      subst (λ (l : Loaded). texts_size l.slots < 2 ^ 64) (sym same) (texts_small (rules_of area).slots (loaded_of area) rest.rests.kept.ruled.sound rest.rests.kept.ruled.few_slots)
+
+  -- what a step of a pack says that it left
+  pub leaves_as : (old : OpenArea D) (held : Held (ShownArea D)) (list : List Entry) (user : User) (more : Bool) (left : Option ℕ) (rest : HasRest shown old) → (loaded_of held.state.area) ≡ (loaded_of old)
+      → is_some left ≡ more → IfSome left (λ bytes. bytes ≡ texts_size (loaded_of held.state.area).slots)
+      → ((texts : List ℕ) → IsResting shown old texts → is_pack_refused (rules_of old) texts (loaded_of old) user ≡ true → (more ≡ false) × (held.state.area ≡ old))
+      → ((texts : List ℕ) → IsResting shown old texts → is_pack_refused (rules_of old) texts (loaded_of old) user ≡ false → HasCopiedSome MOST_TEXT_BYTES (loaded_of old).slots (copied_of old) (copied_of held.state.area) more)
+      → LeavesAs shown held list user left
+  leaves_as old held list user more (Some bytes) rest same is bytes_are stays copies = (some_left (is_pack_refused (rules_of old) rest.texts (loaded_of old) user) refl, bytes_are)
+    where
+      new : OpenArea D
+      new = held.state.area
+
+      some_left : (refused : Bool) → is_pack_refused (rules_of old) rest.texts (loaded_of old) user ≡ refused → 0 < uncopied new
+      some_left true refused = absurd (false≢true (sym (is ∙ (stays rest.texts rest.rests refused).0)))
+      some_left false refused = ltb-true 0 (uncopied new) (sym (is ∙ says_left old new more same (copies rest.texts rest.rests refused)))
+  leaves_as old held list user more None rest same is bytes_are stays copies = λ may. none_left may (is_pack_refused (rules_of old) rest.texts (loaded_of old) user) refl
+    where
+      new : OpenArea D
+      new = held.state.area
+
+      none_left : MayCopy shown held list user → (refused : Bool) → is_pack_refused (rules_of old) rest.texts (loaded_of old) user ≡ refused → uncopied new ≡ 0
+      none_left may true refused =
+          let still = (stays rest.texts rest.rests refused).1 in
+          no_left (uncopied new)
+          (is ∙ says_left old new more same
+          (copies may.texts (subst (λ (a : OpenArea D). IsResting shown a may.texts) still may.rests)
+          (subst (λ (a : OpenArea D). is_pack_refused (rules_of a) may.texts (loaded_of a) user ≡ false) still may.allowed)))
+      none_left may false refused = no_left (uncopied new) (is ∙ says_left old new more same (copies rest.texts rest.rests refused))

@@ -7,7 +7,7 @@ use Rattle.jb_disk.specs.Device.{Device}
 use Rattle.jb_index.specs.Edit.{absorbed}
 use Rattle.jb_index.specs.Index.{index_of}
 use Rattle.jb_index.specs.declared.op.OpEdit.{OpEdit}
-use Rattle.jb_model.specs.State.{state_of}
+use Rattle.jb_state.specs.State.{state_of}
 use Rattle.jb_model.specs.declared.reply.Reply.{Reply}
 
 -- of a disk that shows itself so

@@ -1,8 +1,9 @@
 -- What a call makes of what its pass knows, by its answer.
-use Rattle.std.specs.Prelude.{◌≡◌, ◌⊎◌, ℕ, ◌+◌, ◌<◌, ◌≤◌, Bool, List, [], ◌∷◌, ◌++◌, length, Option, Some, None, Result, Ok, Err}
-use Rattle.jb_limits.specs.declared.limits.TheConstants.{MOST_ENTRIES}
+use Rattle.std.specs.Prelude.{◌≡◌, ◌⊎◌, ℕ, ◌+◌, ◌*◌, ◌/◌, ◌<◌, ◌≤◌, Bool, List, [], ◌∷◌, ◌++◌, length, Option, Some, None, Result, Ok, Err}
+use Rattle.jb_limits.specs.declared.limits.TheConstants.{MOST_ENTRIES, MOST_TEXT_BYTES}
 use Rattle.jb_base.specs.declared.user.User.{User}
 use Rattle.jb_model.specs.declared.command.Command.{Command}
+use Rattle.jb_model.specs.declared.command.Command.TheVariants.{Pack}
 use Rattle.jb_model.specs.declared.entry.Entry.{Entry}
 use Rattle.jb_model.specs.declared.entry.Entry.TheVariants.{Called, Reopened}
 use Rattle.jb_model.specs.declared.entry.Outcome.{Outcome}
@@ -10,10 +11,11 @@ use Rattle.jb_model.specs.declared.entry.Outcome.TheVariants.{Replied, InDoubt, 
 use Rattle.jb_model.specs.declared.reply.Reply.{Reply}
 use Rattle.jb_turn.specs.Rows.{Begins}
 use Rattle.jb_shared.specs.Histories.{IsHistory, settled_of}
-use Rattle.jb_shared.specs.Passes.{Known, refusing, seen}
+use Rattle.jb_shared.specs.Passes.{Known, refusing, seen, stepping}
 use Rattle.jb_shared.specs.declared.error.SharedError.{SharedError}
 use Rattle.jb_shared.specs.declared.error.SharedError.TheVariants.{StoreFault, Gap, RunSpent, OutOfMemory}
 use Rattle.jb_shared.specs.declared.opening.Opening.{Opening}
+use Rattle.jb_shared.specs.declared.refusal.Refusal.{Refusal}
 use Rattle.jb_shared.specs.declared.refusal.Refusal.TheVariants as refusal
 
 -- the entry of the node's next call
@@ -56,8 +58,8 @@ IsCovered shown settled (Err OutOfMemory) = Begins shown settled
 IsCovered shown settled (Err (Gap count held)) = Begins settled shown × (length settled < length shown)
 IsCovered shown settled (Err RunSpent) = Unit {0}
 
--- a call: it takes the whole history, which goes on from what the pass had seen, and leaves a legal one
-pub record Calls (old new : Known) (user : User) (moment : ℕ) (command : Command) (result : Result Reply SharedError) : Type 0 where
+-- a call in one turn: it takes the whole history, which goes on from what the pass had seen, and leaves a legal one
+pub record Asks (old new : Known) (user : User) (moment : ℕ) (command : Command) (result : Result Reply SharedError) : Type 0 where
   pub opening : Opening
   pub from : old.opening ≡ Some opening
   pub taken : List Entry
@@ -65,3 +67,35 @@ pub record Calls (old new : Known) (user : User) (moment : ℕ) (command : Comma
   pub answers : Answers (seen old taken) new user moment command result
   pub covered : IsCovered old.shown (settled_of taken) result
   pub history : IsHistory opening new.front
+
+-- behind each of these steps of a pack a text was left to copy
+abbrev pub AreLeft : List Refusal → Type 0
+AreLeft [] = Unit {0}
+AreLeft (refusal.Gap shown held ∷ steps) = ⊥
+AreLeft (refusal.Spent ∷ steps) = ⊥
+AreLeft (refusal.Stepped None ∷ steps) = ⊥
+AreLeft (refusal.Stepped (Some bytes) ∷ steps) = AreLeft steps
+
+-- these steps were the last: behind one of so many none was left; or so many were made
+abbrev pub AreLast : ℕ → List Refusal → Type 0
+AreLast most steps = ((before : List Refusal) × AreLeft before × (length before < most) × (steps ≡ before ++ refusal.Stepped None ∷ [])) ⊎ (AreLeft steps × (length steps ≡ most))
+
+-- all steps of a pack: until no text was left, or as many as the texts at the first one may want
+abbrev pub AreSteps : List Refusal → Type 0
+AreSteps [] = ⊥
+AreSteps (refusal.Gap shown held ∷ steps) = ⊥
+AreSteps (refusal.Spent ∷ steps) = ⊥
+AreSteps (refusal.Stepped None ∷ steps) = steps ≡ []
+AreSteps (refusal.Stepped (Some bytes) ∷ steps) = AreLast (2 * (bytes / MOST_TEXT_BYTES) + 1) steps
+
+-- the turns before the last one: a pack that is done has made all its steps, one that is not at least a beginning, and no other command has any
+abbrev pub HasSteps : Command → List Refusal → Result Reply SharedError → Type 0
+HasSteps Pack steps (Ok reply) = AreSteps steps
+HasSteps Pack steps (Err error) = AreSteps steps ⊎ AreLeft steps
+HasSteps _ steps result = steps ≡ []
+
+-- a call: steps in turns of their own, where it packs, and then the turn in which it is asked or was stopped
+pub record Calls (old new : Known) (user : User) (moment : ℕ) (command : Command) (result : Result Reply SharedError) : Type 0 where
+  pub steps : List Refusal
+  pub stepped : HasSteps command steps result
+  pub asks : Asks (stepping old steps) new user moment command result

@@ -2,7 +2,7 @@
 use Rattle.std.specs.Prelude.{Bool, false, List, [], ◌∷◌, IsSome, filter_map, is_some, unwrap_or, if◌then◌else◌}
 use Rattle.jb_model.specs.History.{AllowsEach, AreNumbered, Rises, faults_of, standing_after}
 use Rattle.jb_model.specs.Standing.{Standing, Settled, InDoubt}
-use Rattle.jb_model.specs.State.{AreaState, state_of}
+use Rattle.jb_state.specs.State.{AreaState, state_of}
 use Rattle.jb_model.specs.declared.entry.Entry.{Entry}
 use Rattle.jb_shared.specs.declared.opening.Opening.{Opening}
 

@@ -9,7 +9,7 @@ use Rattle.jb_index.specs.Edit.{absorbed}
 use Rattle.jb_index.specs.Index.{AreaIndex, index_of}
 use Rattle.jb_index.specs.declared.op.OpEdit.{OpEdit}
 use Rattle.jb_model.specs.Standing.{InDoubt}
-use Rattle.jb_model.specs.State.{AreaState, state_of}
+use Rattle.jb_state.specs.State.{AreaState, state_of}
 use Rattle.jb_model.specs.Step.{step}
 use Rattle.jb_model.specs.declared.command.Command.{Command}
 use Rattle.jb_model.specs.declared.entry.Entry.{Entry}

@@ -2,9 +2,9 @@
 use Rattle.std.specs.Prelude.{◌≡◌, true, Some, Result, Ok, Err}
 use Rattle.jb_index.specs.Index.{AreaIndex, index_of}
 use Rattle.jb_model.specs.Standing.{is_settled}
-use Rattle.jb_model.specs.declared.look.Answer.{Answer}
-use Rattle.jb_model.specs.declared.look.LookError.{LookError}
-use Rattle.jb_model.specs.declared.look.LookError.TheVariants.{Barred, OutOfMemory}
+use Rattle.jb_state.specs.declared.look.Answer.{Answer}
+use Rattle.jb_state.specs.declared.look.LookError.{LookError}
+use Rattle.jb_state.specs.declared.look.LookError.TheVariants.{Barred, OutOfMemory}
 use Rattle.jb_turn.specs.Rows.{Begins}
 use Rattle.jb_shared.specs.Histories.{IsHistory, Tells, leads_to, settled_of, state_at}
 use Rattle.jb_shared.specs.Passes.{Known, looking, turned_away}

@@ -12,7 +12,7 @@ use Rattle.jb_shared.specs.declared.opening.Opening.{Opening}
 use Rattle.jb_shared.specs.declared.refusal.Refusal.{Refusal}
 
 -- what is known of a node: its number, how the area stood when it was shared, `front`, the beginning of the history that its calls
--- have seen, `mine`, its calls there, `refused`, its refusals that leave no entry, in order, `shown`, the entries that its looks have
+-- have seen, `mine`, its calls there, `refused`, its refusals and the steps of its packs, which leave no entry, in order, `shown`, the entries that its looks have
 -- shown, `looks`, how many entries each look and count showed, in order, and how often a look or a count was not let in
 pub record Known : Type 0 where
   pub node : ℕ
@@ -45,6 +45,11 @@ seen known taken = record known { front = taken }
 -- what is known once a call was refused so
 abbrev pub refusing : Known → Refusal → Known
 refusing known refusal = record known { refused = known.refused ++ refusal ∷ [] }
+
+-- what is known once turns ended so, one behind another
+abbrev pub stepping : Known → List Refusal → Known
+stepping known [] = known
+stepping known (step ∷ steps) = stepping (refusing known step) steps
 
 -- what is known once a look showed these entries
 abbrev pub looking : Known → List Entry → Known

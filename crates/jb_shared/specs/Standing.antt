@@ -7,10 +7,10 @@ use Rattle.jb_disk.specs.Device.{Device}
 use Rattle.jb_disk.specs.declared.file.FileId.TheVariants.{Jdt}
 use Rattle.jb_model.specs.History.{last_faults}
 use Rattle.jb_model.specs.Standing.{Standing, Settled, InDoubt, StandsWithin, is_settled}
-use Rattle.jb_model.specs.State.{AreaState, state_of}
+use Rattle.jb_state.specs.State.{AreaState, state_of}
 use Rattle.jb_model.specs.declared.entry.Entry.{Entry}
 use Rattle.jb_model.specs.declared.entry.Entry.TheVariants.{Called, Reopened}
-use Rattle.jb_model.specs.declared.loaded.Loaded.{Loaded}
+use Rattle.jb_state.specs.declared.loaded.Loaded.{Loaded}
 use Rattle.jb_shared.specs.Histories.{IsHistory, Tells, leads_to, stopped_last}
 use Rattle.jb_shared.specs.declared.opening.Opening.{Opening}
 

@@ -6,7 +6,7 @@ ghost use Rattle.jb_turn.specs.Rows.{StandsFrom};
 ghost use Rattle.jb_turn.specs.Seats.{front, id_of, opening, resting_row, resting_turn, row_of, Holds};
 ghost use Rattle.jb_turn.specs.Steps.{given};
 ghost use Rattle.jb_shared.specs.Areas.{IsOf};
-ghost use Rattle.jb_shared.specs.Calls.{Calls};
+ghost use Rattle.jb_shared.specs.Calls.{Asks, Calls};
 ghost use Rattle.jb_shared.specs.Inside.{known_in};
 ghost use Rattle.jb_shared.specs.InTurn.{IsToldOf};
 ghost use Rattle.jb_shared.specs.Keeping.{IsKept};
@@ -83,7 +83,7 @@ impl<D: Disk> SharedArea<D> {
         requires name { length user.now.name ≤ MOST_NAME_BYTES }
         ensures ours { resting_turn result.0.seat ≡ id_of self.now.turn }
         ensures mark { (resting_row result.0.seat).opening ≡ (resting_row parts.seat).opening }
-        ensures calls { Calls (known_in parts) (known_in result.0) user.now moment command.now result.1 }
+        ensures asks { Asks (known_in parts) (known_in result.0) user.now moment command.now result.1 }
     {
         let Entered {
             mut seat,

@@ -31,10 +31,13 @@ fn end_doubt<D: Disk, R: Wait>(
     command: &Command,
 ) -> (Held<ShownArea<D>>, Result<(), SharedError>)
     requires out { IsOut (IsKeptInDoubt D.device) turn.now seat.old held × (held.count < MOST_ENTRIES) }
-    ensures ok { OnOk result.1 (IsOut (IsKeptSettled D.device) turn.now seat.new result.0 × (result.0.count ≤ MOST_ENTRIES)) }
+    ensures ok { OnOk result.1 (IsOut (IsKeptSettled D.device) turn.now seat.new result.0
+        × (result.0.count ≤ MOST_ENTRIES)) }
     ensures out { OnErr result.1 (IsOut (IsKept D.device) turn.now seat.new result.0) }
-    ensures ended { OnOk result.1 ((stands : Bool) × (row_of seat.new ≡ ended (row_of seat.old) (Some stands))) }
-    ensures err { IfErr result.1 (λ error. (error ≡ SharedError.StoreFault) × Stops (row_of seat.old) (row_of seat.new) user.now moment command.now) }
+    ensures ended { OnOk result.1 ((stands : Bool)
+        × (row_of seat.new ≡ ended (row_of seat.old) (Some stands))) }
+    ensures err { IfErr result.1 (λ error. (error ≡ SharedError.StoreFault)
+        × Stops (row_of seat.old) (row_of seat.new) user.now moment command.now) }
 {
     match held.state.area.reopen() {
         Ok(stands) => {
@@ -60,10 +63,13 @@ fn settle<D: Disk, R: Wait>(
     command: &Command,
 ) -> (Held<ShownArea<D>>, Result<(), SharedError>)
     requires out { IsOut (IsKept D.device) turn.now seat.old held × (held.count < MOST_ENTRIES) }
-    ensures ok { OnOk result.1 (IsOut (IsKeptSettled D.device) turn.now seat.new result.0 × (result.0.count ≤ MOST_ENTRIES)) }
+    ensures ok { OnOk result.1 (IsOut (IsKeptSettled D.device) turn.now seat.new result.0
+        × (result.0.count ≤ MOST_ENTRIES)) }
     ensures out { OnErr result.1 (IsOut (IsKept D.device) turn.now seat.new result.0) }
-    ensures ended { OnOk result.1 ((stands : Option Bool) × (row_of seat.new ≡ ended (row_of seat.old) stands)) }
-    ensures err { IfErr result.1 (λ error. (error ≡ SharedError.StoreFault) × Stops (row_of seat.old) (row_of seat.new) user.now moment command.now) }
+    ensures ended { OnOk result.1 ((stands : Option Bool)
+        × (row_of seat.new ≡ ended (row_of seat.old) stands)) }
+    ensures err { IfErr result.1 (λ error. (error ≡ SharedError.StoreFault)
+        × Stops (row_of seat.old) (row_of seat.new) user.now moment command.now) }
 {
     if held.state.area.in_doubt() {
         end_doubt(rt, alloc, turn, seat, held, user, moment, command)

@@ -56,7 +56,8 @@ fn longest_shown(origin: &Front<Entry>, passes: &[Pass]) -> Front<Entry>
 fn end<D: Disk, R: Wait>(rt: &R, state: ShownArea<D>, longest: &Front<Entry>) -> OpenArea<D>
     requires pair { IsIn (publication_of state.shower).mark longest.now }
     ensures area { result ≡ state.area }
-    ensures begins { IsPrefix (list_of longest.now) (publication_of state.shower).list ⊎ IsPrefix (publication_of state.shower).list (list_of longest.now) }
+    ensures begins { IsPrefix (list_of longest.now) (publication_of state.shower).list
+        ⊎ IsPrefix (publication_of state.shower).list (list_of longest.now) }
 {
     let ShownArea {
         area,

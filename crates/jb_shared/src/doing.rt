@@ -2,6 +2,7 @@
 ghost use Rattle.std.specs.Prelude.{◌≤◌, length, OnErr, OnOk};
 ghost use Rattle.jb_area.specs.Area.{HasBegun};
 ghost use Rattle.jb_area.specs.Calls.{EndsCall, HasRest, MeetsCall};
+ghost use Rattle.jb_decide.specs.Errors.{is_area_fault};
 ghost use Rattle.jb_limits.specs.declared.limits.TheConstants.{MOST_NAME_BYTES};
 ghost use Rattle.jb_shared.specs.Keeping.{Follows, HasChange};
 
@@ -16,7 +17,7 @@ use std::alloc::Global;
 /// Finishes the call that is begun.
 fn finish<D: Disk>(area: &mut OpenArea<D>) -> Result<Reply, AreaError>
     requires begun { HasBegun D.device area.old }
-    ensures { EndsCall D.device area.old area.new result }
+    ensures { EndsCall D.device is_area_fault area.old area.new result }
 {
     match area.finish() {
         Ok(reply) => Ok(reply),
@@ -38,7 +39,8 @@ pub(crate) fn run<D: Disk>(
     requires name { length user.now.name ≤ MOST_NAME_BYTES }
     ensures meets { MeetsCall D.device area.old area.new user.now moment command.now result }
     ensures done { OnOk result (Follows D.device area.old user.now moment command.now change.new.op) }
-    ensures doubted { OnErr result (HasChange D.device area.new → Follows D.device area.old user.now moment command.now change.new.op) }
+    ensures doubted { OnErr result (HasChange D.device area.new
+        → Follows D.device area.old user.now moment command.now change.new.op) }
 {
     match area.begin(alloc, user, moment, command) {
         Ok(()) => {

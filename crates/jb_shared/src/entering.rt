@@ -1,23 +1,27 @@
 //! A pass takes the turn, and gives it back.
-ghost use Rattle.std.specs.Prelude.{◌≡◌, List};
+ghost use Rattle.std.specs.Prelude.{◌≡◌, List, Some};
 ghost use Rattle.jb_model.specs.declared.entry.Entry.{Entry};
 ghost use Rattle.jb_publish.specs.Accounts.{account_of, told_with};
 ghost use Rattle.jb_turn.specs.Rows.{Begins, StandsFrom};
 ghost use Rattle.jb_turn.specs.Seats.{front, id_of, opening, resting_row, resting_turn, row_of, Holds};
-ghost use Rattle.jb_turn.specs.Steps.{seen};
+ghost use Rattle.jb_turn.specs.Steps.{given, seen};
 ghost use Rattle.jb_shared.specs.Histories.{settled_of};
 ghost use Rattle.jb_shared.specs.InTurn.{IsOut, IsToldOf};
 ghost use Rattle.jb_shared.specs.Keeping.{IsKept};
+ghost use Rattle.jb_shared.specs.Stepping.{LeavesAs};
+ghost use Rattle.jb_shared.specs.declared.refusal.Refusal.TheVariants.{Stepped};
 
 use crate::SharedArea;
-use crate::noting::give_plain;
+use crate::noting::{give_plain, give_stepped};
 use crate::parts::Parts;
 use crate::published::IndexReader;
 use crate::shared::{AreaSeat, AreaTurn};
 use crate::showing::inform;
 use crate::shown::ShownArea;
+use jb_base::User;
 use jb_disk::Disk;
 use jb_turn::Held;
+use std::marker::Brand;
 use std::sync::Wait;
 
 /// The parts of a pass whose turn has come, with the area that is out with its seat.
@@ -39,7 +43,8 @@ impl<D: Disk> SharedArea<D> {
 
         // The end that looks was told all that is settled of it, and all else of it stays.
         ensures told { IsToldOf (row_of result.seat) (account_of result.reader) }
-        ensures account { (list : List Entry) × (account_of result.reader ≡ told_with (account_of parts.reader) list) }
+        ensures account { (list : List Entry)
+            × (account_of result.reader ≡ told_with (account_of parts.reader) list) }
     {
         let Parts { seat, mut reader } = parts;
         let mut seat: AreaSeat<D> = seat.wake();
@@ -84,4 +89,47 @@ pub(crate) fn leave<D: Disk>(
 {
     inform(&held.state.shower, &mut reader);
     end_plain(turn, seat, held, reader)
+}
+
+/// Gives the area back behind a step of a pack of this user.
+fn end_stepped<D: Disk>(
+    turn: &AreaTurn<D>,
+    mut seat: AreaSeat<D>,
+    held: Held<ShownArea<D>>,
+    reader: IndexReader,
+    user: &User,
+    left: Option<u64>,
+) -> Parts
+    requires seat { Holds turn.now seat held.count }
+    requires stands { StandsFrom (IsKept D.device) (opening seat) held.state (front seat) }
+    requires told { IsToldOf (row_of seat) (account_of reader) }
+    requires left { LeavesAs D.device held (account_of reader).shown user.now left }
+    ensures here { resting_turn result.seat ≡ id_of turn.now }
+    ensures row { resting_row result.seat ≡ given (row_of seat) (Some (Stepped left)) }
+    ensures account { account_of result.reader ≡ account_of reader }
+{
+    give_stepped::<D, Brand>(turn, &mut seat, held, &reader, user, left);
+    let seat = seat.rest();
+    Parts { seat, reader }
+}
+
+/// The same as [`leave`], behind a step of a pack of this user that left so much.
+pub(crate) fn leave_stepped<D: Disk>(
+    turn: &AreaTurn<D>,
+    seat: AreaSeat<D>,
+    held: Held<ShownArea<D>>,
+    mut reader: IndexReader,
+    user: &User,
+    left: Option<u64>,
+) -> Parts
+    requires out { IsOut (IsKept D.device) turn.now seat held }
+    requires mark { (account_of reader).mark ≡ opening seat }
+    requires told { Begins (account_of reader).told (settled_of (front seat)) }
+    requires left { LeavesAs D.device held (account_of reader).shown user.now left }
+    ensures here { resting_turn result.seat ≡ id_of turn.now }
+    ensures row { resting_row result.seat ≡ given (row_of seat) (Some (Stepped left)) }
+    ensures account { (list : List Entry) × (account_of result.reader ≡ told_with (account_of reader) list) }
+{
+    inform(&held.state.shower, &mut reader);
+    end_stepped(turn, seat, held, reader, user, left)
 }

@@ -10,13 +10,14 @@ use crate::parts::Parts;
 use crate::{Pass, SharedArea};
 use jb_base::{OutOfMemory, User};
 use jb_disk::Disk;
-use jb_model::{Answer, Barred, LookError, Question};
+use jb_state::{Answer, Barred, LookError, Question};
 
 /// A look with the parts of a pass.
 fn look(parts: Parts, user: &User, question: &Question) -> (Parts, Result<Answer, LookError>)
     ensures seat { result.0.seat ≡ parts.seat }
     ensures looks { LooksAs (known_in parts) (known_in result.0) result.1 }
-    ensures answer { IfOk result.1 (λ answer. OfShown (known_in result.0) (λ index. answer ≡ answer_to index user.now question.now)) }
+    ensures answer { IfOk result.1 (λ answer.
+        OfShown (known_in result.0) (λ index. answer ≡ answer_to index user.now question.now)) }
 {
     let Parts { seat, reader } = parts;
     match reader.look() {
@@ -37,7 +38,8 @@ fn count(parts: Parts, user: &User) -> (Parts, Result<u32, Barred>)
     ensures seat { result.0.seat ≡ parts.seat }
     ensures looks { OnOk result.1 (Looks (known_in parts) (known_in result.0)) }
     ensures barred { OnErr result.1 (known_in result.0 ≡ turned_away (known_in parts)) }
-    ensures count { IfOk result.1 (λ count. OfShown (known_in result.0) (λ index. count ≡ length (unread_to index user.now))) }
+    ensures count { IfOk result.1 (λ count.
+        OfShown (known_in result.0) (λ index. count ≡ length (unread_to index user.now))) }
 {
     let Parts { seat, reader } = parts;
     match reader.look() {
@@ -64,7 +66,8 @@ impl<D: Disk> SharedArea<D> {
         requires ours { IsOf self.now pass.old }
         ensures ours { IsOf self.now pass.new }
         ensures looks { LooksAs pass.old.known pass.new.known result }
-        ensures answer { IfOk result (λ answer. OfShown pass.new.known (λ index. answer ≡ answer_to index user.now question.now)) }
+        ensures answer { IfOk result (λ answer.
+            OfShown pass.new.known (λ index. answer ≡ answer_to index user.now question.now)) }
     {
         let Some(parts) = pass.parts.take() else {
             unreachable!()
@@ -82,7 +85,8 @@ impl<D: Disk> SharedArea<D> {
         ensures ours { IsOf self.now pass.new }
         ensures looks { OnOk result (Looks pass.old.known pass.new.known) }
         ensures barred { OnErr result (pass.new.known ≡ turned_away pass.old.known) }
-        ensures count { IfOk result (λ count. OfShown pass.new.known (λ index. count ≡ length (unread_to index user.now))) }
+        ensures count { IfOk result (λ count.
+            OfShown pass.new.known (λ index. count ≡ length (unread_to index user.now))) }
     {
         let Some(parts) = pass.parts.take() else {
             unreachable!()

@@ -3,7 +3,7 @@ ghost use Rattle.std.specs.Prelude.{◌≡◌, ◌<◌, ◌≤◌, ℕ, List, So
 ghost use Rattle.jb_area.specs.Area.{loaded_of, rules_of};
 ghost use Rattle.jb_area.specs.Calls.{HasRest};
 ghost use Rattle.jb_index.specs.Index.{index_of};
-ghost use Rattle.jb_model.specs.State.{state_of};
+ghost use Rattle.jb_state.specs.State.{state_of};
 ghost use Rattle.jb_publish.specs.Accounts.{IsFresh};
 ghost use Rattle.jb_publish.specs.Marks.{opening_at};
 ghost use Rattle.jb_publish.specs.Publications.{publication_of};
@@ -35,7 +35,8 @@ use std::sync::Wait;
 /// The index of the area, twice.
 fn indexes<D: Disk>(alloc: Global, area: &OpenArea<D>) -> Result<(Index, Index), OutOfMemory>
     requires rest { HasRest D.device area.now }
-    ensures first { IfOk result (λ both. (texts : List ℕ) → both.0 ≡ index_of (rules_of area.now) (state_of texts (loaded_of area.now))) }
+    ensures first { IfOk result (λ both. (texts : List ℕ)
+        → both.0 ≡ index_of (rules_of area.now) (state_of texts (loaded_of area.now))) }
     ensures alike { IfOk result (λ both. both.0 ≡ both.1) }
 {
     let parents = parents_of(alloc, area.loaded())?;
@@ -56,14 +57,17 @@ fn ends<D: Disk, J: NamesOpening<Opening>, R: Wait>(
     requires names { J.opening ≡ Some (opening_of D.device area.now) }
     requires rest { HasRest D.device area.now }
     requires nodes { (0 < nodes) × (nodes ≤ 33) }
-    requires first { (texts : List ℕ) → first ≡ index_of (rules_of area.now) (state_of texts (loaded_of area.now)) }
+    requires first { (texts : List ℕ) → first
+        ≡ index_of (rules_of area.now) (state_of texts (loaded_of area.now)) }
     requires alike { first ≡ second }
     ensures list { IfOk result (λ r. (publication_of r.0).list ≡ []) }
     ensures queued { IfOk result (λ r. (publication_of r.0).queued ≡ []) }
     ensures value { IfOk result (λ r. (publication_of r.0).value ≡ first) }
-    ensures opening { IfOk result (λ r. opening_at (publication_of r.0).mark ≡ Some (opening_of D.device area.now)) }
+    ensures opening { IfOk result (λ r. opening_at (publication_of r.0).mark
+        ≡ Some (opening_of D.device area.now)) }
     ensures count { IfOk result (λ r. length r.1.items ≡ nodes) }
-    ensures fresh { IfOk result (λ r. (k : ℕ) (s : _) → slice_get r.1.items k ≡ Some s → IsFresh (publication_of r.0).mark s) }
+    ensures fresh { IfOk result (λ r. (k : ℕ) (s : _) → slice_get r.1.items k ≡ Some s
+        → IsFresh (publication_of r.0).mark s) }
 {
     pair::<Index, IndexChange, Opening, Entry, J, R>(rt, alloc, first, second, nodes)
 }
@@ -77,10 +81,12 @@ fn join<D: Disk>(
 ) -> Vec<Pass>
     requires resting { All (Rests turn.now) seats.items }
     requires fresh { (mark : Mark Opening) × AreNew mark seats.items × AreFresh mark readers.items }
-    requires room { (length readers.items ≡ length seats.items) × (passes.items ≡ []) × (length seats.items ≤ vec_capacity passes) }
+    requires room { (length readers.items ≡ length seats.items) × (passes.items ≡ [])
+        × (length seats.items ≤ vec_capacity passes) }
     ensures count { length result.items ≡ length seats.items }
     ensures fresh { (mark : Mark Opening) → AreNew mark seats.items → AreFresh mark readers.items
-        → (k : ℕ) (pass : PassView) → slice_get result.items k ≡ Some pass → pass ≡ fresh_pass (id_of turn.now) mark k }
+        → (k : ℕ) (pass : PassView) → slice_get result.items k ≡ Some pass
+        → pass ≡ fresh_pass (id_of turn.now) mark k }
 {
     while !seats.is_empty() {
         let seat = seats.remove(0).rest();

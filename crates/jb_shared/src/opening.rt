@@ -1,7 +1,7 @@
 //! What the history of a shared area began from.
 
 use jb_base::{AreaRules, Bytes};
-use jb_model::Loaded;
+use jb_state::Loaded;
 
 /// How an area stood when it was shared: its rules, what was loaded, its texts where the disk tells its files, and how often
 /// its device had failed. No value of it is made: it exists in proofs alone.

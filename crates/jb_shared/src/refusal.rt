@@ -1,9 +1,12 @@
-//! Refusals that leave no entry.
+//! What a turn leaves that is no entry.
 
-/// What a pass was answered that leaves no entry in the history. It exists in proofs alone.
+/// How a turn of a pass ended that left no entry in the history. It exists in proofs alone.
 pub enum Refusal {
     /// The pass was shown more entries than are settled of the history.
     Gap { shown: u64, held: u64 },
     /// The history has as many entries as it may have.
     Spent,
+    /// It was a step of a pack: so many bytes the texts of the area have then, where one is left to copy; none, where none is left,
+    /// or none may be copied.
+    Stepped { left: Option<u64> },
 }

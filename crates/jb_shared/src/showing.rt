@@ -37,8 +37,10 @@ fn show_front<D: Disk, J: NamesList<Entry>, R: Wait>(
     count: u64,
 ) -> IndexShower
     requires names { J.items ≡ front seat.now }
-    requires longer { IsPrefix (publication_of shower).list (front seat.now) × (count ≡ length (front seat.now)) }
-    requires stands { StandsFrom IsShownAs (opening_at (publication_of shower).mark) (fold changed (publication_of shower).value (publication_of shower).queued) (front seat.now) }
+    requires longer { IsPrefix (publication_of shower).list (front seat.now)
+        × (count ≡ length (front seat.now)) }
+    requires stands { StandsFrom IsShownAs (opening_at (publication_of shower).mark) (fold changed
+        (publication_of shower).value (publication_of shower).queued) (front seat.now) }
     ensures { publication_of result ≡ shown_with changed (publication_of shower) (front seat.now) }
 {
     shower.show::<J, R>(rt, count)

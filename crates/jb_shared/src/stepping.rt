@@ -1,18 +1,21 @@
 //! A pack by steps: its texts are copied in turns of their own, and the calls of others go in between.
-ghost use Rattle.std.specs.Prelude.{◌≡◌, ◌<◌, ◌≤◌, ◌+◌, ◌*◌, ◌/◌, IfOk, IsTrue, is_some, length};
+ghost use Rattle.std.specs.Prelude.{◌≡◌, ◌<◌, ◌≤◌, ◌+◌, ◌*◌, ◌/◌, ◌^◌, IfOk, IfSome, IsTrue, List, is_some, length};
 ghost use mathlib.Core.List.{IsPrefix};
-ghost use Rattle.jb_area.specs.Area.{HasDoubt};
+ghost use Rattle.jb_area.specs.Area.{HasDoubt, loaded_of};
 ghost use Rattle.jb_area.specs.Calls.{HasRest};
 ghost use Rattle.jb_limits.specs.declared.limits.TheConstants.{MOST_ENTRIES, MOST_TEXT_BYTES};
+ghost use Rattle.jb_model.specs.declared.entry.Entry.{Entry};
 ghost use Rattle.jb_publish.specs.Accounts.{account_of};
 ghost use Rattle.jb_publish.specs.Publications.{publication_of};
+ghost use Rattle.jb_state.specs.Packed.{slot_text_size, texts_size};
 ghost use Rattle.jb_turn.specs.Seats.{id_of, resting_row, resting_turn, row_of};
 ghost use Rattle.jb_shared.specs.InTurn.{IsOut};
 ghost use Rattle.jb_shared.specs.Inside.{known_in};
 ghost use Rattle.jb_shared.specs.Keeping.{IsKept, IsKeptSettled};
-ghost use Rattle.jb_shared.specs.Stepping.{CopiesOnePart, RunsStep, StepsAs};
+ghost use Rattle.jb_shared.specs.Calls.{AreLast, AreSteps};
+ghost use Rattle.jb_shared.specs.Stepping.{CopiesOnePart, LeavesAs, RunsStep, StepsAs, StepsOn};
 
-use crate::entering::{Entered, leave};
+use crate::entering::{Entered, leave, leave_stepped};
 use crate::noting::note_in_doubt;
 use crate::parts::Parts;
 use crate::published::IndexReader;
@@ -22,26 +25,41 @@ use crate::{SharedArea, SharedError};
 use jb_area::{AreaError, OpenArea};
 use jb_base::{MOST_ENTRIES, MOST_TEXT_BYTES, User};
 use jb_disk::Disk;
-use jb_model::{Command, LoadedSlot};
+use jb_model::Command;
+use jb_state::LoadedSlot;
 use jb_turn::Held;
 use std::alloc::Global;
 use std::marker::Brand;
 use std::sync::Wait;
 
-/// How many bytes the texts of the live messages have. The sum stops at the last value of a `u64`, which no area comes near.
-fn text_bytes(slots: &[LoadedSlot]) -> u64 {
+/// How many bytes the text of a live message has; none where no live one stands.
+fn text_len(slot: &LoadedSlot) -> u32
+    ensures { result ≡ slot_text_size slot.now }
+{
+    match slot {
+        LoadedSlot::Empty => 0,
+        LoadedSlot::Killed { .. } => 0,
+        LoadedSlot::Live(message) => message.text_len,
+    }
+}
+
+/// How many bytes the texts of the live messages have.
+fn text_bytes(slots: &[LoadedSlot]) -> u64
+    requires { texts_size slots.now < 2 ^ 64 }
+    ensures { result ≡ texts_size slots.now }
+{
     let mut bytes: u64 = 0;
     for slot in slots {
-        if let LoadedSlot::Live(message) = slot {
-            bytes = bytes.saturating_add(message.text_len as u64);
-        }
+        bytes += text_len(slot) as u64;
     }
     bytes
 }
 
 /// How many bytes the texts of the area have, where one of them is left to copy.
 fn bytes_where_left<D: Disk>(area: &OpenArea<D>, more: bool) -> Option<u64>
-    ensures { is_some result ≡ more }
+    requires { texts_size (loaded_of area.now).slots < 2 ^ 64 }
+    ensures some { is_some result ≡ more }
+    ensures bytes { IfSome result (λ bytes. bytes ≡ texts_size (loaded_of area.now).slots) }
 {
     if more {
         Some(text_bytes(area.loaded().slots.as_slice()))
@@ -50,12 +68,12 @@ fn bytes_where_left<D: Disk>(area: &OpenArea<D>, more: bool) -> Option<u64>
     }
 }
 
-/// In how many turns texts of so many bytes are copied where nobody posts meanwhile. Two turns copy more than 1,048,576 bytes together,
-/// since the second begins with the text that had no place in the first.
-fn most_turns(bytes: u64) -> u64
-    ensures { result ≡ 2 * (bytes / MOST_TEXT_BYTES) + 2 }
+/// In how many turns behind the first one texts of so many bytes are copied where nobody posts meanwhile. Two turns copy more than
+/// 1,048,576 bytes together, since the second begins with the text that had no place in the first.
+fn turns_behind(bytes: u64) -> u64
+    ensures { result ≡ 2 * (bytes / MOST_TEXT_BYTES) + 1 }
 {
-    2 * (bytes / MOST_TEXT_BYTES as u64) + 2
+    2 * (bytes / MOST_TEXT_BYTES as u64) + 1
 }
 
 /// Whether texts may be copied in this turn. Where the history is spent, the area in doubt or the pass was shown more than is
@@ -64,11 +82,13 @@ fn may_step<D: Disk>(held: &Held<ShownArea<D>>, reader: &IndexReader) -> bool
     requires mark { (account_of reader.now).mark ≡ (publication_of held.now.state.shower).mark }
     ensures room { IsTrue result → held.now.count < MOST_ENTRIES }
     ensures settled { IsTrue result → HasDoubt D.device held.now.state.area → ⊥ }
-    ensures covers { IsTrue result → IsPrefix (account_of reader.now).shown (publication_of held.now.state.shower).list }
+    ensures covers { IsTrue result → IsPrefix (account_of reader.now).shown
+        (publication_of held.now.state.shower).list }
 
     // Where none of these bars it, it may.
     ensures may { held.now.count < MOST_ENTRIES → HasRest D.device held.now.state.area
-        → length (account_of reader.now).shown ≤ length (publication_of held.now.state.shower).list → IsTrue result }
+        → length (account_of reader.now).shown ≤ length (publication_of held.now.state.shower).list
+        → IsTrue result }
 {
     if held.count >= MOST_ENTRIES {
         return false;
@@ -92,7 +112,12 @@ fn copy_part<D: Disk>(
     requires out { IsOut (IsKeptSettled D.device) turn.now seat.old held × (held.count < MOST_ENTRIES) }
     ensures out { IsOut (IsKept D.device) turn.now seat.new result.0 }
     ensures steps { RunsStep (row_of seat.old) (row_of seat.new) user.now moment result.1 }
-    ensures copied { IfOk result.1 (λ left. CopiesOnePart held.state.area result.0.state.area (is_some left)) }
+    ensures copied { IfOk result.1 (λ left.
+        CopiesOnePart held.state.area result.0.state.area (is_some left)) }
+
+    // It is answered what is left, whatever the pass was shown.
+    ensures left { IfOk result.1 (λ left. (list : List Entry)
+        → LeavesAs D.device result.0 list user.now left) }
 {
     let mut held = held;
     match held.state.area.pack_some(alloc, user, MOST_TEXT_BYTES) {
@@ -130,10 +155,19 @@ impl<D: Disk> SharedArea<D> {
             reader,
         } = self.enter(rt, parts);
         if !may_step(&held, &reader) {
-            return (leave(&self.turn, seat, held, reader), Ok(None));
+            return (
+                leave_stepped(&self.turn, seat, held, reader, user, None),
+                Ok(None),
+            );
         }
         let (held, left) = copy_part(alloc, &self.turn, &mut seat, held, user, moment);
-        (leave(&self.turn, seat, held, reader), left)
+        match left {
+            Ok(left) => (
+                leave_stepped(&self.turn, seat, held, reader, user, left),
+                Ok(left),
+            ),
+            Err(error) => (leave(&self.turn, seat, held, reader), Err(error)),
+        }
     }
 
     /// The steps of a pack behind the first one, so many at most.
@@ -149,15 +183,17 @@ impl<D: Disk> SharedArea<D> {
         requires ours { resting_turn parts.seat ≡ id_of self.now.turn }
         ensures ours { resting_turn result.0.seat ≡ id_of self.now.turn }
         ensures mark { (resting_row result.0.seat).opening ≡ (resting_row parts.seat).opening }
-        ensures steps { StepsAs (known_in parts) (known_in result.0) user.now moment result.1 }
+        ensures steps { StepsOn (AreLast most) (known_in parts) (known_in result.0) user.now moment result.1 }
     {
         let mut parts = parts;
         for _ in 0..most {
             let (next, left) = self.step(rt, alloc, parts, user, moment);
             parts = next;
             match left {
-                Ok(Some(_bytes)) => {}
-                Ok(None) => return (parts, Ok(())),
+                Ok(more) => match more {
+                    Some(_bytes) => {}
+                    None => return (parts, Ok(())),
+                },
                 Err(error) => return (parts, Err(error)),
             }
         }
@@ -177,15 +213,17 @@ impl<D: Disk> SharedArea<D> {
         requires ours { resting_turn parts.seat ≡ id_of self.now.turn }
         ensures ours { resting_turn result.0.seat ≡ id_of self.now.turn }
         ensures mark { (resting_row result.0.seat).opening ≡ (resting_row parts.seat).opening }
-        ensures steps { StepsAs (known_in parts) (known_in result.0) user.now moment result.1 }
+        ensures steps { StepsOn AreSteps (known_in parts) (known_in result.0) user.now moment result.1 }
     {
         let (parts, left) = self.step(rt, alloc, parts, user, moment);
         match left {
-            Ok(Some(bytes)) => {
-                let most = most_turns(bytes) - 1;
-                self.step_on(rt, alloc, parts, user, moment, most)
-            }
-            Ok(None) => (parts, Ok(())),
+            Ok(more) => match more {
+                Some(bytes) => {
+                    let most = turns_behind(bytes);
+                    self.step_on(rt, alloc, parts, user, moment, most)
+                }
+                None => (parts, Ok(())),
+            },
             Err(error) => (parts, Err(error)),
         }
     }

@@ -31,7 +31,8 @@ pub fn decode(alloc: Global, bytes: &[u8]) -> Result<Subfields, SubfieldError>
     ensures cause { IsReading bytes.now result }
 
     // Each list and each place is answered.
-    ensures found { (fields : List Subfield) → IsSubfieldList fields bytes.now → IsUnlessMemory result (Ok fields) }
+    ensures found { (fields : List Subfield) → IsSubfieldList fields bytes.now
+        → IsUnlessMemory result (Ok fields) }
     ensures cut { (at : ℕ) → IsCutAt bytes.now at → IsUnlessMemory result (Err (SubfieldError.Cut at)) }
 
     // Bytes have no two answers.

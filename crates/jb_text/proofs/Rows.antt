@@ -6,7 +6,7 @@ use Rattle.jb_text.specs.Date.{clock_of, date_text, month_and_day, year_and_day}
 use Rattle.jb_base.specs.declared.area.Rule.TheVariants.{A5}
 use Rattle.jb_model.specs.declared.command.Field.TheVariants as field
 use Rattle.jb_model.specs.declared.reply.Reply.TheVariants as reply
-use Rattle.jb_model.specs.declared.look.SharedFault.TheVariants as fault
+use Rattle.jb_state.specs.declared.look.SharedFault.TheVariants as fault
 use Rattle.jb_text.specs.Faults.{fault_text}
 use Rattle.jb_text.specs.Letter.{body_text, heading_text, letter_text, lines_of, pieces_of}
 use Rattle.jb_text.specs.Lines.{area_line_text, figures_text, line_end, listing_text, prompt_text, replying_text, start_text, welcome_text}

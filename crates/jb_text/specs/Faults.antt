@@ -1,7 +1,7 @@
 -- What is said where a shared area has no reply.
 use Rattle.std.specs.Prelude.{ℕ, List, ◌++◌, codes, decimal}
-use Rattle.jb_model.specs.declared.look.SharedFault.{SharedFault}
-use Rattle.jb_model.specs.declared.look.SharedFault.TheVariants.{StoreFault, Gap, RunSpent, Barred}
+use Rattle.jb_state.specs.declared.look.SharedFault.{SharedFault}
+use Rattle.jb_state.specs.declared.look.SharedFault.TheVariants.{StoreFault, Gap, RunSpent, Barred}
 use Rattle.jb_text.specs.Replies.{sentence}
 
 -- the line of a fault, without its end

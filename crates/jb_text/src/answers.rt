@@ -5,7 +5,8 @@ ghost use Rattle.jb_text.specs.Replies.{field_name, reply_text, rule_name, sente
 
 use crate::writing::append_number;
 use jb_base::{Bytes, OutOfMemory, Rule};
-use jb_model::{Field, Reply, SharedFault};
+use jb_model::{Field, Reply};
+use jb_state::SharedFault;
 use std::alloc::Global;
 
 /// The name of a rule of an area.
@@ -50,7 +51,8 @@ fn two_numbers(
     between: &[u8],
     second: u64,
 ) -> Result<Bytes, OutOfMemory>
-    ensures { IfOk result (λ text. text ≡ sentence before.now first between.now ++ decimal second ++ codes ".") }
+    ensures { IfOk result (λ text.
+        text ≡ sentence before.now first between.now ++ decimal second ++ codes ".") }
 {
     let mut text = one_number(alloc, before, first, between)?;
     append_number(&mut text, second)?;
@@ -61,7 +63,8 @@ fn two_numbers(
 /// The line of a pack.
 fn packed(alloc: Global, base: u32, live: u32, dropped: u32) -> Result<Bytes, OutOfMemory>
     ensures { IfOk result (λ text. text
-        ≡ sentence (codes "Packed: base ") base (codes ", live ") ++ decimal live ++ codes ", dropped " ++ decimal dropped ++ codes ".") }
+        ≡ sentence (codes "Packed: base ") base
+        (codes ", live ") ++ decimal live ++ codes ", dropped " ++ decimal dropped ++ codes ".") }
 {
     let mut text = one_number(alloc, b"Packed: base ", u64::from(base), b", live ")?;
     append_number(&mut text, u64::from(live))?;

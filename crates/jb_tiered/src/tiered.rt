@@ -100,7 +100,9 @@ impl<T: Copy> Tiered<T> {
     pub fn partition_point<P: FnMut(&T) -> bool>(&self, mut pred: P) -> usize
         requires { P.IsAlwaysCallable pred }
         ensures bound { result ≤ length self.now.items }
-        ensures partitioned { (p : T → Bool) → ComputesKey P.FnMut p pred → IsPartitionedBy p self.now.items → IsPartitionPoint (λ y. p y ≡ true) (λ y. p y ≡ false) self.now.items result }
+        ensures partitioned { (p : T → Bool) → ComputesKey P.FnMut p pred
+            → IsPartitionedBy p self.now.items
+            → IsPartitionPoint (λ y. p y ≡ true) (λ y. p y ≡ false) self.now.items result }
     {
         let mut low = 0;
         let mut high = self.len;

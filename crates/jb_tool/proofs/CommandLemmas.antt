@@ -1,33 +1,35 @@
 -- A command of a tool over an open area: begun, and then done, stopped or dropped.
-use Rattle.std.proofs.Common.{◌≡◌, inl, inr, ℕ, ◌≤◌, List, Option, None, Result, ap, refl, sym, ◌∙◌, subst, arith, Some}
+use Rattle.std.proofs.Common.{◌≡◌, inl, inr, ℕ, List, Option, None, Result, ap, refl, sym, ◌∙◌, subst, arith, Some}
 use Rattle.std.proofs.lemmas.Bool.{false≢true}
-use Rattle.std.specs.Prelude.{IsSome, Ok, Err, is_some}
+use Rattle.std.specs.Prelude.{IsSome, Ok, Err, is_some, Bool, false}
 use Rattle.std.specs.Option.{ForSome}
 use Rattle.jb_area.specs.Area.{IsBegun, IsResting, RestsAt}
 use Rattle.jb_area.specs.Calls.{BeginsCall, HasRest, OnlyReadsOrCopies}
 use Rattle.jb_area.specs.Holds.{Opens, OpensToEither}
 use Rattle.jb_area.specs.declared.area.OpenArea.{OpenArea}
-use Rattle.jb_bytes.specs.Fault.{Rose}
 use Rattle.jb_base.specs.declared.area.AreaRules.{AreaRules}
 use Rattle.jb_limits.specs.declared.limits.TheConstants.{MOST_SLOTS}
 use Rattle.jb_decide.specs.Coming.{Coming}
+use Rattle.jb_decide.specs.Errors.{is_area_fault}
 use Rattle.jb_decide.specs.declared.error.AreaError.{AreaError}
 use Rattle.jb_decide.specs.declared.error.AreaError.TheVariants as failed
-use Rattle.jb_disk.specs.Device.{Device, OnlyReads}
+use Rattle.jb_disk.specs.Device.{CountsFaults, Device, OnlyReads, RoseIf, is_disk_fault}
 use Rattle.jb_disk.specs.Files.{Files}
 use Rattle.jb_disk.proofs.RunLemmas.{runs-then}
 use Rattle.jb_disk.specs.Runs.{IsAllSynced, LeavesOnly}
 use Rattle.jb_image.specs.Stands.{StandsFor}
+use Rattle.jb_journal.specs.declared.stopped.Stopped.{Stopped}
 use Rattle.jb_model.specs.Answered.{Answered}
 use Rattle.jb_model.specs.Standing.{is_refusal}
-use Rattle.jb_model.specs.State.{state_of}
+use Rattle.jb_state.specs.State.{state_of}
 use Rattle.jb_model.specs.Step.{Step}
 use Rattle.jb_model.specs.declared.command.Command.{Command}
-use Rattle.jb_model.specs.declared.loaded.Loaded.{Loaded}
+use Rattle.jb_state.specs.declared.loaded.Loaded.{Loaded}
 use Rattle.jb_model.specs.declared.reply.Reply.{Reply}
 use Rattle.jb_tool.proofs.ChangingLemmas.{either_way, few_resting, holds_stands, leaves_only_weaken, opens_area}
-use Rattle.jb_tool.proofs.Recovering.{rose_later}
+use Rattle.jb_tool.proofs.Recovering.{counts_then}
 use Rattle.jb_tool.specs.Changing.{DoesCommand, HasNoLine, IsStoppedBy, of_area}
+use Rattle.jb_tool.specs.Recovered.{is_tool_fault}
 use Rattle.jb_tool.specs.Tending.{OpensForEither, answer_to, tool_answer, tool_rules, tool_user}
 use Rattle.jb_tool.specs.declared.error.ToolError.{ToolError}
 
@@ -40,6 +42,11 @@ told_alike old None files alike there = absurd (false≢true (alike ∙ ap is_so
 leaves_only_then : (P : Files → Type 0) (old mid new : Device) → LeavesOnly old mid P → LeavesOnly mid new P → LeavesOnly old new P
 leaves_only_then P old mid new one two = record { first = one.first; run = runs-then P old.moments mid.moments new.moments one.run two.run }
 
+-- a failed call of an area counts as the refusal of the tool
+area_counts : (error : AreaError) (old new : Device) → CountsFaults {T = Unit {0}} is_area_fault old new (Err error) → CountsFaults {T = List ℕ} is_tool_fault old new (Err (of_area error))
+area_counts failed.StoreFault old new counts = record { quiet = tt; later = counts.later; cause = counts.cause }
+area_counts failed.OutOfMemory old new counts = record { quiet = tt; later = counts.later; cause = counts.cause }
+
 module _ {D : Type 0} (shown : D → Device) (command : Command) (old : OpenArea D) where
   -- a crash until it is begun leaves what opens to the area
   left_begun : (new : OpenArea D) (result : Result (Unit {0}) AreaError) → BeginsCall shown old new tool_user 0 command result → (files : Files) → (shown old.disk).contents ≡ Some files
@@ -50,9 +57,9 @@ module _ {D : Type 0} (shown : D → Device) (command : Command) (old : OpenArea
 
   -- why it was not begun
   stopped_by : (error : AreaError) (new : OpenArea D) → BeginsCall shown old new tool_user 0 command (Err error) → IsStoppedBy shown command old new (of_area error)
-  stopped_by failed.StoreFault new begins = inl (refl, begins.cause)
+  stopped_by failed.StoreFault new begins = inl refl
   stopped_by failed.OutOfMemory new begins =
-      inr (inl (refl, record { reads = begins.reads; synced = λ texts rests. (begins.failed texts rests).rests.kept.settled.synced }, begins.cause))
+      inr (inl (refl, record { reads = begins.reads; synced = λ texts rests. (begins.failed texts rests).rests.kept.settled.synced }))
 
   -- it was not begun
   pub not_begun : (new : OpenArea D) (error : AreaError) → BeginsCall shown old new tool_user 0 command (Err error) → DoesCommand shown command old new (Err (of_area error))
@@ -62,7 +69,7 @@ module _ {D : Type 0} (shown : D → Device) (command : Command) (old : OpenArea
     synced = tt;
     failed = stopped_by error new begins;
     crash = left_begun new (Err error) begins;
-    later = begins.later;
+    faults = area_counts error (shown old.disk) (shown new.disk) begins.faults;
   }
 
   module _ (mid new : OpenArea D) (rules : old.rules ≡ tool_rules) (begins : BeginsCall shown old mid tool_user 0 command (Ok tt)) where
@@ -98,9 +105,8 @@ module _ {D : Type 0} (shown : D → Device) (command : Command) (old : OpenArea
         → ((texts : List ℕ) (decided : Reply) (coming : Coming) → IsBegun shown mid texts decided coming → (answered ≡ decided) × RestsAt shown new coming.texts coming.to)
         → ((texts : List ℕ) (decided : Reply) (coming : Coming) → IsBegun shown mid texts decided coming
         → ForSome (shown mid.disk).contents (λ _. LeavesOnly (shown mid.disk) (shown new.disk) (OpensToEither mid.held texts coming)))
-        → (shown mid.disk).faults ≤ (shown new.disk).faults
-        → DoesCommand shown command old new (Ok text)
-    command_done text said answered rest line decided done crash later = record {
+        → CountsFaults {E = Stopped} is_disk_fault (shown mid.disk) (shown new.disk) (Ok answered) → DoesCommand shown command old new (Ok text)
+    command_done text said answered rest line decided done crash ends = record {
       answered = λ files there texts rests.
           let begun = begins.begun texts rests in
           ap (λ (a : Answered). tool_answer a.reply) (becomes texts files there rests)
@@ -115,22 +121,22 @@ module _ {D : Type 0} (shown : D → Device) (command : Command) (old : OpenArea
           (done rest.texts begun.reply begun.coming begun.begun).1.rests.kept.settled.synced;
       failed = tt;
       crash = ending crash;
-      later = let first = begins.later in omega (arith, first, later);
+      faults = counts_then is_tool_fault (shown old.disk) (shown mid.disk) (shown new.disk) (Ok text) begins.faults.quiet (record { quiet = ends.quiet; later = ends.later; cause = tt });
     }
 
     -- it was stopped by a fault
-    pub command_stopped : Rose (shown mid.disk).faults (shown new.disk).faults
+    pub command_stopped : (stopped : Stopped) → CountsFaults {T = Reply} is_disk_fault (shown mid.disk) (shown new.disk) (Err stopped)
         → ((texts : List ℕ) (decided : Reply) (coming : Coming) → IsBegun shown mid texts decided coming
         → ForSome (shown mid.disk).contents (λ _. LeavesOnly (shown mid.disk) (shown new.disk) (OpensToEither mid.held texts coming)))
-        → (shown mid.disk).faults ≤ (shown new.disk).faults
         → DoesCommand shown command old new (Err (of_area failed.StoreFault))
-    command_stopped rose crash later = record {
+    command_stopped stopped ends crash = record {
       answered = tt;
       now = tt;
       synced = tt;
-      failed = inl (refl, rose_later (shown old.disk).faults (shown mid.disk).faults (shown new.disk).faults begins.later rose);
+      failed = inl refl;
       crash = ending crash;
-      later = let first = begins.later in omega (arith, first, later);
+      faults = counts_then is_tool_fault (shown old.disk) (shown mid.disk) (shown new.disk) (Err (of_area failed.StoreFault)) begins.faults.quiet
+          (record { quiet = tt; later = ends.later; cause = ends.cause });
     }
 
     -- it was dropped, for want of memory or since the texts are too long
@@ -150,7 +156,6 @@ module _ {D : Type 0} (shown : D → Device) (command : Command) (old : OpenArea
                 reads = subst (λ (d : Device). OnlyReadsOrCopies command (shown old.disk) d) (sym same) begins.reads;
                 synced = λ texts rests. subst IsAllSynced (sym same) (begins.begun texts rests).begun.kept.settled.synced;
               },
-              ap (λ (d : Device). d.faults) same ∙ begins.quiet,
             ))
             | inr full ↦ inr (inr (
               full.0,
@@ -164,5 +169,11 @@ module _ {D : Type 0} (shown : D → Device) (command : Command) (old : OpenArea
             ))
           ];
           crash = λ files there texts rests. subst (λ (d : Device). LeavesOnly (shown old.disk) d (OpensForEither command (state_of texts old.held))) (sym same) (left_begun mid (Ok tt) begins files there texts rests);
-          later = subst (λ (d : Device). (shown old.disk).faults ≤ d.faults) (sym same) begins.later;
+          faults =
+              let quiet = ap (λ (d : Device). d.faults) same ∙ begins.faults.quiet in
+              let no_fault : is_tool_fault error ≡ false = elim none [ inl memory ↦ ap is_tool_fault memory | inr full ↦ ap is_tool_fault full.1 ] in record {
+                quiet = tt;
+                later = omega (arith, quiet);
+                cause = subst (λ (fault : Bool). RoseIf fault (shown old.disk).faults (shown new.disk).faults) (sym no_fault) quiet;
+              };
         }

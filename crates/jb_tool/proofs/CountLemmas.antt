@@ -4,9 +4,9 @@ use Rattle.std.proofs.lemmas.Bool.Decides.{nat_tests}
 use Rattle.std.specs.Prelude.{IsTrue, if◌then◌else◌, ◌↔◌, Some, Result, Ok, Err, IfOk, nat_eq}
 use Rattle.jb_bytes.specs.declared.subfield.Subfield.{Subfield}
 use Rattle.jb_bytes.specs.declared.memory.OutOfMemory.{OutOfMemory}
-use Rattle.jb_model.specs.Message.{msgid_of}
-use Rattle.jb_model.specs.declared.loaded.LoadedMessage.{LoadedMessage}
-use Rattle.jb_model.specs.declared.loaded.LoadedSlot.TheVariants.{Live}
+use Rattle.jb_state.specs.Message.{msgid_of}
+use Rattle.jb_state.specs.declared.loaded.LoadedMessage.{LoadedMessage}
+use Rattle.jb_state.specs.declared.loaded.LoadedSlot.TheVariants.{Live}
 use Rattle.jb_msgid.specs.Answer.{IsReading, IsUnlessMemory}
 use Rattle.jb_msgid.specs.Text.{IsMsgId}
 use Rattle.jb_msgid.specs.declared.error.MsgIdError.{MsgIdError}

@@ -21,16 +21,12 @@ use Rattle.jb_record.proofs.ReadAgain.{fixed_header_of-back}
 use Rattle.jb_record.specs.Fields.{signature}
 use Rattle.jb_record.specs.Fixed.{FitsFixedHeader, fixed_header_bytes, fixed_header_of}
 use Rattle.jb_tool.specs.LoadBase.{AgreeButHeaders, HaveNoByte, IsEmptyBase, empty_header}
+use Rattle.jb_journal.proofs.Told.{told_back}
 
 -- a claim on success, from one
 pub on_ok : {T E : Type 0} (result : Result T E) (P Q : Type 0) → (P → Q) → OnOk result P → OnOk result Q
 on_ok (Ok value) P Q next p = next p
 on_ok (Err error) P Q next p = tt
-
--- and from two
-pub on_ok_both : {T E : Type 0} (result : Result T E) (P Q R : Type 0) → (P → Q → R) → OnOk result P → OnOk result Q → OnOk result R
-on_ok_both (Ok value) P Q R next p q = next p q
-on_ok_both (Err error) P Q R next p q = tt
 
 -- what is told of an empty disk is empty
 pub told_empty : (contents : Option Files) → contents ≡ Some (λ file. []) → ForSome contents HaveNoByte
@@ -110,11 +106,6 @@ told_whole f bytes len (Some was) (Some now) after size turns told = told ∙ ap
       (with_file-here f _ now ∙ whole_overwritten bytes (now f) (turns.here.size ∙ sym size) ∙ sym (with_file-here f bytes was))
   | inr other ↦ with_file-other f g _ now other ∙ turns.others g other ∙ sym (with_file-other f g bytes was other)
 ]))
-
--- what was told before a change
-told_back : (o after : Option Files) (change : Files → Files) (now : Files) → after ≡ option_map change o → after ≡ Some now → (before : Files) × (o ≡ Some before) × (now ≡ change before)
-told_back None after change now is there = absurd (cc)
-told_back (Some before) after change now is there = (before, refl, cc)
 
 -- the one file is what was written, and the others are as they were
 pub synced_header : (bytes : List ℕ) (old last new : Device) → last.contents ≡ option_map (with_file Jhr bytes) old.contents → new.contents ≡ last.contents

@@ -1,18 +1,16 @@
 -- The area at the end of a run.
 use Rattle.std.proofs.Common.{◌≡◌, ℕ, ◌≤◌, List, length, ap, sym, ◌∙◌, subst, arith}
-use Rattle.std.specs.Prelude.{Result, Ok, Err, IfErr, IfOk, IsSome}
+use Rattle.std.specs.Prelude.{Result, Ok, Err, IfOk, IsSome}
 use Rattle.jb_area.specs.declared.area.OpenArea.{OpenArea}
 use Rattle.jb_base.specs.declared.area.AreaRules.{AreaRules}
 use Rattle.jb_limits.specs.declared.limits.TheConstants.{MOST_SLOTS}
-use Rattle.jb_decide.specs.Errors.{AreaFaultRose}
 use Rattle.jb_decide.specs.Holds.{Holds}
 use Rattle.jb_decide.specs.declared.error.AreaError.{AreaError}
 use Rattle.jb_disk.specs.Device.{Device, TellsAlike}
 use Rattle.jb_disk.specs.Files.{Files}
 use Rattle.jb_image.specs.Stands.{StandsFor}
-use Rattle.jb_model.specs.State.{AreaState, state_of}
-use Rattle.jb_model.specs.declared.loaded.Loaded.{Loaded}
-use Rattle.jb_tool.proofs.LoadRunLemmas.{fault_later}
+use Rattle.jb_state.specs.State.{AreaState, state_of}
+use Rattle.jb_state.specs.declared.loaded.Loaded.{Loaded}
 use Rattle.jb_tool.specs.LoadRuns.{IsAt, IsFilled, IsLoaded, RestsAs, run_at}
 use Rattle.jb_tool.specs.LoadSummary.{summary_of}
 use Rattle.jb_tool.specs.Workload.{LoadRun, empty_area}
@@ -53,8 +51,3 @@ module _ {D : Type 0} (shown : D → Device) where
       → IfOk answer (λ text. IsSome before.contents → IsLoaded seed count text after)
   filled_answer seed count (Ok text) before old area after alike rests same filled = λ tells. subst (IsLoaded seed count text) same (filled_loaded seed count text area (filled (alike ∙ tells) rests))
   filled_answer seed count (Err error) before old area after alike rests same filled = tt
-
--- a fault of a later part is one of the whole
-pub fault_answer : (answer : Result (List ℕ) AreaError) (a b : ℕ) (mid after : Device) → b ≡ a → mid ≡ after → IfErr answer (AreaFaultRose b mid.faults) → IfErr answer (AreaFaultRose a after.faults)
-fault_answer (Ok text) a b mid after quiet same rose = tt
-fault_answer (Err error) a b mid after quiet same rose = fault_later a b after.faults error quiet (subst (λ (d : Device). AreaFaultRose b d.faults error) same rose)

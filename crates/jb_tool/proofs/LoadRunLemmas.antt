@@ -6,23 +6,20 @@ use Rattle.std.specs.Prelude.{◌==◌, Ok, Err, IsSome, Result}
 use Rattle.jb_area.specs.Calls.{MeetsCall}
 use Rattle.jb_area.specs.declared.area.OpenArea.{OpenArea}
 use Rattle.jb_base.specs.declared.area.AreaRules.{AreaRules}
-use Rattle.jb_decide.specs.Errors.{AreaFaultRose}
+use Rattle.jb_decide.specs.Errors.{is_area_fault}
 use Rattle.jb_decide.specs.declared.error.AreaError.{AreaError}
 use Rattle.jb_disk.specs.Device.{Device, TellsAlike}
 use Rattle.jb_model.specs.Answered.{Answered}
-use Rattle.jb_model.specs.State.{AreaState, next_number, slot_state, state_of}
+use Rattle.jb_state.specs.State.{AreaState, next_number, slot_state, state_of}
 use Rattle.jb_model.specs.Step.{Step}
 use Rattle.jb_model.specs.declared.command.Command.{Command}
 use Rattle.jb_model.specs.declared.command.Command.TheVariants.{Pack}
-use Rattle.jb_model.specs.declared.loaded.Loaded.{Loaded}
+use Rattle.jb_state.specs.declared.loaded.Loaded.{Loaded}
 use Rattle.jb_model.specs.declared.reply.Reply.{Reply}
+use Rattle.jb_tool.proofs.Recovering.{counts_then}
 use Rattle.jb_tool.specs.LoadRuns.{Goes, IsAt, IsReady, RestsAs, answers_in}
 use Rattle.jb_tool.specs.Workload.{LoadRun, asked, behind_step, in_step, kills_in, load_rules, loader, marked, post_of_step, posts_in, reads_in, run_to, tenth}
 use Rattle.jb_tool.specs.declared.counts.Counts.{Counts}
-
--- a fault of a later part is one of the whole
-pub fault_later : (a b c : ℕ) (error : AreaError) → b ≡ a → AreaFaultRose b c error → AreaFaultRose a c error
-fault_later a b c error same rose = subst (λ (n : ℕ). AreaFaultRose n c error) same rose
 
 -- the run that an answered command leads to
 asked_is : (moment : ℕ) (command : Command) (run : LoadRun) (reply : Reply) (state : AreaState) → Step load_rules run.area loader moment command reply state
@@ -68,12 +65,10 @@ module _ {D : Type 0} (shown : D → Device) where
     ready = goes.ready;
     done = λ tells run at. subst (IsAt shown new now) (same run at) (goes.done tells run at);
     few = goes.few;
-    cause = tt;
-    quiet = goes.quiet;
-    later = goes.later;
+    faults = goes.faults;
     alike = goes.alike;
   }
-  goes_as most old new was now f g (Err error) same goes = record { ready = tt; done = tt; few = goes.few; cause = goes.cause; quiet = tt; later = goes.later; alike = goes.alike }
+  goes_as most old new was now f g (Err error) same goes = record { ready = tt; done = tt; few = goes.few; faults = goes.faults; alike = goes.alike }
 
   -- commands, and others behind them
   pub goes_then : (m n : ℕ) (a b c : OpenArea D) (x y z : Counts) (f g : LoadRun → LoadRun) (result : Result (Unit {0}) AreaError)
@@ -82,24 +77,20 @@ module _ {D : Type 0} (shown : D → Device) where
     ready = two.ready;
     done = λ tells run at. two.done (one.alike ∙ tells) (f run) (one.done tells run at);
     few = let first = one.few in let second = two.few in omega (arith, first, second);
-    cause = tt;
-    quiet = two.quiet ∙ one.quiet;
-    later = let first = one.later in let second = two.later in omega (arith, first, second);
+    faults = counts_then is_area_fault (shown a.disk) (shown b.disk) (shown c.disk) (Ok done) one.faults.quiet two.faults;
     alike = two.alike ∙ one.alike;
   }
   goes_then m n a b c x y z f g (Err error) one two = record {
     ready = tt;
     done = tt;
     few = let first = one.few in let second = two.few in omega (arith, first, second);
-    cause = fault_later (shown a.disk).faults (shown b.disk).faults (shown c.disk).faults error one.quiet two.cause;
-    quiet = tt;
-    later = let first = one.later in let second = two.later in omega (arith, first, second);
+    faults = counts_then is_area_fault (shown a.disk) (shown b.disk) (shown c.disk) (Err error) one.faults.quiet two.faults;
     alike = two.alike ∙ one.alike;
   }
 
   -- the same, of more commands
   pub goes_more : (m n : ℕ) (a b : OpenArea D) (x y : Counts) (f : LoadRun → LoadRun) (result : Result (Unit {0}) AreaError) → Goes shown m a b x y f result → Goes shown (m + n) a b x y f result
-  goes_more m n a b x y f result one = record { ready = one.ready; done = one.done; few = let first = one.few in omega (arith, first); cause = one.cause; quiet = one.quiet; later = one.later; alike = one.alike }
+  goes_more m n a b x y f result one = record { ready = one.ready; done = one.done; few = let first = one.few in omega (arith, first); faults = one.faults; alike = one.alike }
 
   -- so many steps were done since the first half may have ended before the first
   pub record HasGone (seed count steps : ℕ) (old new : OpenArea D) (was now : Counts) : Type 0 where
@@ -120,7 +111,7 @@ module _ {D : Type 0} (shown : D → Device) where
       ready = goes.ready;
       done = λ tells run at. subst (IsAt shown c z) (one_step (steps + 1) run (omega arith)) (goes.done (gone.alike ∙ tells) (run_to seed count steps run) (gone.done tells run at));
       few = let first = gone.few in let second = goes.few in omega (arith, first, second);
-      quiet = goes.quiet ∙ gone.quiet;
+      quiet = goes.faults.quiet ∙ gone.quiet;
       alike = goes.alike ∙ gone.alike;
     }
       where
@@ -131,7 +122,7 @@ module _ {D : Type 0} (shown : D → Device) where
     -- a command that failed
     pub ask_failed : (counts : Counts) (error : AreaError) → MeetsCall shown old new loader moment command (Err error)
         → Goes shown 1 old new counts counts (asked moment command) (Err error)
-    ask_failed counts error meets = record { ready = tt; done = tt; few = omega arith; cause = meets.cause; quiet = tt; later = meets.later; alike = meets.alike }
+    ask_failed counts error meets = record { ready = tt; done = tt; few = omega arith; faults = record { quiet = tt; later = meets.faults.later; cause = meets.faults.cause }; alike = meets.alike }
 
     -- a command that was answered, and is counted
     pub ask_done : (was now : Counts) (reply : Reply) → IsReady shown old → MeetsCall shown old new loader moment command (Ok reply)
@@ -159,8 +150,6 @@ module _ {D : Type 0} (shown : D → Device) where
             kills = kills ∙ ap (λ (n : ℕ). n + kills_in reply) at.kills;
           });
       few = few;
-      cause = tt;
-      quiet = meets.quiet;
-      later = meets.later;
+      faults = record { quiet = meets.faults.quiet; later = meets.faults.later; cause = tt };
       alike = meets.alike;
     }

@@ -11,11 +11,11 @@ use Rattle.std.specs.List.{slice_range}
 use Rattle.std.specs.Prelude.{count_by, filter, nat_lt}
 use Rattle.jb_base.specs.declared.area.AreaRules.{AreaRules}
 use Rattle.jb_base.specs.declared.user.User.{User}
-use Rattle.jb_model.specs.Live.{Numbered, live_from}
-use Rattle.jb_model.specs.State.{LiveMessage, SlotState, killed_message, live_message, no_message, slot_state, state_of}
-use Rattle.jb_model.specs.Visible.{is_shown, last_read_by, unlinked, unread_by, visible_to}
-use Rattle.jb_model.specs.declared.loaded.Loaded.{Loaded}
-use Rattle.jb_model.specs.declared.loaded.LoadedSlot.{LoadedSlot}
+use Rattle.jb_state.specs.Live.{Numbered, live_from}
+use Rattle.jb_state.specs.State.{LiveMessage, SlotState, killed_message, live_message, no_message, slot_state, state_of}
+use Rattle.jb_state.specs.Visible.{is_shown, last_read_by, unlinked, unread_by, visible_to}
+use Rattle.jb_state.specs.declared.loaded.Loaded.{Loaded}
+use Rattle.jb_state.specs.declared.loaded.LoadedSlot.{LoadedSlot}
 use Rattle.jb_tool.specs.LoadSummary.{is_seen}
 
 -- one at most

@@ -1,5 +1,5 @@
 -- A base that is made: recovered and found empty, prepared, and written by one change.
-use Rattle.std.proofs.Common.{◌≡◌, ◌≢◌, inl, inr, ℕ, ◌<◌, ◌≤◌, List, [], ◌∷◌, length, ap, refl, sym, ◌∙◌, subst, arith, Option, Some}
+use Rattle.std.proofs.Common.{◌≡◌, ◌≢◌, inl, inr, ℕ, ◌≤◌, List, [], ◌∷◌, length, ap, refl, sym, ◌∙◌, subst, arith, Option, Some}
 use Rattle.std.specs.Prelude.{IsSome, Bool, true, false, ◌&&◌, ◌==◌, ◌⊎◌, Result, Ok, Err, OnOk, slice_index}
 use Rattle.std.specs.Option.{ForSome, option_map}
 use Rattle.std.proofs.lemmas.Bool.{cases_eq, cases_lt}
@@ -17,7 +17,7 @@ use Rattle.jb_journal.specs.Commit.{IsBeforeOrAfter, IsReady, committed}
 use Rattle.jb_redo.specs.Changes.{changed}
 use Rattle.jb_journal.specs.Doubt.{IsSettledAt}
 use Rattle.jb_journal.specs.Prepare.{IsPrepared, IsPreparing}
-use Rattle.jb_journal.specs.Recover.{JournalFaultRose, IsGrowthSafe, IsRefusedOver, ReplaysAsAtStart}
+use Rattle.jb_journal.specs.Recover.{IsGrowthSafe, IsRefusedOver, ReplaysAsAtStart}
 use Rattle.jb_journal.specs.declared.error.JournalError.{JournalError}
 use Rattle.jb_journal.specs.declared.error.JournalError.TheVariants.{BadRecord, StoreFault}
 use Rattle.jb_redo.proofs.ApplyLemmas.{turns_from, turns_on}
@@ -26,6 +26,7 @@ use Rattle.jb_tool.proofs.NewBaseLemmas.{base_ready, empty_beside, new_beside}
 use Rattle.jb_tool.specs.Making.{AreNoneOrNew, AreShutAndEmpty, HasNewBase, IsFoundEmpty, IsMade, KeepsOrMakes, RefusesMaking, ReplayInto}
 use Rattle.jb_tool.specs.Recovered.{IsRecoveredTo, KeepsReplay, of_journal}
 use Rattle.jb_tool.proofs.Recovering.{is_told}
+use Rattle.jb_area_open.proofs.OpeningLemmas.{preparing_shut}
 
 -- a file without a length is empty
 no_length : (l : List ℕ) → length l ≡ 0 → l ≡ []
@@ -78,16 +79,6 @@ found_empty files headers texts index marks h t x m = elim (cases_eq headers 0) 
 pub done_so : {T E : Type 0} (A B C D : Type 0) (result : Result T E) → (A → B → C → D) → OnOk result A → OnOk result B → OnOk result C → OnOk result D
 done_so A B C D (Ok value) so a b c = so a b c
 done_so A B C D (Err error) so a b c = tt
-
--- while the journal is prepared the gate stays closed
-preparing_shut : (start files : Files) → (IsGateOpen start → ⊥) → IsPreparing start files → IsGateOpen files → ⊥
-preparing_shut start files shut preparing is_open = elim preparing.journal [
-  | inl same ↦ shut (record {
-    longer = subst (λ (l : List ℕ). 16 < length l) same is_open.longer;
-    gate = ap (λ (l : List ℕ). slice_index l 0) (sym same) ∙ is_open.gate;
-  })
-  | inr short ↦ let longer = is_open.longer in let few = short.1 in omega arith
-]
 
 -- and the files replay to empty ones
 preparing_none : (moment : ℕ) (start files : Files) → AreShutAndEmpty start → IsPreparing start files → AreNoneOrNew moment files
@@ -172,10 +163,9 @@ module _ (moment : ℕ) (change : RedoView) (makes : MakesBase moment change) (b
       }
 
 -- a refusal of recovery
-pub refused_recovery : (before after : Device) (error : JournalError) → ForSome before.contents (IsRefusedOver error after) → JournalFaultRose before.faults after.faults error
-    → RefusesMaking before after (of_journal error)
-refused_recovery before after (BadRecord at) is rose = is
-refused_recovery before after StoreFault is rose = inr (refl, rose)
+pub refused_recovery : (before after : Device) (error : JournalError) → ForSome before.contents (IsRefusedOver error after) → RefusesMaking before after (of_journal error)
+refused_recovery before after (BadRecord at) is = is
+refused_recovery before after StoreFault is = inr refl
 
 -- what a crash leaves where nothing is done
 pub nothing_kept : (device : Device) → KeepsReplay device device

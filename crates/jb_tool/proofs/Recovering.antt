@@ -1,29 +1,28 @@
 -- A base that is recovered and then read.
-use Rattle.std.proofs.Common.{◌≡◌, ℕ, ◌≤◌, List, refl, ◌∙◌, sym, subst, arith}
-use Rattle.std.specs.Prelude.{Option, Some, None, IsSome}
+use Rattle.std.proofs.Common.{◌≡◌, ℕ, List, refl, ◌∙◌, sym, subst, arith}
+use Rattle.std.specs.Prelude.{Bool, Option, Some, None, IsSome, Result, Ok, Err}
 use Rattle.std.specs.Option.{ForSome}
-use Rattle.jb_bytes.specs.Fault.{Rose}
 use Rattle.jb_limits.specs.declared.limits.TheConstants.{MOST_SLOTS}
-use Rattle.jb_disk.specs.Device.{Device, OnlyReads}
+use Rattle.jb_disk.specs.Device.{CountsFaults, Device, OnlyReads, RoseIf}
 use Rattle.jb_disk.specs.Files.{Files}
 use Rattle.jb_disk.specs.Gate.{IsGateOpen}
 use Rattle.jb_disk.specs.Images.{Images}
 use Rattle.jb_disk.specs.Runs.{LeavesNow, Runs, IsAllSynced}
 use Rattle.jb_disk.specs.declared.file.FileId.TheVariants.{Jdt}
-use Rattle.jb_image.specs.declared.error.OpenError.{OpenError}
 use Rattle.jb_image.specs.declared.error.OpenError.TheVariants.{OutOfMemory as no_memory}
-use Rattle.jb_image.specs.Answers.{IsRefusedBy, OpenFaultRose, OpensTo}
+use Rattle.jb_image.specs.Answers.{IsRefusedBy, OpensTo}
 use Rattle.jb_image.specs.Stands.{StandsFor}
 use Rattle.jb_journal.specs.declared.error.JournalError.{JournalError}
 use Rattle.jb_journal.specs.declared.error.JournalError.TheVariants.{BadRecord, StoreFault}
 use Rattle.jb_journal.specs.declared.error.Recovered.{Recovered}
 use Rattle.jb_journal.specs.declared.error.Recovered.TheVariants.{Closed, Replayed}
-use Rattle.jb_journal.specs.Recover.{JournalFaultRose, IsFound, IsGrowthSafe, IsRefusedOver, ReplaysAsAtStart}
-use Rattle.jb_model.specs.State.{state_of}
-use Rattle.jb_model.specs.declared.loaded.Loaded.{Loaded}
+use Rattle.jb_journal.specs.Recover.{IsFound, IsGrowthSafe, IsRefusedOver, ReplaysAsAtStart}
+use Rattle.jb_state.specs.State.{state_of}
+use Rattle.jb_state.specs.declared.loaded.Loaded.{Loaded}
 use Rattle.jb_redo.specs.Reading.{HasRecord}
 use Rattle.jb_redo.specs.Replay.{Replays}
-use Rattle.jb_tool.specs.Recovered.{IsRecoveredTo, KeepsReplay, RefusesBase, RefusesReading, of_journal}
+use Rattle.jb_tool.specs.Recovered.{IsRecoveredTo, KeepsReplay, RefusesReading, of_journal}
+use Rattle.jb_tool.specs.declared.error.ToolError.TheVariants.{Open}
 
 -- what is told, and that it is
 pub record IsTold (contents : Option Files) : Type 0 where
@@ -74,10 +73,9 @@ pub opens_stands : (files : Files) (loaded : Loaded) → OpensTo MOST_SLOTS file
 opens_stands files loaded opens = record { loaded = loaded; loads = opens.loads; few_slots = opens.few_slots; same = refl }
 
 -- a recovery that is refused
-pub refused : (before after : Device) (error : JournalError) → ForSome before.contents (IsRefusedOver error after) → JournalFaultRose before.faults after.faults error
-    → RefusesReading before after (of_journal error)
-refused before after (BadRecord at) is rose = is
-refused before after StoreFault is rose = record { files = λ other. absurd (other refl); cause = rose }
+pub refused : (before after : Device) (error : JournalError) → ForSome before.contents (IsRefusedOver error after) → RefusesReading before after (of_journal error)
+refused before after (BadRecord at) is = is
+refused before after StoreFault is = λ other. absurd (other refl)
 
 -- reads after a recovery leave no more
 pub crash_then : (before mid after : Device) → KeepsReplay before mid → OnlyReads mid after → KeepsReplay before after
@@ -85,24 +83,13 @@ crash_then before mid after keeps kept = λ was there safe.
     let leaves = keeps was there safe in
     record { first = leaves.first; run = subst (λ (m : List Images). Runs (ReplaysAsAtStart before.moments) before.moments m) (sym kept.moments) leaves.run }
 
--- a count that rose later rose
-pub rose_later : (before mid now : ℕ) → before ≤ mid → Rose mid now → Rose before now
-rose_later before mid now later rose = omega (arith, later, rose)
-
--- a base that was recovered and is then not opened
-pub unopened : (before mid after : Device) (found : Recovered) (error : OpenError) → ForSome before.contents (IsFound found)
-    → ForSome before.contents (λ was. IsGrowthSafe was → ForSome mid.contents (Replays was))
-    → IsAllSynced mid → (IsSome before.contents → IsSome mid.contents)
-    → mid.faults ≡ before.faults → OnlyReads mid after → ForSome mid.contents (λ files. IsRefusedBy MOST_SLOTS files error)
-    → OpenFaultRose mid.faults after.faults error → RefusesBase before after error
-unopened before mid after found error is done synced told quiet kept refuses rose = record {
-  files = λ other. recovered (λ files. IsRefusedBy MOST_SLOTS files error) before mid after found is done synced told kept refuses;
-  cause = subst (λ (n : ℕ). OpenFaultRose n after.faults error) quiet rose;
-}
-
 -- a base that was recovered, and no memory then
-pub unlisted : (property : Files → Type 0) (before after : Device) → ForSome before.contents (λ was. IsRecoveredTo property was after) → after.faults ≡ before.faults → RefusesBase before after no_memory
-unlisted property before after is quiet = record {
-  files = λ other was there. recovered_has property (λ files. IsRefusedBy MOST_SLOTS files no_memory) was after (λ files has. tt) (is was there);
-  cause = quiet;
-}
+pub unlisted : (property : Files → Type 0) (before after : Device) → ForSome before.contents (λ was. IsRecoveredTo property was after) → RefusesReading before after (Open no_memory)
+unlisted property before after is = λ other was there. recovered_has property (λ files. IsRefusedBy MOST_SLOTS files no_memory) was after (λ files has. tt) (is was there)
+
+-- behind what left the count of faults as it was
+pub counts_then : {T E : Type 0} (is_fault : E → Bool) (old mid new : Device) (result : Result T E) → mid.faults ≡ old.faults
+    → CountsFaults is_fault mid new result → CountsFaults is_fault old new result
+counts_then is_fault old mid new (Ok value) quiet counts = record { quiet = counts.quiet ∙ quiet; later = omega (arith, quiet, counts.later); cause = tt }
+counts_then is_fault old mid new (Err error) quiet counts =
+    record { quiet = tt; later = omega (arith, quiet, counts.later); cause = subst (λ (n : ℕ). RoseIf (is_fault error) n new.faults) quiet counts.cause }

@@ -5,10 +5,9 @@ use Rattle.std.specs.Option.{ForSome}
 use Rattle.jb_area.specs.Calls.{HasRest}
 use Rattle.jb_area.specs.Holds.{Opens}
 use Rattle.jb_area.specs.declared.area.OpenArea.{OpenArea}
-use Rattle.jb_area_open.specs.Opening.{OpeningFaultRose, IsOpenAt, IsRecovered, KeepsOpening, OpensAsAtStart, Refuses}
+use Rattle.jb_area_open.specs.Opening.{IsOpenAt, IsRecovered, KeepsOpening, OpensAsAtStart, Refuses}
 use Rattle.jb_area_open.specs.declared.error.OpeningError.{OpeningError}
 use Rattle.jb_area_open.specs.declared.error.OpeningError.TheVariants.{BadJournal as bad_journal, Base}
-use Rattle.jb_bytes.specs.Fault.{Rose}
 use Rattle.jb_limits.specs.declared.limits.TheConstants.{MOST_SLOTS}
 use Rattle.jb_disk.proofs.RunLemmas.{runs-refl, runs-then, runs-weaken}
 use Rattle.jb_disk.specs.Device.{Device}
@@ -17,7 +16,7 @@ use Rattle.jb_disk.specs.Images.{Images}
 use Rattle.jb_disk.specs.Runs.{LeavesNow}
 use Rattle.jb_image.specs.Stands.{StandsFor}
 use Rattle.jb_journal.specs.Recover.{IsGrowthSafe}
-use Rattle.jb_model.specs.State.{AreaState, state_of}
+use Rattle.jb_state.specs.State.{AreaState, state_of}
 use Rattle.jb_model.specs.declared.command.Command.{Command}
 use Rattle.jb_tool.proofs.ChangingLemmas.{few_resting, holds_stands, leaves_only_weaken, leaves_weaken, opens_area}
 use Rattle.jb_tool.proofs.Recovering.{IsTold, is_told}
@@ -38,10 +37,10 @@ nothing_left command device = λ was there safe. record {
 }
 
 -- a base that is not opened
-pub refused_tends : (command : Command) (before after : Device) (error : OpeningError) → Refuses MOST_SLOTS before after error → OpeningFaultRose before.faults after.faults error
+pub refused_tends : (command : Command) (before after : Device) (error : OpeningError) → Refuses MOST_SLOTS before after error
     → Tends command before after (Err (of_opening error))
-refused_tends command before after (bad_journal at) refuses rose = refuses
-refused_tends command before after (Base error) refuses rose = inr (inl (refuses, rose))
+refused_tends command before after (bad_journal at) refuses = refuses
+refused_tends command before after (Base error) refuses = inr (inl refuses)
 
 -- and what a crash leaves then
 pub refused_left : (command : Command) (before after : Device) → KeepsOpening before after → KeepsOrTends command before after
@@ -82,7 +81,7 @@ module _ {D : Type 0} (shown : D → Device) (command : Command) (before : Devic
       let now = opened_files was there in
       record { recovered = recovered was there; stands = opened_stands; since = changes.crash now.files now.is rest.texts rest.rests }
 
-  module _ (new : OpenArea D) (quiet : (shown area.disk).faults ≡ before.faults) where
+  module _ (new : OpenArea D) where
     -- the command is tended, or not
     pub tends_opened : (answer : Answer) → DoesCommand shown command area new answer → Tends command before (shown new.disk) answer
     tends_opened (Ok text) changes = λ was there.
@@ -99,14 +98,12 @@ module _ {D : Type 0} (shown : D → Device) (command : Command) (before : Devic
           synced = changes.synced;
         }
     tends_opened (Err error) changes = elim changes.failed [
-      | inl fault ↦ subst (λ (e : ToolError). Tends command before (shown new.disk) (Err e)) (sym fault.0)
-          (inr (inl (λ other. absurd (other refl), subst (λ (n : ℕ). Rose n (shown new.disk).faults) quiet fault.1)))
+      | inl fault ↦ subst (λ (e : ToolError). Tends command before (shown new.disk) (Err e)) (sym fault) (inr (inl (λ other. absurd (other refl))))
       | inr unchanged ↦ elim unchanged [
         | inl memory ↦ subst (λ (e : ToolError). Tends command before (shown new.disk) (Err e)) (sym memory.0)
             (inr (inr (
               refl,
               λ was there. record { opening = shown area.disk; recovered = recovered was there; reads = memory.1.reads; synced = memory.1.synced rest.texts rest.rests },
-              memory.2 ∙ quiet,
             )))
         | inr full ↦ subst (λ (e : ToolError). Tends command before (shown new.disk) (Err e)) (sym full.1) (λ was there.
             let now = opened_files was there in

@@ -2,14 +2,14 @@
 use Rattle.std.specs.Prelude.{ℕ, List, Some, Ok, Err}
 use Rattle.std.specs.Option.{ForSome}
 use Rattle.jb_limits.specs.declared.limits.TheConstants.{MOST_SLOTS}
-use Rattle.jb_disk.specs.Device.{Device}
+use Rattle.jb_disk.specs.Device.{CountsFaults, Device}
 use Rattle.jb_disk.specs.Files.{Files}
 use Rattle.jb_image.specs.Stands.{StandsFor}
-use Rattle.jb_model.specs.State.{AreaState}
+use Rattle.jb_state.specs.State.{AreaState}
 use Rattle.jb_model.specs.declared.command.Command.TheVariants as command
 use Rattle.jb_tool.specs.Making.{AnswersMake, KeepsOrMakes}
 use Rattle.jb_tool.specs.Outcome.{tool_outcome}
-use Rattle.jb_tool.specs.Recovered.{IsRecoveredTo, KeepsReplay, RefusesReading}
+use Rattle.jb_tool.specs.Recovered.{IsRecoveredTo, KeepsReplay, RefusesReading, is_tool_fault}
 use Rattle.jb_tool.specs.Tending.{Answer, KeepsOrTends, Tends}
 use Rattle.jb_tool.specs.declared.tool.Tool.{Tool}
 use Rattle.jb_tool.specs.declared.tool.Tool.TheVariants as tool
@@ -25,13 +25,18 @@ abbrev pub LooksAt : Tool → Device → Device → Answer → Type 0
 LooksAt shown before after (Ok text) = ForSome before.contents (λ was. IsRecoveredTo (IsShown shown text) was after)
 LooksAt shown before after (Err error) = RefusesReading before after error
 
--- the answer of a tool at a moment over the disk of the base, before it and after it
-abbrev pub AnswersTool : Tool → ℕ → Device → Device → Answer → Type 0
-AnswersTool tool.List moment before after answer = LooksAt tool.List before after answer
-AnswersTool tool.Check moment before after answer = LooksAt tool.Check before after answer
-AnswersTool tool.Make moment before after answer = AnswersMake moment before after answer
-AnswersTool tool.Relink moment before after answer = Tends command.Relink before after answer
-AnswersTool tool.Pack moment before after answer = Tends command.Pack before after answer
+-- what a tool answers at a moment over the disk of the base, before it and after it
+abbrev pub SaysAs : Tool → ℕ → Device → Device → Answer → Type 0
+SaysAs tool.List moment before after answer = LooksAt tool.List before after answer
+SaysAs tool.Check moment before after answer = LooksAt tool.Check before after answer
+SaysAs tool.Make moment before after answer = AnswersMake moment before after answer
+SaysAs tool.Relink moment before after answer = Tends command.Relink before after answer
+SaysAs tool.Pack moment before after answer = Tends command.Pack before after answer
+
+-- and what it does to the count of faults
+pub record AnswersTool (tool : Tool) (moment : ℕ) (before after : Device) (answer : Answer) : Type 0 where
+  pub says : SaysAs tool moment before after answer
+  pub faults : CountsFaults is_tool_fault before after answer
 
 -- what a crash at any moment of it leaves
 abbrev pub KeepsUnderTool : Tool → ℕ → Device → Device → Type 0

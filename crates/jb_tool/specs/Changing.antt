@@ -1,23 +1,23 @@
 -- What a command of a tool makes of an open area.
-use Rattle.std.specs.Prelude.{◌≡◌, ◌⊎◌, ℕ, ◌≤◌, List, Ok, Err, IfErr, IfOk, OnOk}
+use Rattle.std.specs.Prelude.{◌≡◌, ◌⊎◌, ℕ, List, Ok, Err, IfErr, IfOk, OnOk}
 use Rattle.std.specs.Option.{ForSome}
 use Rattle.jb_area.specs.Area.{IsResting}
 use Rattle.jb_area.specs.Calls.{OnlyReadsOrCopies}
 use Rattle.jb_area.specs.declared.area.OpenArea.{OpenArea}
-use Rattle.jb_bytes.specs.Fault.{Rose}
 use Rattle.jb_limits.specs.declared.limits.TheConstants.{MOST_SLOTS}
 use Rattle.jb_decide.specs.declared.error.AreaError.{AreaError}
 use Rattle.jb_decide.specs.declared.error.AreaError.TheVariants as failed
-use Rattle.jb_disk.specs.Device.{Device, OnlyReads}
+use Rattle.jb_disk.specs.Device.{CountsFaults, Device, OnlyReads}
 use Rattle.jb_disk.specs.Runs.{IsAllSynced, LeavesOnly}
 use Rattle.jb_image.specs.Stands.{StandsFor}
 use Rattle.jb_image.specs.declared.error.OpenError.TheVariants as refused
-use Rattle.jb_model.specs.State.{AreaState, state_of}
+use Rattle.jb_state.specs.State.{AreaState, state_of}
 use Rattle.jb_model.specs.declared.command.Command.{Command}
 use Rattle.jb_model.specs.declared.reply.Reply.{Reply}
 use Rattle.jb_model.specs.declared.reply.Reply.TheVariants as reply
 use Rattle.jb_area_open.specs.declared.error.OpeningError.{OpeningError}
 use Rattle.jb_area_open.specs.declared.error.OpeningError.TheVariants as opening
+use Rattle.jb_tool.specs.Recovered.{is_tool_fault}
 use Rattle.jb_tool.specs.Tending.{Answer, OpensForEither, answer_to, tool_answer}
 use Rattle.jb_tool.specs.declared.error.ToolError.{ToolError}
 use Rattle.jb_tool.specs.declared.error.ToolError.TheVariants.{BadJournal, Open, TextFull}
@@ -47,12 +47,11 @@ module _ {D : Type 0} (shown : D → Device) where
     pub reads : OnlyReadsOrCopies command (shown old.disk) (shown new.disk)
     pub synced : (texts : List ℕ) → IsResting shown old texts → IsAllSynced (shown new.disk)
 
-  -- why the command was not done: a fault that the disk counted, or want of memory, which hides none, or texts that are too long, and after these nothing was written,
-  -- but for the copies of a pack that wants memory
+  -- why the command was not done: a fault, or want of memory, or texts that are too long, and after these nothing was written, but for the copies of a pack that wants memory
   abbrev pub IsStoppedBy : Command → OpenArea D → OpenArea D → ToolError → Type 0
   IsStoppedBy command old new error =
-      ((error ≡ Open refused.StoreFault) × Rose (shown old.disk).faults (shown new.disk).faults)
-      ⊎ (((error ≡ Open refused.OutOfMemory) × IsLeft command old new × ((shown new.disk).faults ≡ (shown old.disk).faults))
+      (error ≡ Open refused.StoreFault)
+      ⊎ (((error ≡ Open refused.OutOfMemory) × IsLeft command old new)
       ⊎ ((length : ℕ) × (error ≡ TextFull length) × OnlyReads (shown old.disk) (shown new.disk)
       × WhereTold old (λ area. tool_answer (answer_to command area).reply ≡ Err (TextFull length))))
 
@@ -63,4 +62,4 @@ module _ {D : Type 0} (shown : D → Device) where
     pub synced : OnOk result (IsAllSynced (shown new.disk))
     pub failed : IfErr result (IsStoppedBy command old new)
     pub crash : WhereTold old (λ area. LeavesOnly (shown old.disk) (shown new.disk) (OpensForEither command area))
-    pub later : (shown old.disk).faults ≤ (shown new.disk).faults
+    pub faults : CountsFaults is_tool_fault (shown old.disk) (shown new.disk) result

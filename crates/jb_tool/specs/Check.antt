@@ -1,11 +1,11 @@
 -- What a check says of an area: seven lines, each a name, a space and what was found.
 use Rattle.std.specs.Prelude.{◌≡◌, ◌⊎◌, ◌↔◌, ℕ, suc, Bool, true, false, Result, Ok, Err, Some, List, [], ◌∷◌, ◌++◌, ◌+◌, codes, decimal, count_by, if◌then◌else◌}
 use Rattle.jb_bytes.specs.declared.subfield.Subfield.{Subfield}
-use Rattle.jb_model.specs.Links.{IsLinked}
-use Rattle.jb_model.specs.Live.{Numbered, killed_count, live_count, live_from, live_in}
-use Rattle.jb_model.specs.Message.{msgid_of}
-use Rattle.jb_model.specs.State.{AreaState, SlotState, killed_message, live_message, next_number, no_message, slot_state}
-use Rattle.jb_model.specs.declared.loaded.LoadedSlot.{LoadedSlot}
+use Rattle.jb_state.specs.Links.{IsLinked}
+use Rattle.jb_state.specs.Live.{Numbered, killed_count, live_count, live_from, live_in}
+use Rattle.jb_state.specs.Message.{msgid_of}
+use Rattle.jb_state.specs.State.{AreaState, SlotState, killed_message, live_message, next_number, no_message, slot_state}
+use Rattle.jb_state.specs.declared.loaded.LoadedSlot.{LoadedSlot}
 use Rattle.jb_msgid.specs.Text.{IsMsgId}
 use Rattle.jb_msgid.specs.declared.error.MsgIdError.{MsgIdError}
 use Rattle.jb_msgid.specs.declared.error.MsgIdError.TheVariants.{BadQuote, EmptyAddress, NoSerial, OutOfMemory}

@@ -4,7 +4,7 @@ use Rattle.jb_bytes.specs.declared.subfield.Subfield.{Subfield}
 use Rattle.jb_bytes.specs.declared.subfield.TheConstants.{SENDER_NAME, RECEIVER_NAME, SUBJECT}
 use Rattle.jb_bytes.specs.Subfields.{first_of}
 use Rattle.jb_text.specs.Lines.{listing_text}
-use Rattle.jb_model.specs.State.{AreaState, SlotState, no_message, killed_message, live_message}
+use Rattle.jb_state.specs.State.{AreaState, SlotState, no_message, killed_message, live_message}
 
 -- the data of the first subfield with this LoID, or nothing
 abbrev pub field_of : ℕ → List Subfield → List ℕ

@@ -1,16 +1,16 @@
 -- An open area in which the workload runs.
-use Rattle.std.specs.Prelude.{◌≡◌, ℕ, ◌+◌, ◌≤◌, IsSome, List, Result, Ok, Err, IfErr, OnOk}
+use Rattle.std.specs.Prelude.{◌≡◌, ℕ, ◌+◌, ◌≤◌, IsSome, List, Result, Ok, Err, OnOk}
 use Rattle.std.specs.Option.{ForSome}
 use Rattle.jb_area.specs.Area.{IsResting}
 use Rattle.jb_area.specs.Calls.{HasRest}
 use Rattle.jb_area.specs.declared.area.OpenArea.{OpenArea}
 use Rattle.jb_limits.specs.declared.limits.TheConstants.{MOST_SLOTS}
-use Rattle.jb_decide.specs.Errors.{AreaFaultRose}
+use Rattle.jb_decide.specs.Errors.{is_area_fault}
 use Rattle.jb_decide.specs.declared.error.AreaError.{AreaError}
-use Rattle.jb_disk.specs.Device.{Device, TellsAlike}
+use Rattle.jb_disk.specs.Device.{CountsFaults, Device, TellsAlike}
 use Rattle.jb_disk.specs.Runs.{IsAllSynced}
 use Rattle.jb_image.specs.Stands.{StandsFor}
-use Rattle.jb_model.specs.State.{AreaState, state_of}
+use Rattle.jb_state.specs.State.{AreaState, state_of}
 use Rattle.jb_tool.specs.LoadSummary.{summary_of}
 use Rattle.jb_tool.specs.Workload.{LoadRun, load_rules, load_run}
 use Rattle.jb_tool.specs.declared.counts.Counts.{Counts}
@@ -48,9 +48,7 @@ module _ {D : Type 0} (shown : D → Device) where
     pub ready : OnOk result (IsReady new)
     pub done : OnOk result (IsSome (shown old.disk).contents → (run : LoadRun) → IsAt old was run → IsAt new now (further run))
     pub few : answers_in now ≤ answers_in was + most
-    pub cause : IfErr result (AreaFaultRose (shown old.disk).faults (shown new.disk).faults)
-    pub quiet : OnOk result ((shown new.disk).faults ≡ (shown old.disk).faults)
-    pub later : (shown old.disk).faults ≤ (shown new.disk).faults
+    pub faults : CountsFaults is_area_fault (shown old.disk) (shown new.disk) result
     pub alike : TellsAlike (shown old.disk) (shown new.disk)
 
   -- the text is the summary of the whole run, and the area rests at its end

@@ -2,9 +2,9 @@
 use Rattle.std.specs.Prelude.{ℕ, ◌*◌, ◌==◌, Bool, false, not, List, [], ◌∷◌, ◌++◌, codes, count_by, decimal, length}
 use Rattle.jb_base.specs.declared.area.AreaRules.{AreaRules}
 use Rattle.jb_base.specs.declared.user.User.{User}
-use Rattle.jb_model.specs.Live.{live_count}
-use Rattle.jb_model.specs.State.{AreaState, SlotState, killed_message, live_message, next_number, no_message}
-use Rattle.jb_model.specs.Visible.{is_shown, unread_by}
+use Rattle.jb_state.specs.Live.{live_count}
+use Rattle.jb_state.specs.State.{AreaState, SlotState, killed_message, live_message, next_number, no_message}
+use Rattle.jb_state.specs.Visible.{is_shown, unread_by}
 use Rattle.jb_tool.specs.Workload.{LoadRun, load_rules, loader}
 
 -- the user sees the live message that stands there

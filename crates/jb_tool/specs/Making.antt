@@ -1,7 +1,6 @@
 -- What `make` answers, and what it makes of the files of a base.
 use Rattle.std.specs.Prelude.{◌≡◌, ◌≢◌, ◌⊎◌, ◌<◌, ℕ, List, [], Bool, true, false, None, Some, Ok, Err}
 use Rattle.std.specs.Option.{ForSome}
-use Rattle.jb_bytes.specs.Fault.{Rose}
 use Rattle.jb_change.specs.NewBase.{AreEmpty, AreNew, new_area}
 use Rattle.jb_disk.specs.RedoView.{RedoView, HasRoom}
 use Rattle.jb_disk.specs.Device.{Device}
@@ -50,9 +49,9 @@ pub record IsMade (moment : ℕ) (text : List ℕ) (was : Files) (after : Device
   pub replayed : IsGrowthSafe was → ReplayInto AreEmpty was
   pub now : HasNewBase moment after
 
--- no base is made: there was no memory, and nothing was done; or the disk counted a fault
+-- no base is made: there was no memory, and nothing was done; or the disk failed
 abbrev pub IsNotMade : Device → Device → OpenError → Type 0
-IsNotMade before after error = ((error ≡ no_memory) × (after ≡ before)) ⊎ ((error ≡ StoreFault) × Rose before.faults after.faults)
+IsNotMade before after error = ((error ≡ no_memory) × (after ≡ before)) ⊎ (error ≡ StoreFault)
 
 -- why: the journal's record stops here, and nothing was written; or one of the recovered files is not empty, and nothing more was written
 abbrev pub RefusesMaking : Device → Device → ToolError → Type 0

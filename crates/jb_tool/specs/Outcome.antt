@@ -1,7 +1,7 @@
 -- What each tool prints, and the area that it leaves.
 use Rattle.std.specs.Prelude.{◌≡◌, ℕ, List, [], Ok, Option, Some, None}
 use Rattle.jb_change.specs.NewBase.{new_area}
-use Rattle.jb_model.specs.State.{AreaState}
+use Rattle.jb_state.specs.State.{AreaState}
 use Rattle.jb_model.specs.declared.command.Command.TheVariants as command
 use Rattle.jb_tool.specs.Check.{IsCheck}
 use Rattle.jb_tool.specs.Listing.{listing_of}

@@ -1,14 +1,13 @@
 -- What becomes of the files of a base that is recovered and then only read.
-use Rattle.std.specs.Prelude.{◌≡◌, ◌≢◌, Some}
+use Rattle.std.specs.Prelude.{◌≡◌, ◌≢◌, Some, Bool, false}
 use Rattle.std.specs.Option.{ForSome}
 use Rattle.jb_limits.specs.declared.limits.TheConstants.{MOST_SLOTS}
 use Rattle.jb_disk.specs.Device.{Device}
 use Rattle.jb_disk.specs.Files.{Files}
 use Rattle.jb_disk.specs.Gate.{IsGateOpen}
 use Rattle.jb_disk.specs.Runs.{LeavesNow, LeavesOnly}
-use Rattle.jb_image.specs.declared.error.OpenError.{OpenError}
 use Rattle.jb_image.specs.declared.error.OpenError.TheVariants.{StoreFault}
-use Rattle.jb_image.specs.Answers.{IsRefusedBy, OpenFaultRose}
+use Rattle.jb_image.specs.Answers.{IsRefusedBy, is_open_fault}
 use Rattle.jb_journal.specs.declared.error.JournalError.{JournalError}
 use Rattle.jb_journal.specs.declared.error.JournalError.TheVariants.{BadRecord, StoreFault as JournalFault}
 use Rattle.jb_journal.specs.Recover.{IsGrowthSafe, IsRefusedOver, ReplaysAsAtStart}
@@ -31,20 +30,20 @@ pub record IsRecoveredTo (property : Files → Type 0) (was : Files) (after : De
   pub replayed : IsGrowthSafe was → HasReplayed property was after
   pub now : ForSome after.contents property
 
--- a base that is not opened, and why: what its files hold once they are recovered, or a fault of its disk, which no other refusal hides
-pub record RefusesBase (before after : Device) (error : OpenError) : Type 0 where
-  pub files : error ≢ StoreFault → ForSome before.contents (λ was. IsRecoveredTo (λ files. IsRefusedBy MOST_SLOTS files error) was after)
-  pub cause : OpenFaultRose before.faults after.faults error
-
 -- a refusal of recovery, as one of a tool
 abbrev pub of_journal : JournalError → ToolError
 of_journal (BadRecord at) = BadJournal at
 of_journal JournalFault = Open StoreFault
 
--- why a base is not read: the journal's record stops here, and nothing was written; or its recovered files are refused
+-- which refusals are faults of the disk
+abbrev pub is_tool_fault : ToolError → Bool
+is_tool_fault (Open error) = is_open_fault error
+is_tool_fault _ = false
+
+-- why a base is not read: the journal's record stops here, and nothing was written; or its recovered files are refused; a fault says nothing of them
 abbrev pub RefusesReading : Device → Device → ToolError → Type 0
 RefusesReading before after (BadJournal at) = ForSome before.contents (IsRefusedOver (BadRecord at) after)
-RefusesReading before after (Open error) = RefusesBase before after error
+RefusesReading before after (Open error) = error ≢ StoreFault → ForSome before.contents (λ was. IsRecoveredTo (λ files. IsRefusedBy MOST_SLOTS files error) was after)
 RefusesReading before after AlreadyThere = ⊥
 RefusesReading before after (TextFull length) = ⊥
 

@@ -2,7 +2,7 @@
 use Rattle.std.specs.Prelude.{◌≡◌, ◌⊎◌, ℕ, List, [], ◌∷◌, ◌++◌, Result, Ok, Err, codes}
 use Rattle.std.specs.Option.{ForSome}
 use Rattle.jb_area.specs.Calls.{OnlyReadsOrCopies}
-use Rattle.jb_area_open.specs.Opening.{OpeningFaultRose, IsRecovered, OpensAsAtStart, Refuses}
+use Rattle.jb_area_open.specs.Opening.{IsRecovered, OpensAsAtStart, Refuses}
 use Rattle.jb_area_open.specs.declared.error.OpeningError.TheVariants.{BadJournal as bad_journal, Base}
 use Rattle.jb_base.specs.declared.area.AreaRules.{AreaRules}
 use Rattle.jb_base.specs.declared.area.Kind.TheVariants.{Local}
@@ -17,7 +17,7 @@ use Rattle.jb_image.specs.declared.error.OpenError.{OpenError}
 use Rattle.jb_image.specs.declared.error.OpenError.TheVariants.{OutOfMemory as no_memory}
 use Rattle.jb_journal.specs.Recover.{IsGrowthSafe}
 use Rattle.jb_model.specs.Answered.{Answered}
-use Rattle.jb_model.specs.State.{AreaState}
+use Rattle.jb_state.specs.State.{AreaState}
 use Rattle.jb_model.specs.Step.{step}
 use Rattle.jb_model.specs.declared.command.Command.{Command}
 use Rattle.jb_model.specs.declared.reply.Reply.{Reply}
@@ -89,13 +89,11 @@ pub record IsLeftRecovered (command : Command) (was : Files) (after : Device) : 
   pub reads : OnlyReadsOrCopies command opening after
   pub synced : IsAllSynced after
 
--- the area is not tended: there was no memory, and nothing was done; or the base is not opened, or not changed after that, for this, and a fault has its cause; or there
--- was no memory once it was opened
+-- the area is not tended: there was no memory, and nothing was done; or the base is not opened, or not changed after that, for this; or there was no memory once it was opened
 abbrev pub IsNotTended : Command → Device → Device → OpenError → Type 0
 IsNotTended command before after error =
     ((error ≡ no_memory) × (after ≡ before))
-    ⊎ ((Refuses MOST_SLOTS before after (Base error) × OpeningFaultRose before.faults after.faults (Base error))
-    ⊎ ((error ≡ no_memory) × ForSome before.contents (λ was. IsLeftRecovered command was after) × (after.faults ≡ before.faults)))
+    ⊎ (Refuses MOST_SLOTS before after (Base error) ⊎ ((error ≡ no_memory) × ForSome before.contents (λ was. IsLeftRecovered command was after)))
 
 -- a tool that has this command done
 abbrev pub Tends : Command → Device → Device → Answer → Type 0

@@ -6,7 +6,7 @@ use Rattle.jb_limits.specs.declared.limits.TheConstants.{MOST_SLOTS}
 use Rattle.jb_base.specs.declared.user.User.{User}
 use Rattle.jb_change.specs.NewBase.{new_area}
 use Rattle.jb_model.specs.Answered.{Answered}
-use Rattle.jb_model.specs.State.{AreaState, next_number}
+use Rattle.jb_state.specs.State.{AreaState, next_number}
 use Rattle.jb_model.specs.Step.{step}
 use Rattle.jb_model.specs.declared.command.Command.{Command}
 use Rattle.jb_model.specs.declared.command.Command.TheVariants.{Kill, Pack, Post, Read, SetMark}

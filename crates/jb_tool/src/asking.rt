@@ -1,9 +1,9 @@
 //! Commands of the user, each done and counted.
-ghost use Rattle.std.specs.Prelude.{◌≡◌, ◌≢◌, ◌+◌, ◌-◌, ◌<◌, ◌≤◌, ◌%◌, ◌^◌, length};
+ghost use Rattle.std.specs.Prelude.{◌≡◌, ◌+◌, ◌-◌, ◌<◌, ◌≤◌, ◌%◌, ◌^◌, length};
 ghost use Rattle.jb_area.specs.Area.{loaded_of};
 ghost use Rattle.jb_tool.specs.LoadRuns.{Goes, IsReady, answers_in};
-ghost use Rattle.jb_tool.specs.Workload.{LoadRun, asked, in_step, loader, marked, post_of_step, tenth};
-ghost use Rattle.jb_model.specs.State.{next_number};
+ghost use Rattle.jb_tool.specs.Workload.{asked, in_step, loader, marked, post_of_step, tenth};
+ghost use Rattle.jb_state.specs.State.{next_number};
 ghost use Rattle.jb_model.specs.declared.command.Command.TheVariants.{Pack as Packing};
 
 use crate::counts::Counts;

@@ -1,12 +1,13 @@
 //! The tool `check`.
-ghost use Rattle.std.specs.Prelude.{◌≡◌, ◌↔◌, ◌≤◌, ◌++◌, ℕ, List, IfOk, OnOk, length, true};
+ghost use Rattle.std.specs.Prelude.{◌≡◌, ◌↔◌, ◌++◌, ℕ, List, IfOk, OnOk, true};
+ghost use Rattle.jb_disk.specs.Device.{CountsFaults};
 ghost use Rattle.jb_limits.specs.declared.limits.TheConstants.{MOST_SLOTS};
-ghost use Rattle.jb_model.specs.Links.{IsLinked};
-ghost use Rattle.jb_model.specs.Sound.{IsSound};
-ghost use Rattle.jb_model.specs.State.{state_of};
+ghost use Rattle.jb_state.specs.Links.{IsLinked};
+ghost use Rattle.jb_state.specs.Sound.{IsSound};
+ghost use Rattle.jb_state.specs.State.{state_of};
 ghost use Rattle.jb_tool.specs.Answers.{LooksAt};
 ghost use Rattle.jb_tool.specs.Check.{IsCheck, check_lines, count_line, linked_line};
-ghost use Rattle.jb_tool.specs.Recovered.{KeepsReplay};
+ghost use Rattle.jb_tool.specs.Recovered.{KeepsReplay, is_tool_fault};
 ghost use Rattle.jb_tool.specs.declared.tool.Tool.TheVariants.{Check as Checking};
 
 use crate::ToolError;
@@ -16,7 +17,7 @@ use itoa::Buffer;
 use jb_base::{Bytes, OutOfMemory};
 use jb_disk::Disk;
 use jb_link::{changed, relink_plan};
-use jb_model::Loaded;
+use jb_state::Loaded;
 use std::alloc::Global;
 
 /// Puts a line behind a text: a name, a space and a number.
@@ -43,7 +44,8 @@ fn append_linked(text: &mut Bytes, linked: bool) -> Result<(), OutOfMemory>
 /// Whether each live message has the links that the area gives it.
 fn is_linked(alloc: Global, loaded: &Loaded) -> Result<bool, OutOfMemory>
     requires { IsSound MOST_SLOTS loaded.now }
-    ensures { IfOk result (λ linked. (texts : List ℕ) → (linked ≡ true) ↔ IsLinked (state_of texts loaded.now)) }
+    ensures { IfOk result (λ linked. (texts : List ℕ)
+        → (linked ≡ true) ↔ IsLinked (state_of texts loaded.now)) }
 {
     let plan = relink_plan(alloc, loaded)?;
     Ok(changed(loaded, plan.as_slice()) == 0)
@@ -53,7 +55,8 @@ fn is_linked(alloc: Global, loaded: &Loaded) -> Result<bool, OutOfMemory>
 /// many slots are live, killed and empty, and these two.
 fn figures(alloc: Global, loaded: &Loaded, msgids: u64, linked: bool) -> Result<Bytes, OutOfMemory>
     requires { IsSound MOST_SLOTS loaded.now }
-    ensures { IfOk result (λ text. (texts : List ℕ) → text ≡ check_lines (state_of texts loaded.now) msgids linked) }
+    ensures { IfOk result (λ text. (texts : List ℕ)
+        → text ≡ check_lines (state_of texts loaded.now) msgids linked) }
 {
     let slots = loaded.slots.as_slice();
     let base = u64::from(loaded.base);
@@ -83,7 +86,7 @@ fn checked(alloc: Global, loaded: &Loaded) -> Result<Bytes, OutOfMemory>
 fn check_base<D: Disk>(alloc: Global, disk: &mut D) -> Result<Bytes, ToolError>
     ensures answer { LooksAt Checking (D.device disk.old) (D.device disk.new) result }
     ensures crash { KeepsReplay (D.device disk.old) (D.device disk.new) }
-    ensures later { (D.device disk.old).faults ≤ (D.device disk.new).faults }
+    ensures faults { CountsFaults is_tool_fault (D.device disk.old) (D.device disk.new) result }
 {
     let loaded = read_base(alloc, disk)?;
     Ok(checked(alloc, &loaded)?)
@@ -94,7 +97,7 @@ fn check_base<D: Disk>(alloc: Global, disk: &mut D) -> Result<Bytes, ToolError>
 pub fn check<D: Disk>(alloc: Global, disk: D) -> (D, Result<Bytes, ToolError>)
     ensures answer { LooksAt Checking (D.device disk) (D.device result.0) result.1 }
     ensures crash { KeepsReplay (D.device disk) (D.device result.0) }
-    ensures later { (D.device disk).faults ≤ (D.device result.0).faults }
+    ensures faults { CountsFaults is_tool_fault (D.device disk) (D.device result.0) result.1 }
 {
     let mut disk = disk;
     let answer = check_base(alloc, &mut disk);

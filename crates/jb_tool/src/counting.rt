@@ -1,13 +1,13 @@
 //! What a check counts.
 ghost use Rattle.std.specs.Prelude.{◌≡◌, ◌↔◌, ◌≤◌, ℕ, IfOk, IsTrue, List, length, map, if◌then◌else◌};
 ghost use Rattle.jb_limits.specs.declared.limits.TheConstants.{MOST_SLOTS};
-ghost use Rattle.jb_model.specs.Live.{killed_count, live_count, live_from};
-ghost use Rattle.jb_model.specs.State.{slot_state};
+ghost use Rattle.jb_state.specs.Live.{killed_count, live_count, live_from};
+ghost use Rattle.jb_state.specs.State.{slot_state};
 ghost use Rattle.jb_tool.specs.Check.{CountsSlot, HasReadableId, HaveReadableIds, IsReadAs, empty_count};
 
 use jb_base::{MSGID, OutOfMemory, Subfields};
-use jb_model::LoadedSlot;
 use jb_msgid::{MsgId, MsgIdError, parse};
+use jb_state::LoadedSlot;
 use std::alloc::Global;
 
 /// How many messages are live.
@@ -87,7 +87,8 @@ fn one_if(so: bool) -> u64
 /// How many live messages have such an id.
 pub(crate) fn count_ids(alloc: Global, slots: &[LoadedSlot]) -> Result<u64, OutOfMemory>
     requires { length slots.now ≤ MOST_SLOTS }
-    ensures { IfOk result (λ count. (texts : List ℕ) (base : ℕ) → HaveReadableIds (live_from base (map (slot_state texts) slots.now)) count) }
+    ensures { IfOk result (λ count. (texts : List ℕ) (base : ℕ)
+        → HaveReadableIds (live_from base (map (slot_state texts) slots.now)) count) }
 {
     let mut count = 0;
     for slot in slots {

@@ -1,17 +1,18 @@
 //! The tool `list`.
-ghost use Rattle.std.specs.Prelude.{◌≡◌, ◌≤◌, ◌+◌, ◌^◌, ◌<◌, ◌++◌, ℕ, List, [], IfOk, OnOk, length, unwrap_or};
+ghost use Rattle.std.specs.Prelude.{◌≡◌, ◌+◌, ◌^◌, ◌<◌, ◌++◌, ℕ, List, [], IfOk, OnOk, length, unwrap_or};
 ghost use Rattle.jb_bytes.specs.Subfields.{first_of};
-ghost use Rattle.jb_model.specs.State.{state_of, slot_state};
+ghost use Rattle.jb_disk.specs.Device.{CountsFaults};
+ghost use Rattle.jb_state.specs.State.{state_of, slot_state};
 ghost use Rattle.jb_tool.specs.Answers.{LooksAt};
 ghost use Rattle.jb_tool.specs.Listing.{listing_of, message_line, slot_line};
-ghost use Rattle.jb_tool.specs.Recovered.{KeepsReplay};
+ghost use Rattle.jb_tool.specs.Recovered.{KeepsReplay, is_tool_fault};
 ghost use Rattle.jb_tool.specs.declared.tool.Tool.TheVariants.{List as Listing};
 
 use crate::ToolError;
 use crate::reading::read_base;
 use jb_base::{Bytes, OutOfMemory, RECEIVER_NAME, SENDER_NAME, SUBJECT, Subfields};
 use jb_disk::Disk;
-use jb_model::{Loaded, LoadedSlot};
+use jb_state::{Loaded, LoadedSlot};
 use jb_text::append_listing;
 use std::alloc::Global;
 
@@ -38,7 +39,8 @@ fn append_message(text: &mut Bytes, number: u32, fields: &Subfields) -> Result<(
 
 /// Puts the line of a slot behind a text, where it is live.
 fn append_slot(text: &mut Bytes, number: u32, slot: &LoadedSlot) -> Result<(), OutOfMemory>
-    ensures { OnOk result ((texts : List ℕ) → text.new ≡ text.old ++ slot_line number (slot_state texts slot.now)) }
+    ensures { OnOk result ((texts : List ℕ)
+        → text.new ≡ text.old ++ slot_line number (slot_state texts slot.now)) }
 {
     match slot {
         LoadedSlot::Live(message) => append_message(text, number, &message.subfields),
@@ -65,7 +67,7 @@ fn listing(alloc: Global, loaded: &Loaded) -> Result<Bytes, OutOfMemory>
 fn list_base<D: Disk>(alloc: Global, disk: &mut D) -> Result<Bytes, ToolError>
     ensures answer { LooksAt Listing (D.device disk.old) (D.device disk.new) result }
     ensures crash { KeepsReplay (D.device disk.old) (D.device disk.new) }
-    ensures later { (D.device disk.old).faults ≤ (D.device disk.new).faults }
+    ensures faults { CountsFaults is_tool_fault (D.device disk.old) (D.device disk.new) result }
 {
     let loaded = read_base(alloc, disk)?;
     Ok(listing(alloc, &loaded)?)
@@ -76,7 +78,7 @@ fn list_base<D: Disk>(alloc: Global, disk: &mut D) -> Result<Bytes, ToolError>
 pub fn list<D: Disk>(alloc: Global, disk: D) -> (D, Result<Bytes, ToolError>)
     ensures answer { LooksAt Listing (D.device disk) (D.device result.0) result.1 }
     ensures crash { KeepsReplay (D.device disk) (D.device result.0) }
-    ensures later { (D.device disk).faults ≤ (D.device result.0).faults }
+    ensures faults { CountsFaults is_tool_fault (D.device disk) (D.device result.0) result.1 }
 {
     let mut disk = disk;
     let answer = list_base(alloc, &mut disk);

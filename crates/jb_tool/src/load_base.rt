@@ -1,11 +1,10 @@
 //! An empty base, and the area over it.
-ghost use Rattle.std.specs.Prelude.{◌≡◌, ◌≤◌, ℕ, List, [], IfErr, IfOk, OnErr, OnOk};
+ghost use Rattle.std.specs.Prelude.{◌≡◌, IfErr, IfOk, OnOk};
 ghost use Rattle.std.specs.Option.{ForSome, option_map};
-ghost use Rattle.jb_bytes.specs.Fault.{Rose};
 ghost use Rattle.jb_change.specs.NewBase.{new_loaded};
-ghost use Rattle.jb_decide.specs.Errors.{AreaFaultRose};
+ghost use Rattle.jb_decide.specs.Errors.{is_area_fault};
 ghost use Rattle.jb_decide.specs.declared.error.AreaError.TheVariants.{OutOfMemory as no_memory};
-ghost use Rattle.jb_disk.specs.Device.{TellsAlike};
+ghost use Rattle.jb_disk.specs.Device.{TellsAlike, CountsFaults, is_disk_fault};
 ghost use Rattle.jb_disk.specs.Files.{with_file};
 ghost use Rattle.jb_disk.specs.Runs.{IsAllSynced};
 ghost use Rattle.jb_disk.specs.declared.file.FileId.TheVariants.{Jhr};
@@ -20,8 +19,8 @@ use jb_change::new_loaded;
 use jb_disk::{Disk, DiskFailed, FileId};
 use jb_image::fixed_of;
 use jb_journal::{prepare, sync_all};
-use jb_model::Loaded;
 use jb_record::encode_fixed;
+use jb_state::Loaded;
 use std::alloc::Global;
 
 /// The bytes of its fixed header.
@@ -39,9 +38,7 @@ fn write_header<D: Disk>(disk: &mut D, loaded: &Loaded) -> Result<(), DiskFailed
     ensures told { OnOk result ((D.device disk.new).contents
         ≡ option_map (with_file Jhr (fixed_header_bytes empty_header)) (D.device disk.old).contents) }
     ensures synced { OnOk result (IsAllSynced (D.device disk.old) → IsAllSynced (D.device disk.new)) }
-    ensures cause { OnErr result (Rose (D.device disk.old).faults (D.device disk.new).faults) }
-    ensures quiet { OnOk result ((D.device disk.new).faults ≡ (D.device disk.old).faults) }
-    ensures later { (D.device disk.old).faults ≤ (D.device disk.new).faults }
+    ensures faults { CountsFaults is_disk_fault (D.device disk.old) (D.device disk.new) result }
     ensures alike { TellsAlike (D.device disk.old) (D.device disk.new) }
 {
     let bytes = header(loaded);
@@ -56,9 +53,7 @@ fn make<D: Disk>(disk: &mut D, loaded: &Loaded) -> Result<(), AreaError>
     requires empty { ForSome (D.device disk.old).contents HaveNoByte }
     ensures made { OnOk result (ForSome (D.device disk.new).contents IsEmptyBase) }
     ensures synced { OnOk result (IsAllSynced (D.device disk.new)) }
-    ensures cause { IfErr result (AreaFaultRose (D.device disk.old).faults (D.device disk.new).faults) }
-    ensures quiet { OnOk result ((D.device disk.new).faults ≡ (D.device disk.old).faults) }
-    ensures later { (D.device disk.old).faults ≤ (D.device disk.new).faults }
+    ensures faults { CountsFaults is_area_fault (D.device disk.old) (D.device disk.new) result }
     ensures alike { TellsAlike (D.device disk.old) (D.device disk.new) }
 {
     sync_all(disk)?;
@@ -93,9 +88,8 @@ pub(crate) fn make_area<D: Disk>(alloc: Global, disk: D) -> Result<OpenArea<D>, 
     requires empty { ForSome (D.device disk).contents HaveNoByte }
     ensures ready { IfOk result (IsReady D.device) }
     ensures empty { IfOk result (λ area. RestsAs D.device area empty_area) }
-    ensures cause { IfErr result (λ back. AreaFaultRose (D.device disk).faults (D.device back.0).faults back.1) }
-    ensures quiet { OnOk result ((device_then D.device result).faults ≡ (D.device disk).faults) }
-    ensures later { (D.device disk).faults ≤ (device_then D.device result).faults }
+    ensures faults { CountsFaults (λ back.
+        is_area_fault back.1) (D.device disk) (device_then D.device result) result }
     ensures alike { TellsAlike (D.device disk) (device_then D.device result) }
 {
     let Ok(loaded) = new_loaded(alloc, 0) else {

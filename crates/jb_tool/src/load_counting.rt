@@ -4,15 +4,15 @@ ghost use Rattle.jb_base.specs.Access.{is_visible};
 ghost use Rattle.jb_bytes.specs.Subfields.{first_of, receiver_of, sender_of};
 ghost use Rattle.jb_limits.specs.declared.limits.TheConstants.{MOST_SLOTS};
 ghost use Rattle.jb_tool.specs.LoadSummary.{answer_count, is_seen};
-ghost use Rattle.jb_model.specs.Sound.{IsSound};
-ghost use Rattle.jb_model.specs.State.{slot_state, state_of};
-ghost use Rattle.jb_model.specs.Visible.{last_read_by, unread_by};
+ghost use Rattle.jb_state.specs.Sound.{IsSound};
+ghost use Rattle.jb_state.specs.State.{slot_state, state_of};
+ghost use Rattle.jb_state.specs.Visible.{last_read_by, unread_by};
 
 use jb_access::{Action, Parties, allowed};
 use jb_base::{AreaRules, OutOfMemory, RECEIVER_NAME, SENDER_NAME, Subfields, User};
 use jb_crc::jam_crc;
 use jb_marks::Marks;
-use jb_model::{Loaded, LoadedMessage, LoadedSlot};
+use jb_state::{Loaded, LoadedMessage, LoadedSlot};
 use std::alloc::Global;
 
 /// How many live messages have a parent.
@@ -29,7 +29,8 @@ pub(crate) fn count_answers(slots: &[LoadedSlot]) -> u64
 /// The number that the user's mark has as read last, or 0.
 fn last_read(alloc: Global, loaded: &Loaded, user: &User) -> Result<u32, OutOfMemory>
     requires { IsSound MOST_SLOTS loaded.now }
-    ensures { IfOk result (λ last. (texts : List ℕ) → last ≡ last_read_by user.now (state_of texts loaded.now)) }
+    ensures { IfOk result (λ last. (texts : List ℕ)
+        → last ≡ last_read_by user.now (state_of texts loaded.now)) }
 {
     let marks = Marks::copy(alloc, loaded.marks.as_slice())?;
     match marks.find(jam_crc(user.name.as_slice()), user.id) {
@@ -84,7 +85,8 @@ fn one_if(so: bool) -> u64
 /// How many of these messages the user sees.
 fn count_seen(rules: &AreaRules, user: &User, slots: &[LoadedSlot]) -> u64
     requires { length slots.now ≤ MOST_SLOTS }
-    ensures { (texts : List ℕ) → result ≡ count_by (is_seen rules.now user.now) (map (slot_state texts) slots.now) }
+    ensures { (texts : List ℕ) → result ≡ count_by (is_seen rules.now user.now)
+        (map (slot_state texts) slots.now) }
 {
     let mut count = 0;
     for slot in slots {
@@ -112,7 +114,8 @@ pub(crate) fn count_unread(
     user: &User,
 ) -> Result<u64, OutOfMemory>
     requires { IsSound MOST_SLOTS loaded.now }
-    ensures { IfOk result (λ count. (texts : List ℕ) → count ≡ length (unread_by rules.now user.now (state_of texts loaded.now))) }
+    ensures { IfOk result (λ count. (texts : List ℕ)
+        → count ≡ length (unread_by rules.now user.now (state_of texts loaded.now))) }
 {
     let last = last_read(alloc, loaded, user)?;
     match loaded.slots.as_slice().get(slots_read(loaded.base, last)..) {

@@ -1,8 +1,9 @@
 //! The workload on a disk, and its summary.
-ghost use Rattle.std.specs.Prelude.{◌≡◌, ◌≤◌, IfErr, IfOk, IsSome};
+ghost use Rattle.std.specs.Prelude.{◌≡◌, ◌≤◌, IfOk, IsSome};
 ghost use Rattle.std.specs.Option.{ForSome};
 ghost use Rattle.jb_area.specs.Area.{device_of};
-ghost use Rattle.jb_decide.specs.Errors.{AreaFaultRose};
+ghost use Rattle.jb_decide.specs.Errors.{is_area_fault};
+ghost use Rattle.jb_disk.specs.Device.{CountsFaults};
 ghost use Rattle.jb_tool.specs.LoadBase.{HaveNoByte};
 ghost use Rattle.jb_tool.specs.LoadRuns.{IsFilled, IsLoaded, IsReady, RestsAs};
 ghost use Rattle.jb_tool.specs.LoadSummary.{summary_of};
@@ -30,10 +31,11 @@ fn fill<D: Disk>(
 ) -> Result<Bytes, AreaError>
     requires ready { IsReady D.device area.old }
     requires count { count ≤ 50_000 }
-    ensures filled { IfOk result (λ text. IsSome (device_of D.device area.old).contents → RestsAs D.device area.old empty_area
+    ensures filled { IfOk result (λ text. IsSome (device_of D.device area.old).contents
+        → RestsAs D.device area.old empty_area
         → IsFilled D.device seed count text area.new) }
-    ensures cause { IfErr result (AreaFaultRose (device_of D.device area.old).faults (device_of D.device area.new).faults) }
-    ensures later { (device_of D.device area.old).faults ≤ (device_of D.device area.new).faults }
+    ensures faults { CountsFaults is_area_fault (device_of D.device area.old)
+        (device_of D.device area.new) result }
 {
     let user = loader(alloc)?;
     let mut counts = Counts::new();
@@ -47,9 +49,9 @@ fn fill<D: Disk>(
 pub fn load<D: Disk>(alloc: Global, disk: D, seed: u32, count: u32) -> (D, Result<Bytes, AreaError>)
     requires count { count ≤ 50_000 }
     requires empty { ForSome (D.device disk).contents HaveNoByte }
-    ensures loaded { IfOk result.1 (λ text. IsSome (D.device disk).contents → IsLoaded seed count text (D.device result.0)) }
-    ensures cause { IfErr result.1 (AreaFaultRose (D.device disk).faults (D.device result.0).faults) }
-    ensures later { (D.device disk).faults ≤ (D.device result.0).faults }
+    ensures loaded { IfOk result.1 (λ text. IsSome (D.device disk).contents
+        → IsLoaded seed count text (D.device result.0)) }
+    ensures faults { CountsFaults is_area_fault (D.device disk) (D.device result.0) result.1 }
 {
     match make_area(alloc, disk) {
         Ok(area) => {

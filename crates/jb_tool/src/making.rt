@@ -1,11 +1,10 @@
 //! The tool `make`.
-ghost use Rattle.std.specs.Prelude.{◌≡◌, ◌≤◌, ◌==◌, ◌&&◌, IfErr, IfOk, IsSome, OnErr, OnOk};
+ghost use Rattle.std.specs.Prelude.{◌≡◌, ◌==◌, ◌&&◌, IfErr, IfOk, IsSome, OnOk};
 ghost use Rattle.std.specs.Option.{ForSome};
-ghost use Rattle.jb_bytes.specs.Fault.{Rose};
-ghost use Rattle.jb_disk.specs.Device.{FailsBy, OnlyReads};
+ghost use Rattle.jb_disk.specs.Device.{CountsFaults, OnlyReads, is_disk_fault};
 ghost use Rattle.jb_disk.specs.Runs.{IsAllSynced, LeavesOnly};
 ghost use Rattle.jb_tool.specs.Making.{AnswersMake, AreNoneOrNew, AreShutAndEmpty, HasNewBase, IsFoundEmpty, IsRoom, KeepsOrMakes, RefusesMaking};
-ghost use Rattle.jb_tool.specs.Recovered.{IsRecoveredTo, KeepsReplay};
+ghost use Rattle.jb_tool.specs.Recovered.{IsRecoveredTo, KeepsReplay, is_tool_fault};
 
 use crate::ToolError;
 use jb_base::{Bytes, OutOfMemory};
@@ -35,7 +34,7 @@ fn are_zero(headers: u64, texts: u64, index: u64, marks: u64) -> bool
 fn is_empty<D: Disk>(disk: &mut D) -> Result<bool, DiskFailed>
     ensures found { IfOk result (λ empty. ForSome (D.device disk.old).contents (IsFoundEmpty empty)) }
     ensures kept { OnlyReads (D.device disk.old) (D.device disk.new) }
-    ensures cause { FailsBy ⊥ (D.device disk.old) (D.device disk.new) result }
+    ensures faults { CountsFaults is_disk_fault (D.device disk.old) (D.device disk.new) result }
 {
     let headers = disk.len(FileId::Jhr)?;
     let texts = disk.len(FileId::Jdt)?;
@@ -56,7 +55,7 @@ fn recover_none<D: Disk>(disk: &mut D) -> Result<(), ToolError>
 
     // On every disk.
     ensures crash { KeepsReplay (D.device disk.old) (D.device disk.new) }
-    ensures later { (D.device disk.old).faults ≤ (D.device disk.new).faults }
+    ensures faults { CountsFaults is_tool_fault (D.device disk.old) (D.device disk.new) result }
 {
     let _ = recover(disk)?;
     if is_empty(disk)? {
@@ -71,11 +70,11 @@ fn write_base<D: Disk>(disk: &mut D, redo: &mut Redo, moment: u32) -> Result<(),
     requires room { IsRoom redo.old }
     requires empty { ForSome (D.device disk.old).contents AreShutAndEmpty }
     requires synced { IsAllSynced (D.device disk.old) }
-    ensures made { OnOk result (ForSome (D.device disk.old).contents (λ _. HasNewBase moment (D.device disk.new))) }
+    ensures made { OnOk result (ForSome (D.device disk.old).contents (λ _.
+        HasNewBase moment (D.device disk.new))) }
 
-    // A stop has a fault as its cause, and at any moment a crash leaves empty files or the base.
-    ensures cause { OnErr result (Rose (D.device disk.old).faults (D.device disk.new).faults) }
-    ensures later { (D.device disk.old).faults ≤ (D.device disk.new).faults }
+    // A stop is a fault, and at any moment a crash leaves empty files or the base.
+    ensures faults { CountsFaults is_disk_fault (D.device disk.old) (D.device disk.new) result }
     ensures crash { ForSome (D.device disk.old).contents (λ _.
         LeavesOnly (D.device disk.old) (D.device disk.new) (AreNoneOrNew moment)) }
 {
@@ -88,7 +87,7 @@ fn write_base<D: Disk>(disk: &mut D, redo: &mut Redo, moment: u32) -> Result<(),
 fn make_base<D: Disk>(alloc: Global, disk: &mut D, moment: u32) -> Result<Bytes, ToolError>
     ensures answer { AnswersMake moment (D.device disk.old) (D.device disk.new) result }
     ensures crash { KeepsOrMakes moment (D.device disk.old) (D.device disk.new) }
-    ensures later { (D.device disk.old).faults ≤ (D.device disk.new).faults }
+    ensures faults { CountsFaults is_tool_fault (D.device disk.old) (D.device disk.new) result }
 {
     let mut redo = room(alloc)?;
     recover_none(disk)?;
@@ -105,7 +104,7 @@ fn make_base<D: Disk>(alloc: Global, disk: &mut D, moment: u32) -> Result<Bytes,
 pub fn make<D: Disk>(alloc: Global, disk: D, moment: u32) -> (D, Result<Bytes, ToolError>)
     ensures answer { AnswersMake moment (D.device disk) (D.device result.0) result.1 }
     ensures crash { KeepsOrMakes moment (D.device disk) (D.device result.0) }
-    ensures later { (D.device disk).faults ≤ (D.device result.0).faults }
+    ensures faults { CountsFaults is_tool_fault (D.device disk) (D.device result.0) result.1 }
 {
     let mut disk = disk;
     let answer = make_base(alloc, &mut disk, moment);

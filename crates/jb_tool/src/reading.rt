@@ -1,17 +1,18 @@
 //! A base is recovered and read.
-ghost use Rattle.std.specs.Prelude.{◌≡◌, ◌≤◌, IfErr, IfOk, OnOk};
+ghost use Rattle.std.specs.Prelude.{IfErr, IfOk};
 ghost use Rattle.std.specs.Option.{ForSome};
+ghost use Rattle.jb_disk.specs.Device.{CountsFaults};
 ghost use Rattle.jb_limits.specs.declared.limits.TheConstants.{MOST_SLOTS};
 ghost use Rattle.jb_image.specs.Answers.{OpensTo};
-ghost use Rattle.jb_model.specs.Sound.{IsSound};
-ghost use Rattle.jb_tool.specs.Recovered.{IsRecoveredTo, KeepsReplay, RefusesReading};
+ghost use Rattle.jb_state.specs.Sound.{IsSound};
+ghost use Rattle.jb_tool.specs.Recovered.{IsRecoveredTo, KeepsReplay, RefusesReading, is_tool_fault};
 
 use crate::ToolError;
 use jb_base::MOST_SLOTS;
 use jb_disk::Disk;
 use jb_image::decode;
 use jb_journal::recover;
-use jb_model::Loaded;
+use jb_state::Loaded;
 use std::alloc::Global;
 
 /// What a base holds, once the change is done that waits in its journal. Nothing else is written.
@@ -24,8 +25,7 @@ pub(crate) fn read_base<D: Disk>(alloc: Global, disk: &mut D) -> Result<Loaded, 
     // On every disk.
     ensures sound { IfOk result (IsSound MOST_SLOTS) }
     ensures crash { KeepsReplay (D.device disk.old) (D.device disk.new) }
-    ensures quiet { OnOk result ((D.device disk.new).faults ≡ (D.device disk.old).faults) }
-    ensures later { (D.device disk.old).faults ≤ (D.device disk.new).faults }
+    ensures faults { CountsFaults is_tool_fault (D.device disk.old) (D.device disk.new) result }
 {
     let _ = recover(disk)?;
     let loaded = decode(alloc, disk, MOST_SLOTS)?;

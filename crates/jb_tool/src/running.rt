@@ -1,7 +1,7 @@
 //! The steps, one after another.
-ghost use Rattle.std.specs.Prelude.{◌≡◌, ◌+◌, ◌-◌, ◌*◌, ◌<◌, ◌≤◌, ◌^◌};
+ghost use Rattle.std.specs.Prelude.{◌≡◌, ◌+◌, ◌-◌, ◌<◌, ◌≤◌, ◌^◌};
 ghost use Rattle.jb_tool.specs.LoadRuns.{Goes, IsReady, answers_in};
-ghost use Rattle.jb_tool.specs.Workload.{LoadRun, behind_step, in_step, loader, run_to, whole_run};
+ghost use Rattle.jb_tool.specs.Workload.{behind_step, in_step, loader, run_to, whole_run};
 
 use crate::asking::{ask_mark, ask_pack, ask_step};
 use crate::counts::Counts;

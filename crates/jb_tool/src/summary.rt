@@ -4,15 +4,15 @@ ghost use Rattle.jb_limits.specs.declared.limits.TheConstants.{MOST_SLOTS};
 ghost use Rattle.jb_tool.specs.LoadRuns.{run_at};
 ghost use Rattle.jb_tool.specs.LoadSummary.{done_lines, figure_line, file_lines, slot_lines, summary_of};
 ghost use Rattle.jb_tool.specs.Workload.{load_rules, loader};
-ghost use Rattle.jb_model.specs.Sound.{IsSound};
-ghost use Rattle.jb_model.specs.State.{AreaState, slot_state, state_of};
+ghost use Rattle.jb_state.specs.Sound.{IsSound};
+ghost use Rattle.jb_state.specs.State.{AreaState, slot_state, state_of};
 
 use crate::counting::count_live;
 use crate::counts::Counts;
 use crate::load_counting::{count_answers, count_unread};
 use itoa::Buffer;
 use jb_base::{AreaRules, Bytes, OutOfMemory, User};
-use jb_model::Loaded;
+use jb_state::Loaded;
 use std::alloc::Global;
 
 /// Puts a line behind a text: a name, a space and a number.
@@ -39,7 +39,8 @@ fn append_done(text: &mut Bytes, counts: &Counts) -> Result<(), OutOfMemory>
 /// Puts the lines of the messages behind a text.
 fn append_messages(text: &mut Bytes, loaded: &Loaded, unread: u64) -> Result<(), OutOfMemory>
     requires sound { IsSound MOST_SLOTS loaded.now }
-    ensures { OnOk result ((texts : List ℕ) → text.new ≡ text.old ++ slot_lines (map (slot_state texts) loaded.now.slots) unread) }
+    ensures { OnOk result ((texts : List ℕ)
+        → text.new ≡ text.old ++ slot_lines (map (slot_state texts) loaded.now.slots) unread) }
 {
     let slots = loaded.slots.as_slice();
     append_figure(text, b"live", count_live(slots))?;
@@ -72,7 +73,8 @@ pub(crate) fn summary(
     requires sound { IsSound MOST_SLOTS loaded.now }
     requires rules { rules.now ≡ load_rules }
     requires user { user.now ≡ loader }
-    ensures { IfOk result (λ text. (texts : List ℕ) → text ≡ summary_of (run_at (state_of texts loaded.now) counts.now)) }
+    ensures { IfOk result (λ text. (texts : List ℕ)
+        → text ≡ summary_of (run_at (state_of texts loaded.now) counts.now)) }
 {
     let unread = count_unread(alloc, loaded, rules, user)?;
     let mut text = Bytes::new(alloc);

@@ -1,9 +1,11 @@
 //! The tools that tend an area: `relink` and `pack`.
-ghost use Rattle.std.specs.Prelude.{◌≡◌, ◌≤◌, IfErr, IfOk, Ok};
+ghost use Rattle.std.specs.Prelude.{◌≡◌, IfErr, IfOk, Ok};
 ghost use Rattle.jb_area.specs.Area.{rules_of};
 ghost use Rattle.jb_area.specs.Calls.{HasRest};
+ghost use Rattle.jb_disk.specs.Device.{CountsFaults};
 ghost use Rattle.jb_model.specs.declared.command.Command.TheVariants.{Pack as packing, Relink as relinking};
 ghost use Rattle.jb_tool.specs.Changing.{DoesCommand, HasNoLine, of_area};
+ghost use Rattle.jb_tool.specs.Recovered.{is_tool_fault};
 ghost use Rattle.jb_tool.specs.Tending.{KeepsOrTends, Tends, tool_answer, tool_rules, tool_user};
 
 use crate::ToolError;
@@ -101,7 +103,7 @@ fn tend_area<D: Disk>(
 fn tend<D: Disk>(alloc: Global, disk: D, command: &Command) -> (D, Result<Bytes, ToolError>)
     ensures answer { Tends command.now (D.device disk) (D.device result.0) result.1 }
     ensures crash { KeepsOrTends command.now (D.device disk) (D.device result.0) }
-    ensures later { (D.device disk).faults ≤ (D.device result.0).faults }
+    ensures faults { CountsFaults is_tool_fault (D.device disk) (D.device result.0) result.1 }
 {
     let Ok(rules) = tool_rules(alloc) else {
         return (disk, Err(ToolError::Open(OpenError::OutOfMemory)));
@@ -125,7 +127,7 @@ fn tend<D: Disk>(alloc: Global, disk: D, command: &Command) -> (D, Result<Bytes,
 pub fn relink<D: Disk>(alloc: Global, disk: D) -> (D, Result<Bytes, ToolError>)
     ensures answer { Tends relinking (D.device disk) (D.device result.0) result.1 }
     ensures crash { KeepsOrTends relinking (D.device disk) (D.device result.0) }
-    ensures later { (D.device disk).faults ≤ (D.device result.0).faults }
+    ensures faults { CountsFaults is_tool_fault (D.device disk) (D.device result.0) result.1 }
 {
     tend(alloc, disk, &Command::Relink)
 }
@@ -137,7 +139,7 @@ pub fn relink<D: Disk>(alloc: Global, disk: D) -> (D, Result<Bytes, ToolError>)
 pub fn pack<D: Disk>(alloc: Global, disk: D) -> (D, Result<Bytes, ToolError>)
     ensures answer { Tends packing (D.device disk) (D.device result.0) result.1 }
     ensures crash { KeepsOrTends packing (D.device disk) (D.device result.0) }
-    ensures later { (D.device disk).faults ≤ (D.device result.0).faults }
+    ensures faults { CountsFaults is_tool_fault (D.device disk) (D.device result.0) result.1 }
 {
     tend(alloc, disk, &Command::Pack)
 }

@@ -1,5 +1,4 @@
 //! The tools by their names.
-ghost use Rattle.std.specs.Prelude.{◌≤◌};
 ghost use Rattle.jb_tool.specs.Answers.{AnswersTool, KeepsUnderTool};
 
 use crate::{ToolError, check, list, make, pack, relink};
@@ -31,7 +30,6 @@ pub fn run<D: Disk>(
 ) -> (D, Result<Bytes, ToolError>)
     ensures answer { AnswersTool tool moment (D.device disk) (D.device result.0) result.1 }
     ensures crash { KeepsUnderTool tool moment (D.device disk) (D.device result.0) }
-    ensures later { (D.device disk).faults ≤ (D.device result.0).faults }
 {
     match tool {
         Tool::List => list(alloc, disk),

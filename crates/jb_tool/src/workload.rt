@@ -1,5 +1,5 @@
 //! Who asks, and what is asked in each step.
-ghost use Rattle.std.specs.Prelude.{◌≡◌, ◌≢◌, ◌+◌, ◌%◌, ◌<◌, ◌≤◌, ◌^◌, IfOk};
+ghost use Rattle.std.specs.Prelude.{◌≡◌, ◌+◌, ◌%◌, ◌<◌, ◌≤◌, IfOk};
 ghost use Rattle.jb_tool.specs.Workload.{answered_in_step, first_of_ten, load_rules, loader, post_of_step, text_of_step};
 
 use jb_base::{AreaRules, Bytes, Kind, MOST_SLOTS, Name, OutOfMemory, User};

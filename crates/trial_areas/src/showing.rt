@@ -1,6 +1,6 @@
 //! Areas in words.
 
-use jb_model::{Head, Loaded, LoadedSlot};
+use jb_state::{Head, Loaded, LoadedSlot};
 use trial_rows::{Words, put_links};
 
 // The links of a message.

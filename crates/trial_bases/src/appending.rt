@@ -8,7 +8,7 @@ use jb_base::MOST_SLOTS;
 use jb_change::put_post;
 use jb_disk::Redo;
 use jb_image::decode;
-use jb_model::{Loaded, LoadedMessage};
+use jb_state::{Loaded, LoadedMessage};
 use std::alloc::Global;
 use trial_rows::{Files, Row, RowError, Words};
 

@@ -5,7 +5,7 @@ use crate::loaded::mark_at;
 use jb_base::{DELETED, MOST_MARKS};
 use jb_change::{put_counts, put_kill, put_links, put_mark, put_new_mark, put_reading};
 use jb_disk::{Disk, DiskFailed, MemDisk, Redo};
-use jb_model::Head;
+use jb_state::Head;
 use trial_rows::{Files, Row, Words};
 
 /// Behind this place of .JHR nothing is changed here.

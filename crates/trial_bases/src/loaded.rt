@@ -3,7 +3,7 @@ ghost use Rattle.std.specs.Prelude.{◌+◌, ◌<◌, ◌^◌};
 
 use jb_base::{Subfields, first_part};
 use jb_image::decode;
-use jb_model::{Loaded, LoadedMessage, LoadedSlot, Mark};
+use jb_state::{Loaded, LoadedMessage, LoadedSlot, Mark};
 use trial_rows::{Files, Row, Words};
 
 /// `area`, `marks`, `slots` and `message PLACE`: what is loaded of the files.

@@ -2,7 +2,7 @@
 
 use crate::loaded::{mark_at, put_marks, put_numbered, put_slots};
 use jb_base::Subfields;
-use jb_model::{
+use jb_state::{
     Area, Head, LoadedMessage, LoadedSlot, LoadedSlots, Marks, Message, Short, Slot, Slots,
     Summaries, Summary,
 };

@@ -1,7 +1,8 @@
 //! What is asked of an area, and what its rules are.
 
 use jb_base::{AreaRules, Bytes, Kind, Name, OutOfMemory};
-use jb_model::{Area, Command, Marks, Slots};
+use jb_model::Command;
+use jb_state::{Area, Marks, Slots};
 use std::alloc::Global;
 
 /// The moment of every call, in seconds since 1970.

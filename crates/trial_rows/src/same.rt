@@ -1,6 +1,6 @@
 //! Whether the plain program's area is the one that was loaded.
 
-use jb_model::{Area, Loaded, LoadedMessage, LoadedSlot, Message, Slot};
+use jb_state::{Area, Loaded, LoadedMessage, LoadedSlot, Message, Slot};
 
 // Whether it is this message, with its text among these.
 fn same_message(message: &Message, loaded: &LoadedMessage, texts: &[u8]) -> bool {

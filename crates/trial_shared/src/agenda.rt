@@ -1,5 +1,6 @@
 //! What a node does next.
 
+use crate::held::POSTS;
 use crate::noted::{Deed, Noted, Plan, Told};
 use jb_model::Reply;
 use trial_rows::Act;
@@ -45,7 +46,8 @@ impl<'a> Agenda<'a> {
                 calls.saturating_mul(2)
             }
             Plan::Watch(_, looks) => looks.saturating_add(looks / 8),
-            Plan::Between(_) => 1,
+            Plan::Between(_) if self.node == 1 => 1,
+            Plan::Between(_) => POSTS,
         }
     }
 
@@ -117,7 +119,7 @@ impl<'a> Agenda<'a> {
             Plan::Watch(..) => Deed::Looked,
             Plan::Between(_) if self.node == 1 => Deed::Asked(Act::Pack, 0),
             Plan::Between(meeting) => {
-                meeting.come();
+                meeting.come(self.done.saturating_add(1));
                 Deed::Asked(Act::Post, 0)
             }
         };
@@ -132,7 +134,7 @@ impl<'a> Agenda<'a> {
             (Plan::Crowd(..), Told::Replied(Reply::Packed { live, .. })) => u64::from(*live) * 2
                 + 1,
             (Plan::Crowd(..), _) => u64::from(self.last) * 2,
-            (Plan::Between(_), _) => u64::from(self.node),
+            (Plan::Between(_), _) => u64::from(self.last),
             _ => 0,
         }
     }

@@ -115,14 +115,14 @@ fn put_watched(noted: &[Noted], nodes: u32, base: &Files, words: &mut Words) {
     }
 }
 
-/// What the nodes noted in words, and whether a record was written between two copies.
-pub(crate) fn put_held(noted: &[Noted], is_between: bool, words: &mut Words) {
+/// What the nodes noted in words, and between how many copies a record was written.
+pub(crate) fn put_held(noted: &[Noted], between: u32, words: &mut Words) {
     for one in noted {
         words.debug(&one.told);
         words.put(";");
     }
-    words.word("a record between two copies:");
-    words.truth(is_between);
+    words.word("records between copies:");
+    words.number(u64::from(between));
 }
 
 /// What is said of the plan, of what the nodes noted and of the base behind it.

@@ -1,29 +1,31 @@
-//! A disk in memory that holds a pack up while its first text is to be copied, until another node is about to post.
+//! A disk in memory that holds a pack up at each of its first copies of a text, until another node is about to post.
 ghost use Rattle.std.specs.Prelude.{◌≡◌};
 
 use jb_disk::{Disk, DiskFailed, FileId, MemDisk};
-use std::sync::atomic::{AtomicBool, Ordering};
+use std::sync::atomic::{AtomicU32, Ordering};
 use std::thread;
 
-/// How often a flag is looked at before it is given up: some seconds, so that a trial ends also where nobody sets it.
+/// How many copies are held up, each for a post.
+pub(crate) const POSTS: u32 = 3;
+/// How often a count is looked at before it is given up: some seconds, so that a trial ends also where nobody raises it.
 const MOST_LOADS: u32 = 500_000_000;
-/// How often it is looked at once it is set: ten milliseconds and more, where the node that has set it needs a microsecond to stand
+/// How often it is looked at once it is raised: ten milliseconds and more, where the node that raised it needs a microsecond to stand
 /// at the turn.
 const LOADS_BEHIND: u32 = 30_000_000;
-/// After so many looks another thread is let run. So the wait behind the flag is the longer the more threads there are.
+/// After so many looks another thread is let run. So the wait behind the count is the longer the more threads there are.
 const LOADS_IN_A_TURN: u32 = 100_000;
 
 /// What the disk and the node that posts tell one another.
 #[derive(Drop)]
 pub(crate) struct Meeting {
-    copying: AtomicBool,
-    posting: AtomicBool,
+    copies: AtomicU32,
+    posts: AtomicU32,
 }
 
-// Looks at the flag so often, or until it is set, where that is enough.
-fn load(flag: &AtomicBool, most: u32, is_enough: bool) {
+// Looks at the count so often, or until it is so high, where that is enough.
+fn load(count: &AtomicU32, least: u32, most: u32, is_enough: bool) {
     for load in 0..most {
-        if flag.load(Ordering::SeqCst) && is_enough {
+        if count.load(Ordering::SeqCst) >= least && is_enough {
             break;
         }
         if load % LOADS_IN_A_TURN == 0 {
@@ -36,33 +38,33 @@ impl Meeting {
     /// Nothing is copied, and nobody posts.
     pub(crate) fn new() -> Meeting {
         Meeting {
-            copying: AtomicBool::new(false),
-            posting: AtomicBool::new(false),
+            copies: AtomicU32::new(0),
+            posts: AtomicU32::new(0),
         }
     }
 
-    /// The node that is about to post has waited until the first text is to be copied.
-    pub(crate) fn come(&self) {
-        load(&self.copying, MOST_LOADS, true);
-        self.posting.store(true, Ordering::SeqCst);
+    /// The node that is about to post so often has waited until so many texts are to be copied.
+    pub(crate) fn come(&self, post: u32) {
+        load(&self.copies, post, MOST_LOADS, true);
+        self.posts.store(post, Ordering::SeqCst);
     }
 
-    // The first text is to be copied: waits for the node that posts, and until it stands at the turn.
-    fn hold(&self) {
-        self.copying.store(true, Ordering::SeqCst);
-        load(&self.posting, MOST_LOADS, true);
-        load(&self.posting, LOADS_BEHIND, false);
+    // So many texts are to be copied: waits for the node that posts, and until it stands at the turn.
+    fn hold(&self, copy: u32) {
+        self.copies.store(copy, Ordering::SeqCst);
+        load(&self.posts, copy, MOST_LOADS, true);
+        load(&self.posts, copy, LOADS_BEHIND, false);
     }
 }
 
-/// A disk in memory that is held up at the first write of .NDT. It keeps in mind whether .JNL was written between two such writes.
+/// A disk in memory that is held up at the first writes of .NDT. It counts between how many of them .JNL was written.
 #[derive(Drop)]
 pub(crate) struct HeldDisk<'a> {
     pub disk: MemDisk,
     meeting: &'a Meeting,
-    is_copied: bool,
+    copies: u32,
     is_recorded: bool,
-    pub is_between: bool,
+    pub between: u32,
 }
 
 impl<'a> HeldDisk<'a> {
@@ -71,9 +73,9 @@ impl<'a> HeldDisk<'a> {
         HeldDisk {
             disk,
             meeting,
-            is_copied: false,
+            copies: 0,
             is_recorded: false,
-            is_between: false,
+            between: 0,
         }
     }
 
@@ -82,13 +84,16 @@ impl<'a> HeldDisk<'a> {
         ensures { self.new.disk ≡ self.old.disk }
     {
         match file {
-            FileId::Jnl => self.is_recorded = self.is_copied,
+            FileId::Jnl => self.is_recorded = self.copies > 0,
             FileId::Ndt => {
-                if !self.is_copied {
-                    self.meeting.hold();
+                if self.is_recorded {
+                    self.between = self.between.saturating_add(1);
                 }
-                self.is_copied = true;
-                self.is_between = self.is_between || self.is_recorded;
+                self.is_recorded = false;
+                self.copies = self.copies.saturating_add(1);
+                if self.copies <= POSTS {
+                    self.meeting.hold(self.copies);
+                }
             }
             _ => {}
         }

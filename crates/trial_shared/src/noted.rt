@@ -3,7 +3,8 @@ ghost use Rattle.std.specs.Prelude.{◌<◌, ◌≤◌};
 
 use crate::asking::{Caller, caller_named};
 use crate::held::Meeting;
-use jb_model::{Figures, Reply};
+use jb_model::Reply;
+use jb_state::Figures;
 use std::alloc::Global;
 use trial_rows::{Act, RowError, Words};
 
@@ -21,7 +22,7 @@ pub(crate) enum Plan<'a> {
     Crowd(u32, bool),
     /// So many posts and looks: the first node posts so often, kills and packs, the others look so often. Nothing is locked meanwhile.
     Watch(u32, u32),
-    /// The first node packs, and the other posts as soon as the first text is to be copied.
+    /// The first node packs, and the other posts at each of the first copies, as soon as it is to be made.
     Between(&'a Meeting),
 }
 

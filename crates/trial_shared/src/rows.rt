@@ -11,7 +11,7 @@ use crate::turns;
 use jb_area::OpenArea;
 use jb_base::OutOfMemory;
 use jb_disk::MemDisk;
-use jb_model::Question;
+use jb_state::Question;
 use std::alloc::Global;
 use std::mem;
 use std::sync::{Mutex, Wait};
@@ -178,9 +178,9 @@ impl<'a, R: Threads + Wait + Sync> Trial<'a, R> {
         }
     }
 
-    // One node packs the area of the base, and another posts as soon as the first text is to be copied. Says whether a record was
-    // written between two copies.
-    fn held(&mut self, log: &Mutex<Vec<Noted>>, words: &mut Words) -> Result<bool, RowError> {
+    // One node packs the area of the base, and another posts at each of the first copies. Says between how many of them a record was
+    // written.
+    fn held(&mut self, log: &Mutex<Vec<Noted>>, words: &mut Words) -> Result<u32, RowError> {
         let meeting = Meeting::new();
         let disk = match self.base.disk(words.alloc, &[]) {
             Ok(disk) => HeldDisk::new(disk, &meeting),
@@ -189,7 +189,7 @@ impl<'a, R: Threads + Wait + Sync> Trial<'a, R> {
         match followed_on(self.rt, words.alloc, disk, log, Plan::Between(&meeting)) {
             Ok(held) => {
                 self.take(&held.disk, words);
-                Ok(held.is_between)
+                Ok(held.between)
             }
             Err(error) => Err(error),
         }
@@ -199,9 +199,9 @@ impl<'a, R: Threads + Wait + Sync> Trial<'a, R> {
     fn pack_held(&mut self, words: &mut Words) {
         let log = Mutex::new(Vec::new(words.alloc));
         match self.held(&log, words) {
-            Ok(is_between) => {
+            Ok(between) => {
                 let noted = in_order(log, words);
-                put_held(noted.as_slice(), is_between, words);
+                put_held(noted.as_slice(), between, words);
             }
             Err(error) => words.refuse(error),
         }

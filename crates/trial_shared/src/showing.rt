@@ -1,7 +1,8 @@
 //! Replies and answers in words.
 
-use jb_model::{Answer, Barred, LookError, Reply, Summary};
+use jb_model::Reply;
 use jb_shared::SharedError;
+use jb_state::{Answer, Barred, LookError, Summary};
 use trial_rows::Words;
 
 /// What a call is answered, or why there is no reply.

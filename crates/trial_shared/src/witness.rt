@@ -1,7 +1,8 @@
 //! What a node did and saw, and what is wrong with it.
 
 use crate::noted::{Noted, Told};
-use jb_model::{Figures, Loaded, Reply};
+use jb_model::Reply;
+use jb_state::{Figures, Loaded};
 use trial_rows::Words;
 
 /// What a node did and saw. `posted`, `killed` and `stopped` count its posts and kills that were answered and its calls that the

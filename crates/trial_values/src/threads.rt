@@ -2,7 +2,7 @@
 
 use jb_base::Subfields;
 use jb_link::{is_live, thread};
-use jb_model::{Head, Loaded, LoadedMarks, LoadedMessage, LoadedSlot, LoadedSlots};
+use jb_state::{Head, Loaded, LoadedMarks, LoadedMessage, LoadedSlot, LoadedSlots};
 use std::alloc::Global;
 use trial_rows::{Row, Words};
 

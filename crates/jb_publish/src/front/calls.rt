@@ -35,8 +35,10 @@ impl<E> Front<E> {
     /// Whether the other list, of the same pair, is no longer. Then it begins this one, and else this one begins it.
     pub fn covers(&self, other: &Front<E>) -> bool
         requires { book_of other.now ≡ book_of self.now }
-        ensures prefix { MatchBool result (IsPrefix (list_of other.now) (list_of self.now)) (IsPrefix (list_of self.now) (list_of other.now)) }
-        ensures length { MatchBool result (length (list_of other.now) ≤ length (list_of self.now)) (length (list_of self.now) < length (list_of other.now)) }
+        ensures prefix { MatchBool result (IsPrefix (list_of other.now) (list_of self.now))
+            (IsPrefix (list_of self.now) (list_of other.now)) }
+        ensures length { MatchBool result (length (list_of other.now)
+            ≤ length (list_of self.now)) (length (list_of self.now) < length (list_of other.now)) }
     {
         if other.count <= self.count {
             other.begins(self);

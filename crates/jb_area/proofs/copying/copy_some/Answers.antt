@@ -1,13 +1,14 @@
-use Rattle.std.proofs.Common.{◌∙◌, Bool, Err, Option, Result, ap, arith, refl, subst, sym}
+use Rattle.std.proofs.Common.{◌∙◌, Bool, Err, Option, Result, ap, refl, subst, sym}
 use Rattle.std.specs.Option.{ForSome}
+use Rattle.jb_pack.specs.Copying.{is_pack_fault}
 use Rattle.jb_pack.proofs.PackerLemmas.{texts_kept}
 use Rattle.jb_pack.proofs.TouchLemmas.{touches-then}
 use Rattle.jb_pack.specs.Shadow.{Shadow}
 use Rattle.jb_pack.specs.declared.error.PackError.{PackError}
 use Rattle.jb_decide.specs.Holds.{HasAll}
 use Rattle.jb_area.specs.Copying.{begun_of}
-use Rattle.jb_area.proofs.BegunLemmas.{copied_begun, rose_begun, synced_unless, unless_always, unless_then}
-use Rattle.jb_area.proofs.Outcomes.{if_ok_then, on_ok_then}
+use Rattle.jb_area.proofs.BegunLemmas.{copied_begun, synced_unless, unless_always, unless_then}
+use Rattle.jb_area.proofs.Outcomes.{counts_behind, if_ok_then}
 use Rattle.jb_area.proofs.copying.copy_some.Goals as goal
 
 pub copy_with-requires-clause-told : goal.copy_with-requires-clause-told
@@ -30,15 +31,9 @@ pub returns-in-Ok-clause-touches : goal.returns-in-Ok-clause-touches
 returns-in-Ok-clause-touches g c =
     touches-then (g.D.Disk.device c.args.disk.now) (g.D.Disk.device c.begun.new.disk) (g.D.Disk.device c.copy_with.new.disk) c.begun.ensures.kept c.copy_with.ensures.touches
 
-pub returns-in-Ok-clause-quiet : goal.returns-in-Ok-clause-quiet
-returns-in-Ok-clause-quiet g c = on_ok_then c.copy_with.result _ _ c.copy_with.ensures.quiet (λ quiet. quiet ∙ c.in-Ok.ensures.quiet)
-
-pub returns-in-Ok-clause-later : goal.returns-in-Ok-clause-later
-returns-in-Ok-clause-later g c = omega (arith, c.begun.ensures.later, c.copy_with.ensures.later)
-
-pub returns-in-Ok-clause-cause : goal.returns-in-Ok-clause-cause
-returns-in-Ok-clause-cause g c =
-    rose_begun c.copy_with.result (g.D.Disk.device c.args.disk.now).faults (g.D.Disk.device c.begun.new.disk).faults (g.D.Disk.device c.copy_with.new.disk).faults c.in-Ok.ensures.quiet c.copy_with.ensures.cause
+pub returns-in-Ok-clause-faults : goal.returns-in-Ok-clause-faults
+returns-in-Ok-clause-faults g c =
+    counts_behind is_pack_fault (g.D.Disk.device c.args.disk.now) (g.D.Disk.device c.begun.new.disk) (g.D.Disk.device c.copy_with.new.disk) c.copy_with.result c.in-Ok.ensures.faults.quiet c.copy_with.ensures.faults
 
 pub returns-in-Err-clause-has : goal.returns-in-Err-clause-has
 returns-in-Err-clause-has g c =

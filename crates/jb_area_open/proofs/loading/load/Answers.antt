@@ -1,11 +1,11 @@
-use Rattle.std.proofs.Common.{◌∙◌, ap, sym, subst}
+use Rattle.std.proofs.Common.{◌∙◌, ap, arith, refl, sym, subst}
 use Rattle.std.specs.Prelude.{Result, Err, IfErr}
 use Rattle.std.proofs.lemmas.Result.{err_from_is_err_and}
 use Rattle.jb_area_open.proofs.OpeningLemmas.{preparing_firm, preparing_keeps, reading_firm, reading_keeps, recovery_firm, recovered_prepared, recovered_read, recovered_so, recovery_keeps, rests_prepared}
-use Rattle.jb_area_open.proofs.RefusalLemmas.{refused_journal, refused_files, refused_fault}
+use Rattle.jb_area_open.proofs.RefusalLemmas.{refused_counts, refused_journal, refused_files, refused_fault, rose_journal}
 use Rattle.jb_area_open.specs.Opening.{Refuses}
 use Rattle.jb_area_open.specs.declared.error.OpeningError.{OpeningError}
-use Rattle.jb_model.specs.declared.loaded.Loaded.{Loaded}
+use Rattle.jb_state.specs.declared.loaded.Loaded.{Loaded}
 use Rattle.jb_area_open.proofs.loading.load.Goals as goal
 
 pub returns-in_err-recover-clause-refused : goal.returns-in_err-recover-clause-refused
@@ -112,3 +112,29 @@ returns-clause-firm g c =
     preparing_firm before read (g.D.Disk.device c.prepare.new.disk) (reading_firm before mid read c.decode.ensures.kept (recovery_firm before mid c.recover.ensures.firm))
     (recovered_read before mid read c.decode.ensures.kept recovered)
     (λ was there safe now now_is. c.in_ok-recover.ensures.done was there safe now (sym c.decode.ensures.kept.contents ∙ now_is)) c.prepare.ensures.crash
+
+pub returns-in_err-recover-clause-faults : goal.returns-in_err-recover-clause-faults
+returns-in_err-recover-clause-faults g c =
+    let before = g.D.Disk.device c.args.disk.now in
+    let p = err_from_is_err_and c.from_residual.result c.from_residual.ensures.1 in
+    refused_counts before before (g.D.Disk.device c.recover.new.disk) _ c.from_residual.result (p.1 ∙ ap (λ (e : OpeningError). Err e) p.2) refl c.recover.ensures.faults.later
+    (rose_journal c.in_err-recover.field-0.0 _ _ c.in_err-recover.ensures.faults.cause)
+
+pub returns-in_err-loaded-clause-faults : goal.returns-in_err-loaded-clause-faults
+returns-in_err-loaded-clause-faults g c =
+    let p = err_from_is_err_and c.from_residual-in_err-loaded.result c.from_residual-in_err-loaded.ensures.1 in
+    refused_counts (g.D.Disk.device c.args.disk.now) (g.D.Disk.device c.recover.new.disk) (g.D.Disk.device c.decode.new.disk) _ c.from_residual-in_err-loaded.result (p.1 ∙ ap (λ (e : OpeningError). Err e) p.2)
+    c.in_ok-recover.ensures.faults.quiet c.decode.ensures.faults.later c.in_err-loaded.ensures.faults.cause
+
+pub returns-in_err-prepare-clause-faults : goal.returns-in_err-prepare-clause-faults
+returns-in_err-prepare-clause-faults g c =
+    let p = err_from_is_err_and c.from_residual-in_err-prepare.result c.from_residual-in_err-prepare.ensures.1 in
+    refused_counts (g.D.Disk.device c.args.disk.now) (g.D.Disk.device c.decode.new.disk) (g.D.Disk.device c.prepare.new.disk) _ c.from_residual-in_err-prepare.result (p.1 ∙ ap (λ (e : OpeningError). Err e) p.2)
+    (c.in_ok-loaded.ensures.faults.quiet ∙ c.in_ok-recover.ensures.faults.quiet) c.prepare.ensures.faults.later c.in_err-prepare.ensures.faults.cause
+
+pub returns-clause-faults : goal.returns-clause-faults
+returns-clause-faults g c = record {
+  quiet = c.in_ok-prepare.ensures.faults.quiet ∙ c.in_ok-loaded.ensures.faults.quiet ∙ c.in_ok-recover.ensures.faults.quiet;
+  later = omega (arith, c.recover.ensures.faults.later, c.decode.ensures.faults.later, c.prepare.ensures.faults.later);
+  cause = tt;
+}

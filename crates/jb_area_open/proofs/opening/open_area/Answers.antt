@@ -1,8 +1,8 @@
-use Rattle.std.proofs.Common.{◌∙◌, sym, ap, subst}
+use Rattle.std.proofs.Common.{◌∙◌, arith, sym, ap, subst}
 use Rattle.jb_area_open.proofs.OpeningLemmas.{open_at}
 use Rattle.jb_area_open.specs.Opening.{IsRecovered, KeepsOpening, OpensFirmly}
 use Rattle.jb_disk.specs.Device.{Device}
-use Rattle.jb_model.specs.declared.loaded.Loaded.{Loaded}
+use Rattle.jb_state.specs.declared.loaded.Loaded.{Loaded}
 use Rattle.jb_area_open.proofs.opening.open_area.Goals as goal
 
 pub returns-in-Ok-from_loaded-clause-rests : goal.returns-in-Ok-from_loaded-clause-rests
@@ -51,3 +51,16 @@ returns-in-Ok-from_loaded-clause-firm g c =
 pub returns-in-Err-from_loaded-clause-firm : goal.returns-in-Err-from_loaded-clause-firm
 returns-in-Err-from_loaded-clause-firm g c =
     subst (OpensFirmly (g.D.Disk.device c.args.disk)) (sym (ap g.D.Disk.device c.in-Err-from_loaded.ensures.back)) c.load.ensures.firm
+
+pub returns-in-Ok-from_loaded-clause-faults : goal.returns-in-Ok-from_loaded-clause-faults
+returns-in-Ok-from_loaded-clause-faults g c =
+    let same = ap (λ (d : Device). d.faults) c.in-Ok-from_loaded.ensures.device in
+    record { quiet = same ∙ c.in-Ok.ensures.faults.quiet; later = omega (arith, same, c.load.ensures.faults.later); cause = tt }
+
+pub returns-in-Err-from_loaded-clause-faults : goal.returns-in-Err-from_loaded-clause-faults
+returns-in-Err-from_loaded-clause-faults g c =
+    let same = ap (λ (d : Device). d.faults) (ap g.D.Disk.device c.in-Err-from_loaded.ensures.back) in
+    record { quiet = tt; later = omega (arith, same, c.load.ensures.faults.later); cause = same ∙ c.in-Ok.ensures.faults.quiet }
+
+pub returns-in-Err-clause-faults : goal.returns-in-Err-clause-faults
+returns-in-Err-clause-faults g c = record { quiet = tt; later = c.load.ensures.faults.later; cause = c.in-Err.ensures.faults.cause }

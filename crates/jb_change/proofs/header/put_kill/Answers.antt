@@ -1,7 +1,7 @@
 use Rattle.std.proofs.Common.{◌+◌, ℕ, List, subst}
 use Rattle.jb_disk.specs.declared.file.FileId.TheVariants.{Jhr}
 use Rattle.jb_change.specs.Changing.{Puts}
-use Rattle.jb_change.proofs.ChangeLemmas.{kill_makes, kill_header, kill_only, kill_attribute, kill_index}
+use Rattle.jb_change.proofs.ChangeLemmas.{kill_makes, kill_header, kill_only}
 use Rattle.jb_change.proofs.header.put_kill.Goals as goal
 
 pub returns-clause-makes : goal.returns-clause-makes
@@ -17,14 +17,4 @@ returns-clause-header c =
 pub returns-clause-only : goal.returns-clause-only
 returns-clause-only c =
     kill_only c.args.at c.args.attribute c.args.redo.now c.put_piece.new.redo c.requires.fits c.one_number.ensures.fits
-    (subst (λ (l : List ℕ). Puts Jhr (c.args.at + 52) l c.args.redo.now c.put_piece.new.redo) c.one_number.ensures.exact c.put_piece.ensures.puts)
-
-pub returns-clause-attribute_alone : goal.returns-clause-attribute_alone
-returns-clause-attribute_alone c =
-    kill_attribute c.args.at c.args.attribute c.args.redo.now c.put_piece.new.redo c.requires.fits c.one_number.ensures.fits
-    (subst (λ (l : List ℕ). Puts Jhr (c.args.at + 52) l c.args.redo.now c.put_piece.new.redo) c.one_number.ensures.exact c.put_piece.ensures.puts)
-
-pub returns-clause-index : goal.returns-clause-index
-returns-clause-index c =
-    kill_index c.args.at c.args.attribute c.args.redo.now c.put_piece.new.redo c.requires.fits c.one_number.ensures.fits
     (subst (λ (l : List ℕ). Puts Jhr (c.args.at + 52) l c.args.redo.now c.put_piece.new.redo) c.one_number.ensures.exact c.put_piece.ensures.puts)

@@ -1,6 +1,6 @@
 use Rattle.std.proofs.Common.{[], ◌∙◌, arith, subst, sym}
 use Rattle.jb_change.specs.Headers.{Updates}
-use Rattle.jb_model.specs.declared.loaded.Loaded.{Loaded}
+use Rattle.jb_state.specs.declared.loaded.Loaded.{Loaded}
 use Rattle.jb_change.proofs.PlanLemmas.{links_there}
 use Rattle.jb_change.proofs.relinking.put_other_links.Goals as goal
 

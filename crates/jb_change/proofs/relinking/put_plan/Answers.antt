@@ -1,9 +1,9 @@
 use Rattle.std.proofs.Common.{ℕ, List, [], ◌≡◌, ◌∷◌, ◌++◌, ◌+◌, ◌∙◌, arith, get_or, subst, sym, take}
 use Rattle.jb_change.specs.Headers.{Updates}
-use Rattle.jb_model.specs.declared.links.Links.{Links}
-use Rattle.jb_model.specs.Linked.{with_links_of}
+use Rattle.jb_state.specs.declared.links.Links.{Links}
+use Rattle.jb_state.specs.Linked.{with_links_of}
 use Rattle.jb_change.proofs.PlanLemmas.{left_above}
-use Rattle.jb_change.proofs.PlanLemmas.{plan_more}
+use Rattle.jb_state.proofs.LinkedLaws.{plan_more}
 use Rattle.jb_change.specs.Links.{AreLeftAbove}
 use Rattle.jb_change.proofs.relinking.put_plan.Goals as goal
 
@@ -26,6 +26,7 @@ loop-links-preserved c =
     record {
       makes = λ made. subst (λ (p : List Links). Updates c.put_other_links.new.redo c.args.loaded.now (with_links_of p c.args.loaded.now) []) (sym more)
           (put.makes before was.above (was.makes made));
+      leaves = λ made left. put.leaves before (was.makes made) (was.leaves made left);
       above = subst (λ (p : List Links). AreLeftAbove p c.max-last.result c.args.loaded.now) (sym more)
           (left_above c.args.loaded.now before (get_or plan k none) c.loop-links.last c.max-last.result was.above (omega (arith, greatest)) (omega (arith, greatest)));
       lengths = put.lengths ∙ was.lengths;

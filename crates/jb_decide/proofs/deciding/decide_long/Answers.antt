@@ -1,8 +1,9 @@
-use Rattle.std.proofs.Common.{List, ℕ, ap, subst, sym, ◌∙◌}
+use Rattle.std.proofs.Common.{List, ℕ, ap, refl, subst, sym, ◌∙◌}
+use Rattle.jb_change.proofs.LeavesLemmas.{index_on_kill}
 use Rattle.jb_change.specs.Headers.{Updates}
-use Rattle.jb_model.specs.Change.{after}
-use Rattle.jb_model.specs.declared.change.Change.{Change}
-use Rattle.jb_model.specs.declared.loaded.Loaded.{Loaded}
+use Rattle.jb_state.specs.Change.{after}
+use Rattle.jb_state.specs.declared.change.Change.{Change}
+use Rattle.jb_state.specs.declared.loaded.Loaded.{Loaded}
 use Rattle.jb_decide.specs.StepOf.{text_behind}
 use Rattle.jb_decide.proofs.DecidedLemmas.{step_decided}
 use Rattle.jb_decide.proofs.deciding.decide_long.Goals as goal
@@ -15,6 +16,6 @@ returns-clause-decided c = rw (← c.loaded.ensures) (λ rules user moment comma
     (λ some. record {
       updates = subst (λ (t : List ℕ). Updates c.put.new.redo from (after change from) t) (c.text_behind-text.ensures ∙ ap (text_behind change) (sym posted)) c.in_ok-put.ensures.makes;
       numbered = c.in_ok-put.ensures.numbered;
-      index = c.in_ok-put.ensures.index;
+      index = index_on_kill c.put.new.redo from change c.in_ok-put.ensures.leaves.index;
       writable = c.in_ok-put.ensures.writable;
-    }) are.sized)
+    }) refl are.sized)

@@ -1,5 +1,5 @@
 use Rattle.std.proofs.Common.{sym, ◌∙◌}
-use Rattle.jb_model.specs.declared.loaded.LoadedMessage.{LoadedMessage}
+use Rattle.jb_state.specs.declared.loaded.LoadedMessage.{LoadedMessage}
 use Rattle.jb_decide.proofs.KillLemmas.{kill_forbidden, kill_is, kill_unseen}
 use Rattle.jb_decide.proofs.StepLemmas.{refused_outcome}
 use Rattle.jb_decide.proofs.kills.kill.Goals as goal

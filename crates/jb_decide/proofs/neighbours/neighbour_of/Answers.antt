@@ -1,5 +1,5 @@
 use Rattle.std.proofs.Common.{refl}
-use Rattle.jb_model.specs.Post.{with_first_reply, with_next_reply}
+use Rattle.jb_state.specs.Posted.{with_first_reply, with_next_reply}
 use Rattle.jb_decide.specs.Neighbour.{first_reply_head, next_reply_head}
 use Rattle.jb_decide.proofs.NeighbourLemmas.{no_neighbour, one_neighbour}
 use Rattle.jb_decide.proofs.neighbours.neighbour_of.Goals as goal

@@ -1,7 +1,7 @@
 use Rattle.std.proofs.Common.{◌≡◌, ℕ, List, ap, subst, ◌∙◌}
-use Rattle.jb_model.specs.Sound.{IsTextWithin}
-use Rattle.jb_model.specs.State.{text_of}
-use Rattle.jb_model.specs.declared.loaded.LoadedMessage.{LoadedMessage}
+use Rattle.jb_state.specs.Sound.{IsTextWithin}
+use Rattle.jb_state.specs.State.{text_of}
+use Rattle.jb_state.specs.declared.loaded.LoadedMessage.{LoadedMessage}
 use Rattle.jb_model.specs.declared.reply.Reply.TheVariants.{Text}
 use Rattle.jb_decide.specs.Decided.{IsAnswerBy}
 use Rattle.jb_decide.specs.Read.{letter_in}
@@ -24,7 +24,7 @@ decide_short-requires-clause-fits g c =
 pub returns-in-Err-clause-decided : goal.returns-in-Err-clause-decided
 returns-in-Err-clause-decided g c = rw (← c.loaded-loaded.ensures) (λ texts are.
     unchanged_decided c.args.rules.now c.loaded-loaded.result.now texts (g.D.Disk.device c.args.disk.now).contents c.args.redo.now c.args.user.now c.args.moment _ _ c.unchanged.result c.in-Err.reply
-    c.unchanged.ensures.reply c.unchanged.ensures.change c.in-Err.ensures.refused
+    c.unchanged.ensures.reply c.unchanged.ensures.change c.unchanged.ensures.replies c.in-Err.ensures.refused
     (same_answer c.loaded-loaded.result.now texts (g.D.Disk.device c.args.disk.now).contents c.in-Err.reply are.sized) are.sized)
 
 pub returns-in_ok-shown-in-Ok-clause-decided : goal.returns-in_ok-shown-in-Ok-clause-decided

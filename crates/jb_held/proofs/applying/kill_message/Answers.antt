@@ -1,5 +1,5 @@
 use Rattle.std.proofs.Common.{List, sym, subst}
-use Rattle.jb_model.specs.declared.loaded.LoadedSlot.{LoadedSlot}
+use Rattle.jb_state.specs.declared.loaded.LoadedSlot.{LoadedSlot}
 use Rattle.jb_link.specs.Index.{IsIndexOf}
 use Rattle.jb_held.proofs.IndexLaws.{index_there}
 use Rattle.jb_held.proofs.applying.kill_message.Goals as goal

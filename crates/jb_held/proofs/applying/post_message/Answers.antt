@@ -1,5 +1,5 @@
 use Rattle.std.proofs.Common.{ap, sym, subst, ◌∙◌}
-use Rattle.jb_model.specs.Loaded.{with_message_behind}
+use Rattle.jb_state.specs.Loaded.{with_message_behind}
 use Rattle.jb_link.specs.IndexLaws.{IsIndexBefore}
 use Rattle.jb_held.proofs.IndexLaws.{index_before_post}
 use Rattle.jb_held.proofs.applying.post_message.Goals as goal

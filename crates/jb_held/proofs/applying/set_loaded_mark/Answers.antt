@@ -1,7 +1,7 @@
 use Rattle.std.proofs.Common.{List, ap, arith, subst, ◌∙◌}
-use Rattle.jb_model.specs.Loaded.{with_marks}
-use Rattle.jb_model.specs.declared.mark.Mark.{Mark}
-use Rattle.jb_model.specs.Places.{IsPlaceOf}
+use Rattle.jb_state.specs.Loaded.{with_marks}
+use Rattle.jb_state.specs.declared.mark.Mark.{Mark}
+use Rattle.jb_state.specs.Places.{IsPlaceOf}
 use Rattle.jb_held.proofs.MarkLemmas.{marked_first, marked_last, ordered_first, ordered_last}
 use Rattle.jb_held.proofs.applying.set_loaded_mark.Goals as goal
 

@@ -1,10 +1,10 @@
 use Rattle.std.proofs.Common.{ℕ, List, ap, get_or, subst, sym, ◌∙◌, take}
 use Rattle.std.proofs.lemmas.List.Elements.{All-get_or}
-use Rattle.jb_model.specs.Plan.{loaded_at}
-use Rattle.jb_model.specs.declared.links.Links.{Links}
-use Rattle.jb_model.specs.declared.loaded.Loaded.{Loaded}
-use Rattle.jb_model.specs.Linked.{IsPlaced, with_links_in}
-use Rattle.jb_held.proofs.PlanLemmas.{plan_step, still_placed}
+use Rattle.jb_state.specs.Plan.{loaded_at}
+use Rattle.jb_state.specs.declared.links.Links.{Links}
+use Rattle.jb_state.specs.declared.loaded.Loaded.{Loaded}
+use Rattle.jb_state.specs.Linked.{IsPlaced, with_links_in}
+use Rattle.jb_state.proofs.LinkedLaws.{plan_step, still_placed}
 use Rattle.jb_held.proofs.applying.set_plan.Goals as goal
 
 pub set_links_in-requires : goal.set_links_in-requires

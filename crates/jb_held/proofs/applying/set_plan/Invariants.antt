@@ -1,5 +1,5 @@
 use Rattle.std.proofs.Common.{◌≡◌, take}
-use Rattle.jb_model.specs.Linked.{with_links_of}
+use Rattle.jb_state.specs.Linked.{with_links_of}
 use Rattle.jb_held.proofs.applying.set_plan.Given as goal
 
 abbrev pub invariant-loop-links : goal.invariant-loop-links

@@ -14,7 +14,7 @@ loop-k-preserved g c =
     let kept = c.read_entry.ensures.kept in
     record {
       so_far = AreSeenSoFar-next _ _ _ c.args.lengths.now.headers c.loop-k.k c.loop-k.slots.items _ c.in-Ok.slot
-          so_far (reads_on _ _ _ kept c.see_slot.ensures.kept) (c.in_ok-slot.ensures.quiet ∙ c.in_ok-entry.ensures.quiet) c.in_ok-push-in-Ok.ensures.items within
+          so_far (reads_on _ _ _ kept c.see_slot.ensures.kept) (c.in_ok-slot.ensures.faults.quiet ∙ c.in_ok-entry.ensures.faults.quiet) c.in_ok-push-in-Ok.ensures.items within
           (λ files contents_is.
           let now = so_far.kept.contents ∙ contents_is in
           subst (λ (e : IndexRecord). IsSeenAs files e c.in-Ok.slot) (c.in_ok-entry.ensures.found files now) (found files (kept.contents ∙ now)));

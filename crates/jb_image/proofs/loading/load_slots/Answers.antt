@@ -4,7 +4,7 @@ use Rattle.jb_image.specs.Reading.{IsLoadedFrom}
 use Rattle.jb_image.specs.declared.seen.SeenSlot.{SeenSlot}
 use Rattle.jb_image.specs.declared.seen.SeenSlot.TheVariants.{Empty}
 use Rattle.jb_image.proofs.FileBytes.{reads_on}
-use Rattle.jb_image.proofs.Refusals.{damage_cause, first_damaged, opening_cause, opening_refused, refused_by_slot}
+use Rattle.jb_image.proofs.Refusals.{first_damaged, opening_refused, refused_by_slot}
 use Rattle.jb_image.proofs.SlotsSoFar.{AreLoadedSoFar-next}
 use Rattle.jb_image.proofs.loading.load_slots.Goals as goal
 
@@ -27,7 +27,7 @@ loop-slot-preserved g c =
     let low = c.loop-slot-test.true in record {
       numbered = omega (arith, c.loop-slot.invariant.numbered);
       so_far = AreLoadedSoFar-next _ _ _ c.args.lengths.now.texts c.loop-slot.slot-index c.args.seen.now c.loop-slot.slots _ c.in-Ok.loaded
-          c.loop-slot.invariant.so_far c.load_slot.ensures.kept c.in_ok-loaded.ensures.quiet c.in_ok-push-in-Ok.ensures.ok
+          c.loop-slot.invariant.so_far c.load_slot.ensures.kept c.in_ok-loaded.ensures.faults.quiet c.in_ok-push-in-Ok.ensures.ok
           (λ d. subst (λ (s : SeenSlot). IsLoadedFrom c.args.lengths.now.texts s c.in-Ok.loaded) (get_or_default c.args.seen.now c.loop-slot.slot-index Empty d low) found)
           (λ files contents_is. named files (so_far.kept.contents ∙ contents_is) _ ((c.requires.seen files contents_is).each c.loop-slot.slot-index _ low));
       window = c.load_slot.ensures.window;
@@ -42,11 +42,5 @@ returns-in-Err-clause-kept g c = reads_on _ _ _ c.loop-slot.invariant.so_far.who
 pub returns-in_err-push-in-Ok-clause-kept : goal.returns-in_err-push-in-Ok-clause-kept
 returns-in_err-push-in-Ok-clause-kept g c = reads_on _ _ _ c.loop-slot.invariant.so_far.whole.kept c.load_slot.ensures.kept
 
-pub returns-in_err-loaded-clause-cause : goal.returns-in_err-loaded-clause-cause
-returns-in_err-loaded-clause-cause g c = opening_cause c.from_residual-in_err-loaded.result _ _ _ c.in_err-loaded.field-0.0 c.from_residual-in_err-loaded.ensures.1 c.loop-slot.invariant.so_far.whole.quiet c.in_err-loaded.ensures.cause
-
 pub returns-in_err-loaded-clause-refused : goal.returns-in_err-loaded-clause-refused
 returns-in_err-loaded-clause-refused g c = opening_refused c.from_residual-in_err-loaded.result _ c.in_err-loaded.field-0.0 c.from_residual-in_err-loaded.ensures.1
-
-pub returns-in-Err-clause-cause : goal.returns-in-Err-clause-cause
-returns-in-Err-clause-cause g c = damage_cause _ _ _ c.in-Err.damage _ c.of_number.ensures (c.in_ok-loaded.ensures.quiet ∙ c.loop-slot.invariant.so_far.whole.quiet)

@@ -20,7 +20,7 @@ loop-slot-preserved g c =
     let so_far = c.loop-slot.invariant.so_far in
     let low = c.loop-slot-test.true in record {
       numbered = omega (arith, c.loop-slot.invariant.numbered);
-      so_far = AreWholeSoFar-with _ _ _ c.loop-slot.slot-index so_far c.test_slot.ensures.kept c.in_ok-test_slot.ensures.quiet
+      so_far = AreWholeSoFar-with _ _ _ c.loop-slot.slot-index so_far c.test_slot.ensures.kept c.in_ok-test_slot.ensures.faults.quiet
           (λ files contents_is. passed files (so_far.kept.contents ∙ contents_is) _ ((c.requires.seen files contents_is).each c.loop-slot.slot-index _ low));
       tested = λ files contents_is.
           c.test_slot.ensures.whole files (so_far.kept.contents ∙ contents_is) _ ((c.requires.seen files contents_is).each c.loop-slot.slot-index _ low);

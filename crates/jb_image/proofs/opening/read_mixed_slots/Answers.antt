@@ -1,18 +1,17 @@
-use Rattle.std.proofs.Common.{List, IfOk, IfErr, All, AllPairs, ℕ, length, ap, refl, ◌∙◌, subst, arith}
+use Rattle.std.proofs.Common.{List, IfOk, All, AllPairs, length, ap, ◌∙◌, subst, arith}
 use Rattle.std.proofs.lemmas.Result.{IfOk-weaker, IfErr-weaker}
 use Rattle.jb_disk.specs.Files.{Files}
-use Rattle.jb_model.specs.declared.loaded.LoadedSlot.{LoadedSlot}
-use Rattle.jb_model.specs.Sound.{AreApart, IsSlotWithin}
-use Rattle.jb_image.specs.Answers.{IsDamaged, OpenFaultRose}
+use Rattle.jb_state.specs.declared.loaded.LoadedSlot.{LoadedSlot}
+use Rattle.jb_state.specs.Sound.{AreApart, IsSlotWithin}
+use Rattle.jb_image.specs.Answers.{IsDamaged}
 use Rattle.jb_image.specs.Places.{entry_in}
 use Rattle.jb_image.specs.declared.error.OpenError.{OpenError}
 use Rattle.jb_image.specs.declared.seen.SeenSlot.{SeenSlot}
 use Rattle.std.specs.Option.{ForSome}
 use Rattle.jb_image.specs.Reading.{AreLoadedFrom, AreSlotsOf, IsRefusedAmongSlots}
-use Rattle.jb_image.specs.declared.error.ReadError.TheVariants.{OutOfMemory}
 use Rattle.jb_image.proofs.FileBytes.{reads_on}
 use Rattle.jb_image.proofs.HeaderExtents.{all_apart, all_within, later_refused}
-use Rattle.jb_image.proofs.Refusals.{from_if_none, if_some_told, opening_cause, refused_among_slots}
+use Rattle.jb_image.proofs.Refusals.{from_if_none, if_some_told, refused_among_slots}
 use Rattle.jb_image.proofs.opening.read_mixed_slots.Goals as goal
 
 pub returns-in-Some-clause-refused : goal.returns-in-Some-clause-refused
@@ -67,12 +66,3 @@ returns-in_err-test_slots-in-Some-clause-kept g c = reads_on _ _ _ (reads_on _ _
 
 pub returns-clause-kept : goal.returns-clause-kept
 returns-clause-kept g c = reads_on _ _ _ (reads_on _ _ _ c.reach_all.ensures.kept c.see_slots.ensures.kept) c.load_slots.ensures.kept
-
-pub returns-in_err-seen-clause-cause : goal.returns-in_err-seen-clause-cause
-returns-in_err-seen-clause-cause g c = opening_cause c.from_residual-in_err-seen.result _ _ _ c.in_err-seen.field-0.0 c.from_residual-in_err-seen.ensures.1 c.in_ok-reach_all.ensures.quiet c.in_err-seen.ensures.cause
-
-pub returns-in_err-later-clause-cause : goal.returns-in_err-later-clause-cause
-returns-in_err-later-clause-cause g c = opening_cause c.from_residual-in_err-later.result _ _ _ OutOfMemory c.from_residual-in_err-later.ensures.1 (c.in_ok-seen.ensures.quiet ∙ c.in_ok-reach_all.ensures.quiet) refl
-
-pub returns-clause-cause : goal.returns-clause-cause
-returns-clause-cause g c = subst (λ (n : ℕ). IfErr c.load_slots.result (OpenFaultRose n (g.D.Disk.device c.load_slots.new.disk).faults)) (c.in_ok-seen.ensures.quiet ∙ c.in_ok-reach_all.ensures.quiet) c.load_slots.ensures.cause

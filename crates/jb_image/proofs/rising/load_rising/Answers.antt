@@ -3,7 +3,7 @@ use Rattle.jb_record.specs.declared.index.IndexRecord.{IndexRecord}
 use Rattle.jb_image.specs.Answers.{IsDamaged}
 use Rattle.jb_image.specs.Reading.{IsSeenAs}
 use Rattle.jb_image.proofs.FileBytes.{reads_on}
-use Rattle.jb_image.proofs.Refusals.{damage_cause, first_damaged, opening_cause, opening_refused, refused_by_slot}
+use Rattle.jb_image.proofs.Refusals.{first_damaged, opening_refused, refused_by_slot}
 use Rattle.jb_image.proofs.RisingSoFar.{AreRisingSoFar-next}
 use Rattle.jb_image.proofs.WindowLemmas.{window_kept}
 use Rattle.jb_image.proofs.rising.load_rising.Goals as goal
@@ -50,7 +50,7 @@ loop-k-preserved g c =
     record {
       so_far = AreRisingSoFar-next _ _ _ c.args.lengths.now.headers c.args.lengths.now.texts c.loop-k.k c.loop-k.end c.in-Some.behind
           c.loop-k.slots _ c.in-Ok.seen c.in-Ok-2.loaded so_far
-          (reads_on _ _ _ (reads_on _ _ _ by_entry.kept by_slot.kept) by_load.kept) (c.in_ok-loaded.ensures.quiet ∙ c.in_ok-seen.ensures.quiet ∙ c.in_ok-entry.ensures.quiet)
+          (reads_on _ _ _ (reads_on _ _ _ by_entry.kept by_slot.kept) by_load.kept) (c.in_ok-loaded.ensures.faults.quiet ∙ c.in_ok-seen.ensures.faults.quiet ∙ c.in_ok-entry.ensures.faults.quiet)
           c.in_ok-push-in-Ok-2.ensures.ok within from c.in-Some.ensures
           (λ files contents_is.
           let now = so_far.whole.kept.contents ∙ contents_is in
@@ -103,50 +103,11 @@ returns-in_err-push-in-Ok-2-clause-kept g c = reads_on _ _ _ (reads_on _ _ _ (re
 pub returns-in_err-push-in-Ok-2-clause-window : goal.returns-in_err-push-in-Ok-2-clause-window
 returns-in_err-push-in-Ok-2-clause-window g c = c.load_slot.ensures.window
 
-pub returns-in_err-entry-clause-cause : goal.returns-in_err-entry-clause-cause
-returns-in_err-entry-clause-cause g c = opening_cause c.from_residual-in_err-entry.result _ _ _ c.in_err-entry.field-0.0 c.from_residual-in_err-entry.ensures.1 c.loop-k.invariant.so_far.whole.quiet c.in_err-entry.ensures.cause
-
 pub returns-in_err-entry-clause-refused : goal.returns-in_err-entry-clause-refused
 returns-in_err-entry-clause-refused g c = opening_refused c.from_residual-in_err-entry.result _ c.in_err-entry.field-0.0 c.from_residual-in_err-entry.ensures.1
-
-pub returns-in_err-seen-clause-cause : goal.returns-in_err-seen-clause-cause
-returns-in_err-seen-clause-cause g c = opening_cause c.from_residual-in_err-seen.result _ _ _ c.in_err-seen.field-0.0 c.from_residual-in_err-seen.ensures.1 (c.in_ok-entry.ensures.quiet ∙ c.loop-k.invariant.so_far.whole.quiet) c.in_err-seen.ensures.cause
 
 pub returns-in_err-seen-clause-refused : goal.returns-in_err-seen-clause-refused
 returns-in_err-seen-clause-refused g c = opening_refused c.from_residual-in_err-seen.result _ c.in_err-seen.field-0.0 c.from_residual-in_err-seen.ensures.1
 
-pub returns-in_err-loaded-clause-cause : goal.returns-in_err-loaded-clause-cause
-returns-in_err-loaded-clause-cause g c = opening_cause c.from_residual-in_err-loaded.result _ _ _ c.in_err-loaded.field-0.0 c.from_residual-in_err-loaded.ensures.1 (c.in_ok-seen.ensures.quiet ∙ c.in_ok-entry.ensures.quiet ∙ c.loop-k.invariant.so_far.whole.quiet) c.in_err-loaded.ensures.cause
-
 pub returns-in_err-loaded-clause-refused : goal.returns-in_err-loaded-clause-refused
 returns-in_err-loaded-clause-refused g c = opening_refused c.from_residual-in_err-loaded.result _ c.in_err-loaded.field-0.0 c.from_residual-in_err-loaded.ensures.1
-
-pub returns-in-Err-clause-cause : goal.returns-in-Err-clause-cause
-returns-in-Err-clause-cause g c = damage_cause _ _ _ c.in-Err.damage _ c.of_number.ensures (c.in_ok-seen.ensures.quiet ∙ c.in_ok-entry.ensures.quiet ∙ c.loop-k.invariant.so_far.whole.quiet)
-
-pub returns-in-Err-2-clause-cause : goal.returns-in-Err-2-clause-cause
-returns-in-Err-2-clause-cause g c = damage_cause _ _ _ c.in-Err-2.damage _ c.of_number-in-Err-2.ensures (c.in_ok-loaded.ensures.quiet ∙ c.in_ok-seen.ensures.quiet ∙ c.in_ok-entry.ensures.quiet ∙ c.loop-k.invariant.so_far.whole.quiet)
-
-pub returns-in_default-clause-quiet : goal.returns-in_default-clause-quiet
-returns-in_default-clause-quiet g c = c.in_ok-seen.ensures.quiet ∙ c.in_ok-entry.ensures.quiet ∙ c.loop-k.invariant.so_far.whole.quiet
-
-pub returns-in_err-entry-clause-later : goal.returns-in_err-entry-clause-later
-returns-in_err-entry-clause-later g c = omega (arith, c.loop-k.invariant.so_far.whole.quiet, c.read_entry.ensures.later)
-
-pub returns-in_err-seen-clause-later : goal.returns-in_err-seen-clause-later
-returns-in_err-seen-clause-later g c = omega (arith, c.loop-k.invariant.so_far.whole.quiet, c.in_ok-entry.ensures.quiet, c.see_slot.ensures.later)
-
-pub returns-in-Err-clause-later : goal.returns-in-Err-clause-later
-returns-in-Err-clause-later g c = omega (arith, c.loop-k.invariant.so_far.whole.quiet, c.in_ok-entry.ensures.quiet, c.in_ok-seen.ensures.quiet)
-
-pub returns-in_default-clause-later : goal.returns-in_default-clause-later
-returns-in_default-clause-later g c = omega (arith, c.loop-k.invariant.so_far.whole.quiet, c.in_ok-entry.ensures.quiet, c.in_ok-seen.ensures.quiet)
-
-pub returns-in_err-loaded-clause-later : goal.returns-in_err-loaded-clause-later
-returns-in_err-loaded-clause-later g c = omega (arith, c.loop-k.invariant.so_far.whole.quiet, c.in_ok-entry.ensures.quiet, c.in_ok-seen.ensures.quiet, c.load_slot.ensures.later)
-
-pub returns-in-Err-2-clause-later : goal.returns-in-Err-2-clause-later
-returns-in-Err-2-clause-later g c = omega (arith, c.loop-k.invariant.so_far.whole.quiet, c.in_ok-entry.ensures.quiet, c.in_ok-seen.ensures.quiet, c.in_ok-loaded.ensures.quiet)
-
-pub returns-in_err-push-in-Ok-2-clause-later : goal.returns-in_err-push-in-Ok-2-clause-later
-returns-in_err-push-in-Ok-2-clause-later g c = omega (arith, c.loop-k.invariant.so_far.whole.quiet, c.in_ok-entry.ensures.quiet, c.in_ok-seen.ensures.quiet, c.in_ok-loaded.ensures.quiet)

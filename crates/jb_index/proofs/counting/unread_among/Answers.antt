@@ -1,7 +1,7 @@
 use Rattle.std.proofs.Common.{◌≡◌, filter, length, take, ap, arith, refl, ◌∙◌}
 use Rattle.std.proofs.lemmas.List.{take_all}
 use Rattle.jb_index.specs.Making.{is_unread, slots_listed}
-use Rattle.jb_model.specs.LiveSlots.{linkables_from}
+use Rattle.jb_state.specs.LiveSlots.{linkables_from}
 use Rattle.jb_index.proofs.MakingLemmas.{unread_more}
 use Rattle.jb_index.proofs.counting.unread_among.Goals as goal
 

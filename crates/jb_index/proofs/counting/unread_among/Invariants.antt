@@ -1,6 +1,6 @@
 use Rattle.std.proofs.Common.{◌≡◌, ◌≤◌, filter, length, take}
 use Rattle.jb_index.specs.Making.{is_unread, slots_listed}
-use Rattle.jb_model.specs.LiveSlots.{linkables_from}
+use Rattle.jb_state.specs.LiveSlots.{linkables_from}
 use Rattle.jb_index.proofs.counting.unread_among.Given as goal
 
 abbrev pub invariant-loop-place : goal.invariant-loop-place

@@ -3,14 +3,14 @@ use Rattle.std.specs.Prelude.{nat_lt}
 use Rattle.jb_index.specs.Answer.{is_listed, last_of}
 use Rattle.jb_index.specs.Making.{is_unread, slots_listed}
 use Rattle.jb_bytes.specs.Crc.{jam_crc_of}
-use Rattle.jb_model.specs.LiveSlots.{linkables_from}
+use Rattle.jb_state.specs.LiveSlots.{linkables_from}
 use Rattle.jb_index.specs.Index.{summary_of}
-use Rattle.jb_model.specs.Links.{linkables_of}
-use Rattle.jb_model.specs.Live.{live_in}
-use Rattle.jb_model.specs.Marks.{mark_of}
-use Rattle.jb_model.specs.State.{state_of}
-use Rattle.jb_model.specs.declared.loaded.LoadedSlot.{LoadedSlot}
-use Rattle.jb_model.specs.declared.summary.Summary.{Summary}
+use Rattle.jb_state.specs.Links.{linkables_of}
+use Rattle.jb_state.specs.Live.{live_in}
+use Rattle.jb_state.specs.Marks.{mark_of}
+use Rattle.jb_state.specs.State.{state_of}
+use Rattle.jb_state.specs.declared.loaded.LoadedSlot.{LoadedSlot}
+use Rattle.jb_state.specs.declared.summary.Summary.{Summary}
 use Rattle.jb_index.proofs.ListLemmas.{filter_filter}
 use Rattle.jb_index.proofs.MakingLemmas.{listed_of_state}
 use Rattle.jb_index.proofs.counting.unread_in.Goals as goal

@@ -1,5 +1,5 @@
 use Rattle.std.proofs.Common.{List, [], ◌∷◌, ◌++◌, map, ap, ◌∙◌}
-use Rattle.jb_model.specs.LiveSlots.{linkables}
+use Rattle.jb_state.specs.LiveSlots.{linkables}
 use Rattle.jb_link.specs.declared.orphans.Orphan.{Orphan}
 use Rattle.jb_index.specs.declared.op.OpEdit.{OpEdit}
 use Rattle.jb_index.specs.declared.op.OpEdit.TheVariants.{Drop}

@@ -1,7 +1,7 @@
 use Rattle.std.proofs.Common.{◌≡◌, Bool, List, drop, filter, nat_le, take, sym, subst}
 use Rattle.std.specs.Prelude.{IfOk}
 use Rattle.std.proofs.lemmas.Bool.{le-leb, lt-leb}
-use Rattle.jb_model.specs.declared.summary.Summary.{Summary}
+use Rattle.jb_state.specs.declared.summary.Summary.{Summary}
 use Rattle.jb_index.specs.Answer.{is_listed}
 use Rattle.jb_index.specs.Wanted.{is_kind}
 use Rattle.jb_index.proofs.ListLemmas.{filter_behind, filter_cut}

@@ -1,5 +1,5 @@
 use Rattle.std.proofs.Common.{◌≡◌, ◌&&◌, ◌-◌, Bool, length, ap, sym, ◌∙◌, arith}
-use Rattle.jb_model.specs.declared.summary.Summary.{Summary}
+use Rattle.jb_state.specs.declared.summary.Summary.{Summary}
 use Rattle.jb_index.specs.Answer.{is_listed}
 use Rattle.jb_index.specs.Wanted.{is_kind}
 use Rattle.jb_index.proofs.ListLemmas.{few_more, picked_enough, picked_none, picked_one}

@@ -1,6 +1,6 @@
 use Rattle.std.proofs.Common.{[], ◌≡◌, ◌≤◌, ◌++◌, ◌∷◌, get_or, length, take, ap, ◌∙◌, arith}
 use Rattle.std.proofs.lemmas.List.{get_or_default}
-use Rattle.jb_model.specs.LiveSlots.{linkables_from}
+use Rattle.jb_state.specs.LiveSlots.{linkables_from}
 use Rattle.jb_index.proofs.making.summaries_of.Goals as goal
 use Rattle.jb_index.proofs.making.summaries_of.Goals.{in-Live+in_ok-reserve, in_default}
 use Rattle.jb_index.proofs.MakingLemmas.{few_bytes_at, listed_few, listed_from, listed_none, listed_one, parent_within}

@@ -1,5 +1,5 @@
 use Rattle.std.proofs.Common.{◌≡◌, take}
-use Rattle.jb_model.specs.LiveSlots.{linkables_from}
+use Rattle.jb_state.specs.LiveSlots.{linkables_from}
 use Rattle.jb_index.proofs.MakingLemmas.{listed_from}
 use Rattle.jb_index.proofs.making.summaries_of.Given as goal
 

@@ -1,8 +1,8 @@
 use Rattle.std.proofs.Common.{◌∙◌, ap, arith, length}
 use Rattle.jb_bytes.specs.Subfields.{receiver_of, sender_of}
 use Rattle.jb_bytes.specs.declared.subfield.TheConstants.{RECEIVER_NAME, SENDER_NAME, SUBJECT}
-use Rattle.jb_model.specs.Message.{subject_of}
-use Rattle.jb_model.specs.Short.{short_of}
+use Rattle.jb_state.specs.Message.{subject_of}
+use Rattle.jb_state.specs.Short.{short_of}
 use Rattle.jb_index.proofs.MakingLemmas.{field_is_short, same_summary}
 use Rattle.jb_index.proofs.making.summary.Goals as goal
 

@@ -1,10 +1,10 @@
 use Rattle.std.proofs.Common.{◌≡◌, ◌∙◌, ℕ, [], List, ap, map, subst}
 use Rattle.std.specs.Prelude.{IfOk}
-use Rattle.jb_model.specs.Plan.{links_of}
-use Rattle.jb_model.specs.Links.{linkables_of}
-use Rattle.jb_model.specs.State.{state_of}
-use Rattle.jb_model.specs.declared.links.Links.{Links}
-use Rattle.jb_model.proofs.RelinkLaws.{map-map}
+use Rattle.jb_state.specs.Plan.{links_of}
+use Rattle.jb_state.specs.Links.{linkables_of}
+use Rattle.jb_state.specs.State.{state_of}
+use Rattle.jb_state.specs.declared.links.Links.{Links}
+use Rattle.jb_state.proofs.RelinkLaws.{map-map}
 use Rattle.jb_index.specs.Index.{parents_in}
 use Rattle.jb_index.proofs.parents.parents_of.Goals as goal
 

@@ -1,6 +1,6 @@
 use Rattle.std.proofs.Common.{◌≡◌, ◌∙◌, sym, subst, List, take}
 use Rattle.std.specs.Prelude.{IfOk}
-use Rattle.jb_model.specs.declared.summary.Summary.{Summary}
+use Rattle.jb_state.specs.declared.summary.Summary.{Summary}
 use Rattle.jb_index.specs.Answer.{is_listed}
 use Rattle.jb_index.proofs.ThreadLemmas.{root_of_place, thread_is}
 use Rattle.jb_index.proofs.threads.first_of_thread.Goals as goal

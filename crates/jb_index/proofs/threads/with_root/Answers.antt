@@ -1,6 +1,6 @@
 use Rattle.std.proofs.Common.{◌≡◌, ◌&&◌, ◌==◌, ◌<◌, Bool, get_or, length, ap, sym, ◌∙◌, arith, eq-eqb, ne_eqb}
 use Rattle.jb_index.proofs.ThreadLemmas.{root_of_one}
-use Rattle.jb_model.specs.declared.summary.Summary.{Summary}
+use Rattle.jb_state.specs.declared.summary.Summary.{Summary}
 use Rattle.jb_index.specs.Answer.{is_listed}
 use Rattle.jb_index.specs.Thread.{root_in}
 use Rattle.jb_index.proofs.ListLemmas.{few_more, filtered_none, filtered_one, picked_enough}

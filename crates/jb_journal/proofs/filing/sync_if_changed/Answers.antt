@@ -1,10 +1,10 @@
 use Rattle.std.proofs.Common.{◌≡◌, inl, inr, Bool, true, false, [], ◌∷◌, refl, sym, ◌∙◌}
 use Rattle.jb_redo.specs.OnTheWay.{IsOnTheWay}
 use Rattle.jb_disk.proofs.RunLemmas.{keeps-sync, durable}
+use Rattle.jb_disk.proofs.FileLemmas.{leaves_map}
 use Rattle.jb_journal.proofs.ComingLemmas.{come_none, come_synced}
 use Rattle.jb_journal.proofs.Told.{on_ok}
 use Rattle.jb_journal.proofs.FilingLemmas.{unmentioned_same}
-use Rattle.jb_journal.proofs.SyncLemmas.{leaves_map}
 use Rattle.jb_journal.proofs.filing.sync_if_changed.Goals as goal
 
 -- true is not false

@@ -3,12 +3,12 @@ use Rattle.jb_disk.specs.Device.{Turns}
 use Rattle.jb_disk.specs.Runs.{Keeps}
 use Rattle.jb_disk.specs.declared.piece.Length.{Length}
 use Rattle.jb_disk.proofs.RunLemmas.{keeps-then}
+use Rattle.jb_disk.proofs.FileLemmas.{leaves_both}
 use Rattle.jb_redo.specs.OnTheWay.{IsOnTheWay}
 use Rattle.jb_journal.specs.Filing.{AreResized, AgreeBelow}
 use Rattle.jb_journal.specs.Coming.{ComeBy}
 use Rattle.jb_journal.proofs.ComingLemmas.{come_on, syncs_behind}
 use Rattle.jb_journal.proofs.Told.{on_ok, on_ok_both}
-use Rattle.jb_journal.proofs.SyncLemmas.{leaves_both}
 use Rattle.jb_journal.proofs.FilingLemmas.{pieces_place, told_applied, same_on_way}
 use Rattle.jb_journal.proofs.filing.write_files.Goals as goal
 

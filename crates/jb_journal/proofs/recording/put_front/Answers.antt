@@ -3,8 +3,9 @@ use Rattle.std.specs.List.{flat_map}
 use Rattle.jb_bytes.specs.Number.{number_bytes}
 use Rattle.jb_redo.specs.Record.{length_bytes}
 use Rattle.jb_journal.specs.Spelling.{front_bytes}
-use Rattle.jb_journal.proofs.RecordLemmas.{length-lengths, length-front}
+use Rattle.jb_journal.proofs.RecordLemmas.{length-front}
 use Rattle.jb_journal.proofs.PutsLemmas.{puts_room, puts_then, puts_failed}
+use Rattle.jb_redo.proofs.RecordLemmas.{length-lengths}
 use Rattle.jb_journal.proofs.recording.put_front.Goals as goal
 
 pub put_lengths-requires-clause-room : goal.put_lengths-requires-clause-room

@@ -2,8 +2,9 @@ use Rattle.std.proofs.Common.{length, drop, ap, sym, arith, refl, length-drop}
 use Rattle.std.specs.List.{flat_map}
 use Rattle.std.proofs.lemmas.List.{drop_all}
 use Rattle.jb_redo.specs.Record.{length_bytes}
-use Rattle.jb_journal.proofs.RecordLemmas.{length-lengths, more_lengths}
+use Rattle.jb_journal.proofs.RecordLemmas.{more_lengths}
 use Rattle.jb_journal.proofs.PutsLemmas.{writing_start, writing_on, writing_failed, writing_end}
+use Rattle.jb_redo.proofs.RecordLemmas.{length-lengths}
 use Rattle.jb_journal.proofs.recording.put_lengths.Goals as goal
 
 pub loop-entry-init : goal.loop-entry-init

@@ -1,4 +1,4 @@
-use Rattle.std.proofs.Common.{[], ◌∷◌, List, ℕ, subst, ◌+◌, ap, ◌∙◌, arith}
+use Rattle.std.proofs.Common.{[], ◌∷◌, ℕ, subst, ◌+◌, ap, ◌∙◌, arith}
 use Rattle.jb_disk.specs.declared.file.FileId.TheVariants.{Jnl}
 use Rattle.jb_disk.proofs.RunLemmas.{keeps-then, keeps-resize, keeps-sync}
 use Rattle.jb_redo.specs.Record.{record_bytes}

@@ -1,8 +1,8 @@
 use Rattle.std.proofs.Common.{◌≡◌, ◌∙◌, Some}
 use Rattle.jb_disk.proofs.RunLemmas.{runs-refl, runs-then, runs-weaken}
+use Rattle.jb_disk.proofs.FileLemmas.{leaves_map}
 use Rattle.jb_journal.specs.Recover.{ReplaysAs, MightBe, ReplaysAsAtStart}
 use Rattle.jb_journal.proofs.FirmLemmas.{firm_same, firm_then, firm_weaken}
-use Rattle.jb_journal.proofs.SyncLemmas.{leaves_map}
 use Rattle.jb_journal.proofs.RecoverLemmas.{shows_first, might_as, same_as}
 use Rattle.jb_journal.proofs.recovery.recover.Goals as goal
 

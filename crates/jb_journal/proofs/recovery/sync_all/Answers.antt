@@ -2,11 +2,12 @@ use Rattle.std.proofs.Common.{◌≡◌, sym, ◌∙◌, Some, refl, arith}
 use Rattle.jb_disk.specs.declared.file.FileId.TheVariants.{Jnl, Ndt}
 use Rattle.jb_disk.specs.Runs.{LeavesNow, Shows}
 use Rattle.jb_disk.proofs.RunLemmas.{keeps-then, keeps-sync, durable}
+use Rattle.jb_disk.proofs.FileLemmas.{leaves_both, only_told}
 use Rattle.jb_journal.specs.Filing.{AgreeBelow}
 use Rattle.jb_journal.specs.Recover.{MightBe}
-use Rattle.jb_journal.proofs.Told.{on_ok_both, only_told}
+use Rattle.jb_journal.proofs.Told.{on_ok_both}
 use Rattle.jb_journal.proofs.FirmLemmas.{adds_more, adds_sync, adds_then, firm_last, firm_syncing}
-use Rattle.jb_journal.proofs.SyncLemmas.{held, leaves_both}
+use Rattle.jb_journal.proofs.SyncLemmas.{held}
 use Rattle.jb_journal.proofs.RecoverLemmas.{six_files}
 use Rattle.jb_journal.proofs.recovery.sync_all.Goals as goal
 

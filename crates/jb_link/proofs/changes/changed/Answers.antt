@@ -1,7 +1,7 @@
 use Rattle.std.proofs.Common.{◌≡◌, ◌≤◌, count_by, length, [], sym, ◌∙◌, arith}
-use Rattle.jb_model.specs.Relink.{wrongly_linked}
-use Rattle.jb_model.specs.State.{state_of}
-use Rattle.jb_model.specs.Plan.{differs, loaded_at}
+use Rattle.jb_state.specs.Relinked.{wrongly_linked}
+use Rattle.jb_state.specs.State.{state_of}
+use Rattle.jb_state.specs.Plan.{differs, loaded_at}
 use Rattle.jb_link.proofs.ChangeLemmas.{count_within, counted_changes, none_wrong}
 use Rattle.jb_link.proofs.changes.changed.Goals as goal
 

@@ -1,7 +1,7 @@
 use Rattle.std.proofs.Common.{◌+◌, List, ℕ, subst, sym}
 use Rattle.jb_link.specs.Ids.{number_of}
 use Rattle.jb_link.specs.Parents.{AreParents}
-use Rattle.jb_model.specs.LiveSlots.{linkables_from}
+use Rattle.jb_state.specs.LiveSlots.{linkables_from}
 use Rattle.jb_link.proofs.ParentLemmas.{lowest_step, parents_step}
 use Rattle.jb_link.proofs.parents.parents_by_place.Goals as goal
 

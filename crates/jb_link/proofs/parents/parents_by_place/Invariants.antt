@@ -1,7 +1,7 @@
 use Rattle.std.proofs.Common.{take}
 use Rattle.jb_link.specs.Ids.{HasLowest, IsSettled, number_of}
 use Rattle.jb_link.specs.Parents.{AreParents}
-use Rattle.jb_model.specs.LiveSlots.{linkables_from}
+use Rattle.jb_state.specs.LiveSlots.{linkables_from}
 use Rattle.jb_link.proofs.parents.parents_by_place.Given as goal
 
 abbrev pub invariant-loop-place : goal.invariant-loop-place

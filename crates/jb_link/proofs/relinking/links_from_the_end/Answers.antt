@@ -1,7 +1,7 @@
 use Rattle.std.proofs.Common.{◌≡◌, ◌++◌, ◌-◌, ◌+◌, ◌<◌, ◌==◌, cond, List, ℕ, length, take, drop, slice_index, slice_set, subst, sym, ap, ◌∙◌, arith}
 use Rattle.std.proofs.lemmas.Grind.{get_or_default_zero}
 use Rattle.std.proofs.lemmas.List.{take_at}
-use Rattle.jb_model.specs.declared.links.Links.{Links}
+use Rattle.jb_state.specs.declared.links.Links.{Links}
 use Rattle.jb_link.proofs.PlanLemmas.{IsMetFrom, met_live_slot, parent_at_in_range}
 use Rattle.jb_link.proofs.relinking.links_from_the_end.Goals as goal
 

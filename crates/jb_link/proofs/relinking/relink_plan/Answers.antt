@@ -1,8 +1,8 @@
 use Rattle.std.proofs.Common.{List, reverse, ap, sym, ◌∙◌}
 use Rattle.std.proofs.lemmas.List.{reverse-reverse}
-use Rattle.jb_model.specs.declared.links.Links.{Links}
-use Rattle.jb_model.specs.Plan.{plan_of}
-use Rattle.jb_model.specs.LiveSlots.{linkables_from}
+use Rattle.jb_state.specs.declared.links.Links.{Links}
+use Rattle.jb_state.specs.Plan.{plan_of}
+use Rattle.jb_state.specs.LiveSlots.{linkables_from}
 use Rattle.jb_link.proofs.LiveLemmas.{linkables_with_texts}
 use Rattle.jb_link.proofs.relinking.relink_plan.Goals as goal
 

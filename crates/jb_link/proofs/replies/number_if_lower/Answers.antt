@@ -1,5 +1,5 @@
 use Rattle.std.proofs.Common.{arith, inr, sym, ◌∙◌}
-use Rattle.jb_model.specs.Plan.{loaded_at}
+use Rattle.jb_state.specs.Plan.{loaded_at}
 use Rattle.std.proofs.lemmas.Bool.{both_ways}
 use Rattle.jb_link.proofs.FoundLemmas.{lent_message, no_parent_kept, parent_kept_live, some_live}
 use Rattle.jb_link.proofs.replies.number_if_lower.Goals as goal

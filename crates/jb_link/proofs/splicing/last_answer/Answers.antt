@@ -1,6 +1,6 @@
 use Rattle.std.proofs.Common.{true, false, refl, sym, ◌∙◌}
 use Rattle.std.specs.Option.{option_map}
-use Rattle.jb_model.specs.Message.{replyid_of}
+use Rattle.jb_state.specs.Message.{replyid_of}
 use Rattle.jb_link.specs.Splice.{answers}
 use Rattle.jb_link.proofs.ReplyLemmas.{last_step}
 use Rattle.jb_link.proofs.splicing.last_answer.Goals as goal

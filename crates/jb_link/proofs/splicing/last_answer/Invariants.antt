@@ -1,7 +1,7 @@
 use Rattle.std.proofs.Common.{◌≡◌, find, reverse, take}
 use Rattle.std.specs.Option.{option_map}
-use Rattle.jb_model.specs.Links.{number_or_0}
-use Rattle.jb_model.specs.LiveSlots.{linkables_from}
+use Rattle.jb_state.specs.Links.{number_or_0}
+use Rattle.jb_state.specs.LiveSlots.{linkables_from}
 use Rattle.jb_link.specs.Splice.{answers}
 use Rattle.jb_link.proofs.splicing.last_answer.Given as goal
 

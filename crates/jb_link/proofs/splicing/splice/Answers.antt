@@ -1,7 +1,7 @@
 use Rattle.std.proofs.Common.{◌≡◌, ◌-◌, ◌+◌, List, ℕ, inl, inr, refl}
 use Rattle.std.proofs.lemmas.List.{take_rest}
-use Rattle.jb_model.specs.State.{state_of}
-use Rattle.jb_model.specs.LiveSlots.{IsLive, linkables}
+use Rattle.jb_state.specs.State.{state_of}
+use Rattle.jb_state.specs.LiveSlots.{IsLive, linkables}
 use Rattle.jb_link.specs.Splice.{spliced}
 use Rattle.jb_link.specs.declared.splicing.Spliced.TheVariants.{None as Nothing, First, After}
 use Rattle.jb_link.proofs.ReplyLemmas.{last_of_live, named_is_changed, spliced_after, spliced_first, spliced_nothing}

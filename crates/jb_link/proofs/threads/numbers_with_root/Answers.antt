@@ -1,6 +1,6 @@
 use Rattle.std.proofs.Common.{◌==◌, true, false, refl, ap, sym, ◌∙◌, eq-eqb, ne_eqb}
-use Rattle.jb_model.specs.Links.{thread_root}
-use Rattle.jb_model.specs.LiveSlots.{linkables_from}
+use Rattle.jb_state.specs.Links.{thread_root}
+use Rattle.jb_state.specs.LiveSlots.{linkables_from}
 use Rattle.jb_link.proofs.ThreadLemmas.{passes_at, thread_step}
 use Rattle.jb_link.proofs.threads.numbers_with_root.Goals as goal
 use Rattle.jb_link.proofs.threads.numbers_with_root.Goals.{then-is_live_slot+then-roots-place+in_ok-push, else-is_live_slot, else-is_live_slot-via-then-is_live_slot+else-roots-place, else-is_live_slot-via-else-is_live_slot}

@@ -1,6 +1,6 @@
 use Rattle.std.proofs.Common.{◌≡◌, ◌==◌, filter, map, take}
-use Rattle.jb_model.specs.Links.{thread_root}
-use Rattle.jb_model.specs.LiveSlots.{linkables_from}
+use Rattle.jb_state.specs.Links.{thread_root}
+use Rattle.jb_state.specs.LiveSlots.{linkables_from}
 use Rattle.jb_link.proofs.threads.numbers_with_root.Given as goal
 
 abbrev pub invariant-loop-place : goal.invariant-loop-place

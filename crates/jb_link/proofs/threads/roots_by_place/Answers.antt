@@ -1,7 +1,7 @@
 use Rattle.std.proofs.Common.{◌≡◌, ◌+◌, ◌<◌, ◌≤◌, ℕ, List, length, sym, subst, ◌∙◌, arith}
 use Rattle.std.proofs.lemmas.Grind.{get_or_default_zero}
-use Rattle.jb_model.specs.Links.{parent_at, thread_root}
-use Rattle.jb_model.specs.LiveSlots.{linkables_from}
+use Rattle.jb_state.specs.Links.{parent_at, thread_root}
+use Rattle.jb_state.specs.LiveSlots.{linkables_from}
 use Rattle.jb_link.specs.Thread.{AreRoots}
 use Rattle.jb_link.proofs.ThreadLemmas.{parent_above, root_at_parent, root_without_parent, roots_step}
 use Rattle.jb_link.proofs.threads.roots_by_place.Goals as goal

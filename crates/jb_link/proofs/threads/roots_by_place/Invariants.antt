@@ -1,4 +1,4 @@
-use Rattle.jb_model.specs.LiveSlots.{linkables_from}
+use Rattle.jb_state.specs.LiveSlots.{linkables_from}
 use Rattle.jb_link.specs.Thread.{AreRoots}
 use Rattle.jb_link.proofs.threads.roots_by_place.Given as goal
 

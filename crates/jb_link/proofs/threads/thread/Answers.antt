@@ -1,6 +1,6 @@
 use Rattle.std.proofs.Common.{◌≡◌, ◌==◌, List, filter, map, ap, sym, ◌∙◌}
-use Rattle.jb_model.specs.Links.{Linkable, thread_root}
-use Rattle.jb_model.specs.LiveSlots.{linkables_from}
+use Rattle.jb_state.specs.Links.{Linkable, thread_root}
+use Rattle.jb_state.specs.LiveSlots.{linkables_from}
 use Rattle.jb_link.specs.Thread.{thread_of}
 use Rattle.jb_link.proofs.LiveLemmas.{linkables_with_texts}
 use Rattle.jb_link.proofs.ThreadLemmas.{root_of_live}

@@ -1,8 +1,9 @@
 use Rattle.std.proofs.Common.{◌∙◌, List, ℕ, ap, arith, length, subst}
+use Rattle.jb_limits.specs.declared.limits.TheConstants.{MOST_SLOTS}
 use Rattle.jb_disk.specs.declared.file.FileId.TheVariants.{Jhr, Jdx}
 use Rattle.jb_pack.specs.Bytes.{AreHeadersReadAgain, headers_bytes}
 use Rattle.jb_pack.specs.Laid.{Lays}
-use Rattle.jb_model.specs.Packed.{packed}
+use Rattle.jb_state.specs.Packed.{packed}
 use Rattle.jb_pack.proofs.PlanLemmas.{area_put, index_short}
 use Rattle.jb_pack.proofs.files.put_area.Goals as goal
 
@@ -11,7 +12,7 @@ put-requires-clause-short c =
     omega (
       arith,
       ap length (c.as_slice.ensures ∙ c.in_ok-put_slots.ensures.index),
-      index_short 65000 c.args.loaded.now c.requires.sound (omega arith),
+      index_short MOST_SLOTS c.args.loaded.now c.requires.sound (omega arith),
     )
 
 pub returns-clause-puts : goal.returns-clause-puts

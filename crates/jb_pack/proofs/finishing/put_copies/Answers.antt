@@ -2,10 +2,10 @@ use Rattle.std.proofs.Common.{◌≡◌, ◌∷◌, ◌+◌, ◌∙◌, List, []
 use Rattle.std.specs.Prelude.{sum}
 use Rattle.std.proofs.lemmas.List.{drop_all, get_or_read}
 use Rattle.std.proofs.lemmas.List.Elements.{All-head}
-use Rattle.jb_model.specs.Sound.{IsSlotWithin}
-use Rattle.jb_model.specs.declared.loaded.LoadedMessage.{LoadedMessage}
-use Rattle.jb_model.specs.declared.loaded.LoadedSlot.{LoadedSlot}
-use Rattle.jb_model.specs.declared.loaded.LoadedSlot.TheVariants.{Empty, Live}
+use Rattle.jb_state.specs.Sound.{IsSlotWithin}
+use Rattle.jb_state.specs.declared.loaded.LoadedMessage.{LoadedMessage}
+use Rattle.jb_state.specs.declared.loaded.LoadedSlot.{LoadedSlot}
+use Rattle.jb_state.specs.declared.loaded.LoadedSlot.TheVariants.{Empty, Live}
 use Rattle.jb_pack.specs.Shadow.{left_of, lefts, not_copied}
 use Rattle.jb_pack.specs.declared.copied.CopiedText.{CopiedText}
 use Rattle.jb_pack.specs.declared.run.Run.{Run}

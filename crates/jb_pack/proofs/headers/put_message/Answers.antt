@@ -1,7 +1,7 @@
 use Rattle.std.proofs.Common.{◌∙◌, List, ℕ, ap, arith, length, subst}
 use Rattle.jb_image.specs.Records.{IsHeaderReadAgain, message_bytes, with_fields}
 use Rattle.jb_disk.specs.declared.file.FileId.TheVariants.{Jhr}
-use Rattle.jb_model.specs.declared.message.Head.{Head}
+use Rattle.jb_state.specs.declared.message.Head.{Head}
 use Rattle.jb_pack.specs.Laid.{Lays}
 use Rattle.jb_pack.proofs.headers.put_message.Goals as goal
 

@@ -1,13 +1,14 @@
 use Rattle.std.proofs.Common.{◌≡◌, ◌+◌, ◌-◌, ◌∙◌, ℕ, List, ap, arith, drop, map, sym}
-use Rattle.jb_model.specs.Plan.{links_of}
-use Rattle.jb_model.specs.LiveSlots.{linkables_from}
-use Rattle.jb_model.specs.Links.{Linkable}
-use Rattle.jb_model.specs.declared.loaded.Loaded.{Loaded}
-use Rattle.jb_model.specs.declared.loaded.LoadedSlot.{LoadedSlot}
+use Rattle.jb_limits.specs.declared.limits.TheConstants.{MOST_SLOTS}
+use Rattle.jb_state.specs.Plan.{links_of}
+use Rattle.jb_state.specs.LiveSlots.{linkables_from}
+use Rattle.jb_state.specs.Links.{Linkable}
+use Rattle.jb_state.specs.declared.loaded.Loaded.{Loaded}
+use Rattle.jb_state.specs.declared.loaded.LoadedSlot.{LoadedSlot}
 use Rattle.jb_pack.proofs.FitLemmas.{headers_fit_kept}
 use Rattle.jb_pack.proofs.PlanLemmas.{base_within}
 use Rattle.jb_pack.proofs.SlotLemmas.{linkables_kept}
-use Rattle.jb_model.specs.Packed.{headers_size, kept_slots, live_slots, packed, packed_from, texts_size}
+use Rattle.jb_state.specs.Packed.{headers_size, kept_slots, live_slots, packed, packed_from, texts_size}
 use Rattle.jb_pack.proofs.moving.pack_loaded.Goals as goal
 
 pub overflow_sub-base : goal.overflow_sub-base
@@ -37,7 +38,7 @@ pub move_slots-end-requires-clause-headers : goal.move_slots-end-requires-clause
 move_slots-end-requires-clause-headers c =
     let loaded : Loaded = c.args.loaded.now in
     let kept : c.drop_first.new.self ≡ kept_slots loaded = c.drop_first.ensures ∙ ap (λ (n : ℕ). drop (n - loaded.base) loaded.slots) c.requires.base in
-    omega (arith, headers_fit_kept 65000 loaded c.requires.sound, ap headers_size kept)
+    omega (arith, headers_fit_kept MOST_SLOTS loaded c.requires.sound, ap headers_size kept)
 
 pub returns : goal.returns
 returns c =

@@ -1,8 +1,9 @@
 use Rattle.std.proofs.Common.{◌∙◌, [], ap, arith, cond, length, refl, sym}
+use Rattle.jb_limits.specs.declared.limits.TheConstants.{MOST_SLOTS}
 use Rattle.jb_pack.proofs.FitLemmas.{headers_fit}
 use Rattle.jb_pack.proofs.PlanLemmas.{base_put, base_within}
 use Rattle.jb_pack.proofs.StateLemmas.{sum_of_kept}
-use Rattle.jb_model.specs.Packed.{is_live_slot, slot_header_size, slot_text_size, texts_size}
+use Rattle.jb_state.specs.Packed.{is_live_slot, slot_header_size, slot_text_size, texts_size}
 use Rattle.jb_pack.specs.Plan.{lengths_with}
 use Rattle.jb_pack.proofs.planning.put_base.Goals as goal
 
@@ -17,7 +18,7 @@ kept_of-slots-requires-clause-within c =
     omega (arith, c.requires.base)
 
 pub put_lengths-requires-clause-headers : goal.put_lengths-requires-clause-headers
-put_lengths-requires-clause-headers c = omega (arith, headers_fit 65000 c.args.loaded.now c.requires.sound, c.requires.sizes.headers)
+put_lengths-requires-clause-headers c = omega (arith, headers_fit MOST_SLOTS c.args.loaded.now c.requires.sound, c.requires.sizes.headers)
 
 pub put_lengths-requires-clause-texts : goal.put_lengths-requires-clause-texts
 put_lengths-requires-clause-texts c = omega (arith, c.requires.sizes.texts, c.requires.fits)

@@ -1,5 +1,5 @@
 use Rattle.std.proofs.Common.{◌≡◌, take}
-use Rattle.jb_model.specs.Packed.{headers_size, killed_slots, live_slots, texts_size}
+use Rattle.jb_state.specs.Packed.{headers_size, killed_slots, live_slots, texts_size}
 use Rattle.jb_pack.proofs.sizes.sizes_of.Given as goal
 
 abbrev pub invariant-loop-slot : goal.invariant-loop-slot

@@ -1,15 +1,15 @@
 use Rattle.std.proofs.Common.{◌≡◌, ◌∷◌, ◌+◌, ◌-◌, ◌≤◌, ◌∙◌, List, ℕ, drop, length, [], subst, sym, ap, arith, length-drop}
 use Rattle.std.proofs.lemmas.List.{append-nil}
-use Rattle.jb_limits.specs.declared.limits.TheConstants.{TEXTS_CEILING}
+use Rattle.jb_limits.specs.declared.limits.TheConstants.{TEXTS_CEILING, MOST_SLOTS}
 use Rattle.jb_disk.specs.declared.file.FileId.TheVariants.{Jhr}
-use Rattle.jb_model.specs.declared.links.Links.{Links}
-use Rattle.jb_model.specs.declared.loaded.LoadedMessage.{LoadedMessage}
-use Rattle.jb_model.specs.declared.loaded.LoadedSlot.{LoadedSlot}
-use Rattle.jb_model.specs.declared.loaded.LoadedSlot.TheVariants.{Live}
+use Rattle.jb_state.specs.declared.links.Links.{Links}
+use Rattle.jb_state.specs.declared.loaded.LoadedMessage.{LoadedMessage}
+use Rattle.jb_state.specs.declared.loaded.LoadedSlot.{LoadedSlot}
+use Rattle.jb_state.specs.declared.loaded.LoadedSlot.TheVariants.{Live}
 use Rattle.jb_pack.proofs.SlotLemmas.{IsPut, all_put, from_place, links_are, put_live, put_no_message, put_none, has_place, keeps_then}
 use Rattle.jb_image.specs.Records.{IsHeaderReadAgain, message_bytes}
 use Rattle.jb_pack.specs.Laid.{Lays}
-use Rattle.jb_model.specs.Packed.{moved, texts_size}
+use Rattle.jb_state.specs.Packed.{moved, texts_size}
 use Rattle.jb_pack.specs.declared.place.Place.{Place}
 use Rattle.jb_pack.proofs.slots.put_slots.Goals as goal
 
@@ -17,7 +17,7 @@ pub loop-slot-init : goal.loop-slot-init
 loop-slot-init c =
     rw c.requires.base
     (rw c.requires.slots
-    (put_none c.args.loaded.now c.args.links.now c.args.redo.now 65000 c.args.index.now c.requires.sound c.requires.links
+    (put_none c.args.loaded.now c.args.links.now c.args.redo.now MOST_SLOTS c.args.index.now c.requires.sound c.requires.links
     (subst (λ (l : List LoadedSlot). texts_size l ≤ TEXTS_CEILING) c.requires.slots c.requires.texts) c.requires.fixed c.requires.index))
 
 pub loop-slot-preserved : goal.loop-slot-preserved

@@ -2,7 +2,7 @@ use Rattle.std.proofs.Common.{◌∙◌, List, refl, subst, sym}
 use Rattle.std.specs.Prelude.{Option}
 use Rattle.std.specs.Option.{ForSome}
 use Rattle.jb_disk.specs.Files.{Files}
-use Rattle.jb_model.specs.declared.loaded.LoadedSlot.{LoadedSlot}
+use Rattle.jb_state.specs.declared.loaded.LoadedSlot.{LoadedSlot}
 use Rattle.jb_pack.specs.Reaching.{Starts}
 use Rattle.jb_pack.specs.Shadow.{HasCopies, Shadow}
 use Rattle.jb_pack.proofs.PackerLemmas.{copies_below, copies_some, more_then, start_room, texts_kept}

@@ -3,10 +3,10 @@ use Rattle.std.specs.Prelude.{Option}
 use Rattle.std.proofs.lemmas.List.Elements.{All-head}
 use Rattle.jb_limits.specs.declared.limits.TheConstants.{TEXTS_CEILING}
 use Rattle.jb_disk.specs.Files.{Files}
-use Rattle.jb_model.specs.Sound.{IsSlotWithin}
-use Rattle.jb_model.specs.declared.loaded.LoadedMessage.{LoadedMessage}
-use Rattle.jb_model.specs.declared.loaded.LoadedSlot.{LoadedSlot}
-use Rattle.jb_model.specs.declared.loaded.LoadedSlot.TheVariants.{Live}
+use Rattle.jb_state.specs.Sound.{IsSlotWithin}
+use Rattle.jb_state.specs.declared.loaded.LoadedMessage.{LoadedMessage}
+use Rattle.jb_state.specs.declared.loaded.LoadedSlot.{LoadedSlot}
+use Rattle.jb_state.specs.declared.loaded.LoadedSlot.TheVariants.{Live}
 use Rattle.jb_pack.specs.Copying.{PutsRun}
 use Rattle.jb_pack.proofs.CopyLemmas.{IsCopied, copied_all, copied_end, copied_joined, copied_next, copied_no_message, copied_none, text_placed, text_run}
 use Rattle.jb_pack.proofs.SlotLemmas.{from_place, keeps_then}
@@ -49,7 +49,7 @@ loop-slot-preserved g c =
           c.in_ok-end.ensures.next c.in_ok-end.ensures.room (text_run (min c.args.loaded.now.texts_len TEXTS_CEILING) (record { at = message.text_at; len = message.text_len }) c.in_default-joined.ensures.other
           (text_placed c.args.loaded.now.texts_len message.text_at message.text_len within.text)) here;
       kept = record { contents = keeps.contents ∙ kept.contents; moments = keeps.moments ∙ kept.moments };
-      quiet = c.in_ok-end.ensures.quiet ∙ c.loop-slot.invariant.quiet;
+      quiet = c.in_ok-end.ensures.faults.quiet ∙ c.loop-slot.invariant.quiet;
     }
 
 pub loop-slot-init : goal.loop-slot-init

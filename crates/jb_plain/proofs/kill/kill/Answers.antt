@@ -1,6 +1,6 @@
 use Rattle.std.proofs.Common.{ap, sym, ◌∙◌}
-use Rattle.jb_model.specs.Answered.{counted}
-use Rattle.jb_model.specs.Tight.{owned}
+use Rattle.jb_state.specs.Live.{counted}
+use Rattle.jb_state.specs.Tight.{owned}
 use Rattle.jb_model.specs.declared.reply.Reply.TheVariants.{Killed}
 use Rattle.jb_plain.specs.Seen.{seen}
 use Rattle.jb_plain.proofs.SeenLaws.{answer, kill_way}

@@ -1,5 +1,5 @@
 use Rattle.std.proofs.Common.{◌≡◌, ◌+◌, drop}
-use Rattle.jb_model.specs.Links.{is_reply_to}
+use Rattle.jb_state.specs.Links.{is_reply_to}
 use Rattle.jb_plain.specs.Walk.{found_in, linkables_from}
 use Rattle.jb_plain.proofs.links.first_reply.Given as goal
 

@@ -1,6 +1,6 @@
 use Rattle.std.proofs.Common.{reverse, find, sym, ◌∙◌, arith}
 use Rattle.std.proofs.lemmas.List.{at_drop_all}
-use Rattle.jb_model.specs.Links.{is_reply_to}
+use Rattle.jb_state.specs.Links.{is_reply_to}
 use Rattle.jb_plain.specs.Walk.{last_from, linkables_from}
 use Rattle.jb_plain.proofs.Walks.{last_from-reverse, number_or-0}
 use Rattle.jb_plain.proofs.links.last_reply.Goals as goal

@@ -1,5 +1,5 @@
 use Rattle.std.proofs.Common.{◌≡◌, ◌+◌, drop}
-use Rattle.jb_model.specs.Links.{is_reply_to}
+use Rattle.jb_state.specs.Links.{is_reply_to}
 use Rattle.jb_plain.specs.Walk.{last_from, linkables_from}
 use Rattle.jb_plain.proofs.links.last_reply.Given as goal
 

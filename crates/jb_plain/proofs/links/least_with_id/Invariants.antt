@@ -1,5 +1,5 @@
 use Rattle.std.proofs.Common.{◌≡◌, ◌+◌, drop}
-use Rattle.jb_model.specs.Links.{is_answered_by}
+use Rattle.jb_state.specs.Links.{is_answered_by}
 use Rattle.jb_plain.specs.Walk.{found_in}
 use Rattle.jb_plain.proofs.links.least_with_id.Given as goal
 

@@ -1,5 +1,5 @@
 use Rattle.std.proofs.Common.{◌≡◌, drop}
-use Rattle.jb_model.specs.Marks.{mark_of}
+use Rattle.jb_state.specs.Marks.{mark_of}
 use Rattle.jb_plain.proofs.mark.first_mark.Given as goal
 
 abbrev pub invariant-loop-mark : goal.invariant-loop-mark

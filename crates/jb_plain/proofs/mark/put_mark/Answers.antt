@@ -1,8 +1,8 @@
 use Rattle.std.proofs.Common.{◌≡◌, ◌+◌, ◌<◌, ◌++◌, ◌∷◌, true, suc, List, length, drop, take, get_or, ap, sym, ◌∙◌, arith}
 use Rattle.std.proofs.lemmas.Bool.{cond-true}
 use Rattle.std.proofs.lemmas.List.{drop_more, set_split}
-use Rattle.jb_model.specs.Marks.{is_mark, with_mark}
-use Rattle.jb_model.specs.declared.mark.Mark.{Mark}
+use Rattle.jb_state.specs.Marks.{is_mark, with_mark}
+use Rattle.jb_state.specs.declared.mark.Mark.{Mark}
 use Rattle.jb_plain.proofs.mark.put_mark.Goals as goal
 
 pub returns-then-is_pair : goal.returns-then-is_pair

@@ -1,5 +1,5 @@
 use Rattle.std.proofs.Common.{◌≡◌, ◌++◌, drop, take}
-use Rattle.jb_model.specs.Marks.{with_mark}
+use Rattle.jb_state.specs.Marks.{with_mark}
 use Rattle.jb_plain.proofs.mark.put_mark.Given as goal
 
 abbrev pub invariant-loop-place : goal.invariant-loop-place

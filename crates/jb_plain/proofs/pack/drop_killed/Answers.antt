@@ -1,9 +1,9 @@
 use Rattle.std.proofs.Common.{◌+◌, List, map, ap, sym, ◌∙◌}
 use Rattle.std.proofs.lemmas.List.{drop-map}
-use Rattle.jb_model.specs.Pack.{emptied}
-use Rattle.jb_model.specs.State.{AreaState, SlotState}
-use Rattle.jb_model.specs.Tight.{owned_slot}
-use Rattle.jb_model.specs.declared.area.Slot.{Slot}
+use Rattle.jb_state.specs.PackedState.{emptied}
+use Rattle.jb_state.specs.State.{AreaState, SlotState}
+use Rattle.jb_state.specs.Tight.{owned_slot}
+use Rattle.jb_state.specs.declared.area.Slot.{Slot}
 use Rattle.jb_plain.specs.Seen.{seen}
 use Rattle.jb_plain.proofs.Lists.{emptied-owned}
 use Rattle.jb_plain.proofs.pack.drop_killed.Goals as goal

@@ -1,14 +1,13 @@
 use Rattle.std.proofs.Common.{◌≡◌, ℕ, ◌+◌, ◌-◌, ◌^◌, ◌<◌, min, List, length, map, drop, ap, sym, ◌∙◌, arith, length-drop}
 use Rattle.std.proofs.lemmas.List.{length-map}
-use Rattle.jb_model.specs.Answered.{counted}
-use Rattle.jb_model.specs.Live.{killed_count, live_count}
-use Rattle.jb_model.specs.Pack.{emptied, packed_base, packed_slots, packed_state}
-use Rattle.jb_model.specs.Relink.{relinked_slots}
-use Rattle.jb_model.specs.State.{AreaState, SlotState}
-use Rattle.jb_model.specs.Tight.{headers_together, owned_slot, texts_together}
-use Rattle.jb_model.specs.declared.area.Slot.{Slot}
+use Rattle.jb_state.specs.Live.{counted, killed_count, live_count}
+use Rattle.jb_state.specs.PackedState.{emptied, packed_base, packed_slots, packed_state}
+use Rattle.jb_state.specs.Relinked.{relinked_slots}
+use Rattle.jb_state.specs.State.{AreaState, SlotState}
+use Rattle.jb_state.specs.Tight.{headers_together, owned_slot, texts_together}
+use Rattle.jb_state.specs.declared.area.Slot.{Slot}
 use Rattle.jb_model.specs.declared.reply.Reply.TheVariants.{Packed}
-use Rattle.jb_model.proofs.PackLaws.{length-relinked}
+use Rattle.jb_state.proofs.PackLaws.{length-relinked}
 use Rattle.jb_plain.specs.Changes.{cut_area, tightened_area}
 use Rattle.jb_plain.specs.Seen.{seen}
 use Rattle.jb_plain.specs.Walk.{front_of}

@@ -1,7 +1,7 @@
 use Rattle.std.proofs.Common.{ap, ◌∙◌}
 use Rattle.std.specs.Prelude.{Option, option_map}
-use Rattle.jb_model.specs.Post.{with_next_reply}
-use Rattle.jb_model.specs.State.{LiveMessage}
+use Rattle.jb_state.specs.Posted.{with_next_reply}
+use Rattle.jb_state.specs.State.{LiveMessage}
 use Rattle.jb_plain.specs.Seen.{seen}
 use Rattle.jb_plain.proofs.SeenLaws.{renamed_with}
 use Rattle.jb_plain.proofs.post.name_next.Goals as goal

@@ -1,9 +1,9 @@
 use Rattle.std.proofs.Common.{ap, sym, ◌∙◌}
-use Rattle.jb_model.specs.Answered.{counted}
-use Rattle.jb_model.specs.Message.{letter_of}
+use Rattle.jb_state.specs.Live.{counted}
+use Rattle.jb_model.specs.Letter.{letter_of}
 use Rattle.jb_model.specs.Read.{read_done}
-use Rattle.jb_model.specs.State.{LiveMessage}
-use Rattle.jb_model.specs.Tight.{owned}
+use Rattle.jb_state.specs.State.{LiveMessage}
+use Rattle.jb_state.specs.Tight.{owned}
 use Rattle.jb_model.specs.declared.reply.Letter.{Letter}
 use Rattle.jb_model.specs.declared.reply.Reply.TheVariants.{Text}
 use Rattle.jb_plain.specs.Seen.{seen, with_head}

@@ -1,7 +1,7 @@
 use Rattle.std.proofs.Common.{◌<◌, List, length, set, get_or, ap, ◌∙◌, arith}
 use Rattle.std.specs.Prelude.{None}
-use Rattle.jb_model.specs.declared.area.Slot.{Slot}
-use Rattle.jb_model.specs.declared.area.Slot.TheVariants.{Empty}
+use Rattle.jb_state.specs.declared.area.Slot.{Slot}
+use Rattle.jb_state.specs.declared.area.Slot.TheVariants.{Empty}
 use Rattle.jb_plain.specs.Walk.{with_heads, with_some_head}
 use Rattle.jb_plain.proofs.Lists.{get_or-with_heads, length-with_heads, mixed_end, mixed_next}
 use Rattle.jb_plain.proofs.relink.put_heads.Goals as goal

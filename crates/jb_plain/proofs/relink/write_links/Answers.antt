@@ -1,8 +1,8 @@
 use Rattle.std.proofs.Common.{◌≡◌, List, length, map, ap, ◌∙◌, arith}
 use Rattle.std.specs.Prelude.{Option}
-use Rattle.jb_model.specs.Tight.{owned_slot}
-use Rattle.jb_model.specs.declared.area.Slot.{Slot}
-use Rattle.jb_model.specs.declared.message.Head.{Head}
+use Rattle.jb_state.specs.Tight.{owned_slot}
+use Rattle.jb_state.specs.declared.area.Slot.{Slot}
+use Rattle.jb_state.specs.declared.message.Head.{Head}
 use Rattle.jb_plain.specs.Seen.{seen}
 use Rattle.jb_plain.specs.Walk.{heads_from, linkables_from, with_heads}
 use Rattle.jb_plain.proofs.Lists.{length-heads_from, with_heads-relinked}

@@ -2,9 +2,9 @@ use Rattle.std.proofs.Common.{◌≡◌, ℕ, ◌+◌, List, [], ◌∷◌, ◌+
 use Rattle.std.proofs.lemmas.List.{at_drop_more}
 use Rattle.jb_model.specs.Answered.{Answered}
 use Rattle.jb_model.specs.Run.{Ran, run_of}
-use Rattle.jb_model.specs.State.{AreaState}
+use Rattle.jb_state.specs.State.{AreaState}
 use Rattle.jb_model.specs.Step.{step}
-use Rattle.jb_model.specs.Tight.{tight_state}
+use Rattle.jb_state.specs.Tight.{tight_state}
 use Rattle.jb_model.specs.declared.command.Asked.{Asked}
 use Rattle.jb_model.specs.declared.reply.Reply.{Reply}
 use Rattle.jb_plain.specs.Seen.{seen}

@@ -1,6 +1,6 @@
 use Rattle.std.proofs.Common.{◌≡◌, ◌++◌, drop}
 use Rattle.jb_model.specs.Run.{run_of}
-use Rattle.jb_model.specs.Tight.{tight_state}
+use Rattle.jb_state.specs.Tight.{tight_state}
 use Rattle.jb_plain.specs.Seen.{seen}
 use Rattle.jb_plain.specs.Small.{AreSmall}
 use Rattle.jb_plain.proofs.run.run_slow.Given as goal

@@ -1,7 +1,7 @@
 use Rattle.std.proofs.Common.{◌<◌, List, length, map, set, get_or, ap, ◌∙◌, arith}
 use Rattle.std.proofs.lemmas.List.{get_or-map, length-map}
-use Rattle.jb_model.specs.declared.area.Slot.{Slot}
-use Rattle.jb_model.specs.declared.area.Slot.TheVariants.{Empty}
+use Rattle.jb_state.specs.declared.area.Slot.{Slot}
+use Rattle.jb_state.specs.declared.area.Slot.TheVariants.{Empty}
 use Rattle.jb_plain.specs.Walk.{without_killed}
 use Rattle.jb_plain.proofs.Lists.{mixed_next}
 use Rattle.jb_plain.proofs.slots.empty_killed.Goals as goal

@@ -1,6 +1,6 @@
 use Rattle.std.proofs.Common.{◌≡◌, drop, map, arith}
 use Rattle.std.proofs.lemmas.List.{at_drop_all}
-use Rattle.jb_model.specs.Tight.{owned_slot, headers_together}
+use Rattle.jb_state.specs.Tight.{owned_slot, headers_together}
 use Rattle.jb_plain.proofs.slots.headers_length.Goals as goal
 
 pub returns : goal.returns

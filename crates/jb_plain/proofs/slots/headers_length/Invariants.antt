@@ -1,5 +1,5 @@
 use Rattle.std.proofs.Common.{◌≡◌, ◌≤◌, ◌+◌, ◌-◌, ◌^◌, min, drop, map}
-use Rattle.jb_model.specs.Tight.{headers_together, owned_slot}
+use Rattle.jb_state.specs.Tight.{headers_together, owned_slot}
 use Rattle.jb_plain.proofs.slots.headers_length.Given as goal
 
 abbrev pub invariant-loop-slot : goal.invariant-loop-slot

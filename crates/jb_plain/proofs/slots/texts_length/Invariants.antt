@@ -1,5 +1,5 @@
 use Rattle.std.proofs.Common.{◌≡◌, ◌≤◌, ◌+◌, ◌-◌, ◌^◌, min, drop, map}
-use Rattle.jb_model.specs.Tight.{owned_slot, texts_together}
+use Rattle.jb_state.specs.Tight.{owned_slot, texts_together}
 use Rattle.jb_plain.proofs.slots.texts_length.Given as goal
 
 abbrev pub invariant-loop-slot : goal.invariant-loop-slot

@@ -82,7 +82,7 @@ loop-preserved g c =
     let found = rw c.in-Some-2.is at c.in_ok-part.ensures.found in
     record {
       size = c.copy_part.ensures.size ∙ c.loop.invariant.size;
-      quiet = c.in_ok-copy_part.ensures.quiet ∙ c.in_ok-part.ensures.quiet ∙ c.loop.invariant.quiet;
+      quiet = c.in_ok-copy_part.ensures.faults.quiet ∙ c.in_ok-part.ensures.faults.quiet ∙ c.loop.invariant.quiet;
       alike = c.copy_part.ensures.alike ∙ ap is_some c.read_part.ensures.kept.contents ∙ c.loop.invariant.alike;
       told = told_next c.in-Some.count c.loop.counter c.loop.at c.args.lengths.now.ends (device c.read_number.new.disk).contents (device c.loop.disk).contents
           (λ f here. c.requires.sized f (sym kept ∙ here)) c.loop.invariant.told part sound found (device c.copy_part.new.disk).contents c.loop-test.true

@@ -42,7 +42,7 @@ loop-done-preserved g c =
     record {
       size = omega (arith, length-append c.copy_chunk.new.chunk (drop c.min-count.result c.loop-done.buffer), length-drop c.min-count.result c.loop-done.buffer, c.copy_chunk.ensures.size, size, count);
       few = omega (arith, count);
-      quiet = c.in_ok-copy_chunk.ensures.quiet ∙ c.loop-done.invariant.quiet;
+      quiet = c.in_ok-copy_chunk.ensures.faults.quiet ∙ c.loop-done.invariant.quiet;
       alike = c.copy_chunk.ensures.alike ∙ c.loop-done.invariant.alike;
       told = rw size at (told_more part c.loop-done.done n (g.D.Disk.device c.args.disk.now).contents (g.D.Disk.device c.loop-done.disk).contents (g.D.Disk.device c.copy_chunk.new.disk).contents
           c.requires.sound c.requires.room whole c.loop-done.invariant.told c.in_ok-copy_chunk.ensures.ok);

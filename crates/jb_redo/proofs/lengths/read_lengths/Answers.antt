@@ -17,7 +17,7 @@ loop-preserved g c =
     let place = c.loop.invariant.place in
     record {
       kept = record { contents = kept.contents ∙ was.contents; moments = kept.moments ∙ was.moments };
-      quiet = c.in_ok-entry.ensures.quiet ∙ c.loop.invariant.quiet;
+      quiet = c.in_ok-entry.ensures.faults.quiet ∙ c.loop.invariant.quiet;
       place = omega arith;
       within = within_set c.args.sizes.now c.loop.ends c.set.new.self c.in-Some.entry c.loop.invariant.within legal.0 c.set.ensures;
       told = λ files start.

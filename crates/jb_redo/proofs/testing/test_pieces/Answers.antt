@@ -33,7 +33,7 @@ loop-preserved g c =
     let was = c.loop.invariant.kept in
     record {
       kept = record { contents = kept.contents ∙ was.contents; moments = kept.moments ∙ was.moments };
-      quiet = c.in_ok-part.ensures.quiet ∙ c.loop.invariant.quiet;
+      quiet = c.in_ok-part.ensures.faults.quiet ∙ c.loop.invariant.quiet;
       told = λ files start.
           next_piece files c.in-Some.count c.loop.counter c.loop.at c.args.lengths.now.ends (c.loop.invariant.told files start) c.in-Some-2.part c.loop-test.true (found files (was.contents ∙ start));
     }

@@ -20,7 +20,7 @@ show-requires-clause-can g c =
     let stands = c.in-Ok.stands in
     can_show shown (IsKeptInDoubt shown) known (row_of c.note_reopened.new.seat) c.args.held.state c.note_reopened.new.held.state stands (Reopened stands) (value_with c.args.held.state stands)
     c.requires.out.0.knows.stands_for (ap (λ s. s.shower) c.note_reopened.ensures.kept) (ap (λ s. value_with s stands) c.note_reopened.ensures.kept) (ap (λ (r : SeatRow). r.front) c.note_reopened.ensures.row)
-    (λ first was. (was.index, (shows_reopened shown c.args.held.state c.reopen.new.self first known.front stands was c.in-Ok.ensures.settled c.reopen.ensures.rules c.reopen.ensures.alike c.in-Ok.ensures.quiet).1))
+    (λ first was. (was.index, (shows_reopened shown c.args.held.state c.reopen.new.self first known.front stands was c.in-Ok.ensures.settled c.reopen.ensures.rules c.reopen.ensures.alike c.in-Ok.ensures.faults.quiet).1))
 
 pub returns-in-Ok-clause-ok : goal.returns-in-Ok-clause-ok
 returns-in-Ok-clause-ok g c =
@@ -34,7 +34,7 @@ returns-in-Ok-clause-ok g c =
         knows =
             knows_at (IsKeptInDoubt shown) (IsKeptSettled shown) c.show.result.state c.show.result.state (ended known (Some stands)) (row_of c.note_reopened.new.seat) refl c.note_reopened.ensures.row
             (knows_ended (IsKeptInDoubt shown) (IsKeptSettled shown) c.args.held.state c.show.result.state known stands c.requires.out.0.knows
-            (λ first was. kept_reopened shown c.args.held.state c.show.result.state c.reopen.new.self first known.front stands was c.in-Ok.ensures.settled c.reopen.ensures.rules c.reopen.ensures.alike c.in-Ok.ensures.quiet
+            (λ first was. kept_reopened shown c.args.held.state c.show.result.state c.reopen.new.self first known.front stands was c.in-Ok.ensures.settled c.reopen.ensures.rules c.reopen.ensures.alike c.in-Ok.ensures.faults.quiet
             (c.show.ensures.shown.area ∙ ap (λ s. s.area) kept)
             (shown_as shown c.args.held.state c.note_reopened.new.held.state c.show.result.state stands (front c.note_reopened.new.seat) (known.front ++ Reopened stands ∷ []) (value_with c.args.held.state stands)
             c.show.ensures.shown (ap (λ s. s.shower) kept) (ap (λ s. value_with s stands) kept) list)));
@@ -54,5 +54,5 @@ returns-in-Err-clause-out g c =
           (row_of c.note_not_begun.new.seat) refl c.note_not_begun.ensures.row
           (knows_called (IsKeptInDoubt shown) (IsKept shown) c.args.held.state c.note_not_begun.new.held.state known c.args.user.now c.args.moment c.args.command.now (NotBegun faults) c.requires.out.0.knows
           (λ first next was. kept_not_begun shown c.args.held.state c.note_not_begun.new.held.state c.reopen.new.self first known.front known.node (length known.mine + 1) c.args.user.now c.args.moment c.args.command.now was
-          c.in-Err.ensures.still c.in-Err.ensures.loaded c.reopen.ensures.rules c.reopen.ensures.alike c.in-Err.ensures.cause next c.note_not_begun.ensures.kept));
+          c.in-Err.ensures.still c.in-Err.ensures.loaded c.reopen.ensures.rules c.reopen.ensures.alike c.in-Err.ensures.faults.cause next c.note_not_begun.ensures.kept));
     }

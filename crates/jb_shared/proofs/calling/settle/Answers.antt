@@ -1,5 +1,5 @@
 use Rattle.std.proofs.Common.{◌≡◌, Bool, Option, Some, sym, ◌∙◌, arith}
-use Rattle.jb_model.proofs.LinkLaws.{true_not_false}
+use Rattle.jb_state.proofs.LinkLaws.{true_not_false}
 use Rattle.jb_turn.specs.Seats.{row_of}
 use Rattle.jb_shared.specs.InTurn.{ended}
 use Rattle.jb_shared.proofs.KeepingLemmas.{out_in_doubt, out_settled}

@@ -4,9 +4,9 @@ use Rattle.jb_decide.proofs.DecidedLemmas.{fits_under, sound_under}
 use Rattle.jb_link.specs.Index.{IsIndexOf}
 use Rattle.jb_limits.specs.declared.limits.TheConstants.{MOST_SLOTS}
 use Rattle.jb_index.specs.Change.{Follows}
-use Rattle.jb_model.specs.Change.{Fits}
-use Rattle.jb_model.specs.Sound.{IsSound}
-use Rattle.jb_model.specs.declared.loaded.Loaded.{Loaded}
+use Rattle.jb_state.specs.Change.{Fits}
+use Rattle.jb_state.specs.Sound.{IsSound}
+use Rattle.jb_state.specs.declared.loaded.Loaded.{Loaded}
 use Rattle.jb_shared.proofs.ChangingLemmas.{begun_sound, followed_by}
 use Rattle.jb_shared.proofs.changing.change_of.Goals as goal
 

@@ -2,8 +2,8 @@ use Rattle.std.proofs.Common.{ap, sym, ◌∙◌}
 use Rattle.jb_area.specs.Area.{rules_of}
 use Rattle.jb_base.specs.declared.area.AreaRules.{AreaRules}
 use Rattle.jb_index.specs.Index.{index_of}
-use Rattle.jb_model.specs.State.{state_of}
-use Rattle.jb_model.specs.declared.loaded.Loaded.{Loaded}
+use Rattle.jb_state.specs.State.{state_of}
+use Rattle.jb_state.specs.declared.loaded.Loaded.{Loaded}
 use Rattle.jb_shared.proofs.making.indexes.Goals as goal
 
 pub returns-clause-first : goal.returns-clause-first

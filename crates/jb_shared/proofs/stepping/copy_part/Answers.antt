@@ -12,7 +12,7 @@ use Rattle.jb_shared.specs.Keeping.{IsKept, IsKeptSettled}
 use Rattle.jb_shared.specs.Stepping.{CopiesOnePart}
 use Rattle.jb_shared.proofs.KeepingLemmas.{kept_stopped, out_rests}
 use Rattle.jb_shared.proofs.KnowingLemmas.{knows_at, knows_called, knows_still}
-use Rattle.jb_shared.proofs.SteppingLemmas.{copies_by, kept_step, kept_without, meets_step, none_more, step_no_change}
+use Rattle.jb_shared.proofs.SteppingLemmas.{copies_by, kept_step, kept_without, leaves_as, meets_step, none_more, step_no_change, texts_few}
 use Rattle.jb_shared.proofs.stepping.copy_part.Goals as goal
 
 pub pack_some-requires-clause-rests : goal.pack_some-requires-clause-rests
@@ -37,10 +37,24 @@ returns-in-Ok-clause-copied g c =
     let new = c.pack_some.new.self in
     let rest = out_rests g.D.Disk.device c.args.held.state (row_of c.args.seat.now) c.requires.out.0.knows in
     let more = c.in-Ok.more in
-    subst (CopiesOnePart old new) (sym c.bytes_where_left-left.ensures)
+    subst (CopiesOnePart old new) (sym c.bytes_where_left-left.ensures.some)
     (copies_by old new more (is_pack_refused (rules_of old) rest.texts (loaded_of old) c.args.user.now)
     (λ is. let none = c.pack_some.ensures.refused rest.texts rest.rests is in (none_more c.pack_some.result more c.in-Ok.is none.0, none.1))
     (λ is. c.in-Ok.ensures.copied rest.texts rest.rests is))
+
+pub bytes_where_left-left-requires : goal.bytes_where_left-left-requires
+bytes_where_left-left-requires g c =
+    texts_few g.D.Disk.device c.args.held.state.area c.pack_some.new.self (out_rests g.D.Disk.device c.args.held.state (row_of c.args.seat.now) c.requires.out.0.knows) c.pack_some.ensures.steps.loaded
+
+pub returns-in-Ok-clause-left : goal.returns-in-Ok-clause-left
+returns-in-Ok-clause-left g c = λ list.
+    let old = c.args.held.state in
+    let rest = out_rests g.D.Disk.device old (row_of c.args.seat.now) c.requires.out.0.knows in
+    let more = c.in-Ok.more in
+    leaves_as g.D.Disk.device old.area (record { state = record { area = c.pack_some.new.self; shower = old.shower; doubted = old.doubted }; count = c.args.held.count }) list c.args.user.now more c.bytes_where_left-left.result rest
+    c.pack_some.ensures.steps.loaded c.bytes_where_left-left.ensures.some c.bytes_where_left-left.ensures.bytes
+    (λ texts rests refused. let none = c.pack_some.ensures.refused texts rests refused in (none_more c.pack_some.result more c.in-Ok.is none.0, none.1))
+    c.in-Ok.ensures.copied
 
 pub returns-in-Err-StoreFault-clause-out : goal.returns-in-Err-StoreFault-clause-out
 returns-in-Err-StoreFault-clause-out g c =

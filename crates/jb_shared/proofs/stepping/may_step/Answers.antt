@@ -1,5 +1,5 @@
 use Rattle.std.proofs.Common.{length, sym, ◌∙◌}
-use Rattle.jb_model.proofs.LinkLaws.{true_not_false}
+use Rattle.jb_state.proofs.LinkLaws.{true_not_false}
 use Rattle.jb_publish.specs.Accounts.{account_of}
 use Rattle.jb_publish.specs.Publications.{publication_of}
 use Rattle.jb_shared.proofs.SteppingLemmas.{no_more}

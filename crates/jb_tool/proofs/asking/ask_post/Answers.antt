@@ -1,7 +1,7 @@
 use Rattle.std.proofs.Common.{ℕ, ap, ◌∙◌}
 use Rattle.jb_tool.proofs.LoadRunLemmas.{goes_as, next_is}
 use Rattle.jb_tool.specs.Workload.{asked, post_of_step}
-use Rattle.jb_model.specs.State.{next_number}
+use Rattle.jb_state.specs.State.{next_number}
 use Rattle.jb_model.specs.declared.command.Command.{Command}
 use Rattle.jb_tool.proofs.asking.ask_post.Goals as goal
 

@@ -1,6 +1,6 @@
 use Rattle.jb_tool.proofs.LoadRunLemmas.{goes_as, goes_more, post_is, tenth_is}
 use Rattle.jb_tool.specs.Workload.{LoadRun, asked, in_step, post_of_step, tenth}
-use Rattle.jb_model.specs.State.{next_number}
+use Rattle.jb_state.specs.State.{next_number}
 use Rattle.jb_tool.proofs.asking.ask_step.Goals as goal
 
 pub returns-then-step-eq0 : goal.returns-then-step-eq0

@@ -4,7 +4,7 @@ use Rattle.std.proofs.lemmas.Result.{err_from_is_err_and}
 use Rattle.jb_limits.specs.declared.limits.TheConstants.{MOST_SLOTS}
 use Rattle.jb_disk.specs.declared.file.FileId.TheVariants.{Jdt}
 use Rattle.jb_image.specs.Answers.{OpensTo}
-use Rattle.jb_model.specs.State.{state_of}
+use Rattle.jb_state.specs.State.{state_of}
 use Rattle.jb_tool.proofs.Recovering.{opens_stands, recovered_has, unlisted}
 use Rattle.jb_tool.specs.Answers.{IsShown, LooksAt}
 use Rattle.jb_tool.specs.Tending.{Answer}
@@ -19,7 +19,7 @@ returns-in_err-checked-clause-answer g c =
     let p = err_from_is_err_and c.from_residual-in_err-checked.result c.from_residual-in_err-checked.ensures.1 in
     let is = p.1 ∙ ap (λ (f : ToolError). Err f) p.2 in
     subst (λ (a : Answer). LooksAt Checking before after a) (sym is)
-    (unlisted (λ files. OpensTo MOST_SLOTS files c.in_ok-loaded.loaded) before after c.in_ok-loaded.ensures.opened c.in_ok-loaded.ensures.quiet)
+    (unlisted (λ files. OpensTo MOST_SLOTS files c.in_ok-loaded.loaded) before after c.in_ok-loaded.ensures.opened)
 
 pub returns-clause-answer : goal.returns-clause-answer
 returns-clause-answer g c = λ was there.

@@ -1,7 +1,7 @@
 use Rattle.std.proofs.Common.{subst, List, map}
-use Rattle.jb_model.specs.Live.{live_from}
-use Rattle.jb_model.specs.State.{slot_state}
-use Rattle.jb_model.specs.declared.loaded.LoadedSlot.{LoadedSlot}
+use Rattle.jb_state.specs.Live.{live_from}
+use Rattle.jb_state.specs.State.{slot_state}
+use Rattle.jb_state.specs.declared.loaded.LoadedSlot.{LoadedSlot}
 use Rattle.jb_tool.specs.Check.{HaveReadableIds}
 use Rattle.jb_tool.proofs.checking.checked.Goals as goal
 

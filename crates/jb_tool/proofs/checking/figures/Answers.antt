@@ -1,8 +1,8 @@
 use Rattle.std.proofs.Common.{◌≡◌, ◌∙◌, ◌+◌, List, map, length, ap, arith}
 use Rattle.std.proofs.lemmas.List.{length-map}
-use Rattle.jb_model.specs.Live.{killed_count, live_count}
-use Rattle.jb_model.specs.State.{next_number, slot_state, state_of}
-use Rattle.jb_model.specs.declared.loaded.LoadedSlot.{LoadedSlot}
+use Rattle.jb_state.specs.Live.{killed_count, live_count}
+use Rattle.jb_state.specs.State.{next_number, slot_state, state_of}
+use Rattle.jb_state.specs.declared.loaded.LoadedSlot.{LoadedSlot}
 use Rattle.jb_tool.proofs.FigureLemmas.{lines, seven_parts}
 use Rattle.jb_tool.specs.Check.{empty_count}
 use Rattle.jb_tool.proofs.checking.figures.Goals as goal

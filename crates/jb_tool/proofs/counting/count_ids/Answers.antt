@@ -1,9 +1,9 @@
 use Rattle.std.proofs.Common.{◌≡◌, ℕ, suc, ◌+◌, List, ◌∷◌, drop, map, ap, sym, ◌∙◌, subst, arith, refl}
 use Rattle.std.specs.Prelude.{if◌then◌else◌}
 use Rattle.std.proofs.lemmas.List.{at_drop_more, at_drop_all}
-use Rattle.jb_model.specs.Live.{Numbered, live_from}
-use Rattle.jb_model.specs.State.{slot_state}
-use Rattle.jb_model.specs.declared.loaded.LoadedSlot.{LoadedSlot}
+use Rattle.jb_state.specs.Live.{Numbered, live_from}
+use Rattle.jb_state.specs.State.{slot_state}
+use Rattle.jb_state.specs.declared.loaded.LoadedSlot.{LoadedSlot}
 use Rattle.jb_tool.proofs.CountLemmas.{one_at_most, one_more}
 use Rattle.jb_tool.specs.Check.{HaveReadableIds}
 use Rattle.jb_tool.proofs.counting.count_ids.Goals as goal

@@ -1,6 +1,6 @@
 use Rattle.std.proofs.Common.{◌≤◌, ◌+◌, ℕ, List, drop, map}
-use Rattle.jb_model.specs.Live.{live_from}
-use Rattle.jb_model.specs.State.{slot_state}
+use Rattle.jb_state.specs.Live.{live_from}
+use Rattle.jb_state.specs.State.{slot_state}
 use Rattle.jb_tool.specs.Check.{HaveReadableIds}
 use Rattle.jb_tool.proofs.counting.count_ids.Given as goal
 

@@ -1,6 +1,6 @@
 use Rattle.std.proofs.Common.{subst, sym}
 use Rattle.std.specs.Prelude.{IfOk}
-use Rattle.jb_model.specs.declared.loaded.LoadedSlot.{LoadedSlot}
+use Rattle.jb_state.specs.declared.loaded.LoadedSlot.{LoadedSlot}
 use Rattle.jb_tool.proofs.CountLemmas.{counts_answered}
 use Rattle.jb_tool.specs.Check.{CountsSlot}
 use Rattle.jb_tool.proofs.counting.has_id.Goals as goal

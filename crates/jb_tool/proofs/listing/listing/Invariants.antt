@@ -1,5 +1,5 @@
 use Rattle.std.proofs.Common.{◌≡◌, ◌+◌, ◌++◌, ℕ, List, drop, map}
-use Rattle.jb_model.specs.State.{slot_state}
+use Rattle.jb_state.specs.State.{slot_state}
 use Rattle.jb_tool.specs.Listing.{lines_from}
 use Rattle.jb_tool.proofs.listing.listing.Given as goal
 

@@ -3,8 +3,8 @@ use Rattle.jb_area.specs.Holds.{IsAtRest}
 use Rattle.jb_decide.specs.Holds.{AreTexts}
 use Rattle.jb_disk.specs.declared.file.FileId.TheVariants.{Jdt}
 use Rattle.jb_tool.proofs.LoadBaseLemmas.{empty_rests, empty_texts}
-use Rattle.jb_model.specs.State.{state_of}
-use Rattle.jb_model.specs.declared.loaded.Loaded.{Loaded}
+use Rattle.jb_state.specs.State.{state_of}
+use Rattle.jb_state.specs.declared.loaded.Loaded.{Loaded}
 use Rattle.jb_tool.proofs.load_base.open.Goals as goal
 
 pub from_loaded-requires-clause-rests : goal.from_loaded-requires-clause-rests

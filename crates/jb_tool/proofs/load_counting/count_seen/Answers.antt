@@ -2,8 +2,8 @@ use Rattle.std.proofs.Common.{◌≡◌, ◌+◌, ℕ, Bool, cond, List, ◌∷�
 use Rattle.std.proofs.lemmas.List.{at_drop_all, at_drop_more}
 use Rattle.std.proofs.lemmas.List.Sums.{sum_by-cons}
 use Rattle.std.specs.Prelude.{count_by}
-use Rattle.jb_model.specs.State.{SlotState, slot_state}
-use Rattle.jb_model.specs.declared.loaded.LoadedSlot.{LoadedSlot}
+use Rattle.jb_state.specs.State.{SlotState, slot_state}
+use Rattle.jb_state.specs.declared.loaded.LoadedSlot.{LoadedSlot}
 use Rattle.jb_tool.proofs.LoadUnreadLemmas.{one_at_most}
 use Rattle.jb_tool.specs.LoadSummary.{is_seen}
 use Rattle.jb_tool.proofs.load_counting.count_seen.Goals as goal

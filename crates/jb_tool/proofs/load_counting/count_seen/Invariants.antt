@@ -1,6 +1,6 @@
 use Rattle.std.proofs.Common.{◌≡◌, ◌≤◌, ◌+◌, ℕ, List, drop, map}
 use Rattle.std.specs.Prelude.{count_by}
-use Rattle.jb_model.specs.State.{slot_state}
+use Rattle.jb_state.specs.State.{slot_state}
 use Rattle.jb_tool.specs.LoadSummary.{is_seen}
 use Rattle.jb_tool.proofs.load_counting.count_seen.Given as goal
 

@@ -3,8 +3,8 @@ use Rattle.jb_tool.proofs.LoadEndLemmas.{summary_is}
 use Rattle.jb_tool.specs.LoadRuns.{run_at}
 use Rattle.jb_tool.specs.LoadSummary.{summary_of}
 use Rattle.jb_tool.specs.Workload.{first_run, load_run}
-use Rattle.jb_model.specs.State.{state_of}
-use Rattle.jb_model.specs.declared.loaded.Loaded.{Loaded}
+use Rattle.jb_state.specs.State.{state_of}
+use Rattle.jb_state.specs.declared.loaded.Loaded.{Loaded}
 use Rattle.jb_tool.proofs.loading.fill.Goals as goal
 
 pub returns-clause-filled : goal.returns-clause-filled

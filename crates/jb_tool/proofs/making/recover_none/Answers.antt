@@ -13,7 +13,7 @@ returns-in_err-recover-clause-refused g c =
     let after = g.D.Disk.device c.recover.new.disk in
     let p = err_from_is_err_and c.from_residual.result c.from_residual.ensures.1 in
     let is = p.1 ∙ ap (λ (f : ToolError). Err f) p.2 in
-    subst (λ r. IfErr r (RefusesMaking before after)) (sym is) (refused_recovery before after c.in_err-recover.field-0.0 c.in_err-recover.ensures.refused c.in_err-recover.ensures.cause)
+    subst (λ r. IfErr r (RefusesMaking before after)) (sym is) (refused_recovery before after c.in_err-recover.field-0.0 c.in_err-recover.ensures.refused)
 
 pub returns-in_err-is_empty-clause-crash : goal.returns-in_err-is_empty-clause-crash
 returns-in_err-is_empty-clause-crash g c =

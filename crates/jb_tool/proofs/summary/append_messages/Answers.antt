@@ -1,8 +1,8 @@
 use Rattle.std.proofs.Common.{◌∙◌, ◌++◌, List, ap, map}
 use Rattle.std.specs.Prelude.{codes}
-use Rattle.jb_model.specs.Live.{live_count}
-use Rattle.jb_model.specs.State.{slot_state}
-use Rattle.jb_model.specs.declared.loaded.LoadedSlot.{LoadedSlot}
+use Rattle.jb_state.specs.Live.{live_count}
+use Rattle.jb_state.specs.State.{slot_state}
+use Rattle.jb_state.specs.declared.loaded.LoadedSlot.{LoadedSlot}
 use Rattle.jb_tool.proofs.LoadBaseLemmas.{on_ok}
 use Rattle.jb_tool.proofs.LoadUnreadLemmas.{three_behind}
 use Rattle.jb_tool.specs.LoadSummary.{answer_count, figure_line}

@@ -1,8 +1,8 @@
 use Rattle.std.proofs.Common.{◌∙◌, ◌++◌, ℕ, ap}
 use Rattle.jb_base.specs.declared.area.AreaRules.{AreaRules}
 use Rattle.jb_base.specs.declared.user.User.{User}
-use Rattle.jb_model.specs.State.{state_of}
-use Rattle.jb_model.specs.Visible.{unread_by}
+use Rattle.jb_state.specs.State.{state_of}
+use Rattle.jb_state.specs.Visible.{unread_by}
 use Rattle.std.specs.Prelude.{length}
 use Rattle.jb_tool.specs.LoadRuns.{run_at}
 use Rattle.jb_tool.specs.LoadSummary.{done_lines, file_lines, slot_lines}

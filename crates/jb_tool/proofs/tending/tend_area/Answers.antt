@@ -19,13 +19,13 @@ returns-in-Ok-finish g c =
     let shown = g.D.Disk.device in
     let begins = subst (λ (u : User). BeginsCall shown c.args.area.now c.begin.new.self u 0 c.args.command.now (Ok tt)) c.requires.user c.in-Ok.ensures.begins in
     command_done shown c.args.command.now c.args.area.now c.begin.new.self c.finish.new.self c.requires.rules begins c.in-Ok-reply_line.text c.coming.result.now c.in-Ok-finish.field-0
-    c.requires.rests c.in-Ok-reply_line.ensures.line c.coming.ensures c.in-Ok-finish.ensures.done c.finish.ensures.crash c.finish.ensures.later
+    c.requires.rests c.in-Ok-reply_line.ensures.line c.coming.ensures c.in-Ok-finish.ensures.ends.done c.finish.ensures.ends.crash c.in-Ok-finish.ensures.ends.faults
 
 pub returns-in-Err-finish : goal.returns-in-Err-finish
 returns-in-Err-finish g c =
     let shown = g.D.Disk.device in
     let begins = subst (λ (u : User). BeginsCall shown c.args.area.now c.begin.new.self u 0 c.args.command.now (Ok tt)) c.requires.user c.in-Ok.ensures.begins in
-    command_stopped shown c.args.command.now c.args.area.now c.begin.new.self c.finish.new.self c.requires.rules begins c.in-Err-finish.ensures.cause c.finish.ensures.crash c.finish.ensures.later
+    command_stopped shown c.args.command.now c.args.area.now c.begin.new.self c.finish.new.self c.requires.rules begins _ c.in-Err-finish.ensures.ends.faults c.finish.ensures.ends.crash
 
 pub returns-in-Err-reply_line : goal.returns-in-Err-reply_line
 returns-in-Err-reply_line g c =

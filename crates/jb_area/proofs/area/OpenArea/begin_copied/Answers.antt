@@ -1,17 +1,18 @@
-use Rattle.std.proofs.Common.{◌≡◌, ◌≢◌, ◌∙◌, ◌≤◌, IfOk, IfErr, List, ℕ, Option, Result, Some, refl, subst, sym}
+use Rattle.std.proofs.Common.{◌≡◌, ◌≢◌, ◌∙◌, ◌≤◌, false, IfOk, IfErr, List, ℕ, Option, Result, Some, refl, subst, sym}
 use Rattle.std.specs.Option.{ForSome}
-use Rattle.jb_limits.specs.declared.limits.TheConstants.{TEXTS_CEILING}
+use Rattle.jb_limits.specs.declared.limits.TheConstants.{TEXTS_CEILING, MOST_SLOTS}
 use Rattle.jb_model.specs.declared.command.Command.TheVariants.{Pack}
-use Rattle.jb_model.specs.Packed.{texts_size}
+use Rattle.jb_state.specs.Packed.{texts_size}
 use Rattle.jb_pack.specs.Shadow.{Shadow, left}
 use Rattle.jb_decide.proofs.DecidedLemmas.{sound_under}
 use Rattle.jb_decide.specs.Decided.{IsDecided}
-use Rattle.jb_decide.specs.Errors.{AreaFaultRose}
+use Rattle.jb_decide.specs.Errors.{is_area_fault}
 use Rattle.jb_decide.specs.Holds.{AreTexts, HasAll}
 use Rattle.jb_decide.specs.declared.decided.Decided.{Decided}
 use Rattle.jb_decide.specs.declared.error.AreaError.{AreaError}
-use Rattle.jb_model.specs.declared.change.Change.TheVariants.{Nothing}
-use Rattle.jb_area.proofs.StartLemmas.{begins_with, ok_same, reads_itself, same_faults}
+use Rattle.jb_state.specs.declared.change.Change.TheVariants.{Nothing}
+use Rattle.jb_area.proofs.Outcomes.{counts_none}
+use Rattle.jb_area.proofs.StartLemmas.{begins_with, reads_itself}
 use Rattle.jb_area.proofs.StepLemmas.{same_shadow, start_changes}
 use Rattle.jb_area.proofs.area.OpenArea.begin_copied.Goals.{in-Ok, in-Err}
 use Rattle.jb_area.proofs.area.OpenArea.begin_copied.Goals as goal
@@ -22,7 +23,7 @@ unreachable-requires g c = let all = c.requires.all in c.in_default.not-Some all
 pub decide_pack-requires-clause-sound : goal.decide_pack-requires-clause-sound
 decide_pack-requires-clause-sound g c =
     let has = c.requires.rests in
-    sound_under c.args.self.now.rules.slots 65000 c.args.self.now.held has.rests.kept.ruled.few_slots has.rests.kept.ruled.sound
+    sound_under c.args.self.now.rules.slots MOST_SLOTS c.args.self.now.held has.rests.kept.ruled.few_slots has.rests.kept.ruled.sound
 
 pub decide_pack-requires-clause-all : goal.decide_pack-requires-clause-all
 decide_pack-requires-clause-all g c =
@@ -50,12 +51,12 @@ returns-clause-begins g c = λ user moment may.
           (w.in-Ok.ensures.decided area.rules user moment texts device.contents (record { few_slots = has.rests.kept.ruled.few_slots; sound = has.rests.kept.ruled.sound }) may are))
       | in-Err w ↦ subst (λ (r : Result Decided AreaError). IfOk r Is) (sym w.decided-is) tt
     ] in
-    let cause : IfErr c.match-decide_pack.decided (AreaFaultRose device.faults device.faults) = elim c.match-decide_pack.branch [
-      | in-Ok w ↦ subst (λ (r : Result Decided AreaError). IfErr r (AreaFaultRose device.faults device.faults)) (sym w.decided-is) tt
-      | in-Err w ↦ subst (λ (r : Result Decided AreaError). IfErr r (AreaFaultRose device.faults device.faults)) (sym w.decided-is) refl
+    let none : IfErr c.match-decide_pack.decided (λ error. is_area_fault error ≡ false) = elim c.match-decide_pack.branch [
+      | in-Ok w ↦ subst (λ (r : Result Decided AreaError). IfErr r (λ error. is_area_fault error ≡ false)) (sym w.decided-is) tt
+      | in-Err w ↦ subst (λ (r : Result Decided AreaError). IfErr r (λ error. is_area_fault error ≡ false)) (sym w.decided-is) refl
     ] in
     begins_with g.D.Disk.device area c.start.new.self area.disk area.redo (Some c.decide_pack.new.redo) c.start.ensures.disk c.start.ensures.rules c.start.ensures.held c.start.ensures.redo c.start.ensures.packer
-    (reads_itself device) has.rests.kept.ruled.room c.match-decide_pack.decided c.start.result user moment _ c.start.ensures.stage c.start.ensures.large c.start.ensures.answer is cause (ok_same c.match-decide_pack.decided device.faults) (same_faults device) has
+    (reads_itself device) has.rests.kept.ruled.room c.match-decide_pack.decided c.start.result user moment _ c.start.ensures.stage c.start.ensures.large c.start.ensures.answer is (counts_none is_area_fault device c.match-decide_pack.decided none) has
 
 pub returns-clause-changes : goal.returns-clause-changes
 returns-clause-changes g c =

@@ -1,6 +1,8 @@
 use Rattle.std.proofs.Common.{None, Ok, refl}
 use Rattle.jb_decide.specs.declared.decided.Decided.{Decided}
-use Rattle.jb_area.proofs.StartLemmas.{begins, reads_itself, same_faults}
+use Rattle.jb_decide.specs.Errors.{is_area_fault}
+use Rattle.jb_area.proofs.Outcomes.{counts_none}
+use Rattle.jb_area.proofs.StartLemmas.{begins, reads_itself}
 use Rattle.jb_area.proofs.area.OpenArea.begin_kill.Goals as goal
 
 pub returns : goal.returns
@@ -10,4 +12,4 @@ returns g c = λ moment.
     let decided : Decided = c.decide_kill-decided.result in
     begins g.D.Disk.device area (record area { redo = c.decide_kill-decided.new.redo; stage = c.put_stage.new.place }) area.disk c.decide_kill-decided.new.redo None refl refl refl refl refl
     (reads_itself (g.D.Disk.device area.disk)) c.decide_kill-decided.ensures.room (Ok decided) (Ok tt) c.args.user.now moment _ c.put_stage.ensures has.rests.small refl
-    (λ texts are. c.decide_kill-decided.ensures.decided moment texts (g.D.Disk.device area.disk).contents are) tt refl (same_faults (g.D.Disk.device area.disk)) has
+    (λ texts are. c.decide_kill-decided.ensures.decided moment texts (g.D.Disk.device area.disk).contents are) (counts_none is_area_fault (g.D.Disk.device area.disk) (Ok decided) tt) has

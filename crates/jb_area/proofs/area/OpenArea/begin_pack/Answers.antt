@@ -1,13 +1,14 @@
 use Rattle.std.proofs.Common.{◌≤◌, None, Ok, ap, refl, subst, sym, ◌∙◌}
 use Rattle.jb_limits.specs.declared.limits.TheConstants.{TEXTS_CEILING}
-use Rattle.jb_model.specs.declared.loaded.Loaded.{Loaded}
-use Rattle.jb_model.specs.Packed.{texts_size}
+use Rattle.jb_state.specs.declared.loaded.Loaded.{Loaded}
+use Rattle.jb_state.specs.Packed.{texts_size}
+use Rattle.jb_decide.specs.Errors.{is_area_fault}
 use Rattle.jb_decide.specs.declared.decided.Decided.{Decided}
 use Rattle.jb_held.specs.declared.pending.Pending.{Pending}
-use Rattle.jb_model.specs.declared.change.Change.TheVariants.{Nothing}
+use Rattle.jb_state.specs.declared.change.Change.TheVariants.{Nothing}
 use Rattle.jb_area.specs.declared.stage.Stage.TheVariants.{Begun}
-use Rattle.jb_area.proofs.Outcomes.{on_ok_then}
-use Rattle.jb_area.proofs.StartLemmas.{begins, reads_itself, same_faults}
+use Rattle.jb_area.proofs.Outcomes.{counts_none, on_ok_then}
+use Rattle.jb_area.proofs.StartLemmas.{begins, reads_itself}
 use Rattle.jb_area.proofs.StepLemmas.{begins_behind, begins_not, may_mid, rests_then}
 use Rattle.jb_area.proofs.area.OpenArea.begin_pack.Goals as goal
 
@@ -18,7 +19,7 @@ returns-in-Some-clause-begins g c = λ moment.
     let decided : Decided = record { reply = c.in-Some.reply; pending = record { change = Nothing; replies = None } } in
     begins g.D.Disk.device area (record area { stage = c.put_stage.new.place }) area.disk area.redo None refl refl refl refl refl
     (reads_itself (g.D.Disk.device area.disk)) has.rests.kept.ruled.room (Ok decided) (Ok tt) c.args.user.now moment _ (c.put_stage.ensures ∙ ap (λ (p : Pending). Begun c.in-Some.reply p) c.nothing_pending.ensures) has.rests.small refl
-    (λ texts are. c.refuse_pack.ensures.refused c.in-Some.reply c.in-Some.is moment texts (g.D.Disk.device area.disk).contents area.redo are) tt refl (same_faults (g.D.Disk.device area.disk)) has
+    (λ texts are. c.refuse_pack.ensures.refused c.in-Some.reply c.in-Some.is moment texts (g.D.Disk.device area.disk).contents area.redo are) (counts_none is_area_fault (g.D.Disk.device area.disk) (Ok decided) tt) has
 
 pub copy_all-requires-clause-fits : goal.copy_all-requires-clause-fits
 copy_all-requires-clause-fits g c = (c.refuse_pack.ensures.may c.in-None.is).fits

@@ -1,11 +1,12 @@
-use Rattle.std.proofs.Common.{IfOk, IfErr, List, ℕ, None, Result, Some, refl, subst, sym}
+use Rattle.std.proofs.Common.{◌≡◌, false, IfOk, IfErr, List, ℕ, None, Result, Some, refl, subst, sym}
 use Rattle.jb_model.specs.declared.command.Command.TheVariants.{Relink}
 use Rattle.jb_decide.specs.Decided.{IsDecided}
-use Rattle.jb_decide.specs.Errors.{AreaFaultRose}
+use Rattle.jb_decide.specs.Errors.{is_area_fault}
 use Rattle.jb_decide.specs.Holds.{AreTexts}
 use Rattle.jb_decide.specs.declared.decided.Decided.{Decided}
 use Rattle.jb_decide.specs.declared.error.AreaError.{AreaError}
-use Rattle.jb_area.proofs.StartLemmas.{begins, ok_same, reads_itself, same_faults}
+use Rattle.jb_area.proofs.Outcomes.{counts_none}
+use Rattle.jb_area.proofs.StartLemmas.{begins, reads_itself}
 use Rattle.jb_area.proofs.area.OpenArea.begin_relink.Goals.{in-Ok, in-Err}
 use Rattle.jb_area.proofs.area.OpenArea.begin_relink.Goals as goal
 
@@ -20,9 +21,9 @@ returns-clause-begins g c = λ moment.
       | in-Ok w ↦ subst (λ (r : Result Decided AreaError). IfOk r Is) (sym w.decided-is) (λ texts are. w.in-Ok.ensures.decided moment texts device.contents are)
       | in-Err w ↦ subst (λ (r : Result Decided AreaError). IfOk r Is) (sym w.decided-is) tt
     ] in
-    let cause : IfErr c.match-decide_relink.decided (AreaFaultRose device.faults device.faults) = elim c.match-decide_relink.branch [
-      | in-Ok w ↦ subst (λ (r : Result Decided AreaError). IfErr r (AreaFaultRose device.faults device.faults)) (sym w.decided-is) tt
-      | in-Err w ↦ subst (λ (r : Result Decided AreaError). IfErr r (AreaFaultRose device.faults device.faults)) (sym w.decided-is) refl
+    let none : IfErr c.match-decide_relink.decided (λ error. is_area_fault error ≡ false) = elim c.match-decide_relink.branch [
+      | in-Ok w ↦ subst (λ (r : Result Decided AreaError). IfErr r (λ error. is_area_fault error ≡ false)) (sym w.decided-is) tt
+      | in-Err w ↦ subst (λ (r : Result Decided AreaError). IfErr r (λ error. is_area_fault error ≡ false)) (sym w.decided-is) refl
     ] in
     begins g.D.Disk.device area c.start.new.self area.disk area.redo (Some c.decide_relink.new.redo) c.start.ensures.disk c.start.ensures.rules c.start.ensures.held c.start.ensures.redo c.start.ensures.packer
-    (reads_itself device) has.rests.kept.ruled.room c.match-decide_relink.decided c.start.result c.args.user.now moment _ c.start.ensures.stage c.start.ensures.large c.start.ensures.answer is cause (ok_same c.match-decide_relink.decided device.faults) (same_faults device) has
+    (reads_itself device) has.rests.kept.ruled.room c.match-decide_relink.decided c.start.result c.args.user.now moment _ c.start.ensures.stage c.start.ensures.large c.start.ensures.answer is (counts_none is_area_fault device c.match-decide_relink.decided none) has

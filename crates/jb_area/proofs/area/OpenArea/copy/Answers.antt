@@ -2,10 +2,9 @@ use Rattle.std.proofs.Common.{◌≡◌, ◌≤◌, ◌∙◌, Err, ap, length, 
 use Rattle.std.specs.Option.{ForSome}
 use Rattle.jb_limits.specs.declared.limits.TheConstants.{MOST_SLOTS, TEXTS_CEILING}
 use Rattle.jb_disk.specs.declared.file.FileId.TheVariants.{Jdt}
-use Rattle.jb_model.specs.Sound.{IsSound}
-use Rattle.jb_model.specs.declared.loaded.Loaded.{Loaded}
-use Rattle.jb_pack.specs.Copying.{PackFaultRose}
-use Rattle.jb_model.specs.Packed.{texts_size}
+use Rattle.jb_state.specs.Sound.{IsSound}
+use Rattle.jb_state.specs.declared.loaded.Loaded.{Loaded}
+use Rattle.jb_state.specs.Packed.{texts_size}
 use Rattle.jb_pack.specs.declared.error.PackError.{PackError}
 use Rattle.jb_pack.specs.declared.error.PackError.TheVariants as pack_error
 use Rattle.jb_decide.proofs.DecidedLemmas.{sound_under}
@@ -20,7 +19,7 @@ use Rattle.jb_area.proofs.area.OpenArea.copy.Goals as goal
 pub copy_some-requires-clause-sound : goal.copy_some-requires-clause-sound
 copy_some-requires-clause-sound g c =
     let has = c.requires.rests in
-    subst (IsSound MOST_SLOTS) (sym c.loaded.ensures) (sound_under c.args.self.now.rules.slots 65000 c.args.self.now.held has.rests.kept.ruled.few_slots has.rests.kept.ruled.sound)
+    subst (IsSound MOST_SLOTS) (sym c.loaded.ensures) (sound_under c.args.self.now.rules.slots MOST_SLOTS c.args.self.now.held has.rests.kept.ruled.few_slots has.rests.kept.ruled.sound)
 
 pub copy_some-requires-clause-told : goal.copy_some-requires-clause-told
 copy_some-requires-clause-told g c =
@@ -37,7 +36,7 @@ copy_some-requires-clause-has g c = let has = c.requires.rests in has.rests.kept
 pub returns-in-Ok-clause-steps : goal.returns-in-Ok-clause-steps
 returns-in-Ok-clause-steps g c =
     steps_done g.D.Disk.device c.args.self.now c.copy_some.new.disk c.copy_some.new.kept c.copy_some.ensures.touches _
-    (unless_ok c.copy_some.result _ _ c.in-Ok.is c.copy_some.ensures.durable) (unless_ok c.copy_some.result _ _ c.in-Ok.is c.copy_some.ensures.has) c.in-Ok.ensures.quiet c.copy_some.ensures.later
+    (unless_ok c.copy_some.result _ _ c.in-Ok.is c.copy_some.ensures.durable) (unless_ok c.copy_some.result _ _ c.in-Ok.is c.copy_some.ensures.has) (record { quiet = c.in-Ok.ensures.faults.quiet; later = c.copy_some.ensures.faults.later; cause = tt })
 
 pub returns-in-Ok-clause-copied : goal.returns-in-Ok-clause-copied
 returns-in-Ok-clause-copied g c =
@@ -48,13 +47,11 @@ returns-in-Err-StoreFault-clause-steps g c =
     let is = c.in-Err-StoreFault.is ∙ ap (λ (e : PackError). Err e) c.in-Err-StoreFault.field-0-is in
     subst (λ (s : Stage). StepsPack g.D.Disk.device c.args.self.now (record c.args.self.now { disk = c.copy_some.new.disk; packer = c.copy_some.new.kept; stage = s }) (Err StoreFault)) (sym c.put_stage.ensures)
     (steps_stopped g.D.Disk.device c.args.self.now c.copy_some.new.disk c.copy_some.new.kept c.copy_some.ensures.touches
-    (err_gives c.copy_some.result pack_error.StoreFault (PackFaultRose (g.D.Disk.device c.args.self.now.disk).faults (g.D.Disk.device c.copy_some.new.disk).faults) is c.copy_some.ensures.cause)
-    c.copy_some.ensures.later)
+    (record { quiet = tt; later = c.copy_some.ensures.faults.later; cause = err_gives c.copy_some.result pack_error.StoreFault _ is c.copy_some.ensures.faults.cause }))
 
 pub returns-in-Err-OutOfMemory-clause-steps : goal.returns-in-Err-OutOfMemory-clause-steps
 returns-in-Err-OutOfMemory-clause-steps g c =
     let is = c.in-Err-OutOfMemory.is ∙ ap (λ (e : PackError). Err e) c.in-Err-OutOfMemory.field-0-is in
     steps_wanting g.D.Disk.device c.args.self.now c.copy_some.new.disk c.copy_some.new.kept c.copy_some.ensures.touches
     (unless_memory c.copy_some.result _ is c.copy_some.ensures.durable) (unless_memory c.copy_some.result _ is c.copy_some.ensures.has)
-    (err_gives c.copy_some.result pack_error.OutOfMemory (PackFaultRose (g.D.Disk.device c.args.self.now.disk).faults (g.D.Disk.device c.copy_some.new.disk).faults) is c.copy_some.ensures.cause)
-    c.copy_some.ensures.later
+    (record { quiet = tt; later = c.copy_some.ensures.faults.later; cause = err_gives c.copy_some.result pack_error.OutOfMemory _ is c.copy_some.ensures.faults.cause })

@@ -2,8 +2,8 @@ use Rattle.std.proofs.Common.{◌<◌, ◌≤◌, Bool, Err, Ok, Result, refl, s
 use Rattle.std.proofs.lemmas.Bool.{false≢true}
 use Rattle.jb_limits.specs.declared.limits.TheConstants.{TEXTS_CEILING}
 use Rattle.jb_decide.specs.declared.error.AreaError.{AreaError}
-use Rattle.jb_model.specs.declared.loaded.Loaded.{Loaded}
-use Rattle.jb_model.specs.Packed.{texts_size}
+use Rattle.jb_state.specs.declared.loaded.Loaded.{Loaded}
+use Rattle.jb_state.specs.Packed.{texts_size}
 use Rattle.jb_area.specs.Calls.{StepsPack}
 use Rattle.jb_area.specs.Copying.{begun_of}
 use Rattle.jb_area.proofs.MeasureLemmas.{copied_fewer, to_do_with}

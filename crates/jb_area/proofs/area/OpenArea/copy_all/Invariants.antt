@@ -1,6 +1,6 @@
 use Rattle.std.proofs.Common.{◌≡◌, ◌≤◌, Ok, false}
 use Rattle.jb_limits.specs.declared.limits.TheConstants.{TEXTS_CEILING}
-use Rattle.jb_model.specs.Packed.{texts_size}
+use Rattle.jb_state.specs.Packed.{texts_size}
 use Rattle.jb_area.specs.Calls.{HasRest, StepsPack}
 use Rattle.jb_area.specs.Copying.{AreAllCopied, begun_of}
 use Rattle.jb_area.proofs.MeasureLemmas.{to_do_with}

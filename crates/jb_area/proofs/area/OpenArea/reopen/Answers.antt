@@ -1,6 +1,9 @@
-use Rattle.std.proofs.Common.{Bool, inl, inr, sym, subst, ◌∙◌}
-use Rattle.jb_area.specs.Commits.{IsAnsweredAs}
-use Rattle.jb_area.proofs.DoubtLemmas.{at_doubt, copying_crashes, copying_settles, copying_still, crashes, doubt_reads, drops, falls, idle, may_apply, may_settle, stands, still}
+use Rattle.std.proofs.Common.{Bool, Some, ap, inl, inr, sym, subst, ◌∙◌}
+use Rattle.std.specs.Prelude.{IsTrue}
+use Rattle.jb_journal.specs.declared.stopped.Stopped.{Stopped}
+use Rattle.jb_area.specs.Area.{stopped_in}
+use Rattle.jb_area.specs.Commits.{IsAnsweredAs, StandsLate, StopsAgain}
+use Rattle.jb_area.proofs.DoubtLemmas.{at_doubt, copying_again, copying_crashes, copying_firm, copying_late, copying_settles, copying_still, crashes, doubt_reads, doubt_stands, drops, early_late, falls, firm, idle, may_apply, may_settle, stands, still, unchanged_early, unchanged_firm}
 use Rattle.jb_area.proofs.area.OpenArea.reopen.Goals as goal
 
 pub unreachable-requires : goal.unreachable-requires
@@ -80,7 +83,7 @@ returns-in-Ok-false-clause-crash g c =
 pub returns-in-Err-settle_change-clause-still : goal.returns-in-Err-settle_change-clause-still
 returns-in-Err-settle_change-clause-still g c =
     still g.D.Disk.device c.args.self.now c.in-Doubtful.stopped c.in-Doubtful.pending (sym c.replace-stage.ensures.value ∙ c.in-Doubtful.is) c.in_default-change.not-Nothing c.in_use.result.now c.in_use.ensures
-    c.settle_change.new.disk c.args.self.now.large c.put_stage-in-Err-settle_change.new.place c.in-Err-settle_change.stopped c.put_stage-in-Err-settle_change.ensures c.in_use.ensures c.settle_change.ensures.alike c.in-Err-settle_change.ensures.still
+    c.settle_change.new.disk c.args.self.now.large c.put_stage-in-Err-settle_change.new.place c.in-Err-settle_change.again c.put_stage-in-Err-settle_change.ensures c.in_use.ensures c.settle_change.ensures.alike c.in-Err-settle_change.ensures.still
 
 pub returns-in-Err-settle_change-clause-opens : goal.returns-in-Err-settle_change-clause-opens
 returns-in-Err-settle_change-clause-opens g c = λ texts coming doubt. doubt_reads g.D.Disk.device _ texts coming (returns-in-Err-settle_change-clause-still g c texts coming doubt)
@@ -95,3 +98,61 @@ apply-requires g c =
     let has = c.requires.doubt in
     let is = sym c.replace-stage.ensures.value ∙ c.in-Doubtful.is in
     record { may = may_apply g.D.Disk.device c.args.self.now c.in-Doubtful.stopped c.in-Doubtful.pending is c.in_default-change.not-Nothing has.texts has.coming has.doubt }
+
+pub returns-in-Ok-clause-stands : goal.returns-in-Ok-clause-stands
+returns-in-Ok-clause-stands g c = λ late. absurd (early_late (sym (ap stopped_in c.in-Copying.is) ∙ late))
+
+pub returns-in-Nothing-clause-stands : goal.returns-in-Nothing-clause-stands
+returns-in-Nothing-clause-stands g c = λ late.
+    let has = c.requires.doubt in
+    absurd (early_late (sym (unchanged_early g.D.Disk.device c.args.self.now c.in-Doubtful.stopped c.in-Doubtful.pending (sym c.replace-stage.ensures.value ∙ c.in-Doubtful.is) c.in-Nothing.is has.texts has.coming has.doubt) ∙ late))
+
+pub returns-in-Ok-false-clause-stands : goal.returns-in-Ok-false-clause-stands
+returns-in-Ok-false-clause-stands g c = λ late.
+    subst IsTrue c.in-Ok-false.field-0-test (c.in-Ok-false.ensures.late (sym (ap stopped_in (sym c.replace-stage.ensures.value ∙ c.in-Doubtful.is)) ∙ late))
+
+pub returns-in-Err-clause-place : goal.returns-in-Err-clause-place
+returns-in-Err-clause-place g c = ap stopped_in c.in-Copying.is ∙ sym c.in-Err.ensures.early
+
+pub returns-in-Err-clause-again : goal.returns-in-Err-clause-again
+returns-in-Err-clause-again g c =
+    let has = c.requires.doubt in
+    copying_again g.D.Disk.device c.args.self.now c.in-Copying.is (g.D.Disk.device c.clear_copies.new.disk) c.in-Err.again c.in-Err.ensures.early has.texts has.coming has.doubt
+
+pub returns-in-Err-clause-late : goal.returns-in-Err-clause-late
+returns-in-Err-clause-late g c = λ texts coming doubt.
+    copying_late g.D.Disk.device c.args.self.now c.in-Copying.is (g.D.Disk.device c.clear_copies.new.disk) c.in-Err.again c.in-Err.ensures.early coming
+
+pub returns-in-Err-settle_change-clause-place : goal.returns-in-Err-settle_change-clause-place
+returns-in-Err-settle_change-clause-place g c = ap stopped_in c.put_stage-in-Err-settle_change.ensures
+
+pub returns-in-Err-settle_change-clause-again : goal.returns-in-Err-settle_change-clause-again
+returns-in-Err-settle_change-clause-again g c =
+    subst (λ (s : Stopped). StopsAgain s c.in-Err-settle_change.again (g.D.Disk.device c.args.self.now.disk) (g.D.Disk.device c.settle_change.new.disk))
+    (sym (ap stopped_in (sym c.replace-stage.ensures.value ∙ c.in-Doubtful.is))) c.in-Err-settle_change.ensures.again
+
+pub returns-in-Err-settle_change-clause-late : goal.returns-in-Err-settle_change-clause-late
+returns-in-Err-settle_change-clause-late g c = λ texts coming doubt.
+    subst (λ (s : Stopped). StandsLate s coming (g.D.Disk.device c.settle_change.new.disk)) (returns-in-Err-settle_change-clause-place g c)
+    (doubt_stands g.D.Disk.device _ texts coming (returns-in-Err-settle_change-clause-still g c texts (Some coming) doubt))
+
+pub returns-in-Ok-clause-firm : goal.returns-in-Ok-clause-firm
+returns-in-Ok-clause-firm g c = λ texts coming doubt. copying_firm g.D.Disk.device c.args.self.now c.in-Copying.is (g.D.Disk.device c.clear_copies.new.disk) coming
+
+pub returns-in-Err-clause-firm : goal.returns-in-Err-clause-firm
+returns-in-Err-clause-firm g c = λ texts coming doubt. copying_firm g.D.Disk.device c.args.self.now c.in-Copying.is (g.D.Disk.device c.clear_copies.new.disk) coming
+
+pub returns-in-Nothing-clause-firm : goal.returns-in-Nothing-clause-firm
+returns-in-Nothing-clause-firm g c = λ texts coming. unchanged_firm g.D.Disk.device c.args.self.now c.in-Doubtful.stopped c.in-Doubtful.pending (sym c.replace-stage.ensures.value ∙ c.in-Doubtful.is) c.in-Nothing.is coming texts
+
+pub returns-in-Ok-true-clause-firm : goal.returns-in-Ok-true-clause-firm
+returns-in-Ok-true-clause-firm g c =
+    firm g.D.Disk.device c.args.self.now c.in-Doubtful.stopped c.in-Doubtful.pending (sym c.replace-stage.ensures.value ∙ c.in-Doubtful.is) c.in_default-change.not-Nothing c.in_use.result.now c.in_use.ensures (g.D.Disk.device c.settle_change.new.disk) c.settle_change.ensures.firm
+
+pub returns-in-Ok-false-clause-firm : goal.returns-in-Ok-false-clause-firm
+returns-in-Ok-false-clause-firm g c =
+    firm g.D.Disk.device c.args.self.now c.in-Doubtful.stopped c.in-Doubtful.pending (sym c.replace-stage.ensures.value ∙ c.in-Doubtful.is) c.in_default-change.not-Nothing c.in_use.result.now c.in_use.ensures (g.D.Disk.device c.settle_change.new.disk) c.settle_change.ensures.firm
+
+pub returns-in-Err-settle_change-clause-firm : goal.returns-in-Err-settle_change-clause-firm
+returns-in-Err-settle_change-clause-firm g c =
+    firm g.D.Disk.device c.args.self.now c.in-Doubtful.stopped c.in-Doubtful.pending (sym c.replace-stage.ensures.value ∙ c.in-Doubtful.is) c.in_default-change.not-Nothing c.in_use.result.now c.in_use.ensures (g.D.Disk.device c.settle_change.new.disk) c.settle_change.ensures.firm

@@ -1,5 +1,5 @@
 use Rattle.std.proofs.Common.{Ok, refl}
-use Rattle.jb_area.proofs.CallLemmas.{has_begun, meets}
+use Rattle.jb_area.proofs.CallLemmas.{has_begun, meets, store_fault}
 use Rattle.jb_area.proofs.area.OpenArea.set_mark.Goals as goal
 
 pub done-requires : goal.done-requires
@@ -10,3 +10,6 @@ done-requires g c =
 pub returns-clause-meets : goal.returns-clause-meets
 returns-clause-meets g c = λ moment.
     meets g.D.Disk.device c.args.self.now c.begin_mark.new.self c.done.new.self c.args.user.now moment _ (Ok tt) tt c.done.result (c.begin_mark.ensures moment) refl c.done.ensures
+
+pub returns-clause-fault : goal.returns-clause-fault
+returns-clause-fault g c = store_fault c.done.result c.done.ensures.fault

@@ -1,12 +1,12 @@
 use Rattle.std.proofs.Common.{◌≡◌, ◌+◌, sym, ◌∙◌, ap, subst, length}
-use Rattle.jb_model.specs.Change.{live_messages}
-use Rattle.jb_model.specs.Loaded.{slot_with_head}
-use Rattle.jb_model.specs.declared.loaded.Loaded.{Loaded}
+use Rattle.jb_state.specs.Change.{live_messages}
+use Rattle.jb_state.specs.Loaded.{slot_with_head}
+use Rattle.jb_state.specs.declared.loaded.Loaded.{Loaded}
 use Rattle.jb_link.specs.Index.{IsIndexOf}
 use Rattle.jb_held.proofs.IndexLaws.{headed_index}
 use Rattle.jb_held.proofs.KeptLemmas.{kept_counted}
 use Rattle.jb_held.proofs.LiveLaws.{live_headed}
-use Rattle.jb_held.proofs.PlaceLemmas.{length_changed}
+use Rattle.jb_state.proofs.PlaceLaws.{length_changed}
 use Rattle.jb_held.proofs.held.Held.change_head.Goals as goal
 
 pub count_change-requires : goal.count_change-requires

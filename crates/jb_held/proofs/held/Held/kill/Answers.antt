@@ -1,10 +1,10 @@
 use Rattle.std.proofs.Common.{◌≡◌, ◌+◌, ◌-◌, ap, arith, length}
 use Rattle.jb_limits.specs.declared.limits.TheConstants.{MOST_SLOTS}
-use Rattle.jb_model.specs.Change.{killed_slot, live_messages}
-use Rattle.jb_model.specs.declared.loaded.Loaded.{Loaded}
+use Rattle.jb_state.specs.Change.{killed_slot, live_messages}
+use Rattle.jb_state.specs.declared.loaded.Loaded.{Loaded}
 use Rattle.jb_held.proofs.KeptLemmas.{kept_counted}
 use Rattle.jb_held.proofs.LiveLaws.{live_killed}
-use Rattle.jb_held.proofs.PlaceLemmas.{length_changed}
+use Rattle.jb_state.proofs.PlaceLaws.{length_changed}
 use Rattle.jb_held.proofs.held.Held.kill.Goals as goal
 
 pub overflow_sub-self : goal.overflow_sub-self

@@ -1,7 +1,7 @@
 use Rattle.std.proofs.Common.{◌≡◌, ℕ, ◌+◌, ◌-◌, sym, ◌∙◌, ap, arith}
-use Rattle.jb_model.specs.Change.{after, live_messages}
-use Rattle.jb_model.specs.declared.change.Change.{Change}
-use Rattle.jb_model.specs.declared.change.Change.TheVariants.{Killed}
+use Rattle.jb_state.specs.Change.{after, live_messages}
+use Rattle.jb_state.specs.declared.change.Change.{Change}
+use Rattle.jb_state.specs.declared.change.Change.TheVariants.{Killed}
 use Rattle.jb_held.proofs.LiveLaws.{live_headed, live_killed, live_packed, live_posted, live_relinked}
 use Rattle.jb_held.proofs.held.Held.live_after.Goals as goal
 

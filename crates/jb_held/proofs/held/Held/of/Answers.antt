@@ -1,8 +1,8 @@
 use Rattle.std.proofs.Common.{List, ◌∙◌, ap}
 use Rattle.std.specs.Prelude.{map, []}
-use Rattle.jb_model.specs.Live.{live_count}
-use Rattle.jb_model.specs.State.{slot_state}
-use Rattle.jb_model.specs.declared.loaded.LoadedSlot.{LoadedSlot}
+use Rattle.jb_state.specs.Live.{live_count}
+use Rattle.jb_state.specs.State.{slot_state}
+use Rattle.jb_state.specs.declared.loaded.LoadedSlot.{LoadedSlot}
 use Rattle.jb_held.proofs.held.Held.of.Goals as goal
 
 pub invariant_of-result : goal.invariant_of-result

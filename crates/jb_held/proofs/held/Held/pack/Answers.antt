@@ -1,9 +1,9 @@
 use Rattle.std.proofs.Common.{◌≡◌, ◌+◌, length, ap, sym, subst, ◌∙◌}
 use Rattle.jb_limits.specs.declared.limits.TheConstants.{MOST_SLOTS}
 use Rattle.jb_marks.specs.Order.{IsOrdered}
-use Rattle.jb_model.specs.Change.{live_messages}
-use Rattle.jb_model.specs.Packed.{packed}
-use Rattle.jb_model.specs.declared.loaded.Loaded.{Loaded}
+use Rattle.jb_state.specs.Change.{live_messages}
+use Rattle.jb_state.specs.Packed.{packed}
+use Rattle.jb_state.specs.declared.loaded.Loaded.{Loaded}
 use Rattle.jb_link.specs.Index.{IsIndexOf, ReplyIndex}
 use Rattle.jb_held.proofs.KeptLemmas.{one_index}
 use Rattle.jb_held.proofs.LiveLaws.{live_packed}

@@ -1,9 +1,9 @@
 use Rattle.std.proofs.Common.{◌≡◌, ℕ, ◌+◌, sym, ◌∙◌, ap}
-use Rattle.jb_model.specs.Change.{live_messages}
-use Rattle.jb_model.specs.declared.loaded.Loaded.{Loaded}
+use Rattle.jb_state.specs.Change.{live_messages}
+use Rattle.jb_state.specs.declared.loaded.Loaded.{Loaded}
 use Rattle.jb_held.proofs.KeptLemmas.{kept_counted}
 use Rattle.jb_held.proofs.LiveLaws.{live_posted}
-use Rattle.jb_held.proofs.PlaceLemmas.{marks_beside}
+use Rattle.jb_state.proofs.PlaceLaws.{marks_beside}
 use Rattle.jb_held.proofs.held.Held.post.Goals as goal
 
 pub count_change-requires : goal.count_change-requires

@@ -1,10 +1,10 @@
 use Rattle.std.proofs.Common.{◌≡◌, ◌+◌, sym, ◌∙◌, ap, subst, length}
-use Rattle.jb_model.specs.Change.{live_messages}
-use Rattle.jb_model.specs.declared.loaded.Loaded.{Loaded}
+use Rattle.jb_state.specs.Change.{live_messages}
+use Rattle.jb_state.specs.declared.loaded.Loaded.{Loaded}
 use Rattle.jb_link.specs.Index.{IsIndexOf}
 use Rattle.jb_held.proofs.IndexLaws.{linked_index}
 use Rattle.jb_held.proofs.KeptLemmas.{kept_counted}
-use Rattle.jb_held.proofs.PlanLemmas.{length_of, links_keep_live, marks_of, plan_is_placed}
+use Rattle.jb_state.proofs.LinkedLaws.{length_of, links_keep_live, marks_of, plan_is_placed}
 use Rattle.jb_held.proofs.held.Held.relink.Goals as goal
 
 pub set_plan-requires : goal.set_plan-requires

@@ -1,10 +1,10 @@
 use Rattle.std.proofs.Common.{◌≡◌, ap, length, refl, subst, sym, ◌+◌, ◌∙◌}
 use Rattle.jb_marks.specs.Order.{IsOrdered}
-use Rattle.jb_model.specs.declared.loaded.Loaded.{Loaded}
+use Rattle.jb_state.specs.declared.loaded.Loaded.{Loaded}
 use Rattle.jb_link.proofs.LawLemmas.{rests_on_slots}
 use Rattle.jb_link.specs.Index.{IsIndexOf}
-use Rattle.jb_model.specs.Change.{after, live_messages}
-use Rattle.jb_model.specs.declared.change.Change.TheVariants.{Marked}
+use Rattle.jb_state.specs.Change.{after, live_messages}
+use Rattle.jb_state.specs.declared.change.Change.TheVariants.{Marked}
 use Rattle.jb_held.proofs.held.Held.set_mark.Goals as goal
 
 pub set_loaded_mark-requires : goal.set_loaded_mark-requires

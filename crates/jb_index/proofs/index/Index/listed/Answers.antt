@@ -1,6 +1,6 @@
 use Rattle.std.proofs.Common.{◌≡◌, List, filter, nat_le, subst, take}
 use Rattle.std.specs.Prelude.{IfOk}
-use Rattle.jb_model.specs.declared.summary.Summary.{Summary}
+use Rattle.jb_state.specs.declared.summary.Summary.{Summary}
 use Rattle.jb_index.specs.Answer.{first_from, is_listed, listed_to}
 use Rattle.jb_index.specs.Index.{AreaIndex}
 use Rattle.jb_index.proofs.ListLemmas.{filter_true}

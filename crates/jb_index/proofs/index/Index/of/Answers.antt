@@ -1,8 +1,8 @@
 use Rattle.std.proofs.Common.{◌≡◌, ◌≤◌, ◌∙◌, ◌+◌, sym, ap, subst, length, arith, List}
 use Rattle.std.proofs.lemmas.List.{length-map}
-use Rattle.jb_model.specs.State.{slot_state}
-use Rattle.jb_model.specs.declared.loaded.LoadedSlot.{LoadedSlot}
-use Rattle.jb_model.specs.LiveSlots.{linkables_from}
+use Rattle.jb_state.specs.State.{slot_state}
+use Rattle.jb_state.specs.declared.loaded.LoadedSlot.{LoadedSlot}
+use Rattle.jb_state.specs.LiveSlots.{linkables_from}
 use Rattle.jb_index.specs.Cut.{NumbersRise}
 use Rattle.jb_index.proofs.MakingLemmas.{listed_count, listed_from, listed_of_state, listed_rises, same_index}
 use Rattle.jb_index.proofs.index.Index.of.Goals as goal

@@ -1,6 +1,6 @@
 use Rattle.std.proofs.Common.{◌≡◌, inl, inr, List, [], ◌∷◌, ap, ◌∙◌}
 use Rattle.std.proofs.lemmas.Result.{IfOk-weaker}
-use Rattle.jb_model.specs.LiveSlots.{linkables}
+use Rattle.jb_state.specs.LiveSlots.{linkables}
 use Rattle.jb_index.specs.Change.{Follows, edits_of_kill}
 use Rattle.jb_index.specs.declared.op.OpEdit.{OpEdit}
 use Rattle.jb_index.specs.declared.op.OpEdit.TheVariants.{Base, Mark as Marking}

@@ -1,7 +1,7 @@
 use Rattle.std.proofs.Common.{◌∙◌, sym, ap, Some, None}
 use Rattle.jb_link.proofs.LiveLemmas.{linkables_with_texts}
 use Rattle.jb_link.specs.Ids.{lent}
-use Rattle.jb_model.specs.Links.{parent_for}
+use Rattle.jb_state.specs.Links.{parent_for}
 use Rattle.jb_link.proofs.replies.Replies.parent.Goals as goal
 
 pub returns-in-Some-clause-found : goal.returns-in-Some-clause-found

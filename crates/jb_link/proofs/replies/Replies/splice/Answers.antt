@@ -1,6 +1,6 @@
 use Rattle.jb_link.proofs.ReplyLemmas.{named_is_changed, spliced_after, spliced_first}
 use Rattle.jb_link.specs.declared.splicing.Spliced.TheVariants.{First, After}
-use Rattle.jb_model.specs.State.{state_of}
+use Rattle.jb_state.specs.State.{state_of}
 use Rattle.jb_link.proofs.replies.Replies.splice.Goals as goal
 
 pub returns-then-last-eq0-clause-named : goal.returns-then-last-eq0-clause-named

@@ -1,13 +1,12 @@
-use Rattle.std.proofs.Common.{◌≡◌, ◌∙◌, ℕ, All, List, ap, arith, inl, inr, length, refl, subst, sym}
+use Rattle.std.proofs.Common.{◌≡◌, ◌∙◌, ℕ, All, List, ap, arith, length, refl, subst, sym}
 use Rattle.std.specs.Option.{ForSome}
 use Rattle.std.specs.Vec.{with_items}
 use Rattle.std.proofs.lemmas.List.{with_items_is}
-use Rattle.jb_bytes.specs.Fault.{Rose}
-use Rattle.jb_model.specs.declared.loaded.LoadedSlot.{LoadedSlot}
+use Rattle.jb_state.specs.declared.loaded.LoadedSlot.{LoadedSlot}
 use Rattle.jb_pack.specs.Advance.{Copies}
 use Rattle.jb_pack.specs.Shadow.{HasCopies, IsBelowCeiling, Shadow}
 use Rattle.jb_pack.specs.declared.copied.CopiedText.{CopiedText}
-use Rattle.jb_pack.proofs.PackerLemmas.{copies_alike, fault_rose, resized_below, resized_has}
+use Rattle.jb_pack.proofs.PackerLemmas.{copies_alike, fault_counted, resized_below, resized_has}
 use Rattle.jb_pack.proofs.RestLemmas.{reach_alike, reach_read, rests, rests_more, some_left}
 use Rattle.jb_pack.proofs.ShadowLemmas.{lefts-resized}
 use Rattle.jb_pack.proofs.packer.Packer.some.Goals as goal
@@ -32,12 +31,10 @@ invariant_of-self-in_err-done g c =
     with_items_is c.resize.new.self c.step.new.copies (omega (arith, c.step.auto.copies, c.as_mut_slice.ensures.len)) in
     (subst (All IsBelowCeiling) (sym same) c.step.ensures.each, c.self.invariant.1)
 
-pub returns-in_err-done-clause-cause : goal.returns-in_err-done-clause-cause
-returns-in_err-done-clause-cause g c =
-    let rose : Rose (g.D.Disk.device c.args.disk.now).faults (g.D.Disk.device c.step.new.disk).faults =
-    elim c.in_err-done.ensures.cause.failed [ inl rose ↦ rose | inr none ↦ absurd none ] in
-    fault_rose (g.D.Disk.device c.args.disk.now).faults (g.D.Disk.device c.step.new.disk).faults c.from_residual-in_err-done.result
-    c.from_residual-in_err-done.ensures.1 rose
+pub returns-in_err-done-clause-faults : goal.returns-in_err-done-clause-faults
+returns-in_err-done-clause-faults g c =
+    let fails = c.in_err-done.ensures.cause in
+    fault_counted _ _ _ c.from_residual-in_err-done.ensures.1 fails.later fails.failed
 
 pub invariant_of-self-2 : goal.invariant_of-self-2
 invariant_of-self-2 g c =

@@ -1,9 +1,9 @@
 use Rattle.std.proofs.Common.{List, map, ap, sym, ◌∙◌}
 use Rattle.jb_model.specs.Run.{plain_slot}
-use Rattle.jb_model.specs.Tight.{owned_slot}
-use Rattle.jb_model.specs.declared.area.Area.{Area}
-use Rattle.jb_model.specs.declared.area.Slot.{Slot}
-use Rattle.jb_model.specs.declared.mark.Mark.{Mark}
+use Rattle.jb_state.specs.Tight.{owned_slot}
+use Rattle.jb_state.specs.declared.area.Area.{Area}
+use Rattle.jb_state.specs.declared.area.Slot.{Slot}
+use Rattle.jb_state.specs.declared.mark.Mark.{Mark}
 use Rattle.jb_plain.proofs.Lists.{plain_owned}
 use Rattle.jb_plain.proofs.held.PlainState.into_area.Goals as goal
 

@@ -1,8 +1,8 @@
 use Rattle.std.proofs.Common.{◌≡◌, ℕ, ◌<◌, length, arith, ◌+◌, ◌-◌, ◌^◌, min, List, map, replicate, ap, ◌∙◌}
-use Rattle.jb_model.specs.State.{AreaState}
-use Rattle.jb_model.specs.Tight.{headers_together, owned_slot, texts_together}
-use Rattle.jb_model.specs.declared.area.Slot.{Slot}
-use Rattle.jb_model.specs.declared.mark.Mark.{Mark}
+use Rattle.jb_state.specs.State.{AreaState}
+use Rattle.jb_state.specs.Tight.{headers_together, owned_slot, texts_together}
+use Rattle.jb_state.specs.declared.area.Slot.{Slot}
+use Rattle.jb_state.specs.declared.mark.Mark.{Mark}
 use Rattle.jb_plain.proofs.SmallLaws.{headers_told, small_range, texts_told}
 use Rattle.jb_plain.proofs.held.PlainState.of.Goals as goal
 

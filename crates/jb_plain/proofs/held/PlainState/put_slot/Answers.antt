@@ -1,6 +1,6 @@
 use Rattle.std.proofs.Common.{◌-◌, map, ap, ◌∙◌}
 use Rattle.std.proofs.lemmas.List.{map-set}
-use Rattle.jb_model.specs.Tight.{owned_slot}
+use Rattle.jb_state.specs.Tight.{owned_slot}
 use Rattle.jb_plain.specs.Seen.{seen}
 use Rattle.jb_plain.proofs.SeenLaws.{with_slots}
 use Rattle.jb_plain.proofs.held.PlainState.put_slot.Goals as goal

@@ -4,7 +4,7 @@ use Rattle.jb_model.specs.declared.entry.Entry.{Entry}
 use Rattle.jb_publish.specs.Accounts.{Account, account_of}
 use Rattle.jb_publish.specs.Publications.{publication_of}
 use Rattle.jb_turn.specs.Seats.{front, resting_row, row_of}
-use Rattle.jb_shared.specs.Calls.{Calls}
+use Rattle.jb_shared.specs.Calls.{Asks}
 use Rattle.jb_shared.specs.Histories.{settled_of}
 use Rattle.jb_shared.specs.Inside.{known_in}
 use Rattle.jb_shared.specs.Passes.{Known}
@@ -15,12 +15,12 @@ use Rattle.jb_shared.proofs.KeepingLemmas.{fits}
 use Rattle.jb_shared.proofs.SettledLemmas.{begins_of}
 use Rattle.jb_shared.proofs.shared.SharedArea.ask.Goals as goal
 
-pub returns-then-held-ge-MOST_ENTRIES-clause-calls : goal.returns-then-held-ge-MOST_ENTRIES-clause-calls
-returns-then-held-ge-MOST_ENTRIES-clause-calls g c =
+pub returns-then-held-ge-MOST_ENTRIES-clause-asks : goal.returns-then-held-ge-MOST_ENTRIES-clause-asks
+returns-then-held-ge-MOST_ENTRIES-clause-asks g c =
     let at = c.enter-seat in
     let account = account_of c.args.parts.reader in
     let row = resting_row c.end_spent-parts.result.seat in
-    subst (λ (k : Known). Calls (known_in c.args.parts) k c.args.user.now c.args.moment c.args.command.now (Err RunSpent))
+    subst (λ (k : Known). Asks (known_in c.args.parts) k c.args.user.now c.args.moment c.args.command.now (Err RunSpent))
     (sym (known_told row account (account_of c.end_spent-parts.result.reader) at.ensures.account.0 (c.end_spent-parts.ensures.account ∙ at.ensures.account.1)))
     (calls_spent g.D.Disk.device account (resting_row c.args.parts.seat) (row_of at.result.seat) row (front at.result.seat) at.result.held.state c.args.user.now c.args.moment c.args.command.now at.ensures.took at.ensures.grows
     at.ensures.out.knows.stands_for (omega (arith, c.if-held-ge-MOST_ENTRIES.true, at.ensures.out.holds.2)) c.end_spent-parts.ensures.row)
@@ -30,8 +30,8 @@ covers-requires g c =
     let at = c.enter-seat in
     same_pair g.D.Disk.device (row_of at.result.seat) (account_of at.result.reader) at.result.held.state at.ensures.told.0 at.ensures.out.knows.stands_for
 
-pub returns-then-not-covers-clause-calls : goal.returns-then-not-covers-clause-calls
-returns-then-not-covers-clause-calls g c =
+pub returns-then-not-covers-clause-asks : goal.returns-then-not-covers-clause-asks
+returns-then-not-covers-clause-asks g c =
     let at = c.enter-seat in
     let account = account_of c.args.parts.reader in
     let list = front at.result.seat in
@@ -40,7 +40,7 @@ returns-then-not-covers-clause-calls g c =
     let fit = fits g.D.Disk.device (row_of at.result.seat).opening at.result.held.state list at.ensures.out.knows.stands_for in
     let same : length (account_of at.result.reader).shown ≡ length account.shown = ap (λ (a : Account Opening Entry). length a.shown) at.ensures.account.1 in
     let settled : length shower.list ≡ length (settled_of list) = ap (λ (l : List Entry). length l) fit.1 in
-    subst (λ (k : Known). Calls (known_in c.args.parts) k c.args.user.now c.args.moment c.args.command.now (Err (Gap c.entries-shown.result c.entries-settled.result)))
+    subst (λ (k : Known). Asks (known_in c.args.parts) k c.args.user.now c.args.moment c.args.command.now (Err (Gap c.entries-shown.result c.entries-settled.result)))
     (sym (known_told row account (account_of c.end_gap-parts.result.reader) at.ensures.account.0 (c.end_gap-parts.ensures.account ∙ at.ensures.account.1)))
     (calls_gap g.D.Disk.device account (resting_row c.args.parts.seat) (row_of at.result.seat) row list at.result.held.state c.args.user.now c.args.moment c.args.command.now c.entries-shown.result c.entries-settled.result at.ensures.took
     at.ensures.grows at.ensures.out.knows.stands_for (omega (arith, c.if-held-ge-MOST_ENTRIES.false, at.ensures.out.holds.2)) (c.entries-shown.ensures ∙ same) (c.entries-settled.ensures ∙ settled)
@@ -64,15 +64,15 @@ leave-requires-clause-told g c =
     let keeps = performs_keep taken new c.args.user.now c.args.moment c.args.command.now c.perform-held.result.1 c.perform-held.ensures.performs in
     (still_told taken new (account_of at.result.reader) keeps at.ensures.told).1
 
-pub returns-clause-calls : goal.returns-clause-calls
-returns-clause-calls g c =
+pub returns-clause-asks : goal.returns-clause-asks
+returns-clause-asks g c =
     let at = c.enter-seat in
     let account = account_of c.args.parts.reader in
     let told = account_of at.result.reader in
     let list = front at.result.seat in
     let new = row_of c.perform-held.new.seat in
     let fit = fits g.D.Disk.device (row_of at.result.seat).opening at.result.held.state list at.ensures.out.knows.stands_for in
-    subst (λ (k : Known). Calls (known_in c.args.parts) k c.args.user.now c.args.moment c.args.command.now c.perform-held.result.1)
+    subst (λ (k : Known). Asks (known_in c.args.parts) k c.args.user.now c.args.moment c.args.command.now c.perform-held.result.1)
     (sym (known_after new (resting_row c.leave.result.seat) account told (account_of c.leave.result.reader) at.ensures.account.0 c.leave.ensures.account.0 c.leave.ensures.row at.ensures.account.1 c.leave.ensures.account.1))
     (calls_through g.D.Disk.device account (resting_row c.args.parts.seat) (row_of at.result.seat) new list at.result.held.state c.perform-held.result.0.state c.args.user.now c.args.moment c.args.command.now c.perform-held.result.1
     at.ensures.took at.ensures.grows at.ensures.out.knows.stands_for c.perform-held.ensures.performs (omega (arith, c.if-held-ge-MOST_ENTRIES.false, at.ensures.out.holds.2)) c.perform-held.ensures.out.knows.stands_for

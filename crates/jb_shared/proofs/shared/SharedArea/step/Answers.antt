@@ -1,18 +1,24 @@
-use Rattle.std.proofs.Common.{List, arith, refl, subst, sym}
+use Rattle.std.proofs.Common.{◌≡◌, ℕ, List, None, Option, Some, Result, Err, IfOk, ap, arith, refl, subst, sym, ◌∙◌}
 use mathlib.Core.List.{IsPrefix}
+use Rattle.jb_model.specs.declared.command.Command.TheVariants.{Pack}
 use Rattle.jb_model.specs.declared.entry.Entry.{Entry}
 use Rattle.jb_publish.specs.Accounts.{Account, account_of}
 use Rattle.jb_turn.specs.Rows.{Begins}
 use Rattle.jb_turn.specs.Seats.{front, resting_row, row_of}
+use Rattle.jb_turn.specs.Steps.{given}
+use Rattle.jb_shared.specs.Calls.{Asks}
 use Rattle.jb_shared.specs.Histories.{settled_of}
+use Rattle.jb_shared.specs.InTurn.{SeatRow}
 use Rattle.jb_shared.specs.Inside.{known_in}
-use Rattle.jb_shared.specs.Passes.{Known}
-use Rattle.jb_shared.specs.Stepping.{HasTaken, StepsAs}
+use Rattle.jb_shared.specs.Passes.{Known, refusing}
+use Rattle.jb_shared.specs.Stepping.{HasTaken, LeavesAs, RunsStep}
+use Rattle.jb_shared.specs.declared.error.SharedError.{SharedError}
 use Rattle.jb_shared.specs.declared.opening.Opening.{Opening}
+use Rattle.jb_shared.specs.declared.refusal.Refusal.TheVariants.{Stepped}
 use Rattle.jb_shared.proofs.CallLemmas.{known_after, same_pair, still_told}
 use Rattle.jb_shared.proofs.KeepingLemmas.{fits, out_settled}
 use Rattle.jb_shared.proofs.SettledLemmas.{begins_itself, begins_of}
-use Rattle.jb_shared.proofs.SteppingLemmas.{step_keeps, steps_through, taken_in}
+use Rattle.jb_shared.proofs.SteppingLemmas.{step_keeps, stepped_in, stopped_in}
 use Rattle.jb_shared.proofs.shared.SharedArea.step.Goals as goal
 
 pub may_step-requires : goal.may_step-requires
@@ -20,8 +26,8 @@ may_step-requires g c =
     let at = c.enter-seat in
     record { mark = same_pair g.D.Disk.device (row_of at.result.seat) (account_of at.result.reader) at.result.held.state at.ensures.told.0 at.ensures.out.knows.stands_for }
 
-pub leave-requires-clause-told : goal.leave-requires-clause-told
-leave-requires-clause-told g c =
+pub leave_stepped-requires-clause-told : goal.leave_stepped-requires-clause-told
+leave_stepped-requires-clause-told g c =
     let at = c.enter-seat in
     let settled = settled_of (front at.result.seat) in
     subst (λ (l : List Entry). Begins l settled) (sym at.ensures.told.1) (begins_itself settled)
@@ -30,11 +36,10 @@ pub returns-then-not-may_step-clause-steps : goal.returns-then-not-may_step-clau
 returns-then-not-may_step-clause-steps g c =
     let at = c.enter-seat in
     let account = account_of c.args.parts.reader in
-    let taken = row_of at.result.seat in
-    subst (λ (k : Known). HasTaken (known_in c.args.parts) k)
-    (sym (known_after taken (resting_row c.leave.result.seat) account (account_of at.result.reader) (account_of c.leave.result.reader) at.ensures.account.0 c.leave.ensures.account.0 c.leave.ensures.row at.ensures.account.1
-    c.leave.ensures.account.1))
-    (taken_in account (resting_row c.args.parts.seat) taken (front at.result.seat) at.ensures.took at.ensures.grows)
+    let row = resting_row c.leave_stepped.result.seat in
+    subst (λ (k : Known). HasTaken (refusing (known_in c.args.parts) (Stepped None)) k)
+    (sym (known_after row row account (account_of at.result.reader) (account_of c.leave_stepped.result.reader) at.ensures.account.0 c.leave_stepped.ensures.account.0 refl at.ensures.account.1 c.leave_stepped.ensures.account.1))
+    (stepped_in account (resting_row c.args.parts.seat) (row_of at.result.seat) row (front at.result.seat) None at.ensures.took at.ensures.grows c.leave_stepped.ensures.row)
 
 pub copy_part-held-requires : goal.copy_part-held-requires
 copy_part-held-requires g c =
@@ -49,32 +54,67 @@ copy_part-held-requires g c =
       );
     }
 
-pub leave-requires-2-clause-mark : goal.leave-requires-2-clause-mark
-leave-requires-2-clause-mark g c =
+pub leave_stepped-requires-in-Ok-clause-mark : goal.leave_stepped-requires-in-Ok-clause-mark
+leave_stepped-requires-in-Ok-clause-mark g c =
     let at = c.enter-seat in
     let taken = row_of at.result.seat in
     let new = row_of c.copy_part-held.new.seat in
     (still_told taken new (account_of at.result.reader) (step_keeps taken new c.args.user.now c.args.moment c.copy_part-held.result.1 c.copy_part-held.ensures.steps) at.ensures.told).0
 
-pub leave-requires-2-clause-told : goal.leave-requires-2-clause-told
-leave-requires-2-clause-told g c =
+pub leave_stepped-requires-in-Ok-clause-told : goal.leave_stepped-requires-in-Ok-clause-told
+leave_stepped-requires-in-Ok-clause-told g c =
     let at = c.enter-seat in
     let taken = row_of at.result.seat in
     let new = row_of c.copy_part-held.new.seat in
     (still_told taken new (account_of at.result.reader) (step_keeps taken new c.args.user.now c.args.moment c.copy_part-held.result.1 c.copy_part-held.ensures.steps) at.ensures.told).1
 
-pub returns-clause-steps : goal.returns-clause-steps
-returns-clause-steps g c =
+pub leave_stepped-requires-in-Ok-clause-left : goal.leave_stepped-requires-in-Ok-clause-left
+leave_stepped-requires-in-Ok-clause-left g c =
+    (subst (λ (r : Result (Option ℕ) SharedError). IfOk r (λ left. (list : List Entry) → LeavesAs g.D.Disk.device c.copy_part-held.result.0 list c.args.user.now left)) c.in-Ok.is c.copy_part-held.ensures.left)
+    (account_of c.enter-seat.result.reader).shown
+
+pub leave-requires-clause-mark : goal.leave-requires-clause-mark
+leave-requires-clause-mark g c =
+    let at = c.enter-seat in
+    let taken = row_of at.result.seat in
+    let new = row_of c.copy_part-held.new.seat in
+    (still_told taken new (account_of at.result.reader) (step_keeps taken new c.args.user.now c.args.moment c.copy_part-held.result.1 c.copy_part-held.ensures.steps) at.ensures.told).0
+
+pub leave-requires-clause-told : goal.leave-requires-clause-told
+leave-requires-clause-told g c =
+    let at = c.enter-seat in
+    let taken = row_of at.result.seat in
+    let new = row_of c.copy_part-held.new.seat in
+    (still_told taken new (account_of at.result.reader) (step_keeps taken new c.args.user.now c.args.moment c.copy_part-held.result.1 c.copy_part-held.ensures.steps) at.ensures.told).1
+
+pub returns-in-Ok-clause-steps : goal.returns-in-Ok-clause-steps
+returns-in-Ok-clause-steps g c =
+    let at = c.enter-seat in
+    let account = account_of c.args.parts.reader in
+    let taken = row_of at.result.seat in
+    let new = row_of c.copy_part-held.new.seat in
+    let row = resting_row c.leave_stepped-in-Ok.result.seat in
+    let is : new ≡ taken = subst (λ (r : Result (Option ℕ) SharedError). RunsStep taken new c.args.user.now c.args.moment r) c.in-Ok.is c.copy_part-held.ensures.steps in
+    subst (λ (k : Known). HasTaken (refusing (known_in c.args.parts) (Stepped c.in-Ok.left)) k)
+    (sym (known_after row row account (account_of at.result.reader) (account_of c.leave_stepped-in-Ok.result.reader) at.ensures.account.0 c.leave_stepped-in-Ok.ensures.account.0 refl at.ensures.account.1 c.leave_stepped-in-Ok.ensures.account.1))
+    (stepped_in account (resting_row c.args.parts.seat) taken row (front at.result.seat) c.in-Ok.left at.ensures.took at.ensures.grows
+    (c.leave_stepped-in-Ok.ensures.row ∙ ap (λ (r : SeatRow). given r (Some (Stepped c.in-Ok.left))) is))
+
+pub returns-in-Err-clause-steps : goal.returns-in-Err-clause-steps
+returns-in-Err-clause-steps g c =
     let at = c.enter-seat in
     let account = account_of c.args.parts.reader in
     let told = account_of at.result.reader in
     let list = front at.result.seat in
+    let taken = row_of at.result.seat in
     let new = row_of c.copy_part-held.new.seat in
-    let fit = fits g.D.Disk.device (row_of at.result.seat).opening at.result.held.state list at.ensures.out.knows.stands_for in
+    let fit = fits g.D.Disk.device taken.opening at.result.held.state list at.ensures.out.knows.stands_for in
     let may = c.if-not-may_step.ensures in
-    subst (λ (k : Known). StepsAs (known_in c.args.parts) k c.args.user.now c.args.moment c.copy_part-held.result.1)
-    (sym (known_after new (resting_row c.leave-2.result.seat) account told (account_of c.leave-2.result.reader) at.ensures.account.0 c.leave-2.ensures.account.0 c.leave-2.ensures.row at.ensures.account.1 c.leave-2.ensures.account.1))
-    (steps_through g.D.Disk.device account (resting_row c.args.parts.seat) (row_of at.result.seat) new list at.result.held.state c.copy_part-held.result.0.state c.args.user.now c.args.moment c.copy_part-held.result.1 at.ensures.took
-    at.ensures.grows at.ensures.out.knows.stands_for c.copy_part-held.ensures.steps (omega (arith, may.room refl, at.ensures.out.holds.2)) c.copy_part-held.ensures.out.knows.stands_for
+    subst (λ (k : Known). Asks (known_in c.args.parts) k c.args.user.now c.args.moment Pack (Err c.in-Err.error))
+    (sym (known_after new (resting_row c.leave.result.seat) account told (account_of c.leave.result.reader) at.ensures.account.0 c.leave.ensures.account.0 c.leave.ensures.row at.ensures.account.1 c.leave.ensures.account.1))
+    (stopped_in g.D.Disk.device account (resting_row c.args.parts.seat) taken new list at.result.held.state c.copy_part-held.result.0.state c.args.user.now c.args.moment c.in-Err.error at.ensures.took
+    at.ensures.grows at.ensures.out.knows.stands_for
+    (subst (λ (r : Result (Option ℕ) SharedError). RunsStep taken new c.args.user.now c.args.moment r) c.in-Err.is c.copy_part-held.ensures.steps)
+    (omega (arith, may.room refl, at.ensures.out.holds.2)) c.copy_part-held.ensures.out.knows.stands_for
     (begins_of account.shown (settled_of list)
     (subst (λ (a : Account Opening Entry). IsPrefix a.shown (settled_of list)) at.ensures.account.1 (subst (λ (l : List Entry). IsPrefix told.shown l) fit.1 (may.covers refl)))))

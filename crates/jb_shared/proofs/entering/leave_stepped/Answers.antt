@@ -1,0 +1,26 @@
+use Rattle.std.proofs.Common.{◌∙◌, ap, subst, sym, List}
+use Rattle.jb_model.specs.declared.entry.Entry.{Entry}
+use Rattle.jb_publish.specs.Accounts.{Account, account_of}
+use Rattle.jb_publish.specs.Publications.{publication_of}
+use Rattle.jb_turn.specs.Seats.{row_of}
+use Rattle.jb_shared.proofs.CallLemmas.{is_informed, may_inform, same_pair}
+use Rattle.jb_shared.specs.Stepping.{LeavesAs}
+use Rattle.jb_shared.specs.declared.opening.Opening.{Opening}
+use Rattle.jb_shared.proofs.entering.leave_stepped.Goals as goal
+
+pub inform-requires-clause-mark : goal.inform-requires-clause-mark
+inform-requires-clause-mark g c = same_pair g.D.Disk.device (row_of c.args.seat) (account_of c.args.reader) c.args.held.state c.requires.mark c.requires.out.knows.stands_for
+
+pub inform-requires-clause-grown : goal.inform-requires-clause-grown
+inform-requires-clause-grown g c = may_inform g.D.Disk.device (row_of c.args.seat) (account_of c.args.reader) c.args.held.state c.requires.told c.requires.out.knows.stands_for
+
+pub end_stepped-requires-clause-told : goal.end_stepped-requires-clause-told
+end_stepped-requires-clause-told g c =
+    is_informed g.D.Disk.device (row_of c.args.seat) (account_of c.args.reader) (account_of c.inform.new.reader) c.args.held.state c.requires.mark c.requires.out.knows.stands_for c.inform.ensures
+
+pub end_stepped-requires-clause-left : goal.end_stepped-requires-clause-left
+end_stepped-requires-clause-left g c =
+    subst (λ (list : List Entry). LeavesAs g.D.Disk.device c.args.held list c.args.user.now c.args.left) (sym (ap (λ (a : Account Opening Entry). a.shown) c.inform.ensures)) c.requires.left
+
+pub returns-clause-account : goal.returns-clause-account
+returns-clause-account g c = ((publication_of c.args.held.state.shower).list, c.end_stepped.ensures.account ∙ c.inform.ensures)

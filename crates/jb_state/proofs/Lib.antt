@@ -1,0 +1,9 @@
+pub mod CountLaws
+pub mod LinkLaws
+pub mod LinkedLaws
+pub mod PackLaws
+pub mod PlaceLaws
+pub mod RelinkLaws
+pub mod SoundLaws
+pub mod ThreadLaws
+pub mod VisibleLaws
