@@ -12,6 +12,7 @@ import struct
 import subprocess
 import sys
 import tempfile
+import threading
 from concurrent.futures import ThreadPoolExecutor
 
 import jam
@@ -21,6 +22,9 @@ from caller import BARE, GUARD, Caller, Otherwise, connected, end_of
 TOP = os.path.dirname(os.path.dirname(os.path.realpath(__file__)))
 # seconds in which a run ends that waits for nobody, however much it has to do
 LIMIT = 600
+with open(f"{TOP}/tests/words.txt", encoding="utf-8") as file:
+    # the words of each fault line, by its number and name; in braces stand values
+    WORDS = dict(line.rstrip("\n").split(": ", 1) for line in file if not line.startswith("#"))
 OFFERS = b"\xff\xfb\x01\xff\xfb\x03"
 LOCAL, TOOLS = ("local", "board.toml"), ("list", "check", "pack", "relink", "make")
 MOST_SESSION_BYTES = 16_777_216
@@ -29,6 +33,8 @@ PIECE_BYTES = 4096
 # how a run is refused: the line and the status
 NO_WORDS, SHORT_HEADER, ALREADY_THERE = (b"fault 1 Words\n", 1), (b"fault 3.1 ShortHeader\n", 3), (b"fault 3.17 AlreadyThere\n", 3)
 STORE_FAULT, HOST_FAULT, NO_MEMORY = (b"fault 4 StoreFault\n", 4), (b"fault 5 HostFault\n", 5), (b"fault 6 OutOfMemory\n", 6)
+# what the operator is told of callers and packs
+LOGGED = re.compile(rb"node \d+: |bell: ")
 # what a caller is sent first, and where the disk has failed
 GREETING, IN_DOUBT = b"Test Board\r\nName: ", b"Store fault: the change is in doubt.\r\n"
 BOARD = """name = "Test Board"
@@ -109,9 +115,12 @@ def one_by_one(words):
     return b"".join(lines([word]).ljust(PIECE_BYTES, b"\0") for word in words)
 
 
-def is_told(told):
-    """Whether this is what the operator is told of a refusal: one line, on what is refused and why."""
-    return re.fullmatch(rb"board: [^\n]+\n", told) is not None
+def is_told(told, printed):
+    """Whether this is what the operator is told of a refusal with this line: one line, on what is refused and why, in the words of words.txt."""
+    name = re.match(r"fault ([\d.]+ \w+)", printed.decode())
+    said = WORDS[name[1]] if name and name[1] in WORDS else "none"
+    words = re.sub(r"\\{\w+\\}", "[^\n]+", re.escape(said))
+    return re.fullmatch(rf"board: (?:[^\n]+: )?{words}\n", told.decode(errors="replace")) is not None
 
 
 def with_limit(most):
@@ -257,7 +266,7 @@ class Runs(Trial):
     def ended(self, *words, **run):
         """What a run prints and its status; the operator is told why it is refused, and nothing else."""
         printed, status, told = self.done(*words, **run)
-        self.holds(f"{words}: what the operator is told: {told}", is_told(told) if (printed or b"").startswith(b"fault ") else not told)
+        self.holds(f"{words}: what the operator is told: {told}", is_told(told, printed) if (printed or b"").startswith(b"fault ") else not told)
         return printed, status
 
     def are_refused(self, what, status, runs):
@@ -268,7 +277,7 @@ class Runs(Trial):
             self.is_so(f"{what}, {' '.join(words)}: the status", ended, status)
             self.holds(f"{what}, {' '.join(words)}: what is printed: {printed}", re.fullmatch(rb"fault %d\b.*\n" % status, printed))
             is_said = any(all(re.search(it, line) for it in said) for line in told.lower().split(b"\n"))
-            self.holds(f"{what}, {' '.join(words)}: what the operator is told: {told}, where {said} are wanted", is_said and is_told(told))
+            self.holds(f"{what}, {' '.join(words)}: what the operator is told: {told}, where {said} are wanted", is_said and is_told(told, printed))
 
     def tracer(self, *options):
         """The words that run a program under strace, as a child of this one."""
@@ -305,7 +314,7 @@ class Served(Runs):
 
     def __init__(self, program, folder):
         super().__init__(program, folder)
-        self.port, self.process, self.opening = free_port(), None, b""
+        self.port, self.process, self.opening, self.told, self.ear = free_port(), None, b"", [], None
 
     def has_bases(self):
         """Three empty bases, made by the program, and the settings."""
@@ -321,6 +330,10 @@ class Served(Runs):
         self.opening = b"listening port %d nodes %d\n" % (self.port, nodes) + b"".join(
             b"area %s live %d\n" % (name.encode(), count) for name, count in live)
         self.process = self.starts("serve", "board.toml", *words, **run)
+        # its lines are taken as they come: a pipe that is full would hold the board up
+        side, self.process.stderr, self.told = self.process.stderr, None, []
+        self.ear = threading.Thread(target=self.told.extend, args=(side,), daemon=True)
+        self.ear.start()
 
     def caller(self, name, client=BARE, host="127.0.0.1"):
         """One who is connected, and known by this name here."""
@@ -343,7 +356,9 @@ class Served(Runs):
         if how is not None:
             self.process.send_signal(how)
         try:
-            printed, told = self.process.communicate(timeout=GUARD)
+            printed = self.process.communicate(timeout=GUARD)[0]
+            self.ear.join(GUARD)
+            told = b"".join(line for line in self.told if not LOGGED.match(line))
             self.is_so(f"{what}: what is printed, and the status", (printed, self.process.returncode), (b"", status))
             self.is_so(f"{what}: what the operator is told", told, self.opening + (b"closed\n" if how is None else b""))
         except subprocess.TimeoutExpired:

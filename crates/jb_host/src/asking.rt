@@ -93,7 +93,8 @@ impl Asking {
     pub(crate) fn begin(&mut self, call: Call) -> Result<(), HostError>
         ensures ok { OnOk result (asked_of self.new ≡ asked_of self.old ++ asked_by call ∷ []) }
         ensures quiet { OnOk result (self.new.faults ≡ self.old.faults) }
-        ensures err { IfErr result (λ error. Some (asked_of self.new) ≡ calls_after error (asked_by call) (Some (asked_of self.old))) }
+        ensures err { IfErr result (λ error. Some (asked_of self.new)
+            ≡ calls_after error (asked_by call) (Some (asked_of self.old))) }
         ensures cause { IfErr result (λ error. HasHostCause error self.old.faults self.new.faults) }
         ensures later { self.old.faults ≤ self.new.faults }
         ensures listed { FailsNext self.old.failing → IsErr result }

@@ -1,4 +1,5 @@
 //! The trait of a bell.
+ghost use Rattle.std.specs.Prelude.{◌≡◌};
 ghost use Rattle.jb_host.specs.Rings.{Rings, Tolls};
 
 /// What a bell answers.
@@ -18,4 +19,9 @@ pub trait Bell {
     /// Waits for the next ring, or says that the bell is shut, which comes only where it has no ring left.
     fn next(&mut self) -> Ring
         ensures { Tolls (rings self.old) result (rings self.new) };
+
+    /// Tells the operator a line on a pack, where there is a way to. It may be lost, and nothing rests on it.
+    fn note(&mut self, _line: &str)
+        ensures { rings self.new ≡ rings self.old }
+    {}
 }

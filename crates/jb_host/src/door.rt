@@ -30,7 +30,8 @@ pub trait Door {
 
     /// The link of the next caller, or that the door is shut, which comes only where it has no call left.
     fn accept(&mut self) -> Result<Accepted<Self::Link>, DoorFailed>
-        ensures ok { IfOk result (λ accepted. Accepts Self.Link.wire (gate self.old) accepted (gate self.new)) }
+        ensures ok { IfOk result (λ accepted.
+            Accepts Self.Link.wire (gate self.old) accepted (gate self.new)) }
         ensures err { OnErr result (FailsToGive (gate self.old) (gate self.new)) }
         ensures listed { fails_next self.old → IsErr result }
         ensures cause { HasCause (gate self.old).faults (gate self.new).faults result };

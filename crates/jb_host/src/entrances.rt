@@ -66,7 +66,8 @@ impl Entrances {
 
     /// Takes the door of a node back, where one was handed out to it.
     pub(crate) fn take_back(&mut self, node: u32, door: MemDoor)
-        ensures back { doors_in self.old node ≡ door_out → doors_in self.new ≡ with_door node (has_door (memory_gate door)) (doors_in self.old) }
+        ensures back { doors_in self.old node ≡ door_out
+            → doors_in self.new ≡ with_door node (has_door (memory_gate door)) (doors_in self.old) }
         ensures waiting { waiting_in self.new ≡ waiting_in self.old }
     {
         put_at(&mut self.handed, node, door);

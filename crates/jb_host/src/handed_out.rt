@@ -27,7 +27,8 @@ pub(crate) fn entry_of(entries: &[HandedOut], node: u32) -> Option<usize>
 
 /// Puts a door at the first entry with this node, if there is one.
 pub(crate) fn put_at(entries: &mut Vec<HandedOut>, node: u32, door: MemDoor)
-    ensures back { by_node entries.old.items node ≡ door_out → by_node entries.new.items ≡ with_door node (has_door (memory_gate door)) (by_node entries.old.items) }
+    ensures back { by_node entries.old.items node ≡ door_out → by_node entries.new.items
+        ≡ with_door node (has_door (memory_gate door)) (by_node entries.old.items) }
     ensures len { vec_len entries.new ≡ vec_len entries.old }
     ensures room { vec_capacity entries.new ≡ vec_capacity entries.old }
 {

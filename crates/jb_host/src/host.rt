@@ -48,8 +48,10 @@ pub trait Host {
 
     /// The disk of the base with this name in this folder.
     fn disk(&mut self, dir: &str, name: &str) -> Result<Self::Disk, HostError>
-        ensures ok { IfOk result (λ disk. GivesDisk dir.now name.now (Self.Disk.device disk) (desk self.old) (desk self.new)) }
-        ensures err { IfErr result (λ error. RefusesCall (asked_disk dir.now name.now) error (desk self.old) (desk self.new)) }
+        ensures ok { IfOk result (λ disk.
+            GivesDisk dir.now name.now (Self.Disk.device disk) (desk self.old) (desk self.new)) }
+        ensures err { IfErr result (λ error.
+            RefusesCall (asked_disk dir.now name.now) error (desk self.old) (desk self.new)) }
         ensures listed { fails_next self.old → IsErr result };
 
     /// Takes a disk back that was handed out for this folder and name.
@@ -59,7 +61,8 @@ pub trait Host {
     /// The bytes of the settings file at this path, which stays there.
     fn settings(&mut self, path: &str) -> Result<Bytes, HostError>
         ensures ok { IfOk result (λ bytes. GivesSettings path.now bytes (desk self.old) (desk self.new)) }
-        ensures err { IfErr result (λ error. RefusesCall (asked_settings path.now) error (desk self.old) (desk self.new)) }
+        ensures err { IfErr result (λ error.
+            RefusesCall (asked_settings path.now) error (desk self.old) (desk self.new)) }
         ensures listed { fails_next self.old → IsErr result };
 
     /// Hands the console out.
@@ -75,8 +78,10 @@ pub trait Host {
     /// A door for a node, at a port, which is shut after so many calls, or never. It is open from then on, also to callers that come
     /// before it is asked for them.
     fn door(&mut self, node: u32, port: u16, calls: Option<u32>) -> Result<Self::Door, HostError>
-        ensures ok { IfOk result (λ door. GivesDoor node port calls (Self.Door.gate door) (desk self.old) (desk self.new)) }
-        ensures err { IfErr result (λ error. RefusesCall (asked_door node port calls) error (desk self.old) (desk self.new)) }
+        ensures ok { IfOk result (λ door.
+            GivesDoor node port calls (Self.Door.gate door) (desk self.old) (desk self.new)) }
+        ensures err { IfErr result (λ error.
+            RefusesCall (asked_door node port calls) error (desk self.old) (desk self.new)) }
         ensures listed { fails_next self.old → IsErr result };
 
     /// Takes a door back that was handed out for this node.
@@ -90,8 +95,10 @@ pub trait Host {
         minutes: u32,
         calls: Option<u32>,
     ) -> Result<Self::Bell, HostError>
-        ensures ok { IfOk result (λ bell. GivesBell areas minutes calls (Self.Bell.rings bell) (desk self.old) (desk self.new)) }
-        ensures err { IfErr result (λ error. RefusesCall (asked_bell areas minutes calls) error (desk self.old) (desk self.new)) }
+        ensures ok { IfOk result (λ bell.
+            GivesBell areas minutes calls (Self.Bell.rings bell) (desk self.old) (desk self.new)) }
+        ensures err { IfErr result (λ error.
+            RefusesCall (asked_bell areas minutes calls) error (desk self.old) (desk self.new)) }
         ensures listed { fails_next self.old → IsErr result };
 
     /// Takes the bell back.

@@ -20,13 +20,16 @@ pub trait Link {
     /// 0 only at the end of input.
     fn read(&mut self, into: &mut [u8]) -> Result<usize, LinkFailed>
         ensures within { IfOk result (λ n. n ≤ length into.old) }
-        ensures found { IfOk result (λ n. Takes (wire self.old).to_come (take n into.new) (wire self.new).to_come) }
+        ensures found { IfOk result (λ n.
+            Takes (wire self.old).to_come (take n into.new) (wire self.new).to_come) }
         ensures err { OnErr result ((wire self.new).to_come ≡ (wire self.old).to_come) }
-        ensures end { result ≡ Ok 0 → 0 < length into.old → ForSome (wire self.old).to_come (λ bytes. bytes ≡ []) × Rose (wire self.old).ends (wire self.new).ends }
+        ensures end { result ≡ Ok 0 → 0 < length into.old → ForSome (wire self.old).to_come
+            (λ bytes. bytes ≡ []) × Rose (wire self.old).ends (wire self.new).ends }
 
         // What stays, and the cause of a refusal.
         ensures ends { (wire self.old).ends ≤ (wire self.new).ends }
-        ensures quiet { (result ≡ Ok 0 → 0 < length into.old → ⊥) → (wire self.new).ends ≡ (wire self.old).ends }
+        ensures quiet { (result ≡ Ok 0 → 0 < length into.old → ⊥)
+            → (wire self.new).ends ≡ (wire self.old).ends }
         ensures sent { (wire self.new).sent ≡ (wire self.old).sent }
         ensures unsent { (wire self.new).unsent ≡ (wire self.old).unsent }
         ensures listed { fails_next self.old → IsErr result }
@@ -46,4 +49,9 @@ pub trait Link {
         ensures quiet { OnOk result ((wire self.new).unsent ≡ (wire self.old).unsent) }
         ensures listed { fails_next self.old → IsErr result }
         ensures cause { HasCause (wire self.old).faults (wire self.new).faults result };
+
+    /// Tells the operator a line on this link, where there is a way to. It may be lost, and nothing rests on it.
+    fn note(&mut self, _line: &str)
+        ensures { wire self.new ≡ wire self.old }
+    {}
 }

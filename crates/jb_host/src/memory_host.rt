@@ -115,7 +115,8 @@ impl MemHost {
 
     /// Adds the bell, in place of one that is there or was handed out.
     pub fn add_bell(&mut self, bell: MemBell)
-        ensures added { memory_desk self.new ≡ record (memory_desk self.old) { bell = Some (has_bell (memory_rings bell)) } }
+        ensures added { memory_desk self.new
+            ≡ record (memory_desk self.old) { bell = Some (has_bell (memory_rings bell)) } }
         ensures kept { self.new.console ≡ self.old.console }
     {
         self.belfry = Belfry::Holds(bell);
@@ -131,8 +132,10 @@ impl MemHost {
 
     /// The disk of a base, while it is not out.
     pub fn disk_at(&self, dir: &str, name: &str) -> Option<&MemDisk>
-        ensures found { IfSome result (λ disk. standing self.now dir.now name.now ≡ has_disk (device_of disk.now)) }
-        ensures none { IfNone result ((device : Device) → standing self.now dir.now name.now ≢ has_disk device) }
+        ensures found { IfSome result (λ disk.
+            standing self.now dir.now name.now ≡ has_disk (device_of disk.now)) }
+        ensures none { IfNone result ((device : Device)
+            → standing self.now dir.now name.now ≢ has_disk device) }
     {
         let k = shelf_at(self.shelves.as_slice(), dir.as_bytes(), name.as_bytes())?;
         self.shelves[k].disk.as_ref()

@@ -8,7 +8,8 @@ use crate::{Link, LinkFailed};
 /// Sends all of the bytes, in as many writes as the link needs. After a refusal a beginning of them was sent, and never all.
 pub fn send<L: Link>(link: &mut L, bytes: &[u8]) -> Result<(), LinkFailed>
     ensures ok { OnOk result (Sends (L.wire link.old).sent bytes.now (L.wire link.new).sent) }
-    ensures err { OnErr result ((front : List ℕ) × Begins front bytes.now × Sends (L.wire link.old).sent front (L.wire link.new).sent) }
+    ensures err { OnErr result ((front : List ℕ) × Begins front bytes.now
+        × Sends (L.wire link.old).sent front (L.wire link.new).sent) }
 
     // What stays, and the cause of a refusal.
     ensures to_come { (L.wire link.new).to_come ≡ (L.wire link.old).to_come }

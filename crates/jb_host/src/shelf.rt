@@ -50,8 +50,10 @@ fn take_off(shelf: &mut Shelf) -> Option<MemDisk>
 
 /// Takes the disk off the first shelf with this folder and name, if one stands there.
 pub(crate) fn take_from(shelves: &mut Vec<Shelf>, dir: &[u8], name: &[u8]) -> Option<MemDisk>
-    ensures found { IfSome result (λ disk. shelved shelves.old.items dir.now name.now ≡ has_disk (device_of disk)) }
-    ensures out { IfSome result (λ _. shelved shelves.new.items ≡ with_place dir.now name.now handed_out (shelved shelves.old.items)) }
+    ensures found { IfSome result (λ disk.
+        shelved shelves.old.items dir.now name.now ≡ has_disk (device_of disk)) }
+    ensures out { IfSome result (λ _. shelved shelves.new.items
+        ≡ with_place dir.now name.now handed_out (shelved shelves.old.items)) }
     ensures none { IfNone result (shelves.new.items ≡ shelves.old.items) }
 {
     let k = shelf_at(shelves.as_slice(), dir, name)?;
@@ -65,7 +67,8 @@ pub(crate) fn take_from(shelves: &mut Vec<Shelf>, dir: &[u8], name: &[u8]) -> Op
 /// Puts a disk on the first shelf with this folder and name, if there is one.
 pub(crate) fn put_on(shelves: &mut Vec<Shelf>, dir: &[u8], name: &[u8], disk: MemDisk)
     ensures { shelved shelves.old.items dir.now name.now ≡ handed_out
-        → shelved shelves.new.items ≡ with_place dir.now name.now (has_disk (device_of disk)) (shelved shelves.old.items) }
+        → shelved shelves.new.items ≡ with_place dir.now name.now (has_disk (device_of disk))
+        (shelved shelves.old.items) }
 {
     if let Some(k) = shelf_at(shelves.as_slice(), dir, name) {
         shelves[k].disk = Some(disk);

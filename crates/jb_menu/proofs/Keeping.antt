@@ -6,7 +6,7 @@ use Rattle.std.proofs.lemmas.Bool.Decides.{nat_tests}
 use Rattle.jb_limits.specs.declared.limits.TheConstants.{MOST_POSTED_TEXT_BYTES}
 use Rattle.jb_conf.specs.declared.board.Board.{Board}
 use Rattle.jb_conf.specs.LogIn.{logs_in}
-use Rattle.jb_model.specs.declared.look.Answer.TheVariants as answer
+use Rattle.jb_state.specs.declared.look.Answer.TheVariants as answer
 use Rattle.jb_model.specs.declared.reply.Reply.TheVariants as reply
 use Rattle.jb_menu.specs.Answers.{acting_row, listing_row, marking_row, reading_row, seeking_row}
 use Rattle.jb_menu.specs.Areas.{area_command, area_row}

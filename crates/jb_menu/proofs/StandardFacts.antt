@@ -6,15 +6,15 @@ use Rattle.jb_base.specs.declared.area.Kind.TheVariants.{Local}
 use Rattle.jb_base.specs.declared.area.Rule.TheVariants.{A4}
 use Rattle.jb_conf.specs.declared.board.Board.{Board}
 use Rattle.jb_conf.specs.declared.board.BoardArea.{BoardArea}
-use Rattle.jb_model.specs.Short.{short_of}
+use Rattle.jb_state.specs.Short.{short_of}
 use Rattle.jb_model.specs.declared.command.Command.TheVariants as command
 use Rattle.jb_model.specs.declared.command.Field.TheVariants as field
-use Rattle.jb_model.specs.declared.look.Answer.TheVariants.{Summaries, Figures as TheFigures}
-use Rattle.jb_model.specs.declared.look.Question.TheVariants as question
-use Rattle.jb_model.specs.declared.look.Question.TheVariants.{Figures}
-use Rattle.jb_model.specs.declared.look.SharedFault.TheVariants.{StoreFault, Gap, RunSpent, Barred}
+use Rattle.jb_state.specs.declared.look.Answer.TheVariants.{Summaries, Figures as TheFigures}
+use Rattle.jb_state.specs.declared.look.Question.TheVariants as question
+use Rattle.jb_state.specs.declared.look.Question.TheVariants.{Figures}
+use Rattle.jb_state.specs.declared.look.SharedFault.TheVariants.{StoreFault, Gap, RunSpent, Barred}
 use Rattle.jb_model.specs.declared.reply.Reply.TheVariants as reply
-use Rattle.jb_model.specs.declared.summary.Summary.{Summary}
+use Rattle.jb_state.specs.declared.summary.Summary.{Summary}
 use Rattle.jb_text.specs.Date.{clock_of, date_text, month_and_day, year_and_day}
 use Rattle.jb_text.specs.Letter.{heading_text}
 use Rattle.jb_menu.specs.CommandLines.{command_of}
@@ -55,6 +55,7 @@ board = record {
     salt = [];
     digest = [];
   } ∷ [];
+  unknown = [];
 }
 
 -- a text with the ends of its lines

@@ -3,11 +3,11 @@ use Rattle.std.specs.Prelude.{ℕ, not, ◌==◌, Bool, true, false, bit_and, Li
 use Rattle.jb_base.specs.declared.attribute.TheConstants.{PRIVATE}
 use Rattle.jb_conf.specs.declared.board.Board.{Board}
 use Rattle.jb_model.specs.declared.command.Command.TheVariants.{Read, SetMark}
-use Rattle.jb_model.specs.declared.look.Answer.TheVariants.{Summaries}
+use Rattle.jb_state.specs.declared.look.Answer.TheVariants.{Summaries}
 use Rattle.jb_model.specs.declared.reply.Letter.{Letter}
 use Rattle.jb_model.specs.declared.reply.Reply.TheVariants.{Marked, Text}
-use Rattle.jb_model.specs.declared.summary.Summary.{Summary}
-use Rattle.jb_model.specs.Short.{kept_of}
+use Rattle.jb_state.specs.declared.summary.Summary.{Summary}
+use Rattle.jb_state.specs.Short.{kept_of}
 use Rattle.jb_text.specs.declared.standing.Fixed.TheVariants.{Nothing, NoUnread}
 use Rattle.jb_text.specs.Faults.{fault_text}
 use Rattle.jb_text.specs.Fixed.{fixed_text}

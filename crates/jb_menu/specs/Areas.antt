@@ -2,7 +2,7 @@
 use Rattle.std.specs.Prelude.{false, []}
 use Rattle.jb_conf.specs.declared.board.Board.{Board}
 use Rattle.jb_model.specs.declared.command.Command.TheVariants.{Kill, Pack, Read, Relink, SetMark}
-use Rattle.jb_model.specs.declared.look.Question.TheVariants as question
+use Rattle.jb_state.specs.declared.look.Question.TheVariants as question
 use Rattle.jb_text.specs.declared.standing.Fixed.TheVariants.{AskTo, UnknownCommand}
 use Rattle.jb_text.specs.Fixed.{fixed_text}
 use Rattle.jb_text.specs.Letter.{line}

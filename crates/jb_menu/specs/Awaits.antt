@@ -1,9 +1,9 @@
 -- What a menu waits for, and which boards its states are of.
 use Rattle.std.specs.Prelude.{◌≡◌, ◌<◌, ℕ, Bool, true, false, IsTrue, length, Option, Some, None}
 use Rattle.jb_conf.specs.declared.board.Board.{Board}
-use Rattle.jb_model.specs.declared.look.Answer.TheVariants as answer
-use Rattle.jb_model.specs.declared.look.Question.{Question}
-use Rattle.jb_model.specs.declared.look.Question.TheVariants as question
+use Rattle.jb_state.specs.declared.look.Answer.TheVariants as answer
+use Rattle.jb_state.specs.declared.look.Question.{Question}
+use Rattle.jb_state.specs.declared.look.Question.TheVariants as question
 use Rattle.jb_menu.specs.declared.given.Given.{Given}
 use Rattle.jb_menu.specs.declared.given.Given.TheVariants as given
 use Rattle.jb_menu.specs.declared.moves.Move.{Move}

@@ -2,7 +2,7 @@
 use Rattle.std.specs.Prelude.{ℕ, false, List, [], ◌++◌}
 use Rattle.jb_conf.specs.declared.board.Board.{Board}
 use Rattle.jb_model.specs.declared.command.Command.{Command}
-use Rattle.jb_model.specs.declared.look.Question.{Question}
+use Rattle.jb_state.specs.declared.look.Question.{Question}
 use Rattle.jb_text.specs.declared.standing.Fixed.TheVariants.{Goodbye, TopPrompt}
 use Rattle.jb_text.specs.Fixed.{fixed_text}
 use Rattle.jb_text.specs.Letter.{line}

@@ -1,8 +1,8 @@
 -- The rows outside of the areas.
 use Rattle.std.specs.Prelude.{ℕ, ◌+◌, List, [], ◌++◌, Option, Some, None}
 use Rattle.jb_conf.specs.declared.board.Board.{Board}
-use Rattle.jb_model.specs.declared.look.Answer.TheVariants as answer
-use Rattle.jb_model.specs.declared.look.Question.TheVariants as question
+use Rattle.jb_state.specs.declared.look.Answer.TheVariants as answer
+use Rattle.jb_state.specs.declared.look.Question.TheVariants as question
 use Rattle.jb_text.specs.declared.standing.Fixed.TheVariants.{NoSuchArea, UnknownCommand}
 use Rattle.jb_text.specs.Faults.{fault_text}
 use Rattle.jb_text.specs.Fixed.{fixed_text}

@@ -15,7 +15,8 @@ use crate::moves::Moved;
 use crate::state::{Shown, Stage, State, Visit};
 use jb_base::{Bytes, Name, OutOfMemory, PRIVATE};
 use jb_conf::Board;
-use jb_model::{Answer, Command, Letter, Reply, SharedFault, Summary};
+use jb_model::{Command, Letter, Reply};
+use jb_state::{Answer, SharedFault, Summary};
 use jb_text::{Fixed, append_line_end, fault, letter, listing, reply};
 use std::alloc::Global;
 
@@ -80,7 +81,8 @@ fn read_first(
     messages: &[Summary],
 ) -> Result<Moved, OutOfMemory>
     requires { visit.area < length board.now.areas }
-    ensures { IfOk result (λ moved. moved ≡ seeking_row board.now visit (Given.Answer (Answer.Summaries messages.now))) }
+    ensures { IfOk result (λ moved. moved
+        ≡ seeking_row board.now visit (Given.Answer (Answer.Summaries messages.now))) }
 {
     match messages {
         [] => fixed_to_area(alloc, board, visit, Fixed::NoUnread),
@@ -147,7 +149,8 @@ fn show(
 ) -> Result<Moved, OutOfMemory>
     requires board { IsInRange board.now }
     requires area { visit.area < length board.now.areas }
-    ensures { IfOk result (λ moved. moved ≡ reading_row board.now visit marks (Given.Reply (Reply.Text message.now))) }
+    ensures { IfOk result (λ moved. moved
+        ≡ reading_row board.now visit marks (Given.Reply (Reply.Text message.now))) }
 {
     let text = letter(alloc, message, board.offset)?;
     let visit = with_shown(alloc, visit, message)?;

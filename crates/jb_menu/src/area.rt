@@ -11,7 +11,8 @@ use crate::state::{Stage, State, Visit};
 use crate::writing::reply;
 use jb_base::{Bytes, OutOfMemory};
 use jb_conf::Board;
-use jb_model::{Command, Question};
+use jb_model::Command;
+use jb_state::Question;
 use jb_text::{Fixed, fixed};
 use std::alloc::Global;
 
@@ -106,7 +107,8 @@ fn letter_and_number(
     number: u32,
 ) -> Result<Moved, OutOfMemory>
     requires { visit.area < length board.now.areas }
-    ensures { IfOk result (λ moved. moved ≡ area_command board.now visit (CommandLine.LetterNumber letter number)) }
+    ensures { IfOk result (λ moved. moved
+        ≡ area_command board.now visit (CommandLine.LetterNumber letter number)) }
 {
     match letter {
         CommandLetter::K => Ok(ask(visit, Command::Kill { number }, Stage::Acting)),

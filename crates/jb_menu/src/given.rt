@@ -1,7 +1,8 @@
 //! What a menu is given.
 
 use jb_line::Line;
-use jb_model::{Answer, Reply, SharedFault};
+use jb_model::Reply;
+use jb_state::{Answer, SharedFault};
 
 /// What a menu is given: a line, or what came of its last move.
 pub enum Given {

@@ -11,7 +11,8 @@ use crate::moves::{MenuEnd, Move, Moved};
 use crate::state::{Stage, State, Visit};
 use jb_base::{Bytes, OutOfMemory};
 use jb_conf::Board;
-use jb_model::{Reply, SharedFault};
+use jb_model::Reply;
+use jb_state::SharedFault;
 use jb_text::{Fixed, append_line_end, fault, fixed, prompt, reply};
 use std::alloc::Global;
 

@@ -63,6 +63,14 @@ impl Menu {
         }
     }
 
+    /// The name whose password is awaited, as it was typed.
+    pub fn name_tried(&self) -> Option<&[u8]> {
+        match &self.state {
+            State::Password { name, .. } => Some(name.as_slice()),
+            _ => None,
+        }
+    }
+
     /// Takes what the last move asked for, and gives the next one. Something else is passed over: nothing is said, and the
     /// state stays. For want of memory the menu is at its end, where it passes over everything.
     #[tactic(auto, unfolding(crate::specs::Awaits::IsFor))]
@@ -74,7 +82,8 @@ impl Menu {
 
         // The state stays one of the board, and a menu that is given what it waits for waits then for what it asks for.
         ensures of { IsFor board.now self.new }
-        ensures awaits { Awaits self.old given.now → IfOk result (λ step. awaited_in self.new ≡ wanted_by step) }
+        ensures awaits { Awaits self.old given.now
+            → IfOk result (λ step. awaited_in self.new ≡ wanted_by step) }
         // No area is asked but the one where the menu is.
         ensures here { IfOk result (λ step. AsksHere step self.new) }
     {

@@ -2,7 +2,8 @@
 
 use crate::state::State;
 use jb_base::Bytes;
-use jb_model::{Command, Question};
+use jb_model::Command;
+use jb_state::Question;
 
 /// How a session ends by its menu.
 #[derive(Clone, Copy, Debug, PartialEq, Eq)]

@@ -13,7 +13,7 @@ use crate::moves::{Move, Moved};
 use crate::state::{State, Visit};
 use jb_base::{Bytes, OutOfMemory};
 use jb_conf::Board;
-use jb_model::{Answer, Question};
+use jb_state::{Answer, Question};
 use jb_text::{Fixed, fault, figures};
 use std::alloc::Global;
 

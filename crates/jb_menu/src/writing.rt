@@ -58,7 +58,8 @@ fn answer_to(alloc: Global, shown: &Shown) -> Result<Draft, OutOfMemory>
 
 /// What is said before the text of an answer is typed.
 fn replying_lines(alloc: Global, from: &[u8], subject: &[u8]) -> Result<Bytes, OutOfMemory>
-    ensures { IfOk result (λ text. text ≡ line (replying_text from.now subject.now) ++ line (fixed_text Fixed.TextLine)) }
+    ensures { IfOk result (λ text. text ≡ line (replying_text from.now subject.now) ++ line
+        (fixed_text Fixed.TextLine)) }
 {
     let line = whole(replying(alloc, from, subject)?)?;
     append_line(line, fixed(alloc, Fixed::TextLine)?.as_slice())
@@ -66,7 +67,8 @@ fn replying_lines(alloc: Global, from: &[u8], subject: &[u8]) -> Result<Bytes, O
 
 /// The answer to a message, which waits for its text, and what is said then.
 fn answering(alloc: Global, shown: &Shown) -> Result<(Bytes, Stage), OutOfMemory>
-    ensures { IfOk result (λ begun. (begun.0 ≡ line (replying_text shown.now.from (answer_subject shown.now.subject)) ++ line (fixed_text Fixed.TextLine))
+    ensures { IfOk result (λ begun. (begun.0 ≡ line (replying_text shown.now.from
+        (answer_subject shown.now.subject)) ++ line (fixed_text Fixed.TextLine))
         × (begun.1 ≡ Stage.Text (answer_to shown.now) [])) }
 {
     let draft = answer_to(alloc, shown)?;

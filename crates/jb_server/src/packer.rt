@@ -8,12 +8,14 @@ ghost use Rattle.jb_server.specs.Rounds.{AnswersRing, packs_with};
 ghost use Rattle.jb_server.specs.Workers.{PackerHasWorked};
 
 use crate::worker::PackSlot;
+use arrayvec::ArrayString;
 use jb_base::User;
 use jb_disk::Disk;
 use jb_host::{Bell, Clock, Ring};
 use jb_model::{Command, Reply};
 use jb_shared::{Pass, SharedArea, SharedError};
 use std::alloc::Global;
+use std::fmt::Write;
 use std::sync::Wait;
 
 /// Asks a pack as the next call of a pass, at the moment that the clock shows.
@@ -35,8 +37,25 @@ fn ask_pack<T: Wait, D: Disk, C: Clock>(
     area.call(rt, alloc, pass, user, moment, &Command::Pack)
 }
 
+/// Tells the operator that a pack begins, or what came of it.
+fn tell<B: Bell>(bell: &mut B, number: u32, came: Option<&Result<Reply, SharedError>>)
+    ensures { B.rings bell.new ≡ B.rings bell.old }
+{
+    let mut line = ArrayString::<96>::new();
+    let _ = write!(line, "bell: area {number}: ");
+    let _ = match came {
+        None => line.write_str("pack begins"),
+        Some(Ok(Reply::Packed { live, dropped, .. })) => {
+            write!(line, "packed, live {live} dropped {dropped}")
+        }
+        Some(Err(SharedError::StoreFault)) => line.write_str("the device failed, in doubt"),
+        Some(_) => line.write_str("not packed"),
+    };
+    bell.note(line.as_str());
+}
+
 impl<B: Bell, C: Clock> PackSlot<B, C> {
-    /// Asks a pack of the area with this number, from 1. A number that no area has is passed over.
+    /// Asks a pack of the area with this number, from 1, and tells the operator so. A number that no area has is passed over.
     fn pack<T: Wait, D: Disk>(
         &mut self,
         rt: &T,
@@ -47,24 +66,28 @@ impl<B: Bell, C: Clock> PackSlot<B, C> {
         requires ours { AreOf areas.now self.old.passes.items }
         requires name { length self.old.user.name ≤ MOST_NAME_BYTES }
         ensures ours { AreOf areas.now self.new.passes.items }
-        ensures answers { AnswersRing (C.reading self.old.clock) self.old.user number result self.old.passes.items self.new.passes.items }
+        ensures answers { AnswersRing
+            (C.reading self.old.clock) self.old.user number result self.old.passes.items self.new.passes.items }
 
         // All else stays.
-        ensures bell { self.new.bell ≡ self.old.bell }
+        ensures bell { B.rings self.new.bell ≡ B.rings self.old.bell }
         ensures clock { C.reading self.new.clock ≡ C.reading self.old.clock }
         ensures user { self.new.user ≡ self.old.user }
         ensures packs { self.new.packs ≡ self.old.packs }
     {
         let k = number.checked_sub(1)? as usize;
         let area = areas.get(k)?;
-        Some(ask_pack(
+        tell(&mut self.bell, number, None);
+        let came = ask_pack(
             rt,
             alloc,
             area,
             &mut self.passes[k],
             &mut self.clock,
             &self.user,
-        ))
+        );
+        tell(&mut self.bell, number, Some(&came));
+        Some(came)
     }
 }
 

@@ -51,7 +51,8 @@ where
     requires ours { All (IsAtWork areas.now) workers.old }
     ensures ours { All (IsAtWork areas.now) workers.new }
     ensures worked { (k : ℕ) (absent : _) → k < length workers.old
-        → HasWorked R.gate B.rings C.reading board.now (slice_index_or workers.old k absent) (slice_index_or workers.new k absent) }
+        → HasWorked R.gate B.rings C.reading board.now (slice_index_or workers.old k absent)
+        (slice_index_or workers.new k absent) }
 {
     if workers.is_empty() {
         return;

@@ -2,7 +2,7 @@
 use Rattle.std.proofs.Common.{◌≡◌, ◌≢◌, ℕ, ◌+◌, ◌-◌, ◌≤◌, length, take, drop, List, [], ◌∷◌, ◌++◌, Option, Some, None, inl, inr, refl, sym, ◌∙◌, ap, subst, append_assoc, append-nil, length-append, arith}
 use Rattle.std.specs.Option.{option_to_list, ForSome}
 use Rattle.std.specs.Prelude.{Result, Ok, Err, IfOk, OnErr}
-use Rattle.std.proofs.lemmas.List.{map-append, same_lists, places}
+use Rattle.std.proofs.lemmas.List.{map-append, same_lists, places, take-take}
 use Rattle.jb_talk.specs.Asking.{most_asked}
 use Rattle.jb_bytes.specs.Fault.{Rose}
 use Rattle.jb_limits.specs.declared.limits.TheConstants.{MOST_SESSION_BYTES}
@@ -22,6 +22,7 @@ use Rattle.jb_session.specs.Exchanges.{Exchange, Exchanged, Passed, PassedLast, 
 use Rattle.jb_session.specs.Served.{Later, SaysAll, SaysSome, EndsAs, Served, Stands, MayLack}
 use Rattle.jb_session.specs.declared.end.SessionEnd.{SessionEnd}
 use Rattle.jb_session.specs.declared.end.SessionEnd.TheVariants.{Quit, Hangup, LoginRefused, LinkFault, Spent, OutOfMemory}
+use Rattle.jb_talk.proofs.Growing.{front_refl}
 
 pub later_refl : (w : Wire) → Later w w
 later_refl w = record { faults = omega arith; ends = omega arith; unsent = omega arith }
@@ -75,9 +76,6 @@ says_some board each grow stands talking heard rest out answers later asked talk
     let P : List ℕ → Type 0 = λ w. SaysSome board (heard ++ rest) (answers ++ later) w asked in
     subst P (append-nil out)
     (says_part board each grow stands talking heard rest out [] answers later asked talked (record { rest = talking.owed; is = refl }))
-
-front_refl : {T : Type 0} (xs : List T) → IsFront xs xs
-front_refl xs = record { rest = []; is = sym (append-nil xs) }
 
 -- all of it is a beginning of it
 some_of_all : (board : Board) (taken out : List ℕ) (answers : List Given) (asked : List Request) → SaysAll board taken answers out asked → SaysSome board taken answers out asked
@@ -202,15 +200,17 @@ module _ (reading : Option ℕ) (board : Board) where
   }
 
   -- so many bytes of a piece were heard
-  pub hear_on : (old now : Wire) (from to : List PassView) (n : ℕ) (piece : List ℕ) (talking after : Talking) (next : Option Request)
-      → Stands reading board old from now piece talking None to
+  pub hear_on : (old now : Wire) (from to : List PassView) (n : ℕ) (piece line : List ℕ) (talking after : Talking) (next : Option Request)
+      → Stands reading board old from now piece talking None to → line ≡ take (length line) piece → n ≤ length line
       → ((bytes sent : List ℕ) (answers : List Given) (asked : List Request) → HasTalked board talking bytes answers sent asked
-      → HasTalked board after (bytes ++ take n piece) answers sent (asked ++ option_to_list next))
+      → HasTalked board after (bytes ++ take n line) answers sent (asked ++ option_to_list next))
       → Stands reading board old from now (drop n piece) after next to
-  hear_on old now from to n piece talking after next s fits =
+  hear_on old now from to n piece line talking after next s front within fits =
       let P : List ℕ → Type 0 = λ w. Stands reading board old from now w talking None to in
       let t : Stands reading board old from now (take n piece ++ drop n piece) talking None to = subst P (cut_at n piece) s in
-      heard_on old now from to (take n piece) (drop n piece) talking after next t (fits t.heard t.out (answers_of t.exchanges) (asks_of t.exchanges ++ []) t.talked)
+      let Q : List ℕ → Type 0 = λ w. HasTalked board after (t.heard ++ w) (answers_of t.exchanges) t.out ((asks_of t.exchanges ++ []) ++ option_to_list next) in
+      heard_on old now from to (take n piece) (drop n piece) talking after next t
+      (subst Q (ap (take n) front ∙ take-take n (length line) piece within) (fits t.heard t.out (answers_of t.exchanges) (asks_of t.exchanges ++ []) t.talked))
 
   -- what is left of a piece, as a part of it
   pub rest_on : (old now : Wire) (from to : List PassView) (at : ℕ) (piece : List ℕ) (talking : Talking)
@@ -411,6 +411,16 @@ module _ (reading : Option ℕ) (board : Board) where
           made = record { rest = whole.asked; is = refl };
         };
       }
+
+-- a session between two notes, which change nothing of the link
+pub served_by : (reading reading' : Option ℕ) (board : Board) (old old' new new' : Wire) (end end' : SessionEnd) (from to : List PassView)
+    → reading' ≡ reading → old' ≡ old → new ≡ new' → end ≡ end' → Served reading' board old' from end' new' to → Served reading board old from end new to
+served_by reading reading' board old old' new new' end end' from to clock begun ended same s =
+    let E : SessionEnd → Type 0 = λ w. Served reading' board old' from w new' to in
+    let N : Wire → Type 0 = λ w. Served reading' board old' from end w to in
+    let O : Wire → Type 0 = λ w. Served reading' board w from end new to in
+    let R : Option ℕ → Type 0 = λ w. Served w board old from end new to in
+    subst R clock (subst O begun (subst N (sym ended) (subst E (sym same) s)))
 
 -- what holds of an answer, by what else holds of it
 pub ok_map : {T E : Type 0} (r : Result T E) (P Q : T → Type 0) → ((x : T) → P x → Q x) → IfOk r P → IfOk r Q

@@ -8,7 +8,7 @@ use Rattle.jb_index.specs.Answer.{answer_to, unread_to}
 use Rattle.jb_menu.specs.declared.given.Given.{Given}
 use Rattle.jb_menu.specs.declared.given.Given.TheVariants as given
 use Rattle.jb_model.specs.declared.command.Command.{Command}
-use Rattle.jb_model.specs.declared.look.SharedFault.TheVariants as fault
+use Rattle.jb_state.specs.declared.look.SharedFault.TheVariants as fault
 use Rattle.jb_model.specs.declared.reply.Reply.{Reply}
 use Rattle.jb_shared.specs.Areas.{IsOf}
 use Rattle.jb_shared.specs.Calls.{Calls}

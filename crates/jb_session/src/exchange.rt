@@ -12,8 +12,9 @@ use jb_conf::Board;
 use jb_disk::Disk;
 use jb_host::Clock;
 use jb_menu::Given;
-use jb_model::{Barred, Command, LookError, Question, SharedFault};
+use jb_model::Command;
 use jb_shared::{Pass, SharedArea, SharedError};
+use jb_state::{Barred, LookError, Question, SharedFault};
 use jb_talk::{Act, Request};
 use std::alloc::Global;
 use std::sync::Wait;
@@ -32,8 +33,10 @@ fn call<R: Wait, D: Disk, C: Clock>(
     requires name { length user.now.name ≤ MOST_NAME_BYTES }
     ensures ours { IsOf area.now pass.new }
     ensures clock { C.reading clock.new ≡ C.reading clock.old }
-    ensures ok { IfOk result (λ given. Gives (C.reading clock.old) user.now (Act.Ask command.now) pass.old.known pass.new.known given) }
-    ensures err { OnErr result (Wants (C.reading clock.old) user.now (Act.Ask command.now) pass.old.known pass.new.known) }
+    ensures ok { IfOk result (λ given. Gives (C.reading clock.old) user.now
+        (Act.Ask command.now) pass.old.known pass.new.known given) }
+    ensures err { OnErr result (Wants (C.reading clock.old) user.now
+        (Act.Ask command.now) pass.old.known pass.new.known) }
 {
     let moment = clock.now();
     match area.call(rt, alloc, pass, user, moment, command) {
@@ -56,8 +59,10 @@ fn look<D: Disk>(
 ) -> Result<Given, OutOfMemory>
     requires ours { IsOf area.now pass.old }
     ensures ours { IsOf area.now pass.new }
-    ensures ok { (reading : Option ℕ) → IfOk result (λ given. Gives reading user.now (Act.Look question.now) pass.old.known pass.new.known given) }
-    ensures err { (reading : Option ℕ) → OnErr result (Wants reading user.now (Act.Look question.now) pass.old.known pass.new.known) }
+    ensures ok { (reading : Option ℕ) → IfOk result (λ given.
+        Gives reading user.now (Act.Look question.now) pass.old.known pass.new.known given) }
+    ensures err { (reading : Option ℕ) → OnErr result
+        (Wants reading user.now (Act.Look question.now) pass.old.known pass.new.known) }
 {
     match area.look(pass, user, question) {
         Ok(answer) => Ok(Given::Answer(answer)),
@@ -70,7 +75,8 @@ fn look<D: Disk>(
 fn count<D: Disk>(area: &SharedArea<D>, pass: &mut Pass, user: &User) -> Given
     requires ours { IsOf area.now pass.old }
     ensures ours { IsOf area.now pass.new }
-    ensures ok { (reading : Option ℕ) → Gives reading user.now Act.Count pass.old.known pass.new.known result }
+    ensures ok { (reading : Option ℕ)
+        → Gives reading user.now Act.Count pass.old.known pass.new.known result }
 {
     match area.unread_count(pass, user) {
         Ok(unread) => Given::Count(unread),
@@ -92,7 +98,8 @@ fn act<R: Wait, D: Disk, C: Clock>(
     requires name { length user.now.name ≤ MOST_NAME_BYTES }
     ensures ours { IsOf area.now pass.new }
     ensures clock { C.reading clock.new ≡ C.reading clock.old }
-    ensures ok { IfOk result (λ given. Gives (C.reading clock.old) user.now act.now pass.old.known pass.new.known given) }
+    ensures ok { IfOk result (λ given. Gives
+        (C.reading clock.old) user.now act.now pass.old.known pass.new.known given) }
     ensures err { OnErr result (Wants (C.reading clock.old) user.now act.now pass.old.known pass.new.known) }
 {
     match act {
@@ -119,7 +126,8 @@ pub(crate) fn exchange<R: Wait, D: Disk, C: Clock>(
     ensures ours { AreOf areas.now passes.new }
     ensures clock { C.reading clock.new ≡ C.reading clock.old }
     ensures answer { IfOk result (λ given. is_line given ≡ false) }
-    ensures ok { IfOk result (λ given. Exchanged (C.reading clock.old) board.now (record { request = request.now; given = given }) passes.old passes.new) }
+    ensures ok { IfOk result (λ given. Exchanged (C.reading clock.old) board.now
+        (record { request = request.now; given = given }) passes.old passes.new) }
     ensures err { OnErr result (Lacks (C.reading clock.old) board.now request.now passes.old passes.new) }
 {
     let user = &board.users.as_slice()[request.user as usize].user;

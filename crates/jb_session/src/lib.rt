@@ -8,6 +8,7 @@
 
 mod end;
 mod exchange;
+mod log;
 mod sending;
 mod session;
 

@@ -19,10 +19,12 @@ pub(crate) fn send_owed<L: Link>(link: &mut L, talk: &mut Talk) -> Result<(), Li
     ensures hands { OnOk result ((board : Board) → Hands board talk.old None → Hands board talk.new None) }
 
     // What was said, and how the session ends.
-    ensures ok { OnOk result ((reading : Option ℕ) (board : Board) (old : Wire) (from to : List PassView) (rest : List ℕ)
+    ensures ok { OnOk result ((reading : Option ℕ) (board : Board) (old : Wire)
+        (from to : List PassView) (rest : List ℕ)
         → Stands reading board old from (L.wire link.old) rest talk.old None to
         → Stands reading board old from (L.wire link.new) rest talk.new None to) }
-    ensures err { OnErr result ((reading : Option ℕ) (board : Board) (old : Wire) (from to : List PassView) (rest : List ℕ)
+    ensures err { OnErr result ((reading : Option ℕ) (board : Board) (old : Wire)
+        (from to : List PassView) (rest : List ℕ)
         → Stands reading board old from (L.wire link.old) rest talk.old None to
         → Served reading board old from LinkFault (L.wire link.new) to) }
 {
@@ -44,10 +46,12 @@ pub(crate) fn relieve<L: Link>(link: &mut L, talk: &mut Talk) -> Result<(), Link
     ensures hands { OnOk result ((board : Board) → Hands board talk.old None → Hands board talk.new None) }
 
     // What was said, and how the session ends.
-    ensures ok { OnOk result ((reading : Option ℕ) (board : Board) (old : Wire) (from to : List PassView) (rest : List ℕ)
+    ensures ok { OnOk result ((reading : Option ℕ) (board : Board) (old : Wire)
+        (from to : List PassView) (rest : List ℕ)
         → Stands reading board old from (L.wire link.old) rest talk.old None to
         → Stands reading board old from (L.wire link.new) rest talk.new None to) }
-    ensures err { OnErr result ((reading : Option ℕ) (board : Board) (old : Wire) (from to : List PassView) (rest : List ℕ)
+    ensures err { OnErr result ((reading : Option ℕ) (board : Board) (old : Wire)
+        (from to : List PassView) (rest : List ℕ)
         → Stands reading board old from (L.wire link.old) rest talk.old None to
         → Served reading board old from LinkFault (L.wire link.new) to) }
 {
@@ -66,8 +70,10 @@ pub(crate) fn read_piece<L: Link>(
     requires most { 0 < most }
     requires room { most ≤ length buffer.old }
     ensures within { IfOk result (λ n. n ≤ most) }
-    ensures found { IfOk result (λ n. Takes (L.wire link.old).to_come (take n buffer.new) (L.wire link.new).to_come) }
-    ensures end { IfOk result (λ n. n ≡ 0 → ForSome (L.wire link.old).to_come (λ bytes. bytes ≡ []) × Rose (L.wire link.old).ends (L.wire link.new).ends) }
+    ensures found { IfOk result (λ n. Takes (L.wire link.old).to_come (take n buffer.new)
+        (L.wire link.new).to_come) }
+    ensures end { IfOk result (λ n. n ≡ 0 → ForSome (L.wire link.old).to_come (λ bytes. bytes ≡ [])
+        × Rose (L.wire link.old).ends (L.wire link.new).ends) }
     ensures err { OnErr result ((L.wire link.new).to_come ≡ (L.wire link.old).to_come) }
 
     // What stays, and the cause of a refusal.

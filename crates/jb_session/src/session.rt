@@ -1,5 +1,5 @@
 //! The loop of a session: what is owed is sent, a piece is read and heard, and what it asks of the areas is answered.
-ghost use Rattle.std.specs.Prelude.{◌≡◌, ◌+◌, ◌<◌, ◌≤◌, ℕ, List, [], None, Option, Some, false, true, IfErr, IfOk, OnErr, OnOk, drop, length};
+ghost use Rattle.std.specs.Prelude.{◌≡◌, ◌+◌, ◌<◌, ◌≤◌, ℕ, List, [], None, Option, Some, false, true, IfErr, IfOk, OnErr, OnOk, drop, length, take};
 ghost use Rattle.std.specs.Option.{is_some};
 ghost use Rattle.jb_limits.specs.declared.limits.TheConstants.{MOST_SESSION_BYTES};
 ghost use Rattle.jb_conf.specs.InRange.{IsInRange};
@@ -13,6 +13,7 @@ ghost use Rattle.jb_session.specs.Served.{Served, Stands};
 
 use crate::end::{SessionEnd, ended};
 use crate::exchange::exchange;
+use crate::log::Log;
 use crate::sending::{read_piece, relieve, send_owed};
 use jb_base::OutOfMemory;
 use jb_conf::Board;
@@ -31,6 +32,7 @@ fn respond<R: Wait, D: Disk, C: Clock>(
     areas: &[SharedArea<D>],
     passes: &mut [Pass],
     clock: &mut C,
+    log: &mut Log,
     talk: &mut Talk,
     request: &Request,
 ) -> Result<Option<Request>, OutOfMemory>
@@ -55,6 +57,7 @@ fn respond<R: Wait, D: Disk, C: Clock>(
 {
     conversations_are_one();
     let given = exchange(rt, alloc, board, areas, passes, clock, request)?;
+    log.keep(request, &given);
     talk.answer(alloc, board, &given)
 }
 
@@ -66,6 +69,7 @@ fn respond_all<R: Wait, D: Disk, C: Clock>(
     areas: &[SharedArea<D>],
     passes: &mut [Pass],
     clock: &mut C,
+    log: &mut Log,
     talk: &mut Talk,
     first: Option<Request>,
 ) -> Result<(), OutOfMemory>
@@ -88,13 +92,25 @@ fn respond_all<R: Wait, D: Disk, C: Clock>(
 {
     let mut next = first;
     while let Some(request) = next {
-        next = respond(rt, alloc, board, areas, passes, clock, talk, &request)?;
+        next = respond(rt, alloc, board, areas, passes, clock, log, talk, &request)?;
     }
     Ok(())
 }
 
-/// Hears a piece, as far as the byte at which an area is asked something, and does all that is asked then. Gives how many
-/// bytes were heard.
+/// What of a piece is heard at once: it ends at the first byte that can end a line.
+fn first_line(piece: &[u8]) -> &[u8]
+    ensures front { result.now ≡ take (length result.now) piece.now }
+    ensures within { length result.now ≤ length piece.now }
+    ensures some { 0 < length piece.now → 0 < length result.now }
+{
+    match piece.iter().position(|byte| matches!(*byte, b'\r' | b'\n')) {
+        Some(at) => &piece[..at + 1],
+        None => piece,
+    }
+}
+
+/// Hears a piece, as far as the byte at which a line ends or an area is asked something, and does all that is asked then.
+/// Gives how many bytes were heard.
 fn hear<R: Wait, D: Disk, C: Clock>(
     rt: &R,
     alloc: Global,
@@ -102,6 +118,7 @@ fn hear<R: Wait, D: Disk, C: Clock>(
     areas: &[SharedArea<D>],
     passes: &mut [Pass],
     clock: &mut C,
+    log: &mut Log,
     talk: &mut Talk,
     piece: &[u8],
 ) -> Result<usize, OutOfMemory>
@@ -120,14 +137,26 @@ fn hear<R: Wait, D: Disk, C: Clock>(
     // What was said and asked, and how the session ends where memory is wanting.
     ensures ok { IfOk result (λ heard. (old now : Wire) (from : List PassView)
         → Stands (C.reading clock.old) board.now old from now piece.now talk.old None passes.old
-        → Stands (C.reading clock.old) board.now old from now (drop heard piece.now) talk.new None passes.new) }
+        → Stands (C.reading clock.old) board.now old from now
+        (drop heard piece.now) talk.new None passes.new) }
     ensures err { OnErr result ((old now : Wire) (from : List PassView)
         → Stands (C.reading clock.old) board.now old from now piece.now talk.old None passes.old
         → Served (C.reading clock.old) board.now old from SessionEnd.OutOfMemory now passes.new) }
 {
     conversations_are_one();
-    let heard = talk.hear(alloc, board, piece)?;
-    respond_all(rt, alloc, board, areas, passes, clock, talk, heard.request)?;
+    log.look(talk);
+    let heard = talk.hear(alloc, board, first_line(piece))?;
+    respond_all(
+        rt,
+        alloc,
+        board,
+        areas,
+        passes,
+        clock,
+        log,
+        talk,
+        heard.request,
+    )?;
     Ok(heard.taken)
 }
 
@@ -141,6 +170,7 @@ fn take<R: Wait, D: Disk, L: Link, C: Clock>(
     passes: &mut [Pass],
     link: &mut L,
     clock: &mut C,
+    log: &mut Log,
     talk: &mut Talk,
     piece: &[u8],
 ) -> Result<(), SessionEnd>
@@ -168,9 +198,10 @@ fn take<R: Wait, D: Disk, L: Link, C: Clock>(
             return Err(SessionEnd::LinkFault);
         };
         let rest = &piece[at..];
-        let Ok(heard) = hear(rt, alloc, board, areas, passes, clock, talk, rest) else {
+        let Ok(heard) = hear(rt, alloc, board, areas, passes, clock, log, talk, rest) else {
             return Err(SessionEnd::OutOfMemory);
         };
+        log.tell(link, talk);
         at += heard;
     }
     Ok(())
@@ -185,6 +216,7 @@ fn turn<R: Wait, D: Disk, L: Link, C: Clock>(
     passes: &mut [Pass],
     link: &mut L,
     clock: &mut C,
+    log: &mut Log,
     talk: &mut Talk,
 ) -> Result<(), SessionEnd>
     requires board { IsInRange board.now }
@@ -215,7 +247,9 @@ fn turn<R: Wait, D: Disk, L: Link, C: Clock>(
         return Err(SessionEnd::Hangup);
     }
     let piece = &buffer[..n];
-    match take(rt, alloc, board, areas, passes, link, clock, talk, piece) {
+    match take(
+        rt, alloc, board, areas, passes, link, clock, log, talk, piece,
+    ) {
         Ok(()) => {}
         Err(end) => return Err(end),
     }
@@ -234,6 +268,7 @@ fn serve_talk<R: Wait, D: Disk, L: Link, C: Clock>(
     passes: &mut [Pass],
     link: &mut L,
     clock: &mut C,
+    log: &mut Log,
     talk: &mut Talk,
 ) -> SessionEnd
     requires board { IsInRange board.now }
@@ -243,14 +278,15 @@ fn serve_talk<R: Wait, D: Disk, L: Link, C: Clock>(
     requires fits { HasTalked board.now talk.old [] [] [] [] }
     ensures ours { AreOf areas.now passes.new }
     ensures clock { C.reading clock.new ≡ C.reading clock.old }
-    ensures served { Served (C.reading clock.old) board.now (L.wire link.old) passes.old result (L.wire link.new) passes.new }
+    ensures served { Served (C.reading clock.old) board.now (L.wire link.old) passes.old result
+        (L.wire link.new) passes.new }
 {
     conversations_are_one();
     let Ok(()) = send_owed(link, talk) else {
         return SessionEnd::LinkFault;
     };
     while talk.wants() > 0 {
-        if let Err(end) = turn(rt, alloc, board, areas, passes, link, clock, talk) {
+        if let Err(end) = turn(rt, alloc, board, areas, passes, link, clock, log, talk) {
             return end;
         }
     }
@@ -276,11 +312,16 @@ pub fn serve_session<R: Wait, D: Disk, L: Link, C: Clock>(
     requires ours { AreOf areas.now passes.old }
     ensures ours { AreOf areas.now passes.new }
     ensures clock { C.reading clock.new ≡ C.reading clock.old }
-    ensures served { Served (C.reading clock.old) board.now (L.wire link.old) passes.old result (L.wire link.new) passes.new }
+    ensures served { Served (C.reading clock.old) board.now (L.wire link.old) passes.old result
+        (L.wire link.new) passes.new }
 {
     conversations_are_one();
+    let mut log = Log::begin(link, clock.now());
     let Ok(mut talk) = Talk::start(alloc, board) else {
-        return SessionEnd::OutOfMemory;
+        return log.end(link, clock, SessionEnd::OutOfMemory);
     };
-    serve_talk(rt, alloc, board, areas, passes, link, clock, &mut talk)
+    let end = serve_talk(
+        rt, alloc, board, areas, passes, link, clock, &mut log, &mut talk,
+    );
+    log.end(link, clock, end)
 }

@@ -2,7 +2,7 @@
 use Rattle.std.proofs.Common.{◌≡◌, ℕ, ◌+◌, ◌<◌, Bool, true, false, List, [], ◌∷◌, length, Option, Some, None, refl, sym, ◌∙◌, subst, arith}
 use Rattle.std.specs.Prelude.{drop, position, option_map, is_some}
 use Rattle.jb_conf.specs.declared.board.Board.{Board}
-use Rattle.jb_model.specs.declared.look.Answer.TheVariants.{Summaries, Figures}
+use Rattle.jb_state.specs.declared.look.Answer.TheVariants.{Summaries, Figures}
 use Rattle.jb_model.specs.declared.reply.Reply.{Reply}
 use Rattle.jb_model.specs.declared.reply.Reply.TheVariants as reply
 use Rattle.jb_menu.specs.Awaits.{IsFor}

@@ -13,7 +13,7 @@ use Rattle.jb_talk.specs.Conversations.{Conversation, Course, answered, conversa
 use Rattle.jb_talk.specs.Laws.{IsFront}
 use Rattle.jb_talk.proofs.Talked.{answered_stays}
 
-front_refl : {T : Type 0} (xs : List T) → IsFront xs xs
+pub front_refl : {T : Type 0} (xs : List T) → IsFront xs xs
 front_refl xs = record { rest = []; is = sym (append-nil xs) }
 
 front_then : {T : Type 0} (xs ys zs : List T) → IsFront xs ys → IsFront ys zs → IsFront xs zs

@@ -1,4 +1,4 @@
 mod MoveLemmas
 mod Talked
-mod Growing
+pub mod Growing
 mod Asking

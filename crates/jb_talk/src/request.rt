@@ -1,6 +1,7 @@
 //! What a talk asks of an area.
 
-use jb_model::{Command, Question};
+use jb_model::Command;
+use jb_state::Question;
 
 /// What an area is asked.
 pub enum Act {

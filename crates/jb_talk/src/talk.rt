@@ -106,9 +106,11 @@ impl Talk {
         requires room { self.old.taken + length piece.now ≤ MOST_SESSION_BYTES }
 
         // What is handed out is what the conversation over the bytes heard says, with the answers so far.
-        ensures fits { IfOk result (λ heard. (bytes sent : List ℕ) (answers : List Given) (asked : List Request)
+        ensures fits { IfOk result (λ heard.
+            (bytes sent : List ℕ) (answers : List Given) (asked : List Request)
             → HasTalked board.now self.old bytes answers sent asked
-            → HasTalked board.now self.new (bytes ++ take heard.taken piece.now) answers sent (asked ++ option_to_list heard.request)) }
+            → HasTalked board.now self.new (bytes ++ take heard.taken piece.now) answers sent
+            (asked ++ option_to_list heard.request)) }
         ensures hands { IfOk result (λ heard. Hands board.now self.new heard.request) }
 
         // The whole piece is heard where nothing is asked, and always some of it.
@@ -155,9 +157,11 @@ impl Talk {
         requires waits { IsTrue (is_waiting self.old.place.standing) }
 
         // What is handed out is what the conversation over the bytes so far says, with this answer more.
-        ensures fits { IfOk result (λ request. (bytes sent : List ℕ) (answers : List Given) (asked : List Request)
+        ensures fits { IfOk result (λ request.
+            (bytes sent : List ℕ) (answers : List Given) (asked : List Request)
             → HasTalked board.now self.old bytes answers sent asked
-            → HasTalked board.now self.new bytes (answers ++ given.now ∷ []) sent (asked ++ option_to_list request)) }
+            → HasTalked board.now self.new bytes (answers ++ given.now ∷ []) sent
+            (asked ++ option_to_list request)) }
         ensures hands { IfOk result (λ request. Hands board.now self.new request) }
         ensures counted { OnOk result (self.new.taken ≡ self.old.taken) }
 
@@ -203,6 +207,16 @@ impl Talk {
         } else {
             0
         }
+    }
+
+    /// The name whose password is awaited, as it was typed.
+    pub fn name_tried(&self) -> Option<&[u8]> {
+        self.menu.name_tried()
+    }
+
+    /// Whether a user is logged in.
+    pub fn is_logged_in(&self) -> bool {
+        self.menu.user().is_some()
     }
 
     /// How the talk ends, where no more bytes and answers come.

@@ -85,8 +85,10 @@ impl Talk {
     ) -> Result<Option<Request>, OutOfMemory>
         requires board { IsInRange board.now }
         requires of { IsFor board.now self.old.place.menu }
-        ensures turn { IfOk result (λ request. self.new ≡ owing self.old (given_turn board.now self.old.place given.now)) }
-        ensures request { IfOk result (λ request. request ≡ (given_turn board.now self.old.place given.now).request) }
+        ensures turn { IfOk result (λ request.
+            self.new ≡ owing self.old (given_turn board.now self.old.place given.now)) }
+        ensures request { IfOk result (λ request.
+            request ≡ (given_turn board.now self.old.place given.now).request) }
         ensures hands { IfOk result (λ request. Hands board.now self.new request) }
     {
         let step = self.menu.step(alloc, board, given)?;
@@ -95,7 +97,9 @@ impl Talk {
 
     /// Answers an event, but for what it leads to as a key.
     fn reply(&mut self, event: Event) -> Result<(), OutOfMemory>
-        ensures { OnOk result (self.new ≡ owing self.old (says (record self.old.place { options = sides_after self.old.place.options event }) (option_answer self.old.place.options event ++ yes_of event))) }
+        ensures { OnOk result (self.new ≡ owing self.old
+            (says (record self.old.place { options = sides_after self.old.place.options event })
+            (option_answer self.old.place.options event ++ yes_of event))) }
     {
         let answer = self.options.step(event);
         self.owed.extend_from_slice(answer.as_slice())?;
@@ -105,7 +109,10 @@ impl Talk {
 
     /// Takes a key into the line, and echoes it while the board echoes. Gives the line that it ends.
     fn press(&mut self, key: Key) -> Result<Option<Line>, OutOfMemory>
-        ensures turn { OnOk result (self.new ≡ owing self.old (says (record self.old.place { typing = typing_after self.old.place.typing key }) (key_echo self.old.place key))) }
+        ensures turn { OnOk result (self.new
+            ≡ owing self.old
+            (says (record self.old.place { typing = typing_after self.old.place.typing key })
+            (key_echo self.old.place key))) }
         ensures line { IfOk result (λ line. line ≡ line_of self.old.place.typing key) }
     {
         let typed = self.editor.push(key);
@@ -125,8 +132,10 @@ impl Talk {
         requires board { IsInRange board.now }
         requires of { IsFor board.now self.old.place.menu }
         requires on { self.old.place.standing ≡ Standing.On }
-        ensures turn { IfOk result (λ request. self.new ≡ owing self.old (event_turn board.now self.old.place event)) }
-        ensures request { IfOk result (λ request. request ≡ (event_turn board.now self.old.place event).request) }
+        ensures turn { IfOk result (λ request.
+            self.new ≡ owing self.old (event_turn board.now self.old.place event)) }
+        ensures request { IfOk result (λ request.
+            request ≡ (event_turn board.now self.old.place event).request) }
         ensures hands { IfOk result (λ request. Hands board.now self.new request) }
     {
         self.reply(event)?;
@@ -150,9 +159,11 @@ impl Talk {
         requires of { IsFor board.now self.old.place.menu }
         requires idle { is_waiting self.old.place.standing ≡ false }
         requires room { self.old.taken < MOST_SESSION_BYTES }
-        ensures fits { IfOk result (λ request. (bytes sent : List ℕ) (answers : List Given) (asked : List Request)
+        ensures fits { IfOk result (λ request.
+            (bytes sent : List ℕ) (answers : List Given) (asked : List Request)
             → HasTalked board.now self.old bytes answers sent asked
-            → HasTalked board.now self.new (bytes ++ byte ∷ []) answers sent (asked ++ option_to_list request)) }
+            → HasTalked board.now self.new (bytes ++ byte ∷ []) answers sent
+            (asked ++ option_to_list request)) }
         ensures hands { IfOk result (λ request. Hands board.now self.new request) }
         ensures counted { IfOk result (λ request. self.new.taken ≡ self.old.taken + 1) }
     {

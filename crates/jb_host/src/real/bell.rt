@@ -1,6 +1,6 @@
 //! Trusted: the bell of a process.
 //!
-//! It lets its thread sleep between two rings. A contract knows how many rings are left and whether it is shut, and neither the areas
+//! It lets its thread sleep between two rings, and writes on the error output what an operator is told. A contract knows how many rings are left and whether it is shut, and neither the areas
 //! nor the time.
 ghost use Rattle.jb_host.specs.Real.{silent_rings};
 
@@ -12,7 +12,7 @@ use std::{thread, time};
 /// A bell that rings for one area after another, from 1 on and from the last to the first again, each time after so many minutes.
 /// Where a number of calls is given, it rings for each area once, at once, and is then shut. With 0 minutes or no areas it is shut.
 #[derive(Drop)]
-pub struct TimedBell<R: time::Clock + Drop> {
+pub struct TimedBell<R: Eprint + time::Clock + Drop> {
     rt: R,
     areas: u32,
     minutes: u32,
@@ -21,7 +21,7 @@ pub struct TimedBell<R: time::Clock + Drop> {
     is_shut: bool,
 }
 
-impl<R: time::Clock + Drop> TimedBell<R> {
+impl<R: Eprint + time::Clock + Drop> TimedBell<R> {
     /// A bell over so many areas.
     pub fn new(rt: R, areas: u32, minutes: u32, calls: Option<u32>) -> TimedBell<R> {
         TimedBell {
@@ -35,7 +35,7 @@ impl<R: time::Clock + Drop> TimedBell<R> {
     }
 }
 
-impl<R: time::Clock + Drop> Bell for TimedBell<R> {
+impl<R: Eprint + time::Clock + Drop> Bell for TimedBell<R> {
     ghost rings = { λ bell. silent_rings bell.is_shut bell.left };
 
     fn next(&mut self) -> Ring {
@@ -49,5 +49,9 @@ impl<R: time::Clock + Drop> Bell for TimedBell<R> {
         }
         self.last = area_behind(self.last, self.areas);
         Ring::Pack(self.last)
+    }
+
+    fn note(&mut self, line: &str) {
+        let _ = self.rt.eprintln(line);
     }
 }

@@ -20,21 +20,23 @@ const PAUSE_MILLISECONDS: u64 = 100;
 /// Where callers come in over TCP. It is shut after its number of calls, where it was given one. A caller for whom the system has no
 /// file or no memory left is asked for again every tenth of a second; the door fails once that has gone on for ten minutes.
 #[derive(Drop)]
-pub struct TcpDoor<R: time::Clock + Drop> {
+pub struct TcpDoor<R: Eprint + time::Clock + Copy + Drop> {
     rt: R,
+    node: u32,
     listener: TcpListener,
     left: Option<u32>,
     faults: u64,
     is_shut: bool,
 }
 
-impl<R: time::Clock + Drop> TcpDoor<R> {
-    /// A door at this port, for so many calls, or as many as come.
-    pub fn new(rt: R, listener: TcpListener, calls: Option<u32>) -> TcpDoor<R>
+impl<R: Eprint + time::Clock + Copy + Drop> TcpDoor<R> {
+    /// A door of this node at this port, for so many calls, or as many as come.
+    pub fn new(rt: R, node: u32, listener: TcpListener, calls: Option<u32>) -> TcpDoor<R>
         ensures { silent_gate result.faults result.is_shut result.left ≡ silent_gate 0 false calls }
     {
         TcpDoor {
             rt,
+            node,
             listener,
             left: calls,
             faults: 0,
@@ -44,11 +46,15 @@ impl<R: time::Clock + Drop> TcpDoor<R> {
 }
 
 /// The next caller, where one comes without a fault of the system; one that has gone before it was let in is passed over.
-fn caller_at(listener: &TcpListener) -> Option<TcpLink> {
+fn caller_at<R: Eprint + Copy + Drop>(
+    rt: R,
+    node: u32,
+    listener: &TcpListener,
+) -> Option<TcpLink<R>> {
     for _ in 0..TRIES {
         match listener.accept() {
-            Ok((stream, _)) => {
-                if let Ok(link) = TcpLink::new(stream) {
+            Ok((stream, peer)) => {
+                if let Ok(link) = TcpLink::new(rt, node, stream, peer) {
                     return Some(link);
                 }
             }
@@ -66,22 +72,26 @@ fn caller_at(listener: &TcpListener) -> Option<TcpLink> {
 }
 
 /// The next caller, waited for until one comes or the door has no patience left.
-fn next_caller<R: time::Clock>(rt: &R, listener: &TcpListener) -> Option<TcpLink> {
+fn next_caller<R: Eprint + time::Clock + Copy + Drop>(
+    rt: R,
+    node: u32,
+    listener: &TcpListener,
+) -> Option<TcpLink<R>> {
     for _ in 0..PAUSES {
-        if let Some(link) = caller_at(listener) {
+        if let Some(link) = caller_at(rt, node, listener) {
             return Some(link);
         }
-        thread::sleep(rt, Duration::from_millis(PAUSE_MILLISECONDS));
+        thread::sleep(&rt, Duration::from_millis(PAUSE_MILLISECONDS));
     }
     None
 }
 
-impl<R: time::Clock + Drop> Door for TcpDoor<R> {
-    type Link = TcpLink;
+impl<R: Eprint + time::Clock + Copy + Drop> Door for TcpDoor<R> {
+    type Link = TcpLink<R>;
 
     ghost gate = { λ door. silent_gate door.faults door.is_shut door.left };
 
-    fn accept(&mut self) -> Result<Accepted<TcpLink>, DoorFailed> {
+    fn accept(&mut self) -> Result<Accepted<TcpLink<R>>, DoorFailed> {
         let left = match self.left {
             Some(0) => {
                 self.is_shut = true;
@@ -90,7 +100,7 @@ impl<R: time::Clock + Drop> Door for TcpDoor<R> {
             Some(left) => Some(left - 1),
             None => None,
         };
-        if let Some(link) = next_caller(&self.rt, &self.listener) {
+        if let Some(link) = next_caller(self.rt, self.node, &self.listener) {
             self.left = left;
             return Ok(Accepted::Call(link));
         }
@@ -98,7 +108,7 @@ impl<R: time::Clock + Drop> Door for TcpDoor<R> {
         Err(DoorFailed)
     }
 
-    fn hang_up(&mut self, link: TcpLink) {
+    fn hang_up(&mut self, link: TcpLink<R>) {
         link.close();
     }
 

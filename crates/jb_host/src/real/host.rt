@@ -55,7 +55,9 @@ impl<
     /// The surroundings that this runtime reaches.
     pub fn new(rt: R, console: R, alloc: Global) -> RealHost<R>
         ensures console { IsSome result.console }
-        ensures fresh { silent_desk result.faults (option_map (λ link. silent_wire link.faults link.ends link.unsent) result.console) ≡ silent_desk 0 (Some (silent_wire 0 0 0)) }
+        ensures fresh { silent_desk result.faults (option_map (λ link.
+            silent_wire link.faults link.ends link.unsent) result.console)
+            ≡ silent_desk 0 (Some (silent_wire 0 0 0)) }
     {
         RealHost {
             rt,
@@ -136,9 +138,9 @@ impl<
         self.console = Some(link);
     }
 
-    fn door(&mut self, _node: u32, port: u16, calls: Option<u32>) -> Result<TcpDoor<R>, HostError> {
+    fn door(&mut self, node: u32, port: u16, calls: Option<u32>) -> Result<TcpDoor<R>, HostError> {
         match listener_at(&self.rt, &mut self.ports, port) {
-            Ok(listener) => Ok(TcpDoor::new(self.rt, listener, calls)),
+            Ok(listener) => Ok(TcpDoor::new(self.rt, node, listener, calls)),
             Err(error) => {
                 let refusal = counted(&mut self.faults, &error);
                 if refusal == HostError::Failed {

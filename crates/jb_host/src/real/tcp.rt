@@ -1,7 +1,7 @@
 //! Trusted: the connection of a caller over TCP.
 //!
 //! It reads and writes a socket, sets what it does at once and how long it waits, and closes it. A contract knows its counts, and no
-//! byte: not what came, not that what is called sent was.
+//! byte: not what came, not that what is called sent was, and no line that the operator is told.
 ghost use Rattle.std.specs.Prelude.{◌≡◌, ◌≤◌, ℕ, IfOk, length};
 ghost use Rattle.jb_host.specs.Real.{silent_wire};
 
@@ -11,7 +11,7 @@ use crate::real::synch::read_behind_iac;
 use crate::telnet::ends_in_iac;
 use std::io;
 use std::io::{ErrorKind, Read, Write};
-use std::net::{Shutdown, TcpStream};
+use std::net::{Shutdown, SocketAddr, TcpStream};
 use std::os::fd::AsRawFd;
 use std::time::Duration;
 
@@ -28,7 +28,10 @@ pub(crate) const TRIES: u32 = 16;
 
 /// The connection of a caller. What is sent goes out at once. A read that has waited for half an hour, or a write for a minute, fails.
 #[derive(Drop)]
-pub struct TcpLink {
+pub struct TcpLink<R: Eprint + Drop> {
+    rt: R,
+    node: u32,
+    peer: SocketAddr,
     stream: TcpStream,
     // What was given ends in an IAC of Telnet that is not half of a doubled one; the mark of a Synch may come.
     is_behind_iac: bool,
@@ -37,9 +40,9 @@ pub struct TcpLink {
     unsent: u64,
 }
 
-impl TcpLink {
-    /// A link over this connection, unless the connection refuses what a link needs.
-    pub fn new(stream: TcpStream) -> io::Result<TcpLink>
+impl<R: Eprint + Drop> TcpLink<R> {
+    /// A link of this node over the connection of this caller, unless the connection refuses what a link needs.
+    pub fn new(rt: R, node: u32, stream: TcpStream, peer: SocketAddr) -> io::Result<TcpLink<R>>
         ensures { IfOk result (λ link. silent_wire link.faults link.ends link.unsent ≡ silent_wire 0 0 0) }
     {
         // As for a port, the numbers of the standard streams are left alone.
@@ -52,6 +55,9 @@ impl TcpLink {
         stream.set_read_timeout(Some(Duration::from_secs(MOST_SILENT_SECONDS)))?;
         stream.set_write_timeout(Some(Duration::from_secs(MOST_STUCK_SECONDS)))?;
         Ok(TcpLink {
+            rt,
+            node,
+            peer: SocketAddr::new(peer.ip().to_canonical(), peer.port()),
             stream,
             is_behind_iac: false,
             faults: 0,
@@ -101,7 +107,7 @@ fn write_some(stream: &mut TcpStream, bytes: &[u8]) -> io::Result<usize>
     Err(io::Error::from(ErrorKind::Interrupted))
 }
 
-impl Link for TcpLink {
+impl<R: Eprint + Drop> Link for TcpLink<R> {
     ghost wire = { λ link. silent_wire link.faults link.ends link.unsent };
 
     fn read(&mut self, into: &mut [u8]) -> Result<usize, LinkFailed> {
@@ -119,5 +125,10 @@ impl Link for TcpLink {
     fn write(&mut self, bytes: &[u8]) -> Result<usize, LinkFailed> {
         let answer = write_some(&mut self.stream, bytes);
         write_of(answer, bytes.len(), &mut self.faults, &mut self.unsent)
+    }
+
+    fn note(&mut self, line: &str) {
+        let (node, peer) = (self.node, self.peer);
+        let _ = eprintln!(self.rt; "node {node}: {peer} {line}");
     }
 }

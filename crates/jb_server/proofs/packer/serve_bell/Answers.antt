@@ -1,5 +1,6 @@
 use Rattle.std.proofs.Common.{◌≡◌, ℕ, Option, sym, ◌∙◌, ap, refl, subst}
 use Rattle.jb_base.specs.declared.user.User.{User}
+use Rattle.jb_host.specs.Rings.{Rings}
 use Rattle.jb_server.specs.Rounds.{AnswersRing, packs_with}
 use Rattle.jb_server.proofs.RingRuns.{IsPacking, packing_more, packing_none}
 use Rattle.jb_server.proofs.packer.serve_bell.Goals as goal
@@ -20,7 +21,7 @@ loop-ring-preserved g c =
     let to = c.pack-came.new.self.passes.items in
     let R : Option ℕ → Type 0 = λ w. AnswersRing w c.loop-ring.slot.user c.in-Pack.number came from to in
     let U : User → Type 0 = λ w. AnswersRing reading w c.in-Pack.number came from to in
-    let B : g.row.B.Denot → Type 0 = λ w. IsPacking reading user (rings c.args.slot.now.bell) c.args.slot.now.passes.items c.args.slot.now.packs (rings w) to c.count_pack-slot.result in
+    let B : Rings → Type 0 = λ w. IsPacking reading user (rings c.args.slot.now.bell) c.args.slot.now.passes.items c.args.slot.now.packs w to c.count_pack-slot.result in
     let N : ℕ → Type 0 = λ w. IsPacking reading user (rings c.args.slot.now.bell) c.args.slot.now.passes.items c.args.slot.now.packs (rings c.next-in-loop-ring.new.self) to w in
     let counted : c.count_pack-slot.result ≡ packs_with c.loop-ring.slot.packs came = c.count_pack-slot.ensures ∙ ap (λ (w : ℕ). packs_with w came) pack.packs in
     let on = packing_more reading user (rings c.args.slot.now.bell) (rings c.loop-ring.slot.bell) (rings c.next-in-loop-ring.new.self) c.args.slot.now.passes.items from to

@@ -13,10 +13,10 @@ returns-in_err-respond_all-clause-err g c =
     let n = c.in_ok-heard.heard.taken in
     on_err c.from_residual-in_err-respond_all.result _ (λ old now from s.
     c.in_err-respond_all.ensures.err old now from (drop n c.args.piece.now)
-    (hear_on (g.C.Clock.reading c.args.clock.now) c.args.board.now old now from c.args.passes.now n c.args.piece.now c.args.talk.now c.hear.new.self c.in_ok-heard.heard.request s c.in_ok-heard.ensures.fits))
+    (hear_on (g.C.Clock.reading c.args.clock.now) c.args.board.now old now from c.args.passes.now n c.args.piece.now c.first_line.result.now c.args.talk.now c.hear.new.self c.in_ok-heard.heard.request s c.first_line.ensures.front c.in_ok-heard.ensures.within c.in_ok-heard.ensures.fits))
 
 pub returns-clause-ok : goal.returns-clause-ok
 returns-clause-ok g c = λ old now from s.
     let n = c.in_ok-heard.heard.taken in
     c.in_ok-respond_all.ensures.ok old now from (drop n c.args.piece.now)
-    (hear_on (g.C.Clock.reading c.args.clock.now) c.args.board.now old now from c.args.passes.now n c.args.piece.now c.args.talk.now c.hear.new.self c.in_ok-heard.heard.request s c.in_ok-heard.ensures.fits)
+    (hear_on (g.C.Clock.reading c.args.clock.now) c.args.board.now old now from c.args.passes.now n c.args.piece.now c.first_line.result.now c.args.talk.now c.hear.new.self c.in_ok-heard.heard.request s c.first_line.ensures.front c.in_ok-heard.ensures.within c.in_ok-heard.ensures.fits)

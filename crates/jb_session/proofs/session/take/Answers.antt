@@ -1,4 +1,5 @@
-use Rattle.std.proofs.Common.{ℕ, List, Option, None, drop, take, length, ◌-◌, subst, ◌∙◌, arith, length-take, length-drop}
+use Rattle.std.proofs.Common.{ℕ, List, Option, None, drop, take, length, ◌-◌, ◌+◌, subst, sym, ◌∙◌, arith, length-take, length-drop}
+use Rattle.jb_host.specs.Wire.{Wire}
 use Rattle.jb_session.specs.Served.{Served, Stands}
 use Rattle.jb_session.specs.declared.end.SessionEnd.TheVariants.{OutOfMemory}
 use Rattle.jb_session.proofs.Standing.{drop_all, left_on, rest_on}
@@ -35,10 +36,11 @@ loop-at-preserved g c =
           let now = g.L.Link.wire c.relieve.new.link in
           let P : Option ℕ → Type 0 = λ w. Stands w c.args.board.now old from now (take (length c.args.piece.now - c.loop-at.at) rest) c.relieve.new.talk None c.loop-at.passes
           → Stands w c.args.board.now old from now (drop n (take (length c.args.piece.now - c.loop-at.at) rest)) c.hear.new.talk None c.hear.new.passes in
-          left_on reading c.args.board.now old now from c.hear.new.passes c.loop-at.at n c.args.piece.now c.hear.new.talk
+          let W : Wire → Type 0 = λ w. Stands reading c.args.board.now old from w (drop (c.loop-at.at + n) c.args.piece.now) c.hear.new.talk None c.hear.new.passes in
+          subst W (sym c.tell.ensures) (left_on reading c.args.board.now old now from c.hear.new.passes c.loop-at.at n c.args.piece.now c.hear.new.talk
           (subst P same (c.in-Ok-hear.ensures.ok old now from)
           (rest_on reading c.args.board.now old now from c.loop-at.passes c.loop-at.at c.args.piece.now c.relieve.new.talk
-          (c.in-Ok.ensures.ok reading c.args.board.now old from c.loop-at.passes rest (c.loop-at.invariant.5 old from s)))),
+          (c.in-Ok.ensures.ok reading c.args.board.now old from c.loop-at.passes rest (c.loop-at.invariant.5 old from s))))),
     )
 
 pub returns-clause-ok : goal.returns-clause-ok

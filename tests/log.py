@@ -1,0 +1,137 @@
+#!/usr/bin/env python3
+"""Tries what `board serve CONF` of the built program tells the operator of its callers and packs, and the filter for fail2ban in examples/.
+
+usage: log.py PROGRAM
+
+The lines are written out here, with the port that a caller has.
+"""
+import re
+import time
+
+from caller import GUARD, PLAIN
+from harness import AREAS, IN_DOUBT, LOGGED, NAMES, SYSOP, TOP, Served, goes_through, has_version_6, password_of, resets, settings, users, with_limit
+
+# what is typed as a name, and how it is shown
+TYPED = ((b"Nobody", b"Nobody"), (b"J\xc3\xb6rg \xff", b"J??rg ?"), (b"a\x07b\x1b[2Jc", b"ab[2Jc"), (b"x" * 60, b"x" * 36), (b"", b""),
+         (b"node 7: 9.9.9.9:9 refused a log-in as x", b"node 7: 9.9.9.9:9 refused a log-in a"))
+
+
+def begins(trial, *words, **run):
+    trial.has_bases()
+    trial.begins(*words, **run)
+
+
+def waits(is_so):
+    """Whether this becomes so in time."""
+    end = time.monotonic() + GUARD
+    while not is_so() and time.monotonic() < end:
+        time.sleep(0.01)
+    return is_so()
+
+
+def at(caller, host=b"127.0.0.1"):
+    """How the lines of this caller begin behind the node."""
+    return b"%s:%d " % (host, caller.line.getsockname()[1])
+
+
+def lines_of(trial, side):
+    """What is told of who is at this side, whose line has been shut; a time as S."""
+    waits(lambda: any(side + b"ended after " in line for line in trial.told))
+    return [re.sub(rb"ended after \d+ s", b"ended after S s", line[:-1].split(side, 1)[1]) for line in trial.told if LOGGED.match(line) and side in line]
+
+
+def try_ends(trial):
+    """Callers who log in and leave, hang up, and are cut off."""
+    begins(trial)
+    for host, shown in (("127.0.0.1", b"127.0.0.1"), *([("::1", b"[::1]")] if has_version_6() else [])):
+        caller = trial.caller("Ada", PLAIN, host)
+        side = at(caller, shown)
+        caller.logs_in(b"Ada", password_of(b"Ada"))
+        caller.quits()
+        trial.is_so("who leaves", lines_of(trial, side), [b"connected", b"logged in as Ada", b"ended after S s: left, Ada"])
+    caller = trial.user(1)
+    side = at(caller)
+    caller.line.close()
+    trial.is_so("who hangs up", lines_of(trial, side), [b"connected", b"logged in as Barbara", b"ended after S s: hung up, Barbara"])
+    caller = trial.caller("who is cut off")
+    side = at(caller)
+    caller.types(b"Ad")
+    resets(caller.line)
+    trial.holds("who is cut off", lines_of(trial, side) in ([b"connected", b"ended after S s: " + end] for end in (b"hung up", b"the line broke")))
+    trial.is_ended("callers who end")
+
+
+def try_refusals(trial):
+    """Names of all kinds, three at a time, in one piece and key by key; and one who logs in at the third try."""
+    begins(trial)
+    for is_slow in (False, True):
+        for names in (TYPED[:3], TYPED[3:]):
+            caller = trial.caller("who guesses")
+            side = at(caller)
+            typed = b"".join(b"%s\rsecret\r\n" % name for name, _ in names)
+            for key in ([typed[n:n + 1] for n in range(len(typed))] if is_slow else [typed]):
+                caller.types(key)
+            caller.reads_to(b"Goodbye.\r\n")
+            caller.line.close()
+            trial.is_so("who guesses", lines_of(trial, side),
+                        [b"connected", *(b"refused a log-in as " + shown for _, shown in names), b"ended after S s: three log-ins refused"])
+    caller = trial.caller("who tries again")
+    side = at(caller)
+    caller.types(b"Ada\nx\nAda\ny\nAda\n%s\nq\n" % password_of(b"Ada"))
+    caller.reads_to(b"Goodbye.\r\n")
+    caller.line.close()
+    trial.is_so("who tries again", lines_of(trial, side), [b"connected", *[b"refused a log-in as Ada"] * 2, b"logged in as Ada", b"ended after S s: left, Ada"])
+    told = b"".join(trial.told)
+    trial.holds("a password in it", b"secret" not in told and password_of(b"Ada") not in told)
+    trial.holds("a byte in it that is not printed", re.fullmatch(rb"[ -~\n]*", told))
+    try_filter(trial)
+    trial.is_ended("callers who guess")
+
+
+def try_filter(trial):
+    """The expression of the filter finds each refusal with its address, and no other line."""
+    with open(f"{TOP}/examples/fail2ban_filter.conf", encoding="ascii") as file:
+        wanted = re.search(r"(?m)^failregex = (.*)$", file.read())[1].replace("%(__prefix_line)s", "").replace("<ADDR>", r"(?P<address>[0-9a-f:.]+?)")
+    for line in b"".join(trial.told).decode().splitlines():
+        found = re.search(wanted, line)
+        trial.is_so(f"the filter, {line}", found and found["address"], "127.0.0.1" if re.match(r"\S+ \d+: \S+ refused ", line) else None)
+
+
+def try_packs(trial):
+    """Packs by the bell and by a sysop."""
+    begins(trial, "--calls", "1")
+    last = b"bell: area %d: packed, live 0 dropped 0\n" % len(AREAS)
+    trial.holds("the last pack by the bell", waits(lambda: last in trial.told))
+    caller = trial.guest(SYSOP)
+    side = at(caller)
+    number = caller.posts(b"All", b"of a secret", [b"a secret text"])
+    caller.answers(b"k %d" % number, b"Killed %d.\r\n" % number, b"[general] ")
+    caller.enters(b"x", b"[general] ")
+    caller.quits()
+    name = NAMES[SYSOP]
+    trial.is_so("a pack by a sysop", lines_of(trial, side),
+                [b"connected", b"logged in as " + name, b"area 1: packed, live 0 dropped 1", b"ended after S s: left, " + name])
+    for _ in range(len(NAMES) - 1):
+        trial.caller("who leaves").line.close()
+    trial.ends("packs", 0)
+    trial.is_so("packs by the bell", [line for line in trial.told if line.startswith(b"bell: ")],
+                [b"bell: area %d: %s\n" % (k + 1, what) for k in range(len(AREAS)) for what in (b"pack begins", b"packed, live 0 dropped 0")])
+    trial.holds("a text in it", b"secret" not in b"".join(trial.told))
+
+
+def try_doubt(trial):
+    """A disk that fails."""
+    trial.has_bases()
+    trial.has_settings(settings(AREAS, users(), port=trial.port, nodes=2, pack_minutes=0))
+    trial.begins(nodes=2, preexec_fn=with_limit(40))
+    caller = trial.guest(0, "letters")
+    side = at(caller)
+    trial.is_so("a post into it", caller.writes(b"All", b"it fails", [b"a line"], prompt=b"[letters] "), IN_DOUBT)
+    caller.quits()
+    trial.is_so("a disk that fails", lines_of(trial, side),
+                [b"connected", b"logged in as Ada", b"area 2: the device failed, in doubt", b"ended after S s: left, Ada"])
+    trial.is_ended("a disk that fails")
+
+
+if __name__ == "__main__":
+    goes_through(Served, "lines of the log", (try_ends, try_refusals, try_packs, try_doubt), in_memory=False)
