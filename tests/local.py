@@ -35,7 +35,7 @@ class Sessions(Runs):
         self.is_so(f"{what}: the status", ended, status)
         # a refusal is told in words too
         is_refused = text is not None and text.startswith(b"fault ")
-        self.holds(f"{what}: the error output: {told}", is_told(told) if is_refused else not told)
+        self.holds(f"{what}: the error output: {told}", is_told(told, text) if is_refused else not told)
 
 
 def try_transcripts(trial):

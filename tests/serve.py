@@ -305,7 +305,9 @@ def try_example(trial):
         text = file.read()
     trial.holds("the port and the nodes that are shown", "\nport = 2323\n" in text and "\nnodes = 4\n" in text)
     trial.has_settings(text.replace("port = 2323", f"port = {trial.port}"))
+    warned = b"".join(b"user.%d.digest is one of the example\n" % n for n in (1, 2, 3))
     trial.begins(areas=("general",), nodes=4)
+    trial.opening += warned
     caller = trial.caller("Ada", PLAIN)
     caller.logs_in(b"Ada", b"good morning", b"A Small Board")
     caller.enters(b"1", b"[general] ")
@@ -314,6 +316,7 @@ def try_example(trial):
     trial.is_ended("the settings that are shown")
     trial.is_so("what is then listed", trial.ended("list", "areas", "general"), (b"       1  Ada > Sysop  A question\n", 0))
     trial.begins("--calls", "1", areas=("general",), nodes=4)
+    trial.opening += warned
     together(lambda: trial.caller("who leaves").line.close() for _ in range(4))
     trial.ends("the same, of which one message is live", 0)
 

@@ -66,7 +66,8 @@ fn tool_named(verb: &str) -> Option<Tool>
 
 /// The command line of a tool, a folder and a name.
 fn tool_line<'a>(verb: &str, dir: &'a str, name: &'a str) -> Option<CommandLine<'a>>
-    ensures found { IfSome result (λ line. tool_line (tool_named verb.now) dir.now name.now ≡ Some (words_of line)) }
+    ensures found { IfSome result (λ line.
+        tool_line (tool_named verb.now) dir.now name.now ≡ Some (words_of line)) }
     ensures none { IfNone result (tool_line (tool_named verb.now) dir.now name.now ≡ None) }
     ensures few { IfSome result (λ line. HasFewSteps (words_of line)) }
 {
@@ -79,8 +80,10 @@ fn tool_line<'a>(verb: &str, dir: &'a str, name: &'a str) -> Option<CommandLine<
 
 /// The command line of a workload.
 fn load_line<'a>(seed: &str, count: &str) -> Option<CommandLine<'a>>
-    ensures found { IfSome result (λ line. load_line (number_up_to MOST_SEED seed.now) (number_up_to MOST_STEPS count.now) ≡ Some (words_of line)) }
-    ensures none { IfNone result (load_line (number_up_to MOST_SEED seed.now) (number_up_to MOST_STEPS count.now) ≡ None) }
+    ensures found { IfSome result (λ line. load_line (number_up_to MOST_SEED seed.now)
+        (number_up_to MOST_STEPS count.now) ≡ Some (words_of line)) }
+    ensures none { IfNone result (load_line (number_up_to MOST_SEED seed.now)
+        (number_up_to MOST_STEPS count.now) ≡ None) }
     ensures few { IfSome result (λ line. HasFewSteps (words_of line)) }
 {
     let seed = number_up_to(MOST_SEED, seed.as_bytes())?;
@@ -114,7 +117,8 @@ fn serve_line<'a>(path: &'a str, calls: Option<u32>) -> Option<CommandLine<'a>>
 
 /// The command line of such a run in which each node takes a number of calls.
 fn counted_line<'a>(path: &'a str, calls: &str) -> Option<CommandLine<'a>>
-    ensures found { IfSome result (λ line. counted_line path.now (number_up_to MOST_CALLS calls.now) ≡ Some (words_of line)) }
+    ensures found { IfSome result (λ line.
+        counted_line path.now (number_up_to MOST_CALLS calls.now) ≡ Some (words_of line)) }
     ensures none { IfNone result (counted_line path.now (number_up_to MOST_CALLS calls.now) ≡ None) }
     ensures few { IfSome result (λ line. HasFewSteps (words_of line)) }
 {
@@ -127,7 +131,8 @@ fn counted_line<'a>(path: &'a str, calls: &str) -> Option<CommandLine<'a>>
 
 /// The command line of a word and a path.
 fn path_line<'a>(verb: &str, path: &'a str) -> Option<CommandLine<'a>>
-    ensures found { IfSome result (λ line. command_line_of (verb.now ∷ path.now ∷ []) ≡ Some (words_of line)) }
+    ensures found { IfSome result (λ line.
+        command_line_of (verb.now ∷ path.now ∷ []) ≡ Some (words_of line)) }
     ensures none { IfNone result (command_line_of (verb.now ∷ path.now ∷ []) ≡ None) }
     ensures few { IfSome result (λ line. HasFewSteps (words_of line)) }
 {
@@ -142,7 +147,8 @@ fn path_line<'a>(verb: &str, path: &'a str) -> Option<CommandLine<'a>>
 
 /// The command line of three words.
 fn three_line<'a>(verb: &str, first: &'a str, second: &'a str) -> Option<CommandLine<'a>>
-    ensures found { IfSome result (λ line. command_line_of (verb.now ∷ first.now ∷ second.now ∷ []) ≡ Some (words_of line)) }
+    ensures found { IfSome result (λ line.
+        command_line_of (verb.now ∷ first.now ∷ second.now ∷ []) ≡ Some (words_of line)) }
     ensures none { IfNone result (command_line_of (verb.now ∷ first.now ∷ second.now ∷ []) ≡ None) }
     ensures few { IfSome result (λ line. HasFewSteps (words_of line)) }
 {
@@ -154,8 +160,10 @@ fn three_line<'a>(verb: &str, first: &'a str, second: &'a str) -> Option<Command
 
 /// The command line of four words.
 fn four_line<'a>(verb: &str, path: &'a str, option: &str, calls: &str) -> Option<CommandLine<'a>>
-    ensures found { IfSome result (λ line. command_line_of (verb.now ∷ path.now ∷ option.now ∷ calls.now ∷ []) ≡ Some (words_of line)) }
-    ensures none { IfNone result (command_line_of (verb.now ∷ path.now ∷ option.now ∷ calls.now ∷ []) ≡ None) }
+    ensures found { IfSome result (λ line. command_line_of
+        (verb.now ∷ path.now ∷ option.now ∷ calls.now ∷ []) ≡ Some (words_of line)) }
+    ensures none { IfNone result (command_line_of
+        (verb.now ∷ path.now ∷ option.now ∷ calls.now ∷ []) ≡ None) }
     ensures few { IfSome result (λ line. HasFewSteps (words_of line)) }
 {
     if verb == "serve" && option == "--calls" {
@@ -166,7 +174,8 @@ fn four_line<'a>(verb: &str, path: &'a str, option: &str, calls: &str) -> Option
 
 /// The command line that these words are, if they are one.
 pub fn command<'a>(words: &'a [String]) -> Option<CommandLine<'a>>
-    ensures found { IfSome result (λ line. command_line_of (map string_bytes words.now) ≡ Some (words_of line)) }
+    ensures found { IfSome result (λ line.
+        command_line_of (map string_bytes words.now) ≡ Some (words_of line)) }
     ensures none { IfNone result (command_line_of (map string_bytes words.now) ≡ None) }
     ensures few { IfSome result (λ line. HasFewSteps (words_of line)) }
 {

@@ -34,15 +34,6 @@ fn of_fault(fault: Fault) -> &'static str {
     }
 }
 
-/// The line of a refusal of a run with the settings at this path.
-fn of_settings(alloc: Global, path: &str, fault: Fault, told: &str) -> Result<String, OutOfMemory> {
-    let line = match fault {
-        Fault::Settings(error) => format!(in alloc; "board: {path}: {error}")?,
-        _ => format!(in alloc; "board: {path}: {told}")?,
-    };
-    Ok(line)
-}
-
 /// The line for the operator: of which base or settings file the refusal is, and what it means.
 fn explanation(alloc: Global, words: &[String], fault: Fault) -> Result<String, OutOfMemory> {
     let told = of_fault(fault);
@@ -52,7 +43,8 @@ fn explanation(alloc: Global, words: &[String], fault: Fault) -> Result<String, 
             Ok(line)
         }
         Some(CommandLine::Local { path } | CommandLine::Serve { path, .. }) => {
-            of_settings(alloc, path, fault, told)
+            let line = format!(in alloc; "board: {path}: {told}")?;
+            Ok(line)
         }
         _ => {
             let line = format!(in alloc; "board: {told}")?;
@@ -61,13 +53,13 @@ fn explanation(alloc: Global, words: &[String], fault: Fault) -> Result<String, 
     }
 }
 
-/// Tells the operator what a refusal means, and of what it is; without memory for that, the meaning alone. Of an area that was told
-/// when it was refused, by its folder and its base, which are not known any more; and a host tells why it refuses a base, a settings
-/// file or a port, which nobody else knows.
+/// Tells the operator what a refusal means, and of what it is; without memory for that, the meaning alone. Settings and an
+/// area were told when they were refused, since what they hold is not known any more; and a host tells why it refuses a base, a
+/// settings file or a port, which nobody else knows.
 pub(crate) fn explain<H: Host>(alloc: Global, host: &mut H, words: &[String], fault: Fault)
     ensures { H.desk host.new ≡ H.desk host.old }
 {
-    if let Fault::Area { .. } | Fault::HostFault = fault {
+    if let Fault::Settings(_) | Fault::Area { .. } | Fault::HostFault = fault {
         return;
     }
     match explanation(alloc, words, fault) {

@@ -121,7 +121,8 @@ where
     H::Bell: Send,
     H::Clock: Send,
     requires { IsSome (H.desk host.old).console }
-    ensures found { AnswersWords (command_line_of (map string_bytes words.now)) moment (H.desk host.old) (H.desk host.new) result }
+    ensures found { AnswersWords (command_line_of (map string_bytes words.now)) moment
+        (H.desk host.old) (H.desk host.new) result }
     ensures console { IsSome (H.desk host.new).console }
 {
     match command(words) {

@@ -7,4 +7,5 @@ pub mod Ranges
 pub mod Rows
 pub mod Settings
 pub mod Tables
+pub mod Unknown
 pub mod Users

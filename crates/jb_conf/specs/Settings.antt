@@ -4,6 +4,7 @@ use Rattle.toml.specs.Data.{Members}
 use Rattle.toml.specs.Parse.{parse_document}
 use Rattle.jb_limits.specs.declared.limits.TheConstants.{MOST_AREAS, MOST_NODES, MOST_USERS}
 use Rattle.jb_conf.specs.Areas.{areas_fault, areas_of}
+use Rattle.jb_conf.specs.Unknown.{unknown_of}
 use Rattle.jb_conf.specs.Users.{users_fault, users_of}
 use Rattle.jb_conf.specs.Faults.{first_fault, tables_at, text_at, whole_at}
 use Rattle.jb_conf.specs.Rows.{address_fault, number_at, number_fault, printable_fault, tables_fault, whole_fault}
@@ -24,6 +25,7 @@ board_of entries = record {
   pack_minutes = number_at (OfBoard PackMinutes) (Some 60) entries;
   areas = areas_of (text_at (OfBoard Address) [] entries) [] (tables_at (OfBoard Areas) entries);
   users = users_of [] (tables_at (OfBoard Users) entries);
+  unknown = unknown_of entries;
 }
 
 -- the tests of a document in their order: the fields of the board, then those of each area, then those of each user

@@ -1,6 +1,6 @@
 //! What a settings file says of a board.
 
-use crate::{BoardAreas, BoardUsers, Text};
+use crate::{BoardAreas, BoardUsers, Text, Texts};
 use jb_base::{AreaRules, Bytes, Name, User};
 
 /// A board, as its settings file says it.
@@ -21,6 +21,8 @@ pub struct Board {
     pub areas: BoardAreas,
     /// Those who may log in: 1 to 1,024.
     pub users: BoardUsers,
+    /// The names of the keys that stand in the file and are no field's, as `area.3.raed`.
+    pub unknown: Texts,
 }
 
 // Whoever lets go of one does so in one call.
@@ -35,6 +37,7 @@ impl Drop for Board {
             pack_minutes: _pack_minutes,
             areas: _areas,
             users: _users,
+            unknown: _unknown,
         } = self;
     }
 }

@@ -117,7 +117,7 @@ fn user_key(key: UserKey) -> &'static str
 }
 
 /// The name of a field of an area or of a user.
-fn owned_name(owner: &str, place: u32, key: &str) -> FieldName
+pub(crate) fn owned_name(owner: &str, place: u32, key: &str) -> FieldName
     requires owner { length owner.now ≤ 5 }
     requires key { length key.now ≤ 12 }
     ensures { result.bytes ≡ owned_name owner.now place key.now }

@@ -29,6 +29,15 @@ impl Text {
         Ok(Text { inner })
     }
 
+    /// A copy of one text with another behind it.
+    pub fn joined(alloc: Global, front: &str, back: &str) -> Result<Text, OutOfMemory>
+        ensures { IfOk result (λ text. text ≡ front.now ++ back.now) }
+    {
+        let mut inner = String::from_str(alloc, front)?;
+        inner.push_str(back)?;
+        Ok(Text { inner })
+    }
+
     /// The text.
     pub fn as_str(&self) -> &str
         ensures { result.now ≡ self.now }
@@ -117,6 +126,47 @@ impl BoardUsers {
         ensures err { OnErr result (self.new ≡ self.old) }
     {
         self.items.push(user)?;
+        Ok(())
+    }
+}
+
+/// Texts. Contracts see the list of them.
+#[derive(Drop)]
+pub struct Texts {
+    items: Vec<Text>,
+}
+
+impl Model for Texts {
+    ghost use Rattle.std.specs.Prelude.{List, ℕ};
+
+    ghost Value = { List (List ℕ) };
+
+    ghost view = { λ t. t.items.items };
+}
+
+impl Texts {
+    /// None yet. It takes no memory.
+    pub fn new(alloc: Global) -> Texts
+        ensures { result ≡ [] }
+    {
+        Texts {
+            items: Vec::new(alloc),
+        }
+    }
+
+    /// The texts, in order.
+    pub fn as_slice(&self) -> &[Text]
+        ensures { result.now ≡ self.now }
+    {
+        self.items.as_slice()
+    }
+
+    /// Puts one behind the others, or for want of memory leaves all as it was.
+    pub fn push(&mut self, text: Text) -> Result<(), OutOfMemory>
+        ensures ok { OnOk result (self.new ≡ self.old ++ text ∷ []) }
+        ensures err { OnErr result (self.new ≡ self.old) }
+    {
+        self.items.push(text)?;
         Ok(())
     }
 }

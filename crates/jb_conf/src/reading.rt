@@ -13,6 +13,7 @@ ghost use Rattle.jb_conf.specs.Users.{users_fault, users_of};
 use crate::area::area_of;
 use crate::rows::{address, minutes, number, printable};
 use crate::tables::{entries_of, tables};
+use crate::unknown::unknown_of;
 use crate::user::user_of;
 use crate::{Board, BoardAreas, BoardKey, BoardUsers, ConfError, Field};
 use jb_base::{
@@ -95,6 +96,7 @@ fn board_of(alloc: Global, table: &Table) -> Result<Board, ConfError>
     let user_tables = tables(table, Field::Board(BoardKey::Users), MOST_USERS as usize)?;
     let areas = areas_of(alloc, area_tables, address.as_bytes())?;
     let users = users_of(alloc, user_tables)?;
+    let unknown = unknown_of(alloc, table, area_tables, user_tables)?;
     Ok(Board {
         name: Name::copy(alloc, name.as_bytes())?,
         address: Bytes::copy(alloc, address.as_bytes())?,
@@ -104,6 +106,7 @@ fn board_of(alloc: Global, table: &Table) -> Result<Board, ConfError>
         pack_minutes,
         areas,
         users,
+        unknown,
     })
 }
 

@@ -193,7 +193,8 @@ pub fn minutes(table: &Table, field: Field) -> Result<i32, ConfError>
 /// The digest of the user at this place.
 pub fn digest(table: &Table, user: u32) -> Result<[u8; 32], ConfError>
     ensures { Answers (digest_fault user (table_view table.now))
-        (λ bytes. bytes ≡ digest_of (text_at (Field.User user UserKey.Digest) [] (table_view table.now))) result }
+        (λ bytes. bytes ≡ digest_of (text_at (Field.User user UserKey.Digest) []
+        (table_view table.now))) result }
 {
     let text = required_text(table, Field::User(user, UserKey::Digest))?;
     match <[u8; 32] as FromHex>::from_hex(text) {

@@ -4,12 +4,12 @@ use Rattle.std.specs.Option.{ForSome}
 use Rattle.jb_area.specs.Area.{device_of, rules_of}
 use Rattle.jb_area.specs.Calls.{HasRest}
 use Rattle.jb_area.specs.declared.area.OpenArea.{OpenArea}
-use Rattle.jb_area_open.specs.Opening.{IsOpenAt, KeepsOpening, OpeningFaultRose, OpensAs, OpensAsAtStart, OpensFirmly, Refuses, device_after}
+use Rattle.jb_area_open.specs.Opening.{IsOpenAt, KeepsOpening, OpensAs, OpensAsAtStart, OpensFirmly, Refuses, device_after, is_opening_fault}
 use Rattle.jb_area_open.specs.declared.error.OpeningError.{OpeningError}
 use Rattle.jb_area_open.specs.declared.error.OpeningError.TheVariants.{Base}
 use Rattle.jb_base.specs.declared.area.AreaRules.{AreaRules}
 use Rattle.jb_bytes.specs.Fault.{Rose}
-use Rattle.jb_disk.specs.Device.{Device, OnlyReads, TellsAlike}
+use Rattle.jb_disk.specs.Device.{Device, OnlyReads, TellsAlike, RoseIf}
 use Rattle.jb_disk.specs.Files.{Files}
 use Rattle.jb_disk.specs.Images.{Images}
 use Rattle.jb_disk.specs.Runs.{LeavesNow}
@@ -61,7 +61,7 @@ module _ {D : Type 0} (shown : D → Device) (by : AreaRules) (before : Device) 
 
   -- and one that was refused
   pub refuses_disk : (result : Result (OpenArea D) (D × OpeningError)) → IfErr result (λ back. Refuses by.slots before (shown back.0) back.1)
-      → IfErr result (λ back. OpeningFaultRose before.faults (shown back.0).faults back.1) → KeepsOpening before (device_after shown result)
+      → IfErr result (λ back. RoseIf (is_opening_fault back.1) before.faults (device_after shown result).faults) → KeepsOpening before (device_after shown result)
       → OpensFirmly before (device_after shown result) → before.faults ≤ (device_after shown result).faults
       → IfErr result (λ back. (place : ℕ) → RefusesDisk place by.slots before (shown back.0) (of_opening place back.1))
   refuses_disk (Ok area) refuses cause crash firm later = tt

@@ -16,7 +16,7 @@ use Rattle.jb_disk.specs.declared.file.FileId.TheVariants.{Jdt}
 use Rattle.jb_host.specs.Desk.{Desk, GivesDisk, TakesBack}
 use Rattle.jb_model.specs.History.{last_faults}
 use Rattle.jb_model.specs.Standing.{InDoubt, Settled, Standing, is_settled}
-use Rattle.jb_model.specs.declared.loaded.Loaded.{Loaded}
+use Rattle.jb_state.specs.declared.loaded.Loaded.{Loaded}
 use Rattle.jb_shared.specs.Closing.{Closes, HasAll, IsMissing, known_by}
 use Rattle.jb_shared.specs.Histories.{stopped_last}
 use Rattle.jb_shared.specs.Passes.{PassView}

@@ -9,15 +9,16 @@ use Rattle.jb_menu.specs.declared.given.Given.{Given}
 use Rattle.jb_menu.specs.declared.given.Given.TheVariants as given
 use Rattle.jb_model.specs.declared.command.Command.{Command}
 use Rattle.jb_model.specs.declared.entry.Entry.{Entry}
-use Rattle.jb_model.specs.declared.look.SharedFault.TheVariants as fault
+use Rattle.jb_state.specs.declared.look.SharedFault.TheVariants as fault
 use Rattle.jb_model.specs.declared.reply.Reply.{Reply}
 use Rattle.jb_session.specs.Exchanges.{Exchange, Gives, Happens, Passed, PassedLast, Wants}
 use Rattle.jb_session.specs.Served.{Served}
 use Rattle.jb_session.specs.declared.end.SessionEnd.{SessionEnd}
-use Rattle.jb_shared.specs.Calls.{Calls, IsStopped, ending, recording}
+use Rattle.jb_shared.specs.Calls.{Asks, Calls, IsStopped, ending, recording}
 use Rattle.jb_shared.specs.Looks.{Looks}
-use Rattle.jb_shared.specs.Passes.{Known, PassView, seen, turned_away}
+use Rattle.jb_shared.specs.Passes.{Known, PassView, refusing, seen, stepping, turned_away}
 use Rattle.jb_shared.specs.declared.error.SharedError.{SharedError}
+use Rattle.jb_shared.specs.declared.refusal.Refusal.{Refusal}
 use Rattle.jb_shared.specs.declared.error.SharedError.TheVariants.{StoreFault, Gap, RunSpent, OutOfMemory}
 use Rattle.jb_talk.specs.declared.request.Act.{Act}
 use Rattle.jb_talk.specs.declared.request.Act.TheVariants.{Ask, Look, Count}
@@ -50,17 +51,25 @@ stopped old new user moment command (inr not_begun) = records old new None _ not
 of_seen : (old new : Known) (log : List Entry) → KeepsStart (seen old log) new → KeepsStart old new
 of_seen old new log keeps = record { node = keeps.node; opening = keeps.opening }
 
-pub called : (old new : Known) (user : User) (moment : ℕ) (command : Command) (result : Result Reply SharedError)
-    → Calls old new user moment command result → KeepsStart old new
-called old new user moment command (Ok reply) c = of_seen old new c.taken (records (seen old c.taken) new c.answers.1.0 _ c.answers.1.1)
-called old new user moment command (Err StoreFault) c = of_seen old new c.taken (stopped (seen old c.taken) new user moment command c.answers.1)
-called old new user moment command (Err OutOfMemory) c = of_seen old new c.taken (ends (seen old c.taken) new c.answers.1.0 c.answers.1.1)
-called old new user moment command (Err (Gap shown held)) c =
+asked : (old new : Known) (user : User) (moment : ℕ) (command : Command) (result : Result Reply SharedError)
+    → Asks old new user moment command result → KeepsStart old new
+asked old new user moment command (Ok reply) c = of_seen old new c.taken (records (seen old c.taken) new c.answers.1.0 _ c.answers.1.1)
+asked old new user moment command (Err StoreFault) c = of_seen old new c.taken (stopped (seen old c.taken) new user moment command c.answers.1)
+asked old new user moment command (Err OutOfMemory) c = of_seen old new c.taken (ends (seen old c.taken) new c.answers.1.0 c.answers.1.1)
+asked old new user moment command (Err (Gap shown held)) c =
     let is = c.answers.1.2 in
     record { node = ap (λ (k : Known). k.node) is; opening = ap (λ (k : Known). k.opening) is }
-called old new user moment command (Err RunSpent) c =
+asked old new user moment command (Err RunSpent) c =
     let is = c.answers.1 in
     record { node = ap (λ (k : Known). k.node) is; opening = ap (λ (k : Known). k.opening) is }
+
+of_steps : (old new : Known) (steps : List Refusal) → KeepsStart (stepping old steps) new → KeepsStart old new
+of_steps old new [] keeps = keeps
+of_steps old new (step ∷ steps) keeps = let rest = of_steps (refusing old step) new steps keeps in record { node = rest.node; opening = rest.opening }
+
+pub called : (old new : Known) (user : User) (moment : ℕ) (command : Command) (result : Result Reply SharedError)
+    → Calls old new user moment command result → KeepsStart old new
+called old new user moment command result c = of_steps old new c.steps (asked (stepping old c.steps) new user moment command result c.asks)
 
 looked : (old new : Known) → Looks old new → KeepsStart old new
 looked old new l = record { node = ap (λ (k : Known). k.node) l.same; opening = ap (λ (k : Known). k.opening) l.same }

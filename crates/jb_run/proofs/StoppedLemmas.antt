@@ -6,7 +6,7 @@ use Rattle.jb_model.specs.History.{Rises, faults_of, last_faults, last_told}
 use Rattle.jb_model.specs.declared.entry.Entry.{Entry}
 use Rattle.jb_model.specs.declared.entry.Entry.TheVariants.{Called, Reopened}
 use Rattle.jb_model.specs.declared.entry.Outcome.TheVariants.{Replied, InDoubt, NotBegun}
-use Rattle.jb_model.proofs.LinkLaws.{true_not_false}
+use Rattle.jb_state.proofs.LinkLaws.{true_not_false}
 use Rattle.jb_shared.specs.Histories.{IsHistory, stopped_behind, stopped_last}
 use Rattle.jb_shared.specs.declared.opening.Opening.{Opening}
 

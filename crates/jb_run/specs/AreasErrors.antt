@@ -1,10 +1,10 @@
 -- Why an area of a board is not opened, and what is left then.
 use Rattle.std.specs.Prelude.{◌≡◌, ◌⊎◌, ℕ, ◌≤◌}
-use Rattle.jb_area_open.specs.Opening.{OpeningFaultRose, KeepsOpening, OpensFirmly, Refuses}
+use Rattle.jb_area_open.specs.Opening.{KeepsOpening, OpensFirmly, Refuses, is_opening_fault}
 use Rattle.jb_area_open.specs.declared.error.OpeningError.{OpeningError}
 use Rattle.jb_area_open.specs.declared.error.OpeningError.TheVariants.{BadJournal, Base}
 use Rattle.jb_conf.specs.declared.board.BoardArea.{BoardArea}
-use Rattle.jb_disk.specs.Device.{Device}
+use Rattle.jb_disk.specs.Device.{Device, RoseIf}
 use Rattle.jb_host.specs.Desk.{Desk, GivesDisk, RefusesCall, TakesBack, asked_disk}
 use Rattle.jb_host.specs.declared.host.HostError.{HostError}
 use Rattle.jb_host.specs.declared.host.HostError.TheVariants.{Failed, OutOfMemory as no_host_memory}
@@ -28,7 +28,7 @@ pub record RefusesDisk (place slots : ℕ) (before after : Device) (error : Area
   pub why : OpeningError
   pub is : error ≡ of_opening place why
   pub refuses : Refuses slots before after why
-  pub cause : OpeningFaultRose before.faults after.faults why
+  pub cause : RoseIf (is_opening_fault why) before.faults after.faults
   pub crash : KeepsOpening before after
   pub firm : OpensFirmly before after
   pub later : before.faults ≤ after.faults

@@ -15,11 +15,11 @@ use Rattle.jb_disk.specs.Runs.{IsAllSynced}
 use Rattle.jb_host.specs.Desk.{Desk, GivesDisk}
 use Rattle.jb_journal.specs.Recover.{IsGrowthSafe}
 use Rattle.jb_model.specs.History.{calls_of, last_faults}
-use Rattle.jb_model.specs.Live.{live_count}
+use Rattle.jb_state.specs.Live.{live_count}
 use Rattle.jb_model.specs.Standing.{Standing, Settled, InDoubt, StandsWithin, is_settled}
-use Rattle.jb_model.specs.State.{state_of}
+use Rattle.jb_state.specs.State.{state_of}
 use Rattle.jb_model.specs.declared.entry.Entry.{Entry}
-use Rattle.jb_model.specs.declared.loaded.Loaded.{Loaded}
+use Rattle.jb_state.specs.declared.loaded.Loaded.{Loaded}
 use Rattle.jb_turn.specs.Rows.{Has}
 use Rattle.jb_shared.specs.Areas.{IsShared}
 use Rattle.jb_shared.specs.Closing.{HasNode, IsPartOf, known_by}

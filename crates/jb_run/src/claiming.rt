@@ -21,7 +21,8 @@ pub(crate) fn open_claimed<D: Disk>(
     requires few_slots { rules.slots ≤ MOST_SLOTS }
     requires address { length rules.address ≤ MOST_ADDRESS_BYTES }
     ensures ok { IfOk result (OpensOver D.device rules (D.device disk)) }
-    ensures err { IfErr result (λ back. (place : ℕ) → RefusesDisk place rules.slots (D.device disk) (D.device back.0) (of_opening place back.1)) }
+    ensures err { IfErr result (λ back. (place : ℕ) → RefusesDisk place rules.slots (D.device disk)
+        (D.device back.0) (of_opening place back.1)) }
 {
     let mut disk = disk;
     match disk.claim() {

@@ -22,8 +22,10 @@ fn close_last<R: Wait, H: Host>(
     requires whole { AreWhole shared.old (length shared.old.nodes.items) (length shared.old.areas.items) }
     requires within { length shared.old.areas.items ≤ length areas.now }
     ensures whole { AreWhole shared.new (length shared.new.nodes.items) (length shared.new.areas.items) }
-    ensures closed { IfSome result (ClosesLast areas.now shared.old shared.new (H.desk host.old) (H.desk host.new)) }
-    ensures none { IfNone result ((length shared.old.areas.items ≡ 0) × (H.desk host.new ≡ H.desk host.old) × (vec_len shared.new.areas ≡ 0)) }
+    ensures closed { IfSome result (ClosesLast areas.now shared.old shared.new (H.desk host.old)
+        (H.desk host.new)) }
+    ensures none { IfNone result ((length shared.old.areas.items ≡ 0)
+        × (H.desk host.new ≡ H.desk host.old) × (vec_len shared.new.areas ≡ 0)) }
 {
     let area = shared.areas.pop()?;
     let Some(mut row) = shared.rooms.pop() else {
@@ -45,7 +47,8 @@ pub(crate) fn close_areas<R: Wait, H: Host>(
     requires areas { AreOpenable areas.now }
     requires whole { AreWhole shared (length shared.nodes.items) (length shared.areas.items) }
     requires within { length shared.areas.items ≤ length areas.now }
-    ensures { ClosesAll (take (length shared.areas.items) areas.now) (lists_of shared.nodes.items) (H.desk host.old) (H.desk host.new) result }
+    ensures { ClosesAll (take (length shared.areas.items) areas.now) (lists_of shared.nodes.items)
+        (H.desk host.old) (H.desk host.new) result }
 {
     let mut is_doubtful = false;
     while let Some(doubtful) = close_last(rt, host, areas, &mut shared) {

@@ -11,20 +11,30 @@ use crate::closing::close_areas;
 use crate::error::RunError;
 use crate::local_end::LocalEnd;
 use crate::opening::{SharedAreas, open_areas};
+use crate::settings::{tell_refusal, tell_unknown};
 use jb_conf::{Board, read};
 use jb_host::Host;
 use jb_session::{SessionEnd, serve_session};
 use std::alloc::Global;
 use std::sync::Wait;
 
-/// The board that the settings file at this path says, with which each run over areas begins.
+/// The board that the settings file at this path says, with which each run over areas begins. The operator is told what is wrong with it.
 pub(crate) fn board_at<H: Host>(alloc: Global, host: &mut H, path: &str) -> Result<Board, RunError>
     ensures ok { IfOk result (λ board. HasBoard path.now board (H.desk host.old) (H.desk host.new)) }
     ensures err { IfErr result (λ error. HasNoSettings path.now (H.desk host.old) (H.desk host.new) error
         ⊎ RefusesSettings path.now (H.desk host.old) (H.desk host.new) error) }
 {
     let bytes = host.settings(path)?;
-    Ok(read(alloc, bytes.as_slice())?)
+    match read(alloc, bytes.as_slice()) {
+        Ok(board) => {
+            tell_unknown(alloc, host, path, board.unknown.as_slice());
+            Ok(board)
+        }
+        Err(error) => {
+            tell_refusal(alloc, host, path, bytes.as_slice(), error);
+            Err(error.into())
+        }
+    }
 }
 
 /// One session over the console, which is back then.
@@ -39,8 +49,10 @@ fn serve<R: Wait, H: Host>(
     requires whole { AreWhole shared.old 1 (length board.now.areas) }
     requires console { IsSome (H.desk host.old).console }
     ensures whole { AreWhole shared.new 1 (length board.now.areas) }
-    ensures served { (old now : Wire) × ((H.desk host.old).console ≡ Some old) × (H.desk host.new ≡ record (H.desk host.old) { console = Some now })
-        × Served (H.desk host.old).reading board.now old (passes_at shared.old 0) result now (passes_at shared.new 0) }
+    ensures served { (old now : Wire) × ((H.desk host.old).console ≡ Some old)
+        × (H.desk host.new ≡ record (H.desk host.old) { console = Some now })
+        × Served (H.desk host.old).reading board.now old (passes_at shared.old 0) result now
+        (passes_at shared.new 0) }
 {
     let mut clock = host.clock();
     let mut console = host.console();
@@ -66,7 +78,8 @@ fn run_board<R: Wait, H: Host>(
 ) -> Result<LocalEnd, RunError>
     requires board { IsInRange board.now }
     requires console { IsSome (H.desk host.old).console }
-    ensures { (path : List ℕ) (old : Desk) → HasBoard path board.now old (H.desk host.old) → RunsLocal path old (H.desk host.new) result }
+    ensures { (path : List ℕ) (old : Desk) → HasBoard path board.now old (H.desk host.old)
+        → RunsLocal path old (H.desk host.new) result }
 {
     let mut shared = open_areas(rt, alloc, host, board.areas.as_slice(), 1)?;
     let session = serve(rt, alloc, host, board, &mut shared);

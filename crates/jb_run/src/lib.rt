@@ -21,6 +21,7 @@ mod nodes;
 mod nodes_end;
 mod opening;
 mod parting;
+mod settings;
 mod sharing;
 mod telling;
 

@@ -67,10 +67,14 @@ fn add_node<H: Host>(
     requires few { length workers.old.items < MOST_NODES }
     requires list { length workers.old.items < length nodes.old.items }
     requires room { vec_len workers.old < vec_capacity workers.old }
-    ensures ok { OnOk result (AddsNode H.Door.gate H.Clock.reading board.now calls workers.old.items workers.new.items (H.desk host.old) (H.desk host.new)) }
-    ensures rows { OnOk result (with_passes workers.new.items (lists_of nodes.new.items) ≡ with_passes workers.old.items (lists_of nodes.old.items)) }
+    ensures ok { OnOk result
+        (AddsNode H.Door.gate H.Clock.reading board.now calls workers.old.items workers.new.items
+        (H.desk host.old) (H.desk host.new)) }
+    ensures rows { OnOk result (with_passes workers.new.items (lists_of nodes.new.items)
+        ≡ with_passes workers.old.items (lists_of nodes.old.items)) }
     ensures err { IfErr result (λ error. (nodes.new ≡ nodes.old) × (workers.new ≡ workers.old)
-        × RefusesCall (asked_door (length workers.old.items + 1) board.now.port calls) error (H.desk host.old) (H.desk host.new)) }
+        × RefusesCall (asked_door (length workers.old.items + 1) board.now.port calls) error
+        (H.desk host.old) (H.desk host.new)) }
 
     // There are as many lists as before, and as much room.
     ensures lists { length nodes.new.items ≡ length nodes.old.items }
@@ -105,8 +109,10 @@ pub(crate) fn open_lines<H: Host>(
     requires none { workers.old.items ≡ [] }
     requires lists { board.now.nodes < length nodes.old.items }
     requires room { board.now.nodes < vec_capacity workers.old }
-    ensures ok { IfOk result (λ bell. OpensLines H.Door.gate H.Clock.reading board.now calls (H.Bell.rings bell) workers.new.items (H.desk host.old) (H.desk host.new)) }
-    ensures err { IfErr result (λ error. StopsLines board.now calls (gates_of H.Door.gate workers.new.items) error (H.desk host.old) (H.desk host.new)) }
+    ensures ok { IfOk result (λ bell. OpensLines H.Door.gate H.Clock.reading board.now calls
+        (H.Bell.rings bell) workers.new.items (H.desk host.old) (H.desk host.new)) }
+    ensures err { IfErr result (λ error. StopsLines board.now calls
+        (gates_of H.Door.gate workers.new.items) error (H.desk host.old) (H.desk host.new)) }
 
     // The nodes that were made have their passes.
     ensures nodes { AreNodes workers.new.items }

@@ -52,9 +52,12 @@ where
     requires room { vec_len crew.nodes < vec_capacity crew.nodes }
     requires ready { AreReady H.Clock.reading (H.desk host.old).reading crew.nodes.items }
     requires packer { PackerIsReady H.Clock.reading (H.desk host.old).reading crew.packer }
-    requires ours { AreAllOf shared.old.areas.items (map passes_of crew.nodes.items ++ crew.packer.passes.items ∷ []) }
-    ensures worked { WorkToTheEnd (H.desk host.old).reading board.now (gates_of H.Door.gate crew.nodes.items) (H.Bell.rings crew.packer.bell)
-        (map passes_of crew.nodes.items ++ crew.packer.passes.items ∷ []) (lists_of shared.new.nodes.items) (H.desk host.old) (H.desk host.new) result }
+    requires ours { AreAllOf shared.old.areas.items
+        (map passes_of crew.nodes.items ++ crew.packer.passes.items ∷ []) }
+    ensures worked { WorkToTheEnd (H.desk host.old).reading board.now
+        (gates_of H.Door.gate crew.nodes.items) (H.Bell.rings crew.packer.bell)
+        (map passes_of crew.nodes.items ++ crew.packer.passes.items ∷ [])
+        (lists_of shared.new.nodes.items) (H.desk host.old) (H.desk host.new) result }
 
     // The areas are the same, and the passes are still theirs.
     ensures areas { shared.new ≡ record shared.old { nodes = shared.new.nodes } }
@@ -90,8 +93,10 @@ where
     requires room { board.now.nodes + 1 ≤ vec_capacity room.workers }
     requires packer { room.packer ≡ packer }
     requires whole { AreWhole shared (board.now.nodes + 1) (length board.now.areas) }
-    ensures ok { IfOk result (λ end. RunsOn board.now calls (lists_of shared.nodes.items) (H.desk host.old) (H.desk host.new) end) }
-    ensures err { IfErr result (λ error. GivesUp board.now calls (lists_of shared.nodes.items) (H.desk host.old) (H.desk host.new) error) }
+    ensures ok { IfOk result (λ end. RunsOn board.now calls (lists_of shared.nodes.items)
+        (H.desk host.old) (H.desk host.new) end) }
+    ensures err { IfErr result (λ error. GivesUp board.now calls (lists_of shared.nodes.items)
+        (H.desk host.old) (H.desk host.new) error) }
 {
     let Room {
         mut workers,
@@ -145,7 +150,8 @@ where
     H::Bell: Send,
     H::Clock: Send,
     requires { IsInRange board.now }
-    ensures { (path : List ℕ) (old : Desk) → HasBoard path board.now old (H.desk host.old) → RunsNodes path calls old (H.desk host.new) result }
+    ensures { (path : List ℕ) (old : Desk) → HasBoard path board.now old (H.desk host.old)
+        → RunsNodes path calls old (H.desk host.new) result }
 {
     let Ok(room) = room_for(alloc, board.nodes) else {
         return Err(RunError::OutOfMemory);

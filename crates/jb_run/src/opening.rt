@@ -68,10 +68,13 @@ fn open_next<R: Wait, H: Host>(
     requires room { HasRoom shared.old (length areas.now) }
     ensures room { HasRoom shared.new (length areas.now) }
     ensures count { OnOk result (length shared.new.areas.items ≡ length shared.old.areas.items + 1) }
-    ensures ok { OnOk result ((old : Desk) → OpensAll (take (length shared.old.areas.items) areas.now) nodes old (H.desk host.old) shared.old
+    ensures ok { OnOk result ((old : Desk) → OpensAll
+        (take (length shared.old.areas.items) areas.now) nodes old (H.desk host.old) shared.old
         → OpensAll (take (length shared.new.areas.items) areas.now) nodes old (H.desk host.new) shared.new) }
     ensures err { IfErr result (λ error. (shared.new ≡ shared.old)
-        × ((area : BoardArea) → RefusesArea (length shared.old.areas.items + 1) (slice_index_or areas.now (length shared.old.areas.items) area) (H.desk host.old) (H.desk host.new) error)) }
+        × ((area : BoardArea) → RefusesArea (length shared.old.areas.items + 1)
+        (slice_index_or areas.now (length shared.old.areas.items) area) (H.desk host.old)
+        (H.desk host.new) error)) }
 {
     let k = shared.areas.len();
     let opened = share(rt, alloc, host, &areas[k], k as u32 + 1, nodes)?;

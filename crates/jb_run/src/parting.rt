@@ -17,12 +17,16 @@ fn part_last<H: Host>(
 ) -> Option<bool>
     requires nodes { AreNodes workers.old.items }
     requires lists { length workers.old.items ≤ length nodes.old.items }
-    ensures some { IfSome result (λ failed. PartsLast H.Door.gate workers.old.items workers.new.items (H.desk host.old) (H.desk host.new) failed) }
-    ensures none { IfNone result ((workers.old.items ≡ []) × (H.desk host.new ≡ H.desk host.old) × (nodes.new ≡ nodes.old)) }
+    ensures some { IfSome result (λ failed.
+        PartsLast H.Door.gate workers.old.items workers.new.items (H.desk host.old)
+        (H.desk host.new) failed) }
+    ensures none { IfNone result ((workers.old.items ≡ []) × (H.desk host.new ≡ H.desk host.old)
+        × (nodes.new ≡ nodes.old)) }
 
     // The nodes that are left have their passes, and the others are back.
     ensures nodes { AreNodes workers.new.items }
-    ensures rows { with_passes workers.new.items (lists_of nodes.new.items) ≡ with_passes workers.old.items (lists_of nodes.old.items) }
+    ensures rows { with_passes workers.new.items (lists_of nodes.new.items)
+        ≡ with_passes workers.old.items (lists_of nodes.old.items) }
     ensures lists { length nodes.new.items ≡ length nodes.old.items }
 {
     let Worker::Node(slot) = workers.pop()? else {
@@ -67,8 +71,10 @@ pub(crate) fn part_packer<H: Host>(
 )
     requires last { EndsWithPacker workers.old.items }
     requires lists { length workers.old.items ≤ length nodes.old.items }
-    ensures bell { PartsPacker H.Bell.rings workers.old.items workers.new.items (H.desk host.old) (H.desk host.new) }
-    ensures rows { with_passes workers.new.items (lists_of nodes.new.items) ≡ with_passes workers.old.items (lists_of nodes.old.items) }
+    ensures bell { PartsPacker H.Bell.rings workers.old.items workers.new.items (H.desk host.old)
+        (H.desk host.new) }
+    ensures rows { with_passes workers.new.items (lists_of nodes.new.items)
+        ≡ with_passes workers.old.items (lists_of nodes.old.items) }
     ensures lists { length nodes.new.items ≡ length nodes.old.items }
 {
     let Some(Worker::Packer(slot)) = workers.pop() else {

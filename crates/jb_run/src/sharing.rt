@@ -4,8 +4,8 @@ ghost use Rattle.std.specs.Option.{ForSome};
 ghost use Rattle.jb_limits.specs.declared.limits.TheConstants.{MOST_ADDRESS_BYTES, MOST_SLOTS};
 ghost use Rattle.jb_disk.specs.Device.{Device};
 ghost use Rattle.jb_host.specs.Desk.{GivesDisk, TakesBack, handed_out};
-ghost use Rattle.jb_model.specs.Live.{live_count};
-ghost use Rattle.jb_model.specs.State.{slot_state};
+ghost use Rattle.jb_state.specs.Live.{live_count};
+ghost use Rattle.jb_state.specs.State.{slot_state};
 ghost use Rattle.jb_shared.specs.Areas.{IsOf, passes_of};
 ghost use Rattle.jb_shared.specs.Closing.{known_by, HasAll};
 ghost use Rattle.jb_run.specs.AreasErrors.{RefusesArea};
@@ -19,8 +19,8 @@ use jb_base::AreaRules;
 use jb_conf::BoardArea;
 use jb_disk::Disk;
 use jb_host::Host;
-use jb_model::LoadedSlot;
 use jb_shared::{Pass, SharedArea};
+use jb_state::LoadedSlot;
 use std::alloc::Global;
 use std::sync::Wait;
 
@@ -55,7 +55,8 @@ fn open_disk<H: Host>(
     requires rules { rules ≡ area.now.rules }
     requires few_slots { area.now.rules.slots ≤ MOST_SLOTS }
     requires address { length area.now.rules.address ≤ MOST_ADDRESS_BYTES }
-    ensures ok { IfOk result (λ opened. (before : Device) × GivesDisk area.now.dir area.now.base before (H.desk host.old) (H.desk host.new)
+    ensures ok { IfOk result (λ opened. (before : Device)
+        × GivesDisk area.now.dir area.now.base before (H.desk host.old) (H.desk host.new)
         × OpensOver H.Disk.device area.now.rules before opened) }
     ensures err { IfErr result (RefusesArea place area.now (H.desk host.old) (H.desk host.new)) }
 {
@@ -86,7 +87,8 @@ pub(crate) fn share<R: Wait, H: Host>(
     requires few_slots { area.now.rules.slots ≤ MOST_SLOTS }
     requires address { length area.now.rules.address ≤ MOST_ADDRESS_BYTES }
     requires nodes { (0 < nodes) × (nodes ≤ 33) }
-    ensures ok { IfOk result (λ shared. SharesArea H.Disk.device area.now nodes (H.desk host.old) (H.desk host.new) shared.area shared.passes.items shared.live) }
+    ensures ok { IfOk result (λ shared. SharesArea H.Disk.device area.now nodes (H.desk host.old)
+        (H.desk host.new) shared.area shared.passes.items shared.live) }
     ensures err { IfErr result (RefusesArea place area.now (H.desk host.old) (H.desk host.new)) }
 {
     let rules = area.rules.copy(alloc)?;
@@ -111,7 +113,8 @@ pub(crate) fn end<R: Wait, H: Host>(
 ) -> bool
     requires ours { All (IsOf shared) passes.items }
     requires all { HasAll (known_by passes.items) (passes_of shared) }
-    ensures { (after : Device) × TakesBack area.now.dir area.now.base after (H.desk host.old) (H.desk host.new) × Ends passes.items result after }
+    ensures { (after : Device) × TakesBack area.now.dir area.now.base after (H.desk host.old)
+        (H.desk host.new) × Ends passes.items result after }
 {
     match shared.close(rt, passes) {
         Ok(opened) => {

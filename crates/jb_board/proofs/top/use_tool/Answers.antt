@@ -11,4 +11,4 @@ returns g c =
     let after = g.H.Disk.Disk.device c.run-disk.result.0 in
     let ran = c.run-disk.ensures in
     subst (λ (a : Answer). UsesTool c.args.tool c.args.moment c.args.dir.now c.args.name.now old new a) (sym c.answered.ensures)
-    (used_tool c.args.tool c.args.moment c.args.dir.now c.args.name.now before after old _ new c.run-disk.result.1 c.in-Ok.ensures.ok c.put_back.ensures ran.answer ran.crash ran.later)
+    (used_tool c.args.tool c.args.moment c.args.dir.now c.args.name.now before after old _ new c.run-disk.result.1 c.in-Ok.ensures.ok c.put_back.ensures ran.answer ran.crash ran.answer.faults.later)

@@ -1,9 +1,12 @@
-use Rattle.std.proofs.Common.{inl, inr, [], refl, ap, ◌∙◌, w32, FitsSigned, rules}
+use Rattle.std.proofs.Common.{inl, inr, [], ◌++◌, refl, ap, ◌∙◌, w32, FitsSigned, rules}
 use Rattle.std.proofs.lemmas.Int.{to_z-of_z}
 use Rattle.std.proofs.lemmas.Result.{err_from_is_err_and}
 use Rattle.jb_conf.specs.Areas.{areas_of}
 use Rattle.jb_conf.specs.Settings.{board_fault, board_of}
+use Rattle.jb_conf.specs.Unknown.{unknown_in, unknown_in_each}
 use Rattle.jb_conf.specs.Users.{users_of}
+use Rattle.jb_conf.specs.declared.unknown.Sort.TheVariants.{OfArea, OfBoard, OfUser}
+use Rattle.toml.specs.View.{table_view}
 use Rattle.jb_conf.proofs.reading.board_of.Goals as goal
 
 pub returns-in_err-name : goal.returns-in_err-name
@@ -83,6 +86,7 @@ returns c =
     let address = c.as_bytes.ensures.value ∙ c.in_ok-address.ensures.1 in
     let tables = c.in_ok-area_tables.ensures.row.1 in
     let people = c.in_ok-user_tables.ensures.row.1 in
+    let entries = table_view c.args.table.now in
     let small : FitsSigned w32 c.in_ok-offset.offset = search rules in (
       rw (c.in_ok-name.ensures.0, c.in_ok-address.ensures.0, c.in_ok-port.ensures.row.0, c.in_ok-nodes.ensures.row.0, c.in_ok-offset.ensures.0, c.in_ok-pack_minutes.ensures.row.0, c.in_ok-area_tables.ensures.row.0, c.in_ok-user_tables.ensures.row.0, ← address, ← tables, c.in_ok-areas.ensures.0, ← people, c.in_ok-users.ensures.0) refl,
       λ i. record {
@@ -94,5 +98,6 @@ returns c =
         pack_minutes = c.in_ok-pack_minutes.ensures.row.1 i;
         areas = (c.in_ok-areas.ensures.1 ∙ (λ j. areas_of (address j) [] (tables j))) i;
         users = (c.in_ok-users.ensures.1 ∙ ap (users_of []) people) i;
+        unknown = (c.in_ok-unknown.ensures ∙ (λ j. unknown_in OfBoard 0 entries ++ unknown_in_each OfArea 1 (tables j) ++ unknown_in_each OfUser 1 (people j))) i;
       },
     )

@@ -12,7 +12,7 @@ returns-in-Ok-clause-ok g c =
     let opening = c.open_area.ensures in
     subst (λ (d : Device). IfOk c.open_area.result (OpensOver shown c.args.rules d))
     (claimed (shown c.args.disk) mid c.claim.ensures.kept c.in-Ok.ensures.cause.kept)
-    (opens_over shown c.args.rules mid c.open_area.result opening.rules opening.rest opening.opened opening.quiet opening.crash opening.firm opening.alike)
+    (opens_over shown c.args.rules mid c.open_area.result opening.rules opening.rest opening.opened opening.faults.quiet opening.crash opening.firm opening.alike)
 
 pub returns-in-Ok-clause-err : goal.returns-in-Ok-clause-err
 returns-in-Ok-clause-err g c =
@@ -21,7 +21,7 @@ returns-in-Ok-clause-err g c =
     let opening = c.open_area.ensures in
     subst (λ (d : Device). IfErr c.open_area.result (λ back. (place : ℕ) → RefusesDisk place c.args.rules.slots d (shown back.0) (of_opening place back.1)))
     (claimed (shown c.args.disk) mid c.claim.ensures.kept c.in-Ok.ensures.cause.kept)
-    (refuses_disk shown c.args.rules mid c.open_area.result opening.refused opening.cause opening.crash opening.firm opening.later)
+    (refuses_disk shown c.args.rules mid c.open_area.result opening.refused opening.faults.cause opening.crash opening.firm opening.faults.later)
 
 pub returns-in-Err-clause-err : goal.returns-in-Err-clause-err
 returns-in-Err-clause-err g c = λ place.

@@ -1,5 +1,5 @@
-use Rattle.std.proofs.Common.{◌≡◌, ◌+◌, ap, length, sym, subst, ◌∙◌, refl, arith}
-use Rattle.std.specs.Prelude.{Option, ℕ}
+use Rattle.std.proofs.Common.{◌≡◌, ◌+◌, ap, length, sym, subst, ◌∙◌}
+use Rattle.std.specs.Prelude.{ℕ}
 use Rattle.jb_host.specs.Desk.{Desk, GivesDoor}
 use Rattle.jb_server.specs.declared.worker.Worker.TheVariants.{Node}
 use Rattle.jb_run.proofs.lines.add_node.Goals as goal

@@ -1,5 +1,5 @@
 use Rattle.std.specs.declared.alloc.Global.{Global}
-use Rattle.std.proofs.Common.{Vec, [], ap, ◌∙◌, set}
+use Rattle.std.proofs.Common.{Vec, ap, ◌∙◌, set}
 use Rattle.std.proofs.lemmas.List.{map-set}
 use Rattle.jb_run.specs.Rows.{lists_of}
 use Rattle.jb_shared.specs.Passes.{PassView}

@@ -4,7 +4,7 @@ use Rattle.std.proofs.lemmas.Result.{err_from_is_err_and}
 use Rattle.jb_run.specs.All.{AreOpenable, OpensAll, RefusesAll}
 use Rattle.jb_run.specs.Rows.{lists_of}
 use Rattle.jb_conf.specs.declared.board.BoardArea.{BoardArea}
-use Rattle.jb_run.specs.LocalEnding.{of_areas, of_host}
+use Rattle.jb_run.specs.LocalEnding.{of_areas}
 use Rattle.jb_run.specs.declared.error.RunError.{RunError}
 use Rattle.jb_run.specs.Nodes.{RunsNodes}
 use Rattle.jb_run.specs.declared.nodes_end.NodesEnd.{NodesEnd}

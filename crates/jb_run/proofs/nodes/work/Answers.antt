@@ -6,7 +6,7 @@ use Rattle.jb_server.specs.Workers.{IsAtWork}
 use Rattle.jb_server.specs.declared.worker.Worker.{Worker}
 use Rattle.jb_server.specs.declared.worker.Worker.TheVariants.{Packer}
 use Rattle.jb_shared.specs.declared.shared.SharedArea.{SharedArea}
-use Rattle.jb_run.specs.Workers.{passes_of, with_passes}
+use Rattle.jb_run.specs.Workers.{with_passes}
 use Rattle.jb_run.specs.Working.{AreAllOf}
 use Rattle.jb_run.proofs.Crew.{AllHaveWorked, all_at_work, all_of_still, all_rows, are_done, are_nodes, ends_work, left_nodes, short_name}
 use Rattle.jb_run.proofs.nodes.work.Goals as goal

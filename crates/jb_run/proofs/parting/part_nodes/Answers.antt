@@ -1,4 +1,4 @@
-use Rattle.std.proofs.Common.{◌≡◌, ◌||◌, length, ap, ◌∙◌, arith}
+use Rattle.std.proofs.Common.{length, ap, ◌∙◌, arith}
 use Rattle.std.proofs.lemmas.List.{length_push}
 use Rattle.jb_run.proofs.Crew.{failed_more, gates_put, gates_put_none}
 use Rattle.jb_run.proofs.parting.part_nodes.Goals as goal
