@@ -14,7 +14,7 @@ use Rattle.jb_decide.proofs.AgreeLemmas.{headers_agree, packs_agree}
 use Rattle.jb_decide.specs.declared.error.AreaError.{AreaError}
 use Rattle.jb_decide.specs.declared.error.AreaError.TheVariants.{OutOfMemory, StoreFault}
 use Rattle.jb_disk.specs.Device.{Device, OnlyReads}
-use Rattle.jb_disk.specs.Files.{Files, number_of}
+use Rattle.jb_disk.specs.Files.{Files, file_number}
 use Rattle.jb_disk.specs.declared.file.FileId.TheVariants.{Jdt, Jdx, Jhr}
 use Rattle.jb_disk.specs.Runs.{LeavesOnly}
 use Rattle.jb_disk.proofs.RunLemmas.{runs-then}
@@ -135,7 +135,7 @@ module _ {D : Type 0} (shown : D → Device) (old mid new : OpenArea D) (texts :
       KeepsHeaders begun.reply old.held begun.coming.to was now))
   headers_then made in_place was there now here =
       let there_too = (reads_by command (shown old.disk) (shown mid.disk) in_place reads).contents ∙ there in
-      headers_agree begun.reply old.held begun.coming.to was now (files_after mid was) (made was there_too now here Jhr (λ is. let number = ap number_of is in omega (arith, number)))
+      headers_agree begun.reply old.held begun.coming.to was now (files_after mid was) (made was there_too now here Jhr (λ is. let number = ap file_number is in omega (arith, number)))
       (subst (λ (l : Loaded). KeepsHeaders begun.reply l begun.coming.to was (files_after mid was)) loaded (begun.headers in_place was (record { holds = (begun.begun.kept.settled.rests was there_too).holds; has = begun.begun.kept.copies was there_too })))
 
   -- and of those of a pack
@@ -146,7 +146,7 @@ module _ {D : Type 0} (shown : D → Device) (old mid new : OpenArea D) (texts :
       let there = mid_there.1 in
       let agrees = made was there now here in
       packs_agree begun.reply begun.coming.to now (files_after mid was)
-      (agrees Jhr (λ is. let number = ap number_of is in omega (arith, number))) (agrees Jdt (λ is. let number = ap number_of is in omega (arith, number)))
+      (agrees Jhr (λ is. let number = ap file_number is in omega (arith, number))) (agrees Jdt (λ is. let number = ap file_number is in omega (arith, number)))
       (begun.packs was (record { holds = (begun.begun.kept.settled.rests was there).holds; has = begun.begun.kept.copies was there }))
 
   -- what it changes
@@ -179,8 +179,8 @@ module _ {D : Type 0} (shown : D → Device) (old mid new : OpenArea D) (texts :
       let was : Files = mid_there.0 in
       let there = mid_there.1 in
       index_agrees change (redo_of mid) mid.held texts start was now begun.index (begun.begun.kept.settled.rests was there).holds
-      (made was there now here Jdx (λ is. let number = ap number_of is in omega (arith, number)) ∙ ap (λ (s : Stage). done_in s (redo_of mid) was Jdx) begun.begun.stage)
-      (mid_there.2 Jdx (λ is. let number = ap number_of is in omega (arith, number)))
+      (made was there now here Jdx (λ is. let number = ap file_number is in omega (arith, number)) ∙ ap (λ (s : Stage). done_in s (redo_of mid) was Jdx) begun.begun.stage)
+      (mid_there.2 Jdx (λ is. let number = ap file_number is in omega (arith, number)))
 
   -- finished
   answered_by : (reply : Reply) → (reply ≡ begun.reply) × RestsAt shown new begun.coming.texts begun.coming.to → HasMade shown mid new

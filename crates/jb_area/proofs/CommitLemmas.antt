@@ -1,5 +1,5 @@
 -- What a commit and a settling of a change mean for the area.
-use Rattle.std.proofs.Common.{◌≡◌, inl, inr, ℕ, List, [], ◌∷◌, Bool, true, false, Option, None, Some, ap, sym, refl, ◌∙◌, subst}
+use Rattle.std.proofs.Common.{◌≡◌, inl, inr, ℕ, List, [], ◌∷◌, Bool, true, false, Option, None, Some, Result, Ok, Err, IfErr, ap, sym, refl, ◌∙◌, subst}
 use Rattle.std.specs.Option.{ForSome, option_map}
 use Rattle.jb_disk.specs.RedoView.{RedoView}
 use Rattle.jb_disk.specs.Device.{Device}
@@ -10,14 +10,15 @@ use Rattle.jb_disk.proofs.RunLemmas.{runs-refl, runs-weaken}
 use Rattle.jb_journal.proofs.SettleLemmas.{doubt_replays}
 use Rattle.jb_journal.specs.Commit.{AgreeButJournal, IsBeforeOrAfter, IsReady, ReplaysTo, committed}
 use Rattle.jb_redo.specs.Changes.{changed}
-use Rattle.jb_journal.specs.Doubt.{DoubtReplays, HasStopped, IsInDoubt, IsSettledAt, answered}
+use Rattle.jb_journal.specs.Doubt.{DoubtReplays, HasStopped, IsInDoubt, IsSettledAt, settled_files}
+use Rattle.jb_journal.specs.Opening.{OpensGateFor, WhereTold}
 use Rattle.jb_journal.specs.declared.stopped.Stopped.{Stopped}
 use Rattle.jb_journal.specs.declared.stopped.Stopped.TheVariants.{Early, Late}
 use Rattle.jb_state.specs.declared.loaded.Loaded.{Loaded}
 use Rattle.jb_pack.specs.Shadow.{Shadow}
 use Rattle.jb_decide.specs.Coming.{BringsComing, Coming, IsChange}
-use Rattle.jb_decide.specs.Holds.{HasAll}
-use Rattle.jb_area.specs.Commits.{HasRecordOf, IsAnsweredAs, IsSettledAs, IsSettledWith, IsStopped, IsStoppedAs, StandsFirm, StandsLate}
+use Rattle.jb_decide.specs.Holds.{HoldsCopies}
+use Rattle.jb_area.specs.Commits.{HasRecordOf, IsAnsweredAs, IsSettledAs, IsSettledWith, IsStopped, IsStoppedAs, StandsFirm, StandsLate, StaysShutEarly}
 use Rattle.jb_area.specs.Holds.{IsAtRest, Opens, OpensToEither}
 use Rattle.jb_area.proofs.HoldLemmas.{committed-agrees, opens_either, opens_to, ready, rest_opens, rests_committed, rests_settled, size-committed}
 
@@ -92,8 +93,15 @@ module _ (change : RedoView) where
   stopped_as stopped old new from texts copies silent doubt settled =
       told_before old new silent (IsStopped stopped change from texts copies new) (λ was some. record { start = was; rests = settled.settled.rests was some; has = settled.has was some; shows = doubt was some })
 
+  -- and after an early stop has left the gate shut
+  pub shut_as : (result : Result (Unit {0}) Stopped) (old new : Device)
+      → ForSome old.contents (λ start. WhereTold old.moments (OpensGateFor result (ReplaysTo (changed change start)) old.moments new.moments)) → IfErr result (λ stopped. StaysShutEarly stopped old new)
+  shut_as (Ok value) old new opening = tt
+  shut_as (Err Early) old new opening = opening
+  shut_as (Err Late) old new opening = tt
+
   -- what a crash meanwhile leaves opens to one of the two
-  pub crash_as : (old new : Device) (from : Loaded) (texts : List ℕ) (copies : Option Shadow) (coming : Coming) (start : Files) → IsAtRest from texts start → HasAll copies start → BringsComing change from texts copies coming
+  pub crash_as : (old new : Device) (from : Loaded) (texts : List ℕ) (copies : Option Shadow) (coming : Coming) (start : Files) → IsAtRest from texts start → HoldsCopies copies start → BringsComing change from texts copies coming
       → LeavesOnly old new (IsBeforeOrAfter change start) → LeavesOnly old new (OpensToEither from texts coming)
   crash_as old new from texts copies coming start rests has is =
       only_weaken (IsBeforeOrAfter change start) (OpensToEither from texts coming) old new
@@ -109,7 +117,7 @@ module _ (change : RedoView) where
   }
 
   -- each file that the doubt may leave opens to one of the two
-  pub doubt_opens : (stopped : Stopped) (from : Loaded) (texts : List ℕ) (copies : Option Shadow) (coming : Coming) (start files : Files) → IsAtRest from texts start → HasAll copies start → BringsComing change from texts copies coming
+  pub doubt_opens : (stopped : Stopped) (from : Loaded) (texts : List ℕ) (copies : Option Shadow) (coming : Coming) (start files : Files) → IsAtRest from texts start → HoldsCopies copies start → BringsComing change from texts copies coming
       → DoubtReplays stopped change start files → OpensToEither from texts coming files
   doubt_opens Early from texts copies coming start files rests has is replays = opens_either change from texts copies coming start files is (record { holds = rests.holds; has = has }) replays
   doubt_opens Late from texts copies coming start files rests has is replays =
@@ -147,9 +155,9 @@ module _ (change : RedoView) where
       (λ left replays. opens_to (changed change in_doubt.start) left coming.to coming.texts (brings.made in_doubt.start (record { holds = in_doubt.rests.holds; has = in_doubt.has })) replays)
       (crash in_doubt.start (ready change from texts copies coming in_doubt.start brings in_doubt.rests in_doubt.has) in_doubt.shows)
 
-  -- settled as it is answered
-  answered_rests : (stands : Bool) (from : Loaded) (texts : List ℕ) (copies : Option Shadow) (coming : Coming) (start : Files) (device : Device) → IsAtRest from texts start → HasAll copies start → BringsComing change from texts copies coming
-      → ForSome device.contents (IsSettledAt (answered stands change start)) → IsAllSynced device → IsAnsweredAs stands from texts coming device
+  -- settled as it is settled_files
+  answered_rests : (stands : Bool) (from : Loaded) (texts : List ℕ) (copies : Option Shadow) (coming : Coming) (start : Files) (device : Device) → IsAtRest from texts start → HoldsCopies copies start → BringsComing change from texts copies coming
+      → ForSome device.contents (IsSettledAt (settled_files stands change start)) → IsAllSynced device → IsAnsweredAs stands from texts coming device
   answered_rests true from texts copies coming start device rests has is settled synced = record {
     rests = λ files there. rests_settled (changed change start) files coming.to coming.texts
         (is.made start (record { holds = rests.holds; has = has })) (settled files there);
@@ -160,14 +168,14 @@ module _ (change : RedoView) where
     synced = synced;
   }
 
-  -- settled as it is answered, where nothing is told
+  -- settled as it is settled_files, where nothing is told
   silent_answer : (stands : Bool) (from : Loaded) (texts : List ℕ) (coming : Coming) (device : Device) → device.contents ≡ None → IsAnsweredAs stands from texts coming device
   silent_answer true from texts coming device none = record { rests = λ files there. absurd (some-none files (sym there ∙ none)); synced = λ files there. absurd (some-none files (sym there ∙ none)) }
   silent_answer false from texts coming device none = record { rests = λ files there. absurd (some-none files (sym there ∙ none)); synced = λ files there. absurd (some-none files (sym there ∙ none)) }
 
   -- what a settling leaves
   pub answer_as : (stands : Bool) (stopped : Stopped) (old new : Device) (from : Loaded) (texts : List ℕ) (copies : Option Shadow) (coming : Coming) → (old.contents ≡ None → new.contents ≡ None)
-      → ((start : Files) → IsReady change start → Shows (IsInDoubt stopped change start) old → Shows (IsSettledAt (answered stands change start)) new)
+      → ((start : Files) → IsReady change start → Shows (IsInDoubt stopped change start) old → Shows (IsSettledAt (settled_files stands change start)) new)
       → ((start : Files) → IsReady change start → Shows (IsInDoubt stopped change start) old → IsAllSynced new)
       → IsStoppedAs stopped change from texts copies old → IsChange old.contents change from texts copies coming → IsAnsweredAs stands from texts coming new
   answer_as stands stopped old new from texts copies coming silent answer durable doubt is = by_contents old.contents refl

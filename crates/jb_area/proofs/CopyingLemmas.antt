@@ -5,7 +5,7 @@ use Rattle.std.specs.Prelude.{slice_index}
 use Rattle.jb_disk.specs.RedoView.{RedoView}
 use Rattle.jb_disk.specs.Device.{Device, OnlyReads, Resizes, Syncs, TellsAlike, TellsAnImage}
 use Rattle.jb_disk.specs.FileLaws.{same_file, same_files}
-use Rattle.jb_disk.specs.Files.{Files, number_of}
+use Rattle.jb_disk.specs.Files.{Files, file_number}
 use Rattle.jb_disk.specs.Memory.{of_length}
 use Rattle.jb_disk.specs.Runs.{IsAllSynced, LeavesOnly, Shows}
 use Rattle.jb_disk.specs.Steps.{Span, patched}
@@ -28,11 +28,11 @@ use Rattle.jb_redo.proofs.ApplyLemmas.{turns_from}
 use Rattle.jb_redo.proofs.SizeLemmas.{not_given}
 use Rattle.jb_redo.proofs.SpanLemmas.{no_spans}
 use Rattle.jb_redo.proofs.WayLemmas.{resized_same, resized_with_zeros}
-use Rattle.jb_redo.specs.Rules.{IsLegal, new_sizes, sizes_of}
+use Rattle.jb_redo.specs.Rules.{IsLegalRecord, new_sizes, sizes_of}
 use Rattle.jb_decide.proofs.AgreeLemmas.{loads_agree}
 use Rattle.jb_decide.specs.Coming.{BringsComing, Coming}
 use Rattle.jb_decide.specs.Decided.{IsPacking}
-use Rattle.jb_decide.specs.Holds.{HasAll, Holds}
+use Rattle.jb_decide.specs.Holds.{HoldsCopies, Holds}
 use Rattle.jb_decide.specs.StepOf.{IsNoPack}
 use Rattle.jb_area.specs.Area.{copied_after}
 use Rattle.jb_area.specs.Calls.{OnlyReadsOrCopies}
@@ -42,8 +42,8 @@ use Rattle.jb_area.proofs.CommitLemmas.{only_weaken}
 use Rattle.jb_area.proofs.HoldLemmas.{rest_opens}
 
 -- a file with another number is not the shadow of the texts
-no_shadow : (file : FileId) → number_of file < 5 → file ≢ Ndt
-no_shadow file low is = let same : number_of file ≡ 5 = ap number_of is in omega (arith, same)
+no_shadow : (file : FileId) → file_number file < 5 → file ≢ Ndt
+no_shadow file low is = let same : file_number file ≡ 5 = ap file_number is in omega (arith, same)
 
 -- the shadow of the texts bears on nothing that is at rest
 pub rest_agrees : (loaded : Loaded) (texts : List ℕ) (files other : Files) → AgreeButShadow files other → IsAtRest loaded texts files → IsAtRest loaded texts other
@@ -167,7 +167,7 @@ by_reads Relink old new reads = reads
 by_reads Pack old new reads = touches-read old new reads
 
 -- a change leaves .NDT
-pub kept_shadow : (change : RedoView) (files : Files) → IsLegal (sizes_of files) change.lengths change.pieces → changed change files Ndt ≡ files Ndt
+pub kept_shadow : (change : RedoView) (files : Files) → IsLegalRecord (sizes_of files) change.lengths change.pieces → changed change files Ndt ≡ files Ndt
 kept_shadow change files legal =
     let ends : FileId → ℕ = new_sizes change.lengths (sizes_of files) in
     ap (λ (spans : List Span). patched spans (of_length (ends Ndt) (files Ndt)))
@@ -177,18 +177,18 @@ kept_shadow change files legal =
 
 -- copies stay in the files that a change makes of which the texts begin with those before
 stay_has : (redo : RedoView) (from : Loaded) (texts : List ℕ) (copies : Option Shadow) (coming : Coming) (was now : Files) → take (length texts) coming.texts ≡ texts → BringsComing redo from texts copies coming
-    → Holds from texts was → HasAll copies was → Holds coming.to coming.texts now → AgreeButJournal now (changed redo was) → HasAll copies now
+    → Holds from texts was → HoldsCopies copies was → Holds coming.to coming.texts now → AgreeButJournal now (changed redo was) → HoldsCopies copies now
 stay_has redo from texts None coming was now grows brings holds has after agree = tt
 stay_has redo from texts (Some shadow) coming was now grows brings holds has after agree =
     stays_copied shadow was now has
-    (agree Ndt (λ is. let same : number_of Ndt ≡ number_of Jnl = ap number_of is in omega (arith, same)) ∙ kept_shadow redo was (brings.legal was (record { holds = holds; has = has })))
+    (agree Ndt (λ is. let same : file_number Ndt ≡ file_number Jnl = ap file_number is in omega (arith, same)) ∙ kept_shadow redo was (brings.legal was (record { holds = holds; has = has })))
     (ap (λ (l : List ℕ). take (length l) (now Jdt)) holds.texts_are ∙ ap (take (length texts)) after.texts_are ∙ grows ∙ sym holds.texts_are)
 
 -- so do those that are kept once it is done
 pub after_has : (change : Change) (redo : RedoView) (from : Loaded) (texts : List ℕ) (copies : Option Shadow) (coming : Coming) (was now : Files)
     → ((IsPacking change → ⊥) → take (length texts) coming.texts ≡ texts)
-    → BringsComing redo from texts copies coming → Holds from texts was → HasAll copies was → Holds coming.to coming.texts now → AgreeButJournal now (changed redo was)
-    → HasAll (copied_after change copies) now
+    → BringsComing redo from texts copies coming → Holds from texts was → HoldsCopies copies was → Holds coming.to coming.texts now → AgreeButJournal now (changed redo was)
+    → HoldsCopies (copied_after change copies) now
 after_has Nothing redo from texts copies coming was now grows brings holds has after agree = stay_has redo from texts copies coming was now (grows (λ no. no)) brings holds has after agree
 after_has (Posted message neighbour) redo from texts copies coming was now grows brings holds has after agree = stay_has redo from texts copies coming was now (grows (λ no. no)) brings holds has after agree
 after_has (Headed at) redo from texts copies coming was now grows brings holds has after agree = stay_has redo from texts copies coming was now (grows (λ no. no)) brings holds has after agree

@@ -17,7 +17,7 @@ use Rattle.jb_state.specs.declared.loaded.Loaded.{Loaded}
 use Rattle.jb_pack.specs.Shadow.{Shadow}
 use Rattle.jb_decide.specs.Coming.{Coming, IsChange}
 use Rattle.jb_decide.specs.Decided.{IsPending}
-use Rattle.jb_decide.specs.Holds.{HasAll}
+use Rattle.jb_decide.specs.Holds.{HoldsCopies}
 use Rattle.jb_area.specs.Area.{redo_in, redo_of, stopped_in, stopped_of, DoubtOpens, IsBetween, IsDoubtful, IsHalfCopied, IsUnchanged, RestsAt, SettlesAt}
 use Rattle.jb_area.specs.Commits.{IsAnsweredAs, IsCopyingAs, IsSettledAs, IsStoppedAs, MaySettle, StandsFirm, StandsLate, StopsAgain}
 use Rattle.jb_area.specs.Holds.{Opens, OpensToEither}
@@ -43,7 +43,7 @@ no_copying stopped pending is = cc
 -- an area in doubt is at that stage, or at a copying
 pub at_doubt : {D : Type 0} (shown : D → Device) (area : OpenArea D) (texts : List ℕ) (coming : Option Coming) → IsDoubtful shown area texts coming
     → ((stopped : Stopped) × (pending : Pending) × (area.stage ≡ Doubtful stopped pending)) ⊎ (area.stage ≡ Copying)
-at_doubt shown area texts None (inl unchanged) = inl (Early, unchanged.pending, unchanged.stage)
+at_doubt shown area texts None (inl unchanged) = inl (Early, record { change = Nothing; replies = None }, unchanged.stage)
 at_doubt shown area texts None (inr half) = inr half.stage
 at_doubt shown area texts (Some coming) doubt = inl (doubt.stopped, doubt.pending, doubt.stage)
 
@@ -67,7 +67,7 @@ early_late is = cc
 module _ {D : Type 0} (shown : D → Device) (area : OpenArea D) (is : area.stage ≡ Copying) where
   -- no change is in doubt
   pub half_copied : (texts : List ℕ) (coming : Option Coming) → IsDoubtful shown area texts coming → IsHalfCopied shown area texts × (coming ≡ None)
-  half_copied texts None (inl unchanged) = absurd (no_copying Early unchanged.pending (sym is ∙ unchanged.stage))
+  half_copied texts None (inl unchanged) = absurd (no_copying Early (record { change = Nothing; replies = None }) (sym is ∙ unchanged.stage))
   half_copied texts None (inr half) = (half, refl)
   half_copied texts (Some coming) doubt = absurd (no_copying doubt.stopped doubt.pending (sym is ∙ doubt.stage))
 
@@ -101,7 +101,7 @@ module _ {D : Type 0} (shown : D → Device) (area : OpenArea D) (is : area.stag
           kept = record {
             ruled = record { few_slots = half.ruled.few_slots; address = half.ruled.address; sound = half.ruled.sound; sized = half.ruled.sized; room = half.ruled.room };
             settled = settled area.held texts half.copying;
-            copies = λ files there. subst (λ (c : Option Shadow). HasAll c files) (sym none) tt;
+            copies = λ files there. subst (λ (c : Option Shadow). HoldsCopies c files) (sym none) tt;
           };
         };
         is = refl;
@@ -156,7 +156,7 @@ module _ {D : Type 0} (shown : D → Device) (area : OpenArea D) (stopped : Stop
             kept = record {
               ruled = record { few_slots = kept.ruled.few_slots; address = kept.ruled.address; sound = kept.ruled.sound; sized = kept.ruled.sized; room = kept.ruled.room };
               settled = kept.settled;
-              copies = λ files there. subst (λ (c : Option Shadow). HasAll c files) (sym no_copies) tt;
+              copies = λ files there. subst (λ (c : Option Shadow). HoldsCopies c files) (sym no_copies) tt;
             };
           };
           is = refl;
@@ -175,7 +175,7 @@ module _ {D : Type 0} (shown : D → Device) (area : OpenArea D) (stopped : Stop
     -- nothing else was to come
     no_none : (texts : List ℕ) → IsUnchanged shown area texts ⊎ IsHalfCopied shown area texts → ⊥
     no_none texts (inl unchanged) =
-        some (ap (λ (p : Pending). p.change) (same_pending stopped Early pending unchanged.pending (sym is ∙ unchanged.stage)) ∙ unchanged.none)
+        some (ap (λ (p : Pending). p.change) (same_pending stopped Early pending _ (sym is ∙ unchanged.stage)))
     no_none texts (inr half) = no_copying stopped pending (sym half.stage ∙ is)
 
     -- what is in doubt
@@ -241,7 +241,7 @@ module _ {D : Type 0} (shown : D → Device) (area : OpenArea D) (stopped : Stop
               kept = record {
                 ruled = record { few_slots = doubt.ruled.few_slots; address = doubt.ruled.address; sound = subst (IsSound area.rules.slots) to change.sound; sized = change.sized ∙ ap (λ (l : Loaded). l.texts_len) to; room = doubt.ruled.room };
                 settled = subst (λ (l : Loaded). IsSettledAs l coming.texts (shown disk)) to (answer area.held texts area.packer coming (doubt_in texts coming doubt) change.change);
-                copies = λ files there. subst (λ (c : Option Shadow). HasAll c files) (sym none) tt;
+                copies = λ files there. subst (λ (c : Option Shadow). HoldsCopies c files) (sym none) tt;
               };
             };
             is = sym to;
@@ -260,7 +260,7 @@ module _ {D : Type 0} (shown : D → Device) (area : OpenArea D) (stopped : Stop
           kept = record {
             ruled = record { few_slots = doubt.ruled.few_slots; address = doubt.ruled.address; sound = doubt.ruled.sound; sized = doubt.ruled.sized; room = doubt.ruled.room };
             settled = answer area.held texts area.packer coming (doubt_in texts coming doubt) (change_in texts coming doubt).change;
-            copies = λ files there. subst (λ (c : Option Shadow). HasAll c files) (sym none) tt;
+            copies = λ files there. subst (λ (c : Option Shadow). HoldsCopies c files) (sym none) tt;
           };
         };
         is = refl;

@@ -3,7 +3,7 @@ use Rattle.std.proofs.Common.{◌≡◌, ◌≢◌, inl, inr, ℕ, ◌<◌, ◌�
 use Rattle.std.proofs.lemmas.List.{places}
 use Rattle.std.specs.Prelude.{slice_index}
 use Rattle.jb_disk.specs.RedoView.{RedoView}
-use Rattle.jb_disk.specs.Files.{Files, number_of, overwritten, with_file}
+use Rattle.jb_disk.specs.Files.{Files, file_number, overwritten, with_file}
 use Rattle.jb_disk.specs.declared.file.FileId.{FileId}
 use Rattle.jb_disk.specs.declared.file.FileId.TheVariants.{Jhr, Jdt, Jdx, Jlr, Jnl}
 use Rattle.jb_journal.specs.Commit.{AgreeButJournal, IsReady, ReplaysTo, IsBeforeOrAfter, committed, journal_of}
@@ -14,14 +14,14 @@ use Rattle.jb_state.specs.declared.loaded.Loaded.{Loaded}
 use Rattle.jb_pack.specs.Shadow.{Shadow}
 use Rattle.jb_redo.specs.Record.{record_bytes}
 use Rattle.jb_decide.specs.Coming.{BringsComing, Coming}
-use Rattle.jb_decide.specs.Holds.{HasAll, Holds, HoldsWith}
+use Rattle.jb_decide.specs.Holds.{HoldsCopies, Holds, HoldsWith}
 use Rattle.jb_decide.proofs.AgreeLemmas.{loads_agree}
 use Rattle.jb_area.specs.Commits.{HasRecordOf}
 use Rattle.jb_area.specs.Holds.{IsAtRest, Opens, OpensToEither}
 
 -- a file with another number is another file
-apart : (file : FileId) → number_of file < 4 → file ≢ Jnl
-apart file low is = let same : number_of file ≡ 4 = ap number_of is in omega (arith, same)
+apart : (file : FileId) → file_number file < 4 → file ≢ Jnl
+apart file low is = let same : file_number file ≡ 4 = ap file_number is in omega (arith, same)
 
 -- the journal bears on nothing that the area holds
 pub holds_agree : (files other : Files) (loaded : Loaded) (texts : List ℕ) → AgreeButJournal files other → Holds loaded texts other → Holds loaded texts files
@@ -48,7 +48,7 @@ opens_either change from texts copies coming start files brings holds (inr after
     inr (opens_to (changed change start) files coming.to coming.texts (brings.made start holds) after)
 
 -- the change may be committed over files at rest
-pub ready : (change : RedoView) (from : Loaded) (texts : List ℕ) (copies : Option Shadow) (coming : Coming) (files : Files) → BringsComing change from texts copies coming → IsAtRest from texts files → HasAll copies files
+pub ready : (change : RedoView) (from : Loaded) (texts : List ℕ) (copies : Option Shadow) (coming : Coming) (files : Files) → BringsComing change from texts copies coming → IsAtRest from texts files → HoldsCopies copies files
     → IsReady change files
 ready change from texts copies coming files brings rest has = record {
   legal = brings.legal files (record { holds = rest.holds; has = has });
@@ -113,7 +113,7 @@ module _ (change : RedoView) (start : Files) where
       ∙ with_file-other Jnl file (journal_of change start) (changed change start) ne
 
 -- after a commit the files are at rest with the change done
-pub rests_committed : (change : RedoView) (from : Loaded) (texts : List ℕ) (copies : Option Shadow) (coming : Coming) (files : Files) → BringsComing change from texts copies coming → IsAtRest from texts files → HasAll copies files
+pub rests_committed : (change : RedoView) (from : Loaded) (texts : List ℕ) (copies : Option Shadow) (coming : Coming) (files : Files) → BringsComing change from texts copies coming → IsAtRest from texts files → HoldsCopies copies files
     → IsAtRest coming.to coming.texts (committed change files)
 rests_committed change from texts copies coming files brings rest has = record {
   holds = holds_agree (committed change files) (changed change files) coming.to coming.texts (committed-agrees change files) (brings.made files (record { holds = rest.holds; has = has }));

@@ -16,9 +16,9 @@ use Rattle.jb_journal.specs.Commit.{AgreeButJournal}
 use Rattle.jb_redo.specs.Changes.{changed}
 use Rattle.jb_decide.proofs.DecidedLemmas.{fits_under, keeps_texts, sound_under}
 use Rattle.jb_decide.specs.Decided.{IsNoChange, IsPacking, IsPending, made}
-use Rattle.jb_decide.specs.Holds.{HasAll}
+use Rattle.jb_decide.specs.Holds.{HoldsCopies}
 use Rattle.jb_decide.specs.Packs.{IsPacked}
-use Rattle.jb_area.specs.Area.{copied_after, done_in, kept_in, redo_in, redo_of, HasMade, HasNoChange, IsBegun, IsBetween, RestsAt}
+use Rattle.jb_area.specs.Area.{copied_after, done_in, copies_kept, redo_in, redo_of, HasMade, HasNoChange, IsBegun, IsBetween, RestsAt}
 use Rattle.jb_decide.specs.Coming.{coming_of}
 use Rattle.jb_area.specs.Commits.{HasRecordOf, IsSettledAs, IsSettledWith, IsStoppedAs, MayCommit}
 use Rattle.jb_area.specs.Holds.{HasShortJournal}
@@ -47,8 +47,8 @@ some_change area reply pending is some idle =
     some (ap (λ (p : Pending). p.change) (same_pending reply idle.reply pending idle.pending (sym is ∙ idle.stage)) ∙ idle.none)
 
 -- the copies that are kept once a call is done, by what is pending
-pub kept_by : (stage : Stage) (reply : Reply) (pending : Pending) (copies : Option Shadow) → stage ≡ Begun reply pending → kept_in stage copies ≡ copied_after pending.change copies
-kept_by stage reply pending copies is = ap (λ (s : Stage). kept_in s copies) is
+pub kept_by : (stage : Stage) (reply : Reply) (pending : Pending) (copies : Option Shadow) → stage ≡ Begun reply pending → copies_kept stage copies ≡ copied_after pending.change copies
+kept_by stage reply pending copies is = ap (λ (s : Stage). copies_kept s copies) is
 
 -- nothing changes where nothing is pending
 pub none_pending : (limit : ℕ) (contents : Option Files) (copies : Option Shadow) (redo : RedoView) (change : Change) (from : Loaded) (posted texts : List ℕ) (coming : Coming) → change ≡ Nothing
@@ -213,8 +213,8 @@ module _ {D : Type 0} (shown : D → Device) where
                 ruled = record { few_slots = begun.kept.ruled.few_slots; address = begun.kept.ruled.address; sound = subst (IsSound area.rules.slots) to change.sound; sized = change.sized ∙ ap (λ (l : Loaded). l.texts_len) to; room = begun.kept.ruled.room };
                 settled = subst (λ (l : Loaded). IsSettledAs l coming.texts (shown disk)) to settled;
                 copies = λ now here.
-                    told_before (shown area.disk) (shown disk) (stays_silent (shown area.disk).contents (shown disk).contents alike) (HasAll packer now) (λ was there.
-                    subst (λ (c : Option Shadow). HasAll c now) (sym copied)
+                    told_before (shown area.disk) (shown disk) (stays_silent (shown area.disk).contents (shown disk).contents alike) (HoldsCopies packer now) (λ was there.
+                    subst (λ (c : Option Shadow). HoldsCopies c now) (sym copied)
                     (after_has pending.change redo area.held texts area.packer coming was now
                     (keeps_texts area.rules.slots (shown area.disk).contents area.packer redo pending.change area.held begun.posted texts coming change) (change.change.brings was there)
                     (begun.kept.settled.rests was there).holds (begun.kept.copies was there) (settled.rests now here).holds (made was there now here))) now here;

@@ -30,7 +30,7 @@ use Rattle.jb_state.specs.declared.change.Change.{Change}
 use Rattle.jb_state.specs.declared.change.Change.TheVariants.{Nothing}
 use Rattle.jb_model.specs.declared.command.Command.{Command}
 use Rattle.jb_state.specs.declared.loaded.Loaded.{Loaded}
-use Rattle.jb_area.specs.Area.{copies_after, kept_in, redo_in, HasNoChange, IsDoubtful, IsKept, IsResting, RestsAt}
+use Rattle.jb_area.specs.Area.{copies_after, copies_kept, redo_in, HasNoChange, IsDoubtful, IsHeldByFiles, IsResting, RestsAt}
 use Rattle.jb_area.specs.Calls.{AnswersAs, BeginsCall, BeginsReading, FailsWith, HasRest, HasStoppedIn, IsBegunFor, IsNotBegun, OnlyReadsOrCopies, StartsAs, large_after}
 use Rattle.jb_area.specs.Commits.{IsSettledAs}
 use Rattle.jb_area.specs.Holds.{IsAtRest, Opens}
@@ -136,8 +136,8 @@ module _ {D : Type 0} (shown : D → Device) where
       (is_packer : new.packer ≡ area.packer)
       (reads : OnlyReads (shown area.disk) (shown disk)) (room : HasRoomInAll redo) where
     -- what is kept stays so
-    kept_read : (large : Option RedoView) (stage : Stage) (texts : List ℕ) → IsKept shown area texts
-        → IsKept shown (record { disk = disk; rules = area.rules; held = area.held; redo = redo; large = large; packer = area.packer; stage = stage }) texts
+    kept_read : (large : Option RedoView) (stage : Stage) (texts : List ℕ) → IsHeldByFiles shown area texts
+        → IsHeldByFiles shown (record { disk = disk; rules = area.rules; held = area.held; redo = redo; large = large; packer = area.packer; stage = stage }) texts
     kept_read large stage texts kept = record {
       ruled = record { few_slots = kept.ruled.few_slots; address = kept.ruled.address; sound = kept.ruled.sound; sized = kept.ruled.sized; room = room };
       settled = settled_read area.held texts (shown area.disk) (shown disk) reads kept.settled;
@@ -185,7 +185,7 @@ module _ {D : Type 0} (shown : D → Device) where
         → IfOk decided (λ one. (texts : List ℕ) → AreTexts area.held texts (shown area.disk).contents → IsDecided area.rules area.held texts (shown area.disk).contents area.packer (redo_in given redo) user moment command one)
         → HasRest shown area → OnOk result (IsNoPack command → copies_after new ≡ new.packer)
     stays (Ok decided) (Ok done) user moment command stage answer is has = λ in_place.
-        ap (λ (s : Stage). kept_in s new.packer) stage ∙ copies_stay decided.pending.change new.packer ((is has.texts (texts_own area has.texts has.rests)).kind in_place)
+        ap (λ (s : Stage). copies_kept s new.packer) stage ∙ copies_stay decided.pending.change new.packer ((is has.texts (texts_own area has.texts has.rests)).kind in_place)
     stays decided (Err error) user moment command stage answer is has = tt
     stays (Err error) (Ok done) user moment command stage answer is has = absurd (ok_not_err (Ok done) done error refl answer)
 
@@ -197,7 +197,7 @@ module _ {D : Type 0} (shown : D → Device) where
     starts_not (Err StoreFault) (Err StoreFault) stage is_large answer = λ texts resting.
         let pending : Pending = record { change = Nothing; replies = None } in
         rebuilt (λ (a : OpenArea D). IsDoubtful shown a texts None) new disk area.rules area.held redo area.large area.packer (Doubtful Early pending) is_disk is_rules is_held is_redo is_large is_packer stage
-        (inl (record { pending = pending; stage = refl; none = refl; kept = kept_read area.large (Doubtful Early pending) texts resting.kept }))
+        (inl (record { stage = refl; kept = kept_read area.large (Doubtful Early pending) texts resting.kept }))
     starts_not (Err OutOfMemory) (Err OutOfMemory) stage is_large answer = λ texts resting.
         rebuilt (λ (a : OpenArea D). RestsAt shown a texts area.held) new disk area.rules area.held redo area.large area.packer Resting is_disk is_rules is_held is_redo is_large is_packer (stage ∙ resting.stage)
         (record { rests = record { stage = refl; small = resting.small; kept = kept_read area.large Resting texts resting.kept }; is = refl })

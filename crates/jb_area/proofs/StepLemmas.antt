@@ -1,11 +1,10 @@
 -- A step of a pack, and a pack behind one.
 use Rattle.std.proofs.Common.{◌≡◌, ◌≢◌, inr, ℕ, Bool, false, nat_lt, ltb-false, List, Option, None, Some, Result, Ok, Err, IfErr, IfOk, OnOk, ap, refl, sym, ◌∙◌, subst, arith}
 use Rattle.std.specs.Option.{ForSome}
-use Rattle.jb_limits.specs.declared.limits.TheConstants.{MOST_TEXT_BYTES}
 use Rattle.jb_base.specs.declared.area.AreaRules.{AreaRules}
 use Rattle.jb_base.specs.declared.user.User.{User}
 use Rattle.jb_decide.specs.Errors.{is_area_fault}
-use Rattle.jb_decide.specs.Holds.{HasAll}
+use Rattle.jb_decide.specs.Holds.{HoldsCopies}
 use Rattle.jb_decide.specs.Packs.{MayPack}
 use Rattle.jb_decide.specs.declared.decided.Decided.{Decided}
 use Rattle.jb_decide.specs.declared.error.AreaError.{AreaError}
@@ -22,6 +21,7 @@ use Rattle.jb_pack.specs.Shadow.{Shadow, left}
 use Rattle.jb_pack.specs.Touching.{TouchesShadow}
 use Rattle.jb_pack.specs.declared.error.PackError.{PackError}
 use Rattle.jb_pack.specs.declared.error.PackError.TheVariants as pack_error
+use Rattle.jb_pack.specs.declared.run.TheConstants.{PACK_STEP_BYTES}
 use Rattle.jb_area.specs.Area.{HasNoChange, IsDoubtful, IsResting, RestsAt}
 use Rattle.jb_area.specs.Calls.{AnswersAs, BeginsCall, BeginsReading, HasRest, IsNotBegun, StartsAs, StepsPack}
 use Rattle.jb_area.specs.Commits.{IsCopyingAs}
@@ -67,7 +67,7 @@ module _ {D : Type 0} (shown : D → Device) where
     still_copying texts resting = copying_by old.held texts (shown old.disk) (shown disk) touches (settled_copying old.held texts (shown old.disk) resting.kept.settled)
 
     -- at rest, where all is synced and the copies are there
-    copied_rests : (IsAllSynced (shown old.disk) → IsAllSynced (shown disk)) → ForSome (shown disk).contents (HasAll packer) → (texts : List ℕ) → IsResting shown old texts
+    copied_rests : (IsAllSynced (shown old.disk) → IsAllSynced (shown disk)) → ForSome (shown disk).contents (HoldsCopies packer) → (texts : List ℕ) → IsResting shown old texts
         → RestsAt shown (record old { disk = disk; packer = packer }) texts old.held
     copied_rests synced has texts resting = record {
       rests = record {
@@ -109,12 +109,12 @@ module _ {D : Type 0} (shown : D → Device) where
     }
 
     -- one that was done
-    pub steps_done : (more : Bool) → (IsAllSynced (shown old.disk) → IsAllSynced (shown disk)) → ForSome (shown disk).contents (HasAll packer)
+    pub steps_done : (more : Bool) → (IsAllSynced (shown old.disk) → IsAllSynced (shown disk)) → ForSome (shown disk).contents (HoldsCopies packer)
         → CountsFaults is_area_fault (shown old.disk) (shown disk) (Ok more) → StepsPack shown old (record old { disk = disk; packer = packer }) (Ok more)
     steps_done more synced has = steps old.stage (Ok more) (copied_rests synced has) tt
 
     -- one that wanted memory
-    pub steps_wanting : (IsAllSynced (shown old.disk) → IsAllSynced (shown disk)) → ForSome (shown disk).contents (HasAll packer)
+    pub steps_wanting : (IsAllSynced (shown old.disk) → IsAllSynced (shown disk)) → ForSome (shown disk).contents (HoldsCopies packer)
         → CountsFaults {T = Bool} is_area_fault (shown old.disk) (shown disk) (Err OutOfMemory) → StepsPack shown old (record old { disk = disk; packer = packer }) (Err OutOfMemory)
     steps_wanting synced has = steps old.stage (Err OutOfMemory) tt (copied_rests synced has)
 
@@ -138,7 +138,7 @@ module _ {D : Type 0} (shown : D → Device) where
   }
 
   -- where a step says that no text is left, none is
-  pub all_then : (old mid : OpenArea D) (copied : Result Bool AreaError) (more : Bool) → StepsPack shown old mid copied → HasCopiedSome MOST_TEXT_BYTES old.held.slots old.packer mid.packer more
+  pub all_then : (old mid : OpenArea D) (copied : Result Bool AreaError) (more : Bool) → StepsPack shown old mid copied → HasCopiedSome PACK_STEP_BYTES old.held.slots old.packer mid.packer more
       → more ≡ false → AreAllCopied mid.held.slots mid.packer
   all_then old mid copied more steps some none = record {
     shadow = some.shadow;

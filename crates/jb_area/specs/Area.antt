@@ -6,7 +6,7 @@ use Rattle.jb_limits.specs.declared.limits.TheConstants.{MOST_ADDRESS_BYTES, MOS
 use Rattle.jb_change.specs.Ready.{HasRoomInAll}
 use Rattle.jb_decide.specs.Coming.{Coming}
 use Rattle.jb_decide.specs.Decided.{IsNoChange, IsPacking, IsPending, made}
-use Rattle.jb_decide.specs.Holds.{HasAll}
+use Rattle.jb_decide.specs.Holds.{HoldsCopies}
 use Rattle.jb_decide.specs.Packs.{IsPacked}
 use Rattle.jb_disk.specs.RedoView.{RedoView}
 use Rattle.jb_disk.specs.Device.{Device}
@@ -46,11 +46,11 @@ copied_after (Packed plan base) copies = None
 copied_after _ copies = copies
 
 -- the same, once the call is done that is begun
-abbrev pub kept_in : Stage → Option Shadow → Option Shadow
-kept_in Resting copies = copies
-kept_in (Begun reply pending) copies = copied_after pending.change copies
-kept_in (Doubtful stopped pending) copies = copies
-kept_in Copying copies = copies
+abbrev pub copies_kept : Stage → Option Shadow → Option Shadow
+copies_kept Resting copies = copies
+copies_kept (Begun reply pending) copies = copied_after pending.change copies
+copies_kept (Doubtful stopped pending) copies = copies
+copies_kept Copying copies = copies
 
 -- where the call was stopped that is in doubt; a copying of texts is stopped early
 abbrev pub stopped_in : Stage → Stopped
@@ -86,7 +86,7 @@ module _ {D : Type 0} where
 
   -- what the area keeps of it once what is begun is done
   abbrev pub copies_after : OpenArea D → Option Shadow
-  copies_after area = kept_in area.stage area.packer
+  copies_after area = copies_kept area.stage area.packer
 
   -- these files with what is begun in the area done in them
   abbrev pub files_after : OpenArea D → Files → Files
@@ -114,16 +114,16 @@ module _ {D : Type 0} (shown : D → Device) where
   device_of area = shown area.disk
 
   -- the files hold what is loaded, with these texts, and what is copied of them; nothing is on its way, and a crash now leaves them so
-  pub record IsKept (area : OpenArea D) (texts : List ℕ) : Type 0 where
+  pub record IsHeldByFiles (area : OpenArea D) (texts : List ℕ) : Type 0 where
     pub ruled : IsSoundFor area texts
     pub settled : IsSettledAs area.held texts (shown area.disk)
-    pub copies : ForSome (shown area.disk).contents (HasAll area.packer)
+    pub copies : ForSome (shown area.disk).contents (HoldsCopies area.packer)
 
   -- no call is begun, no redo is kept but the small one, and the area is settled
   pub record IsResting (area : OpenArea D) (texts : List ℕ) : Type 0 where
     pub stage : area.stage ≡ Resting
     pub small : area.large ≡ None
-    pub kept : IsKept area texts
+    pub kept : IsHeldByFiles area texts
 
   -- a call is begun that will be answered so, and this is to come of it; a post has this text, and it packs the area where the
   -- answer says so
@@ -131,7 +131,7 @@ module _ {D : Type 0} (shown : D → Device) where
     pub posted : List ℕ
     pub pending : Pending
     pub stage : area.stage ≡ Begun reply pending
-    pub kept : IsKept area texts
+    pub kept : IsHeldByFiles area texts
     pub change : IsNoChange pending.change area.held texts coming
         ⊎ IsPending area.rules.slots (shown area.disk).contents area.packer (redo_of area) pending.change area.held posted texts coming
     pub replies : HasReplies pending.change pending.replies area.held
@@ -159,10 +159,8 @@ module _ {D : Type 0} (shown : D → Device) where
 
   -- a call was stopped that had changed nothing
   pub record IsUnchanged (area : OpenArea D) (texts : List ℕ) : Type 0 where
-    pub pending : Pending
-    pub stage : area.stage ≡ Doubtful Early pending
-    pub none : pending.change ≡ Nothing
-    pub kept : IsKept area texts
+    pub stage : area.stage ≡ Doubtful Early (record { change = Nothing; replies = None })
+    pub kept : IsHeldByFiles area texts
 
   -- a copying of texts was stopped: .NDT may hold anything, and a crash may leave anything of it; all else is as before
   pub record IsHalfCopied (area : OpenArea D) (texts : List ℕ) : Type 0 where

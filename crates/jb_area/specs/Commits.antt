@@ -2,7 +2,7 @@
 use Rattle.std.specs.Prelude.{◌≡◌, ℕ, ◌+◌, Bool, true, false, List, Option, length}
 use Rattle.std.specs.Option.{ForSome}
 use Rattle.jb_decide.specs.Coming.{Coming, IsChange}
-use Rattle.jb_decide.specs.Holds.{HasAll}
+use Rattle.jb_decide.specs.Holds.{HoldsCopies}
 use Rattle.jb_disk.specs.RedoView.{RedoView}
 use Rattle.jb_disk.specs.Device.{Device}
 use Rattle.jb_disk.specs.Files.{Files}
@@ -10,6 +10,7 @@ use Rattle.jb_disk.specs.Gate.{IsGateOpen}
 use Rattle.jb_disk.specs.Runs.{IsAllSynced, LeavesNow, LeavesOnly, Shows}
 use Rattle.jb_disk.specs.declared.file.FileId.TheVariants.{Jnl}
 use Rattle.jb_journal.specs.Doubt.{HasTriedToSync, IsInDoubt}
+use Rattle.jb_journal.specs.Opening.{StaysShut, WhereTold}
 use Rattle.jb_journal.specs.declared.stopped.Stopped.{Stopped}
 use Rattle.jb_journal.specs.declared.stopped.Stopped.TheVariants.{Early, Late}
 use Rattle.jb_state.specs.declared.loaded.Loaded.{Loaded}
@@ -26,7 +27,7 @@ pub record IsSettledAs (loaded : Loaded) (texts : List ℕ) (device : Device) : 
 -- and they have these copies of the texts
 pub record IsSettledWith (loaded : Loaded) (texts : List ℕ) (copies : Option Shadow) (device : Device) : Type 0 where
   pub settled : IsSettledAs loaded texts device
-  pub has : ForSome device.contents (HasAll copies)
+  pub has : ForSome device.contents (HoldsCopies copies)
 
 -- the journal is its head and the record of this redo, and no longer
 abbrev pub HasRecordOf : RedoView → Files → Type 0
@@ -36,7 +37,7 @@ HasRecordOf redo files = length (files Jnl) ≡ 16 + length (record_bytes redo.l
 pub record IsStopped (stopped : Stopped) (redo : RedoView) (from : Loaded) (texts : List ℕ) (copies : Option Shadow) (device : Device) : Type 0 where
   pub start : Files
   pub rests : IsAtRest from texts start
-  pub has : HasAll copies start
+  pub has : HoldsCopies copies start
   pub shows : Shows (IsInDoubt stopped redo start) device
 
 -- the same, where the disk tells
@@ -57,6 +58,11 @@ StandsLate Late coming device = ForSome device.contents (λ files. Shows (Opens 
 abbrev pub StandsFirm : Stopped → Coming → Device → Device → Type 0
 StandsFirm Early coming old new = Unit {0}
 StandsFirm Late coming old new = ForSome old.contents (λ files. LeavesOnly old new (Opens coming.to coming.texts))
+
+-- after an early stop a crash at each moment from one device to the next may leave the gate closed, where the disk tells images
+abbrev pub StaysShutEarly : Stopped → Device → Device → Type 0
+StaysShutEarly Early old new = ForSome old.contents (λ files. WhereTold old.moments (StaysShut old.moments new.moments))
+StaysShutEarly Late old new = Unit {0}
 
 -- a settling of what was stopped is stopped again: late stays late, and early becomes late by an open gate alone; by one it does, but for a stop that comes before the gate is read
 pub record StopsAgain (stopped again : Stopped) (old new : Device) : Type 0 where

@@ -6,7 +6,7 @@ use crate::places::{drop_both, drop_pending, drop_stage, put_redo, put_stage};
 use crate::stage::Stage;
 use jb_base::AreaRules;
 use jb_disk::{Disk, Redo};
-use jb_held::Held;
+use jb_held::HeldArea;
 use jb_journal::Stopped;
 use jb_link::Replies;
 use jb_model::Reply;
@@ -19,7 +19,7 @@ use std::mem;
 pub struct OpenArea<D: Disk> {
     pub(crate) disk: D,
     pub(crate) rules: AreaRules,
-    pub(crate) held: Held,
+    pub(crate) held: HeldArea,
     /// The change of a reading, a kill or a mark.
     pub(crate) redo: Redo,
     /// The change of the post, the relink or the pack that is begun or in doubt.
@@ -39,7 +39,7 @@ impl<D: Disk> OpenArea<D> {
     ghost use Rattle.jb_state.specs.Change.{Fits, after};
     ghost use Rattle.jb_model.specs.declared.reply.Reply.{Reply};
     ghost use Rattle.jb_area.specs.Calls.{EndsCall};
-    ghost use Rattle.jb_area.specs.Commits.{StandsFirm, StandsLate, StopsAgain};
+    ghost use Rattle.jb_area.specs.Commits.{StandsFirm, StandsLate, StaysShutEarly, StopsAgain};
     ghost use Rattle.jb_journal.specs.declared.stopped.Stopped.TheVariants.{Late};
     ghost use Rattle.jb_decide.specs.Coming.{Coming};
     ghost use Rattle.jb_area.specs.Area.{copied_of, device_of, loaded_of, rules_of, small_redo_of, DoubtOpens, HasBegun, HasDoubt, IsBegun, IsDoubtful, IsHalfCopied, IsResting, RestsAt, SettlesAt, stopped_of};
@@ -74,11 +74,14 @@ impl<D: Disk> OpenArea<D> {
         // Done as it was decided, or stopped by a fault, and then with a change that may stand or not.
         ensures ends { EndsCall D.device is_disk_fault self.old self.new result }
 
-        // It keeps where it was stopped; after a late stop the change stands, whenever a crash comes.
+        // It keeps where it was stopped. After a late stop the change stands, whenever a crash comes; after an early one a crash
+        // at each moment may leave the gate closed, so that the change does not stand.
         ensures place { IfErr result (λ stopped. stopped_of self.new ≡ stopped) }
         ensures late { IfErr result (λ stopped. (texts : List ℕ) (decided : Reply)
             (coming : Coming) → IsBegun D.device self.old texts decided coming
             → StandsLate stopped coming (device_of D.device self.new)) }
+        ensures early { IfErr result (λ stopped. StaysShutEarly stopped
+            (device_of D.device self.old) (device_of D.device self.new)) }
     {
         let stage = mem::replace(&mut self.stage, Stage::Resting);
         let Stage::Begun { reply, pending } = stage else {

@@ -5,25 +5,26 @@ use crate::OpenArea;
 use crate::copying::copy_some;
 use crate::places::{nothing_pending, put_redo, put_stage};
 use crate::stage::Stage;
-use jb_base::{MOST_TEXT_BYTES, OutOfMemory, User};
+use jb_base::{OutOfMemory, User};
 use jb_decide::{
-    AreaError, Decided, Draft, decide_kill, decide_mark, decide_pack, decide_peek, decide_post,
+    AreaError, Decided, LentDraft, decide_kill, decide_mark, decide_pack, decide_peek, decide_post,
     decide_read, decide_relink, refuse_pack,
 };
 use jb_disk::{Disk, Redo};
 use jb_journal::Stopped;
 use jb_model::Reply;
-use jb_pack::PackError;
+use jb_pack::{PACK_STEP_BYTES, PackError};
 use std::alloc::Global;
 
 impl<D: Disk> OpenArea<D> {
     ghost use Rattle.std.specs.Prelude.{List, IfOk, OnOk, true, false};
-    ghost use Rattle.jb_limits.specs.declared.limits.TheConstants.{MOST_NAME_BYTES, MOST_TEXT_BYTES, TEXTS_CEILING};
+    ghost use Rattle.jb_limits.specs.declared.limits.TheConstants.{MOST_NAME_BYTES, TEXTS_CEILING};
     ghost use Rattle.jb_base.specs.declared.user.User.{User};
     ghost use Rattle.jb_decide.specs.Draft.{draft_of, post_of};
     ghost use Rattle.jb_decide.specs.Errors.{is_area_fault};
     ghost use Rattle.jb_decide.specs.Packs.{MayPack, is_pack_refused};
     ghost use Rattle.jb_model.specs.declared.command.Command.TheVariants.{Kill, Pack, Peek, Read, Relink, SetMark};
+    ghost use Rattle.jb_pack.specs.declared.run.TheConstants.{PACK_STEP_BYTES};
     ghost use Rattle.jb_state.specs.Packed.{texts_size};
     ghost use Rattle.jb_area.specs.Area.{HasBegun, HasNoChange, IsResting, copied_of, loaded_of, rules_of, small_redo_of};
     ghost use Rattle.jb_area.specs.Calls.{AnswersAs, BeginsCall, BeginsReading, EndsCall, HasRest, MeetsCall, StartsAs, StepsPack, large_after};
@@ -192,7 +193,7 @@ impl<D: Disk> OpenArea<D> {
         alloc: Global,
         user: &User,
         moment: u32,
-        draft: Draft<'_>,
+        draft: LentDraft<'_>,
     ) -> Result<(), AreaError>
         requires rests { HasRest D.device self.old }
         requires name { length user.now.name ≤ MOST_NAME_BYTES }
@@ -223,7 +224,7 @@ impl<D: Disk> OpenArea<D> {
         alloc: Global,
         user: &User,
         moment: u32,
-        draft: Draft<'_>,
+        draft: LentDraft<'_>,
     ) -> Result<Reply, AreaError>
         requires rests { HasRest D.device self.old }
         requires name { length user.now.name ≤ MOST_NAME_BYTES }
@@ -295,10 +296,10 @@ impl<D: Disk> OpenArea<D> {
     ///
     /// Between two steps the area may be changed by any calls; those who pack it share the copies. A pack that comes then
     /// copies what is left, so a crash or a fault costs no more than the copies. It takes memory for a part of the texts,
-    /// 1,048,576 bytes, which it gives back, and 12 bytes a slot, which go with the pack.
+    /// `PACK_STEP_BYTES`, which it gives back, and 12 bytes a slot, which go with the pack.
     pub fn pack_some(&mut self, alloc: Global, user: &User, budget: u32) -> Result<bool, AreaError>
         requires rests { HasRest D.device self.old }
-        requires budget { MOST_TEXT_BYTES ≤ budget }
+        requires budget { PACK_STEP_BYTES ≤ budget }
         ensures steps { StepsPack D.device self.old self.new result }
 
         // Where a pack would be refused nothing is done.
@@ -327,7 +328,7 @@ impl<D: Disk> OpenArea<D> {
     {
         let mut more = true;
         while more {
-            match self.copy(alloc, MOST_TEXT_BYTES) {
+            match self.copy(alloc, PACK_STEP_BYTES) {
                 Ok(left) => more = left,
                 Err(error) => return Err(error),
             }
@@ -382,7 +383,7 @@ impl<D: Disk> OpenArea<D> {
 
     /// Packs the area: killed messages are dropped, the numbers below the lowest live one are cut off, and headers, index and
     /// texts are written anew without a gap, with the reply links computed anew. Every live message keeps its number. The texts
-    /// that [`pack_some`](OpenArea::pack_some) left are copied into .NDT first, in parts of 1,048,576 bytes, so .JNL is short
+    /// that [`pack_some`](OpenArea::pack_some) left are copied into .NDT first, in parts of `PACK_STEP_BYTES`, so .JNL is short
     /// however long they are. The memory that it takes, that of the new headers and index, of one part and of the copies, goes
     /// with it.
     pub fn pack(&mut self, alloc: Global, user: &User) -> Result<Reply, AreaError>

@@ -2,7 +2,7 @@
 
 use crate::{AreaError, OpenArea};
 use jb_base::User;
-use jb_decide::Draft;
+use jb_decide::LentDraft;
 use jb_disk::Disk;
 use jb_model::{Command, Reply};
 use std::alloc::Global;
@@ -34,7 +34,7 @@ impl<D: Disk> OpenArea<D> {
                 reply_to,
                 private,
             } => {
-                let draft = Draft {
+                let draft = LentDraft {
                     to: to.as_slice(),
                     subject: subject.as_slice(),
                     text: text.as_slice(),

@@ -10,7 +10,7 @@ ghost use Rattle.jb_state.specs.declared.loaded.Loaded.{Loaded};
 ghost use Rattle.jb_pack.specs.Shadow.{Shadow};
 ghost use Rattle.jb_decide.specs.Coming.{Coming, IsChange};
 ghost use Rattle.jb_area.specs.Area.{redo_in};
-ghost use Rattle.jb_area.specs.Commits.{HasRecordOf, IsAnsweredAs, IsSettledAs, IsSettledWith, IsStoppedAs, MayCommit, MaySettle, StandsFirm, StopsAgain};
+ghost use Rattle.jb_area.specs.Commits.{HasRecordOf, IsAnsweredAs, IsSettledAs, IsSettledWith, IsStoppedAs, MayCommit, MaySettle, StandsFirm, StaysShutEarly, StopsAgain};
 ghost use Rattle.jb_area.specs.Holds.{OpensToEither};
 
 use jb_disk::{Disk, Redo};
@@ -42,6 +42,8 @@ pub(crate) fn commit_change<D: Disk>(disk: &mut D, redo: &Redo) -> Result<(), St
         → IsSettledWith from texts copies (D.device disk.old)
         → IsChange (D.device disk.old).contents redo.now from texts copies coming
         → IsStoppedAs stopped redo.now from texts copies (D.device disk.new)) }
+    ensures early { IfErr result (λ stopped.
+        StaysShutEarly stopped (D.device disk.old) (D.device disk.new)) }
     ensures faults { CountsFaults is_disk_fault (D.device disk.old) (D.device disk.new) result }
     ensures crash { (from : Loaded) (texts : List ℕ) (copies : Option Shadow) (coming : Coming)
         → IsSettledWith from texts copies (D.device disk.old)

@@ -12,7 +12,7 @@ ghost use Rattle.jb_pack.specs.Copying.{is_pack_fault};
 ghost use Rattle.jb_state.specs.Packed.{texts_size};
 ghost use Rattle.jb_pack.specs.Shadow.{HasCopies};
 ghost use Rattle.jb_pack.specs.Touching.{IsUntouched, TouchesShadow};
-ghost use Rattle.jb_decide.specs.Holds.{HasAll};
+ghost use Rattle.jb_decide.specs.Holds.{HoldsCopies};
 ghost use Rattle.jb_area.specs.Area.{copied_after};
 ghost use Rattle.jb_area.specs.Commits.{IsCopyingAs, IsSettledAs};
 ghost use Rattle.jb_area.specs.Copying.{HasCopiedSome, UnlessFault, begun_of};
@@ -32,7 +32,7 @@ fn begun<D: Disk>(
     kept: Option<Packer>,
     loaded: &Loaded,
 ) -> Result<Packer, PackError>
-    requires has { ForSome (D.device disk.old).contents (HasAll kept) }
+    requires has { ForSome (D.device disk.old).contents (HoldsCopies kept) }
     ensures begun { IfOk result (λ packer. packer ≡ begun_of kept) }
     ensures has { IfOk result (λ packer. ForSome (D.device disk.new).contents (HasCopies packer)) }
     ensures durable { OnOk result (IsAllSynced (D.device disk.old) → IsAllSynced (D.device disk.new)) }
@@ -61,7 +61,7 @@ fn copy_with<D: Disk>(
     requires fits { texts_size loaded.now.slots ≤ TEXTS_CEILING }
     requires has { ForSome (D.device disk.old).contents (HasCopies packer) }
     ensures copied { IfOk result (HasCopiedSome budget loaded.now.slots (Some packer) kept.new) }
-    ensures has { UnlessFault result (ForSome (D.device disk.new).contents (HasAll kept.new)) }
+    ensures has { UnlessFault result (ForSome (D.device disk.new).contents (HoldsCopies kept.new)) }
     ensures durable { UnlessFault result (IsAllSynced (D.device disk.old) → IsAllSynced (D.device disk.new)) }
     ensures touches { TouchesShadow (D.device disk.old) (D.device disk.new) }
     ensures faults { CountsFaults is_pack_fault (D.device disk.old) (D.device disk.new) result }
@@ -85,11 +85,11 @@ pub(crate) fn copy_some<D: Disk>(
     requires told { ForSome (D.device disk.old).contents (λ files.
         length (files texts_file) ≡ loaded.now.texts_len) }
     requires fits { texts_size loaded.now.slots ≤ TEXTS_CEILING }
-    requires has { ForSome (D.device disk.old).contents (HasAll kept.old) }
+    requires has { ForSome (D.device disk.old).contents (HoldsCopies kept.old) }
     ensures copied { IfOk result (HasCopiedSome budget loaded.now.slots kept.old kept.new) }
 
     // But after a fault the files have what is copied, and are synced if they were so.
-    ensures has { UnlessFault result (ForSome (D.device disk.new).contents (HasAll kept.new)) }
+    ensures has { UnlessFault result (ForSome (D.device disk.new).contents (HoldsCopies kept.new)) }
     ensures durable { UnlessFault result (IsAllSynced (D.device disk.old) → IsAllSynced (D.device disk.new)) }
     ensures touches { TouchesShadow (D.device disk.old) (D.device disk.new) }
     ensures faults { CountsFaults is_pack_fault (D.device disk.old) (D.device disk.new) result }

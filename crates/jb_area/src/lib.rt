@@ -30,3 +30,4 @@ mod stage;
 
 pub use area::OpenArea;
 pub use jb_decide::AreaError;
+pub use jb_pack::PACK_STEP_BYTES;

@@ -15,7 +15,7 @@ use crate::OpenArea;
 use crate::stage::Stage;
 use jb_base::{AreaRules, OutOfMemory};
 use jb_disk::{Disk, Redo};
-use jb_held::Held;
+use jb_held::HeldArea;
 use jb_state::Loaded;
 use std::alloc::Global;
 
@@ -55,7 +55,7 @@ impl<D: Disk> OpenArea<D> {
         // Or the disk, as it was.
         ensures back { IfErr result (λ back. back ≡ disk) }
     {
-        let Ok(held) = Held::of(alloc, loaded) else {
+        let Ok(held) = HeldArea::of(alloc, loaded) else {
             return Err(disk);
         };
         let Ok(redo) = small_redo(alloc) else {

@@ -34,6 +34,7 @@ use Rattle.jb_redo.proofs.WayLemmas.{one_replay}
 use Rattle.jb_redo.specs.Reading.{HasRecord}
 use Rattle.jb_redo.specs.Replay.{Replays}
 use Rattle.jb_journal.proofs.RecoverLemmas.{told_now}
+use Rattle.jb_disk.proofs.FileLemmas.{leaves_map}
 
 -- another journal beside the files of the base
 module _ (journal : List ℕ) (files : Files) where
@@ -169,7 +170,7 @@ rests_prepared loaded read made shut loads prepared = λ now there.
     prepared_rests loaded from.0 now (shut from.0 from.1) (loads from.0 from.1) from.2
 
 -- behind an open gate a record was found
-record_of : (found : Recovered) (was : Files) → IsFound found was → IsGateOpen was → HasRecord was
+pub record_of : (found : Recovered) (was : Files) → IsFound found was → IsGateOpen was → HasRecord was
 record_of Closed was shut opened = absurd (shut opened)
 record_of Replayed was is opened = is.1
 
@@ -239,11 +240,6 @@ open_at shown before area recovered sized rests = λ was there safe.
     one_told : {a b : Files} → Some a ≡ Some b → a ≡ b
     one_told is = cc
 
--- a weaker property of what a crash leaves now
-leaves_weaken : (P Q : Files → Type 0) (moments : List Images) → ((files : Files) → P files → Q files) → LeavesNow P moments → LeavesNow Q moments
-leaves_weaken P Q [] weaker all = tt
-leaves_weaken P Q (now ∷ earlier) weaker all = λ files image. weaker files (all files image)
-
 -- what is read might be left
 might_now : (device : Device) (files : Files) → TellsAnImage device → device.contents ≡ Some files → MightBe device.moments files
 might_now device files tells there = by_moments device.moments refl
@@ -259,7 +255,7 @@ recovery_keeps before after crash = λ was there safe.
     let first = before.moments in
     let alike : (files : Files) → ReplaysAsAtStart first files → OpensAsAtStart first files = λ files is. opens_as first is.was files is.might is.same in
     record {
-      first = leaves_weaken (ReplaysAsAtStart first) (OpensAsAtStart first) first alike leaves.first;
+      first = leaves_map (ReplaysAsAtStart first) (OpensAsAtStart first) first alike leaves.first;
       run = runs-weaken (ReplaysAsAtStart first) (OpensAsAtStart first) alike first after.moments leaves.run;
     }
 

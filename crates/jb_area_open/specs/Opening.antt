@@ -38,9 +38,9 @@ module _ {D : Type 0} (shown : D → Device) where
     pub rests : IsResting shown area texts
 
   -- the disk as it is then, in the area or handed back
-  abbrev pub device_after : Result (OpenArea D) (D × OpeningError) → Device
-  device_after (Ok area) = shown area.disk
-  device_after (Err back) = shown back.0
+  abbrev pub opened_device : Result (OpenArea D) (D × OpeningError) → Device
+  opened_device (Ok area) = shown area.disk
+  opened_device (Err back) = shown back.0
 
 -- the base was recovered, and then its files were refused for this
 pub record RefusesFiles (limit : ℕ) (before after : Device) (error : OpenError) : Type 0 where

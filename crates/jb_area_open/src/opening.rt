@@ -3,7 +3,7 @@ ghost use Rattle.std.specs.Prelude.{◌≡◌, ◌≤◌, IfErr, IfOk, List, ℕ
 ghost use Rattle.std.specs.Option.{ForSome};
 ghost use Rattle.jb_area.specs.Area.{IsResting, device_of, loaded_of, rules_of};
 ghost use Rattle.jb_area.specs.Calls.{HasRest};
-ghost use Rattle.jb_area_open.specs.Opening.{IsOpenAt, IsRecovered, KeepsOpening, OpensFirmly, Refuses, device_after, is_opening_fault};
+ghost use Rattle.jb_area_open.specs.Opening.{IsOpenAt, IsRecovered, KeepsOpening, OpensFirmly, Refuses, opened_device, is_opening_fault};
 ghost use Rattle.jb_limits.specs.declared.limits.TheConstants.{MOST_ADDRESS_BYTES, MOST_SLOTS};
 ghost use Rattle.jb_decide.specs.Holds.{AreTexts};
 ghost use Rattle.jb_disk.specs.Device.{CountsFaults, TellsAlike};
@@ -49,11 +49,11 @@ pub fn open_area<D: Disk>(
     // Either way: a crash at any moment leaves files that open to exactly what some open to that it might have left at the
     // start, and once the first syncs are done, to what those open to that were read at the start. A disk that tells its files
     // goes on telling them, and one that tells nothing goes on so.
-    ensures crash { KeepsOpening (D.device disk) (device_after D.device result) }
-    ensures firm { OpensFirmly (D.device disk) (device_after D.device result) }
+    ensures crash { KeepsOpening (D.device disk) (opened_device D.device result) }
+    ensures firm { OpensFirmly (D.device disk) (opened_device D.device result) }
     ensures faults { CountsFaults (λ back.
-        is_opening_fault back.1) (D.device disk) (device_after D.device result) result }
-    ensures alike { TellsAlike (D.device disk) (device_after D.device result) }
+        is_opening_fault back.1) (D.device disk) (opened_device D.device result) result }
+    ensures alike { TellsAlike (D.device disk) (opened_device D.device result) }
 {
     let mut disk = disk;
     match load(alloc, &mut disk, rules.slots) {

@@ -10,7 +10,7 @@ use Rattle.jb_run.proofs.Keeping.{but_faults}
 use Rattle.jb_tool.specs.Answers.{AnswersTool, KeepsUnderTool}
 use Rattle.jb_tool.specs.declared.error.ToolError.{ToolError}
 use Rattle.jb_tool.specs.declared.tool.Tool.{Tool}
-use Rattle.jb_board.specs.Run.{Answer, AnswersAs, UsesDisk, UsesTool, answer_of}
+use Rattle.jb_board.specs.Run.{RunAnswer, AnswersOver, UsesDisk, UsesTool, run_answer}
 
 -- the place that was changed
 here : (dir name : List ℕ) (place : Place) (disks : Disks) → with_place dir name place disks dir name ≡ place
@@ -30,8 +30,8 @@ twice_changed dir name first second disks =
     λ i. λ other_dir other_name. once (bytes_eq other_dir dir && bytes_eq other_name name) second first (disks other_dir other_name) i
 
 -- a disk that is put back after it was used
-used_disk : (tool : Tool) (moment : ℕ) (dir name : List ℕ) (before after : Device) (old mid new : Desk) (answer : Answer) → GivesDisk dir name before old mid → TakesBack dir name after mid new
-    → AnswersAs tool moment before after answer → KeepsUnderTool tool moment before after → before.faults ≤ after.faults
+used_disk : (tool : Tool) (moment : ℕ) (dir name : List ℕ) (before after : Device) (old mid new : Desk) (answer : RunAnswer) → GivesDisk dir name before old mid → TakesBack dir name after mid new
+    → AnswersOver tool moment before after answer → KeepsUnderTool tool moment before after → before.faults ≤ after.faults
     → UsesDisk tool moment dir name old.disks new.disks answer
 used_disk tool moment dir name before after old mid new answer given back answers crash later = record {
   before = before;
@@ -47,17 +47,17 @@ used_disk tool moment dir name before after old mid new answer given back answer
 }
 
 -- the answer of a tool, as that of the run
-answers_as : (tool : Tool) (moment : ℕ) (before after : Device) (answer : Result (List ℕ) ToolError) → AnswersTool tool moment before after answer → AnswersAs tool moment before after (answer_of answer)
+answers_as : (tool : Tool) (moment : ℕ) (before after : Device) (answer : Result (List ℕ) ToolError) → AnswersTool tool moment before after answer → AnswersOver tool moment before after (run_answer answer)
 answers_as tool moment before after (Ok text) is = is
 answers_as tool moment before after (Err error) is = is
 
 -- the run of a tool whose disk was handed out, used and put back
 pub used_tool : (tool : Tool) (moment : ℕ) (dir name : List ℕ) (before after : Device) (old mid new : Desk) (answer : Result (List ℕ) ToolError) → GivesDisk dir name before old mid
     → TakesBack dir name after mid new → AnswersTool tool moment before after answer → KeepsUnderTool tool moment before after → before.faults ≤ after.faults
-    → UsesTool tool moment dir name old new (answer_of answer)
+    → UsesTool tool moment dir name old new (run_answer answer)
 used_tool tool moment dir name before after old mid new answer given back answers crash later = record {
   calls = inl (back.calls ∙ given.calls);
-  disk = inr (used_disk tool moment dir name before after old mid new (answer_of answer) given back (answers_as tool moment before after answer answers) crash later);
+  disk = inr (used_disk tool moment dir name before after old mid new (run_answer answer) given back (answers_as tool moment before after answer answers) crash later);
   rest = but_faults old new (keeps_more old mid new given.rest back.rest);
   later = omega (arith, given.rest.faults, back.rest.faults);
 }

@@ -2,7 +2,7 @@
 use Rattle.std.specs.Prelude.{ℕ, List, [], ◌∷◌, ◌++◌, codes, decimal}
 use Rattle.jb_area_open.specs.declared.error.OpeningError.{OpeningError}
 use Rattle.jb_area_open.specs.declared.error.OpeningError.TheVariants.{BadJournal as JournalRefused, Base}
-use Rattle.jb_conf.specs.Names.{field_name}
+use Rattle.jb_conf.specs.Names.{setting_name}
 use Rattle.jb_conf.specs.declared.error.ConfError.{ConfError}
 use Rattle.jb_conf.specs.declared.error.ConfError.TheVariants as conf
 use Rattle.jb_run.specs.declared.error.RunError.{RunError}
@@ -88,24 +88,24 @@ opening_line (JournalRefused at) = codes "fault 3.14 BadJournal" ++ value_text a
 opening_line (Base error) = base_line error
 
 -- the same with the area behind it, by its place
-abbrev pub area_line : ℕ → OpeningError → List ℕ
-area_line place error = opening_line error ++ codes " area." ++ decimal place
+abbrev pub area_fault_line : ℕ → OpeningError → List ℕ
+area_fault_line place error = opening_line error ++ codes " area." ++ decimal place
 
 -- the line of settings that are refused, without its end: the number and the name of the refusal, then its field or its user
 abbrev pub settings_line : ConfError → List ℕ
 settings_line conf.NotToml = codes "fault 2.1 NotToml"
-settings_line (conf.Missing field) = codes "fault 2.2 Missing" ++ 32 ∷ field_name field
-settings_line (conf.WrongKind field) = codes "fault 2.3 WrongKind" ++ 32 ∷ field_name field
-settings_line (conf.OutOfRange field) = codes "fault 2.4 OutOfRange" ++ 32 ∷ field_name field
-settings_line (conf.Repeated field) = codes "fault 2.5 Repeated" ++ 32 ∷ field_name field
+settings_line (conf.Missing field) = codes "fault 2.2 Missing" ++ 32 ∷ setting_name field
+settings_line (conf.WrongKind field) = codes "fault 2.3 WrongKind" ++ 32 ∷ setting_name field
+settings_line (conf.OutOfRange field) = codes "fault 2.4 OutOfRange" ++ 32 ∷ setting_name field
+settings_line (conf.Repeated field) = codes "fault 2.5 Repeated" ++ 32 ∷ setting_name field
 settings_line (conf.BadDigest user) = codes "fault 2.6 BadDigest" ++ value_text user
 settings_line conf.OutOfMemory = codes "fault 6 OutOfMemory"
 
 -- the line on the console
-abbrev pub line_of : Fault → List ℕ
-line_of Words = codes "fault 1 Words" ++ 10 ∷ []
-line_of (Settings error) = settings_line error ++ 10 ∷ []
-line_of (Area place error) = area_line place error ++ 10 ∷ []
-line_of (Tool error) = tool_fault_line error ++ 10 ∷ []
-line_of HostFault = codes "fault 5 HostFault" ++ 10 ∷ []
-line_of OutOfMemory = codes "fault 6 OutOfMemory" ++ 10 ∷ []
+abbrev pub fault_line : Fault → List ℕ
+fault_line Words = codes "fault 1 Words" ++ 10 ∷ []
+fault_line (Settings error) = settings_line error ++ 10 ∷ []
+fault_line (Area place error) = area_fault_line place error ++ 10 ∷ []
+fault_line (Tool error) = tool_fault_line error ++ 10 ∷ []
+fault_line HostFault = codes "fault 5 HostFault" ++ 10 ∷ []
+fault_line OutOfMemory = codes "fault 6 OutOfMemory" ++ 10 ∷ []

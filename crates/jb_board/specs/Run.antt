@@ -4,14 +4,14 @@ use Rattle.std.specs.Option.{ForSome}
 use Rattle.jb_bytes.specs.Fault.{Rose}
 use Rattle.jb_disk.specs.Device.{Device}
 use Rattle.jb_host.specs.Desk.{Desk, Disks, KeepsRest, has_disk, with_place, asked_disk, and_call}
-use Rattle.jb_host.specs.Wire.{Wire, Begins, Sends}
-use Rattle.jb_tool.specs.LoadSummary.{summary_of}
+use Rattle.jb_host.specs.Wire.{Wire, IsFrontOf, Sends}
+use Rattle.jb_tool.specs.LoadSummary.{run_summary}
 use Rattle.jb_tool.specs.Workload.{load_run}
-use Rattle.jb_run.specs.LocalEnding.{status_of as status_behind}
+use Rattle.jb_run.specs.LocalEnding.{local_status as status_behind}
 use Rattle.jb_run.specs.Local.{RunsLocal}
 use Rattle.jb_run.specs.declared.local_end.LocalEnd.{LocalEnd}
 use Rattle.jb_run.specs.declared.error.RunError.{RunError}
-use Rattle.jb_run.specs.NodesEnding.{status_of as status_behind_nodes}
+use Rattle.jb_run.specs.NodesEnding.{nodes_status as status_behind_nodes}
 use Rattle.jb_run.specs.Nodes.{RunsNodes}
 use Rattle.jb_run.specs.declared.nodes_end.NodesEnd.{NodesEnd}
 use Rattle.jb_tool.specs.Answers.{AnswersTool, KeepsUnderTool}
@@ -21,85 +21,85 @@ use Rattle.jb_board.specs.declared.fault.Fault.{Fault}
 use Rattle.jb_board.specs.declared.fault.Fault.TheVariants.{Words as NoWords, Tool, HostFault, OutOfMemory}
 use Rattle.jb_board.specs.declared.top.Outcome.{Outcome}
 use Rattle.jb_board.specs.declared.top.Outcome.TheVariants.{Text, Session, Nodes}
-use Rattle.jb_board.specs.Faults.{fault_of, line_of, status_of}
+use Rattle.jb_board.specs.Faults.{fault_of, fault_line, status_of}
 use Rattle.jb_board.specs.Words.{Words, use_tool, run_load, serve_one, serve_all, show_help, command_line_of, help_text}
 
 -- what a run answers: the text to print, a session or a run with many nodes that has ended, or why it is refused
-abbrev pub Answer : Type 0
-Answer = Result Outcome Fault
+abbrev pub RunAnswer : Type 0
+RunAnswer = Result Outcome Fault
 
 -- what a tool answered, as what the run answers
-abbrev pub answer_of : Result (List ℕ) ToolError → Answer
-answer_of (Ok text) = Ok (Text text)
-answer_of (Err error) = Err (Tool error)
+abbrev pub run_answer : Result (List ℕ) ToolError → RunAnswer
+run_answer (Ok text) = Ok (Text text)
+run_answer (Err error) = Err (Tool error)
 
 -- the tool answers so over the disk of the base
-abbrev pub AnswersAs : ToolName → ℕ → Device → Device → Answer → Type 0
-AnswersAs tool moment before after (Ok (Text text)) = AnswersTool tool moment before after (Ok text)
-AnswersAs tool moment before after (Err (Tool error)) = AnswersTool tool moment before after (Err error)
-AnswersAs tool moment before after _ = ⊥
+abbrev pub AnswersOver : ToolName → ℕ → Device → Device → RunAnswer → Type 0
+AnswersOver tool moment before after (Ok (Text text)) = AnswersTool tool moment before after (Ok text)
+AnswersOver tool moment before after (Err (Tool error)) = AnswersTool tool moment before after (Err error)
+AnswersOver tool moment before after _ = ⊥
 
 -- the disk was handed out, the tool used on it, and the disk put back; which disk that is, where the host tells its disks
-pub record UsesDisk (tool : ToolName) (moment : ℕ) (dir name : List ℕ) (old new : Option Disks) (answer : Answer) : Type 0 where
+pub record UsesDisk (tool : ToolName) (moment : ℕ) (dir name : List ℕ) (old new : Option Disks) (answer : RunAnswer) : Type 0 where
   pub before : Device
   pub then : Device
   pub was : ForSome old (λ disks. disks dir name ≡ has_disk before)
   pub back : ForSome old (λ disks. new ≡ Some (with_place dir name (has_disk then) disks))
-  pub answers : AnswersAs tool moment before then answer
+  pub answers : AnswersOver tool moment before then answer
   pub crash : KeepsUnderTool tool moment before then
   pub later : before.faults ≤ then.faults
 
 -- no disk was handed out, and why
-abbrev pub GetsNoDisk : Desk → Desk → Answer → Type 0
+abbrev pub GetsNoDisk : Desk → Desk → RunAnswer → Type 0
 GetsNoDisk old new answer =
     (new.disks ≡ old.disks) × (((answer ≡ Err HostFault) × Rose old.faults new.faults) ⊎ ((answer ≡ Err OutOfMemory) × (new.faults ≡ old.faults)))
 
 -- the run of a tool: one call of the host, for that disk alone; want of memory hides no fault of the host
-pub record UsesTool (tool : ToolName) (moment : ℕ) (dir name : List ℕ) (old new : Desk) (answer : Answer) : Type 0 where
+pub record UsesTool (tool : ToolName) (moment : ℕ) (dir name : List ℕ) (old new : Desk) (answer : RunAnswer) : Type 0 where
   pub calls : (new.calls ≡ and_call (asked_disk dir name) old.calls) ⊎ ((answer ≡ Err OutOfMemory) × (new.calls ≡ old.calls))
   pub disk : GetsNoDisk old new answer ⊎ UsesDisk tool moment dir name old.disks new.disks answer
   pub rest : KeepsRest old (record new { faults = old.faults })
   pub later : old.faults ≤ new.faults
 
 -- this text is answered, or that there was no memory
-abbrev pub Says : List ℕ → Answer → Type 0
+abbrev pub Says : List ℕ → RunAnswer → Type 0
 Says text answer = (answer ≡ Ok (Text text)) ⊎ (answer ≡ Err OutOfMemory)
 
 -- what a session came to, as what the run answers
-abbrev pub answer_behind : Result LocalEnd RunError → Answer
+abbrev pub answer_behind : Result LocalEnd RunError → RunAnswer
 answer_behind (Ok end) = Ok (Session end)
 answer_behind (Err error) = Err (fault_of error)
 
 -- a session is served, or why none is
-pub record Serves (path : List ℕ) (old new : Desk) (answer : Answer) : Type 0 where
+pub record ServesLocal (path : List ℕ) (old new : Desk) (answer : RunAnswer) : Type 0 where
   pub came : Result LocalEnd RunError
   pub runs : RunsLocal path old new came
   pub is : answer ≡ answer_behind came
 
 -- what a run with many nodes came to, as what the run answers
-abbrev pub answer_behind_nodes : Result NodesEnd RunError → Answer
+abbrev pub answer_behind_nodes : Result NodesEnd RunError → RunAnswer
 answer_behind_nodes (Ok end) = Ok (Nodes end)
 answer_behind_nodes (Err error) = Err (fault_of error)
 
 -- all nodes serve, or why none does
-pub record ServesNodes (path : List ℕ) (calls : Option ℕ) (old new : Desk) (answer : Answer) : Type 0 where
+pub record ServesNodes (path : List ℕ) (calls : Option ℕ) (old new : Desk) (answer : RunAnswer) : Type 0 where
   pub came : Result NodesEnd RunError
   pub runs : RunsNodes path calls old new came
   pub is : answer ≡ answer_behind_nodes came
 
 -- the run of these words, if they are a command line; where no tool is used and nobody is served, the host is asked for nothing
-abbrev pub AnswersWords : Option Words → ℕ → Desk → Desk → Answer → Type 0
+abbrev pub AnswersWords : Option Words → ℕ → Desk → Desk → RunAnswer → Type 0
 AnswersWords None moment old new answer = (answer ≡ Err NoWords) × (new ≡ old)
 AnswersWords (Some (use_tool tool dir name)) moment old new answer = UsesTool tool moment dir name old new answer
-AnswersWords (Some (run_load seed count)) moment old new answer = Says (summary_of (load_run seed count)) answer × (new ≡ old)
-AnswersWords (Some (serve_one path)) moment old new answer = Serves path old new answer
+AnswersWords (Some (run_load seed count)) moment old new answer = Says (run_summary (load_run seed count)) answer × (new ≡ old)
+AnswersWords (Some (serve_one path)) moment old new answer = ServesLocal path old new answer
 AnswersWords (Some (serve_all path calls)) moment old new answer = ServesNodes path calls old new answer
 AnswersWords (Some show_help) moment old new answer = Says help_text answer × (new ≡ old)
 
 -- a write of the console failed, and only a beginning of these bytes was sent
-pub record Stops (old new : Wire) (bytes : List ℕ) : Type 0 where
+pub record StopsConsole (old new : Wire) (bytes : List ℕ) : Type 0 where
   pub front : List ℕ
-  pub begins : Begins front bytes
+  pub begins : IsFrontOf front bytes
   pub sent : Sends old.sent front new.sent
   pub unsent : Rose old.unsent new.unsent
   pub faults : Rose old.faults new.faults
@@ -111,14 +111,14 @@ pub record KeepsInput (old new : Wire) : Type 0 where
 
 -- these bytes were sent, or a beginning of them where the console failed
 abbrev pub IsSent : Wire → Wire → List ℕ → Type 0
-IsSent old new bytes = Sends old.sent bytes new.sent ⊎ Stops old new bytes
+IsSent old new bytes = Sends old.sent bytes new.sent ⊎ StopsConsole old new bytes
 
 -- the answer is printed, and this is the status; behind a session and a run with many nodes nothing is
-abbrev pub IsPrinted : Answer → ℕ → Wire → Wire → Type 0
-IsPrinted (Ok (Text text)) status old new = KeepsInput old new × (((status ≡ 0) × Sends old.sent text new.sent) ⊎ ((status ≡ 5) × Stops old new text))
+abbrev pub IsPrinted : RunAnswer → ℕ → Wire → Wire → Type 0
+IsPrinted (Ok (Text text)) status old new = KeepsInput old new × (((status ≡ 0) × Sends old.sent text new.sent) ⊎ ((status ≡ 5) × StopsConsole old new text))
 IsPrinted (Ok (Session end)) status old new = (status ≡ status_behind end) × (new ≡ old)
 IsPrinted (Ok (Nodes end)) status old new = (status ≡ status_behind_nodes end) × (new ≡ old)
-IsPrinted (Err fault) status old new = KeepsInput old new × (status ≡ status_of fault) × IsSent old new (line_of fault)
+IsPrinted (Err fault) status old new = KeepsInput old new × (status ≡ status_of fault) × IsSent old new (fault_line fault)
 
 -- a whole run, at one moment: what the host's clocks give, where it tells that
 pub record HasRun (words : List (List ℕ)) (old new : Desk) (status : ℕ) : Type 0 where
@@ -126,7 +126,7 @@ pub record HasRun (words : List (List ℕ)) (old new : Desk) (status : ℕ) : Ty
   pub moment : ℕ
   pub shown : ForSome old.reading (λ reading. moment ≡ reading)
   -- what the words are answered, and the host then
-  pub answer : Answer
+  pub answer : RunAnswer
   pub mid : Desk
   pub answers : AnswersWords (command_line_of words) moment old mid answer
   -- the answer is printed on the console, and nothing else of the host changes any more

@@ -1,7 +1,7 @@
 //! How a run that is refused ends: its status and its line on the console.
 ghost use Rattle.std.specs.Prelude.{◌≡◌, ◌≤◌, ◌+◌, ◌++◌, [], ◌∷◌, length};
-ghost use Rattle.jb_conf.specs.Names.{field_name};
-ghost use Rattle.jb_board.specs.Faults.{area_line, area_status, base_line, base_status, fault_of, line_of, opening_line, settings_line, settings_status, status_of, tool_fault_line, tool_status, value_text};
+ghost use Rattle.jb_conf.specs.Names.{setting_name};
+ghost use Rattle.jb_board.specs.Faults.{area_fault_line, area_status, base_line, base_status, fault_of, fault_line, opening_line, settings_line, settings_status, status_of, tool_fault_line, tool_status, value_text};
 
 use arrayvec::ArrayString;
 use itoa::Buffer;
@@ -151,7 +151,7 @@ fn opening_line(error: OpeningError) -> Line
 
 /// The same with the area behind it.
 fn area_line(place: u32, error: OpeningError) -> Line
-    ensures line { result.bytes ≡ area_line place error }
+    ensures line { result.bytes ≡ area_fault_line place error }
     ensures short { length result.bytes ≤ 86 }
 {
     let mut digits = Buffer::new();
@@ -174,7 +174,7 @@ fn settings_status(error: ConfError) -> u8
 /// The line with the name of a field behind it.
 fn and_field(mut line: Line, field: Field) -> Line
     requires { length line.bytes ≤ 40 }
-    ensures field { result.bytes ≡ line.bytes ++ 32 ∷ field_name field }
+    ensures field { result.bytes ≡ line.bytes ++ 32 ∷ setting_name field }
     ensures short { length result.bytes ≤ length line.bytes + 33 }
 {
     line.push_str(" ");
@@ -228,7 +228,7 @@ impl Fault {
 
     /// The line that is printed.
     pub fn line(self) -> Line
-        ensures { result.bytes ≡ line_of self }
+        ensures { result.bytes ≡ fault_line self }
     {
         let mut line = match self {
             Fault::Words => named("fault 1 Words"),

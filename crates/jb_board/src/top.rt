@@ -1,7 +1,7 @@
 //! The program over any host.
 ghost use Rattle.std.specs.Prelude.{◌≡◌, ◌≤◌, Err, IfOk, IsSome, Ok, OnErr, Some, map};
 ghost use Rattle.std.specs.String.{string_bytes};
-ghost use Rattle.jb_board.specs.Run.{AnswersWords, HasRun, IsPrinted, Serves, ServesNodes, UsesTool, answer_of};
+ghost use Rattle.jb_board.specs.Run.{AnswersWords, HasRun, IsPrinted, ServesLocal, ServesNodes, UsesTool, run_answer};
 ghost use Rattle.jb_board.specs.declared.top.Outcome.TheVariants.{Text as is_text};
 ghost use Rattle.jb_board.specs.Words.{command_line_of};
 ghost use Rattle.jb_board.specs.declared.fault.Fault.TheVariants.{OutOfMemory as no_memory};
@@ -34,7 +34,7 @@ pub(crate) enum Outcome {
 
 /// What a tool answered, as what the run answers.
 fn answered(answer: Result<Bytes, ToolError>) -> Result<Outcome, Fault>
-    ensures { result ≡ answer_of answer }
+    ensures { result ≡ run_answer answer }
 {
     match answer {
         Ok(text) => Ok(Outcome::Text(text)),
@@ -82,7 +82,7 @@ fn serve<R: Wait, H: Host>(
     host: &mut H,
 ) -> Result<Outcome, Fault>
     requires { IsSome (H.desk host.old).console }
-    ensures { Serves path.now (H.desk host.old) (H.desk host.new) result }
+    ensures { ServesLocal path.now (H.desk host.old) (H.desk host.new) result }
 {
     Ok(Outcome::Session(local(rt, alloc, host, path)?))
 }

@@ -3,7 +3,7 @@ use Rattle.std.proofs.Common.{◌≡◌, ℕ, ◌+◌, ◌*◌, ◌/◌, ◌%◌
 use Rattle.std.proofs.lemmas.List.{take-append-drop, length-take-le}
 use Rattle.jb_bytes.specs.Number.{number_at}
 use Rattle.jb_bytes.specs.Subfields.{one_subfield}
-use Rattle.jb_bytes.specs.Whole.{BeginsWith}
+use Rattle.jb_bytes.specs.Whole.{BeginsWithField}
 
 -- eight bytes, from the numbers that they make
 eight_bytes : (a b c d e f g h id hi size : ℕ) (content behind : List ℕ)
@@ -24,7 +24,7 @@ eight_bytes a b c d e f g h id hi size content behind sa sb sc sd se sf sg sh id
 -- bytes that hold a head and the data of which it tells the length begin with a subfield
 pub begins_with : (bytes : List ℕ) (id hi size : ℕ) → ((k : ℕ) → get_or bytes k 0 < 256)
     → id ≡ number_at 2 0 bytes → hi ≡ number_at 2 2 bytes → size ≡ number_at 4 4 bytes → 8 + size ≤ length bytes
-    → BeginsWith bytes (record { id = id; hi = hi; bytes = take size (drop 8 bytes) }) (drop size (drop 8 bytes))
+    → BeginsWithField bytes (record { id = id; hi = hi; bytes = take size (drop 8 bytes) }) (drop size (drop 8 bytes))
 begins_with (a ∷ b ∷ c ∷ d ∷ e ∷ f ∷ g ∷ h ∷ tail) id hi size each ids his sizes within =
     let sa : a < 256 = each 0 in
     let sb : b < 256 = each 1 in

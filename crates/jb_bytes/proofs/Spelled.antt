@@ -6,7 +6,7 @@ use Rattle.std.proofs.lemmas.List.Elements.{All-head, All-push, All-tail}
 use Rattle.jb_bytes.specs.Number.{number_at, number_bytes}
 use Rattle.jb_bytes.specs.Spelled.{behind_front, field_at_front, fields_in, fields_up_to}
 use Rattle.jb_bytes.specs.Subfields.{IsSubfield, IsSubfieldList, first_of, one_subfield, subfield_bytes}
-use Rattle.jb_bytes.specs.Whole.{BeginsWith, HasNoWhole}
+use Rattle.jb_bytes.specs.Whole.{BeginsWithField, HasNoWhole}
 use Rattle.jb_bytes.specs.declared.subfield.Subfield.{Subfield}
 
 -- one more subfield at the end
@@ -91,7 +91,7 @@ pushed old head content new len field list fits grown headed sized same =
     subst (λ (l : List ℕ). IsSubfieldList (fields_in old ++ field ∷ []) l) (sym spelled) (list-push (fields_in old) old field list fits)
 
 -- a list without its first subfield
-pub peeled : (fields : List Subfield) (bytes : List ℕ) (field : Subfield) (behind : List ℕ) → IsSubfieldList fields bytes → BeginsWith bytes field behind
+pub peeled : (fields : List Subfield) (bytes : List ℕ) (field : Subfield) (behind : List ℕ) → IsSubfieldList fields bytes → BeginsWithField bytes field behind
     → (fields ≡ field ∷ fields_in behind) × IsSubfieldList (fields_in behind) behind
 peeled [] bytes field behind list begins =
     let none : 0 ≡ length (one_subfield field ++ behind) = ap length (list.spelled ∙ begins.spelled) in

@@ -8,6 +8,6 @@ abbrev pub HasNoWhole : List ℕ → Type 0
 HasNoWhole bytes = (field : Subfield) (rest : List ℕ) → IsSubfield field → bytes ≡ one_subfield field ++ rest → ⊥
 
 -- this subfield stands first in the bytes, and these bytes behind it
-pub record BeginsWith (bytes : List ℕ) (field : Subfield) (behind : List ℕ) : Type 0 where
+pub record BeginsWithField (bytes : List ℕ) (field : Subfield) (behind : List ℕ) : Type 0 where
   pub fits : IsSubfield field
   pub spelled : bytes ≡ one_subfield field ++ behind

@@ -1,6 +1,6 @@
 //! The subfield with which bytes begin, where it lies.
 ghost use Rattle.std.specs.Prelude.{◌≡◌, MatchOption};
-ghost use Rattle.jb_bytes.specs.Whole.{BeginsWith, HasNoWhole};
+ghost use Rattle.jb_bytes.specs.Whole.{BeginsWithField, HasNoWhole};
 
 use crate::{get_u16, get_u32};
 
@@ -18,7 +18,7 @@ pub struct Part<'a> {
 
 /// The subfield with which the bytes begin, where one is whole.
 pub fn first_part(bytes: &[u8]) -> Option<Part<'_>>
-    ensures { MatchOption result (HasNoWhole bytes.now) (λ part. BeginsWith bytes.now
+    ensures { MatchOption result (HasNoWhole bytes.now) (λ part. BeginsWithField bytes.now
         (record { id = part.id; hi = part.hi; bytes = part.content.now }) part.behind.now) }
 {
     if bytes.len() < HEAD {

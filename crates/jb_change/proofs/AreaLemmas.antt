@@ -11,7 +11,7 @@ use Rattle.jb_disk.specs.RedoView.{RedoView}
 use Rattle.jb_disk.specs.declared.file.FileId.{FileId}
 use Rattle.jb_disk.specs.declared.file.FileId.TheVariants.{Jhr, Jdt, Jdx, Jlr}
 use Rattle.jb_disk.specs.declared.piece.Length.{Length}
-use Rattle.jb_disk.specs.Files.{Files, number_of, overwritten, written}
+use Rattle.jb_disk.specs.Files.{Files, file_number, overwritten, written}
 use Rattle.jb_disk.specs.FileLaws.{with_file-here, with_file-other, same_files, length-of_length, length-overwritten}
 use Rattle.jb_disk.specs.ImageLaws.{get-of_length}
 use Rattle.jb_disk.specs.Memory.{of_length}
@@ -25,8 +25,8 @@ use Rattle.jb_record.specs.declared.index.IndexRecord.{IndexRecord}
 use Rattle.jb_record.specs.Fixed.{IsFixedHeader, fixed_header_of}
 use Rattle.jb_record.specs.Lastread.{lastread_record_of}
 use Rattle.jb_redo.specs.Replay.{applied, IsGrowthCovered}
-use Rattle.jb_redo.specs.Rules.{sizes_of, IsLegal}
-use Rattle.jb_image.specs.Places.{bytes_at, fixed_in, entry_in, mark_in}
+use Rattle.jb_redo.specs.Rules.{sizes_of, IsLegalRecord}
+use Rattle.jb_image.specs.Places.{bytes_at, fixed_in, entry_in, mark_record_at}
 use Rattle.jb_image.specs.Stands.{Loads, HasSlot, mark_record}
 use Rattle.jb_change.specs.Changing.{ChangesArea, ChangesMark, MakesNothing, Puts, WritesOnly}
 use Rattle.jb_redo.specs.Changes.{changed}
@@ -68,7 +68,7 @@ module _ (files : Files) (to : Loaded) (counter active : ℕ) (loads : Loads to 
 
   -- .JLR then
   marks_then : after Jlr ≡ files Jlr
-  marks_then = with_file-other Jhr Jlr (overwritten 8 counts (files Jhr)) files (λ is. absurd (omega (arith, ap number_of is)))
+  marks_then = with_file-other Jhr Jlr (overwritten 8 counts (files Jhr)) files (λ is. absurd (omega (arith, ap file_number is)))
 
   -- only bytes of the fixed header are others
   torn_then : IsTornAt 8 8 files after
@@ -107,7 +107,7 @@ pub counts_make : (counter active : ℕ) (old new : RedoView) → counter < 2 ^ 
     → ChangesArea old new (with_counts counter active)
 counts_make counter active old new counter_fits active_fits puts from to text makes =
     put_makes Jhr 8 (number_bytes 4 counter ++ number_bytes 4 active) old new puts from to (with_counts counter active to) text makes
-    (omega arith) (λ same. absurd (omega (arith, ap number_of same))) (omega arith) (omega arith)
+    (omega arith) (λ same. absurd (omega (arith, ap file_number same))) (omega arith) (omega arith)
     (λ files held. let room = fixed_room files to counter active held counter_fits active_fits in omega arith)
     (λ files held. loads_counts files to counter active held counter_fits active_fits)
 
@@ -137,13 +137,13 @@ module _ (files : Files) (to : Loaded) (place : ℕ) (mark : Mark) (bytes : List
   others_then other apart = with_file-other Jlr other (overwritten (16 * place) bytes (files Jlr)) files apart
 
   jhr_then : marked Jhr ≡ files Jhr
-  jhr_then = others_then Jhr (λ same. absurd (omega (arith, ap number_of same)))
+  jhr_then = others_then Jhr (λ same. absurd (omega (arith, ap file_number same)))
 
   jdx_then : marked Jdx ≡ files Jdx
-  jdx_then = others_then Jdx (λ same. absurd (omega (arith, ap number_of same)))
+  jdx_then = others_then Jdx (λ same. absurd (omega (arith, ap file_number same)))
 
   jdt_then : marked Jdt ≡ files Jdt
-  jdt_then = others_then Jdt (λ same. absurd (omega (arith, ap number_of same)))
+  jdt_then = others_then Jdt (λ same. absurd (omega (arith, ap file_number same)))
 
   -- nothing that slots are loaded from is another
   untorn : IsTornAt 0 0 files marked
@@ -158,14 +158,14 @@ module _ (files : Files) (to : Loaded) (place : ℕ) (mark : Mark) (bytes : List
   }
 
   -- the record there
-  here_then : mark_in marked place ≡ mark_record mark
+  here_then : mark_record_at marked place ≡ mark_record mark
   here_then =
       ap (λ (l : List ℕ). lastread_record_of (bytes_at (16 * place) 16 l)) lastread_then
       ∙ ap lastread_record_of (bytes_inside (16 * place) bytes (files Jlr) (16 * place) 0 16 mark_room (omega arith) (omega arith) ∙ take_all 16 bytes (omega arith))
       ∙ is
 
   -- another
-  other_then : (k : ℕ) → k ≢ place → mark_in marked k ≡ mark_in files k
+  other_then : (k : ℕ) → k ≢ place → mark_record_at marked k ≡ mark_record_at files k
   other_then k apart =
       let torn = torn-overwritten (16 * place) bytes (files Jlr) mark_room in
       let beside : (16 * k + 16 ≤ 16 * place) ⊎ (16 * place + length bytes ≤ 16 * k) = elim (cases_lt k place) [ inl before ↦ inl (omega arith) | inr behind ↦ inr (omega (arith, behind, apart)) ] in
@@ -173,9 +173,9 @@ module _ (files : Files) (to : Loaded) (place : ℕ) (mark : Mark) (bytes : List
       ∙ ap lastread_record_of (bytes_beside (16 * place) (length bytes) (16 * k) 16 (files Jlr) (overwritten (16 * place) bytes (files Jlr)) torn beside)
 
   -- each of them
-  each_then : (k : ℕ) (d : Mark) → k < length (slice_set to.marks place mark) → mark_record (slice_index_or (slice_set to.marks place mark) k d) ≡ mark_in marked k
+  each_then : (k : ℕ) (d : Mark) → k < length (slice_set to.marks place mark) → mark_record (slice_index_or (slice_set to.marks place mark) k d) ≡ mark_record_at marked k
   each_then k d short = elim (cases_eq k place) [
-    | inl same ↦ ap (λ (n : ℕ). mark_record (slice_index_or (slice_set to.marks place mark) n d)) same ∙ ap mark_record (get_or-set_same to.marks place mark d low) ∙ sym here_then ∙ ap (mark_in marked) (sym same)
+    | inl same ↦ ap (λ (n : ℕ). mark_record (slice_index_or (slice_set to.marks place mark) n d)) same ∙ ap mark_record (get_or-set_same to.marks place mark d low) ∙ sym here_then ∙ ap (mark_record_at marked) (sym same)
     | inr apart ↦ ap mark_record (get_or-set_other to.marks place k mark d apart) ∙ loads.marks k d (omega (arith, short, length-set to.marks place mark)) ∙ sym (other_then k apart)
   ]
 
@@ -204,7 +204,7 @@ pub mark_makes : (place : ℕ) (mark : Mark) (bytes : List ℕ) (old new : RedoV
     → Puts Jlr (16 * place) bytes old new → ChangesMark old new place mark
 mark_makes place mark bytes old new few sixteen is puts from to text makes low =
     put_makes Jlr (16 * place) bytes old new puts from to (with_marks (slice_set to.marks place mark) to) text makes
-    (omega arith) (λ same. absurd (omega (arith, ap number_of same))) (omega arith) (omega arith)
+    (omega arith) (λ same. absurd (omega (arith, ap file_number same))) (omega arith) (omega arith)
     (λ files held. mark_room files to place mark bytes held low sixteen is) (λ files held. loads_mark files to place mark bytes held low sixteen is)
 
 -- no byte outside the mark is another
@@ -223,7 +223,7 @@ makes_nothing change loaded no_lengths no_pieces =
     let nothing : (files : Files) → changed change files ≡ files = λ files.
     (λ i. applied (no_lengths i) (no_pieces i) files) ∙ same_files (applied [] [] files) files (λ file. same_length (files file)) in
     record {
-      legal = λ files held. subst (λ (l : List Length). IsLegal (sizes_of files) l change.pieces) (sym no_lengths) (subst (IsLegal (sizes_of files) []) (sym no_pieces) (empty_legal files));
+      legal = λ files held. subst (λ (l : List Length). IsLegalRecord (sizes_of files) l change.pieces) (sym no_lengths) (subst (IsLegalRecord (sizes_of files) []) (sym no_pieces) (empty_legal files));
       grown = λ files held. subst (λ (l : List Length). IsGrowthCovered l change.pieces files) (sym no_lengths) (λ file i past low. absurd (omega (arith, past, low)));
       made = λ files held. record {
         loads = subst (λ (f : Files). Loads loaded f) (sym (nothing files)) held;
@@ -232,7 +232,7 @@ makes_nothing change loaded no_lengths no_pieces =
     }
   where
     -- no length and no piece keep the rules
-    empty_legal : (files : Files) → IsLegal (sizes_of files) [] []
+    empty_legal : (files : Files) → IsLegalRecord (sizes_of files) [] []
     empty_legal files = record {
       lengths_are = record { few = omega arith; each = λ k d low. absurd (omega (arith, low)); rising = λ i j d low high. absurd (omega (arith, high)) };
       pieces_are = record { many = omega arith; each = λ k d low. absurd (omega (arith, low)) };

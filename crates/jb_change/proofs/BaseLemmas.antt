@@ -4,7 +4,7 @@ use Rattle.std.proofs.lemmas.List.{take_all}
 use Rattle.std.proofs.lemmas.List.Elements.{All-nil, All-cons}
 use Rattle.std.proofs.lemmas.List.Kept.{AllPairs-cons}
 use Rattle.jb_disk.specs.RedoView.{RedoView}
-use Rattle.jb_disk.specs.Files.{Files, number_of}
+use Rattle.jb_disk.specs.Files.{Files, file_number}
 use Rattle.jb_disk.specs.Memory.{of_length}
 use Rattle.jb_disk.specs.Steps.{patched}
 use Rattle.jb_disk.specs.declared.file.FileId.{FileId}
@@ -18,10 +18,10 @@ use Rattle.jb_record.specs.Fields.{signature}
 use Rattle.jb_record.specs.Fixed.{IsFixedHeader, fixed_header_bytes, fixed_header_of}
 use Rattle.jb_redo.specs.Record.{record_bytes}
 use Rattle.jb_redo.specs.Replay.{IsGrowthCovered, applied}
-use Rattle.jb_redo.specs.Rules.{AreLegalLengths, IsBefore, IsLegal, IsLegalLength, IsLegalPiece, new_sizes, sizes_of}
+use Rattle.jb_redo.specs.Rules.{AreLegalLengths, IsBefore, IsLegalRecord, IsLegalLength, IsLegalPiece, new_sizes, sizes_of}
 use Rattle.jb_change.proofs.EndLemmas.{one_behind}
 use Rattle.jb_change.proofs.PostLemmas.{no_pairs}
-use Rattle.jb_change.proofs.SizeLemmas.{length-pieces, length-record}
+use Rattle.jb_redo.proofs.LengthLemmas.{length-pieces, length-record}
 use Rattle.jb_redo.specs.Changes.{changed, record_size}
 use Rattle.jb_change.specs.NewBase.{AreEmpty, AreNew, MakesBase, base_lengths, base_pieces, new_loaded}
 use Rattle.jb_image.specs.Records.{IsFixedReadAgain}
@@ -69,7 +69,7 @@ no_bytes = refl
 
 -- files with the header alone hold the empty area
 new_holds : (moment : ℕ) (files : Files) → IsFixedReadAgain (new_loaded moment) → files Jhr ≡ header moment
-    → ((file : FileId) → number_of file < 4 → file ≢ Jhr → files file ≡ []) → AreNew moment files
+    → ((file : FileId) → file_number file < 4 → file ≢ Jhr → files file ≡ []) → AreNew moment files
 new_holds moment files back headers others =
     let there : bytes_at 0 1024 (files Jhr) ≡ header moment =
     ap (bytes_at 0 1024) headers ∙ take_all 1024 (header moment) (omega (arith, length-header moment)) in
@@ -99,7 +99,7 @@ module _ (moment : ℕ) (change : RedoView) (lengths_are : change.lengths ≡ ba
     no_headers = empty Jhr (omega arith)
 
     -- its piece is legal
-    legal_base : IsLegal (sizes_of files) base_lengths (base_pieces moment)
+    legal_base : IsLegalRecord (sizes_of files) base_lengths (base_pieces moment)
     legal_base =
         let Legal : Piece → Type 0 = IsLegalPiece (sizes_of files) (new_sizes base_lengths (sizes_of files)) in
         record {
@@ -131,7 +131,7 @@ module _ (moment : ℕ) (change : RedoView) (lengths_are : change.lengths ≡ ba
         ∙ one_behind [] (header moment) 0 1024 refl (omega (arith, length-header moment))
 
     -- the others are empty still
-    others_after : (file : FileId) → number_of file < 4 → file ≢ Jhr → after file ≡ []
+    others_after : (file : FileId) → file_number file < 4 → file ≢ Jhr → after file ≡ []
     others_after Jhr low ne = absurd (ne refl)
     others_after Jdt low ne = ap (of_length 0) (empty Jdt low) ∙ no_bytes
     others_after Jdx low ne = ap (of_length 0) (empty Jdx low) ∙ no_bytes
@@ -146,8 +146,8 @@ module _ (moment : ℕ) (change : RedoView) (lengths_are : change.lengths ≡ ba
       record {
         brings = record {
           legal = λ files empty.
-              subst (λ (l : List Length). IsLegal (sizes_of files) l change.pieces) (sym lengths_are)
-              (subst (λ (p : List Piece). IsLegal (sizes_of files) base_lengths p) (sym pieces_are) (legal_base files empty));
+              subst (λ (l : List Length). IsLegalRecord (sizes_of files) l change.pieces) (sym lengths_are)
+              (subst (λ (p : List Piece). IsLegalRecord (sizes_of files) base_lengths p) (sym pieces_are) (legal_base files empty));
           grown = λ files empty.
               subst (λ (l : List Length). IsGrowthCovered l change.pieces files) (sym lengths_are)
               (subst (λ (p : List Piece). IsGrowthCovered base_lengths p files) (sym pieces_are) (covers_base files empty));

@@ -7,7 +7,7 @@ use Rattle.jb_bytes.specs.Number.{number_bytes}
 use Rattle.jb_bytes.proofs.Numbers.{little_endian-back}
 use Rattle.jb_disk.specs.RedoView.{RedoView}
 use Rattle.jb_disk.specs.declared.file.FileId.TheVariants.{Jhr}
-use Rattle.jb_disk.specs.Files.{Files, number_of, overwritten}
+use Rattle.jb_disk.specs.Files.{Files, file_number, overwritten}
 use Rattle.jb_disk.specs.FileLaws.{with_file-here}
 use Rattle.jb_state.specs.Loaded.{IsMessageAt, with_head_at, with_killed_at}
 use Rattle.jb_state.specs.declared.loaded.Loaded.{Loaded}
@@ -78,7 +78,7 @@ module _ (at o : ℕ) (bytes : List ℕ) (old new : RedoView) (puts : Puts Jhr (
         → (bit_and message.head.attribute DELETED ≡ 0 → bit_and head.attribute DELETED ≡ 0) → Makes new from (with_head_at place head message to) text
     head_makes head becomes undeleted =
         put_makes Jhr (message.header_at + o) bytes old new (puts_there message is) from to (with_head_at place head message to) text makes
-        (omega arith) (λ same. absurd (omega (arith, ap number_of same))) fits_there short_there (within_file to place message there)
+        (omega arith) (λ same. absurd (omega (arith, ap file_number same))) fits_there short_there (within_file to place message there)
         (λ files held.
         let stood = (slot_there files to place (Live message) held there).2 in
         loads_head files to place message held there o bytes inside.low inside.high inside.o_whole inside.whole head
@@ -89,7 +89,7 @@ module _ (at o : ℕ) (bytes : List ℕ) (old new : RedoView) (puts : Puts Jhr (
     pub killed_makes : ((header : MessageHeader) → IsDeleted (with_bytes o bytes header)) → Makes new from (with_killed_at place message to) text
     killed_makes deleted =
         put_makes Jhr (message.header_at + o) bytes old new (puts_there message is) from to (with_killed_at place message to) text makes
-        (omega arith) (λ same. absurd (omega (arith, ap number_of same))) fits_there short_there (within_file to place message there)
+        (omega arith) (λ same. absurd (omega (arith, ap file_number same))) fits_there short_there (within_file to place message there)
         (λ files held. loads_killed files to place message held there o bytes inside.low inside.high inside.o_whole inside.whole (deleted (header_in files message.header_at)))
 
 -- the bytes of three links

@@ -12,7 +12,7 @@ use Rattle.jb_record.specs.Lastread.{lastread_record_of}
 use Rattle.jb_record.specs.Message.{IsMessageHeader, message_header_of}
 use Rattle.jb_record.specs.declared.index.IndexRecord.{IndexRecord}
 use Rattle.jb_record.specs.declared.message.MessageHeader.{MessageHeader}
-use Rattle.jb_image.specs.Places.{bytes_at, entry_in, mark_in, header_in}
+use Rattle.jb_image.specs.Places.{bytes_at, entry_in, mark_record_at, header_in}
 use Rattle.jb_image.specs.Stands.{HasHeader, HasSlot, IsDeleted, IsLiveHeader, IsLiveIn, head_of}
 use Rattle.jb_change.proofs.EndLemmas.{below_end}
 
@@ -95,5 +95,5 @@ pub entry_kept : (files after : Files) (more : List ℕ) (k : ℕ) → after Jdx
 entry_kept files after more k jdx within = ap index_record_of (below_end (files Jdx) (after Jdx) more (8 * k) 8 jdx within)
 
 -- and so does a lastread record
-pub mark_kept : (files after : Files) (more : List ℕ) (k : ℕ) → after Jlr ≡ files Jlr ++ more → 16 * k + 16 ≤ length (files Jlr) → mark_in after k ≡ mark_in files k
+pub mark_kept : (files after : Files) (more : List ℕ) (k : ℕ) → after Jlr ≡ files Jlr ++ more → 16 * k + 16 ≤ length (files Jlr) → mark_record_at after k ≡ mark_record_at files k
 mark_kept files after more k jlr within = ap lastread_record_of (below_end (files Jlr) (after Jlr) more (16 * k) 16 jlr within)

@@ -5,7 +5,7 @@ use Rattle.std.proofs.lemmas.Bool.{cases_lt}
 use Rattle.std.proofs.lemmas.Grind.{same_number_lists}
 use Rattle.std.proofs.lemmas.List.{places}
 use Rattle.jb_disk.specs.FileLaws.{same_file}
-use Rattle.jb_disk.specs.Files.{Files, InFile, number_of}
+use Rattle.jb_disk.specs.Files.{Files, InFile, file_number}
 use Rattle.jb_disk.specs.RedoView.{RedoView}
 use Rattle.jb_disk.specs.Steps.{Torn}
 use Rattle.jb_disk.specs.declared.file.FileId.{FileId}
@@ -95,7 +95,7 @@ leaves_mark old new place from to text within only was left =
 
 -- the index is no other file
 no_headers : Jdx ≡ Jhr → ⊥
-no_headers same = let number = ap number_of same in omega (arith, number)
+no_headers same = let number = ap file_number same in omega (arith, number)
 
 -- files of as many slots have the same index, where none of its bytes may be written
 index_kept : (redo : RedoView) (from to : Loaded) (text : List ℕ) (may : FileId → ℕ → Type 0) → Updates redo from to text → length to.slots ≡ length from.slots → ((i : ℕ) → may Jdx i → ⊥)
@@ -128,7 +128,7 @@ keeps_index redo from (Marked place mark) text makes leaves = index_kept redo fr
   where
     none : (place : Option ℕ) (i : ℕ) → IsInMark place Jdx i → ⊥
     none None i there = there
-    none (Some place) i there = let number = ap number_of there.0 in omega (arith, number)
+    none (Some place) i there = let number = ap file_number there.0 in omega (arith, number)
 keeps_index redo from (Packed plan base) text makes leaves = tt
 
 -- what a change leaves

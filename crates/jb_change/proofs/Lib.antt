@@ -14,5 +14,4 @@ mod PieceLemmas
 mod PlanLemmas
 pub mod PostLemmas
 mod ReadingLemmas
-pub mod SizeLemmas
 mod UpdateLemmas

@@ -8,7 +8,7 @@ use Rattle.jb_base.specs.declared.attribute.TheConstants.{DELETED}
 use Rattle.jb_limits.specs.declared.limits.TheConstants.{MOST_SUBFIELD_BYTES}
 use Rattle.jb_bytes.specs.Subfields.{subfield_bytes, IsSubfieldList}
 use Rattle.jb_disk.specs.declared.file.FileId.TheVariants.{Jhr, Jdt, Jdx, Jlr}
-use Rattle.jb_disk.specs.Files.{Files, number_of, overwritten, written}
+use Rattle.jb_disk.specs.Files.{Files, file_number, overwritten, written}
 use Rattle.jb_disk.specs.FileLaws.{with_file-here, with_file-other}
 use Rattle.jb_disk.specs.Steps.{Torn}
 use Rattle.jb_state.specs.Loaded.{IsMessageAt, with_slot_at, with_head_at, with_killed_at}
@@ -40,8 +40,8 @@ pub record IsTornAt (at len : ℕ) (old new : Files) : Type 0 where
 pub torn-written : (at : ℕ) (bytes : List ℕ) (files : Files) → at + length bytes ≤ length (files Jhr) → IsTornAt at (length bytes) files (written Jhr at bytes files)
 torn-written at bytes files within = record {
   headers = subst (Torn at (length bytes) (files Jhr)) (sym (with_file-here Jhr (overwritten at bytes (files Jhr)) files)) (torn-overwritten at bytes (files Jhr) within);
-  index = with_file-other Jhr Jdx (overwritten at bytes (files Jhr)) files (λ is. absurd (omega (arith, ap number_of is)));
-  texts = with_file-other Jhr Jdt (overwritten at bytes (files Jhr)) files (λ is. absurd (omega (arith, ap number_of is)));
+  index = with_file-other Jhr Jdx (overwritten at bytes (files Jhr)) files (λ is. absurd (omega (arith, ap file_number is)));
+  texts = with_file-other Jhr Jdt (overwritten at bytes (files Jhr)) files (λ is. absurd (omega (arith, ap file_number is)));
 }
 
 module _ (at len : ℕ) (old new : Files) (torn : IsTornAt at len old new) where
@@ -258,7 +258,7 @@ module _ (files : Files) (loaded : Loaded) (place : ℕ) (message : LoadedMessag
 
   -- no mark is another
   marks_then : after Jlr ≡ files Jlr
-  marks_then = with_file-other Jhr Jlr (overwritten (message.header_at + o) bytes (files Jhr)) files (λ is. absurd (omega (arith, ap number_of is)))
+  marks_then = with_file-other Jhr Jlr (overwritten (message.header_at + o) bytes (files Jhr)) files (λ is. absurd (omega (arith, ap file_number is)))
 
   -- the files hold the area with the fields that the header has then
   pub loads_head : (head : Head) → head ≡ head_of (with_bytes o bytes (header_in files message.header_at)) → bit_and head.attribute DELETED ≡ 0

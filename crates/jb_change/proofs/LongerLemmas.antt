@@ -21,7 +21,7 @@ use Rattle.jb_record.specs.Lastread.{lastread_record_bytes, lastread_record_of}
 use Rattle.jb_record.specs.Message.{IsMessageHeader, message_header_bytes, message_header_of}
 use Rattle.jb_record.specs.declared.index.IndexRecord.{IndexRecord}
 use Rattle.jb_record.specs.declared.message.MessageHeader.{MessageHeader}
-use Rattle.jb_image.specs.Places.{bytes_at, entry_in, header_in, mark_in}
+use Rattle.jb_image.specs.Places.{bytes_at, entry_in, header_in, mark_record_at}
 use Rattle.jb_image.specs.Stands.{HasSlot, IsLiveHeader, IsLiveIn, Loads, head_of, mark_record}
 use Rattle.jb_change.specs.Post.{IsNext, number_behind}
 use Rattle.jb_image.specs.Records.{IsEntryReadAgain, IsHeaderReadAgain, IsMarkReadAgain, entry_for, message_bytes, numbered_header}
@@ -175,7 +175,7 @@ module _ (files after : Files) (loaded : Loaded) (mark : Mark) (loads : Loads lo
     (jhr : after Jhr ≡ files Jhr) (jdt : after Jdt ≡ files Jdt) (jdx : after Jdx ≡ files Jdx)
     (jlr : after Jlr ≡ files Jlr ++ lastread_record_bytes (mark_record mark)) where
   -- each mark is there
-  marks_there : (k : ℕ) (d : Mark) → k < length (loaded.marks ++ mark ∷ []) → mark_record (slice_index_or (loaded.marks ++ mark ∷ []) k d) ≡ mark_in after k
+  marks_there : (k : ℕ) (d : Mark) → k < length (loaded.marks ++ mark ∷ []) → mark_record (slice_index_or (loaded.marks ++ mark ∷ []) k d) ≡ mark_record_at after k
   marks_there k d low = elim (cases_lt k (length loaded.marks)) [
     | inl old ↦
         ap mark_record (get_or_append_left loaded.marks (mark ∷ []) d k old) ∙ loads.marks k d old

@@ -20,7 +20,7 @@ use Rattle.jb_state.specs.declared.mark.Mark.{Mark}
 use Rattle.jb_record.specs.Lastread.{lastread_record_bytes}
 use Rattle.jb_redo.specs.Record.{piece_bytes}
 use Rattle.jb_redo.specs.Replay.{IsGrowthCovered, applied}
-use Rattle.jb_redo.specs.Rules.{AreLegalLengths, IsBefore, IsLegal, IsLegalLength, IsLegalPiece, new_sizes, sizes_of}
+use Rattle.jb_redo.specs.Rules.{AreLegalLengths, IsBefore, IsLegalRecord, IsLegalLength, IsLegalPiece, new_sizes, sizes_of}
 use Rattle.jb_change.specs.Behind.{AppendsOnly}
 use Rattle.jb_change.specs.NewMark.{MakesMark, mark_lengths, mark_pieces}
 use Rattle.jb_image.specs.Records.{IsMarkReadAgain}
@@ -28,7 +28,7 @@ use Rattle.jb_change.proofs.LongerLemmas.{marked}
 use Rattle.jb_change.proofs.EndLemmas.{kept_behind, kept_same, one_behind, same_length}
 use Rattle.jb_change.proofs.PostLemmas.{no_pairs}
 use Rattle.jb_image.proofs.RecordLemmas.{length-mark}
-use Rattle.jb_change.proofs.SizeLemmas.{length-pieces, length-record}
+use Rattle.jb_redo.proofs.LengthLemmas.{length-pieces, length-record}
 
 -- its length is legal
 pub legal_mark_lengths : (count : ℕ) → count < MOST_SLOTS → AreLegalLengths (mark_lengths count)
@@ -56,7 +56,7 @@ module _ (count : ℕ) (mark : Mark) (few : count < MOST_SLOTS) where
     marks_end = omega (arith, loads.lastread)
 
     -- its piece is legal
-    legal_mark : IsLegal (sizes_of files) (mark_lengths count) (mark_pieces count mark)
+    legal_mark : IsLegalRecord (sizes_of files) (mark_lengths count) (mark_pieces count mark)
     legal_mark =
         let Legal : Piece → Type 0 = IsLegalPiece (sizes_of files) (new_sizes (mark_lengths count) (sizes_of files)) in
         let piece : Piece = Bytes Jlr (16 * count) (lastread_record_bytes (mark_record mark)) in
@@ -111,8 +111,8 @@ module _ (count : ℕ) (mark : Mark) (few : count < MOST_SLOTS) where
       let made : (files : Files) → changed change files ≡ applied (mark_lengths count) (mark_pieces count mark) files = λ files i. applied (lengths_are i) (pieces_are i) files in
       record {
         legal = λ files loads.
-            subst (λ (lengths : List Length). IsLegal (sizes_of files) lengths change.pieces) (sym lengths_are)
-            (subst (λ (pieces : List Piece). IsLegal (sizes_of files) (mark_lengths count) pieces) (sym pieces_are) (legal_mark loaded counted files loads));
+            subst (λ (lengths : List Length). IsLegalRecord (sizes_of files) lengths change.pieces) (sym lengths_are)
+            (subst (λ (pieces : List Piece). IsLegalRecord (sizes_of files) (mark_lengths count) pieces) (sym pieces_are) (legal_mark loaded counted files loads));
         grown = λ files loads.
             subst (λ (lengths : List Length). IsGrowthCovered lengths change.pieces files) (sym lengths_are)
             (subst (λ (pieces : List Piece). IsGrowthCovered (mark_lengths count) pieces files) (sym pieces_are) (covers_mark loaded counted files loads));

@@ -11,40 +11,31 @@ use Rattle.jb_disk.specs.declared.file.FileId.TheVariants.{Jdt}
 use Rattle.jb_disk.specs.declared.piece.Length.{Length}
 use Rattle.jb_disk.specs.declared.piece.Piece.{Piece}
 use Rattle.jb_disk.specs.declared.piece.Piece.TheVariants.{Bytes}
-use Rattle.jb_disk.specs.Files.{Files, InFile, number_of, overwritten, written}
+use Rattle.jb_disk.specs.Files.{Files, InFile, file_number, overwritten, written}
 use Rattle.jb_disk.specs.FileLaws.{same_file, same_files, InFile-with, with_file-here, with_file-other, number-injective, length-of_length}
 use Rattle.jb_disk.specs.Memory.{of_length}
-use Rattle.jb_disk.specs.Steps.{Span, Torn, IsCovered, IsWithin, patched}
+use Rattle.jb_disk.specs.Steps.{Span, Torn, IsCovered, AreWithin, patched}
 use Rattle.jb_image.specs.Stands.{Loads}
 use Rattle.jb_state.specs.declared.loaded.Loaded.{Loaded}
 use Rattle.jb_redo.specs.Record.{record_bytes, piece_bytes}
 use Rattle.jb_redo.specs.Replay.{applied, span_of, spans_in, writes, IsGrowthCovered}
-use Rattle.jb_redo.specs.Rules.{sizes_of, new_sizes, IsLegal, IsLegalPiece}
-use Rattle.jb_redo.proofs.SpanLemmas.{spans_in-here, spans_in-other, spans_within}
+use Rattle.jb_redo.specs.Rules.{sizes_of, new_sizes, IsLegalRecord, IsLegalPiece}
+use Rattle.jb_redo.proofs.SpanLemmas.{spans_in-here, spans_in-other, spans_within, covered-first, spans-append}
 use Rattle.jb_change.specs.Makes.{Makes}
 use Rattle.jb_redo.specs.Changes.{changed, record_size}
 use Rattle.jb_change.specs.Changing.{Puts, WritesOnly}
 use Rattle.jb_change.proofs.ByteLemmas.{torn-overwritten, torn-then, torn-wider}
 use Rattle.jb_redo.proofs.ApplyLemmas.{length-patched, patched-push}
-use Rattle.jb_change.proofs.SizeLemmas.{length-record}
-
--- what two lists of pieces write into a file
-spans-append : (files : Files) (one other : List Piece) (file : FileId) → spans_in files (one ++ other) file ≡ spans_in files one file ++ spans_in files other file
-spans-append files one other file = ap (map (span_of files)) (filter-append (writes file) one other) ∙ map-append (span_of files) (filter (writes file) one) (filter (writes file) other)
-
--- what is covered stays so
-covered_more : (one other : List Span) (i : ℕ) → IsCovered one i → IsCovered (one ++ other) i
-covered_more [] other i covered = absurd covered
-covered_more (span ∷ one) other i covered = elim covered [ inl here ↦ inl here | inr there ↦ inr (covered_more one other i there) ]
+use Rattle.jb_redo.proofs.LengthLemmas.{length-record}
 
 -- the length of the files that a record makes
-length-applied : (files : Files) (lengths : List Length) (pieces : List Piece) (file : FileId) → IsLegal (sizes_of files) lengths pieces
+length-applied : (files : Files) (lengths : List Length) (pieces : List Piece) (file : FileId) → IsLegalRecord (sizes_of files) lengths pieces
     → length (applied lengths pieces files file) ≡ new_sizes lengths (sizes_of files) file
 length-applied files lengths pieces file legal =
     let ends = new_sizes lengths (sizes_of files) in
     let size = length-of_length (ends file) (files file) in
     length-patched (spans_in files pieces file) (of_length (ends file) (files file))
-    (subst (IsWithin (spans_in files pieces file)) (sym size) (spans_within files ends pieces file legal.pieces_are.each))
+    (subst (AreWithin (spans_in files pieces file)) (sym size) (spans_within files ends pieces file legal.pieces_are.each))
     ∙ size
 
 module _ (file : FileId) (at : ℕ) (bytes : List ℕ) where
@@ -66,7 +57,7 @@ module _ (file : FileId) (at : ℕ) (bytes : List ℕ) where
       → applied lengths (pieces ++ piece ∷ []) files other ≡ written file at bytes (applied lengths pieces files) other
   applied_other lengths pieces files other apart =
       let start = of_length (new_sizes lengths (sizes_of files) other) (files other) in
-      let numbers : number_of file ≢ number_of other = λ is. apart (number-injective other file (sym is)) in
+      let numbers : file_number file ≢ file_number other = λ is. apart (number-injective other file (sym is)) in
       ap (λ (spans : List Span). patched spans start) (spans-append files pieces (piece ∷ []) other
       ∙ ap (λ (spans : List Span). spans_in files pieces other ++ spans) (spans_in-other files piece [] other numbers) ∙ append-nil (spans_in files pieces other))
       ∙ sym (with_file-other file other (overwritten at bytes (applied lengths pieces files file)) (applied lengths pieces files) apart)
@@ -79,9 +70,9 @@ module _ (file : FileId) (at : ℕ) (bytes : List ℕ) where
   ])
 
   -- it may stand behind the others, where it lies within what they make
-  legal_more : (lengths : List Length) (pieces : List Piece) (files : Files) → number_of file < 4 → at < 2 ^ 32 → length bytes < 2 ^ 32
+  legal_more : (lengths : List Length) (pieces : List Piece) (files : Files) → file_number file < 4 → at < 2 ^ 32 → length bytes < 2 ^ 32
       → at + length bytes ≤ length (applied lengths pieces files file) → length (pieces ++ piece ∷ []) < 2 ^ 32
-      → IsLegal (sizes_of files) lengths pieces → IsLegal (sizes_of files) lengths (pieces ++ piece ∷ [])
+      → IsLegalRecord (sizes_of files) lengths pieces → IsLegalRecord (sizes_of files) lengths (pieces ++ piece ∷ [])
   legal_more lengths pieces files of_base place short within few legal = record {
     lengths_are = legal.lengths_are;
     pieces_are = record {
@@ -114,12 +105,12 @@ module _ (file : FileId) (at : ℕ) (bytes : List ℕ) where
         (λ i. length (record_bytes (puts.lengths i) (puts.pieces i))) ∙ omega (arith, more, before, after)
 
     -- it keeps the rules
-    legal_then : (files : Files) → number_of file < 4 → at < 2 ^ 32 → length bytes < 2 ^ 32 → at + length bytes ≤ length (changed old files file)
-        → IsLegal (sizes_of files) old.lengths old.pieces → IsLegal (sizes_of files) new.lengths new.pieces
+    legal_then : (files : Files) → file_number file < 4 → at < 2 ^ 32 → length bytes < 2 ^ 32 → at + length bytes ≤ length (changed old files file)
+        → IsLegalRecord (sizes_of files) old.lengths old.pieces → IsLegalRecord (sizes_of files) new.lengths new.pieces
     legal_then files of_base place short within legal =
         let few : length (old.pieces ++ piece ∷ []) < 2 ^ 32 = subst (λ (l : List Piece). length l < 2 ^ 32) puts.pieces puts.few in
-        subst (λ (l : List Length). IsLegal (sizes_of files) l new.pieces) (sym puts.lengths)
-        (subst (IsLegal (sizes_of files) old.lengths) (sym puts.pieces) (legal_more old.lengths old.pieces files of_base place short within few legal))
+        subst (λ (l : List Length). IsLegalRecord (sizes_of files) l new.pieces) (sym puts.lengths)
+        (subst (IsLegalRecord (sizes_of files) old.lengths) (sym puts.pieces) (legal_more old.lengths old.pieces files of_base place short within few legal))
 
     -- what is covered stays so
     grown_then : (files : Files) → IsGrowthCovered old.lengths old.pieces files → IsGrowthCovered new.lengths new.pieces files
@@ -127,10 +118,10 @@ module _ (file : FileId) (at : ℕ) (bytes : List ℕ) where
         let low_too = subst (λ (l : List Length). i < new_sizes l (sizes_of files) other) puts.lengths low in
         subst (λ (l : List Piece). IsCovered (spans_in files l other) i) (sym puts.pieces)
         (subst (λ (l : List Span). IsCovered l i) (sym (spans-append files old.pieces (piece ∷ []) other))
-        (covered_more (spans_in files old.pieces other) (spans_in files (piece ∷ []) other) i (grown other i past low_too)))
+        (covered-first (spans_in files old.pieces other) (spans_in files (piece ∷ []) other) i (grown other i past low_too)))
 
     -- what it makes of an area
-    pub put_makes : (from to then : Loaded) (text : List ℕ) → Makes old from to text → number_of file < 4 → file ≢ Jdt → at < 2 ^ 32 → length bytes < 2 ^ 32
+    pub put_makes : (from to then : Loaded) (text : List ℕ) → Makes old from to text → file_number file < 4 → file ≢ Jdt → at < 2 ^ 32 → length bytes < 2 ^ 32
         → ((files : Files) → Loads to files → at + length bytes ≤ length (files file)) → ((files : Files) → Loads to files → Loads then (written file at bytes files))
         → Makes new from then text
     put_makes from to then text makes of_base no_text place short within loads = record {

@@ -24,14 +24,14 @@ use Rattle.jb_record.specs.Index.{index_record_bytes}
 use Rattle.jb_record.specs.declared.message.MessageHeader.{MessageHeader}
 use Rattle.jb_redo.specs.Replay.{IsGrowthCovered, applied}
 use Rattle.jb_redo.specs.Record.{piece_bytes}
-use Rattle.jb_redo.specs.Rules.{AreLegalLengths, IsBefore, IsLegal, IsLegalLength, IsLegalPiece, new_sizes, sizes_of}
+use Rattle.jb_redo.specs.Rules.{AreLegalLengths, IsBefore, IsLegalRecord, IsLegalLength, IsLegalPiece, new_sizes, sizes_of}
 use Rattle.jb_change.specs.Behind.{AppendsOnly}
 use Rattle.jb_change.specs.Post.{HasNextNumber, IsNext, number_behind, post_lengths, post_pieces}
 use Rattle.jb_image.specs.Records.{entry_for, message_bytes}
 use Rattle.jb_change.proofs.LongerLemmas.{AreReadAgain, header_there, posted}
 use Rattle.jb_change.proofs.EndLemmas.{kept_behind, kept_same, one_behind, same_length}
 use Rattle.jb_image.proofs.RecordLemmas.{length-entry, length-message}
-use Rattle.jb_change.proofs.SizeLemmas.{length-pieces, length-record}
+use Rattle.jb_redo.proofs.LengthLemmas.{length-pieces, length-record}
 
 -- no two of none
 pub no_pairs : AllPairs IsBefore []
@@ -83,7 +83,7 @@ module _ (loaded : Loaded) (message : LoadedMessage) (text : List ℕ) (next : I
     texts_end = next.text_at ∙ loads.texts_len
 
     -- its pieces are legal
-    legal_post : IsLegal (sizes_of files) (post_lengths loaded message) (post_pieces loaded message text)
+    legal_post : IsLegalRecord (sizes_of files) (post_lengths loaded message) (post_pieces loaded message text)
     legal_post =
         let Legal : Piece → Type 0 = IsLegalPiece (sizes_of files) (new_sizes (post_lengths loaded message) (sizes_of files)) in
         let header : Piece = Bytes Jhr message.header_at (message_bytes (number_behind loaded) message) in
@@ -165,8 +165,8 @@ module _ (loaded : Loaded) (message : LoadedMessage) (text : List ℕ) (next : I
     pub makes_post : Makes change loaded (with_message_behind message loaded) text
     makes_post = record {
       legal = λ files loads.
-          subst (λ (lengths : List Length). IsLegal (sizes_of files) lengths change.pieces) (sym lengths_are)
-          (subst (λ (pieces : List Piece). IsLegal (sizes_of files) (post_lengths loaded message) pieces) (sym pieces_are) (legal_post files loads));
+          subst (λ (lengths : List Length). IsLegalRecord (sizes_of files) lengths change.pieces) (sym lengths_are)
+          (subst (λ (pieces : List Piece). IsLegalRecord (sizes_of files) (post_lengths loaded message) pieces) (sym pieces_are) (legal_post files loads));
       grown = λ files loads.
           subst (λ (lengths : List Length). IsGrowthCovered lengths change.pieces files) (sym lengths_are)
           (subst (λ (pieces : List Piece). IsGrowthCovered (post_lengths loaded message) pieces files) (sym pieces_are) (covers_post files loads));

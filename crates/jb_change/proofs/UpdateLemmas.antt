@@ -10,7 +10,7 @@ use Rattle.jb_change.specs.Changing.{ChangesArea, ChangesHead, ChangesHeader, Ch
 use Rattle.jb_change.specs.Makes.{Makes}
 use Rattle.jb_redo.specs.Changes.{changed}
 use Rattle.jb_disk.specs.RedoView.{RedoView}
-use Rattle.jb_disk.specs.Files.{Files, number_of}
+use Rattle.jb_disk.specs.Files.{Files, file_number}
 use Rattle.jb_disk.specs.Steps.{Torn}
 use Rattle.jb_disk.specs.declared.file.FileId.{FileId}
 use Rattle.jb_disk.specs.declared.file.FileId.TheVariants.{Jhr, Jlr}
@@ -169,7 +169,7 @@ numbers_behind change loaded appends files loads p at is =
 pub numbers_beside : (old new : RedoView) (at len : ℕ) → WritesOnly old new Jlr at len → (files : Files) → at + len ≤ length (changed old files Jlr) → (loaded : Loaded)
     → KeepsNumbers loaded (changed old files) (changed new files)
 numbers_beside old new at len only files room loaded p from is =
-    ap (λ (b : List ℕ). (message_header_of (bytes_at from 76 b)).number) ((only files room).others Jhr (λ same. let number = ap number_of same in omega (arith, number)))
+    ap (λ (b : List ℕ). (message_header_of (bytes_at from 76 b)).number) ((only files room).others Jhr (λ same. let number = ap file_number same in omega (arith, number)))
 
 -- a change of nothing leaves each file
 pub file_left : (change : RedoView) (files : Files) (file : FileId) → change.lengths ≡ [] → change.pieces ≡ [] → changed change files file ≡ files file

@@ -2,7 +2,7 @@
 use Rattle.std.specs.Prelude.{◌≡◌, ◌≢◌, ℕ, ◌<◌, List, [], ◌∷◌, replicate}
 use Rattle.jb_redo.specs.Changes.{Brings, record_size}
 use Rattle.jb_disk.specs.RedoView.{RedoView}
-use Rattle.jb_disk.specs.Files.{Files, number_of}
+use Rattle.jb_disk.specs.Files.{Files, file_number}
 use Rattle.jb_disk.specs.declared.file.FileId.{FileId}
 use Rattle.jb_disk.specs.declared.file.FileId.TheVariants.{Jhr, Jdt, Jdx, Jlr}
 use Rattle.jb_disk.specs.declared.piece.Length.{Length}
@@ -37,12 +37,12 @@ new_area moment = state_of [] (new_loaded moment)
 
 -- the four files of a base are empty
 abbrev pub AreEmpty : Files → Type 0
-AreEmpty files = (file : FileId) → number_of file < 4 → files file ≡ []
+AreEmpty files = (file : FileId) → file_number file < 4 → files file ≡ []
 
 -- the files of a base that was just made: its fixed header in .JHR, and nothing in the others; they hold its area
 pub record AreNew (moment : ℕ) (files : Files) : Type 0 where
   pub headers : files Jhr ≡ fixed_header_bytes (fixed_of (new_loaded moment))
-  pub others : (file : FileId) → number_of file < 4 → file ≢ Jhr → files file ≡ []
+  pub others : (file : FileId) → file_number file < 4 → file ≢ Jhr → files file ≡ []
   pub loads : Loads (new_loaded moment) files
 
 -- of empty files the change makes those of a base, and its record is legal and short

@@ -1,5 +1,5 @@
--- A board that is read is in its ranges.
-use Rattle.std.proofs.Common.{◌≡◌, ◌≤◌, ◌<◌, ◌+◌, ◌&&◌, ◌==◌, ℕ, true, not, nat_le, List, [], ◌∷◌, ◌++◌, Option, Some, None, Result, IfOk, length, get_or, refl, arith, inl, inr, length-append}
+-- The values of a settings file that is not refused are in their ranges.
+use Rattle.std.proofs.Common.{◌≡◌, ◌≤◌, ◌<◌, ◌+◌, ◌&&◌, ◌==◌, ℕ, true, not, nat_le, List, [], ◌∷◌, ◌++◌, Some, None, pos, length, get_or, refl, arith, inl, inr, length-append}
 use Rattle.std.specs.Prelude.{bytes_eq}
 use Rattle.std.proofs.lemmas.Bool.{cases_lt}
 use Rattle.std.proofs.lemmas.Bool.Decides.{nat_tests}
@@ -13,18 +13,16 @@ use Rattle.jb_bytes.specs.Name.{SameName, same_name}
 use Rattle.jb_limits.specs.declared.limits.TheConstants.{MOST_AREAS, MOST_USERS}
 use Rattle.jb_conf.specs.Areas.{area_fault, area_of, areas_fault, areas_of, rules_fault, rules_of, slots_of}
 use Rattle.jb_conf.specs.Users.{user_fault, user_of, users_fault, users_of}
-use Rattle.jb_conf.specs.Faults.{fault_if, tables_at, text_at}
+use Rattle.jb_conf.specs.Faults.{fault_if, tables_at, text_at, whole_at}
 use Rattle.jb_conf.specs.InRange.{AreAreasInRange, AreUsersInRange, HasCount, IsAreaInRange, IsInRange, IsUserInRange}
 use Rattle.jb_conf.specs.Rows.{area_kind_fault, number_at, number_fault}
-use Rattle.jb_conf.specs.Settings.{IsReading, board_fault, board_of, board_unless}
-use Rattle.jb_conf.specs.declared.board.Board.{Board}
+use Rattle.jb_conf.specs.Settings.{board_fault}
 use Rattle.jb_conf.specs.declared.board.BoardArea.{BoardArea}
 use Rattle.jb_conf.specs.declared.board.BoardUser.{BoardUser}
 use Rattle.jb_conf.specs.declared.field.Field.TheVariants.{Area, User, Board as OfBoard}
 use Rattle.jb_conf.specs.declared.field.AreaKey.TheVariants as area_key
 use Rattle.jb_conf.specs.declared.field.UserKey.TheVariants as user_key
 use Rattle.jb_conf.specs.declared.field.BoardKey.TheVariants as board_key
-use Rattle.jb_conf.specs.declared.error.ConfError.{ConfError}
 use Rattle.jb_conf.specs.declared.error.ConfError.TheVariants.{OutOfRange}
 use Rattle.jb_conf.proofs.Bounds.{address_bounds, from_not, minutes_bounds, none_each, none_if, none_of, number_bounds, other_name, other_number, other_place, printable_bounds, short_bounds, sized_bounds, tables_bounds}
 
@@ -188,10 +186,17 @@ no_users = record {
 same_count : {X Y : Type 0} (least most : ℕ) (one : List X) (other : List Y) → length one ≡ 0 + length other → HasCount least most other → HasCount least most one
 same_count least most one other same has = (omega (arith, same, has.0), omega (arith, same, has.1))
 
--- the board of a document that is not refused
-board_in_range : (entries : Members) → board_fault entries ≡ None → IsInRange (board_of entries)
-unfolding board_fault board_of
-board_in_range entries e =
+-- the values of a document that is not refused
+pub values_in_range : (entries : Members) → board_fault entries ≡ None → IsInRange
+    (text_at (OfBoard board_key.Name) [] entries)
+    (text_at (OfBoard board_key.Address) [] entries)
+    (number_at (OfBoard board_key.Nodes) (Some 1) entries)
+    (whole_at (OfBoard board_key.Offset) (pos 0) entries)
+    (number_at (OfBoard board_key.PackMinutes) (Some 60) entries)
+    (areas_of (text_at (OfBoard board_key.Address) [] entries) [] (tables_at (OfBoard board_key.Areas) entries))
+    (users_of [] (tables_at (OfBoard board_key.Users) entries))
+unfolding board_fault
+values_in_range entries e =
     let name = none_each _ _ e in
     let address = none_each _ _ name.1 in
     let port = none_each _ _ address.1 in
@@ -208,28 +213,17 @@ board_in_range entries e =
     let many = number_bounds (OfBoard board_key.Nodes) (Some 1) 1 32 entries nodes.0 in
     let minutes = minutes_bounds (OfBoard board_key.Offset) entries offset.0 in
     record {
-      name = name_text.0;
-      printed = name_text.1;
-      address = address_text.0;
+      name_count = name_text.0;
+      name_bytes = name_text.1;
+      address_count = address_text.0;
       address_bytes = address_text.1;
-      nodes_some = many.0;
-      nodes = many.1;
+      nodes_least = many.0;
+      nodes_most = many.1;
       offset_least = minutes.0;
       offset_most = minutes.1;
-      pack_minutes = (number_bounds (OfBoard board_key.PackMinutes) (Some 60) 0 10080 entries pack.0).1;
+      pack_most = (number_bounds (OfBoard board_key.PackMinutes) (Some 60) 0 10080 entries pack.0).1;
       area_count = same_count 1 MOST_AREAS _ (tables_at (OfBoard board_key.Areas) entries) (length-areas_of at [] (tables_at (OfBoard board_key.Areas) entries)) (tables_bounds (OfBoard board_key.Areas) MOST_AREAS entries area_tables.0);
-      areas = areas_in_range at [] (tables_at (OfBoard board_key.Areas) entries) (no_areas at) areas.0;
+      area_values = areas_in_range at [] (tables_at (OfBoard board_key.Areas) entries) (no_areas at) areas.0;
       user_count = same_count 1 MOST_USERS _ (tables_at (OfBoard board_key.Users) entries) (length-users_of [] (tables_at (OfBoard board_key.Users) entries)) (tables_bounds (OfBoard board_key.Users) MOST_USERS entries user_tables.0);
-      users = users_in_range [] (tables_at (OfBoard board_key.Users) entries) no_users users.0;
+      user_values = users_in_range [] (tables_at (OfBoard board_key.Users) entries) no_users users.0;
     }
-
--- the board, where there is one, of a fault that is none
-unless_in_range : (fault : Option ConfError) (board : Board) → (fault ≡ None → IsInRange board) → IfOk (board_unless fault board) IsInRange
-unless_in_range None board is = is refl
-unless_in_range (Some error) board is = tt
-
--- each board that is read
-pub reading_in_range : (bytes : List ℕ) (result : Result Board ConfError) → IsReading bytes result → IfOk result IsInRange
-reading_in_range bytes result (inl read) = rw read.2 (unless_in_range (board_fault read.0) (board_of read.0) (board_in_range read.0))
-reading_in_range bytes result (inr (inl none)) = rw none.1 tt
-reading_in_range bytes result (inr (inr memory)) = rw memory tt

@@ -1,14 +1,13 @@
 -- A document is refused by the name of a field or of a user, and by nothing else.
-use Rattle.std.proofs.Common.{◌≡◌, ℕ, ℤ, Bool, true, false, List, [], ◌∷◌, ◌++◌, ◌+◌, Option, Some, None, Err, length, refl, rules}
+use Rattle.std.proofs.Common.{◌≡◌, ℕ, ℤ, Bool, true, false, List, [], ◌∷◌, ◌++◌, ◌+◌, Option, Some, None, length, refl, ap, sym, ◌∙◌, rules}
 use Rattle.std.specs.Option.{option_or}
 use Rattle.std.proofs.lemmas.Bool.{false≢true}
 use Rattle.toml.specs.Data.{Data, Members}
 use Rattle.jb_conf.specs.Areas.{area_fault, area_of, areas_fault, rules_fault}
 use Rattle.jb_conf.specs.Faults.{fault_if, field_fault, kind_fault}
 use Rattle.jb_conf.specs.Rows.{address_fault, area_kind_fault, digest_fault, number_fault, printable_fault, short_fault, sized_fault, tables_fault, whole_fault}
-use Rattle.jb_conf.specs.Settings.{board_fault, board_of, board_unless, settings_of}
+use Rattle.jb_conf.specs.Settings.{board_fault}
 use Rattle.jb_conf.specs.Users.{user_fault, user_of, users_fault}
-use Rattle.jb_conf.specs.declared.board.Board.{Board}
 use Rattle.jb_conf.specs.declared.board.BoardArea.{BoardArea}
 use Rattle.jb_conf.specs.declared.board.BoardUser.{BoardUser}
 use Rattle.jb_conf.specs.declared.field.Field.{Field}
@@ -110,10 +109,6 @@ board_named : (entries : Members) → is_named (board_fault entries) ≡ true
 unfolding board_fault
 board_named entries = search (rules, named_or, printable_named, address_named, number_named, whole_named, tables_named, areas_named, users_named)
 
-unless_named : (fault : Option ConfError) (board : Board) (error : ConfError) → is_named fault ≡ true → board_unless fault board ≡ Err error → names_field error ≡ true
-unless_named None board error named e = cc
-unless_named (Some mine) board error named e = let same : mine ≡ error = cc in rw (← same) named
-
 -- no document is refused as none
-pub never_not_toml : (entries : Members) → settings_of entries ≡ Err NotToml → ⊥
-never_not_toml entries e = false≢true (unless_named (board_fault entries) (board_of entries) NotToml (board_named entries) e)
+pub never_not_toml : (entries : Members) → board_fault entries ≡ Some NotToml → ⊥
+never_not_toml entries e = false≢true (sym (ap is_named e) ∙ board_named entries)

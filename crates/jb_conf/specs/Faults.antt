@@ -2,7 +2,7 @@
 use Rattle.std.specs.Prelude.{◌≡◌, ◌⊎◌, ℕ, ℤ, Bool, true, false, not, ◌&&◌, List, [], ◌∷◌, Option, Some, None, Result, Ok, Err, is_some, unwrap_or, option_and_then, if◌then◌else◌}
 use Rattle.std.specs.Option.{option_or}
 use Rattle.toml.specs.Data.{Data, array, Items, no_items, item, Members, no_members, get_member, as_str, as_integer, as_table}
-use Rattle.jb_conf.specs.Names.{key_of}
+use Rattle.jb_conf.specs.Names.{field_key}
 use Rattle.jb_conf.specs.declared.field.Field.{Field}
 use Rattle.jb_conf.specs.declared.error.ConfError.{ConfError}
 use Rattle.jb_conf.specs.declared.error.ConfError.TheVariants.{Missing, WrongKind, OutOfRange, OutOfMemory}
@@ -17,9 +17,9 @@ first_fault [] = None
 first_fault (fault ∷ faults) = option_or fault (first_fault faults)
 
 -- the value where nothing is at fault, else the fault
-abbrev pub Answers : {V : Type 0} → Option ConfError → (V → Type 0) → Result V ConfError → Type 0
-Answers fault IsValue (Ok value) = (fault ≡ None) × IsValue value
-Answers fault IsValue (Err error) = fault ≡ Some error
+abbrev pub ValueOrFault : {V : Type 0} → Option ConfError → (V → Type 0) → Result V ConfError → Type 0
+ValueOrFault fault IsValue (Ok value) = (fault ≡ None) × IsValue value
+ValueOrFault fault IsValue (Err error) = fault ≡ Some error
 
 -- the same, or want of memory
 abbrev pub AnswersOrMemory : {V : Type 0} → Option ConfError → (V → Type 0) → Result V ConfError → Type 0
@@ -28,7 +28,7 @@ AnswersOrMemory fault IsValue (Err error) = (fault ≡ Some error) ⊎ (error �
 
 -- what stands at a field
 abbrev pub at_field : Field → Members → Option Data
-at_field field entries = get_member (key_of field) entries
+at_field field entries = get_member (field_key field) entries
 
 -- the text at a field, and what stands for one that is absent
 abbrev pub text_at : Field → List ℕ → Members → List ℕ

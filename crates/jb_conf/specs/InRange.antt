@@ -1,11 +1,10 @@
--- What holds of each board that is read.
-use Rattle.std.specs.Prelude.{◌≡◌, ℕ, pos, negsuc, ◌+◌, ◌<◌, ◌≤◌, ◌≤ℤ◌, IsTrue, List, length, slice_index_or, All, AllPairs}
+-- What holds of each board.
+use Rattle.std.specs.Prelude.{◌≡◌, ℕ, ℤ, pos, negsuc, ◌+◌, ◌<◌, ◌≤◌, ◌≤ℤ◌, IsTrue, List, length, slice_index_or, All, AllPairs}
 use Rattle.std.specs.List.{list_all}
 use Rattle.jb_bytes.specs.Name.{SameName}
 use Rattle.jb_limits.specs.declared.limits.TheConstants.{MOST_AREAS, MOST_NODES, MOST_SLOTS, MOST_SLOTS_TOGETHER, MOST_USERS}
 use Rattle.jb_conf.specs.Areas.{slots_of}
 use Rattle.jb_conf.specs.Ranges.{is_address_byte, is_printed}
-use Rattle.jb_conf.specs.declared.board.Board.{Board}
 use Rattle.jb_conf.specs.declared.board.BoardArea.{BoardArea}
 use Rattle.jb_conf.specs.declared.board.BoardUser.{BoardUser}
 
@@ -46,17 +45,17 @@ pub record AreUsersInRange (users : List BoardUser) : Type 0 where
   pub ids : AllPairs (λ one other. one.user.id ≡ other.user.id → ⊥) users
 
 -- all values of a board are in their ranges
-pub record IsInRange (board : Board) : Type 0 where
-  pub name : HasCount 1 36 board.name
-  pub printed : IsTrue (list_all is_printed board.name)
-  pub address : HasCount 1 24 board.address
-  pub address_bytes : IsTrue (list_all is_address_byte board.address)
-  pub nodes_some : 1 ≤ board.nodes
-  pub nodes : board.nodes ≤ MOST_NODES
-  pub offset_least : negsuc 839 ≤ℤ board.offset
-  pub offset_most : board.offset ≤ℤ pos 840
-  pub pack_minutes : board.pack_minutes ≤ 10080
-  pub area_count : HasCount 1 MOST_AREAS board.areas
-  pub areas : AreAreasInRange board.address board.areas
-  pub user_count : HasCount 1 MOST_USERS board.users
-  pub users : AreUsersInRange board.users
+pub record IsInRange (name address : List ℕ) (nodes : ℕ) (offset : ℤ) (pack_minutes : ℕ) (areas : List BoardArea) (users : List BoardUser) : Type 0 where
+  pub name_count : HasCount 1 36 name
+  pub name_bytes : IsTrue (list_all is_printed name)
+  pub address_count : HasCount 1 24 address
+  pub address_bytes : IsTrue (list_all is_address_byte address)
+  pub nodes_least : 1 ≤ nodes
+  pub nodes_most : nodes ≤ MOST_NODES
+  pub offset_least : negsuc 839 ≤ℤ offset
+  pub offset_most : offset ≤ℤ pos 840
+  pub pack_most : pack_minutes ≤ 10080
+  pub area_count : HasCount 1 MOST_AREAS areas
+  pub area_values : AreAreasInRange address areas
+  pub user_count : HasCount 1 MOST_USERS users
+  pub user_values : AreUsersInRange users

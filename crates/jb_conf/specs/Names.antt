@@ -7,35 +7,35 @@ use Rattle.jb_conf.specs.declared.field.AreaKey.TheVariants as area
 use Rattle.jb_conf.specs.declared.field.UserKey.TheVariants as user
 
 -- the key of a field in its table
-abbrev pub key_of : Field → List ℕ
-key_of (Board board.Name) = codes "name"
-key_of (Board board.Address) = codes "address"
-key_of (Board board.Port) = codes "port"
-key_of (Board board.Nodes) = codes "nodes"
-key_of (Board board.Offset) = codes "offset"
-key_of (Board board.PackMinutes) = codes "pack_minutes"
-key_of (Board board.Areas) = codes "area"
-key_of (Board board.Users) = codes "user"
-key_of (Area place area.Name) = codes "name"
-key_of (Area place area.Dir) = codes "dir"
-key_of (Area place area.Base) = codes "base"
-key_of (Area place area.Kind) = codes "kind"
-key_of (Area place area.Read) = codes "read"
-key_of (Area place area.Post) = codes "post"
-key_of (Area place area.Sysop) = codes "sysop"
-key_of (Area place area.Slots) = codes "slots"
-key_of (User place user.Name) = codes "name"
-key_of (User place user.Id) = codes "id"
-key_of (User place user.Level) = codes "level"
-key_of (User place user.Salt) = codes "salt"
-key_of (User place user.Digest) = codes "digest"
+abbrev pub field_key : Field → List ℕ
+field_key (Board board.Name) = codes "name"
+field_key (Board board.Address) = codes "address"
+field_key (Board board.Port) = codes "port"
+field_key (Board board.Nodes) = codes "nodes"
+field_key (Board board.Offset) = codes "offset"
+field_key (Board board.PackMinutes) = codes "pack_minutes"
+field_key (Board board.Areas) = codes "area"
+field_key (Board board.Users) = codes "user"
+field_key (Area place area.Name) = codes "name"
+field_key (Area place area.Dir) = codes "dir"
+field_key (Area place area.Base) = codes "base"
+field_key (Area place area.Kind) = codes "kind"
+field_key (Area place area.Read) = codes "read"
+field_key (Area place area.Post) = codes "post"
+field_key (Area place area.Sysop) = codes "sysop"
+field_key (Area place area.Slots) = codes "slots"
+field_key (User place user.Name) = codes "name"
+field_key (User place user.Id) = codes "id"
+field_key (User place user.Level) = codes "level"
+field_key (User place user.Salt) = codes "salt"
+field_key (User place user.Digest) = codes "digest"
 
 -- the name of a field of an area or of a user: whose, the place in digits, a dot, the key
 abbrev pub owned_name : List ℕ → ℕ → List ℕ → List ℕ
 owned_name owner place key = owner ++ decimal place ++ codes "." ++ key
 
 -- the name of a field
-abbrev pub field_name : Field → List ℕ
-field_name (Board key) = key_of (Board key)
-field_name (Area place key) = owned_name (codes "area.") place (key_of (Area place key))
-field_name (User place key) = owned_name (codes "user.") place (key_of (User place key))
+abbrev pub setting_name : Field → List ℕ
+setting_name (Board key) = field_key (Board key)
+setting_name (Area place key) = owned_name (codes "area.") place (field_key (Area place key))
+setting_name (User place key) = owned_name (codes "user.") place (field_key (User place key))

@@ -47,15 +47,15 @@ unfoldable pub tables_fault : Field → ℕ → Members → Option ConfError
 tables_fault field most entries = field_fault field true is_tables (is_sized 1 most (tables_at field entries)) entries
 
 -- whether a text is one of the two kinds of areas, and which
-abbrev pub is_kind : List ℕ → Bool
-is_kind text = bytes_eq text (codes "local") || bytes_eq text (codes "echo")
+abbrev pub is_area_kind : List ℕ → Bool
+is_area_kind text = bytes_eq text (codes "local") || bytes_eq text (codes "echo")
 
 abbrev pub kind_of : List ℕ → Kind
 kind_of text = if bytes_eq text (codes "echo") then Echo else Local
 
 -- the kind of an area, `local` where it is absent
 unfoldable pub area_kind_fault : Field → Members → Option ConfError
-area_kind_fault field entries = field_fault field false is_text (is_kind (text_at field (codes "local") entries)) entries
+area_kind_fault field entries = field_fault field false is_text (is_area_kind (text_at field (codes "local") entries)) entries
 
 -- whether a text is 64 hexadecimal digits, and the bytes that they are
 abbrev pub is_digest : List ℕ → Bool

@@ -3,7 +3,7 @@ use Rattle.std.specs.Prelude.{ℕ, ◌+◌, Bool, List, map, [], ◌∷◌, ◌+
 use Rattle.std.specs.List.{list_any}
 use Rattle.toml.specs.Data.{Members, no_members, member}
 use Rattle.jb_conf.specs.Faults.{tables_at}
-use Rattle.jb_conf.specs.Names.{key_of, owned_name}
+use Rattle.jb_conf.specs.Names.{field_key, owned_name}
 use Rattle.jb_conf.specs.declared.field.Field.{Field}
 use Rattle.jb_conf.specs.declared.field.Field.TheVariants.{Board, Area, User}
 use Rattle.jb_conf.specs.declared.field.BoardKey.TheVariants as board
@@ -21,7 +21,7 @@ fields_of OfUser = map (User 1) (user.Name ∷ user.Id ∷ user.Level ∷ user.S
 
 -- whether one of them has a key
 abbrev pub has_key : Sort → List ℕ → Bool
-has_key sort key = list_any (λ field. bytes_eq (key_of field) key) (fields_of sort)
+has_key sort key = list_any (λ field. bytes_eq (field_key field) key) (fields_of sort)
 
 -- what stands before a key in its name: nothing, or whose it is with the place
 abbrev pub owner_of : Sort → ℕ → List ℕ

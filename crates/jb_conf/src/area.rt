@@ -4,7 +4,7 @@ ghost use Rattle.toml.specs.View.{table_view};
 ghost use Rattle.jb_bytes.specs.Name.{same_name};
 ghost use Rattle.jb_limits.specs.declared.limits.TheConstants.{MOST_SLOTS_TOGETHER};
 ghost use Rattle.jb_conf.specs.Areas.{area_fault, area_of, has_area_name, has_place, rules_fault, rules_of, slots_of};
-ghost use Rattle.jb_conf.specs.Faults.{Answers, AnswersOrMemory};
+ghost use Rattle.jb_conf.specs.Faults.{ValueOrFault, AnswersOrMemory};
 ghost use Rattle.jb_conf.specs.Rows.{number_at, number_fault};
 
 use crate::document::{unrepeated, within};
@@ -44,7 +44,7 @@ fn has_place(dir: &str, base: &str, areas: &[BoardArea]) -> bool
 
 /// A level, or the one that stands for it where it is absent.
 fn level(table: &Table, field: Field, absent: u8) -> Result<u8, ConfError>
-    ensures { Answers (number_fault field (Some absent) 0 255 (table_view table.now))
+    ensures { ValueOrFault (number_fault field (Some absent) 0 255 (table_view table.now))
         (λ n. n ≡ number_at field (Some absent) (table_view table.now)) result }
 {
     let level = number(table, field, Some(u32::from(absent)), 0, 255)?;

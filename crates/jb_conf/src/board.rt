@@ -1,4 +1,5 @@
 //! What a settings file says of a board.
+ghost use Rattle.jb_conf.specs.InRange.{IsInRange};
 
 use crate::{BoardAreas, BoardUsers, Text, Texts};
 use jb_base::{AreaRules, Bytes, Name, User};
@@ -23,6 +24,8 @@ pub struct Board {
     pub users: BoardUsers,
     /// The names of the keys that stand in the file and are no field's, as `area.3.raed`.
     pub unknown: Texts,
+    /// Each value is in its range. Whoever makes a board shows it.
+    pub ghost in_range: { IsInRange name address nodes offset pack_minutes areas users },
 }
 
 // Whoever lets go of one does so in one call.

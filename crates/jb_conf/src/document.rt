@@ -2,7 +2,7 @@
 ghost use Rattle.std.specs.Prelude.{◌≡◌, ⊤, [], true, false, not};
 ghost use Rattle.std.specs.Option.{option_map};
 ghost use Rattle.toml.specs.View.{table_view, view};
-ghost use Rattle.jb_conf.specs.Faults.{Answers, at_field, fault_if, is_text, kind_fault, text_at};
+ghost use Rattle.jb_conf.specs.Faults.{ValueOrFault, at_field, fault_if, is_text, kind_fault, text_at};
 
 use crate::{ConfError, Field};
 use toml::{Table, Value};
@@ -16,7 +16,7 @@ pub fn found(table: &Table, field: Field) -> Option<&Value>
 
 /// The text at a field that has to be there.
 pub fn required_text(table: &Table, field: Field) -> Result<&str, ConfError>
-    ensures { Answers (kind_fault field true is_text (table_view table.now))
+    ensures { ValueOrFault (kind_fault field true is_text (table_view table.now))
         (λ text. text.now ≡ text_at field [] (table_view table.now)) result }
 {
     match found(table, field) {
@@ -30,7 +30,7 @@ pub fn required_text(table: &Table, field: Field) -> Result<&str, ConfError>
 
 /// The text at a field, or this one where it is absent.
 pub fn text_or<'a>(table: &'a Table, field: Field, absent: &'a str) -> Result<&'a str, ConfError>
-    ensures { Answers (kind_fault field false is_text (table_view table.now))
+    ensures { ValueOrFault (kind_fault field false is_text (table_view table.now))
         (λ text. text.now ≡ text_at field absent.now (table_view table.now)) result }
 {
     match found(table, field) {
@@ -44,7 +44,7 @@ pub fn text_or<'a>(table: &'a Table, field: Field, absent: &'a str) -> Result<&'
 
 /// Refuses a value that does not fit the range of its field.
 pub fn within(fits: bool, field: Field) -> Result<(), ConfError>
-    ensures { Answers (fault_if (not fits) (ConfError.OutOfRange field)) (λ _. ⊤) result }
+    ensures { ValueOrFault (fault_if (not fits) (ConfError.OutOfRange field)) (λ _. ⊤) result }
 {
     if fits {
         Ok(())
@@ -55,7 +55,7 @@ pub fn within(fits: bool, field: Field) -> Result<(), ConfError>
 
 /// Refuses a value that one before it has.
 pub fn unrepeated(repeats: bool, field: Field) -> Result<(), ConfError>
-    ensures { Answers (fault_if repeats (ConfError.Repeated field)) (λ _. ⊤) result }
+    ensures { ValueOrFault (fault_if repeats (ConfError.Repeated field)) (λ _. ⊤) result }
 {
     if repeats {
         Err(ConfError::Repeated { field })

@@ -1,6 +1,6 @@
 //! The fields of the settings file, and how they are named.
 ghost use Rattle.std.specs.Prelude.{◌≡◌, ◌≤◌, ◌++◌, length};
-ghost use Rattle.jb_conf.specs.Names.{field_name, key_of, owned_name};
+ghost use Rattle.jb_conf.specs.Names.{setting_name, field_key, owned_name};
 
 use arrayvec::ArrayString;
 use itoa::Buffer;
@@ -75,7 +75,7 @@ pub enum Field {
 }
 
 fn board_key(key: BoardKey) -> &'static str
-    ensures { result.now ≡ key_of (Field.Board key) }
+    ensures { result.now ≡ field_key (Field.Board key) }
 {
     match key {
         BoardKey::Name => "name",
@@ -90,7 +90,7 @@ fn board_key(key: BoardKey) -> &'static str
 }
 
 fn area_key(key: AreaKey) -> &'static str
-    ensures { result.now ≡ key_of (Field.Area 1 key) }
+    ensures { result.now ≡ field_key (Field.Area 1 key) }
 {
     match key {
         AreaKey::Name => "name",
@@ -105,7 +105,7 @@ fn area_key(key: AreaKey) -> &'static str
 }
 
 fn user_key(key: UserKey) -> &'static str
-    ensures { result.now ≡ key_of (Field.User 1 key) }
+    ensures { result.now ≡ field_key (Field.User 1 key) }
 {
     match key {
         UserKey::Name => "name",
@@ -134,7 +134,7 @@ pub(crate) fn owned_name(owner: &str, place: u32, key: &str) -> FieldName
 impl Field {
     /// Its key in its table.
     pub fn key(self) -> &'static str
-        ensures key { result.now ≡ key_of self }
+        ensures key { result.now ≡ field_key self }
         ensures short { length result.now ≤ 12 }
     {
         match self {
@@ -146,7 +146,7 @@ impl Field {
 
     /// Its name: the key, behind `area.` or `user.` with the place in digits, as in `area.1.read`.
     pub fn name(self) -> FieldName
-        ensures { result.bytes ≡ field_name self }
+        ensures { result.bytes ≡ setting_name self }
     {
         match self {
             Field::Board(_) => {

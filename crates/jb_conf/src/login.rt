@@ -2,7 +2,6 @@
 ghost use Rattle.std.specs.Prelude.{◌≡◌, ◌++◌, bytes_eq, position};
 ghost use Rattle.sha2.specs.Sha256.{sha256};
 ghost use Rattle.jb_bytes.specs.Name.{same_name};
-ghost use Rattle.jb_conf.specs.InRange.{IsInRange};
 ghost use Rattle.jb_conf.specs.LogIn.{logs_in};
 
 use crate::{Board, BoardUser};
@@ -48,14 +47,13 @@ fn place_of(users: &[BoardUser], name: &[u8]) -> Option<usize>
 }
 
 /// The place, counted from 0, of the first user who has this name (with `A` to `Z` as `a` to `z`) and this password; none
-/// where no user has both. On a board that was read no two users have one name.
+/// where no user has both. No two users of a board have one name.
 ///
 /// One digest is made whether a user has the name or not, and all of it is compared; all users are looked at, whichever has
 /// it. So the time depends on the number of users and on the lengths of the name, the password and the salt. It does not tell
 /// whether there is a user of the name, nor which one, but by one thing: names are compared up to their first byte that
 /// differs, so that a name takes the longer the more users' names begin as it does.
 pub fn check_login(board: &Board, name: &[u8], password: &[u8]) -> Option<u32>
-    requires { IsInRange board.now }
     ensures { result ≡ position (logs_in name.now password.now) board.now.users }
 {
     let users = board.users.as_slice();

@@ -1,12 +1,11 @@
 //! The settings file, read whole.
-ghost use Rattle.std.specs.Prelude.{◌≡◌, ◌≤◌, ◌⊎◌, [], true, length, IfOk, Err};
+ghost use Rattle.std.specs.Prelude.{◌≡◌, ◌≤◌, ◌⊎◌, [], true, length, Err};
 ghost use Rattle.toml.specs.Data.{Members};
 ghost use Rattle.toml.specs.Errors.{IsMemory};
 ghost use Rattle.toml.specs.View.{table_view};
 ghost use Rattle.jb_conf.specs.Areas.{areas_fault, areas_of};
 ghost use Rattle.jb_conf.specs.Faults.{AnswersOrMemory};
-ghost use Rattle.jb_conf.specs.InRange.{IsInRange};
-ghost use Rattle.jb_conf.specs.Settings.{IsDocument, IsNoDocument, IsReading, IsUnlessMemory, board_fault, board_of, settings_of};
+ghost use Rattle.jb_conf.specs.Settings.{AreSettingsUnlessMemory, IsDocument, IsNoDocument, ReadsSettings};
 ghost use Rattle.jb_conf.specs.Tables.{are_all_tables, tables_view};
 ghost use Rattle.jb_conf.specs.Users.{users_fault, users_of};
 
@@ -71,8 +70,7 @@ fn users_of(alloc: Global, values: &[Value]) -> Result<BoardUsers, ConfError>
 
 /// The board that a document says.
 fn board_of(alloc: Global, table: &Table) -> Result<Board, ConfError>
-    ensures { AnswersOrMemory (board_fault (table_view table.now))
-        (λ board. board ≡ board_of (table_view table.now)) result }
+    ensures { AreSettingsUnlessMemory (table_view table.now) result }
 {
     let name = printable(table, Field::Board(BoardKey::Name), MOST_NAME_BYTES)?;
     let address = address(table, Field::Board(BoardKey::Address), MOST_ADDRESS_BYTES)?;
@@ -114,13 +112,13 @@ fn board_of(alloc: Global, table: &Table) -> Result<Board, ConfError>
 /// those of each area in turn, those of each user in turn; of one field that it is there, its kind, its range, and that it
 /// is no earlier one's.
 pub fn read(alloc: Global, bytes: &[u8]) -> Result<Board, ConfError>
-    ensures cause { IsReading bytes.now result }
-    ensures in_range { IfOk result IsInRange }
+    ensures cause { ReadsSettings bytes.now result }
 
     // Each file has one answer.
     ensures settings { (entries : Members) → IsDocument bytes.now entries
-        → IsUnlessMemory result (settings_of entries) }
-    ensures not_toml { IsNoDocument bytes.now → IsUnlessMemory result (Err ConfError.NotToml) }
+        → AreSettingsUnlessMemory entries result }
+    ensures not_toml { IsNoDocument bytes.now
+        → (result ≡ Err ConfError.NotToml) ⊎ (result ≡ Err ConfError.OutOfMemory) }
     ensures only_not_toml { result ≡ Err ConfError.NotToml → IsNoDocument bytes.now }
 {
     read_document(alloc, bytes)
@@ -128,7 +126,7 @@ pub fn read(alloc: Global, bytes: &[u8]) -> Result<Board, ConfError>
 
 /// The board of the document that the bytes write.
 fn read_document(alloc: Global, bytes: &[u8]) -> Result<Board, ConfError>
-    ensures { IsReading bytes.now result }
+    ensures { ReadsSettings bytes.now result }
 {
     match toml::table_from_slice(alloc, bytes) {
         Ok(table) => board_of(alloc, &table),

@@ -3,9 +3,9 @@ ghost use Rattle.std.specs.Prelude.{◌≡◌, ◌≤◌, [], true, false, pos, 
 ghost use Rattle.std.specs.List.{list_all};
 ghost use Rattle.std.specs.Option.{ForSome};
 ghost use Rattle.toml.specs.View.{table_view};
-ghost use Rattle.jb_conf.specs.Faults.{Answers, text_at, whole_at};
+ghost use Rattle.jb_conf.specs.Faults.{ValueOrFault, text_at, whole_at};
 ghost use Rattle.jb_conf.specs.Ranges.{is_address, is_address_byte, is_between, is_printable, is_printed, is_sized};
-ghost use Rattle.jb_conf.specs.Rows.{address_fault, area_kind_fault, digest_fault, digest_of, is_kind, kind_of, number_at, number_fault, printable_fault, short_fault, sized_fault, whole_fault};
+ghost use Rattle.jb_conf.specs.Rows.{address_fault, area_kind_fault, digest_fault, digest_of, is_area_kind, kind_of, number_at, number_fault, printable_fault, short_fault, sized_fault, whole_fault};
 
 use crate::document::{found, required_text, text_or, within};
 use crate::{ConfError, Field, UserKey};
@@ -57,7 +57,7 @@ fn is_address(text: &str, most: usize) -> bool
 
 /// A printable text of 1 to so many bytes.
 pub fn printable(table: &Table, field: Field, most: usize) -> Result<&str, ConfError>
-    ensures { Answers (printable_fault field most (table_view table.now))
+    ensures { ValueOrFault (printable_fault field most (table_view table.now))
         (λ text. text.now ≡ text_at field [] (table_view table.now)) result }
 {
     let text = required_text(table, field)?;
@@ -67,7 +67,7 @@ pub fn printable(table: &Table, field: Field, most: usize) -> Result<&str, ConfE
 
 /// An address of 1 to so many bytes.
 pub fn address(table: &Table, field: Field, most: usize) -> Result<&str, ConfError>
-    ensures { Answers (address_fault field most (table_view table.now))
+    ensures { ValueOrFault (address_fault field most (table_view table.now))
         (λ text. text.now ≡ text_at field [] (table_view table.now)) result }
 {
     let text = required_text(table, field)?;
@@ -77,7 +77,7 @@ pub fn address(table: &Table, field: Field, most: usize) -> Result<&str, ConfErr
 
 /// A text of 1 to so many bytes.
 pub fn sized(table: &Table, field: Field, most: usize) -> Result<&str, ConfError>
-    ensures { Answers (sized_fault field most (table_view table.now))
+    ensures { ValueOrFault (sized_fault field most (table_view table.now))
         (λ text. text.now ≡ text_at field [] (table_view table.now)) result }
 {
     let text = required_text(table, field)?;
@@ -87,7 +87,7 @@ pub fn sized(table: &Table, field: Field, most: usize) -> Result<&str, ConfError
 
 /// A text of at most so many bytes, the empty one where it is absent.
 pub fn short(table: &Table, field: Field, most: usize) -> Result<&str, ConfError>
-    ensures { Answers (short_fault field most (table_view table.now))
+    ensures { ValueOrFault (short_fault field most (table_view table.now))
         (λ text. text.now ≡ text_at field [] (table_view table.now)) result }
 {
     let text = text_or(table, field, "")?;
@@ -96,7 +96,7 @@ pub fn short(table: &Table, field: Field, most: usize) -> Result<&str, ConfError
 }
 
 fn is_kind(text: &str) -> bool
-    ensures { result ≡ is_kind text.now }
+    ensures { result ≡ is_area_kind text.now }
 {
     text == "local" || text == "echo"
 }
@@ -113,7 +113,7 @@ fn kind_of(text: &str) -> Kind
 
 /// The kind of an area, local where it is absent.
 pub fn area_kind(table: &Table, field: Field) -> Result<Kind, ConfError>
-    ensures { Answers (area_kind_fault field (table_view table.now))
+    ensures { ValueOrFault (area_kind_fault field (table_view table.now))
         (λ kind. kind ≡ kind_of (text_at field (codes "local") (table_view table.now))) result }
 {
     let text = text_or(table, field, "local")?;
@@ -154,7 +154,7 @@ pub fn number(
     most: u32,
 ) -> Result<u32, ConfError>
     requires { ForSome absent (λ n. (least ≤ n) × (n ≤ most)) }
-    ensures row { Answers (number_fault field absent least most (table_view table.now))
+    ensures row { ValueOrFault (number_fault field absent least most (table_view table.now))
         (λ n. n ≡ number_at field absent (table_view table.now)) result }
     ensures in_range { IfOk result (λ n. (least ≤ n) × (n ≤ most)) }
 {
@@ -175,7 +175,7 @@ pub fn number(
 
 /// Minutes from -840 to 840, 0 where they are absent.
 pub fn minutes(table: &Table, field: Field) -> Result<i32, ConfError>
-    ensures { Answers (whole_fault field false (pos 0) (negsuc 839) (pos 840) (table_view table.now))
+    ensures { ValueOrFault (whole_fault field false (pos 0) (negsuc 839) (pos 840) (table_view table.now))
         (λ n. n ≡ whole_at field (pos 0) (table_view table.now)) result }
 {
     let Some(value) = found(table, field) else {
@@ -192,7 +192,7 @@ pub fn minutes(table: &Table, field: Field) -> Result<i32, ConfError>
 
 /// The digest of the user at this place.
 pub fn digest(table: &Table, user: u32) -> Result<[u8; 32], ConfError>
-    ensures { Answers (digest_fault user (table_view table.now))
+    ensures { ValueOrFault (digest_fault user (table_view table.now))
         (λ bytes. bytes ≡ digest_of (text_at (Field.User user UserKey.Digest) []
         (table_view table.now))) result }
 {

@@ -1,7 +1,7 @@
 //! The arrays of tables in the document.
 ghost use Rattle.std.specs.Prelude.{◌≡◌, ◌≤◌, ◌&&◌, nat_le, true, length, IfOk};
 ghost use Rattle.toml.specs.View.{table_view, view};
-ghost use Rattle.jb_conf.specs.Faults.{Answers, table_of, tables_at};
+ghost use Rattle.jb_conf.specs.Faults.{ValueOrFault, table_of, tables_at};
 ghost use Rattle.jb_conf.specs.Rows.{tables_fault};
 ghost use Rattle.jb_conf.specs.Tables.{are_all_tables, is_table, tables_view};
 
@@ -23,7 +23,7 @@ fn is_some_of(count: usize, most: usize) -> bool
 
 /// The array at a field, of one table to so many.
 pub fn tables(table: &Table, field: Field, most: usize) -> Result<&[Value], ConfError>
-    ensures row { Answers (tables_fault field most (table_view table.now))
+    ensures row { ValueOrFault (tables_fault field most (table_view table.now))
         (λ values. tables_view values.now ≡ tables_at field (table_view table.now)) result }
     ensures each { IfOk result (λ values. are_all_tables values.now ≡ true) }
     ensures few { IfOk result (λ values. length values.now ≤ most) }

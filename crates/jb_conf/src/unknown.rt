@@ -2,7 +2,7 @@
 ghost use Rattle.std.specs.Prelude.{◌≡◌, ◌≤◌, ◌++◌, true, length, bytes_eq, IfOk, OnOk};
 ghost use Rattle.std.specs.List.{list_any};
 ghost use Rattle.toml.specs.View.{table_view};
-ghost use Rattle.jb_conf.specs.Names.{key_of};
+ghost use Rattle.jb_conf.specs.Names.{field_key};
 ghost use Rattle.jb_conf.specs.Tables.{are_all_tables, tables_view};
 ghost use Rattle.jb_conf.specs.Unknown.{has_key, owner_of, unknown_in, unknown_in_each};
 ghost use Rattle.jb_conf.specs.declared.unknown.Sort.TheVariants.{OfArea, OfBoard, OfUser};
@@ -24,7 +24,7 @@ pub(crate) enum Sort {
 
 /// Whether one of these fields has the key.
 fn is_among(fields: &[Field], key: &str) -> bool
-    ensures { result ≡ list_any (λ field. bytes_eq (key_of field) key.now) fields.now }
+    ensures { result ≡ list_any (λ field. bytes_eq (field_key field) key.now) fields.now }
 {
     fields.iter().any(|field| field.key() == key)
 }

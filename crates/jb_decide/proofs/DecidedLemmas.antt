@@ -39,7 +39,7 @@ use Rattle.jb_decide.specs.Decided.{HasShortRecord, IsAnswerBy, IsDecided, IsPac
 use Rattle.jb_decide.specs.Headers.{KeepsHeaders, PacksHeaders, StandsBehind}
 use Rattle.jb_decide.specs.Packs.{IsPacked}
 use Rattle.jb_decide.specs.Read.{letter_in}
-use Rattle.jb_decide.specs.Seen.{shown}
+use Rattle.jb_decide.specs.Seen.{shown_message}
 use Rattle.jb_decide.specs.StepOf.{ChangesNothing, IsStepOf, NamesPosted, posted_text, text_behind}
 use Rattle.jb_decide.specs.declared.decided.Decided.{Decided}
 use Rattle.jb_decide.proofs.BringLemmas.{brings, keeps_more, keeps_same}
@@ -333,13 +333,13 @@ has_text message text len within long = elim within.placed [
 
 -- a letter with a text of the message's length, which is that of these texts where they are told
 pub letter_answer : (from : Loaded) (texts : List ℕ) (contents : Option Files) (number : ℕ) (head : Head) (message : LoadedMessage) (text : List ℕ) (letter : Letter)
-    → IsTextWithin from.texts_len message.text_at message.text_len → length text ≡ message.text_len → letter ≡ letter_of number (shown head message text)
+    → IsTextWithin from.texts_len message.text_at message.text_len → length text ≡ message.text_len → letter ≡ letter_of number (shown_message head message text)
     → ForSome contents (λ files. text ≡ text_of texts message)
     → IsAnswerBy (letter_in number head message) from texts contents (reply.Text letter)
 letter_answer from texts contents number head message text letter within long shows found =
     let has : HasText message text from.texts_len = has_text message text from.texts_len within long in
-    let as_shown : (other : List ℕ) → text ≡ other → reply.Text letter ≡ reply.Text (letter_of number (shown head message other)) =
-    λ other same. ap (λ (l : Letter). reply.Text l) (shows ∙ ap (λ (t : List ℕ). letter_of number (shown head message t)) same) in
+    let as_shown : (other : List ℕ) → text ≡ other → reply.Text letter ≡ reply.Text (letter_of number (shown_message head message other)) =
+    λ other same. ap (λ (l : Letter). reply.Text l) (shows ∙ ap (λ (t : List ℕ). letter_of number (shown_message head message t)) same) in
     record {
       told = λ told. as_shown (text_of texts message) (of_letter contents letter (text ≡ text_of texts message) told found);
       others = has.texts;

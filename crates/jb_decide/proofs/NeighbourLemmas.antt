@@ -9,7 +9,7 @@ use Rattle.jb_state.specs.Live.{message_at}
 use Rattle.jb_state.specs.Loaded.{IsMessageAt, with_head_at}
 use Rattle.jb_state.specs.Posted.{slots_with, spliced_slots}
 use Rattle.jb_state.specs.Sound.{IsSound}
-use Rattle.jb_state.specs.State.{LiveMessage, live_message, slot_state, state_of}
+use Rattle.jb_state.specs.State.{LiveMessage, live_message, slot_state, state_of, with_text}
 use Rattle.jb_state.specs.declared.loaded.Loaded.{Loaded}
 use Rattle.jb_state.specs.declared.loaded.LoadedMessage.{LoadedMessage}
 use Rattle.jb_state.specs.declared.loaded.LoadedSlot.TheVariants.{Live}
@@ -17,7 +17,7 @@ use Rattle.jb_state.specs.declared.message.Head.{Head}
 use Rattle.jb_decide.specs.Neighbour.{HasNeighbour, neighbour_at}
 use Rattle.jb_state.proofs.PlaceLaws.{headed_is}
 use Rattle.jb_state.specs.Change.{headed}
-use Rattle.jb_decide.specs.Seen.{IsNamed, with_head, with_text}
+use Rattle.jb_decide.specs.Seen.{IsNamed, with_head}
 use Rattle.jb_state.specs.declared.change.HeadAt.{HeadAt}
 use Rattle.jb_decide.proofs.SoundLemmas.{slot_within, sound_after_set}
 use Rattle.jb_decide.proofs.StateLemmas.{message_at_loaded, state_with_slot, with_slots}

@@ -18,11 +18,11 @@ use Rattle.jb_model.specs.Answered.{Answered, unless_refused}
 use Rattle.jb_state.specs.Live.{counted}
 use Rattle.jb_state.specs.Loaded.{header_size, with_message_behind}
 use Rattle.jb_state.specs.Message.{header_length, replyid_of}
-use Rattle.jb_model.specs.Post.{Draft, answer_refusal, draft_refusal, post_done, post_step, posted_message, posted_msgid, room_refusal, told_length}
+use Rattle.jb_model.specs.Post.{Draft, answer_refusal, draft_refusal, post_done, post_step, posted_message, posted_msgid, room_refusal, told_length, fields_with, head_with}
 use Rattle.jb_state.specs.Posted.{posted_parent, posted_replyid}
 use Rattle.jb_state.specs.Sound.{IsSound}
 use Rattle.jb_model.specs.Standing.{is_refusal}
-use Rattle.jb_state.specs.State.{AreaState, IsMessageInRange, LiveMessage, next_number, slot_state, state_of}
+use Rattle.jb_state.specs.State.{AreaState, IsMessageInRange, LiveMessage, next_number, slot_state, state_of, with_text}
 use Rattle.jb_state.specs.declared.loaded.Loaded.{Loaded}
 use Rattle.jb_state.specs.declared.loaded.LoadedMessage.{LoadedMessage}
 use Rattle.jb_state.specs.declared.message.Head.{Head}
@@ -34,13 +34,13 @@ use Rattle.jb_state.specs.Change.{FitsBehind, headed_where, live_messages, loade
 use Rattle.jb_state.specs.Links.{Linkable, parent_for}
 use Rattle.jb_state.specs.LiveSlots.{linkables}
 use Rattle.jb_link.specs.Parents.{copied_msgid, parent_behind}
-use Rattle.jb_decide.specs.Draft.{fields_with, head_with, new_fields, new_message, next_of, post_of}
+use Rattle.jb_decide.specs.Draft.{new_fields, new_message, next_of, post_of}
 use Rattle.jb_decide.specs.Neighbour.{HasNeighbour, spliced_state}
 use Rattle.jb_decide.specs.StepOf.{IsStepOf}
 use Rattle.jb_decide.proofs.StepLemmas.{not_packed, something}
 use Rattle.jb_decide.specs.Refusal.{IsRefusal}
 use Rattle.jb_decide.specs.Room.{file_refusal, new_refusal, number_refusal, or_refusal, unseen_refusal}
-use Rattle.jb_decide.specs.Seen.{seen_at, with_text}
+use Rattle.jb_decide.specs.Seen.{seen_at}
 use Rattle.jb_state.specs.declared.change.Change.TheVariants.{Posted as PostedBehind}
 use Rattle.jb_state.specs.declared.change.HeadAt.{HeadAt}
 use Rattle.jb_decide.proofs.BehindLemmas.{grown, sound_behind, state_behind}

@@ -14,7 +14,7 @@ use Rattle.jb_state.specs.Loaded.{IsMessageAt, with_head_at}
 use Rattle.jb_model.specs.Letter.{letter_of}
 use Rattle.jb_model.specs.Read.{read_done, read_message, read_once_more, read_step, received_at}
 use Rattle.jb_state.specs.Sound.{IsSound}
-use Rattle.jb_state.specs.State.{AreaState, LiveMessage, state_of}
+use Rattle.jb_state.specs.State.{AreaState, LiveMessage, state_of, with_text}
 use Rattle.jb_state.specs.Visible.{visible_at}
 use Rattle.jb_model.specs.declared.command.Command.TheVariants.{Read}
 use Rattle.jb_state.specs.declared.loaded.Loaded.{Loaded}
@@ -27,7 +27,7 @@ use Rattle.jb_decide.specs.Read.{IsReading, letter_in, read_head}
 use Rattle.jb_decide.proofs.StepLemmas.{not_packed, something}
 use Rattle.jb_state.proofs.PlaceLaws.{headed_is}
 use Rattle.jb_state.specs.declared.change.HeadAt.{HeadAt}
-use Rattle.jb_decide.specs.Seen.{IsNamed, seen_at, with_head, with_text}
+use Rattle.jb_decide.specs.Seen.{IsNamed, seen_at, with_head}
 use Rattle.jb_decide.proofs.CountLemmas.{counted_now}
 use Rattle.jb_decide.proofs.SoundLemmas.{slot_within, sound_after_set, sound_counted}
 use Rattle.jb_decide.proofs.StateLemmas.{allowed_way, answer, message_way, state_with_slot, visible_found}

@@ -12,7 +12,7 @@ use Rattle.jb_state.specs.LiveSlots.{message_in}
 use Rattle.jb_model.specs.Answered.{Answered, unless_denied, unless_refused, with_message}
 use Rattle.jb_state.specs.Live.{live_of, message_at, with_slot}
 use Rattle.jb_state.specs.Loaded.{with_slot_at}
-use Rattle.jb_state.specs.State.{AreaState, LiveMessage, SlotState, slot_state, state_of}
+use Rattle.jb_state.specs.State.{AreaState, LiveMessage, SlotState, slot_state, state_of, with_text}
 use Rattle.jb_state.specs.Visible.{if_shown, visible_at}
 use Rattle.jb_state.specs.declared.loaded.Loaded.{Loaded}
 use Rattle.jb_state.specs.declared.loaded.LoadedMessage.{LoadedMessage}
@@ -20,7 +20,7 @@ use Rattle.jb_state.specs.declared.loaded.LoadedSlot.{LoadedSlot}
 use Rattle.jb_state.specs.declared.loaded.LoadedSlot.TheVariants.{Empty, Killed, Live}
 use Rattle.jb_model.specs.declared.reply.Reply.{Reply}
 use Rattle.jb_model.specs.declared.reply.Reply.TheVariants.{Denied, NoMessage}
-use Rattle.jb_decide.specs.Seen.{if_seen, loaded_envelope, seen_at, with_text}
+use Rattle.jb_decide.specs.Seen.{if_seen, loaded_envelope, seen_at}
 
 -- the live message of a slot, with its text or without
 live_with_text : (texts : List ℕ) (below : Bool) (slot : Option LoadedSlot)

@@ -6,13 +6,13 @@ use Rattle.jb_bytes.specs.declared.subfield.Subfield.{Subfield}
 use Rattle.jb_bytes.specs.declared.subfield.TheConstants.{SENDER_NAME, RECEIVER_NAME, MSGID, REPLYID, SUBJECT}
 use Rattle.jb_base.specs.declared.user.User.{User}
 use Rattle.jb_link.specs.Parents.{copied_msgid, parent_behind}
-use Rattle.jb_model.specs.Post.{Draft, id_crc, plain_field, posted_attribute, posted_msgid}
+use Rattle.jb_model.specs.Post.{Draft, id_crc, plain_field, posted_attribute, posted_msgid, fields_with, head_with}
 use Rattle.jb_model.specs.declared.command.Command.{Command}
 use Rattle.jb_model.specs.declared.command.Command.TheVariants.{Post}
 use Rattle.jb_state.specs.declared.loaded.Loaded.{Loaded}
 use Rattle.jb_state.specs.declared.loaded.LoadedMessage.{LoadedMessage}
 use Rattle.jb_state.specs.declared.message.Head.{Head}
-use Rattle.jb_decide.specs.declared.drafts.Draft.{Draft as LentDraft}
+use Rattle.jb_decide.specs.declared.drafts.LentDraft.{LentDraft as LentDraft}
 
 -- what a user wrote, as the definitions see it
 abbrev pub draft_of : LentDraft → Draft
@@ -25,32 +25,6 @@ post_of draft = Post draft.to draft.subject draft.text draft.reply_to draft.priv
 -- the number that the next message gets
 abbrev pub next_of : Loaded → ℕ
 next_of loaded = loaded.base + length loaded.slots
-
--- the subfields of a message with these ids
-abbrev pub fields_with : User → Draft → List ℕ → Option (List ℕ) → List Subfield
-fields_with user draft msgid replyid =
-    (plain_field SENDER_NAME user.name ∷ plain_field RECEIVER_NAME draft.to ∷ plain_field MSGID msgid ∷ [])
-    ++ map (plain_field REPLYID) (option_to_list replyid)
-    ++ plain_field SUBJECT draft.subject ∷ []
-
--- the header's fields of a message with these ids and this parent
-abbrev pub head_with : AreaRules → ℕ → Draft → List ℕ → Option (List ℕ) → ℕ → Head
-head_with rules moment draft msgid replyid parent = record {
-  reserved = 0;
-  times_read = 0;
-  msgid_crc = jam_crc_of msgid;
-  reply_crc = id_crc replyid;
-  reply_to = parent;
-  reply_first = 0;
-  reply_next = 0;
-  written = moment;
-  received = 0;
-  processed = 0;
-  attribute = posted_attribute rules draft.private;
-  attribute2 = 0;
-  password = 0xFFFFFFFF;
-  cost = 0;
-}
 
 -- the subfields of the new message
 abbrev pub new_fields : AreaRules → Loaded → User → Draft → List Subfield

@@ -18,11 +18,11 @@ pub record AreTexts (loaded : Loaded) (texts : List ℕ) (contents : Option File
   pub told : ForSome contents (λ files. files Jdt ≡ texts)
 
 -- what was copied of the texts stands in .NDT, where something was
-abbrev pub HasAll : Option Shadow → Files → Type 0
-HasAll None files = Unit {0}
-HasAll (Some shadow) files = HasCopies shadow files
+abbrev pub HoldsCopies : Option Shadow → Files → Type 0
+HoldsCopies None files = Unit {0}
+HoldsCopies (Some shadow) files = HasCopies shadow files
 
 -- the files hold this area with these texts, and these copies of them
 pub record HoldsWith (loaded : Loaded) (texts : List ℕ) (copies : Option Shadow) (files : Files) : Type 0 where
   pub holds : Holds loaded texts files
-  pub has : HasAll copies files
+  pub has : HoldsCopies copies files

@@ -16,7 +16,7 @@ use Rattle.jb_state.specs.declared.loaded.LoadedMessage.{LoadedMessage}
 use Rattle.jb_state.specs.declared.message.Head.{Head}
 use Rattle.jb_model.specs.declared.reply.Reply.{Reply}
 use Rattle.jb_model.specs.declared.reply.Reply.TheVariants.{Text}
-use Rattle.jb_decide.specs.Seen.{shown}
+use Rattle.jb_decide.specs.Seen.{shown_message}
 use Rattle.jb_decide.specs.StepOf.{IsStepOf}
 
 -- the header's fields of the message as a reading by this user leaves them; only its receiver receives it
@@ -28,7 +28,7 @@ read_head user moment message =
 
 -- the letter of a message with this number, with these fields in its header and its text out of these texts
 abbrev pub letter_in : ℕ → Head → LoadedMessage → List ℕ → Reply
-letter_in number head message texts = Text (letter_of number (shown head message (text_of texts message)))
+letter_in number head message texts = Text (letter_of number (shown_message head message (text_of texts message)))
 
 -- this is what the user's reading of the number does to the area at that moment; it answers with the letter as it is afterwards
 pub record IsReading (rules : AreaRules) (loaded : Loaded) (user : User) (moment number : ℕ) (at : HeadAt) : Type 0 where

@@ -11,18 +11,13 @@ use Rattle.jb_state.specs.declared.loaded.Loaded.{Loaded}
 use Rattle.jb_state.specs.declared.loaded.LoadedMessage.{LoadedMessage}
 use Rattle.jb_state.specs.declared.message.Head.{Head}
 
--- the loaded message, with its text out of the file of texts
-abbrev pub with_text : List ℕ → LoadedMessage → LiveMessage
-with_text texts message =
-    record { owner = message.owner; head = message.head; subfields = message.subfields; text = text_of texts message }
-
 -- the loaded message with other fields in its header
 abbrev pub with_head : Head → LoadedMessage → LoadedMessage
 with_head head message = record message { head = head }
 
 -- the loaded message with these fields in its header and this text
-abbrev pub shown : Head → LoadedMessage → List ℕ → LiveMessage
-shown head message text = record { owner = message.owner; head = head; subfields = message.subfields; text = text }
+abbrev pub shown_message : Head → LoadedMessage → List ℕ → LiveMessage
+shown_message head message text = record { owner = message.owner; head = head; subfields = message.subfields; text = text }
 
 -- what the rules of an area look at of a loaded message
 abbrev pub loaded_envelope : LoadedMessage → Envelope

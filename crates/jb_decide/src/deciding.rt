@@ -24,7 +24,7 @@ use jb_base::{AreaRules, OutOfMemory, User};
 use jb_change::{put, put_short};
 use jb_crc::jam_crc;
 use jb_disk::Redo;
-use jb_held::{Held, Pending};
+use jb_held::{HeldArea, Pending};
 use jb_state::Change;
 use std::alloc::Global;
 
@@ -39,7 +39,7 @@ fn text_behind<'a>(change: &Change, text: &'a [u8]) -> &'a [u8]
 }
 
 /// Puts a change that takes no memory into the redo; it is pending then.
-pub(crate) fn decide_short(held: &Held, redo: &mut Redo, outcome: Outcome) -> Decided
+pub(crate) fn decide_short(held: &HeldArea, redo: &mut Redo, outcome: Outcome) -> Decided
     requires room { HasRoomInAll redo.old }
     requires sound { IsSound MOST_SLOTS held.now }
     requires fits { Fits MOST_SLOTS outcome.change held.now }
@@ -66,7 +66,7 @@ pub(crate) fn decide_short(held: &Held, redo: &mut Redo, outcome: Outcome) -> De
 /// that it needs.
 pub(crate) fn decide_long(
     alloc: Global,
-    held: &Held,
+    held: &HeldArea,
     redo: &mut Redo,
     outcome: Outcome,
     text: &[u8],
@@ -97,7 +97,7 @@ pub(crate) fn decide_long(
 
 /// What the setting of a mark comes to.
 pub fn decide_mark(
-    held: &Held,
+    held: &HeldArea,
     rules: &AreaRules,
     redo: &mut Redo,
     user: &User,
@@ -119,7 +119,7 @@ pub fn decide_mark(
 
 /// What a kill comes to.
 pub fn decide_kill(
-    held: &Held,
+    held: &HeldArea,
     rules: &AreaRules,
     redo: &mut Redo,
     user: &User,

@@ -8,7 +8,7 @@ use jb_model::{Field, Reply};
 
 /// What a user wrote, to whom, in reply to which number or to 0, and whether it is private.
 #[derive(Clone, Copy)]
-pub struct Draft<'a> {
+pub struct LentDraft<'a> {
     pub to: &'a [u8],
     pub subject: &'a [u8],
     pub text: &'a [u8],
@@ -27,7 +27,7 @@ fn too_long(field: Field, bytes: &[u8]) -> Option<Reply>
 }
 
 /// Why a draft is refused: a part of it is empty or too long.
-pub(crate) fn unfit(draft: Draft<'_>) -> Option<Reply>
+pub(crate) fn unfit(draft: LentDraft<'_>) -> Option<Reply>
     ensures { result ≡ draft_refusal (draft_of draft.entry) }
 {
     if draft.to.is_empty() {

@@ -1,10 +1,10 @@
 //! The subfields of a new message.
 ghost use Rattle.std.specs.Prelude.{◌≡◌, ◌++◌, ◌∷◌, [], IfOk, OnOk, option_map};
 ghost use Rattle.std.specs.Borrow.{Bor};
-ghost use Rattle.jb_model.specs.Post.{plain_field};
-ghost use Rattle.jb_decide.specs.Draft.{draft_of, fields_with};
+ghost use Rattle.jb_model.specs.Post.{plain_field, fields_with};
+ghost use Rattle.jb_decide.specs.Draft.{draft_of};
 
-use crate::Draft;
+use crate::LentDraft;
 use jb_base::{
     Bytes, MSGID, OutOfMemory, RECEIVER_NAME, REPLYID, SENDER_NAME, SUBJECT, Subfield, Subfields,
     User,
@@ -28,7 +28,7 @@ fn put_field(
 pub(crate) fn subfields_of(
     alloc: Global,
     user: &User,
-    draft: Draft<'_>,
+    draft: LentDraft<'_>,
     msgid: &[u8],
     replyid: Option<&[u8]>,
 ) -> Result<Subfields, OutOfMemory>

@@ -1,7 +1,7 @@
 //! A message as it is shown.
 ghost use Rattle.std.specs.Prelude.{◌≡◌, IfOk};
 ghost use Rattle.jb_model.specs.Letter.{letter_of};
-ghost use Rattle.jb_decide.specs.Seen.{shown};
+ghost use Rattle.jb_decide.specs.Seen.{shown_message};
 
 use crate::denial::field;
 use jb_base::{Bytes, MSGID, Name, OutOfMemory, RECEIVER_NAME, REPLYID, SENDER_NAME, SUBJECT};
@@ -17,7 +17,7 @@ pub(crate) fn letter(
     message: &LoadedMessage,
     text: Bytes,
 ) -> Result<Letter, OutOfMemory>
-    ensures { IfOk result (λ letter. letter ≡ letter_of number (shown head message.now text)) }
+    ensures { IfOk result (λ letter. letter ≡ letter_of number (shown_message head message.now text)) }
 {
     let fields = &message.subfields;
     Ok(Letter {

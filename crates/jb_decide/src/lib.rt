@@ -39,7 +39,7 @@ mod texts;
 
 pub use decided::Decided;
 pub use deciding::{decide_kill, decide_mark};
-pub use drafts::Draft;
+pub use drafts::LentDraft;
 pub use error::AreaError;
 pub use laws::posts_keep_links;
 pub use packing::{decide_pack, refuse_pack};

@@ -23,7 +23,7 @@ use crate::decided::Decided;
 use jb_access::{Action, allowed};
 use jb_base::{AreaRules, OutOfMemory, Rule, User};
 use jb_disk::{Disk, Redo};
-use jb_held::{Held, Pending};
+use jb_held::{HeldArea, Pending};
 use jb_link::relink_plan;
 use jb_model::Reply;
 use jb_pack::{Packer, Packing, pack_comes_to};
@@ -48,7 +48,7 @@ fn empty(redo: &mut Redo)
 
 /// The reply that refuses a pack, if it is refused: to a user who may not tend the area, and where the live texts together are
 /// longer than .JDT may be. It takes no memory and calls no device.
-pub fn refuse_pack(held: &Held, rules: &AreaRules, user: &User) -> Option<Reply>
+pub fn refuse_pack(held: &HeldArea, rules: &AreaRules, user: &User) -> Option<Reply>
     requires kept { IsKeptFor rules.now held.now }
     ensures refused { ForSome result (λ reply. (moment : ℕ) (texts : List ℕ)
         (contents : Option Files) (redo : RedoView) → AreTexts held.now texts contents
@@ -73,7 +73,7 @@ pub fn refuse_pack(held: &Held, rules: &AreaRules, user: &User) -> Option<Reply>
 pub fn decide_pack<D: Disk>(
     alloc: Global,
     disk: &D,
-    held: &Held,
+    held: &HeldArea,
     packer: &Packer,
     redo: &mut Redo,
 ) -> Result<Decided, OutOfMemory>

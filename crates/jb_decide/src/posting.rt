@@ -9,22 +9,22 @@ ghost use Rattle.jb_decide.specs.Holds.{AreTexts};
 
 use crate::decided::Decided;
 use crate::deciding::decide_long;
-use crate::drafts::Draft;
+use crate::drafts::LentDraft;
 use crate::posts::post;
 use jb_base::{AreaRules, OutOfMemory, User};
 use jb_disk::Redo;
-use jb_held::Held;
+use jb_held::HeldArea;
 use std::alloc::Global;
 
 /// What a post comes to. The redo need not have room: it takes what the message needs.
 pub fn decide_post(
     alloc: Global,
-    held: &Held,
+    held: &HeldArea,
     rules: &AreaRules,
     redo: &mut Redo,
     user: &User,
     moment: u32,
-    draft: Draft<'_>,
+    draft: LentDraft<'_>,
 ) -> Result<Decided, OutOfMemory>
     requires kept { IsKeptFor rules.now held.now }
     requires name { length user.now.name ≤ MOST_NAME_BYTES }

@@ -4,14 +4,14 @@ ghost use Rattle.std.specs.Borrow.{Bor};
 ghost use Rattle.jb_bytes.specs.Subfields.{subfield_bytes};
 ghost use Rattle.jb_limits.specs.declared.limits.TheConstants.{MOST_ADDRESS_BYTES, MOST_NAME_BYTES, MOST_POSTED_TEXT_BYTES};
 ghost use Rattle.jb_state.specs.LiveSlots.{IsLive};
-ghost use Rattle.jb_model.specs.Post.{id_crc};
+ghost use Rattle.jb_model.specs.Post.{id_crc, head_with};
 ghost use Rattle.jb_state.specs.Sound.{IsSound};
 ghost use Rattle.jb_link.specs.Index.{IsIndexOf};
-ghost use Rattle.jb_decide.specs.Draft.{draft_of, head_with, new_message, next_of, post_of};
+ghost use Rattle.jb_decide.specs.Draft.{draft_of, new_message, next_of, post_of};
 ghost use Rattle.jb_decide.specs.Room.{file_refusal, new_refusal, number_refusal, unseen_refusal};
 ghost use Rattle.jb_decide.specs.StepOf.{IsStepOf};
 
-use crate::Draft;
+use crate::LentDraft;
 use crate::denial::denied;
 use crate::drafts::unfit;
 use crate::fields::subfields_of;
@@ -30,7 +30,7 @@ use jb_subfield::headed_length;
 use std::alloc::Global;
 
 /// Why a draft is refused: it answers a message that the user does not see.
-fn unseen(loaded: &Loaded, rules: &AreaRules, user: &User, draft: Draft<'_>) -> Option<Reply>
+fn unseen(loaded: &Loaded, rules: &AreaRules, user: &User, draft: LentDraft<'_>) -> Option<Reply>
     ensures { result ≡ unseen_refusal rules.now loaded.now user.now (draft_of draft.entry) }
 {
     if draft.reply_to == 0 {
@@ -89,7 +89,7 @@ fn crc_of_id(id: Option<&[u8]>) -> u32
 fn head_of(
     rules: &AreaRules,
     moment: u32,
-    draft: Draft<'_>,
+    draft: LentDraft<'_>,
     msgid: &[u8],
     replyid: Option<&[u8]>,
     parent: u32,
@@ -123,7 +123,7 @@ fn message_of(
     rules: &AreaRules,
     user: &User,
     moment: u32,
-    draft: Draft<'_>,
+    draft: LentDraft<'_>,
 ) -> Result<Result<LoadedMessage, Reply>, OutOfMemory>
     requires index { IsIndexOf replies.now loaded.now }
     requires number { next_of loaded.now ≤ LAST_POSTED_NUMBER }
@@ -165,7 +165,7 @@ pub(crate) fn post(
     rules: &AreaRules,
     user: &User,
     moment: u32,
-    draft: Draft<'_>,
+    draft: LentDraft<'_>,
 ) -> Result<Outcome, OutOfMemory>
     requires index { IsIndexOf replies.now loaded.now }
     requires sound { IsSound rules.now.slots loaded.now }

@@ -23,7 +23,7 @@ use crate::reads::{peek, read};
 use crate::texts::read_text;
 use jb_base::{AreaRules, User};
 use jb_disk::{Disk, Redo};
-use jb_held::Held;
+use jb_held::HeldArea;
 use jb_model::Reply;
 use jb_state::{Change, Loaded, LoadedMessage, LoadedSlot};
 use std::alloc::Global;
@@ -43,7 +43,7 @@ fn message_at(loaded: &Loaded, place: usize) -> &LoadedMessage
 pub fn decide_read<D: Disk>(
     alloc: Global,
     disk: &mut D,
-    held: &Held,
+    held: &HeldArea,
     rules: &AreaRules,
     redo: &mut Redo,
     user: &User,
@@ -83,7 +83,7 @@ pub fn decide_read<D: Disk>(
 pub fn decide_peek<D: Disk>(
     alloc: Global,
     disk: &mut D,
-    held: &Held,
+    held: &HeldArea,
     rules: &AreaRules,
     user: &User,
     number: u32,

@@ -11,13 +11,13 @@ use crate::deciding::decide_long;
 use crate::relinks::relink;
 use jb_base::{AreaRules, OutOfMemory, User};
 use jb_disk::Redo;
-use jb_held::Held;
+use jb_held::HeldArea;
 use std::alloc::Global;
 
 /// What a relink comes to. The redo need not have room: it takes that of the links.
 pub fn decide_relink(
     alloc: Global,
-    held: &Held,
+    held: &HeldArea,
     rules: &AreaRules,
     redo: &mut Redo,
     user: &User,

@@ -10,7 +10,7 @@ use Rattle.jb_disk.specs.declared.call.Call.TheVariants.{NoChange, Wrote, Resize
 use Rattle.jb_disk.specs.Files.{Files}
 use Rattle.jb_disk.specs.Images.{Unsynced, Images, Range, IsWritten, IsLeft, IsImage, just_synced, torn, cut, with_image}
 use Rattle.jb_disk.specs.Moments.{MightLeave}
-use Rattle.jb_disk.specs.Memory.{listed, contents_after, images_after, earlier_after, Recording, device_of}
+use Rattle.jb_disk.specs.Memory.{files_of_list, contents_after, images_after, earlier_after, Recording, memory_device}
 use Rattle.jb_disk.specs.MemoryLaws.{image-contents}
 use Rattle.jb_disk.specs.FileLaws.{same_file}
 use Rattle.jb_disk.specs.ImageLaws.{with_image-here, with_image-other}
@@ -105,8 +105,8 @@ picked-left (suc (suc (suc more))) u written bytes was left is = subst (IsLeft u
 -- what is picked of each file is an image
 pub picked-image : (pick after : ℕ) (disk : Recording) (files : Files) → ((file : FileId) → IsPicked pick (images_at after disk file) (contents_at after disk file) (files file)) → IsImage (images_at after disk) files
 picked-image pick after disk files picked = λ file.
-    picked-left pick (images_at after disk file) (contents_at after disk file) (files file) (between (listed disk.first) (first_calls after disk) file)
-    (image-contents (listed disk.first) (first_calls after disk) file) (picked file)
+    picked-left pick (images_at after disk file) (contents_at after disk file) (files file) (between (files_of_list disk.first) (first_calls after disk) file)
+    (image-contents (files_of_list disk.first) (first_calls after disk) file) (picked file)
 
 -- an image after some calls is one of a moment so far
 among : (first : Files) (later earlier : List Call) (files : Files) → IsImage (images_after first earlier) files → MightLeave (images_after first (later ++ earlier) ∷ earlier_after first (later ++ earlier)) files
@@ -117,16 +117,16 @@ among first (Resized file len done ∷ later) earlier files image = inr (among f
 among first (Synced file ∷ later) earlier files image = inr (among first later earlier files image)
 
 -- so an image after the first calls is
-pub image-moment : (after : ℕ) (disk : Recording) (files : Files) → IsImage (images_at after disk) files → MightLeave (device_of disk).moments files
+pub image-moment : (after : ℕ) (disk : Recording) (files : Files) → IsImage (images_at after disk) files → MightLeave (memory_device disk).moments files
 image-moment after disk files image =
     let parts : reverse (drop after disk.calls) ++ reverse (take after disk.calls) ≡ reverse disk.calls =
     sym (reverse-append (take after disk.calls) (drop after disk.calls)) ∙ ap reverse (take-append-drop after disk.calls) in
-    subst (λ (calls : List Call). MightLeave (images_after (listed disk.first) calls ∷ earlier_after (listed disk.first) calls) files) parts
-    (among (listed disk.first) (reverse (drop after disk.calls)) (reverse (take after disk.calls)) files image)
+    subst (λ (calls : List Call). MightLeave (images_after (files_of_list disk.first) calls ∷ earlier_after (files_of_list disk.first) calls) files) parts
+    (among (files_of_list disk.first) (reverse (drop after disk.calls)) (reverse (take after disk.calls)) files image)
 
 -- a fact of each of six files
 pub each_of_six : (P : FileId → List ℕ → Type 0) (a b c d e f : List ℕ) → P Jhr a → P Jdt b → P Jdx c → P Jlr d → P Jnl e → P Ndt f
-    → (file : FileId) → P file (listed (a ∷ b ∷ c ∷ d ∷ e ∷ f ∷ []) file)
+    → (file : FileId) → P file (files_of_list (a ∷ b ∷ c ∷ d ∷ e ∷ f ∷ []) file)
 each_of_six P a b c d e f pa pb pc pd pe pf Jhr = pa
 each_of_six P a b c d e f pa pb pc pd pe pf Jdt = pb
 each_of_six P a b c d e f pa pb pc pd pe pf Jdx = pc

@@ -9,7 +9,7 @@ use Rattle.jb_disk.specs.declared.piece.Piece.{Piece}
 use Rattle.jb_disk.specs.declared.piece.Piece.TheVariants.{Bytes, Copy}
 use Rattle.jb_disk.specs.declared.redo.Kept.{Kept}
 use Rattle.jb_disk.specs.RedoView.{bytes_of, held_by}
-use Rattle.jb_disk.specs.Kept.{piece_of, KeptFits, size_of}
+use Rattle.jb_disk.specs.Kept.{piece_of, KeptFits, kept_size}
 
 -- a range stays where more is put behind
 pub range-append : (xs ys : List ℕ) (i j : ℕ) → j ≤ length xs → slice_range (xs ++ ys) i j ≡ slice_range xs i j
@@ -55,14 +55,14 @@ size_at true from to from_at to_at len start xs within = refl
 size_at false from to from_at to_at len start xs within = length-range xs start len within
 
 -- so many bytes a kept piece brings
-pub size-piece : (buffer : List ℕ) (kept : Kept) → KeptFits buffer kept → length (bytes_of (piece_of buffer kept)) ≡ size_of kept
+pub size-piece : (buffer : List ℕ) (kept : Kept) → KeptFits buffer kept → length (bytes_of (piece_of buffer kept)) ≡ kept_size kept
 size-piece buffer kept fits = size_at kept.head.copy kept.head.from kept.head.to kept.head.from_at kept.head.to_at kept.head.len kept.start buffer fits.within
 
 -- all pieces together
-pub sizes : (buffer : List ℕ) (kept : List Kept) → All (KeptFits buffer) kept → held_by (map (piece_of buffer) kept) ≡ sum_by size_of kept
+pub sizes : (buffer : List ℕ) (kept : List Kept) → All (KeptFits buffer) kept → held_by (map (piece_of buffer) kept) ≡ sum_by kept_size kept
 sizes buffer [] fits = refl
 sizes buffer (k ∷ kept) fits =
-    omega (arith, sum_by-cons (λ piece. length (bytes_of piece)) (piece_of buffer k) (map (piece_of buffer) kept), sum_by-cons size_of k kept, size-piece buffer k (All-head (KeptFits buffer) k kept fits), sizes buffer kept (All-tail (KeptFits buffer) k kept fits))
+    omega (arith, sum_by-cons (λ piece. length (bytes_of piece)) (piece_of buffer k) (map (piece_of buffer) kept), sum_by-cons kept_size k kept, size-piece buffer k (All-head (KeptFits buffer) k kept fits), sizes buffer kept (All-tail (KeptFits buffer) k kept fits))
 
 -- a piece with its bytes, as it is kept
 abbrev pub written_kept : FileId → ℕ → ℕ → ℕ → Kept
@@ -87,8 +87,8 @@ module _ (buffer bytes : List ℕ) (kept : List Kept) (file : FileId) (at len st
       ∙ ap (λ (l : List ℕ). map (piece_of buffer) kept ++ Bytes file at l ∷ []) range
 
   -- and they fill the buffer
-  pub put-total : sum_by size_of kept ≡ length buffer → sum_by size_of (kept ++ new ∷ []) ≡ length (buffer ++ bytes)
-  put-total total = omega (arith, sum_by_push size_of kept new, total, long, length-append buffer bytes)
+  pub put-total : sum_by kept_size kept ≡ length buffer → sum_by kept_size (kept ++ new ∷ []) ≡ length (buffer ++ bytes)
+  put-total total = omega (arith, sum_by_push kept_size kept new, total, long, length-append buffer bytes)
 
 -- true is not false
 not_false : true ≡ false → ⊥
@@ -114,5 +114,5 @@ module _ (buffer : List ℕ) (kept : List Kept) (from : FileId) (from_at : ℕ) 
   copy-map = map-append (piece_of buffer) kept (copied ∷ [])
 
   -- and they fill the buffer as before
-  pub copy-total : sum_by size_of kept ≡ length buffer → sum_by size_of (kept ++ copied ∷ []) ≡ length buffer
-  copy-total total = omega (arith, sum_by_push size_of kept copied, total)
+  pub copy-total : sum_by kept_size kept ≡ length buffer → sum_by kept_size (kept ++ copied ∷ []) ≡ length buffer
+  copy-total total = omega (arith, sum_by_push kept_size kept copied, total)

@@ -11,7 +11,7 @@ use Rattle.jb_disk.specs.declared.call.Call.TheVariants.{NoChange, Wrote, Resize
 use Rattle.jb_disk.specs.Files.{Files, with_file, overwritten, written, InFile, IsResized}
 use Rattle.jb_disk.specs.Device.{Device, Turns, Tears, Resizes, Syncs, OnlyReads, FailsBy, IsPast, and_then}
 use Rattle.jb_disk.specs.Images.{Images, just_synced, torn, cut, with_image}
-use Rattle.jb_disk.specs.Memory.{of_length, contents_after, images_after, earlier_after, listed, device_after, Recording, device_of, IsQuiet}
+use Rattle.jb_disk.specs.Memory.{of_length, contents_after, images_after, earlier_after, files_of_list, device_after, Recording, memory_device, IsQuiet}
 use Rattle.jb_disk.specs.FileLaws.{same_file, with_file-here, with_file-other, InFile-with, length-of_length}
 use Rattle.jb_disk.specs.ImageLaws.{get-of_length}
 use Rattle.jb_disk.specs.MemoryLaws.{newest}
@@ -45,12 +45,12 @@ tears-noted result first f at bytes done calls m n = record {
 -- the same, of the disk
 pub tears : {T E : Type 0} (result : Result T E) (disk : Recording) (first : List (List ℕ)) (failing : List ℕ) (old new : List Call) (m n : ℕ) (f : FileId) (at : ℕ) (bytes : Vec ℕ Global) (len : ℕ) (done : Bool)
     → record { first = first; calls = old; faults = m; failing = failing } ≡ disk → length bytes.items ≡ len → new ≡ old ++ Wrote f at bytes done ∷ []
-    → Tears f at len (device_of disk) (device_of (record { first = first; calls = new; faults = n; failing = failing })) result
+    → Tears f at len (memory_device disk) (memory_device (record { first = first; calls = new; faults = n; failing = failing })) result
 tears result disk first failing old new m n f at bytes len done view_is size is =
-    subst (λ (was : Recording). Tears f at len (device_of was) (device_of (record { first = first; calls = new; faults = n; failing = failing })) result) view_is
-    (subst (λ (k : ℕ). Tears f at k (device_after (listed first) (reverse old) m) (device_after (listed first) (reverse new) n) result) size
-    (subst (λ (calls : List Call). Tears f at (length bytes.items) (device_after (listed first) (reverse old) m) (device_after (listed first) calls n) result) (sym (newest old (Wrote f at bytes done) new is))
-    (tears-noted result (listed first) f at bytes done (reverse old) m n)))
+    subst (λ (was : Recording). Tears f at len (memory_device was) (memory_device (record { first = first; calls = new; faults = n; failing = failing })) result) view_is
+    (subst (λ (k : ℕ). Tears f at k (device_after (files_of_list first) (reverse old) m) (device_after (files_of_list first) (reverse new) n) result) size
+    (subst (λ (calls : List Call). Tears f at (length bytes.items) (device_after (files_of_list first) (reverse old) m) (device_after (files_of_list first) calls n) result) (sym (newest old (Wrote f at bytes done) new is))
+    (tears-noted result (files_of_list first) f at bytes done (reverse old) m n)))
 
 -- what is read after a change of one file's bytes
 present-with : (f : FileId) (bytes : List ℕ) (before present after : Files) → ((file : FileId) → before file ≡ present file) → after f ≡ bytes → ((other : FileId) → other ≢ f → after other ≡ before other)
@@ -101,12 +101,12 @@ resizes-noted result first f len calls m n =
 -- the same, of the disk
 pub resizes : {T E : Type 0} (result : Result T E) (disk : Recording) (first : List (List ℕ)) (failing : List ℕ) (old new : List Call) (m n : ℕ) (f : FileId) (len : ℕ) (done : Bool)
     → record { first = first; calls = old; faults = m; failing = failing } ≡ disk → done ≡ true → new ≡ old ++ Resized f len done ∷ []
-    → Resizes f len (device_of disk) (device_of (record { first = first; calls = new; faults = n; failing = failing })) result
+    → Resizes f len (memory_device disk) (memory_device (record { first = first; calls = new; faults = n; failing = failing })) result
 resizes result disk first failing old new m n f len done view_is so is =
     let noted : new ≡ old ++ Resized f len true ∷ [] = subst (λ (b : Bool). new ≡ old ++ Resized f len b ∷ []) so is in
-    subst (λ (was : Recording). Resizes f len (device_of was) (device_of (record { first = first; calls = new; faults = n; failing = failing })) result) view_is
-    (subst (λ (calls : List Call). Resizes f len (device_after (listed first) (reverse old) m) (device_after (listed first) calls n) result) (sym (newest old (Resized f len true) new noted))
-    (resizes-noted result (listed first) f len (reverse old) m n))
+    subst (λ (was : Recording). Resizes f len (memory_device was) (memory_device (record { first = first; calls = new; faults = n; failing = failing })) result) view_is
+    (subst (λ (calls : List Call). Resizes f len (device_after (files_of_list first) (reverse old) m) (device_after (files_of_list first) calls n) result) (sym (newest old (Resized f len true) new noted))
+    (resizes-noted result (files_of_list first) f len (reverse old) m n))
 
 -- nothing reads otherwise
 others-same : (f : FileId) (contents : Option Files) → Turns (λ before now. (other : FileId) → other ≢ f → now other ≡ before other) contents contents
@@ -147,10 +147,10 @@ quiet-newest old now quiet = elim quiet [
 -- the same, of the disk
 pub syncs : {T E : Type 0} (result : Result T E) (disk : Recording) (first : List (List ℕ)) (failing : List ℕ) (old now : List Call) (m n : ℕ) (f : FileId)
     → record { first = first; calls = old; faults = m; failing = failing } ≡ disk → OnOk result (now ≡ old ++ Synced f ∷ []) → OnErr result (IsQuiet old now)
-    → Syncs f (device_of disk) (device_of (record { first = first; calls = now; faults = n; failing = failing })) result
+    → Syncs f (memory_device disk) (memory_device (record { first = first; calls = now; faults = n; failing = failing })) result
 syncs result disk first failing old now m n f view_is done failed =
-    subst (λ (was : Recording). Syncs f (device_of was) (device_of (record { first = first; calls = now; faults = n; failing = failing })) result) view_is
-    (syncs-noted result (listed first) f (reverse old) (reverse now) m n
+    subst (λ (was : Recording). Syncs f (memory_device was) (memory_device (record { first = first; calls = now; faults = n; failing = failing })) result) view_is
+    (syncs-noted result (files_of_list first) f (reverse old) (reverse now) m n
     (on_ok_weaker result (newest old (Synced f) now) done)
     (on_err_weaker result (quiet-newest old now) failed))
 
@@ -181,16 +181,16 @@ resized-so f len old new here others = record { here = subst (IsResized len (old
 
 -- a range that ends within a file is not past its end
 pub within-not-past : (disk : Recording) (first : List (List ℕ)) (failing : List ℕ) (old : List Call) (m : ℕ) (present : Files) (f : FileId) (end : ℕ)
-    → record { first = first; calls = old; faults = m; failing = failing } ≡ disk → ((file : FileId) → present file ≡ contents_after (listed first) (reverse old) file)
-    → end ≤ length (present f) → IsPast (device_of disk).contents f end → ⊥
+    → record { first = first; calls = old; faults = m; failing = failing } ≡ disk → ((file : FileId) → present file ≡ contents_after (files_of_list first) (reverse old) file)
+    → end ≤ length (present f) → IsPast (memory_device disk).contents f end → ⊥
 within-not-past disk first failing old m present f end view_is was within past =
-    let there : length (contents_after (listed first) (reverse old) f) < end = subst (λ (d : Recording). length (contents_after (listed d.first) (reverse d.calls) f) < end) (sym view_is) past in
+    let there : length (contents_after (files_of_list first) (reverse old) f) < end = subst (λ (d : Recording). length (contents_after (files_of_list d.first) (reverse d.calls) f) < end) (sym view_is) past in
     omega (arith, ap length (was f))
 
 -- a call that was done has no cause to fail
 pub done-fails-by : {T E : Type 0} (value : T) (past : Type 0) (disk : Recording) (first : List (List ℕ)) (failing : List ℕ) (old new : List Call) (m n : ℕ)
     → record { first = first; calls = old; faults = m; failing = failing } ≡ disk → n ≡ m → (past → ⊥)
-    → FailsBy {T = T} {E = E} past (device_of disk) (device_of (record { first = first; calls = new; faults = n; failing = failing })) (Ok value)
+    → FailsBy {T = T} {E = E} past (memory_device disk) (memory_device (record { first = first; calls = new; faults = n; failing = failing })) (Ok value)
 done-fails-by value past disk first failing old new m n view_is same not_past =
     let faults : n ≡ disk.faults = same ∙ ap (λ (d : Recording). d.faults) view_is in
     record { kept = faults; later = omega arith; failed = tt; refused = λ passed. absurd (not_past passed); alike = refl }
@@ -198,53 +198,53 @@ done-fails-by value past disk first failing old new m n view_is same not_past =
 -- what is read after a write that was done
 pub wrote-contents : (disk : Recording) (first : List (List ℕ)) (failing : List ℕ) (old new : List Call) (m n : ℕ) (f : FileId) (at : ℕ) (copy : Vec ℕ Global) (bytes : List ℕ) (done : Bool) (present : Files)
     → record { first = first; calls = old; faults = m; failing = failing } ≡ disk → new ≡ old ++ Wrote f at copy done ∷ [] → done ≡ true → copy.items ≡ bytes
-    → ((file : FileId) → present file ≡ contents_after (listed first) (reverse old) file) → at + length bytes ≤ length (present f)
-    → (device_of (record { first = first; calls = new; faults = n; failing = failing })).contents ≡ option_map (written f at bytes) (device_of disk).contents
+    → ((file : FileId) → present file ≡ contents_after (files_of_list first) (reverse old) file) → at + length bytes ≤ length (present f)
+    → (memory_device (record { first = first; calls = new; faults = n; failing = failing })).contents ≡ option_map (written f at bytes) (memory_device disk).contents
 wrote-contents disk first failing old new m n f at copy bytes done present view_is is so same was within =
-    let before = contents_after (listed first) (reverse old) in
+    let before = contents_after (files_of_list first) (reverse old) in
     let fits : at + length copy.items ≤ length (before f) = omega (arith, ap length (was f), ap length same) in
     let both : (done && nat_le (at + length copy.items) (length (before f))) ≡ true = ap (λ (b : Bool). b && nat_le (at + length copy.items) (length (before f))) so ∙ le-leb _ _ fits in
-    let told : contents_after (listed first) (Wrote f at copy done ∷ reverse old) ≡ written f at bytes before =
+    let told : contents_after (files_of_list first) (Wrote f at copy done ∷ reverse old) ≡ written f at bytes before =
     written-done f at copy.items before _ both ∙ ap (λ (l : List ℕ). written f at l before) same in
-    ap (λ (calls : List Call). Some (contents_after (listed first) calls)) (newest old (Wrote f at copy done) new is) ∙ ap (λ (files : Files). Some files) told
-    ∙ ap (λ (d : Recording). Some (written f at bytes (contents_after (listed d.first) (reverse d.calls)))) view_is
+    ap (λ (calls : List Call). Some (contents_after (files_of_list first) calls)) (newest old (Wrote f at copy done) new is) ∙ ap (λ (files : Files). Some files) told
+    ∙ ap (λ (d : Recording). Some (written f at bytes (contents_after (files_of_list d.first) (reverse d.calls)))) view_is
 
 -- what a crash may leave after a write that was noted
 pub wrote-moments : (disk : Recording) (first : List (List ℕ)) (failing : List ℕ) (old new : List Call) (m n : ℕ) (f : FileId) (at : ℕ) (copy : Vec ℕ Global) (len : ℕ) (done : Bool)
     → record { first = first; calls = old; faults = m; failing = failing } ≡ disk → new ≡ old ++ Wrote f at copy done ∷ [] → length copy.items ≡ len
-    → (device_of (record { first = first; calls = new; faults = n; failing = failing })).moments ≡ and_then (with_image f (torn at len)) (device_of disk).moments
+    → (memory_device (record { first = first; calls = new; faults = n; failing = failing })).moments ≡ and_then (with_image f (torn at len)) (memory_device disk).moments
 wrote-moments disk first failing old new m n f at copy len done view_is is size =
-    let after = λ (calls : List Call). images_after (listed first) calls ∷ earlier_after (listed first) calls in
+    let after = λ (calls : List Call). images_after (files_of_list first) calls ∷ earlier_after (files_of_list first) calls in
     ap after (newest old (Wrote f at copy done) new is)
     ∙ ap (λ (k : ℕ). and_then (with_image f (torn at k)) (after (reverse old))) size
-    ∙ ap (λ (d : Recording). and_then (with_image f (torn at len)) (device_of d).moments) view_is
+    ∙ ap (λ (d : Recording). and_then (with_image f (torn at len)) (memory_device d).moments) view_is
 
 -- what a crash may leave after a change of length that was noted
 pub resized-moments : (disk : Recording) (first : List (List ℕ)) (failing : List ℕ) (old new : List Call) (m n : ℕ) (f : FileId) (len : ℕ) (done : Bool)
     → record { first = first; calls = old; faults = m; failing = failing } ≡ disk → new ≡ old ++ Resized f len done ∷ []
-    → (device_of (record { first = first; calls = new; faults = n; failing = failing })).moments ≡ and_then (with_image f (cut len)) (device_of disk).moments
+    → (memory_device (record { first = first; calls = new; faults = n; failing = failing })).moments ≡ and_then (with_image f (cut len)) (memory_device disk).moments
 resized-moments disk first failing old new m n f len done view_is is =
-    ap (λ (calls : List Call). images_after (listed first) calls ∷ earlier_after (listed first) calls) (newest old (Resized f len done) new is)
-    ∙ ap (λ (d : Recording). and_then (with_image f (cut len)) (device_of d).moments) view_is
+    ap (λ (calls : List Call). images_after (files_of_list first) calls ∷ earlier_after (files_of_list first) calls) (newest old (Resized f len done) new is)
+    ∙ ap (λ (d : Recording). and_then (with_image f (cut len)) (memory_device d).moments) view_is
 
 -- a call of which there is at most a note that it was made changes nothing of what is told
 pub reads-quiet : (disk : Recording) (first : List (List ℕ)) (failing : List ℕ) (old new : List Call) (m n : ℕ)
     → record { first = first; calls = old; faults = m; failing = failing } ≡ disk → IsQuiet old new
-    → OnlyReads (device_of disk) (device_of (record { first = first; calls = new; faults = n; failing = failing }))
+    → OnlyReads (memory_device disk) (memory_device (record { first = first; calls = new; faults = n; failing = failing }))
 reads-quiet disk first failing old new m n view_is quiet =
-    let told : device_after (listed first) (reverse new) n ≡ device_after (listed first) (reverse old) n = elim (quiet-newest old new quiet) [
-      | inl same ↦ ap (λ (calls : List Call). device_after (listed first) calls n) same
-      | inr tried ↦ ap (λ (calls : List Call). device_after (listed first) calls n) tried
+    let told : device_after (files_of_list first) (reverse new) n ≡ device_after (files_of_list first) (reverse old) n = elim (quiet-newest old new quiet) [
+      | inl same ↦ ap (λ (calls : List Call). device_after (files_of_list first) calls n) same
+      | inr tried ↦ ap (λ (calls : List Call). device_after (files_of_list first) calls n) tried
     ] in
     record {
-      contents = ap (λ (d : Device). d.contents) told ∙ ap (λ (d : Recording). (device_of d).contents) view_is;
-      moments = ap (λ (d : Device). d.moments) told ∙ ap (λ (d : Recording). (device_of d).moments) view_is;
+      contents = ap (λ (d : Device). d.contents) told ∙ ap (λ (d : Recording). (memory_device d).contents) view_is;
+      moments = ap (λ (d : Device). d.moments) told ∙ ap (λ (d : Recording). (memory_device d).moments) view_is;
     }
 
 -- a refusal of a call that did not pass an end, with a fault as its cause
 pub failed-fails-by : {T E : Type 0} (result : Result T E) (past : Type 0) (disk : Recording) (first : List (List ℕ)) (failing : List ℕ) (old new : List Call) (m n : ℕ)
     → record { first = first; calls = old; faults = m; failing = failing } ≡ disk → IsErr result → Rose m n → m ≤ n → (past → ⊥)
-    → FailsBy past (device_of disk) (device_of (record { first = first; calls = new; faults = n; failing = failing })) result
+    → FailsBy past (memory_device disk) (memory_device (record { first = first; calls = new; faults = n; failing = failing })) result
 failed-fails-by (Ok value) past disk first failing old new m n view_is fails rose later not_past = absurd (not_true fails)
 failed-fails-by (Err error) past disk first failing old new m n view_is fails rose later not_past =
     let before : m ≡ disk.faults = ap (λ (d : Recording). d.faults) view_is in
@@ -280,16 +280,16 @@ present-quiet first old new present was quiet file = elim (quiet-newest old new 
 
 -- a call past an end is refused, and counts nothing
 pub past-fails-by : {T E : Type 0} (error : E) (disk : Recording) (first : List (List ℕ)) (failing : List ℕ) (old new : List Call) (m : ℕ) (present : Files) (f : FileId) (end : ℕ)
-    → record { first = first; calls = old; faults = m; failing = failing } ≡ disk → ((file : FileId) → present file ≡ contents_after (listed first) (reverse old) file)
+    → record { first = first; calls = old; faults = m; failing = failing } ≡ disk → ((file : FileId) → present file ≡ contents_after (files_of_list first) (reverse old) file)
     → length (present f) < end
-    → FailsBy {T = T} (IsPast (device_of disk).contents f end) (device_of disk) (device_of (record { first = first; calls = new; faults = m; failing = failing })) (Err error)
+    → FailsBy {T = T} (IsPast (memory_device disk).contents f end) (memory_device disk) (memory_device (record { first = first; calls = new; faults = m; failing = failing })) (Err error)
 past-fails-by error disk first failing old new m present f end view_is was past =
     let same : m ≡ disk.faults = ap (λ (d : Recording). d.faults) view_is in
-    let there : length (contents_after (listed first) (reverse old) f) < end = omega (arith, ap length (was f), past) in
+    let there : length (contents_after (files_of_list first) (reverse old) f) < end = omega (arith, ap length (was f), past) in
     record {
       kept = tt;
       later = omega arith;
-      failed = inr (subst (λ (d : Recording). length (contents_after (listed d.first) (reverse d.calls) f) < end) view_is there);
+      failed = inr (subst (λ (d : Recording). length (contents_after (files_of_list d.first) (reverse d.calls) f) < end) view_is there);
       refused = λ _. (refl, same);
       alike = refl;
     }
@@ -303,7 +303,7 @@ present-synced (Err error) first f old new present was done failed file = presen
 -- a call with no end to pass, by what it counted
 pub counted-fails-by : {T E : Type 0} (result : Result T E) (disk : Recording) (first : List (List ℕ)) (failing : List ℕ) (old new : List Call) (m n : ℕ)
     → record { first = first; calls = old; faults = m; failing = failing } ≡ disk → OnOk result (n ≡ m) → OnErr result (Rose m n) → m ≤ n
-    → FailsBy ⊥ (device_of disk) (device_of (record { first = first; calls = new; faults = n; failing = failing })) result
+    → FailsBy ⊥ (memory_device disk) (memory_device (record { first = first; calls = new; faults = n; failing = failing })) result
 counted-fails-by (Ok value) disk first failing old new m n view_is quiet rose later = done-fails-by value ⊥ disk first failing old new m n view_is quiet (λ never. never)
 counted-fails-by (Err error) disk first failing old new m n view_is quiet rose later = failed-fails-by (Err error) ⊥ disk first failing old new m n view_is refl rose later (λ never. never)
 
@@ -311,27 +311,27 @@ counted-fails-by (Err error) disk first failing old new m n view_is quiet rose l
 module _ (first : List (List ℕ)) (f : FileId) (at : ℕ) (bytes : Vec ℕ Global) (fails : Bool) (old new : List Call)
     (kept : (new ≡ old) ⊎ ((fails ≡ true) × (new ≡ old ++ Wrote f at bytes (not fails) ∷ []))) where
   -- nothing is read otherwise
-  read-unwritten : contents_after (listed first) (reverse new) ≡ contents_after (listed first) (reverse old)
-  read-unwritten = contents-refused (listed first) (Wrote f at bytes (not fails)) fails old new (wrote-not (listed first) f at bytes (reverse old) fails) kept
+  read-unwritten : contents_after (files_of_list first) (reverse new) ≡ contents_after (files_of_list first) (reverse old)
+  read-unwritten = contents-refused (files_of_list first) (Wrote f at bytes (not fails)) fails old new (wrote-not (files_of_list first) f at bytes (reverse old) fails) kept
 
   -- the files in memory are as they were
-  pub present-unwritten : (present : Files) → ((file : FileId) → present file ≡ contents_after (listed first) (reverse old) file)
-      → (file : FileId) → present file ≡ contents_after (listed first) (reverse new) file
+  pub present-unwritten : (present : Files) → ((file : FileId) → present file ≡ contents_after (files_of_list first) (reverse old) file)
+      → (file : FileId) → present file ≡ contents_after (files_of_list first) (reverse new) file
   present-unwritten present was file = was file ∙ sym (ap (λ (files : Files). files file) read-unwritten)
 
   -- and a crash may leave what it might before, or any bytes in the range
   pub tears-unwritten : {T E : Type 0} (result : Result T E) (disk : Recording) (failing : List ℕ) (len m n : ℕ)
       → record { first = first; calls = old; faults = m; failing = failing } ≡ disk → length bytes.items ≡ len → IsErr result
-      → Tears f at len (device_of disk) (device_of (record { first = first; calls = new; faults = n; failing = failing })) result
+      → Tears f at len (memory_device disk) (memory_device (record { first = first; calls = new; faults = n; failing = failing })) result
   tears-unwritten (Ok value) disk failing len m n view_is size fault = absurd (not_true fault)
   tears-unwritten {T = T} {E = E} (Err error) disk failing len m n view_is size fault =
-      let after = λ (calls : List Call). images_after (listed first) calls ∷ earlier_after (listed first) calls in
-      subst (λ (was : Recording). Tears {T = T} {E = E} f at len (device_of was) (device_of (record { first = first; calls = new; faults = n; failing = failing })) (Err error)) view_is
-      (subst (λ (k : ℕ). Tears {T = T} {E = E} f at k (device_after (listed first) (reverse old) m) (device_after (listed first) (reverse new) n) (Err error)) size
+      let after = λ (calls : List Call). images_after (files_of_list first) calls ∷ earlier_after (files_of_list first) calls in
+      subst (λ (was : Recording). Tears {T = T} {E = E} f at len (memory_device was) (memory_device (record { first = first; calls = new; faults = n; failing = failing })) (Err error)) view_is
+      (subst (λ (k : ℕ). Tears {T = T} {E = E} f at k (device_after (files_of_list first) (reverse old) m) (device_after (files_of_list first) (reverse new) n) (Err error)) size
       (record {
         tried = record {
           others = λ other apart. ap (λ (files : Files). files other) read-unwritten;
-          steady = λ none. absurd (some-moment (images_after (listed first) (reverse old)) _ none);
+          steady = λ none. absurd (some-moment (images_after (files_of_list first) (reverse old)) _ none);
         };
         moments = elim kept [
           | inl same ↦ inl (ap (λ (calls : List Call). after (reverse calls)) same)
@@ -353,27 +353,27 @@ tears-not error f at len old new only = record {
 module _ (first : List (List ℕ)) (f : FileId) (len : ℕ) (fails : Bool) (old new : List Call)
     (kept : (new ≡ old) ⊎ ((fails ≡ true) × (new ≡ old ++ Resized f len (not fails) ∷ []))) where
   -- nothing is read otherwise
-  read-unresized : contents_after (listed first) (reverse new) ≡ contents_after (listed first) (reverse old)
-  read-unresized = contents-refused (listed first) (Resized f len (not fails)) fails old new (resized-not (listed first) f len (reverse old) fails) kept
+  read-unresized : contents_after (files_of_list first) (reverse new) ≡ contents_after (files_of_list first) (reverse old)
+  read-unresized = contents-refused (files_of_list first) (Resized f len (not fails)) fails old new (resized-not (files_of_list first) f len (reverse old) fails) kept
 
   -- the files in memory are as they were
-  pub present-unresized : (present : Files) → ((file : FileId) → present file ≡ contents_after (listed first) (reverse old) file)
-      → (file : FileId) → present file ≡ contents_after (listed first) (reverse new) file
+  pub present-unresized : (present : Files) → ((file : FileId) → present file ≡ contents_after (files_of_list first) (reverse old) file)
+      → (file : FileId) → present file ≡ contents_after (files_of_list first) (reverse new) file
   present-unresized present was file = was file ∙ sym (ap (λ (files : Files). files file) read-unresized)
 
   -- and a crash may leave what it might before, or what the change allows
   pub resizes-not : {T E : Type 0} (result : Result T E) (disk : Recording) (failing : List ℕ) (m n : ℕ)
       → record { first = first; calls = old; faults = m; failing = failing } ≡ disk → IsErr result
-      → Resizes f len (device_of disk) (device_of (record { first = first; calls = new; faults = n; failing = failing })) result
+      → Resizes f len (memory_device disk) (memory_device (record { first = first; calls = new; faults = n; failing = failing })) result
   resizes-not (Ok value) disk failing m n view_is fault = absurd (not_true fault)
   resizes-not {T = T} {E = E} (Err error) disk failing m n view_is fault =
-      let after = λ (calls : List Call). images_after (listed first) calls ∷ earlier_after (listed first) calls in
-      subst (λ (was : Recording). Resizes {T = T} {E = E} f len (device_of was) (device_of (record { first = first; calls = new; faults = n; failing = failing })) (Err error)) view_is
+      let after = λ (calls : List Call). images_after (files_of_list first) calls ∷ earlier_after (files_of_list first) calls in
+      subst (λ (was : Recording). Resizes {T = T} {E = E} f len (memory_device was) (memory_device (record { first = first; calls = new; faults = n; failing = failing })) (Err error)) view_is
       (record {
         done = tt;
         tried = record {
           others = λ other apart. ap (λ (files : Files). files other) read-unresized;
-          steady = λ none. absurd (some-moment (images_after (listed first) (reverse old)) _ none);
+          steady = λ none. absurd (some-moment (images_after (files_of_list first) (reverse old)) _ none);
         };
         moments = elim kept [
           | inl same ↦ inl (ap (λ (calls : List Call). after (reverse calls)) same)

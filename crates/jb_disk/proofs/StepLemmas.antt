@@ -9,7 +9,7 @@ use Rattle.std.proofs.lemmas.List.FromFn.{get_or-map-range_with_len, length-rang
 use Rattle.jb_disk.specs.declared.file.FileId.{FileId}
 use Rattle.jb_disk.specs.Files.{Files, with_file, overwritten, InFile, IsResized}
 use Rattle.jb_disk.specs.Images.{Unsynced, Images, IsWritten, IsLeft, IsImage, just_synced, torn, cut, with_image}
-use Rattle.jb_disk.specs.Steps.{Torn, Cut, IsOpen, AgreesBut, Span, IsCovered, IsWithin, patched}
+use Rattle.jb_disk.specs.Steps.{Torn, Cut, IsOpen, AgreesBut, Span, IsCovered, AreWithin, patched}
 use Rattle.jb_disk.specs.FileLaws.{same_file, with_file-here, with_file-other, length-overwritten}
 use Rattle.jb_disk.specs.ImageLaws.{with_image-here, with_image-other, get-before, get-behind}
 
@@ -262,12 +262,12 @@ pub agree-whole : (places_of : ℕ → Type 0) (one other : List ℕ) → Agrees
 agree-whole places_of one other agrees none = same_items one other agrees.size (λ i low. elim (agrees.same i low) [ inl there ↦ absurd (none i low there) | inr same ↦ same ])
 
 -- spans that are written over both make them one, where they cover each place in which the two may differ
-pub patched-same : (places_of : ℕ → Type 0) (spans : List Span) (one other : List ℕ) → IsWithin spans (length one) → AgreesBut places_of one other
+pub patched-same : (places_of : ℕ → Type 0) (spans : List Span) (one other : List ℕ) → AreWithin spans (length one) → AgreesBut places_of one other
     → ((i : ℕ) → i < length one → places_of i → IsCovered spans i) → patched spans one ≡ patched spans other
 patched-same places_of [] one other within agrees covers = agree-whole places_of one other agrees covers
 patched-same places_of (span ∷ spans) one other within agrees covers =
     let size = length-overwritten span.at span.bytes one within.0 in
-    let rest : IsWithin spans (length (overwritten span.at span.bytes one)) = subst (IsWithin spans) (sym size) within.1 in
+    let rest : AreWithin spans (length (overwritten span.at span.bytes one)) = subst (AreWithin spans) (sym size) within.1 in
     patched-same (λ i. (i < span.at ⊎ (span.at + length span.bytes ≤ i)) × places_of i) spans (overwritten span.at span.bytes one) (overwritten span.at span.bytes other) rest
     (agree-overwritten places_of span.at span.bytes one other within.0 agrees)
     (λ i low there. elim (covers i (omega (arith, low, size)) there.1) [
@@ -277,7 +277,7 @@ patched-same places_of (span ∷ spans) one other within agrees covers =
 
 -- where spans cover each place below the new length that a crash leaves open, each image comes to the same
 pub images-patched : (u : Unsynced) (len : ℕ) (spans : List Span) (one other one_now other_now : List ℕ) → IsLeft u one → IsLeft u other → IsResized len one one_now → IsResized len other other_now
-    → IsWithin spans len → ((i : ℕ) → i < len → IsOpen u i → IsCovered spans i) → patched spans one_now ≡ patched spans other_now
+    → AreWithin spans len → ((i : ℕ) → i < len → IsOpen u i → IsCovered spans i) → patched spans one_now ≡ patched spans other_now
 images-patched u len spans one other one_now other_now one_left other_left one_is other_is within covers =
-    patched-same (IsOpen u) spans one_now other_now (subst (IsWithin spans) (sym one_is.size) within) (agree-resized u len one other one_now other_now one_left other_left one_is other_is)
+    patched-same (IsOpen u) spans one_now other_now (subst (AreWithin spans) (sym one_is.size) within) (agree-resized u len one other one_now other_now one_left other_left one_is other_is)
     (λ i low. covers i (omega (arith, low, one_is.size)))

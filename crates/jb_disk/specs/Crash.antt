@@ -3,7 +3,7 @@ use Rattle.std.specs.Prelude.{◌≡◌, ◌⊎◌, ℕ, zero, suc, ◌<◌, ◌
 use Rattle.jb_disk.specs.declared.call.Call.{Call}
 use Rattle.jb_disk.specs.Files.{Files}
 use Rattle.jb_disk.specs.Images.{Unsynced, Images, IsWritten}
-use Rattle.jb_disk.specs.Memory.{Recording, listed, contents_after, images_after}
+use Rattle.jb_disk.specs.Memory.{Recording, files_of_list, contents_after, images_after}
 
 -- a file of the greatest length, with A5 in each byte that a crash leaves open
 pub record IsMarred (file : Unsynced) (bytes : List ℕ) : Type 0 where
@@ -24,8 +24,8 @@ first_calls after disk = reverse (take after disk.calls)
 
 -- what a crash might have left after so many calls
 abbrev pub images_at : ℕ → Recording → Images
-images_at after disk = images_after (listed disk.first) (first_calls after disk)
+images_at after disk = images_after (files_of_list disk.first) (first_calls after disk)
 
 -- what a read gave after so many calls
 abbrev pub contents_at : ℕ → Recording → Files
-contents_at after disk = contents_after (listed disk.first) (first_calls after disk)
+contents_at after disk = contents_after (files_of_list disk.first) (first_calls after disk)

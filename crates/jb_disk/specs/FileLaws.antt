@@ -5,7 +5,7 @@ use Rattle.std.proofs.lemmas.Bool.{cases_eq}
 use Rattle.std.proofs.lemmas.Bool.Decides.{nat_tests}
 use Rattle.jb_disk.specs.declared.file.FileId.{FileId}
 use Rattle.jb_disk.specs.declared.file.FileId.TheVariants.{Jhr, Jdt, Jdx, Jlr, Jnl, Ndt}
-use Rattle.jb_disk.specs.Files.{Files, number_of, with_file, overwritten, InFile}
+use Rattle.jb_disk.specs.Files.{Files, file_number, with_file, overwritten, InFile}
 use Rattle.jb_disk.specs.Memory.{of_length}
 
 -- the file of a number
@@ -18,7 +18,7 @@ of_number (suc (suc (suc (suc zero)))) = Jnl
 of_number (suc (suc (suc (suc (suc more))))) = Ndt
 
 -- a file's number tells the file
-back : (file : FileId) → of_number (number_of file) ≡ file
+back : (file : FileId) → of_number (file_number file) ≡ file
 back Jhr = refl
 back Jdt = refl
 back Jdx = refl
@@ -27,14 +27,14 @@ back Jnl = refl
 back Ndt = refl
 
 -- two files of one number are the same
-pub number-injective : (f g : FileId) → number_of f ≡ number_of g → f ≡ g
+pub number-injective : (f g : FileId) → file_number f ≡ file_number g → f ≡ g
 number-injective f g e = sym (back f) ∙ ap of_number e ∙ back g
 
 -- two files are the same or not
 pub same_file : (f g : FileId) → (f ≡ g) ⊎ (f ≢ g)
-same_file f g = elim (cases_eq (number_of f) (number_of g)) [
+same_file f g = elim (cases_eq (file_number f) (file_number g)) [
   | inl same ↦ inl (number-injective f g same)
-  | inr other ↦ inr (λ is. other (ap number_of is))
+  | inr other ↦ inr (λ is. other (ap file_number is))
 ]
 
 -- the file that is replaced
@@ -44,7 +44,7 @@ with_file-here f bytes files = grind (arith, nat_tests)
 -- the files that are not
 pub with_file-other : (f g : FileId) (bytes : List ℕ) (files : Files) → g ≢ f → with_file f bytes files g ≡ files g
 with_file-other f g bytes files ne =
-    let apart : number_of g ≢ number_of f = λ same. ne (number-injective g f same) in
+    let apart : file_number g ≢ file_number f = λ same. ne (number-injective g f same) in
     grind (arith, nat_tests)
 
 -- two families of files with the same bytes in each are one

@@ -9,13 +9,13 @@ abbrev pub Files : Type 0
 Files = FileId → List ℕ
 
 -- the number by which the journal names a file
-abbrev pub number_of : FileId → ℕ
-number_of Jhr = 0
-number_of Jdt = 1
-number_of Jdx = 2
-number_of Jlr = 3
-number_of Jnl = 4
-number_of Ndt = 5
+abbrev pub file_number : FileId → ℕ
+file_number Jhr = 0
+file_number Jdt = 1
+file_number Jdx = 2
+file_number Jlr = 3
+file_number Jnl = 4
+file_number Ndt = 5
 
 -- the greatest length that a file is given
 abbrev pub ceiling_of : FileId → ℕ
@@ -28,7 +28,7 @@ ceiling_of Ndt = SHADOW_CEILING
 
 -- these files, with other bytes in one of them
 abbrev pub with_file : FileId → List ℕ → Files → Files
-with_file file bytes files other = if number_of other == number_of file then bytes else files other
+with_file file bytes files other = if file_number other == file_number file then bytes else files other
 
 -- bytes with others over them from a place on
 unfoldable pub overwritten : ℕ → List ℕ → List ℕ → List ℕ

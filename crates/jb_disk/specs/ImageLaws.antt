@@ -5,7 +5,7 @@ use Rattle.std.proofs.lemmas.Bool.{cases_lt}
 use Rattle.std.proofs.lemmas.Bool.Decides.{nat_tests}
 use Rattle.std.proofs.lemmas.List.{places}
 use Rattle.jb_disk.specs.declared.file.FileId.{FileId}
-use Rattle.jb_disk.specs.Files.{number_of, overwritten}
+use Rattle.jb_disk.specs.Files.{file_number, overwritten}
 use Rattle.jb_disk.specs.Images.{Unsynced, Images, IsLeft, just_synced, torn, cut, with_image}
 use Rattle.jb_disk.specs.Memory.{of_length}
 use Rattle.jb_disk.specs.FileLaws.{number-injective, length-overwritten, length-of_length}
@@ -17,7 +17,7 @@ with_image-here f change images = grind (arith, nat_tests)
 -- the files whose images are not
 pub with_image-other : (f g : FileId) (change : Unsynced → Unsynced) (images : Images) → g ≢ f → with_image f change images g ≡ images g
 with_image-other f g change images ne =
-    let apart : number_of g ≢ number_of f = λ same. ne (number-injective g f same) in
+    let apart : file_number g ≢ file_number f = λ same. ne (number-injective g f same) in
     grind (arith, nat_tests)
 
 -- a synced file is left as it is

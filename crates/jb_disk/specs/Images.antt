@@ -1,7 +1,7 @@
 -- What a crash may leave of the files, from what was synced and what came since.
 use Rattle.std.specs.Prelude.{◌≡◌, ◌⊎◌, ℕ, ◌+◌, ◌<◌, ◌≤◌, ◌==◌, min, max, List, [], ◌∷◌, length, slice_index, if◌then◌else◌}
 use Rattle.jb_disk.specs.declared.file.FileId.{FileId}
-use Rattle.jb_disk.specs.Files.{Files, number_of}
+use Rattle.jb_disk.specs.Files.{Files, file_number}
 
 -- places in a file: so many from one on
 pub record Range : Type 0 where
@@ -48,4 +48,4 @@ IsImage images files = (file : FileId) → IsLeft (images file) (files file)
 
 -- the same, but for one file
 abbrev pub with_image : FileId → (Unsynced → Unsynced) → Images → Images
-with_image file change images other = if number_of other == number_of file then change (images other) else images other
+with_image file change images other = if file_number other == file_number file then change (images other) else images other

@@ -13,17 +13,17 @@ piece_of buffer kept =
     else Bytes kept.head.to kept.head.to_at (slice_range buffer kept.start (kept.start + kept.head.len))
 
 -- the bytes that a piece keeps in the buffer
-abbrev pub size_of : Kept → ℕ
-size_of kept = if kept.head.copy then 0 else kept.head.len
+abbrev pub kept_size : Kept → ℕ
+kept_size kept = if kept.head.copy then 0 else kept.head.len
 
 -- its bytes stand within the buffer, and a piece that is no copy is copied from nowhere
 pub record KeptFits (buffer : List ℕ) (kept : Kept) : Type 0 where
-  pub within : kept.start + size_of kept ≤ length buffer
+  pub within : kept.start + kept_size kept ≤ length buffer
   pub plain : kept.head.copy ≡ false → (kept.head.from ≡ kept.head.to) × (kept.head.from_at ≡ 0)
 
 -- the change that stands so
-abbrev pub change_of : Inside → RedoView
-change_of redo = record {
+abbrev pub view_of_redo : Inside → RedoView
+view_of_redo redo = record {
   lengths = redo.lengths.items;
   pieces = map (piece_of redo.buffer.items) redo.kept.items;
   spare_lengths = vec_capacity redo.lengths - vec_len redo.lengths;
@@ -32,7 +32,7 @@ change_of redo = record {
 }
 
 -- each piece stands in the buffer, all of them fill it, and their number fits 32 bits
-pub record IsKept (redo : Inside) : Type 0 where
+pub record IsFilled (redo : Inside) : Type 0 where
   pub fits : All (KeptFits redo.buffer.items) redo.kept.items
-  pub total : sum_by size_of redo.kept.items ≡ length redo.buffer.items
+  pub total : sum_by kept_size redo.kept.items ≡ length redo.buffer.items
   pub few : length redo.kept.items < 2 ^ 32

@@ -4,13 +4,13 @@ use Rattle.jb_disk.specs.declared.file.FileId.TheVariants.{Jhr, Jdt, Jdx, Jlr, J
 use Rattle.jb_disk.specs.declared.call.Call.{Call}
 use Rattle.jb_disk.specs.declared.call.Call.TheVariants.{NoChange, Wrote, Resized, Synced}
 use Rattle.jb_disk.specs.declared.six.Six.{Six}
-use Rattle.jb_disk.specs.Files.{Files, number_of, with_file, written}
+use Rattle.jb_disk.specs.Files.{Files, file_number, with_file, written}
 use Rattle.jb_disk.specs.Images.{Images, just_synced, torn, cut, with_image}
 use Rattle.jb_disk.specs.Device.{Device}
 
 -- six byte strings, in the order of the files' numbers
-abbrev pub listed : List (List ℕ) → Files
-listed strings file = get_or strings (number_of file) []
+abbrev pub files_of_list : List (List ℕ) → Files
+files_of_list strings file = get_or strings (file_number file) []
 
 -- the bytes that six vectors hold
 abbrev pub files_of : Six → Files
@@ -79,8 +79,8 @@ device_after first calls faults = record {
 }
 
 -- the device that a disk in memory is
-abbrev pub device_of : Recording → Device
-device_of disk = device_after (listed disk.first) (reverse disk.calls) disk.faults
+abbrev pub memory_device : Recording → Device
+memory_device disk = device_after (files_of_list disk.first) (reverse disk.calls) disk.faults
 
 -- a device that holds these files, each of them synced, and has done nothing yet
 abbrev pub fresh_device : Files → Device

@@ -9,7 +9,7 @@ use Rattle.jb_disk.specs.declared.call.Call.TheVariants.{NoChange, Wrote, Resize
 use Rattle.jb_disk.specs.Files.{Files, with_file, overwritten, written}
 use Rattle.jb_disk.specs.Images.{Unsynced, Images, IsLeft, IsImage, just_synced, torn, cut, with_image}
 use Rattle.jb_disk.specs.Device.{TellsAnImage}
-use Rattle.jb_disk.specs.Memory.{listed, of_length, contents_after, images_after, earlier_after, Recording, device_of}
+use Rattle.jb_disk.specs.Memory.{files_of_list, of_length, contents_after, images_after, earlier_after, Recording, memory_device}
 use Rattle.jb_disk.specs.Moments.{AtEach, IsPossible}
 use Rattle.jb_disk.specs.FileLaws.{same_file, with_file-here, with_file-other}
 use Rattle.jb_disk.specs.ImageLaws.{with_image-here, with_image-other, left-synced, left-torn, left-overwritten, left-cut, left-resized}
@@ -71,9 +71,9 @@ newest_of [] none = none
 newest_of (now ∷ earlier) none = now
 
 -- what a disk in memory reads is one of the images that it tells
-pub tells_an_image : (disk : Recording) → TellsAnImage (device_of disk)
+pub tells_an_image : (disk : Recording) → TellsAnImage (memory_device disk)
 tells_an_image disk =
-    let first = listed disk.first in
+    let first = files_of_list disk.first in
     let calls = reverse disk.calls in
     record {
       read = λ files now earlier contents moments.

@@ -14,9 +14,9 @@ pub record RedoView : Type 0 where
   pub spare_bytes : ℕ
 
 -- a piece without its bytes
-abbrev pub head_of : Piece → PieceHead
-head_of (Bytes file at bytes) = record { copy = false; from = file; from_at = 0; to = file; to_at = at; len = length bytes }
-head_of (Copy from from_at to to_at len) = record { copy = true; from = from; from_at = from_at; to = to; to_at = to_at; len = len }
+abbrev pub piece_head : Piece → PieceHead
+piece_head (Bytes file at bytes) = record { copy = false; from = file; from_at = 0; to = file; to_at = at; len = length bytes }
+piece_head (Copy from from_at to to_at len) = record { copy = true; from = from; from_at = from_at; to = to; to_at = to_at; len = len }
 
 -- the bytes that a piece brings with it
 abbrev pub bytes_of : Piece → List ℕ

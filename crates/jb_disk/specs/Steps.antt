@@ -35,9 +35,9 @@ IsCovered [] i = ⊥
 IsCovered (span ∷ spans) i = ((span.at ≤ i) × (i < span.at + length span.bytes)) ⊎ IsCovered spans i
 
 -- each of them ends at or below this length
-abbrev pub IsWithin : List Span → ℕ → Type 0
-IsWithin [] len = Unit {0}
-IsWithin (span ∷ spans) len = (span.at + length span.bytes ≤ len) × IsWithin spans len
+abbrev pub AreWithin : List Span → ℕ → Type 0
+AreWithin [] len = Unit {0}
+AreWithin (span ∷ spans) len = (span.at + length span.bytes ≤ len) × AreWithin spans len
 
 -- a file with all of them written over it, in order
 abbrev pub patched : List Span → List ℕ → List ℕ

@@ -17,8 +17,8 @@ pub record IsTrace (file : Unsynced) (contents : List ℕ) (trace : Trace) : Typ
   pub kept : (i : ℕ) → i < file.least → (IsWritten file.ranges i → ⊥) → slice_index trace.marred.items i ≡ slice_index file.synced i
 
 -- one call more, whatever came before
-abbrev pub Follows : FileId → Call → Trace → Trace → Type 0
-Follows file call old new = (first : Files) (earlier : List Call) → IsTrace (images_after first earlier file) (contents_after first earlier file) old
+abbrev pub FollowsCall : FileId → Call → Trace → Trace → Type 0
+FollowsCall file call old new = (first : Files) (earlier : List Call) → IsTrace (images_after first earlier file) (contents_after first earlier file) old
     → IsTrace (images_after first (call ∷ earlier) file) (contents_after first (call ∷ earlier) file) new
 
 -- it is kept of a file that held these bytes at first, after these calls in order

@@ -14,11 +14,11 @@ pub enum FileId {
 }
 
 impl FileId {
-    ghost use Rattle.jb_disk.specs.Files.{number_of};
+    ghost use Rattle.jb_disk.specs.Files.{file_number};
 
     /// The number by which the journal names the file, from 0.
     pub fn number(self) -> u8
-        ensures { result ≡ number_of self }
+        ensures { result ≡ file_number self }
     {
         match self {
             FileId::Jhr => 0,

@@ -1,7 +1,7 @@
 //! Six files in memory that tell what a crash at each moment may leave.
 ghost use Rattle.std.specs.Prelude.{◌≡◌, ◌⊎◌, ◌+◌, ◌<◌, ◌≤◌, ◌↔◌, IsTrue, ◌++◌, [], ◌∷◌, Contains, length, reverse, true, false, IfOk, IsErr, OnOk, OnErr};
 ghost use Rattle.jb_bytes.specs.Fault.{Rose};
-ghost use Rattle.jb_disk.specs.Memory.{FailsNext, MayFail, listed, device_of, fresh_device, IsQuiet};
+ghost use Rattle.jb_disk.specs.Memory.{FailsNext, MayFail, files_of_list, memory_device, fresh_device, IsQuiet};
 ghost use Rattle.jb_disk.specs.MemoryLaws.{tells_an_image};
 ghost use Rattle.jb_disk.specs.Images.{IsImage};
 ghost use Rattle.jb_disk.specs.Moments.{MightLeave};
@@ -44,13 +44,13 @@ impl Drop for MemDisk {
 impl Model for MemDisk {
     ghost use Rattle.std.specs.Prelude.{◌≡◌, reverse};
     ghost use Rattle.jb_disk.specs.declared.file.FileId.{FileId};
-    ghost use Rattle.jb_disk.specs.Memory.{Recording, listed, files_of, contents_after};
+    ghost use Rattle.jb_disk.specs.Memory.{Recording, files_of_list, files_of, contents_after};
 
     ghost Value = { Recording };
 
     ghost view = { λ disk. record { first = disk.first; calls = disk.calls.items; faults = disk.faults; failing = disk.failing.items } };
 
-    ghost invariant = { λ disk. (file : FileId) → files_of disk.present file ≡ contents_after (listed disk.first) (reverse disk.calls.items) file };
+    ghost invariant = { λ disk. (file : FileId) → files_of disk.present file ≡ contents_after (files_of_list disk.first) (reverse disk.calls.items) file };
 }
 
 impl MemDisk {
@@ -62,7 +62,7 @@ impl MemDisk {
         ensures first { IfOk result (λ disk. disk.first ≡ files) }
         ensures none { IfOk result (λ disk. disk.calls ≡ []) }
         ensures told { IfOk result (λ disk. disk.failing ≡ failing.items) }
-        ensures fresh { IfOk result (λ disk. device_of disk ≡ fresh_device (listed files)) }
+        ensures fresh { IfOk result (λ disk. memory_device disk ≡ fresh_device (files_of_list files)) }
     {
         let present = Six::copy(alloc, &files)?;
         Ok(MemDisk {
@@ -77,7 +77,7 @@ impl MemDisk {
 
     /// What a file holds now. This is no call of the disk.
     pub fn file(&self, file: FileId) -> &[u8]
-        ensures { result.now ≡ contents_after (listed self.now.first) (reverse self.now.calls) file }
+        ensures { result.now ≡ contents_after (files_of_list self.now.first) (reverse self.now.calls) file }
     {
         self.present.file(file)
     }
@@ -97,14 +97,14 @@ impl MemDisk {
         requires known { pick ≤ 3 }
 
         // The disk holds what the pick asks for, synced.
-        ensures fresh { IfOk result (λ disk. device_of disk ≡ fresh_device (listed disk.first)) }
+        ensures fresh { IfOk result (λ disk. memory_device disk ≡ fresh_device (files_of_list disk.first)) }
         ensures found { IfOk result (λ disk. (file : FileId)
             → IsPicked pick (images_at after self.now file) (contents_at after self.now file)
-            (listed disk.first file)) }
+            (files_of_list disk.first file)) }
 
         // A crash after so many calls might have left that.
-        ensures image { IfOk result (λ disk. IsImage (images_at after self.now) (listed disk.first)) }
-        ensures crash { IfOk result (λ disk. MightLeave (device_of self.now).moments (listed disk.first)) }
+        ensures image { IfOk result (λ disk. IsImage (images_at after self.now) (files_of_list disk.first)) }
+        ensures crash { IfOk result (λ disk. MightLeave (memory_device self.now).moments (files_of_list disk.first)) }
     {
         let after = after as usize;
         let files = [
@@ -132,7 +132,7 @@ impl MemDisk {
 }
 
 impl Disk for MemDisk {
-    ghost device = { device_of };
+    ghost device = { memory_device };
 
     ghost fails_next = { FailsNext };
 
@@ -261,7 +261,7 @@ fn note(
 ) -> Result<(), DiskFailed>
     ensures ok { OnOk result (calls.new.items ≡ calls.old.items ++ call ∷ []) }
     ensures err { OnErr result (IsQuiet calls.old.items calls.new.items) }
-    ensures listed { Contains failing.now (length calls.old.items + 1) → IsErr result }
+    ensures files_of_list { Contains failing.now (length calls.old.items + 1) → IsErr result }
     ensures spared { OnErr result (Contains failing.now (length calls.old.items + 1)
         ⊎ (calls.new.items ≡ calls.old.items)) }
     ensures quiet { OnOk result (faults.new ≡ faults.old) }

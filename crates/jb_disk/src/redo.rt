@@ -2,7 +2,7 @@
 ghost use Rattle.std.specs.Prelude.{◌≡◌, ◌+◌, ◌<◌, ◌≤◌, ◌^◌, [], ◌∷◌, ◌++◌, Some, length, sum_by, slice_get, OnOk};
 ghost use Rattle.std.specs.Option.{option_map};
 ghost use Rattle.jb_disk.specs.declared.piece.Piece.TheVariants.{Bytes, Copy};
-ghost use Rattle.jb_disk.specs.RedoView.{head_of, bytes_of, held_by, HasRoom, Spends, SameLists};
+ghost use Rattle.jb_disk.specs.RedoView.{piece_head, bytes_of, held_by, HasRoom, Spends, SameLists};
 
 use crate::{FileId, Length, PieceHead};
 use jb_bytes::OutOfMemory;
@@ -40,11 +40,11 @@ impl Model for Redo {
 
     ghost Value = { RedoView };
 
-    ghost use Rattle.jb_disk.specs.Kept.{change_of, IsKept};
+    ghost use Rattle.jb_disk.specs.Kept.{view_of_redo, IsFilled};
 
-    ghost view = { change_of };
+    ghost view = { view_of_redo };
 
-    ghost invariant = { IsKept };
+    ghost invariant = { IsFilled };
 }
 
 impl Redo {
@@ -169,7 +169,7 @@ impl Redo {
     /// A piece without its bytes, by its number from 0.
     pub fn head(&self, k: u32) -> PieceHead
         requires { k < length self.now.pieces }
-        ensures { Some result ≡ option_map head_of (slice_get self.now.pieces k) }
+        ensures { Some result ≡ option_map piece_head (slice_get self.now.pieces k) }
     {
         self.kept[k as usize].head
     }

@@ -1,7 +1,7 @@
 //! Six files in memory, with no device behind them.
 ghost use Rattle.std.specs.Prelude.{◌≡◌, ◌≢◌, ◌+◌, ◌≤◌, [], length, IfOk, OnOk, OnErr};
 ghost use Rattle.jb_disk.specs.Files.{overwritten};
-ghost use Rattle.jb_disk.specs.Memory.{of_length, listed};
+ghost use Rattle.jb_disk.specs.Memory.{of_length, files_of_list};
 
 use crate::FileId;
 use jb_bytes::{Bytes, OutOfMemory};
@@ -36,7 +36,7 @@ impl Six {
 
     /// A copy of six byte strings, in the order of their numbers.
     pub(crate) fn copy(alloc: Global, files: &[Bytes; 6]) -> Result<Six, OutOfMemory>
-        ensures { IfOk result (λ six. (file : FileId) → files_of six file ≡ listed files.now file) }
+        ensures { IfOk result (λ six. (file : FileId) → files_of six file ≡ files_of_list files.now file) }
     {
         Ok(Six {
             jhr: files[0].as_slice().to_vec(alloc)?,

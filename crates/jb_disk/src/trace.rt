@@ -4,7 +4,7 @@ ghost use Rattle.jb_disk.specs.Files.{overwritten};
 ghost use Rattle.jb_disk.specs.Images.{Unsynced, just_synced, torn, cut};
 ghost use Rattle.jb_disk.specs.Memory.{of_length};
 ghost use Rattle.jb_disk.specs.Crash.{IsPicked};
-ghost use Rattle.jb_disk.specs.Trace.{IsTrace, Follows, HasFollowed};
+ghost use Rattle.jb_disk.specs.Trace.{IsTrace, FollowsCall, HasFollowed};
 
 use crate::FileId;
 use crate::call::Call;
@@ -73,7 +73,7 @@ impl Trace {
         file: FileId,
         call: &Call,
     ) -> Result<(), OutOfMemory>
-        ensures { OnOk result (Follows file call.now self.old self.new) }
+        ensures { OnOk result (FollowsCall file call.now self.old self.new) }
     {
         match call {
             Call::NoChange => Ok(()),

@@ -11,8 +11,8 @@ abbrev pub failures : List RealFile → List Bool
 failures files = map (λ file. file.has_failed_sync) files
 
 -- a sync of this file failed
-abbrev pub HasFailed : List RealFile → ℕ → Type 0
-HasFailed files n = IsTrue (get_or (failures files) n false)
+abbrev pub HasFailedSync : List RealFile → ℕ → Type 0
+HasFailedSync files n = IsTrue (get_or (failures files) n false)
 
 -- of each file but one the same is known
 abbrev pub OthersStay : ℕ → List RealFile → List RealFile → Type 0

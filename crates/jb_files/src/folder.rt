@@ -1,7 +1,7 @@
 //! The six files of a base in their folder, with the system's own errors.
 ghost use Rattle.std.specs.Prelude.{◌≡◌, ◌≢◌, IsErr, IsTrue};
-ghost use Rattle.jb_disk.specs.Files.{number_of};
-ghost use Rattle.jb_files.specs.Failures.{failures, HasFailed, KeepsPaths, OthersStay};
+ghost use Rattle.jb_disk.specs.Files.{file_number};
+ghost use Rattle.jb_files.specs.Failures.{failures, HasFailedSync, KeepsPaths, OthersStay};
 
 use crate::names::Names;
 use crate::real::RealFile;
@@ -75,9 +75,9 @@ impl<R: Files<File = File> + Drop> Folder<R> {
     /// Makes the file where it is not there; then its name is in the folder for good before this answers.
     pub(crate) fn set_len(&mut self, file: FileId, len: u64) -> io::Result<()>
         ensures paths { KeepsPaths self.old.files self.new.files }
-        ensures others { OthersStay (number_of file) self.old.files self.new.files }
-        ensures stays { len ≢ 0 → HasFailed self.old.files (number_of file)
-            → HasFailed self.new.files (number_of file) }
+        ensures others { OthersStay (file_number file) self.old.files self.new.files }
+        ensures stays { len ≢ 0 → HasFailedSync self.old.files (file_number file)
+            → HasFailedSync self.new.files (file_number file) }
         ensures names { IsTrue self.old.names.has_failed_sync → IsErr result
             × IsTrue self.new.names.has_failed_sync }
     {
@@ -114,9 +114,9 @@ impl<R: Files<File = File> + Drop> Folder<R> {
     // Sets the length of a file that is there.
     fn resize(&mut self, file: FileId, len: u64) -> io::Result<()>
         ensures paths { KeepsPaths self.old.files self.new.files }
-        ensures others { OthersStay (number_of file) self.old.files self.new.files }
-        ensures stays { len ≢ 0 → HasFailed self.old.files (number_of file)
-            → HasFailed self.new.files (number_of file) }
+        ensures others { OthersStay (file_number file) self.old.files self.new.files }
+        ensures stays { len ≢ 0 → HasFailedSync self.old.files (file_number file)
+            → HasFailedSync self.new.files (file_number file) }
         ensures names { self.new.names ≡ self.old.names }
     {
         let n = file.number() as usize;
@@ -126,9 +126,9 @@ impl<R: Files<File = File> + Drop> Folder<R> {
     /// A file that is not there is as it is for good.
     pub(crate) fn sync(&mut self, file: FileId) -> io::Result<()>
         ensures paths { KeepsPaths self.old.files self.new.files }
-        ensures others { OthersStay (number_of file) self.old.files self.new.files }
-        ensures stays { HasFailed self.old.files (number_of file) → IsErr result
-            × HasFailed self.new.files (number_of file) }
+        ensures others { OthersStay (file_number file) self.old.files self.new.files }
+        ensures stays { HasFailedSync self.old.files (file_number file) → IsErr result
+            × HasFailedSync self.new.files (file_number file) }
         ensures names { IsTrue self.old.names.has_failed_sync → IsTrue self.new.names.has_failed_sync }
     {
         self.hold()?;

@@ -8,7 +8,7 @@ use Rattle.jb_state.specs.declared.loaded.Loaded.{Loaded}
 use Rattle.jb_state.specs.declared.mark.Mark.{Mark}
 use Rattle.jb_held.proofs.IndexLaws.{counted_index}
 use Rattle.jb_held.specs.Held.{IsKeptWhole}
-use Rattle.jb_held.specs.declared.held.Held.TheInside.{Inside}
+use Rattle.jb_held.specs.declared.held.HeldArea.TheInside.{Inside}
 
 -- one index
 pub one_index : (one other : ReplyIndex) → Some one ≡ Some other → one ≡ other

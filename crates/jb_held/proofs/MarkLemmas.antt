@@ -1,7 +1,6 @@
 -- The mark that is set, by its place.
 use Rattle.std.proofs.Common.{◌≡◌, ℕ, List, [], ◌∷◌, ◌++◌, None, Some, ap, sym, subst}
 use Rattle.std.specs.Prelude.{slice_set}
-use Rattle.jb_marks.proofs.MarkLemmas.{with_mark-first, with_mark-none}
 use Rattle.jb_marks.proofs.OrderLemmas.{ordered-set}
 use Rattle.jb_marks.specs.Order.{IsOrdered}
 use Rattle.jb_state.specs.Places.{IsPlaceOf}
@@ -9,16 +8,7 @@ use Rattle.jb_state.specs.Loaded.{with_marks}
 use Rattle.jb_state.specs.Marks.{with_mark}
 use Rattle.jb_state.specs.declared.loaded.Loaded.{Loaded}
 use Rattle.jb_state.specs.declared.mark.Mark.{Mark}
-
--- in its place
-pub marked_first : (mark : Mark) (place : ℕ) (loaded : Loaded) → IsPlaceOf mark.user_crc mark.user_id loaded.marks (Some place)
-    → with_marks (slice_set loaded.marks place mark) loaded ≡ with_marks (with_mark mark loaded.marks) loaded
-marked_first mark place loaded first = ap (λ (m : List Mark). with_marks m loaded) (sym (with_mark-first mark loaded.marks place first))
-
--- behind the others
-pub marked_last : (mark : Mark) (loaded : Loaded) → IsPlaceOf mark.user_crc mark.user_id loaded.marks None
-    → with_marks (loaded.marks ++ mark ∷ []) loaded ≡ with_marks (with_mark mark loaded.marks) loaded
-marked_last mark loaded none = ap (λ (m : List Mark). with_marks m loaded) (sym (with_mark-none mark loaded.marks none))
+use Rattle.jb_state.proofs.MarkLaws.{with_mark-first, with_mark-none}
 
 -- a mark in its place leaves the index as it is
 pub ordered_first : (mark : Mark) (place : ℕ) (marks : List Mark) (order : List ℕ) → IsPlaceOf mark.user_crc mark.user_id marks (Some place) → IsOrdered marks order

@@ -21,7 +21,7 @@ use Rattle.jb_link.proofs.LawLemmas.{stays_under_relink}
 use Rattle.jb_state.proofs.LinkedLaws.{linked_slots, linked_state}
 use Rattle.jb_link.specs.IdLists.{IsIdList, id_at}
 use Rattle.jb_link.specs.Index.{IsIndexOf, ReplyIndex}
-use Rattle.jb_link.specs.Kept.{IsKeptList, Keeps}
+use Rattle.jb_link.specs.Kept.{IsKeptList, KeepsReplyTo}
 use Rattle.jb_link.specs.Order.{IsRising, id_order}
 use Rattle.jb_link.proofs.AreaLemmas.{below_base, by_place}
 
@@ -57,10 +57,10 @@ alike_some (Some old) None is some = absurd is
 alike_some (Some old) (Some new) is some = refl
 
 -- what it keeps it keeps on
-keeps_on : (old new : Loaded) (kept number : ℕ) → Alike (loaded_at old number) (loaded_at new number) → Keeps old kept number → Keeps new kept number
+keeps_on : (old new : Loaded) (kept number : ℕ) → Alike (loaded_at old number) (loaded_at new number) → KeepsReplyTo old kept number → KeepsReplyTo new kept number
 keeps_on old new kept number alike keeps = by (loaded_at new number) refl (subst (λ found. Alike found (loaded_at new number)) keeps.live alike)
   where
-    by : (found : Option LoadedMessage) → loaded_at new number ≡ found → Alike (Some keeps.message) (loaded_at new number) → Keeps new kept number
+    by : (found : Option LoadedMessage) → loaded_at new number ≡ found → Alike (Some keeps.message) (loaded_at new number) → KeepsReplyTo new kept number
     by None there is = absurd (subst (λ found. Alike (Some keeps.message) found) there is)
     by (Some message) there is =
         let same : Alike (Some keeps.message) (Some message) = subst (λ found. Alike (Some keeps.message) found) there is in

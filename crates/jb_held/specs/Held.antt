@@ -4,7 +4,7 @@ use Rattle.jb_limits.specs.declared.limits.TheConstants.{MOST_MARKS, MOST_SLOTS}
 use Rattle.jb_marks.specs.Order.{IsOrdered}
 use Rattle.jb_link.specs.Index.{IsIndexOf}
 use Rattle.jb_state.specs.Change.{live_messages}
-use Rattle.jb_held.specs.declared.held.Held.TheInside.{Inside}
+use Rattle.jb_held.specs.declared.held.HeldArea.TheInside.{Inside}
 
 -- the count of live messages and the indexes of marks and of replies are those of what is loaded, and there is room for all
 -- marks and for all slots

@@ -27,7 +27,7 @@ use std::marker::Model;
 /// how many messages are live, the places of the marks by their users, four bytes each, and the replies by what they answer,
 /// with room for as many marks and slots as an area may have, so that a change takes no memory. The marks themselves stand once,
 /// in what is loaded.
-pub struct Held {
+pub struct HeldArea {
     loaded: Loaded,
     live: u32,
     mark_index: MarkIndex,
@@ -35,9 +35,9 @@ pub struct Held {
 }
 
 // Whoever lets go of one does so in one call.
-impl Drop for Held {
+impl Drop for HeldArea {
     fn drop(self) {
-        let Held {
+        let HeldArea {
             loaded: _loaded,
             live: _live,
             mark_index: _mark_index,
@@ -46,7 +46,7 @@ impl Drop for Held {
     }
 }
 
-impl Model for Held {
+impl Model for HeldArea {
     ghost use Rattle.jb_state.specs.declared.loaded.Loaded.{Loaded};
 
     ghost Value = { Loaded };
@@ -58,9 +58,9 @@ impl Model for Held {
     ghost invariant = { IsKeptWhole };
 }
 
-impl Held {
+impl HeldArea {
     /// Keeps an area that was loaded. Its cost is that of four sorts.
-    pub fn of(alloc: Global, loaded: Loaded) -> Result<Held, OutOfMemory>
+    pub fn of(alloc: Global, loaded: Loaded) -> Result<HeldArea, OutOfMemory>
         requires few_slots { length loaded.slots ≤ MOST_SLOTS }
         requires few_marks { length loaded.marks ≤ MOST_MARKS }
         requires numbers { loaded.base + length loaded.slots ≤ 4_294_967_295 }
@@ -69,7 +69,7 @@ impl Held {
         let mark_index = mark_index_of(alloc, &loaded)?;
         let replies = replies_of(alloc, &loaded)?;
         let live = count_live(loaded.slots.as_slice());
-        Ok(Held {
+        Ok(HeldArea {
             loaded,
             live,
             mark_index,

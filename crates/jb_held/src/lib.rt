@@ -9,5 +9,5 @@ mod held;
 mod indexes;
 mod pending;
 
-pub use held::Held;
+pub use held::HeldArea;
 pub use pending::Pending;

@@ -6,7 +6,7 @@ use Rattle.std.specs.Option.{option_copied}
 use Rattle.jb_disk.specs.Device.{Device}
 use Rattle.std.proofs.lemmas.Bool.{and_parts, false≢true}
 use Rattle.std.proofs.lemmas.Slice.Eq.{bytes_eq-Decides}
-use Rattle.jb_disk.specs.Memory.{Recording, device_of}
+use Rattle.jb_disk.specs.Memory.{Recording, memory_device}
 use Rattle.jb_host.specs.declared.shelf.Shelf.{Shelf}
 use Rattle.jb_host.specs.Desk.{Place, has_disk, no_disk, handed_out, or_behind, with_behind, with_place}
 use Rattle.jb_host.specs.Shelves.{is_for, shelved, stands_on}
@@ -91,7 +91,7 @@ shelved-none dir name (shelf ∷ rest) d none =
     ap (λ (b : Bool). if b then stands_on shelf.disk else shelved rest dir name) (none 0 (omega arith)) ∙ shelved-none dir name rest d (λ k low. none (suc k) (omega arith))
 
 -- what was taken off a shelf is what stood there
-pub stood_there : (stood taken : Option Recording) (place : Place) → taken ≡ stood → place ≡ stands_on stood → IfSome taken (λ disk. place ≡ has_disk (device_of disk))
+pub stood_there : (stood taken : Option Recording) (place : Place) → taken ≡ stood → place ≡ stands_on stood → IfSome taken (λ disk. place ≡ has_disk (memory_device disk))
 stood_there stood None place same is = tt
 stood_there stood (Some disk) place same is = is ∙ ap stands_on (sym same)
 
@@ -101,7 +101,7 @@ if_some None P p = tt
 if_some (Some x) P p = p
 
 -- what is lent is what stands there
-pub lent_there : (place : Place) (stood : Option Recording) (lent : Option (Bor Recording)) → option_copied lent ≡ stood → place ≡ stands_on stood → IfSome lent (λ disk. place ≡ has_disk (device_of disk.now))
+pub lent_there : (place : Place) (stood : Option Recording) (lent : Option (Bor Recording)) → option_copied lent ≡ stood → place ≡ stands_on stood → IfSome lent (λ disk. place ≡ has_disk (memory_device disk.now))
 lent_there place stood None same is = tt
 lent_there place stood (Some disk) same is = is ∙ ap stands_on (sym same)
 

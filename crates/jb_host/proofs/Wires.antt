@@ -4,7 +4,7 @@ use Rattle.std.specs.Option.{option_map}
 use Rattle.std.proofs.lemmas.Grind.{common_steps}
 use Rattle.std.proofs.lemmas.List.{same_lists, places}
 use Rattle.jb_bytes.specs.Fault.{Rose}
-use Rattle.jb_host.specs.Wire.{Takes, Sends, Begins}
+use Rattle.jb_host.specs.Wire.{Takes, Sends, IsFrontOf}
 
 pub sends_none : (a : Option (List ℕ)) → Sends a [] a
 sends_none None = refl
@@ -28,7 +28,7 @@ take_then n m xs h = same_lists _ _ (grind (arith, places)) (λ k d h. grind (ar
 pub drop_then : (n m : ℕ) (xs : List ℕ) → m ≤ length xs - n → drop n xs ≡ take m (take (length xs - n) (drop n xs)) ++ drop (n + m) xs
 drop_then n m xs h = same_lists _ _ (grind (arith, places)) (λ k d h. grind (arith, places))
 
-pub begins_take : (n : ℕ) (xs : List ℕ) → n < length xs → Begins (take n xs) xs
+pub begins_take : (n : ℕ) (xs : List ℕ) → n < length xs → IsFrontOf (take n xs) xs
 begins_take n xs more = record { rest = drop n xs; is = grind (arith, common_steps); more = grind (arith, places) }
 
 pub rose_later : (a b c d : ℕ) → a ≤ b → Rose b c → c ≤ d → Rose a d

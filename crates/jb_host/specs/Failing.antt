@@ -3,5 +3,5 @@ use Rattle.std.specs.Prelude.{◌+◌, ◌-◌, ◌^◌, min, Contains}
 use Rattle.jb_host.specs.declared.failing.Failing.{Failing}
 
 -- the call that comes next is one of them
-abbrev pub FailsNext : Failing → Type 0
-FailsNext failing = Contains failing.numbers.items (min (failing.calls + 1) (2 ^ 64 - 1))
+abbrev pub IsFailingNext : Failing → Type 0
+IsFailingNext failing = Contains failing.numbers.items (min (failing.calls + 1) (2 ^ 64 - 1))

@@ -1,7 +1,7 @@
 -- The disks, settings and calls of a host in memory, and all that it tells.
 use Rattle.std.specs.Prelude.{◌≡◌, ℕ, ◌<◌, bytes_eq, ◌&&◌, Bool, true, false, List, [], ◌∷◌, length, map, slice_index_or, Option, Some, None, if◌then◌else◌}
 use Rattle.std.specs.Option.{option_map}
-use Rattle.jb_disk.specs.Memory.{Recording, device_of}
+use Rattle.jb_disk.specs.Memory.{Recording, memory_device}
 use Rattle.jb_host.specs.declared.asking.Asking.{Asking}
 use Rattle.jb_host.specs.declared.asking.Call.{Call}
 use Rattle.jb_host.specs.declared.asking.Call.TheVariants as call
@@ -20,7 +20,7 @@ is_for dir name shelf = bytes_eq dir shelf.dir && bytes_eq name shelf.name
 -- what stands on a shelf
 abbrev pub stands_on : Option Recording → Place
 stands_on None = handed_out
-stands_on (Some disk) = has_disk (device_of disk)
+stands_on (Some disk) = has_disk (memory_device disk)
 
 -- what the shelves hold, by folder and name: the first shelf with them tells
 abbrev pub shelved : List Shelf → Disks
@@ -28,16 +28,16 @@ shelved [] dir name = no_disk
 shelved (shelf ∷ shelves) dir name = if is_for dir name shelf then stands_on shelf.disk else shelved shelves dir name
 
 -- the place of the first shelf with this folder and name, or none has them
-abbrev pub IsAt : List Shelf → List ℕ → List ℕ → Option ℕ → Type 0
-IsAt shelves dir name None = (k : ℕ) (d : Shelf) → k < length shelves → is_for dir name (slice_index_or shelves k d) ≡ false
-IsAt shelves dir name (Some k) =
+abbrev pub IsShelfAt : List Shelf → List ℕ → List ℕ → Option ℕ → Type 0
+IsShelfAt shelves dir name None = (k : ℕ) (d : Shelf) → k < length shelves → is_for dir name (slice_index_or shelves k d) ≡ false
+IsShelfAt shelves dir name (Some k) =
     (k < length shelves) × ((d : Shelf) → is_for dir name (slice_index_or shelves k d) ≡ true)
     × ((j : ℕ) (d : Shelf) → j < k → is_for dir name (slice_index_or shelves j d) ≡ false)
 
 -- what the pages hold, by path: the first page with it tells
-abbrev pub written : List Page → Pages
-written [] path = None
-written (page ∷ pages) path = if bytes_eq path page.path then Some page.bytes else written pages path
+abbrev pub pages_written : List Page → Pages
+pages_written [] path = None
+pages_written (page ∷ pages) path = if bytes_eq path page.path then Some page.bytes else pages_written pages path
 
 -- what a call asked for
 abbrev pub asked_by : Call → HostCall
@@ -56,7 +56,7 @@ standing host = shelved host.shelves.items
 
 -- its settings files
 abbrev pub written_in : MemHost → Pages
-written_in host = written host.pages.items
+written_in host = pages_written host.pages.items
 
 -- a host in memory, which tells all
 abbrev pub memory_desk : MemHost → Desk
@@ -78,7 +78,7 @@ empty_desk console reading = record {
   faults = 0;
   calls = Some [];
   disks = Some (shelved []);
-  settings = Some (written []);
+  settings = Some (pages_written []);
   console = Some console;
   reading = Some reading;
   waiting = Some [];

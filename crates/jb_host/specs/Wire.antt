@@ -24,7 +24,7 @@ abbrev pub Sends : Option (List ℕ) → List ℕ → Option (List ℕ) → Type
 Sends before bytes now = now ≡ option_map (λ sent. sent ++ bytes) before
 
 -- the second list begins with the first, and goes on
-pub record Begins {T : Type 0} (front whole : List T) : Type 0 where
+pub record IsFrontOf {T : Type 0} (front whole : List T) : Type 0 where
   pub rest : List T
   pub is : whole ≡ front ++ rest
   pub more : 0 < length rest

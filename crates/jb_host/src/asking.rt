@@ -2,7 +2,7 @@
 ghost use Rattle.std.specs.Prelude.{◌≡◌, ◌≤◌, ◌++◌, ◌∷◌, [], IfErr, IfOk, IsErr, OnOk, Some};
 ghost use Rattle.jb_bytes.specs.Fault.{Rose};
 ghost use Rattle.jb_host.specs.Desk.{HasHostCause, asked_disk, asked_settings, calls_after};
-ghost use Rattle.jb_host.specs.Failing.{FailsNext};
+ghost use Rattle.jb_host.specs.Failing.{IsFailingNext};
 ghost use Rattle.jb_host.specs.Shelves.{asked_by, asked_of};
 
 use crate::failing::Failing;
@@ -97,7 +97,7 @@ impl Asking {
             ≡ calls_after error (asked_by call) (Some (asked_of self.old))) }
         ensures cause { IfErr result (λ error. HasHostCause error self.old.faults self.new.faults) }
         ensures later { self.old.faults ≤ self.new.faults }
-        ensures listed { FailsNext self.old.failing → IsErr result }
+        ensures listed { IsFailingNext self.old.failing → IsErr result }
     {
         if self.calls.push(call).is_err() {
             return Err(HostError::OutOfMemory);

@@ -9,7 +9,7 @@ pub struct Failing {
 }
 
 impl Failing {
-    ghost use Rattle.jb_host.specs.Failing.{FailsNext};
+    ghost use Rattle.jb_host.specs.Failing.{IsFailingNext};
 
     /// These calls are to fail, and none was made yet.
     pub(crate) fn new(numbers: Vec<u64>) -> Failing
@@ -21,7 +21,7 @@ impl Failing {
 
     /// Counts a call, and says whether it is one that fails.
     pub(crate) fn fails(&mut self) -> bool
-        ensures { FailsNext self.old → IsTrue result }
+        ensures { IsFailingNext self.old → IsTrue result }
     {
         self.calls = self.calls.saturating_add(1);
         let number = self.calls;

@@ -75,12 +75,12 @@ impl MemLink {
 }
 
 impl Link for MemLink {
-    ghost use Rattle.jb_host.specs.Failing.{FailsNext};
+    ghost use Rattle.jb_host.specs.Failing.{IsFailingNext};
     ghost use Rattle.jb_host.specs.Memory.{memory_wire};
 
     ghost wire = { memory_wire };
 
-    ghost fails_next = { λ link. FailsNext link.failing };
+    ghost fails_next = { λ link. IsFailingNext link.failing };
 
     fn read(&mut self, into: &mut [u8]) -> Result<usize, LinkFailed> {
         if self.failing.fails() {

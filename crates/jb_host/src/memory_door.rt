@@ -66,12 +66,12 @@ impl MemDoor {
 impl Door for MemDoor {
     type Link = MemLink;
 
-    ghost use Rattle.jb_host.specs.Failing.{FailsNext};
+    ghost use Rattle.jb_host.specs.Failing.{IsFailingNext};
     ghost use Rattle.jb_host.specs.Memory.{memory_gate};
 
     ghost gate = { memory_gate };
 
-    ghost fails_next = { λ door. FailsNext door.failing };
+    ghost fails_next = { λ door. IsFailingNext door.failing };
 
     fn accept(&mut self) -> Result<Accepted<MemLink>, DoorFailed> {
         if self.failing.fails() {

@@ -1,7 +1,7 @@
 //! A host in memory.
 ghost use Rattle.std.specs.Prelude.{◌≡◌, ◌≢◌, ◌++◌, ◌∷◌, [], Some, None, IfNone, IfSome, OnErr, OnOk};
 ghost use Rattle.jb_disk.specs.Device.{Device};
-ghost use Rattle.jb_disk.specs.Memory.{device_of};
+ghost use Rattle.jb_disk.specs.Memory.{memory_device};
 ghost use Rattle.jb_host.specs.Desk.{has_bell, has_disk, has_door, with_behind, with_page_behind};
 
 use crate::asking::{Asking, Call, disk_call, settings_call};
@@ -75,7 +75,7 @@ impl MemHost {
     /// Adds the disk of a base, behind those that are there.
     pub fn add_disk(&mut self, dir: &str, name: &str, disk: MemDisk) -> Result<(), OutOfMemory>
         ensures ok { OnOk result (memory_desk self.new ≡ record (memory_desk self.old) {
-          disks = Some (with_behind dir.now name.now (has_disk (device_of disk)) (standing self.old));
+          disks = Some (with_behind dir.now name.now (has_disk (memory_device disk)) (standing self.old));
         }) }
         ensures err { OnErr result (memory_desk self.new ≡ memory_desk self.old) }
         ensures kept { self.new.console ≡ self.old.console }
@@ -133,7 +133,7 @@ impl MemHost {
     /// The disk of a base, while it is not out.
     pub fn disk_at(&self, dir: &str, name: &str) -> Option<&MemDisk>
         ensures found { IfSome result (λ disk.
-            standing self.now dir.now name.now ≡ has_disk (device_of disk.now)) }
+            standing self.now dir.now name.now ≡ has_disk (memory_device disk.now)) }
         ensures none { IfNone result ((device : Device)
             → standing self.now dir.now name.now ≢ has_disk device) }
     {
@@ -160,12 +160,12 @@ impl Host for MemHost {
 
     type Clock = MemClock;
 
-    ghost use Rattle.jb_host.specs.Failing.{FailsNext};
+    ghost use Rattle.jb_host.specs.Failing.{IsFailingNext};
     ghost use Rattle.jb_host.specs.Shelves.{memory_desk};
 
     ghost desk = { memory_desk };
 
-    ghost fails_next = { λ host. FailsNext host.asking.failing };
+    ghost fails_next = { λ host. IsFailingNext host.asking.failing };
 
     fn disk(&mut self, dir: &str, name: &str) -> Result<MemDisk, HostError> {
         let call = disk_call(self.alloc, dir, name)?;

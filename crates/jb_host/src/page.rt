@@ -1,6 +1,6 @@
 //! The settings files of a host in memory.
 ghost use Rattle.std.specs.Prelude.{◌≡◌, IfErr, IfNone, IfOk, IfSome, None, Some};
-ghost use Rattle.jb_host.specs.Shelves.{written};
+ghost use Rattle.jb_host.specs.Shelves.{pages_written};
 
 use crate::host::HostError;
 use jb_bytes::Bytes;
@@ -24,8 +24,8 @@ impl Drop for Page {
 
 /// The bytes of the first page with this path.
 fn bytes_at<'a>(pages: &'a [Page], path: &[u8]) -> Option<&'a [u8]>
-    ensures found { IfSome result (λ bytes. written pages.now path.now ≡ Some bytes.now) }
-    ensures none { IfNone result (written pages.now path.now ≡ None) }
+    ensures found { IfSome result (λ bytes. pages_written pages.now path.now ≡ Some bytes.now) }
+    ensures none { IfNone result (pages_written pages.now path.now ≡ None) }
 {
     for k in 0..pages.len() {
         let page = &pages[k];
@@ -42,7 +42,7 @@ pub(crate) fn copy_at(
     pages: &[Page],
     path: &[u8],
 ) -> Result<Option<Bytes>, HostError>
-    ensures ok { IfOk result (λ found. written pages.now path.now ≡ found) }
+    ensures ok { IfOk result (λ found. pages_written pages.now path.now ≡ found) }
     ensures err { IfErr result (λ error. error ≡ HostError.OutOfMemory) }
 {
     match bytes_at(pages, path) {

@@ -1,14 +1,14 @@
 //! The sending of a whole text.
 ghost use Rattle.std.specs.Prelude.{◌≡◌, ℕ, List, OnOk, OnErr};
 ghost use Rattle.jb_bytes.specs.Fault.{HasCause};
-ghost use Rattle.jb_host.specs.Wire.{Begins, Sends};
+ghost use Rattle.jb_host.specs.Wire.{IsFrontOf, Sends};
 
 use crate::{Link, LinkFailed};
 
 /// Sends all of the bytes, in as many writes as the link needs. After a refusal a beginning of them was sent, and never all.
 pub fn send<L: Link>(link: &mut L, bytes: &[u8]) -> Result<(), LinkFailed>
     ensures ok { OnOk result (Sends (L.wire link.old).sent bytes.now (L.wire link.new).sent) }
-    ensures err { OnErr result ((front : List ℕ) × Begins front bytes.now
+    ensures err { OnErr result ((front : List ℕ) × IsFrontOf front bytes.now
         × Sends (L.wire link.old).sent front (L.wire link.new).sent) }
 
     // What stays, and the cause of a refusal.

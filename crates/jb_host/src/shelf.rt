@@ -1,8 +1,8 @@
 //! The disks of a host in memory.
 ghost use Rattle.std.specs.Prelude.{◌≡◌, None, IfNone, IfSome};
-ghost use Rattle.jb_disk.specs.Memory.{device_of};
+ghost use Rattle.jb_disk.specs.Memory.{memory_device};
 ghost use Rattle.jb_host.specs.Desk.{handed_out, has_disk, with_place};
-ghost use Rattle.jb_host.specs.Shelves.{IsAt, shelved};
+ghost use Rattle.jb_host.specs.Shelves.{IsShelfAt, shelved};
 
 use jb_bytes::Bytes;
 use jb_disk::MemDisk;
@@ -27,7 +27,7 @@ impl Drop for Shelf {
 
 /// The place of the first shelf with this folder and name.
 pub(crate) fn shelf_at(shelves: &[Shelf], dir: &[u8], name: &[u8]) -> Option<usize>
-    ensures { IsAt shelves.now dir.now name.now result }
+    ensures { IsShelfAt shelves.now dir.now name.now result }
 {
     for k in 0..shelves.len() {
         let shelf = &shelves[k];
@@ -51,7 +51,7 @@ fn take_off(shelf: &mut Shelf) -> Option<MemDisk>
 /// Takes the disk off the first shelf with this folder and name, if one stands there.
 pub(crate) fn take_from(shelves: &mut Vec<Shelf>, dir: &[u8], name: &[u8]) -> Option<MemDisk>
     ensures found { IfSome result (λ disk.
-        shelved shelves.old.items dir.now name.now ≡ has_disk (device_of disk)) }
+        shelved shelves.old.items dir.now name.now ≡ has_disk (memory_device disk)) }
     ensures out { IfSome result (λ _. shelved shelves.new.items
         ≡ with_place dir.now name.now handed_out (shelved shelves.old.items)) }
     ensures none { IfNone result (shelves.new.items ≡ shelves.old.items) }
@@ -67,7 +67,7 @@ pub(crate) fn take_from(shelves: &mut Vec<Shelf>, dir: &[u8], name: &[u8]) -> Op
 /// Puts a disk on the first shelf with this folder and name, if there is one.
 pub(crate) fn put_on(shelves: &mut Vec<Shelf>, dir: &[u8], name: &[u8], disk: MemDisk)
     ensures { shelved shelves.old.items dir.now name.now ≡ handed_out
-        → shelved shelves.new.items ≡ with_place dir.now name.now (has_disk (device_of disk))
+        → shelved shelves.new.items ≡ with_place dir.now name.now (has_disk (memory_device disk))
         (shelved shelves.old.items) }
 {
     if let Some(k) = shelf_at(shelves.as_slice(), dir, name) {

@@ -12,7 +12,7 @@ use Rattle.jb_record.specs.declared.fixed.FixedHeader.{FixedHeader}
 use Rattle.jb_image.specs.declared.lengths.Lengths.{Lengths}
 use Rattle.jb_image.specs.Answers.{OpensTo}
 use Rattle.jb_image.specs.Lengths.{AreLengths}
-use Rattle.jb_image.specs.Places.{bytes_at, fixed_in, mark_in}
+use Rattle.jb_image.specs.Places.{bytes_at, fixed_in, mark_record_at}
 use Rattle.jb_image.specs.Reading.{AreMarksIn, AreSlotsOf, IsCount}
 use Rattle.jb_image.specs.Stands.{fixed_of, mark_record}
 
@@ -37,7 +37,7 @@ opens_to limit files fixed lengths count slots marks loaded are header same is_b
         slots = subst (AreSlotsOf files) (sym slots_is) named;
         apart = subst (AllPairs AreApart) (sym slots_is) apart;
         lastread = omega arith;
-        marks = subst (λ (l : List Mark). (k : ℕ) (d : Mark) → k < length l → mark_record (slice_index_or l k d) ≡ mark_in files k) (sym marks_is) marked.each;
+        marks = subst (λ (l : List Mark). (k : ℕ) (d : Mark) → k < length l → mark_record (slice_index_or l k d) ≡ mark_record_at files k) (sym marks_is) marked.each;
         few_marks = omega (arith, are.lastread, is.few_marks);
         headers_len = headers_len ∙ are.headers;
         texts_len = texts_len ∙ are.texts;

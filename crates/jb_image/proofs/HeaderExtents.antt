@@ -6,7 +6,7 @@ use Rattle.std.proofs.lemmas.Bool.Decides.{nat_tests}
 use Rattle.std.proofs.lemmas.List.{get_or-map, length-map}
 use Rattle.std.proofs.lemmas.List.FromFn.{fill_by_all}
 use Rattle.jb_disk.specs.Files.{Files}
-use Rattle.jb_image.specs.Extents.{AreDisjoint, Holds, IsFirstOverlap}
+use Rattle.jb_image.specs.Extents.{AreDisjoint, HoldsByte, IsFirstOverlap}
 use Rattle.jb_image.specs.declared.extent.Extent.{Extent}
 use Rattle.jb_image.specs.declared.overlapping.Overlap.{Overlap}
 use Rattle.jb_state.specs.Sound.{AreApart, Covers, IsSlotWithin}
@@ -100,7 +100,7 @@ later_refused files base count slots (Some damage) error base_is count_is are wh
     (first_damaged files base (base + length slots) (length slots) damage base_is refl (omega (arith, part)) whole here))
 
 -- a byte that a loaded slot covers is one of the extent that was seen
-pub covers_held : (texts_len : ℕ) (slot : SeenSlot) (made : LoadedSlot) (i : ℕ) → IsLoadedFrom texts_len slot made → Covers made i → Holds (extent_seen slot) i
+pub covers_held : (texts_len : ℕ) (slot : SeenSlot) (made : LoadedSlot) (i : ℕ) → IsLoadedFrom texts_len slot made → Covers made i → HoldsByte (extent_seen slot) i
 covers_held texts_len seen.Empty loaded.Empty i is covers = absurd covers
 covers_held texts_len (seen.Killed header_at) (loaded.Killed loaded_at) i is covers = (omega (arith, is, covers.0), omega (arith, is, covers.1))
 covers_held texts_len (seen.Live message) (loaded.Live letter) i is covers = (omega (arith, is.0, covers.0), omega (arith, is.0, is.2, covers.1))
@@ -140,5 +140,5 @@ all_apart texts_len slots made apart are j k d less low i covers covers' =
     let e : Extent = record { start = 0; len = 0 } in
     let held = covers_held texts_len (slice_index_or slots j seen.Empty) (slice_index_or made j d) i (are.each j seen.Empty d (omega arith)) covers in
     let held' = covers_held texts_len (slice_index_or slots k seen.Empty) (slice_index_or made k d) i (are.each k seen.Empty d low) covers' in
-    apart j k e less (omega arith) i (subst (λ (x : Extent). Holds x i) (sym (extent_at slots j e seen.Empty (omega arith))) held)
-    (subst (λ (x : Extent). Holds x i) (sym (extent_at slots k e seen.Empty (omega arith))) held')
+    apart j k e less (omega arith) i (subst (λ (x : Extent). HoldsByte x i) (sym (extent_at slots j e seen.Empty (omega arith))) held)
+    (subst (λ (x : Extent). HoldsByte x i) (sym (extent_at slots k e seen.Empty (omega arith))) held')

@@ -8,7 +8,7 @@ use Rattle.std.proofs.lemmas.List.Elements.{filter_passes, All-weaker}
 use Rattle.std.proofs.lemmas.List.Kept.{AllPairs-filter}
 use Rattle.std.proofs.lemmas.List.Sorted.{All-permutation, IsPermutation-sym}
 use Rattle.jb_image.specs.declared.extent.Extent.{Extent}
-use Rattle.jb_image.specs.Extents.{AreDisjoint, ShareByte, Holds}
+use Rattle.jb_image.specs.Extents.{AreDisjoint, ShareByte, HoldsByte}
 use Rattle.jb_image.specs.OverlapSearch.{SaysDisjoint}
 use Rattle.jb_image.proofs.Pairs.{all_pairs_permutation, all_pairs_from_filter}
 
@@ -21,7 +21,7 @@ abbrev pub meet : Extent → Extent → Bool
 meet one other = (has_bytes one && has_bytes other) && (ltb one.start (other.start + other.len) && ltb other.start (one.start + one.len))
 
 -- a byte of both
-meet_from_byte : (one other : Extent) (i : ℕ) → Holds one i → Holds other i → meet one other ≡ true
+meet_from_byte : (one other : Extent) (i : ℕ) → HoldsByte one i → HoldsByte other i → meet one other ≡ true
 meet_from_byte one other i first second =
     let bytes = and_from (has_bytes one) (has_bytes other) (lt-ltb 0 one.len (omega (arith, first.0, first.1))) (lt-ltb 0 other.len (omega (arith, second.0, second.1))) in
     let ends = and_from (ltb one.start (other.start + other.len)) (ltb other.start (one.start + one.len))

@@ -7,7 +7,7 @@ use Rattle.std.proofs.lemmas.List.{get_or-take, get_or_default, take_more}
 use Rattle.std.proofs.lemmas.List.Quantifiers.{all_pairs_push}
 use Rattle.jb_image.specs.declared.extent.Extent.{Extent}
 use Rattle.jb_image.specs.declared.overlapping.Overlap.{Overlap}
-use Rattle.jb_image.specs.Extents.{AreDisjoint, Holds, ShareByte, IsFirstOverlap}
+use Rattle.jb_image.specs.Extents.{AreDisjoint, HoldsByte, ShareByte, IsFirstOverlap}
 use Rattle.jb_image.specs.OverlapSearch.{IsDisjointFromAll, IsLowestOther, IsLowestPartner}
 
 -- one that shares no byte with any before it is not the lowest that does
@@ -68,7 +68,7 @@ not_before xs overlap again same first second = elim (cases_lt overlap.one again
   | inl below ↦
       let d : Extent = record { start = 0; len = 0 } in
       let byte = first.shared d in
-      absurd (second.lowest_one overlap.one d below byte.0 byte.1 (subst (λ n. Holds (get_or xs n d) byte.0) same byte.2))
+      absurd (second.lowest_one overlap.one d below byte.0 byte.1 (subst (λ n. HoldsByte (get_or xs n d) byte.0) same byte.2))
   | inr reached ↦ reached
 ]
 

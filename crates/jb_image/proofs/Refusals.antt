@@ -9,7 +9,7 @@ use Rattle.jb_image.specs.declared.error.OpenError.{OpenError}
 use Rattle.jb_image.specs.declared.error.OpenError.TheVariants as refused
 use Rattle.jb_image.specs.declared.error.ReadError.{ReadError}
 use Rattle.jb_image.specs.declared.error.ReadError.TheVariants as unread
-use Rattle.jb_image.specs.Answers.{IsDamaged, IsFirstDamaged, opening_of, refusal_of}
+use Rattle.jb_image.specs.Answers.{IsDamaged, IsFirstDamaged, unopened, refusal_of}
 use Rattle.jb_image.specs.Places.{entry_in, fixed_in}
 use Rattle.jb_image.specs.Reading.{IsRefusedAmongSlots, IsRefusedBySlot}
 use Rattle.jb_image.specs.Tests.{IsWholeSlot, slots_in}
@@ -61,12 +61,12 @@ refused_among_slots files (refused.HeadersOverlap a b) is = absurd is
 refused_among_slots files _ is = is
 
 -- a part that is not read is no refusal of a slot
-opened_refused : (files : Files) (part : ReadError) → IsRefusedBySlot files (opening_of part)
+opened_refused : (files : Files) (part : ReadError) → IsRefusedBySlot files (unopened part)
 opened_refused files unread.StoreFault = tt
 opened_refused files unread.OutOfMemory = tt
 
 -- the same of what is answered then
-pub opening_refused : {T : Type 0} (result : Result T OpenError) (contents : Option Files) (part : ReadError) → IsErrAnd result (λ (error : OpenError). error ≡ opening_of part)
+pub opening_refused : {T : Type 0} (result : Result T OpenError) (contents : Option Files) (part : ReadError) → IsErrAnd result (λ (error : OpenError). error ≡ unopened part)
     → IfErr result (λ (error : OpenError). ForSome contents (λ files. IsRefusedBySlot files error))
 opening_refused (Ok value) contents part is = tt
 opening_refused (Err error) contents part is = λ files contents_is. subst (IsRefusedBySlot files) (sym is) (opened_refused files part)

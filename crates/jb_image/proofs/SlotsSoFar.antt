@@ -10,7 +10,7 @@ use Rattle.jb_disk.specs.Files.{Files}
 use Rattle.jb_state.specs.declared.loaded.LoadedSlot.{LoadedSlot}
 use Rattle.jb_state.specs.declared.mark.Mark.{Mark}
 use Rattle.jb_image.specs.declared.seen.SeenSlot.{SeenSlot}
-use Rattle.jb_image.specs.Places.{entry_in, mark_in}
+use Rattle.jb_image.specs.Places.{entry_in, mark_record_at}
 use Rattle.jb_image.specs.Reading.{AreSlotsOf, IsLoadedFrom, IsSeenAs, IsSeenWithin}
 use Rattle.jb_image.specs.Stands.{HasSlot, mark_record}
 use Rattle.jb_image.specs.Tests.{IsWholeSlot}
@@ -116,11 +116,11 @@ pub record AreMarksSoFar (old now : Device) (k : ℕ) (marks : List Mark) : Type
   pub kept : OnlyReads old now
   pub quiet : now.faults ≡ old.faults
   pub count_is : length marks ≡ k
-  pub told : ForSome old.contents (λ files. (j : ℕ) (d : Mark) → j < length marks → mark_record (slice_index_or marks j d) ≡ mark_in files j)
+  pub told : ForSome old.contents (λ files. (j : ℕ) (d : Mark) → j < length marks → mark_record (slice_index_or marks j d) ≡ mark_record_at files j)
 
 -- one mark more
 pub AreMarksSoFar-next : (old mid new : Device) (k : ℕ) (marks pushed : List Mark) (mark : Mark) → AreMarksSoFar old mid k marks → OnlyReads mid new
-    → new.faults ≡ mid.faults → pushed ≡ marks ++ mark ∷ [] → ForSome mid.contents (λ files. mark_record mark ≡ mark_in files k)
+    → new.faults ≡ mid.faults → pushed ≡ marks ++ mark ∷ [] → ForSome mid.contents (λ files. mark_record mark ≡ mark_record_at files k)
     → AreMarksSoFar old new (k + 1) pushed
 AreMarksSoFar-next old mid new k marks pushed mark so_far kept quiet pushed_is told =
     subst (AreMarksSoFar old new (k + 1)) (sym pushed_is) (record {
@@ -128,6 +128,6 @@ AreMarksSoFar-next old mid new k marks pushed mark so_far kept quiet pushed_is t
       quiet = quiet ∙ so_far.quiet;
       count_is = length_push marks mark ∙ ap (λ (n : ℕ). n + 1) so_far.count_is;
       told = λ files contents_is.
-          each_push (λ j m. mark_record m ≡ mark_in files j) marks mark k so_far.count_is (so_far.told files contents_is)
+          each_push (λ j m. mark_record m ≡ mark_record_at files j) marks mark k so_far.count_is (so_far.told files contents_is)
           (told files (so_far.kept.contents ∙ contents_is));
     })

@@ -23,7 +23,7 @@ use Rattle.jb_image.specs.declared.error.Damage.TheVariants as damaged
 use Rattle.jb_image.specs.declared.error.OpenError.TheVariants as refused
 use Rattle.jb_image.specs.Answers.{AreFirstOverlap, FailsAsFiles, IsDamaged, IsFirstDamaged, OpensTo}
 use Rattle.jb_image.specs.Laws.{HasOneStateAtMost, IsNotRefusedWhereOpen}
-use Rattle.jb_image.specs.Extents.{Holds}
+use Rattle.jb_image.specs.Extents.{HoldsByte}
 use Rattle.jb_image.specs.Overlaps.{extent_in, extents_in}
 use Rattle.jb_image.specs.declared.extent.Extent.{Extent}
 use Rattle.jb_image.specs.Places.{bytes_at, entry_in, header_in}
@@ -156,21 +156,21 @@ opened_whole limit files loaded opens k low =
     has_slot_whole files (entry_in files k) (slice_index_or loaded.slots k Empty) (opens.loads.slots k Empty (omega arith))
 
 -- a byte of a header's extent in the files is covered by the slot
-covers_held : (files : Files) (entry : IndexRecord) (slot : LoadedSlot) (i : ℕ) → HasSlot files entry slot → Holds (extent_in files entry) i → Covers slot i
+covers_held : (files : Files) (entry : IndexRecord) (slot : LoadedSlot) (i : ℕ) → HasSlot files entry slot → HoldsByte (extent_in files entry) i → Covers slot i
 covers_held files entry Empty i is held =
-    let none = subst (λ (e : Extent). Holds e i) (extent_empty entry.offset _ _ is) held in
+    let none = subst (λ (e : Extent). HoldsByte e i) (extent_empty entry.offset _ _ is) held in
     absurd (omega (arith, none.0, none.1))
 covers_held files entry (Killed header_at) i is held =
     let killed = subst (λ (n : ℕ). IsDeleted (header_in files n)) (sym is.0) is.1.deleted in
     let extent_is = extent_killed (header_in files entry.offset) killed in
-    let some = subst (λ (e : Extent). Holds e i) (extent_full entry.offset _ _ (λ empty. absurd (omega (arith, empty, is.0, is.1.header.placed.below)))) held in
+    let some = subst (λ (e : Extent). HoldsByte e i) (extent_full entry.offset _ _ (λ empty. absurd (omega (arith, empty, is.0, is.1.header.placed.below)))) held in
     (omega (arith, is.0, some.0), omega (arith, is.0, some.1))
 covers_held files entry (Live message) i is held =
     let live = subst (λ (n : ℕ). IsUndeleted (header_in files n)) (sym is.1) is.2.live.live in
     let extent_is = extent_live (header_in files entry.offset) live in
     let fields : length (subfield_bytes message.subfields) ≡ (header_in files entry.offset).subfields =
     subfields_len files message is.2 ∙ ap (λ (n : ℕ). (header_in files n).subfields) (sym is.1) in
-    let some = subst (λ (e : Extent). Holds e i) (extent_full entry.offset _ _ (λ empty. absurd (omega (arith, empty, is.1, is.2.header.placed.below)))) held in
+    let some = subst (λ (e : Extent). HoldsByte e i) (extent_full entry.offset _ _ (λ empty. absurd (omega (arith, empty, is.1, is.2.header.placed.below)))) held in
     (omega (arith, is.1, some.0), omega (arith, is.1, some.1))
 
 -- the extent at a place is that of the header which the index names there
@@ -190,9 +190,9 @@ opened_apart limit files loaded a b opens first =
     let shared = first.first.shared d in
     opens.loads.apart one other Empty order inside shared.0
     (covers_held files (entry_in files one) _ shared.0 (opens.loads.slots one Empty (omega arith))
-    (subst (λ (e : Extent). Holds e shared.0) (extent_there files one d (omega arith)) shared.1))
+    (subst (λ (e : Extent). HoldsByte e shared.0) (extent_there files one d (omega arith)) shared.1))
     (covers_held files (entry_in files other) _ shared.0 (opens.loads.slots other Empty inside)
-    (subst (λ (e : Extent). Holds e shared.0) (extent_there files other d low) shared.2))
+    (subst (λ (e : Extent). HoldsByte e shared.0) (extent_there files other d low) shared.2))
 
 -- a first damaged slot is damaged
 opened_slots : (limit : ℕ) (files : Files) (loaded : Loaded) (number : ℕ) (damage : Damage) → OpensTo limit files loaded → IsFirstDamaged files number damage → ⊥

@@ -5,7 +5,7 @@ use Rattle.jb_disk.specs.Files.{Files}
 use Rattle.jb_disk.specs.declared.file.FileId.{FileId}
 use Rattle.jb_image.specs.declared.window.Window.{Window}
 use Rattle.jb_image.specs.Places.{bytes_at}
-use Rattle.jb_image.specs.Windows.{Covers, IsWindowOn, ShowsIn, seen_at}
+use Rattle.jb_image.specs.Windows.{WindowCovers, IsWindowOn, ShowsIn, seen_at}
 
 -- a part of a part of a file is a part of the file
 part_of : (at len begin n : ℕ) (file held : List ℕ) → begin ≤ at → at + len ≤ begin + n → held ≡ bytes_at begin n file
@@ -21,7 +21,7 @@ part_of at len begin n file held from to is =
     ∙ ap (λ (l : List ℕ). take len l) (drop-drop k begin file) ∙ ap (λ (m : ℕ). take len (drop m file)) place
 
 -- what a window holds is what the file has
-pub seen_shown : (files : Files) (window : Window) (at len : ℕ) → ShowsIn window files → Covers at len window
+pub seen_shown : (files : Files) (window : Window) (at len : ℕ) → ShowsIn window files → WindowCovers at len window
     → seen_at at len window ≡ bytes_at at len (files window.file)
 unfolding seen_at
 seen_shown files window at len shows covers =

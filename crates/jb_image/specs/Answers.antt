@@ -83,9 +83,9 @@ AnswersFor limit files (Ok loaded) = OpensTo limit files loaded
 AnswersFor limit files (Err error) = IsRefusedBy limit files error
 
 -- a part that is not read, as a base that is not opened
-abbrev pub opening_of : ReadError → OpenError
-opening_of FaultInPart = refused.StoreFault
-opening_of NoMemoryForPart = refused.OutOfMemory
+abbrev pub unopened : ReadError → OpenError
+unopened FaultInPart = refused.StoreFault
+unopened NoMemoryForPart = refused.OutOfMemory
 
 -- a damaged slot of this number, as a base that is not opened
 abbrev pub refusal_of : ℕ → Damage → OpenError

@@ -4,16 +4,16 @@ use Rattle.jb_image.specs.declared.extent.Extent.{Extent}
 use Rattle.jb_image.specs.declared.overlapping.Overlap.{Overlap}
 
 -- this byte of the file belongs to the extent
-abbrev pub Holds : Extent → ℕ → Type 0
-Holds extent i = (extent.start ≤ i) × (i < extent.start + extent.len)
+abbrev pub HoldsByte : Extent → ℕ → Type 0
+HoldsByte extent i = (extent.start ≤ i) × (i < extent.start + extent.len)
 
 -- no byte belongs to both
 abbrev pub AreDisjoint : Extent → Extent → Type 0
-AreDisjoint one other = (i : ℕ) → Holds one i → Holds other i → ⊥
+AreDisjoint one other = (i : ℕ) → HoldsByte one i → HoldsByte other i → ⊥
 
 -- some byte belongs to both
 abbrev pub ShareByte : Extent → Extent → Type 0
-ShareByte one other = (i : ℕ) × Holds one i × Holds other i
+ShareByte one other = (i : ℕ) × HoldsByte one i × HoldsByte other i
 
 -- `other` is the lowest place that shares a byte with a lower one, and `one` the lowest that shares a byte with it
 pub record IsFirstOverlap (extents : List Extent) (overlap : Overlap) : Type 0 where

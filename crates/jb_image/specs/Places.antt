@@ -24,8 +24,8 @@ abbrev pub entry_in : Files → ℕ → IndexRecord
 entry_in files k = index_record_of (bytes_at (8 * k) 8 (files Jdx))
 
 -- the lastread record at a place of its file, counted in records
-abbrev pub mark_in : Files → ℕ → MarkRecord
-mark_in files k = lastread_record_of (bytes_at (16 * k) 16 (files Jlr))
+abbrev pub mark_record_at : Files → ℕ → MarkRecord
+mark_record_at files k = lastread_record_of (bytes_at (16 * k) 16 (files Jlr))
 
 -- the message header at a place of .JHR, in bytes
 abbrev pub header_in : Files → ℕ → MessageHeader

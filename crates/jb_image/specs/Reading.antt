@@ -7,7 +7,7 @@ use Rattle.jb_bytes.specs.declared.subfield.Subfield.{Subfield}
 use Rattle.jb_bytes.specs.Subfields.{IsCutAt, IsSubfieldList, subfield_bytes}
 use Rattle.jb_disk.specs.Files.{Files}
 use Rattle.jb_disk.specs.declared.file.FileId.TheVariants.{Jhr}
-use Rattle.jb_image.specs.Extents.{Holds, IsFirstOverlap}
+use Rattle.jb_image.specs.Extents.{HoldsByte, IsFirstOverlap}
 use Rattle.jb_image.specs.declared.extent.Extent.{Extent}
 use Rattle.jb_image.specs.declared.overlapping.Overlap.{Overlap}
 use Rattle.jb_state.specs.declared.loaded.LoadedSlot.{LoadedSlot}
@@ -48,8 +48,8 @@ extent_seen (seen.Live message) = record { start = message.header_at; len = 76 +
 -- headers that end here end there with these bytes, none of which lies before them
 pub record IsEndBehind (extent : Extent) (end behind : ℕ) : Type 0 where
   pub later : end ≤ behind
-  pub begin : (i : ℕ) → Holds extent i → end ≤ i
-  pub below : (i : ℕ) → Holds extent i → i < behind
+  pub begin : (i : ℕ) → HoldsByte extent i → end ≤ i
+  pub below : (i : ℕ) → HoldsByte extent i → i < behind
 
 -- the index record names this killed header
 pub record IsSeenKilled (files : Files) (entry : IndexRecord) (header_at : ℕ) : Type 0 where

@@ -20,7 +20,7 @@ use Rattle.jb_record.specs.declared.lastread.MarkRecord.{MarkRecord}
 use Rattle.jb_record.specs.declared.message.MessageHeader.{MessageHeader}
 use Rattle.jb_record.specs.Fixed.{IsFixedHeader}
 use Rattle.jb_record.specs.Message.{IsMessageHeader}
-use Rattle.jb_image.specs.Places.{bytes_at, fixed_in, entry_in, mark_in, header_in}
+use Rattle.jb_image.specs.Places.{bytes_at, fixed_in, entry_in, mark_record_at, header_in}
 
 -- what a message keeps of its header
 abbrev pub head_of : MessageHeader → Head
@@ -106,7 +106,7 @@ pub record Loads (loaded : Loaded) (files : Files) : Type 0 where
   pub apart : AllPairs AreApart loaded.slots
   -- the marks
   pub lastread : length (files Jlr) ≡ 16 * length loaded.marks
-  pub marks : (k : ℕ) (d : Mark) → k < length loaded.marks → mark_record (slice_index_or loaded.marks k d) ≡ mark_in files k
+  pub marks : (k : ℕ) (d : Mark) → k < length loaded.marks → mark_record (slice_index_or loaded.marks k d) ≡ mark_record_at files k
   pub few_marks : length loaded.marks ≤ MOST_MARKS
   -- the lengths
   pub headers_len : loaded.headers_len ≡ length (files Jhr)

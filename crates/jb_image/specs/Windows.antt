@@ -7,7 +7,7 @@ use Rattle.jb_image.specs.declared.window.Window.{Window}
 use Rattle.jb_image.specs.Places.{bytes_at}
 
 -- the window holds so many bytes from this place of its file on
-pub record Covers (at len : ℕ) (window : Window) : Type 0 where
+pub record WindowCovers (at len : ℕ) (window : Window) : Type 0 where
   pub from : window.at ≤ at
   pub to : at + len ≤ window.at + length window.bytes.items
 

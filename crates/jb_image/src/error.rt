@@ -1,6 +1,6 @@
 //! Why the files of a base are not opened.
 ghost use Rattle.std.specs.Prelude.{◌≡◌};
-ghost use Rattle.jb_image.specs.Answers.{opening_of, refusal_of};
+ghost use Rattle.jb_image.specs.Answers.{unopened, refusal_of};
 ghost use Rattle.jb_image.specs.declared.error.OpenError.TheVariants.{OutOfMemory as no_memory_to_open, StoreFault as store_failed};
 ghost use Rattle.jb_image.specs.declared.error.ReadError.TheVariants.{OutOfMemory as no_memory, StoreFault as store_fault};
 
@@ -115,7 +115,7 @@ impl From<DiskFailed> for ReadError {
 }
 
 impl From<ReadError> for OpenError {
-    ghost from_gives = { λ part error. error ≡ opening_of part };
+    ghost from_gives = { λ part error. error ≡ unopened part };
 
     fn from(part: ReadError) -> OpenError {
         match part {

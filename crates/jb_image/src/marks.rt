@@ -4,7 +4,7 @@ ghost use Rattle.std.specs.Option.{ForSome};
 ghost use Rattle.jb_disk.specs.Device.{OnlyReads, CountsFaults};
 ghost use Rattle.jb_disk.specs.declared.file.FileId.TheVariants.{Jlr as lastread_file};
 ghost use Rattle.jb_image.specs.Answers.{is_read_fault};
-ghost use Rattle.jb_image.specs.Places.{mark_in};
+ghost use Rattle.jb_image.specs.Places.{mark_record_at};
 ghost use Rattle.jb_image.specs.Reading.{AreMarksIn};
 ghost use Rattle.jb_image.specs.Stands.{mark_record};
 ghost use Rattle.jb_image.specs.Windows.{IsWindowOn};
@@ -26,7 +26,7 @@ fn read_mark<D: Disk>(
     requires inside { 16 * k + 16 ≤ len }
     requires window { IsWindowOn lastread_file len (D.device disk.old).contents window.old }
     ensures found { IfOk result (λ mark. ForSome (D.device disk.old).contents (λ files.
-        mark_record mark ≡ mark_in files k)) }
+        mark_record mark ≡ mark_record_at files k)) }
     ensures window { IsWindowOn lastread_file len (D.device disk.new).contents window.new }
     ensures kept { OnlyReads (D.device disk.old) (D.device disk.new) }
     ensures faults { CountsFaults is_read_fault (D.device disk.old) (D.device disk.new) result }

@@ -4,7 +4,7 @@ ghost use Rattle.std.specs.Option.{ForSome};
 ghost use Rattle.jb_disk.specs.Device.{OnlyReads, CountsFaults, is_disk_fault};
 ghost use Rattle.jb_image.specs.Answers.{is_read_fault};
 ghost use Rattle.jb_image.specs.Places.{bytes_at};
-ghost use Rattle.jb_image.specs.Windows.{Covers, IsWindowOn, seen_at};
+ghost use Rattle.jb_image.specs.Windows.{WindowCovers, IsWindowOn, seen_at};
 
 use crate::error::ReadError;
 use jb_disk::{Disk, DiskFailed, FileId};
@@ -49,7 +49,7 @@ impl Window {
 
     /// Whether it holds so many bytes from a place on.
     fn holds(&self, at: u64, len: usize) -> bool
-        ensures { IsTrue result ↔ Covers at len self.now }
+        ensures { IsTrue result ↔ WindowCovers at len self.now }
     {
         if at < self.at {
             return false;
@@ -119,7 +119,7 @@ impl Window {
 
         // It holds them, as the file has them.
         ensures on { IsWindowOn self.old.file self.old.file_len (D.device disk.new).contents self.new }
-        ensures covers { OnOk result (Covers at len self.new) }
+        ensures covers { OnOk result (WindowCovers at len self.new) }
         ensures found { OnOk result (ForSome (D.device disk.old).contents (λ files.
             seen_at at len self.new ≡ bytes_at at len (files self.old.file))) }
 
@@ -138,7 +138,7 @@ impl Window {
     pub(crate) fn reach_all<D: Disk>(&mut self, disk: &mut D) -> Result<(), ReadError>
         requires on { IsWindowOn self.old.file self.old.file_len (D.device disk.old).contents self.old }
         ensures on { IsWindowOn self.old.file self.old.file_len (D.device disk.new).contents self.new }
-        ensures covers { OnOk result (Covers 0 self.old.file_len self.new) }
+        ensures covers { OnOk result (WindowCovers 0 self.old.file_len self.new) }
 
         // The disk is only read.
         ensures kept { OnlyReads (D.device disk.old) (D.device disk.new) }
@@ -150,7 +150,7 @@ impl Window {
 
     /// The bytes from a place on, of those that it holds.
     pub(crate) fn view(&self, at: u64, len: usize) -> &[u8]
-        requires { Covers at len self.now }
+        requires { WindowCovers at len self.now }
         ensures value { result.now ≡ seen_at at len self.now }
         ensures size { length result.now ≡ len }
     {

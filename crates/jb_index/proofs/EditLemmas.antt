@@ -5,7 +5,7 @@ use Rattle.std.proofs.lemmas.Bool.{cases_lt, cond_both, eqb-false, ltb-true}
 use Rattle.std.proofs.lemmas.List.{get_or-map, length-map, set_split}
 use Rattle.std.proofs.lemmas.List.Elements.{All-append, All-cons, All-filter, All-head, All-tail, All-weaker, filter_passes}
 use Rattle.jb_state.specs.declared.summary.Summary.{Summary}
-use Rattle.jb_index.specs.Cut.{IsCutAt, NumbersRise}
+use Rattle.jb_index.specs.Cut.{IsSplitAt, NumbersRise}
 use Rattle.jb_index.specs.Edit.{above, below, changed_at, fits, with_summary, without}
 use Rattle.jb_index.proofs.ListLemmas.{filter_all, filter_cut}
 use Rattle.jb_index.proofs.PlaceLemmas.{find_none, is_some_find}
@@ -148,7 +148,7 @@ with_at xs one at rises within is =
         ]
 
 -- one more, where none has its number
-pub with_new : (xs : List Summary) (one : Summary) (at : ℕ) → IsCutAt xs one.number at → All (λ x. (x.number == one.number) ≡ false) xs
+pub with_new : (xs : List Summary) (one : Summary) (at : ℕ) → IsSplitAt xs one.number at → All (λ x. (x.number == one.number) ≡ false) xs
     → insert xs at one ≡ with_summary one xs
 with_new xs one at cut none =
     ap (λ l. l ++ one ∷ drop at xs) (sym (below_is xs one.number at cut.within cut.lower cut.rest))

@@ -5,10 +5,10 @@ use Rattle.std.proofs.lemmas.Bool.{cases_order, cond_both}
 use Rattle.std.proofs.lemmas.Option.{get_or_from_slice_get}
 use Rattle.std.proofs.lemmas.List.{get_or_default}
 use Rattle.jb_state.specs.declared.summary.Summary.{Summary}
-use Rattle.jb_index.specs.Cut.{IsCutAt, IsPlaceOf, NumbersRise}
+use Rattle.jb_index.specs.Cut.{IsSplitAt, IsSummaryPlace, NumbersRise}
 
 -- where another number stands at the place of this one, none has it
-pub not_at : (xs : List Summary) (number at : ℕ) (one : Summary) → NumbersRise xs → IsCutAt xs number at → slice_get xs at ≡ Some one → (one.number ≡ number → ⊥)
+pub not_at : (xs : List Summary) (number at : ℕ) (one : Summary) → NumbersRise xs → IsSplitAt xs number at → slice_get xs at ≡ Some one → (one.number ≡ number → ⊥)
     → All (λ x. (x.number == number) ≡ false) xs
 not_at xs number at one rises cut here other = λ k d within. ne_eqb _ _ (differs k d within)
   where
@@ -27,7 +27,7 @@ not_at xs number at one rises cut here other = λ k d within. ne_eqb _ _ (differ
         ]
 
 -- where no place is found, none has the number
-pub none_there : (xs : List Summary) (number : ℕ) (found : Option ℕ) → IsPlaceOf xs number found → ((at : ℕ) → found ≡ Some at → ⊥) → All (λ x. (x.number == number) ≡ false) xs
+pub none_there : (xs : List Summary) (number : ℕ) (found : Option ℕ) → IsSummaryPlace xs number found → ((at : ℕ) → found ≡ Some at → ⊥) → All (λ x. (x.number == number) ≡ false) xs
 none_there xs number None place other = place
 none_there xs number (Some at) place other = absurd (other at refl)
 

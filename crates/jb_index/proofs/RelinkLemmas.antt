@@ -12,7 +12,7 @@ use Rattle.jb_state.specs.Loaded.{header_size}
 use Rattle.jb_state.specs.PackedState.{emptied, packed_base, packed_slots, packed_state}
 use Rattle.jb_state.specs.Packed.{kept_slots, new_base, packed, packed_from}
 use Rattle.jb_state.specs.Plan.{plan_of}
-use Rattle.jb_state.specs.Relinked.{relinked, relinked_area}
+use Rattle.jb_state.specs.Relinked.{relinked, relinked_area, relink_by}
 use Rattle.jb_state.specs.State.{AreaState, LiveMessage, SlotState, live_message, no_message, slot_state, state_of}
 use Rattle.jb_state.specs.declared.change.Change.TheVariants.{Packed, Relinked}
 use Rattle.jb_state.specs.declared.links.Links.{Links}
@@ -53,10 +53,6 @@ relinked_summaries state later is =
   where
     same : (one : Numbered) → summary_of (map (with_kept (linkables_of state)) (linkables_of state)) (relinked_one (linkables_of state) one) ≡ summary_of (linkables_of state) one
     same one = ap (summary_with one.number one.message.head one.message.subfields) (parent_at-kept (linkables_of state) one.number)
-
--- a relink by what the links of these live messages rest on
-abbrev relink_by : List Linkable → ℕ → LiveMessage → LiveMessage
-relink_by live number message = relinked live (record { number = number; message = message })
 
 -- the area with the links of a plan has the index of the relinked one
 linked_index : (rules : AreaRules) (plan : List Links) (loaded : Loaded) → plan ≡ plan_of (linkables_from loaded.base loaded.slots)

@@ -27,8 +27,8 @@ thread_shown rules user state number =
     else []
 
 -- the first of them
-abbrev pub first_of : AreaState → ℕ → List Numbered → Answer
-first_of state most messages = Listed (map (summary_of (linkables_of state)) (take most messages))
+abbrev pub first_answer : AreaState → ℕ → List Numbered → Answer
+first_answer state most messages = Listed (map (summary_of (linkables_of state)) (take most messages))
 
 -- those with numbers from this one on
 abbrev pub from_on : ℕ → List Numbered → List Numbered
@@ -47,8 +47,8 @@ figures_of rules user state = record {
 
 -- the answer to a question
 abbrev pub answer_of : AreaRules → AreaState → User → Question → Answer
-answer_of rules state user (Listing from most) = first_of state most (from_on from (visible_to rules user state))
-answer_of rules state user (Unread from most) = first_of state most (from_on from (unread_by rules user state))
-answer_of rules state user (Thread number most) = first_of state most (thread_shown rules user state number)
-answer_of rules state user (To from most) = first_of state most (from_on from (to_user rules user state))
+answer_of rules state user (Listing from most) = first_answer state most (from_on from (visible_to rules user state))
+answer_of rules state user (Unread from most) = first_answer state most (from_on from (unread_by rules user state))
+answer_of rules state user (Thread number most) = first_answer state most (thread_shown rules user state number)
+answer_of rules state user (To from most) = first_answer state most (from_on from (to_user rules user state))
 answer_of rules state user Counting = Counted (figures_of rules user state)

@@ -16,7 +16,7 @@ index_in held = record {
 }
 
 -- the numbers rise, and there is room for as many summaries and marks as the area may have
-pub record IsHeld (held : Inside) : Type 0 where
+pub record IsRising (held : Inside) : Type 0 where
   pub rising : NumbersRise held.summaries.items
   pub counted : length held.summaries.items ≤ 4294967295
   pub few : length held.summaries.items ≤ held.rules.slots

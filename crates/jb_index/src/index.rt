@@ -52,11 +52,11 @@ impl Model for Index {
 
     ghost Value = { AreaIndex };
 
-    ghost use Rattle.jb_index.specs.Inside.{IsHeld, index_in};
+    ghost use Rattle.jb_index.specs.Inside.{IsRising, index_in};
 
     ghost view = { index_in };
 
-    ghost invariant = { IsHeld };
+    ghost invariant = { IsRising };
 }
 
 /// These marks, with room for as many as an area may have.

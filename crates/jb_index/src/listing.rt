@@ -1,7 +1,7 @@
 //! Lists of the summaries that a question asks for.
 ghost use Rattle.std.specs.Prelude.{◌≡◌, ◌&&◌, ◌≤◌, IfOk, count_by, drop, filter, length, nat_le, take};
 ghost use Rattle.jb_index.specs.Answer.{is_listed};
-ghost use Rattle.jb_index.specs.Cut.{IsCutAt, IsPlaceOf, NumbersRise};
+ghost use Rattle.jb_index.specs.Cut.{IsSplitAt, IsSummaryPlace, NumbersRise};
 ghost use Rattle.jb_index.specs.Wanted.{is_kind};
 
 use crate::shown::{Wanted, is_wanted};
@@ -13,7 +13,7 @@ use std::alloc::Global;
 /// How many of them have a number below this one.
 pub(crate) fn place_of(summaries: &Tiered<Summary>, number: u32) -> usize
     requires { NumbersRise summaries.now.items }
-    ensures { IsCutAt summaries.now.items number result }
+    ensures { IsSplitAt summaries.now.items number result }
 {
     summaries.partition_point(|one| one.number < number)
 }
@@ -21,7 +21,7 @@ pub(crate) fn place_of(summaries: &Tiered<Summary>, number: u32) -> usize
 /// The place of the one with this number.
 pub(crate) fn numbered_at(summaries: &Tiered<Summary>, number: u32) -> Option<usize>
     requires { NumbersRise summaries.now.items }
-    ensures { IsPlaceOf summaries.now.items number result }
+    ensures { IsSummaryPlace summaries.now.items number result }
 {
     let at = place_of(summaries, number);
     let summary = summaries.get(at)?;

@@ -1,4 +1,4 @@
--- Moments that come one call after another.
+-- Moments that come one call moments_after another.
 use Rattle.std.proofs.Common.{◌≡◌, ℕ, List, [], ◌∷◌, ◌++◌, Option, Some, None, Result, Ok, Err, OnOk, refl, sym, ◌∙◌, ap, subst, append-nil}
 use Rattle.jb_disk.specs.declared.file.FileId.{FileId}
 use Rattle.jb_disk.specs.declared.piece.Length.{Length}
@@ -7,12 +7,12 @@ use Rattle.jb_disk.specs.Files.{Files}
 use Rattle.jb_disk.specs.Images.{Images, just_synced, torn, cut, with_image}
 use Rattle.jb_disk.specs.declared.piece.Piece.{Piece}
 use Rattle.jb_disk.specs.declared.file.FileId.TheVariants.{Jhr, Jdt, Jdx, Jlr, Jnl}
-use Rattle.jb_journal.specs.Coming.{Done, Wrote, Resized, Synced, ComeBy, SyncsIfChanged, SyncsChanged, change_of, after, lengths_of, syncs_of}
+use Rattle.jb_journal.specs.Coming.{Done, Wrote, Resized, Synced, ComeBy, SyncsIfChanged, SyncsChanged, made_by, moments_after, lengths_of, syncs_of}
 
--- one run of calls after another
-after-append : (calls more : List Done) (moments : List Images) → after (calls ++ more) moments ≡ after more (after calls moments)
+-- one run of calls moments_after another
+after-append : (calls more : List Done) (moments : List Images) → moments_after (calls ++ more) moments ≡ moments_after more (moments_after calls moments)
 after-append [] more moments = refl
-after-append (call ∷ calls) more moments = after-append calls more (and_then (change_of call) moments)
+after-append (call ∷ calls) more moments = after-append calls more (and_then (made_by call) moments)
 
 -- their lengths
 lengths-append : (calls more : List Done) → lengths_of (calls ++ more) ≡ lengths_of calls ++ lengths_of more
@@ -36,7 +36,7 @@ come_none moments = record { calls = []; all = refl; lengths_are = refl; syncs_a
 pub come_then : (first second : List Length) (syncs more : List FileId) (a b c : List Images) → ComeBy first syncs a b → ComeBy second more b c → ComeBy (first ++ second) (syncs ++ more) a c
 come_then first second syncs more a b c one other = record {
   calls = one.calls ++ other.calls;
-  all = other.all ∙ ap (after other.calls) one.all ∙ sym (after-append one.calls other.calls a);
+  all = other.all ∙ ap (moments_after other.calls) one.all ∙ sym (after-append one.calls other.calls a);
   lengths_are = lengths-append one.calls other.calls ∙ (λ i. one.lengths_are i ++ other.lengths_are i);
   syncs_are = syncs-append one.calls other.calls ∙ (λ i. one.syncs_are i ++ other.syncs_are i);
 }

@@ -1,4 +1,4 @@
--- Bytes copied part by part from one file into another.
+-- Bytes copied_over part by part from one file into another.
 use Rattle.std.proofs.Common.{◌≡◌, ◌≢◌, ℕ, ◌+◌, ◌-◌, ◌≤◌, List, [], ◌++◌, length, take, drop, refl, ap, sym, ◌∙◌, subst, arith, Some, Result, OnOk, length-take, length-drop}
 use Rattle.std.specs.Option.{ForSome, option_map}
 use Rattle.std.proofs.lemmas.List.{same_lists, places}
@@ -14,7 +14,7 @@ use Rattle.jb_redo.specs.OnTheWay.{IsOnTheWay}
 use Rattle.jb_redo.proofs.WayLemmas.{way_torn}
 use Rattle.jb_journal.specs.Coming.{ComeBy}
 use Rattle.jb_journal.specs.Filing.{IsWrittenBy}
-use Rattle.jb_journal.specs.Writing.{Reaches, copied}
+use Rattle.jb_journal.specs.Writing.{Reaches, copied_over}
 use Rattle.jb_journal.proofs.ComingLemmas.{come_none, come_on}
 use Rattle.jb_journal.proofs.Told.{option_map-same, option_map-twice, option_map-id, written-twice, written-nil, Reaches-written, told_back}
 
@@ -37,13 +37,13 @@ part_keeps lengths pieces start file at len bytes old mid new result reads tells
 take-parts : (xs : List ℕ) (n m : ℕ) → take n xs ++ take m (drop n xs) ≡ take (n + m) xs
 take-parts xs n m = same_lists _ _ (grind (arith, places)) (λ k d h. grind (arith, places))
 
--- the rest of what is to be copied
+-- the rest of what is to be copied_over
 abbrev pub rest_of : FileId → ℕ → FileId → ℕ → ℕ → ℕ → Files → Files
-rest_of from from_at to to_at len moved files = copied from (from_at + moved) to (to_at + moved) (len - moved) files
+rest_of from from_at to to_at len moved files = copied_over from (from_at + moved) to (to_at + moved) (len - moved) files
 
--- a part copied, and then the rest
+-- a part copied_over, and then the rest
 copied-more : (from to : FileId) (from_at to_at len moved count : ℕ) (files : Files) → from ≢ to → moved + count ≤ len → from_at + len ≤ length (files from) → to_at + len ≤ length (files to)
-    → rest_of from from_at to to_at len (moved + count) (copied from (from_at + moved) to (to_at + moved) count files) ≡ rest_of from from_at to to_at len moved files
+    → rest_of from from_at to to_at len (moved + count) (copied_over from (from_at + moved) to (to_at + moved) count files) ≡ rest_of from from_at to to_at len moved files
 copied-more from to from_at to_at len moved count files apart within source target =
     let source_is = files from in
     let front = take count (drop (from_at + moved) source_is) in
@@ -61,10 +61,10 @@ copied-more from to from_at to_at len moved count files apart within source targ
     parts : (xs : List ℕ) → take count (drop (from_at + moved) xs) ++ take (len - (moved + count)) (drop (from_at + (moved + count)) xs) ≡ take (len - moved) (drop (from_at + moved) xs)
     parts xs = same_lists _ _ (grind (arith, places)) (λ k d h. grind (arith, places))
 
--- the rest is still to be copied
+-- the rest is still to be copied_over
 pub record Moving (initial now : Device) (from : FileId) (from_at : ℕ) (to : FileId) (to_at len moved : ℕ) : Type 0 where
   pub within : moved ≤ len
-  pub told : option_map (rest_of from from_at to to_at len moved) now.contents ≡ option_map (copied from from_at to to_at len) initial.contents
+  pub told : option_map (rest_of from from_at to to_at len moved) now.contents ≡ option_map (copied_over from from_at to to_at len) initial.contents
   pub apart : ForSome now.contents (λ files. from ≢ to)
   pub source : Reaches now.contents from (from_at + len)
   pub target : Reaches now.contents to (to_at + len)
@@ -73,7 +73,7 @@ pub record Moving (initial now : Device) (from : FileId) (from_at : ℕ) (to : F
   pub alike : TellsAlike initial now
   pub keeps : (lengths : List Length) (pieces : List Piece) (start : Files) → IsWrittenBy start pieces to to_at len → Keeps (IsOnTheWay lengths pieces start) initial now
 
--- nothing is copied yet
+-- nothing is copied_over yet
 pub moving_start : (device : Device) (from : FileId) (from_at : ℕ) (to : FileId) (to_at len : ℕ) → ForSome device.contents (λ files. from ≢ to) → Reaches device.contents from (from_at + len) → Reaches device.contents to (to_at + len)
     → Moving device device from from_at to to_at len 0
 moving_start device from from_at to to_at len apart source target = record {
@@ -88,20 +88,20 @@ moving_start device from from_at to to_at len apart source target = record {
   keeps = λ lengths pieces start covers. keeps-refl (IsOnTheWay lengths pieces start) device;
 }
   where
-    none : (files : Files) → rest_of from from_at to to_at len 0 files ≡ copied from from_at to to_at len files
+    none : (files : Files) → rest_of from from_at to to_at len 0 files ≡ copied_over from from_at to to_at len files
     none files =
         let a : from_at + 0 ≡ from_at = omega arith in
         let b : to_at + 0 ≡ to_at = omega arith in
         let c : len - 0 ≡ len = omega arith in
-        λ i. copied from (a i) to (b i) (c i) files
+        λ i. copied_over from (a i) to (b i) (c i) files
 
 -- one part more
 pub moving_on : (initial now next : Device) (from : FileId) (from_at : ℕ) (to : FileId) (to_at len moved count : ℕ) → Moving initial now from from_at to to_at len moved → moved + count ≤ len
-    → next.contents ≡ option_map (copied from (from_at + moved) to (to_at + moved) count) now.contents → ComeBy [] [] now.moments next.moments → next.faults ≡ now.faults → TellsAlike now next
+    → next.contents ≡ option_map (copied_over from (from_at + moved) to (to_at + moved) count) now.contents → ComeBy [] [] now.moments next.moments → next.faults ≡ now.faults → TellsAlike now next
     → ((lengths : List Length) (pieces : List Piece) (start : Files) → IsWrittenBy start pieces to (to_at + moved) count → Keeps (IsOnTheWay lengths pieces start) now next)
     → Moving initial next from from_at to to_at len (moved + count)
 moving_on initial now next from from_at to to_at len moved count moving within told come kept alike keeps =
-    let step : Files → Files = copied from (from_at + moved) to (to_at + moved) count in
+    let step : Files → Files = copied_over from (from_at + moved) to (to_at + moved) count in
     let sizes : (files : Files) (end : ℕ) (file : FileId) → now.contents ≡ Some files → end ≤ length (files file) → end ≤ length (step files file) = λ files end file is low.
     (Reaches-written (Some files) (Some (step files)) to file (to_at + moved) end (take count (drop (from_at + moved) (files from))) refl (here files is) (some_low files end file low)) (step files) refl in
     record {
@@ -137,11 +137,11 @@ moving_on initial now next from from_at to to_at len moved count moving within t
 
 -- the same, by the length of the part
 pub moving_by : (initial now next : Device) (from : FileId) (from_at : ℕ) (to : FileId) (to_at len moved count part : ℕ) → Moving initial now from from_at to to_at len moved → moved + count ≤ len → part ≡ count
-    → next.contents ≡ option_map (copied from (from_at + moved) to (to_at + moved) part) now.contents → ComeBy [] [] now.moments next.moments → next.faults ≡ now.faults → TellsAlike now next
+    → next.contents ≡ option_map (copied_over from (from_at + moved) to (to_at + moved) part) now.contents → ComeBy [] [] now.moments next.moments → next.faults ≡ now.faults → TellsAlike now next
     → ((lengths : List Length) (pieces : List Piece) (start : Files) → IsWrittenBy start pieces to (to_at + moved) part → Keeps (IsOnTheWay lengths pieces start) now next)
     → Moving initial next from from_at to to_at len (moved + count)
 moving_by initial now next from from_at to to_at len moved count part moving within size told come kept alike keeps =
-    moving_on initial now next from from_at to to_at len moved count moving within (told ∙ ap (λ (n : ℕ). option_map (copied from (from_at + moved) to (to_at + moved) n) now.contents) size) come kept alike
+    moving_on initial now next from from_at to to_at len moved count moving within (told ∙ ap (λ (n : ℕ). option_map (copied_over from (from_at + moved) to (to_at + moved) n) now.contents) size) come kept alike
     (λ lengths pieces start covers. keeps lengths pieces start (subst (λ (n : ℕ). IsWrittenBy start pieces to (to_at + moved) n) (sym size) covers))
 
 -- a part that was refused
@@ -152,9 +152,9 @@ moving_failed initial now next from from_at to to_at len moved count part moving
     keeps-then (IsOnTheWay lengths pieces start) initial now next (moving.keeps lengths pieces start covers)
     (keeps lengths pieces start (λ i over under. covers i (omega (arith, over)) (omega (arith, under, size))))
 
--- all is copied
+-- all is copied_over
 pub moving_end : (initial now : Device) (from : FileId) (from_at : ℕ) (to : FileId) (to_at len moved : ℕ) → Moving initial now from from_at to to_at len moved → len ≤ moved
-    → now.contents ≡ option_map (copied from from_at to to_at len) initial.contents
+    → now.contents ≡ option_map (copied_over from from_at to to_at len) initial.contents
 moving_end initial now from from_at to to_at len moved moving all =
     let none : len - moved ≡ 0 = omega arith in
-    sym (option_map-id (rest_of from from_at to to_at len moved) now.contents (λ files is. (λ i. copied from (from_at + moved) to (to_at + moved) (none i) files) ∙ written-nil to (to_at + moved) files)) ∙ moving.told
+    sym (option_map-id (rest_of from from_at to to_at len moved) now.contents (λ files is. (λ i. copied_over from (from_at + moved) to (to_at + moved) (none i) files) ∙ written-nil to (to_at + moved) files)) ∙ moving.told

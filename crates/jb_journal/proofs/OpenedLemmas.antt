@@ -6,12 +6,12 @@ use Rattle.std.proofs.lemmas.List.{same_lists, get_or_default}
 use Rattle.jb_disk.specs.declared.file.FileId.{FileId}
 use Rattle.jb_disk.specs.declared.file.FileId.TheVariants.{Jnl}
 use Rattle.jb_disk.specs.RedoView.{RedoView}
-use Rattle.jb_disk.specs.Files.{Files, number_of, overwritten, written}
+use Rattle.jb_disk.specs.Files.{Files, file_number, overwritten, written}
 use Rattle.jb_disk.specs.FileLaws.{same_file, same_files, with_file-here, with_file-other, length-overwritten}
 use Rattle.jb_disk.specs.ImageLaws.{get-behind}
 use Rattle.jb_disk.specs.Gate.{IsGateOpen}
 use Rattle.jb_redo.specs.Replay.{spans_in}
-use Rattle.jb_redo.specs.Rules.{sizes_of, new_sizes, IsLegal}
+use Rattle.jb_redo.specs.Rules.{sizes_of, new_sizes, IsLegalRecord}
 use Rattle.jb_redo.proofs.SpanLemmas.{spans_within}
 use Rattle.jb_redo.proofs.WayLemmas.{way_kept, way_legal, way_replays, replays_to_applied}
 use Rattle.jb_journal.specs.Commit.{AgreeButJournal, ReplaysTo}
@@ -20,7 +20,7 @@ use Rattle.jb_journal.specs.Stages.{IsAtGate, IsOpened, IsGoing, IsClosing, clos
 use Rattle.jb_journal.proofs.Patching.{between_patched_end, first_written}
 
 -- the journal is number 4
-journal_high : 4 ≤ number_of Jnl
+journal_high : 4 ≤ file_number Jnl
 journal_high = omega arith
 
 -- with a closed gate, files stand for themselves
@@ -59,7 +59,7 @@ module _ (change : RedoView) (from : Files) (is : IsOpened change from) where
   going_journal files way = way_kept change.lengths change.pieces from is.has.legal files way Jnl journal_high
 
   -- the record keeps its rules
-  pub going_legal : (files : Files) → IsGoing change from files → IsLegal (sizes_of files) change.lengths change.pieces
+  pub going_legal : (files : Files) → IsGoing change from files → IsLegalRecord (sizes_of files) change.lengths change.pieces
   going_legal files way = way_legal change.lengths change.pieces from is.has.legal files way
 
   -- files on their way replay to the change

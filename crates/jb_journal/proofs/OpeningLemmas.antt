@@ -10,7 +10,7 @@ use Rattle.jb_disk.specs.Device.{Device, MayChange, Syncs, TellsAnImage, and_the
 use Rattle.jb_disk.specs.Moments.{AtNewest, AtEach, IsPossible}
 use Rattle.jb_disk.specs.Runs.{LeavesNow, LeavesAlways, Runs}
 use Rattle.jb_disk.specs.Gate.{IsGateOpen}
-use Rattle.jb_journal.specs.Opening.{MayBeShut, StaysShut, OpensNow, Opens, WhereTold}
+use Rattle.jb_journal.specs.Opening.{MayBeShut, StaysShut, OpensNow, OpensGate, WhereTold}
 use Rattle.jb_journal.specs.Writing.{Widens, WidensThen, WidensFor}
 
 -- some moment is one
@@ -139,7 +139,7 @@ opens_now P property old mid new shut run left tells now earlier is widens is_op
     }
 
 -- and then moments that leave only files with the property
-pub opens_then : (property : Files → Type 0) (old mid new : List Images) → OpensNow property old mid → Runs property mid new → Opens property old new
+pub opens_then : (property : Files → Type 0) (old mid new : List Images) → OpensNow property old mid → Runs property mid new → OpensGate property old new
 opens_then property old mid new opens run = record {
   until = opens.until;
   opening = opens.opening;

@@ -7,17 +7,17 @@ use Rattle.jb_disk.specs.Files.{overwritten}
 use Rattle.jb_disk.specs.FileLaws.{length-overwritten, length-of_length}
 use Rattle.jb_disk.specs.ImageLaws.{get-before, get-behind}
 use Rattle.jb_disk.specs.Memory.{of_length}
-use Rattle.jb_disk.specs.Steps.{Span, IsCovered, IsWithin, patched}
-use Rattle.jb_redo.specs.OnTheWay.{IsBetween}
+use Rattle.jb_disk.specs.Steps.{Span, IsCovered, AreWithin, patched}
+use Rattle.jb_redo.specs.OnTheWay.{IsFileBetween}
 use Rattle.jb_redo.proofs.WayLemmas.{resized_with_zeros}
 use Rattle.jb_redo.proofs.ApplyLemmas.{length-patched}
 
 -- and each byte that none of them has
-pub patched-frame : (spans : List Span) (old : List ℕ) (i : ℕ) → IsWithin spans (length old) → IsCovered spans i ⊎ (slice_index (patched spans old) i ≡ slice_index old i)
+pub patched-frame : (spans : List Span) (old : List ℕ) (i : ℕ) → AreWithin spans (length old) → IsCovered spans i ⊎ (slice_index (patched spans old) i ≡ slice_index old i)
 patched-frame [] old i within = inr refl
 patched-frame (span ∷ spans) old i within =
     let size = length-overwritten span.at span.bytes old within.0 in
-    elim (patched-frame spans (overwritten span.at span.bytes old) i (subst (IsWithin spans) (sym size) within.1)) [
+    elim (patched-frame spans (overwritten span.at span.bytes old) i (subst (AreWithin spans) (sym size) within.1)) [
       | inl covered ↦ inl (inr covered)
       | inr kept ↦ elim (cases_lt i span.at) [
         | inl under ↦ inr (kept ∙ get-before span.at span.bytes old within.0 i under)
@@ -29,10 +29,10 @@ patched-frame (span ∷ spans) old i within =
     ]
 
 -- a file made of its new length and then patched is on the way
-pub between_patched_end : (len : ℕ) (spans : List Span) (old : List ℕ) → IsWithin spans len → IsBetween len spans old (patched spans (of_length len old))
+pub between_patched_end : (len : ℕ) (spans : List Span) (old : List ℕ) → AreWithin spans len → IsFileBetween len spans old (patched spans (of_length len old))
 between_patched_end len spans old within =
     let resized = resized_with_zeros len old in
-    let room : IsWithin spans (length (of_length len old)) = subst (IsWithin spans) (sym (length-of_length len old)) within in
+    let room : AreWithin spans (length (of_length len old)) = subst (AreWithin spans) (sym (length-of_length len old)) within in
     let size : length (patched spans (of_length len old)) ≡ len = length-patched spans (of_length len old) room ∙ length-of_length len old in
     record {
       no_shorter = omega (arith, size);

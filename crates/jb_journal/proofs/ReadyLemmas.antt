@@ -8,7 +8,7 @@ use Rattle.jb_disk.specs.declared.file.FileId.TheVariants.{Jnl, Ndt}
 use Rattle.jb_disk.specs.declared.piece.Piece.{Piece}
 use Rattle.jb_disk.specs.declared.piece.Piece.TheVariants.{Bytes, Copy}
 use Rattle.jb_disk.specs.RedoView.{RedoView}
-use Rattle.jb_disk.specs.Files.{Files, number_of, with_file, overwritten}
+use Rattle.jb_disk.specs.Files.{Files, file_number, with_file, overwritten}
 use Rattle.jb_disk.specs.FileLaws.{same_file, same_files, with_file-here, with_file-other, length-overwritten}
 use Rattle.jb_disk.specs.ImageLaws.{get-behind}
 use Rattle.jb_disk.specs.Memory.{of_length}
@@ -17,18 +17,18 @@ use Rattle.jb_disk.specs.Gate.{IsGateOpen}
 use Rattle.jb_redo.specs.Record.{record_bytes}
 use Rattle.jb_redo.specs.Reading.{record_part}
 use Rattle.jb_redo.specs.Replay.{spans_in, IsGrowthCovered}
-use Rattle.jb_redo.specs.Rules.{sizes_of, new_sizes, IsLegalPiece, IsLegal}
+use Rattle.jb_redo.specs.Rules.{sizes_of, new_sizes, IsLegalPiece, IsLegalRecord}
 use Rattle.jb_redo.proofs.SizeLemmas.{not_given}
 use Rattle.jb_redo.proofs.SpanLemmas.{spans_same}
 use Rattle.jb_redo.proofs.WayLemmas.{way_start}
 use Rattle.jb_journal.specs.Commit.{AgreeButJournal, IsReady, ReplaysTo, IsBeforeOrAfter, journal_of, committed}
 use Rattle.jb_redo.specs.Changes.{changed}
 use Rattle.jb_journal.specs.Doubt.{IsEarly}
-use Rattle.jb_journal.specs.Stages.{IsUntouched, IsAtGate, IsOpened, IsGoing, closed, recorded, opened}
+use Rattle.jb_journal.specs.Stages.{KeepsHead, IsAtGate, IsOpened, IsGoing, closed, with_record, opened}
 use Rattle.jb_journal.proofs.SettingLemmas.{sizes_agree}
-use Rattle.jb_journal.proofs.RecordLemmas.{length-record}
 use Rattle.jb_journal.proofs.Patching.{first_written, written_over}
 use Rattle.jb_journal.proofs.OpenedLemmas.{shut_replays, same_journal, going_replays, done_journal}
+use Rattle.jb_redo.proofs.LengthLemmas.{length-record}
 
 -- what follows the first bytes of a list
 behind_first : (first rest : List ℕ) → drop (length first) (first ++ rest) ≡ rest
@@ -44,15 +44,15 @@ drop_same n one other size same = same_lists _ _ (grind (arith, places, size)) (
 
 -- the journal is no file of the base, and not the shadow
 shadow_apart : Ndt ≢ Jnl
-shadow_apart is = let same : 5 ≡ 4 = ap number_of is in omega (arith, same)
+shadow_apart is = let same : 5 ≡ 4 = ap file_number is in omega (arith, same)
 
 -- files of the base are not the journal
-base_apart : (file : FileId) → number_of file < 4 → file ≢ Jnl
-base_apart file low is = let same : number_of file ≡ 4 = ap number_of is in omega (arith, same)
+base_apart : (file : FileId) → file_number file < 4 → file ≢ Jnl
+base_apart file low is = let same : file_number file ≡ 4 = ap file_number is in omega (arith, same)
 
 module _ (change : RedoView) (start : Files) (ready : IsReady change start) where
   -- the journal with the record
-  pub recorded-jnl : recorded change start Jnl ≡ journal_of change start
+  pub recorded-jnl : with_record change start Jnl ≡ journal_of change start
   recorded-jnl = with_file-here Jnl (journal_of change start) start
 
   -- its head
@@ -60,45 +60,45 @@ module _ (change : RedoView) (start : Files) (ready : IsReady change start) wher
   length-head = let long = ready.long in omega (arith, length-take 16 (start Jnl))
 
   -- its length
-  pub length-recorded : length (recorded change start Jnl) ≡ 16 + length (record_bytes change.lengths change.pieces)
+  pub length-recorded : length (with_record change start Jnl) ≡ 16 + length (record_bytes change.lengths change.pieces)
   length-recorded = ap length recorded-jnl ∙ length-append (take 16 (start Jnl)) (record_bytes change.lengths change.pieces) ∙ omega (arith, length-head)
 
   -- it has more than its head
-  pub recorded-longer : 16 < length (recorded change start Jnl)
+  pub recorded-longer : 16 < length (with_record change start Jnl)
   recorded-longer = omega (arith, length-recorded, length-record change.lengths change.pieces)
 
   -- it has a first byte
-  recorded-some : 0 + 1 ≤ length (recorded change start Jnl)
+  recorded-some : 0 + 1 ≤ length (with_record change start Jnl)
   recorded-some = omega (arith, recorded-longer)
 
   -- the opened journal
-  pub opened-jnl : opened change start Jnl ≡ overwritten 0 (1 ∷ []) (recorded change start Jnl)
-  opened-jnl = with_file-here Jnl (overwritten 0 (1 ∷ []) (recorded change start Jnl)) (recorded change start)
+  pub opened-jnl : opened change start Jnl ≡ overwritten 0 (1 ∷ []) (with_record change start Jnl)
+  opened-jnl = with_file-here Jnl (overwritten 0 (1 ∷ []) (with_record change start Jnl)) (with_record change start)
 
   -- its length
-  pub length-opened : length (opened change start Jnl) ≡ length (recorded change start Jnl)
-  length-opened = ap length opened-jnl ∙ length-overwritten 0 (1 ∷ []) (recorded change start Jnl) recorded-some
+  pub length-opened : length (opened change start Jnl) ≡ length (with_record change start Jnl)
+  length-opened = ap length opened-jnl ∙ length-overwritten 0 (1 ∷ []) (with_record change start Jnl) recorded-some
 
   -- its gate
   pub gate-opened : slice_index (opened change start Jnl) 0 ≡ 1
-  gate-opened = ap (λ (l : List ℕ). slice_index l 0) opened-jnl ∙ first_written 1 (recorded change start Jnl) recorded-some
+  gate-opened = ap (λ (l : List ℕ). slice_index l 0) opened-jnl ∙ first_written 1 (with_record change start Jnl) recorded-some
 
   -- what stands behind it
-  pub behind-opened : (i : ℕ) → 1 ≤ i → slice_index (opened change start Jnl) i ≡ slice_index (recorded change start Jnl) i
-  behind-opened i high = ap (λ (l : List ℕ). slice_index l i) opened-jnl ∙ get-behind 0 (1 ∷ []) (recorded change start Jnl) recorded-some i high
+  pub behind-opened : (i : ℕ) → 1 ≤ i → slice_index (opened change start Jnl) i ≡ slice_index (with_record change start Jnl) i
+  behind-opened i high = ap (λ (l : List ℕ). slice_index l i) opened-jnl ∙ get-behind 0 (1 ∷ []) (with_record change start Jnl) recorded-some i high
 
   -- the other files are as at the start
-  pub recorded-agrees : AgreeButJournal (recorded change start) start
+  pub recorded-agrees : AgreeButJournal (with_record change start) start
   recorded-agrees file ne = with_file-other Jnl file _ start ne
 
   -- so they are with the gate open
   pub opened-agrees : AgreeButJournal (opened change start) start
-  opened-agrees file ne = with_file-other Jnl file _ (recorded change start) ne ∙ recorded-agrees file ne
+  opened-agrees file ne = with_file-other Jnl file _ (with_record change start) ne ∙ recorded-agrees file ne
 
   -- the record behind the head
   opened-record : record_part (opened change start) ≡ record_bytes change.lengths change.pieces
   opened-record =
-      drop_same 16 (opened change start Jnl) (recorded change start Jnl) length-opened (λ i high. behind-opened i (omega arith))
+      drop_same 16 (opened change start Jnl) (with_record change start Jnl) length-opened (λ i high. behind-opened i (omega arith))
       ∙ ap (drop 16) recorded-jnl
       ∙ ap (λ (n : ℕ). drop n (journal_of change start)) (sym length-head)
       ∙ behind_first (take 16 (start Jnl)) (record_bytes change.lengths change.pieces)
@@ -116,7 +116,7 @@ module _ (change : RedoView) (start : Files) (ready : IsReady change start) wher
   piece_agrees (Copy from from_at to to_at len) is =
       let inside = is.inside in
       let within = is.within in
-      let texts : to ≢ Jnl = base_apart to (omega (arith, ap number_of is.texts)) in
+      let texts : to ≢ Jnl = base_apart to (omega (arith, ap file_number is.texts)) in
       let shadow : from ≢ Jnl = λ same. shadow_apart (sym is.shadow ∙ same) in
       record {
         shadow = is.shadow;
@@ -129,7 +129,7 @@ module _ (change : RedoView) (start : Files) (ready : IsReady change start) wher
       }
 
   -- so does the record
-  opened_legal : IsLegal (sizes_of (opened change start)) change.lengths change.pieces
+  opened_legal : IsLegalRecord (sizes_of (opened change start)) change.lengths change.pieces
   opened_legal = record {
     lengths_are = ready.legal.lengths_are;
     pieces_are = record { many = ready.legal.pieces_are.many; each = λ k d low. piece_agrees _ (ready.legal.pieces_are.each k d low) };
@@ -143,7 +143,7 @@ module _ (change : RedoView) (start : Files) (ready : IsReady change start) wher
   opened_grown : IsGrowthCovered change.lengths change.pieces (opened change start)
   opened_grown file i over under = elim (same_file file Jnl) [
     | inl same ↦
-        let four : number_of file ≡ 4 = ap number_of same in
+        let four : file_number file ≡ 4 = ap file_number same in
         let stays = not_given change.lengths (sizes_of (opened change start)) file ready.legal.lengths_are.each (omega (arith, four)) in
         absurd (omega (arith, over, under, stays))
     | inr other ↦
@@ -173,7 +173,7 @@ module _ (change : RedoView) (start : Files) (ready : IsReady change start) wher
     | inl same ↦ subst (λ (f : FileId). closed change (opened change start) f ≡ committed change start f) (sym same)
         (with_file-here Jnl (overwritten 0 (0 ∷ []) (changed change (opened change start) Jnl)) (changed change (opened change start))
         ∙ ap (overwritten 0 (0 ∷ [])) (done_journal change (opened change start) opened_is ∙ opened-jnl)
-        ∙ written_over 1 0 (recorded change start Jnl) recorded-some
+        ∙ written_over 1 0 (with_record change start Jnl) recorded-some
         ∙ ap (overwritten 0 (0 ∷ [])) (recorded-jnl ∙ sym (with_file-here Jnl (journal_of change start) (changed change start)))
         ∙ sym (with_file-here Jnl (overwritten 0 (0 ∷ []) (with_file Jnl (journal_of change start) (changed change start) Jnl)) (with_file Jnl (journal_of change start) (changed change start))))
     | inr other ↦
@@ -189,15 +189,15 @@ module _ (change : RedoView) (start : Files) (ready : IsReady change start) wher
       with_file-other Jnl file _ (with_file Jnl (journal_of change start) (changed change start)) ne ∙ with_file-other Jnl file (journal_of change start) (changed change start) ne
 
   -- while the record is written the gate is closed
-  pub untouched_shut : (files : Files) → IsUntouched start files → slice_index (files Jnl) 0 ≢ 1
+  pub untouched_shut : (files : Files) → KeepsHead start files → slice_index (files Jnl) 0 ≢ 1
   untouched_shut files untouched one = ready.shut (sym (untouched.head 0 (omega arith)) ∙ one)
 
   -- that is an early stop
-  pub untouched_early : (files : Files) → IsUntouched start files → IsEarly change start files
+  pub untouched_early : (files : Files) → KeepsHead start files → IsEarly change start files
   untouched_early files untouched = record { same = untouched.same; gate = λ is_open. absurd (untouched_shut files untouched is_open.gate) }
 
   -- and so is the gate being opened
-  pub at_gate_early : (files : Files) → IsAtGate (recorded change start) files → IsEarly change start files
+  pub at_gate_early : (files : Files) → IsAtGate (with_record change start) files → IsEarly change start files
   at_gate_early files at = record {
     same = λ file ne. at.same file ne ∙ recorded-agrees file ne;
     gate = λ is_open. same_journal (files Jnl) (opened change start Jnl) (at.size ∙ sym length-opened) (is_open.gate ∙ sym gate-opened) (λ i high. at.behind i high ∙ sym (behind-opened i high));

@@ -17,7 +17,7 @@ use Rattle.jb_journal.specs.Commit.{IsReady, IsBeforeOrAfter, ReplaysTo}
 use Rattle.jb_redo.specs.Changes.{changed}
 use Rattle.jb_journal.specs.Doubt.{IsEarly}
 use Rattle.jb_journal.specs.Opening.{StaysShut, OpensNowFor, WhereTold}
-use Rattle.jb_journal.specs.Stages.{IsUntouched, IsAtGate, IsGoing, recorded, opened}
+use Rattle.jb_journal.specs.Stages.{KeepsHead, IsAtGate, IsGoing, with_record, opened}
 use Rattle.jb_journal.specs.Writing.{WidensFor}
 use Rattle.jb_journal.proofs.OpenedLemmas.{at_gate_refl, going_replays, going_journal}
 use Rattle.jb_journal.proofs.OpeningLemmas.{stays_shut, stays_shut_before, opens_now, where_told, told_claim}
@@ -39,14 +39,14 @@ refused_shut (Err error) property old new err shut = shut
 
 module _ (change : RedoView) (start : Files) (ready : IsReady change start) where
   -- the files at the start
-  untouched_start : IsUntouched start start
+  untouched_start : KeepsHead start start
   untouched_start = record { same = λ file ne. refl; long = ready.long; head = λ i low. refl }
 
   -- so all is at the start
-  pub shows_start : (device : Device) → device.contents ≡ Some start → IsAllSynced device → Shows (IsUntouched start) device
+  pub shows_start : (device : Device) → device.contents ≡ Some start → IsAllSynced device → Shows (KeepsHead start) device
   shows_start device there synced = record {
-    read = only_told device.contents start (IsUntouched start) there untouched_start;
-    left = leaves_map (λ left. left ≡ start) (IsUntouched start) device.moments (λ left same. subst (IsUntouched start) (sym same) untouched_start) (synced start there);
+    read = only_told device.contents start (KeepsHead start) there untouched_start;
+    left = leaves_map (λ left. left ≡ start) (KeepsHead start) device.moments (λ left same. subst (KeepsHead start) (sym same) untouched_start) (synced start there);
   }
 
   -- an early stop leaves files before or after
@@ -54,24 +54,24 @@ module _ (change : RedoView) (start : Files) (ready : IsReady change start) wher
   early_before_or_after files early = early_replays change start ready files (gate_or_not files) early
 
   -- the record alone
-  pub staging_run : (old new : Device) → Runs (IsUntouched start) old.moments new.moments → Runs (IsBeforeOrAfter change start) old.moments new.moments
-  staging_run old new run = runs-weaken (IsUntouched start) (IsBeforeOrAfter change start) (λ files untouched. early_before_or_after files (untouched_early change start ready files untouched)) old.moments new.moments run
+  pub staging_run : (old new : Device) → Runs (KeepsHead start) old.moments new.moments → Runs (IsBeforeOrAfter change start) old.moments new.moments
+  staging_run old new run = runs-weaken (KeepsHead start) (IsBeforeOrAfter change start) (λ files untouched. early_before_or_after files (untouched_early change start ready files untouched)) old.moments new.moments run
 
   -- the gate is shut meanwhile
-  shut : (files : Files) → IsUntouched start files → IsGateOpen files → ⊥
+  shut : (files : Files) → KeepsHead start files → IsGateOpen files → ⊥
   shut files untouched is_open = untouched_shut change start ready files untouched is_open.gate
 
   -- so it stays where the writing of the record was refused
-  pub staging_shut : {T E : Type 0} (result : Result T E) (old new : Device) → IsErr result → Runs (IsUntouched start) old.moments new.moments → TellsAnImage new
+  pub staging_shut : {T E : Type 0} (result : Result T E) (old new : Device) → IsErr result → Runs (KeepsHead start) old.moments new.moments → TellsAnImage new
       → WhereTold old.moments (OpensNowFor result (ReplaysTo (changed change start)) old.moments new.moments)
-  staging_shut result old new err run tells = where_told old.moments _ (λ now earlier is. refused_shut result _ _ _ err (stays_shut_before (IsUntouched start) old new shut run tells))
+  staging_shut result old new err run tells = where_told old.moments _ (λ now earlier is. refused_shut result _ _ _ err (stays_shut_before (KeepsHead start) old new shut run tells))
 
   -- the record is there, and synced
-  pub staged_shows : (old mid : Device) → old.contents ≡ Some start → mid.contents ≡ option_map (recorded change) old.contents → Shows (IsUntouched start) mid
-      → ForSome old.contents (λ files. LeavesNow (λ left. left Jnl ≡ recorded change files Jnl) mid.moments) → Shows (IsAtGate (recorded change start)) mid
+  pub staged_shows : (old mid : Device) → old.contents ≡ Some start → mid.contents ≡ option_map (with_record change) old.contents → Shows (KeepsHead start) mid
+      → ForSome old.contents (λ files. LeavesNow (λ left. left Jnl ≡ with_record change files Jnl) mid.moments) → Shows (IsAtGate (with_record change start)) mid
   staged_shows old mid there told untouched durable = record {
-    read = only_told mid.contents (recorded change start) (IsAtGate (recorded change start)) (told ∙ ap (option_map (recorded change)) there) (at_gate_refl (recorded change start));
-    left = leaves_both (IsUntouched start) (λ left. left Jnl ≡ recorded change start Jnl) (IsAtGate (recorded change start)) mid.moments
+    read = only_told mid.contents (with_record change start) (IsAtGate (with_record change start)) (told ∙ ap (option_map (with_record change)) there) (at_gate_refl (with_record change start));
+    left = leaves_both (KeepsHead start) (λ left. left Jnl ≡ with_record change start Jnl) (IsAtGate (with_record change start)) mid.moments
         (λ left is jnl. record {
           same = λ file ne. is.same file ne ∙ sym (recorded-agrees change start ready file ne);
           size = ap length jnl;
@@ -80,18 +80,18 @@ module _ (change : RedoView) (start : Files) (ready : IsReady change start) wher
   }
 
   -- the gate is open, and synced
-  pub opened_shows : (old mid new : Device) → old.contents ≡ Some start → mid.contents ≡ option_map (recorded change) old.contents → new.contents ≡ option_map (written Jnl 0 (1 ∷ [])) mid.contents → Shows (IsAtGate (recorded change start)) new
+  pub opened_shows : (old mid new : Device) → old.contents ≡ Some start → mid.contents ≡ option_map (with_record change) old.contents → new.contents ≡ option_map (written Jnl 0 (1 ∷ [])) mid.contents → Shows (IsAtGate (with_record change start)) new
       → ForSome mid.contents (λ files. LeavesNow (λ left. left Jnl ≡ written Jnl 0 (1 ∷ []) files Jnl) new.moments) → Shows (IsGoing change (opened change start)) new
   opened_shows old mid new there mid_is new_is at durable =
-      let mid_there : mid.contents ≡ Some (recorded change start) = mid_is ∙ ap (option_map (recorded change)) there in
+      let mid_there : mid.contents ≡ Some (with_record change start) = mid_is ∙ ap (option_map (with_record change)) there in
       let going : (files : Files) → files ≡ opened change start → IsGoing change (opened change start) files = λ files same. subst (IsGoing change (opened change start)) (sym same) (opened_going change start ready) in
       record {
         read = only_told new.contents (opened change start) (IsGoing change (opened change start)) (new_is ∙ ap (option_map (written Jnl 0 (1 ∷ []))) mid_there) (opened_going change start ready);
-        left = leaves_both (IsAtGate (recorded change start)) (λ left. left Jnl ≡ opened change start Jnl) (IsGoing change (opened change start)) new.moments
+        left = leaves_both (IsAtGate (with_record change start)) (λ left. left Jnl ≡ opened change start Jnl) (IsGoing change (opened change start)) new.moments
             (λ left is jnl. going left (same_files left (opened change start) (λ file. elim (same_file file Jnl) [
               | inl same ↦ subst (λ (f : FileId). left f ≡ opened change start f) (sym same) jnl
               | inr other ↦ is.same file other ∙ recorded-agrees change start ready file other ∙ sym (opened-agrees change start ready file other)
-            ]))) at.left (durable (recorded change start) mid_there);
+            ]))) at.left (durable (with_record change start) mid_there);
       }
 
   -- files on their way have the gate open
@@ -106,7 +106,7 @@ module _ (change : RedoView) (start : Files) (ready : IsReady change start) wher
   going_after files way = from_opened change start ready files (going_replays change (opened change start) (opened_is change start ready) files way)
 
   -- the gate has come to stand open, or has not
-  pub gate_opens : {T E : Type 0} (result : Result T E) (old mid new : Device) → Runs (IsUntouched start) old.moments mid.moments → Shows (IsUntouched start) mid → TellsAnImage mid → WhereTold mid.moments (WidensFor result mid.moments new.moments)
+  pub gate_opens : {T E : Type 0} (result : Result T E) (old mid new : Device) → Runs (KeepsHead start) old.moments mid.moments → Shows (KeepsHead start) mid → TellsAnImage mid → WhereTold mid.moments (WidensFor result mid.moments new.moments)
       → OnOk result (Shows (IsGoing change (opened change start)) new) → WhereTold old.moments (OpensNowFor result (ReplaysTo (changed change start)) old.moments new.moments)
   gate_opens result old mid new run untouched tells wide going = where_told old.moments _ (λ now earlier is.
       let more = some_more run.later now earlier in
@@ -116,6 +116,6 @@ module _ (change : RedoView) (start : Files) (ready : IsReady change start) wher
       by_result : {T E : Type 0} (result : Result T E) (now : Images) (earlier : List Images) → mid.moments ≡ now ∷ earlier → WidensFor result mid.moments new.moments → OnOk result (Shows (IsGoing change (opened change start)) new)
           → OpensNowFor result (ReplaysTo (changed change start)) old.moments new.moments
       by_result (Ok value) now earlier there widens going =
-          opens_now (IsUntouched start) (ReplaysTo (changed change start)) old mid new shut run untouched.left tells now earlier there widens
+          opens_now (KeepsHead start) (ReplaysTo (changed change start)) old mid new shut run untouched.left tells now earlier there widens
           (leaves_map (IsGoing change (opened change start)) IsGateOpen new.moments going_open going.left) (leaves_map (IsGoing change (opened change start)) (ReplaysTo (changed change start)) new.moments going_after going.left)
-      by_result (Err error) now earlier there widens going = stays_shut (IsUntouched start) old mid new shut run untouched.left tells now earlier there widens
+      by_result (Err error) now earlier there widens going = stays_shut (KeepsHead start) old mid new shut run untouched.left tells now earlier there widens

@@ -1,7 +1,7 @@
 -- The lengths of a record's parts.
 use Rattle.std.proofs.Common.{◌≡◌, ℕ, ◌+◌, ◌*◌, ◌/◌, ◌%◌, ◌<◌, List, [], ◌∷◌, ◌++◌, length, drop, get_or, refl, sym, ◌∙◌, ap, arith, length-append, append_assoc, Some}
 use Rattle.std.specs.Prelude.{slice_get, slice_index_or, if◌then◌else◌}
-use Rattle.jb_disk.specs.Files.{number_of}
+use Rattle.jb_disk.specs.Files.{file_number}
 use Rattle.std.specs.Option.{option_map}
 use Rattle.std.specs.List.{flat_map}
 use Rattle.std.proofs.lemmas.List.{at_drop_more}
@@ -12,16 +12,16 @@ use Rattle.jb_disk.specs.declared.piece.Length.{Length}
 use Rattle.jb_disk.specs.declared.piece.Piece.{Piece}
 use Rattle.jb_disk.specs.declared.piece.Piece.TheVariants.{Bytes, Copy}
 use Rattle.jb_disk.specs.declared.piece.PieceHead.{PieceHead}
-use Rattle.jb_disk.specs.RedoView.{head_of, bytes_of}
+use Rattle.jb_disk.specs.RedoView.{piece_head, bytes_of}
 use Rattle.jb_redo.specs.Record.{record_head, record_end, length_bytes, piece_bytes, record_bytes}
-use Rattle.jb_journal.specs.Spelling.{nth_piece, head_bytes, tail_bytes, size_of, front_bytes, back_bytes}
+use Rattle.jb_journal.specs.Spelling.{nth_piece, head_bytes, tail_bytes, spelled_size, record_front, back_bytes}
 use Rattle.jb_redo.proofs.RecordLemmas.{length-lengths}
 
 -- a piece by its number
-pub head-nth : (pieces : List Piece) (k : ℕ) (head : PieceHead) → k < length pieces → Some head ≡ option_map head_of (slice_get pieces k) → head ≡ head_of (nth_piece pieces k)
+pub head-nth : (pieces : List Piece) (k : ℕ) (head : PieceHead) → k < length pieces → Some head ≡ option_map piece_head (slice_get pieces k) → head ≡ piece_head (nth_piece pieces k)
 head-nth pieces k head low is =
     let there = slice_get-get_or pieces k (Bytes Jhr 0 []) low in
-    let both : Some head ≡ Some (head_of (nth_piece pieces k)) = is ∙ ap (option_map head_of) there in
+    let both : Some head ≡ Some (piece_head (nth_piece pieces k)) = is ∙ ap (option_map piece_head) there in
     cc
 
 -- its bytes
@@ -32,12 +32,12 @@ bytes-nth pieces k bytes low is =
     cc
 
 -- a piece is its head and its tail
-pub piece-parts : (piece : Piece) → piece_bytes piece ≡ head_bytes (head_of piece) ++ tail_bytes piece
+pub piece-parts : (piece : Piece) → piece_bytes piece ≡ head_bytes (piece_head piece) ++ tail_bytes piece
 piece-parts (Bytes file at bytes) = refl
 piece-parts (Copy from from_at to to_at len) = refl
 
 -- and has their length
-pub length-piece : (piece : Piece) → length (piece_bytes piece) ≡ size_of (head_of piece)
+pub length-piece : (piece : Piece) → length (piece_bytes piece) ≡ spelled_size (piece_head piece)
 length-piece (Bytes file at bytes) = grind arith
 length-piece (Copy from from_at to to_at len) = refl
 
@@ -52,26 +52,22 @@ pub more_pieces : (pieces : List Piece) (k : ℕ) → k < length pieces → flat
 more_pieces pieces k low = at_drop_more (flat_map piece_bytes) pieces k (Bytes Jhr 0 []) low
 
 -- its length
-pub more_size : (pieces : List Piece) (k : ℕ) → k < length pieces → length (flat_map piece_bytes (drop k pieces)) ≡ size_of (head_of (nth_piece pieces k)) + length (flat_map piece_bytes (drop (k + 1) pieces))
+pub more_size : (pieces : List Piece) (k : ℕ) → k < length pieces → length (flat_map piece_bytes (drop k pieces)) ≡ spelled_size (piece_head (nth_piece pieces k)) + length (flat_map piece_bytes (drop (k + 1) pieces))
 more_size pieces k low =
     ap length (more_pieces pieces k low) ∙ length-append (piece_bytes (nth_piece pieces k)) (flat_map piece_bytes (drop (k + 1) pieces))
     ∙ ap (λ (n : ℕ). n + length (flat_map piece_bytes (drop (k + 1) pieces))) (length-piece (nth_piece pieces k))
 
 -- a record is its front and its back
-pub record-parts : (lengths : List Length) (pieces : List Piece) → record_bytes lengths pieces ≡ front_bytes lengths (length pieces) ++ back_bytes pieces
-record-parts lengths pieces = append_assoc (front_bytes lengths (length pieces)) (flat_map piece_bytes pieces) record_end
+pub record-parts : (lengths : List Length) (pieces : List Piece) → record_bytes lengths pieces ≡ record_front lengths (length pieces) ++ back_bytes pieces
+record-parts lengths pieces = append_assoc (record_front lengths (length pieces)) (flat_map piece_bytes pieces) record_end
 
 -- the length of the front
-pub length-front : (lengths : List Length) (pieces : ℕ) → length (front_bytes lengths pieces) ≡ 12 + 8 * length lengths
+pub length-front : (lengths : List Length) (pieces : ℕ) → length (record_front lengths pieces) ≡ 12 + 8 * length lengths
 length-front lengths pieces = omega (arith, length-append (record_head ++ number_bytes 4 (length lengths) ++ flat_map length_bytes lengths) (number_bytes 4 pieces), length-append (record_head ++ number_bytes 4 (length lengths)) (flat_map length_bytes lengths), length-lengths lengths)
 
 -- the length of the back
 pub length-back : (pieces : List Piece) → length (back_bytes pieces) ≡ 4 + length (flat_map piece_bytes pieces)
 length-back pieces = omega (arith, length-append (flat_map piece_bytes pieces) record_end)
-
--- the length of a record
-pub length-record : (lengths : List Length) (pieces : List Piece) → length (record_bytes lengths pieces) ≡ 16 + 8 * length lengths + length (flat_map piece_bytes pieces)
-length-record lengths pieces = omega (arith, ap length (record-parts lengths pieces), length-append (front_bytes lengths (length pieces)) (back_bytes pieces), length-front lengths (length pieces), length-back pieces)
 
 -- the four bytes of a number, one by one
 pub four-bytes : (n : ℕ) → (n % 256 ∷ n / 256 % 256 ∷ n / 65536 % 256 ∷ n / 16777216 % 256 ∷ []) ≡ number_bytes 4 n
@@ -81,7 +77,7 @@ four-bytes n =
     λ i. n % 256 ∷ n / 256 % 256 ∷ a i % 256 ∷ b i % 256 ∷ []
 
 -- the bytes of a head, one by one
-pub head-spelled : (head : PieceHead) (kind to from : ℕ) (at len : List ℕ) → kind ≡ (if head.copy then 1 else 0) → to ≡ number_of head.to → from ≡ (if head.copy then number_of head.from else 0)
+pub head-spelled : (head : PieceHead) (kind to from : ℕ) (at len : List ℕ) → kind ≡ (if head.copy then 1 else 0) → to ≡ file_number head.to → from ≡ (if head.copy then file_number head.from else 0)
     → at ≡ number_bytes 4 head.to_at → len ≡ number_bytes 4 head.len
     → (kind ∷ to ∷ from ∷ 0 ∷ slice_index_or at 0 0 ∷ slice_index_or at 1 0 ∷ slice_index_or at 2 0 ∷ slice_index_or at 3 0
     ∷ slice_index_or len 0 0 ∷ slice_index_or len 1 0 ∷ slice_index_or len 2 0 ∷ slice_index_or len 3 0 ∷ []) ≡ head_bytes head

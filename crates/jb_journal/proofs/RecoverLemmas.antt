@@ -7,7 +7,7 @@ use Rattle.jb_disk.specs.declared.file.FileId.TheVariants.{Jhr, Jdt, Jdx, Jlr, J
 use Rattle.jb_disk.specs.declared.piece.Length.{Length}
 use Rattle.jb_disk.specs.declared.piece.Piece.{Piece}
 use Rattle.jb_disk.specs.RedoView.{RedoView}
-use Rattle.jb_disk.specs.Files.{Files, number_of, overwritten}
+use Rattle.jb_disk.specs.Files.{Files, file_number, overwritten}
 use Rattle.jb_disk.specs.FileLaws.{same_file, same_files, with_file-here, with_file-other}
 use Rattle.jb_disk.specs.Images.{Images}
 use Rattle.jb_disk.specs.Device.{Device, TellsAnImage}
@@ -119,7 +119,7 @@ module _ (was : Files) (lengths : List Length) (pieces : List Piece) (has : IsRe
   }
 
   -- the journal and the shadow of the texts are as they were
-  way_high : (files : Files) → IsOnTheWay lengths pieces was files → (file : FileId) → 4 ≤ number_of file → files file ≡ was file
+  way_high : (files : Files) → IsOnTheWay lengths pieces was files → (file : FileId) → 4 ≤ file_number file → files file ≡ was file
   way_high files way file high = way_kept lengths pieces was has.legal files way file high
 
   -- so the gate is still open
@@ -136,7 +136,7 @@ module _ (was : Files) (lengths : List Length) (pieces : List Piece) (has : IsRe
         (λ left on agree. six_files now left agree (high left on Jnl (omega arith)) (high left on Ndt (omega arith))) way.left below;
   }
     where
-      high : (left : Files) → IsOnTheWay lengths pieces was left → (file : FileId) → 4 ≤ number_of file → left file ≡ now file
+      high : (left : Files) → IsOnTheWay lengths pieces was left → (file : FileId) → 4 ≤ file_number file → left file ≡ now file
       high left on file above = way_high left on file above ∙ sym (way_high now (way.read now there) file above)
 
   -- where the record writes each byte past an old end

@@ -7,7 +7,7 @@ use Rattle.std.proofs.lemmas.List.Elements.{All-head, All-tail}
 use Rattle.jb_disk.specs.declared.file.FileId.{FileId}
 use Rattle.jb_disk.specs.declared.piece.Length.{Length}
 use Rattle.jb_disk.specs.declared.piece.Piece.{Piece}
-use Rattle.jb_disk.specs.Files.{Files, number_of, IsResized, InFile}
+use Rattle.jb_disk.specs.Files.{Files, file_number, IsResized, InFile}
 use Rattle.jb_disk.specs.FileLaws.{same_file, number-injective}
 use Rattle.jb_disk.specs.Steps.{Cut}
 use Rattle.jb_disk.specs.Device.{Device, TellsAlike, Turns, Resizes, TellsAnImage, and_then}
@@ -19,26 +19,26 @@ use Rattle.jb_redo.specs.Rules.{sizes_of, with_size, new_sizes, IsBefore}
 use Rattle.jb_redo.proofs.SizeLemmas.{with_size-here, with_size-other}
 use Rattle.jb_redo.proofs.WayLemmas.{way_cut, resized_same}
 use Rattle.jb_journal.specs.Coming.{ComeBy}
-use Rattle.jb_journal.specs.Filing.{AreResized}
+use Rattle.jb_journal.specs.Filing.{HaveNewLengths}
 use Rattle.jb_journal.proofs.ComingLemmas.{come_none, come_then, come_resized}
 
 -- a file that none of them sets
-pub none_sets : (lengths : List Length) (sizes : FileId → ℕ) (file : FileId) → All (λ entry. number_of (entry.file) ≢ number_of file) lengths → new_sizes lengths sizes file ≡ sizes file
+pub none_sets : (lengths : List Length) (sizes : FileId → ℕ) (file : FileId) → All (λ entry. file_number (entry.file) ≢ file_number file) lengths → new_sizes lengths sizes file ≡ sizes file
 none_sets [] sizes file none = refl
 none_sets (entry ∷ lengths) sizes file none =
-    none_sets lengths (with_size entry sizes) file (All-tail (λ (e : Length). number_of (e.file) ≢ number_of file) entry lengths none)
-    ∙ with_size-other entry sizes file (λ same. All-head (λ (e : Length). number_of (e.file) ≢ number_of file) entry lengths none (sym same))
+    none_sets lengths (with_size entry sizes) file (All-tail (λ (e : Length). file_number (e.file) ≢ file_number file) entry lengths none)
+    ∙ with_size-other entry sizes file (λ same. All-head (λ (e : Length). file_number (e.file) ≢ file_number file) entry lengths none (sym same))
 
 -- a file's new length hangs on its old one alone
 pub sizes_agree : (lengths : List Length) (one other : FileId → ℕ) (file : FileId) → one file ≡ other file → new_sizes lengths one file ≡ new_sizes lengths other file
 sizes_agree [] one other file same = same
-sizes_agree (first ∷ lengths) one other file same = sizes_agree lengths (with_size first one) (with_size first other) file (elim (cases_eq (number_of file) (number_of first.file)) [
+sizes_agree (first ∷ lengths) one other file same = sizes_agree lengths (with_size first one) (with_size first other) file (elim (cases_eq (file_number file) (file_number first.file)) [
   | inl here ↦ with_size-here first one file here ∙ sym (with_size-here first other file here)
   | inr apart ↦ with_size-other first one file apart ∙ same ∙ sym (with_size-other first other file apart)
 ])
 
 -- the later ones are of other files
-later_apart : (entry : Length) (lengths : List Length) → All (IsBefore entry) lengths → All (λ other. number_of (other.file) ≢ number_of (entry.file)) lengths
+later_apart : (entry : Length) (lengths : List Length) → All (IsBefore entry) lengths → All (λ other. file_number (other.file) ≢ file_number (entry.file)) lengths
 later_apart entry lengths later = λ k d low same. let less = later k d low in omega (arith, same, less)
 
 -- the first of a rising list and the rest
@@ -57,8 +57,8 @@ set_at (entry ∷ lengths) zero d sizes rising low =
 set_at (entry ∷ lengths) (suc i) d sizes rising low = set_at lengths i d (with_size entry sizes) (pairs_tail entry lengths rising) (omega arith)
 
 -- one length set, and then the rest
-resized_more : (entry : Length) (lengths : List Length) (before mid after : Files) → All (IsBefore entry) lengths → InFile entry.file (IsResized entry.len) before mid → AreResized lengths mid after
-    → AreResized (entry ∷ lengths) before after
+resized_more : (entry : Length) (lengths : List Length) (before mid after : Files) → All (IsBefore entry) lengths → InFile entry.file (IsResized entry.len) before mid → HaveNewLengths lengths mid after
+    → HaveNewLengths (entry ∷ lengths) before after
 resized_more entry lengths before mid after later step rest file = elim (same_file file entry.file) [
   | inl same ↦ subst (λ (f : FileId). IsResized (new_sizes (entry ∷ lengths) (sizes_of before) f) (before f) (after f)) (sym same)
       (let apart = later_apart entry lengths later in
@@ -74,13 +74,13 @@ resized_more entry lengths before mid after later step rest file = elim (same_fi
 ]
 
 -- nothing is set
-resized_none : (files : Files) → AreResized [] files files
+resized_none : (files : Files) → HaveNewLengths [] files files
 resized_none files file = record { size = refl; same = λ i within low. refl }
 
 -- these lengths of all are still to be set
 pub record Setting (initial now : Device) (lengths rest : List Length) : Type 0 where
   pub rising : AllPairs IsBefore rest
-  pub told : (final : Option Files) → Turns (AreResized rest) now.contents final → Turns (AreResized lengths) initial.contents final
+  pub told : (final : Option Files) → Turns (HaveNewLengths rest) now.contents final → Turns (HaveNewLengths lengths) initial.contents final
   pub come : (final : List Images) → ComeBy rest [] now.moments final → ComeBy lengths [] initial.moments final
   pub counted : now.faults ≡ initial.faults
   pub alike : TellsAlike initial now
@@ -98,8 +98,8 @@ setting_start device lengths rising = record {
 }
 
 -- what is told, one length on
-told_more : (entry : Length) (lengths : List Length) (before mid after : Option Files) → All (IsBefore entry) lengths → Turns (InFile entry.file (IsResized entry.len)) before mid → Turns (AreResized lengths) mid after
-    → Turns (AreResized (entry ∷ lengths)) before after
+told_more : (entry : Length) (lengths : List Length) (before mid after : Option Files) → All (IsBefore entry) lengths → Turns (InFile entry.file (IsResized entry.len)) before mid → Turns (HaveNewLengths lengths) mid after
+    → Turns (HaveNewLengths (entry ∷ lengths)) before after
 told_more entry lengths None None None later first rest = tt
 told_more entry lengths None None (Some c) later first rest = absurd rest
 told_more entry lengths None (Some b) after later first rest = absurd first
@@ -126,7 +126,7 @@ setting_on initial now next lengths i d value setting rising low tells_now tells
     let pairs : AllPairs IsBefore (entry ∷ drop (i + 1) lengths) = subst (AllPairs IsBefore) more setting.rising in
     record {
       rising = pairs_tail entry (drop (i + 1) lengths) pairs;
-      told = λ final rest. setting.told final (subst (λ (l : List Length). Turns (AreResized l) now.contents final) (sym more) (told_more entry (drop (i + 1) lengths) now.contents next.contents final (pairs_head entry (drop (i + 1) lengths) pairs) resizes.done rest));
+      told = λ final rest. setting.told final (subst (λ (l : List Length). Turns (HaveNewLengths l) now.contents final) (sym more) (told_more entry (drop (i + 1) lengths) now.contents next.contents final (pairs_head entry (drop (i + 1) lengths) pairs) resizes.done rest));
       come = λ final rest. setting.come final (subst (λ (l : List Length). ComeBy l [] now.moments final) (sym more)
           (come_then (entry ∷ []) (drop (i + 1) lengths) [] [] now.moments next.moments final (come_resized entry now.moments next.moments moments) rest));
       counted = kept ∙ setting.counted;
@@ -135,10 +135,10 @@ setting_on initial now next lengths i d value setting rising low tells_now tells
     }
 
 -- all are set
-pub setting_end : (initial now : Device) (lengths rest : List Length) → Setting initial now lengths rest → rest ≡ [] → Turns (AreResized lengths) initial.contents now.contents
-setting_end initial now lengths rest setting none = setting.told now.contents (subst (λ (l : List Length). Turns (AreResized l) now.contents now.contents) (sym none) (same now.contents))
+pub setting_end : (initial now : Device) (lengths rest : List Length) → Setting initial now lengths rest → rest ≡ [] → Turns (HaveNewLengths lengths) initial.contents now.contents
+setting_end initial now lengths rest setting none = setting.told now.contents (subst (λ (l : List Length). Turns (HaveNewLengths l) now.contents now.contents) (sym none) (same now.contents))
   where
-    same : (contents : Option Files) → Turns (AreResized []) contents contents
+    same : (contents : Option Files) → Turns (HaveNewLengths []) contents contents
     same None = tt
     same (Some files) = resized_none files
 

@@ -3,10 +3,10 @@ use Rattle.std.proofs.Common.{ℕ, ◌≤◌, ◌∙◌, arith}
 use Rattle.jb_disk.specs.declared.file.FileId.TheVariants.{Jnl}
 use Rattle.jb_disk.specs.Files.{Files, InFile}
 use Rattle.jb_disk.specs.Steps.{Torn, Cut}
-use Rattle.jb_journal.specs.Stages.{IsUntouched, IsAtGate}
+use Rattle.jb_journal.specs.Stages.{KeepsHead, IsAtGate}
 
 -- a write behind the head
-pub untouched_torn : (start before after : Files) (at len : ℕ) → 16 ≤ at → IsUntouched start before → InFile Jnl (Torn at len) before after → IsUntouched start after
+pub untouched_torn : (start before after : Files) (at len : ℕ) → 16 ≤ at → KeepsHead start before → InFile Jnl (Torn at len) before after → KeepsHead start after
 untouched_torn start before after at len behind was step =
     let size = step.here.size in
     let long = was.long in
@@ -17,7 +17,7 @@ untouched_torn start before after at len behind was step =
     }
 
 -- a change of length that keeps the head
-pub untouched_cut : (start before after : Files) (len : ℕ) → 16 ≤ len → IsUntouched start before → InFile Jnl (Cut len) before after → IsUntouched start after
+pub untouched_cut : (start before after : Files) (len : ℕ) → 16 ≤ len → KeepsHead start before → InFile Jnl (Cut len) before after → KeepsHead start after
 untouched_cut start before after len behind was step =
     let shorter = step.here.no_shorter in
     let long = was.long in

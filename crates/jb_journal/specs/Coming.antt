@@ -17,15 +17,15 @@ pub data Done : Type 0 where
   Synced : (file : FileId) (bytes : List ℕ) → Done
 
 -- what it makes of that
-abbrev pub change_of : Done → Images → Images
-change_of (Wrote file at len) = with_image file (torn at len)
-change_of (Resized entry) = with_image entry.file (cut entry.len)
-change_of (Synced file bytes) = with_image file (λ _. just_synced bytes)
+abbrev pub made_by : Done → Images → Images
+made_by (Wrote file at len) = with_image file (torn at len)
+made_by (Resized entry) = with_image entry.file (cut entry.len)
+made_by (Synced file bytes) = with_image file (λ _. just_synced bytes)
 
--- the moments after these calls, in order
-abbrev pub after : List Done → List Images → List Images
-after [] moments = moments
-after (call ∷ calls) moments = after calls (and_then (change_of call) moments)
+-- the moments moments_after these calls, in order
+abbrev pub moments_after : List Done → List Images → List Images
+moments_after [] moments = moments
+moments_after (call ∷ calls) moments = moments_after calls (and_then (made_by call) moments)
 
 -- the lengths that they set
 abbrev pub lengths_of : List Done → List Length
@@ -44,7 +44,7 @@ syncs_of (Synced file bytes ∷ calls) = file ∷ syncs_of calls
 -- the moments that have come came by these new lengths and these syncs, in order, and by writes, and by no other call
 pub record ComeBy (lengths : List Length) (syncs : List FileId) (old new : List Images) : Type 0 where
   pub calls : List Done
-  pub all : new ≡ after calls old
+  pub all : new ≡ moments_after calls old
   pub lengths_are : lengths_of calls ≡ lengths
   pub syncs_are : syncs_of calls ≡ syncs
 

@@ -8,7 +8,7 @@ use Rattle.jb_disk.specs.Gate.{with_gate_closed}
 use Rattle.jb_redo.specs.Changes.{changed}
 use Rattle.jb_redo.specs.Record.{record_bytes}
 use Rattle.jb_redo.specs.Replay.{IsGrowthCovered, Replays}
-use Rattle.jb_redo.specs.Rules.{sizes_of, IsLegal}
+use Rattle.jb_redo.specs.Rules.{sizes_of, IsLegalRecord}
 
 -- the files are the same but for the journal
 abbrev pub AgreeButJournal : Files → Files → Type 0
@@ -16,7 +16,7 @@ AgreeButJournal one other = (file : FileId) → file ≢ Jnl → one file ≡ ot
 
 -- over these files: the change makes a record and writes each byte past an old end, and the journal has its head with the gate closed
 pub record IsReady (change : RedoView) (files : Files) : Type 0 where
-  pub legal : IsLegal (sizes_of files) change.lengths change.pieces
+  pub legal : IsLegalRecord (sizes_of files) change.lengths change.pieces
   pub grown : IsGrowthCovered change.lengths change.pieces files
   pub long : 16 ≤ length (files Jnl)
   pub shut : slice_index (files Jnl) 0 ≢ 1

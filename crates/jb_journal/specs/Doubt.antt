@@ -45,8 +45,8 @@ HasTriedToSync old new = ForSome old.contents (λ files. IsGateOpen files
     → MayChange (with_image Jnl (λ _. just_synced (files Jnl))) old.moments new.moments)
 
 -- the files as the answer says: with the change, or as they were
-abbrev pub answered : Bool → RedoView → Files → Files
-answered stands change start = if stands then changed change start else start
+abbrev pub settled_files : Bool → RedoView → Files → Files
+settled_files stands change start = if stands then changed change start else start
 
 -- but for the journal these are the files, and the journal has its head with the gate closed
 pub record IsSettledAt (base files : Files) : Type 0 where

@@ -30,7 +30,7 @@ pub record OpensNow (property : Files → Type 0) (old new : List Images) : Type
   pub at_once : Leaves property opening
 
 -- the gate has come to stand open: at first a crash may leave the gate closed, then at one it leaves it open, and from that one on it leaves only files with this property
-pub record Opens (property : Files → Type 0) (old new : List Images) : Type 0 where
+pub record OpensGate (property : Files → Type 0) (old new : List Images) : Type 0 where
   pub until : List Images
   pub opening : Images
   pub since : List Images
@@ -46,10 +46,10 @@ WhereTold [] claim = Unit {0}
 WhereTold (now ∷ earlier) claim = claim
 
 -- a commit that was done or stopped late has opened the gate for good, and one that was stopped early has not
-abbrev pub OpensFor : {T : Type 0} → Result T Stopped → (Files → Type 0) → List Images → List Images → Type 0
-OpensFor (Ok value) property old new = Opens property old new
-OpensFor (Err Late) property old new = Opens property old new
-OpensFor (Err Early) property old new = StaysShut old new
+abbrev pub OpensGateFor : {T : Type 0} → Result T Stopped → (Files → Type 0) → List Images → List Images → Type 0
+OpensGateFor (Ok value) property old new = OpensGate property old new
+OpensGateFor (Err Late) property old new = OpensGate property old new
+OpensGateFor (Err Early) property old new = StaysShut old new
 
 -- the first two stages open the gate in their last moment, or not at all
 abbrev pub OpensNowFor : {T E : Type 0} → Result T E → (Files → Type 0) → List Images → List Images → Type 0

@@ -7,7 +7,7 @@ use Rattle.jb_disk.specs.declared.piece.Length.{Length}
 use Rattle.jb_disk.specs.declared.piece.Piece.{Piece}
 use Rattle.jb_disk.specs.declared.piece.Piece.TheVariants.{Bytes, Copy}
 use Rattle.jb_disk.specs.declared.piece.PieceHead.{PieceHead}
-use Rattle.jb_disk.specs.Files.{number_of}
+use Rattle.jb_disk.specs.Files.{file_number}
 use Rattle.jb_redo.specs.Record.{record_head, record_end, length_bytes, piece_bytes}
 
 -- a piece by its number from 0
@@ -16,7 +16,7 @@ nth_piece pieces k = get_or pieces k (Bytes Jhr 0 [])
 
 -- the twelve bytes with which a piece begins
 abbrev pub head_bytes : PieceHead → List ℕ
-head_bytes head = (if head.copy then 1 else 0) ∷ number_of head.to ∷ (if head.copy then number_of head.from else 0) ∷ 0 ∷ number_bytes 4 head.to_at ++ number_bytes 4 head.len
+head_bytes head = (if head.copy then 1 else 0) ∷ file_number head.to ∷ (if head.copy then file_number head.from else 0) ∷ 0 ∷ number_bytes 4 head.to_at ++ number_bytes 4 head.len
 
 -- what stands behind them: its bytes, or the place from which it is copied
 abbrev pub tail_bytes : Piece → List ℕ
@@ -24,12 +24,12 @@ tail_bytes (Bytes file at bytes) = bytes
 tail_bytes (Copy from from_at to to_at len) = number_bytes 4 from_at
 
 -- how many bytes a piece takes
-abbrev pub size_of : PieceHead → ℕ
-size_of head = 12 + (if head.copy then 4 else head.len)
+abbrev pub spelled_size : PieceHead → ℕ
+spelled_size head = 12 + (if head.copy then 4 else head.len)
 
 -- a record up to its first piece
-abbrev pub front_bytes : List Length → ℕ → List ℕ
-front_bytes lengths pieces = record_head ++ number_bytes 4 (length lengths) ++ flat_map length_bytes lengths ++ number_bytes 4 pieces
+abbrev pub record_front : List Length → ℕ → List ℕ
+record_front lengths pieces = record_head ++ number_bytes 4 (length lengths) ++ flat_map length_bytes lengths ++ number_bytes 4 pieces
 
 -- a record from its first piece on
 abbrev pub back_bytes : List Piece → List ℕ

@@ -11,18 +11,18 @@ use Rattle.jb_journal.specs.Commit.{AgreeButJournal, journal_of}
 use Rattle.jb_redo.specs.Changes.{changed}
 
 -- while the record is written: the other files and the head of the journal are as at the start
-pub record IsUntouched (start files : Files) : Type 0 where
+pub record KeepsHead (start files : Files) : Type 0 where
   pub same : AgreeButJournal files start
   pub long : 16 ≤ length (files Jnl)
   pub head : (i : ℕ) → i < 16 → slice_index (files Jnl) i ≡ slice_index (start Jnl) i
 
 -- the record stands behind the head
-abbrev pub recorded : RedoView → Files → Files
-recorded change files = with_file Jnl (journal_of change files) files
+abbrev pub with_record : RedoView → Files → Files
+with_record change files = with_file Jnl (journal_of change files) files
 
 -- and the gate is open
 abbrev pub opened : RedoView → Files → Files
-opened change files = written Jnl 0 (1 ∷ []) (recorded change files)
+opened change files = written Jnl 0 (1 ∷ []) (with_record change files)
 
 -- while the gate is written: all but the journal's first byte is as in these files
 pub record IsAtGate (base files : Files) : Type 0 where

@@ -10,7 +10,7 @@ ghost use Rattle.jb_journal.specs.Coming.{ComeBy, SyncsChanged, HasSynced, journ
 ghost use Rattle.jb_journal.specs.Commit.{IsReady, IsBeforeOrAfter, ReplaysTo, committed};
 ghost use Rattle.jb_redo.specs.Changes.{IsWritable, changed};
 ghost use Rattle.jb_journal.specs.Doubt.{IsEarly, IsInDoubt, IsSettledAt};
-ghost use Rattle.jb_journal.specs.Opening.{OpensFor, WhereTold, OpensNowFor};
+ghost use Rattle.jb_journal.specs.Opening.{OpensGateFor, WhereTold, OpensNowFor};
 ghost use Rattle.jb_journal.specs.Stages.{IsOpened, IsGoing, IsClosing, IsUnderWay, closed, opened};
 
 use crate::Stopped;
@@ -106,7 +106,7 @@ pub fn commit<D: Disk>(disk: &mut D, redo: &Redo) -> Result<(), Stopped>
         LeavesOnly (D.device disk.old) (D.device disk.new) (IsBeforeOrAfter redo.now start)) }
     ensures opening { ForSome (D.device disk.old).contents (λ start.
         WhereTold (D.device disk.old).moments
-        (OpensFor result (ReplaysTo (changed redo.now start)) (D.device disk.old).moments
+        (OpensGateFor result (ReplaysTo (changed redo.now start)) (D.device disk.old).moments
         (D.device disk.new).moments)) }
 
     // It syncs the journal three times and each file once of which the change speaks, and no other.

@@ -9,7 +9,7 @@ ghost use Rattle.jb_disk.specs.Runs.{Keeps};
 ghost use Rattle.jb_redo.specs.OnTheWay.{IsOnTheWay};
 ghost use Rattle.jb_journal.specs.Coming.{ComeBy};
 ghost use Rattle.jb_journal.specs.Filing.{IsWrittenBy};
-ghost use Rattle.jb_journal.specs.Writing.{Reaches, copied};
+ghost use Rattle.jb_journal.specs.Writing.{Reaches, copied_over};
 
 use crate::gathering::MOST_BYTES;
 use jb_disk::{Disk, DiskFailed, FileId};
@@ -29,7 +29,7 @@ fn copy_part<D: Disk>(disk: &mut D, part: Copying, bytes: &mut [u8]) -> Result<(
     requires source { Reaches
         (D.device disk.old).contents part.from (part.from_at + length bytes.old) }
     requires target { Reaches (D.device disk.old).contents part.to (part.to_at + length bytes.old) }
-    ensures told { OnOk result ((D.device disk.new).contents ≡ option_map (copied part.from
+    ensures told { OnOk result ((D.device disk.new).contents ≡ option_map (copied_over part.from
         part.from_at part.to part.to_at (length bytes.old)) (D.device disk.old).contents) }
     ensures keeps { (lengths : List Length) (pieces : List Piece) (start : Files)
         → IsWrittenBy start pieces part.to part.to_at (length bytes.old)
@@ -54,7 +54,7 @@ pub(crate) fn copy<D: Disk>(
     requires to_fits { whole.to_at < 2 ^ 32 }
     requires source { Reaches (D.device disk.old).contents whole.from (whole.from_at + len) }
     requires target { Reaches (D.device disk.old).contents whole.to (whole.to_at + len) }
-    ensures told { OnOk result ((D.device disk.new).contents ≡ option_map (copied whole.from
+    ensures told { OnOk result ((D.device disk.new).contents ≡ option_map (copied_over whole.from
         whole.from_at whole.to whole.to_at len) (D.device disk.old).contents) }
     ensures keeps { (lengths : List Length) (pieces : List Piece) (start : Files)
         → IsWrittenBy start pieces whole.to whole.to_at len

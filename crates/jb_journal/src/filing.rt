@@ -5,14 +5,14 @@ ghost use Rattle.jb_disk.specs.declared.file.FileId.{FileId};
 ghost use Rattle.jb_disk.specs.declared.piece.Length.{Length};
 ghost use Rattle.jb_disk.specs.declared.piece.Piece.{Piece};
 ghost use Rattle.jb_disk.specs.Device.{FailsBy, Turns};
-ghost use Rattle.jb_disk.specs.Files.{Files, number_of};
+ghost use Rattle.jb_disk.specs.Files.{Files, file_number};
 ghost use Rattle.jb_disk.specs.Runs.{LeavesNow, Shows, Keeps};
 ghost use Rattle.jb_redo.specs.OnTheWay.{IsOnTheWay};
 ghost use Rattle.jb_redo.specs.Replay.{target_of, applied, IsGrowthCovered};
-ghost use Rattle.jb_redo.specs.Rules.{sizes_of, AreLegalLengths, IsLegal};
+ghost use Rattle.jb_redo.specs.Rules.{sizes_of, AreLegalLengths, IsLegalRecord};
 ghost use Rattle.jb_journal.specs.Coming.{ComeBy, SyncsIfChanged, SyncsChanged};
-ghost use Rattle.jb_journal.specs.Filing.{AreResized, AgreeBelow, with_piece, with_pieces, HasPlace, IsUnmentioned};
-ghost use Rattle.jb_journal.specs.Pending.{seen, IsHeld, IsFrom};
+ghost use Rattle.jb_journal.specs.Filing.{HaveNewLengths, AgreeBelow, with_piece, with_pieces, HasPlace, IsUnmentioned};
+ghost use Rattle.jb_journal.specs.Pending.{told_with, StandsInFile, IsFrom};
 ghost use Rattle.jb_journal.specs.Spelling.{nth_piece};
 
 use crate::copying::Copying;
@@ -22,7 +22,7 @@ use jb_disk::{Disk, DiskFailed, FileId, Length, Redo};
 // Sets the new lengths in order.
 fn set_lengths<D: Disk>(disk: &mut D, lengths: &[Length]) -> Result<(), DiskFailed>
     requires { AreLegalLengths lengths.now }
-    ensures told { OnOk result (Turns (AreResized lengths.now) (D.device disk.old).contents
+    ensures told { OnOk result (Turns (HaveNewLengths lengths.now) (D.device disk.old).contents
         (D.device disk.new).contents) }
     ensures keeps { (pieces : List Piece) (start : Files)
         → Keeps (IsOnTheWay lengths.now pieces start) (D.device disk.old) (D.device disk.new) }
@@ -44,14 +44,14 @@ fn put_piece<D: Disk>(
     k: u32,
 ) -> Result<(), DiskFailed>
     requires within { k < length redo.now.pieces }
-    requires held { IsHeld gathering.old (D.device disk.old).contents }
-    requires place { ForSome (seen gathering.old (D.device disk.old).contents) (λ files.
+    requires held { StandsInFile gathering.old (D.device disk.old).contents }
+    requires place { ForSome (told_with gathering.old (D.device disk.old).contents) (λ files.
         HasPlace files (nth_piece redo.now.pieces k)) }
-    ensures told { OnOk result (seen gathering.new (D.device disk.new).contents ≡ option_map
-        (with_piece (nth_piece redo.now.pieces k)) (seen gathering.old (D.device disk.old).contents)) }
-    ensures held { OnOk result (IsHeld gathering.new (D.device disk.new).contents) }
+    ensures told { OnOk result (told_with gathering.new (D.device disk.new).contents ≡ option_map
+        (with_piece (nth_piece redo.now.pieces k)) (told_with gathering.old (D.device disk.old).contents)) }
+    ensures held { OnOk result (StandsInFile gathering.new (D.device disk.new).contents) }
     ensures keeps { (lengths : List Length) (start : Files)
-        → IsLegal (sizes_of start) lengths redo.now.pieces → IsFrom start redo.now.pieces gathering.old
+        → IsLegalRecord (sizes_of start) lengths redo.now.pieces → IsFrom start redo.now.pieces gathering.old
         → IsFrom start redo.now.pieces gathering.new
         × Keeps (IsOnTheWay lengths redo.now.pieces start) (D.device disk.old) (D.device disk.new) }
     ensures come { OnOk result (ComeBy [] [] (D.device disk.old).moments (D.device disk.new).moments) }
@@ -79,7 +79,7 @@ fn put_pieces<D: Disk>(disk: &mut D, redo: &Redo) -> Result<(), DiskFailed>
     ensures told { OnOk result ((D.device disk.new).contents ≡ option_map (with_pieces
         redo.now.pieces) (D.device disk.old).contents) }
     ensures keeps { (lengths : List Length) (start : Files)
-        → IsLegal (sizes_of start) lengths redo.now.pieces
+        → IsLegalRecord (sizes_of start) lengths redo.now.pieces
         → Keeps (IsOnTheWay lengths redo.now.pieces start) (D.device disk.old) (D.device disk.new) }
     ensures come { OnOk result (ComeBy [] [] (D.device disk.old).moments (D.device disk.new).moments) }
     ensures cause { FailsBy ⊥ (D.device disk.old) (D.device disk.new) result }
@@ -93,7 +93,7 @@ fn put_pieces<D: Disk>(disk: &mut D, redo: &Redo) -> Result<(), DiskFailed>
 
 // Whether a new length is one of this file.
 fn sets(lengths: &[Length], file: FileId) -> bool
-    ensures { (result ≡ false) ↔ All (λ entry. number_of (entry.file) ≢ number_of file) lengths.now }
+    ensures { (result ≡ false) ↔ All (λ entry. file_number (entry.file) ≢ file_number file) lengths.now }
 {
     lengths
         .iter()
@@ -103,7 +103,7 @@ fn sets(lengths: &[Length], file: FileId) -> bool
 // Whether a piece is written into this file.
 fn writes(redo: &Redo, file: FileId) -> bool
     ensures { (result ≡ false) ↔ All (λ piece.
-        number_of (target_of piece) ≢ number_of file) redo.now.pieces }
+        file_number (target_of piece) ≢ file_number file) redo.now.pieces }
 {
     for k in 0..redo.pieces() {
         if redo.head(k).to.number() == file.number() {
@@ -169,19 +169,19 @@ fn sync_changed<D: Disk>(disk: &mut D, redo: &Redo) -> Result<(), DiskFailed>
 pub(crate) fn write_files<D: Disk>(disk: &mut D, redo: &Redo) -> Result<(), DiskFailed>
     requires lengths { AreLegalLengths redo.now.lengths }
     requires room { ForSome (D.device disk.old).contents (λ files.
-        IsLegal (sizes_of files) redo.now.lengths redo.now.pieces) }
+        IsLegalRecord (sizes_of files) redo.now.lengths redo.now.pieces) }
     ensures told { OnOk result ((start : Files)
-        → IsLegal (sizes_of start) redo.now.lengths redo.now.pieces
+        → IsLegalRecord (sizes_of start) redo.now.lengths redo.now.pieces
         → IsGrowthCovered redo.now.lengths redo.now.pieces start
         → ForSome (D.device disk.old).contents (IsOnTheWay redo.now.lengths redo.now.pieces start)
         → (D.device disk.new).contents ≡ option_map (λ _.
         applied redo.now.lengths redo.now.pieces start) (D.device disk.old).contents) }
     ensures durable { OnOk result ((start : Files)
-        → IsLegal (sizes_of start) redo.now.lengths redo.now.pieces
+        → IsLegalRecord (sizes_of start) redo.now.lengths redo.now.pieces
         → Shows (IsOnTheWay redo.now.lengths redo.now.pieces start) (D.device disk.old)
         → ForSome (D.device disk.new).contents (λ final. LeavesNow (λ left.
         left ≡ final) (D.device disk.new).moments)) }
-    ensures keeps { (start : Files) → IsLegal (sizes_of start) redo.now.lengths redo.now.pieces
+    ensures keeps { (start : Files) → IsLegalRecord (sizes_of start) redo.now.lengths redo.now.pieces
         → Keeps (IsOnTheWay redo.now.lengths redo.now.pieces start) (D.device disk.old)
         (D.device disk.new) }
     ensures come { OnOk result (SyncsChanged [] [] redo.now.lengths redo.now.lengths redo.now.pieces

@@ -31,8 +31,9 @@ pub(crate) fn set_gate<D: Disk>(disk: &mut D, gate: u8) -> Result<(), DiskFailed
     disk.sync(FileId::Jnl)
 }
 
-/// Whether the gate is open.
-pub(crate) fn is_gate_open<D: Disk>(disk: &mut D) -> Result<bool, DiskFailed>
+/// Whether the gate is open: a change then waits in the journal, which the next recovery does. It makes two calls of the disk, or one
+/// where the journal has at most 16 bytes.
+pub fn is_gate_open<D: Disk>(disk: &mut D) -> Result<bool, DiskFailed>
     ensures found { IfOk result (λ is_open. ForSome (D.device disk.old).contents (λ files.
         IsTrue is_open ↔ IsGateOpen files)) }
     ensures kept { OnlyReads (D.device disk.old) (D.device disk.new) }

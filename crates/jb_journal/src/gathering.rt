@@ -9,8 +9,8 @@ ghost use Rattle.jb_disk.specs.Runs.{Keeps};
 ghost use Rattle.jb_redo.specs.OnTheWay.{IsOnTheWay};
 ghost use Rattle.jb_journal.specs.Coming.{ComeBy};
 ghost use Rattle.jb_journal.specs.Filing.{IsWrittenBy};
-ghost use Rattle.jb_journal.specs.Pending.{seen, IsHeld, Flushes, Gathers};
-ghost use Rattle.jb_journal.specs.Writing.{Reaches, copied};
+ghost use Rattle.jb_journal.specs.Pending.{told_with, StandsInFile, Flushes, Gathers};
+ghost use Rattle.jb_journal.specs.Writing.{Reaches, copied_over};
 
 use crate::copying::{Copying, copy};
 use jb_disk::{Disk, DiskFailed, FileId};
@@ -77,7 +77,7 @@ impl Gathering {
 
     /// Writes what is gathered: one call, or none where there is nothing.
     pub(crate) fn flush<D: Disk>(&mut self, disk: &mut D) -> Result<(), DiskFailed>
-        requires { IsHeld self.old (D.device disk.old).contents }
+        requires { StandsInFile self.old (D.device disk.old).contents }
         ensures { Flushes self.old (D.device disk.old) self.new (D.device disk.new) result }
     {
         let count = self.filled;
@@ -98,8 +98,8 @@ impl Gathering {
         bytes: &[u8],
     ) -> Result<(), DiskFailed>
         requires fits { at + length bytes.now < 2 ^ 63 }
-        requires held { IsHeld self.old (D.device disk.old).contents }
-        requires room { Reaches (seen self.old (D.device disk.old).contents) file (at + length bytes.now) }
+        requires held { StandsInFile self.old (D.device disk.old).contents }
+        requires room { Reaches (told_with self.old (D.device disk.old).contents) file (at + length bytes.now) }
         ensures { Gathers file at bytes.now self.old (D.device disk.old) self.new (D.device disk.new) result }
     {
         if self.takes(file, at, bytes.len()) {
@@ -131,7 +131,7 @@ impl Gathering {
         requires source { Reaches (D.device disk.old).contents whole.from (whole.from_at + len) }
         requires target { Reaches (D.device disk.old).contents whole.to (whole.to_at + len) }
         ensures same { self.new ≡ self.old }
-        ensures told { OnOk result ((D.device disk.new).contents ≡ option_map (copied whole.from
+        ensures told { OnOk result ((D.device disk.new).contents ≡ option_map (copied_over whole.from
             whole.from_at whole.to whole.to_at len) (D.device disk.old).contents) }
         ensures keeps { (lengths : List Length) (pieces : List Piece) (start : Files)
             → IsWrittenBy start pieces whole.to whole.to_at len

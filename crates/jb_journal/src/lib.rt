@@ -30,6 +30,7 @@ mod stopped;
 
 pub use committing::commit;
 pub use error::{JournalError, Recovered};
+pub use gate::is_gate_open;
 pub use preparing::prepare;
 pub use recovery::{recover, sync_all};
 pub use settling::settle;

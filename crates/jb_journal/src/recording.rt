@@ -9,9 +9,9 @@ ghost use Rattle.jb_disk.specs.Runs.{LeavesNow, Keeps};
 ghost use Rattle.jb_redo.specs.Record.{length_bytes, piece_bytes, record_bytes};
 ghost use Rattle.jb_journal.specs.Coming.{ComeBy, journal_length};
 ghost use Rattle.jb_redo.specs.Changes.{IsWritable};
-ghost use Rattle.jb_journal.specs.Spelling.{nth_piece, tail_bytes, front_bytes, back_bytes};
-ghost use Rattle.jb_journal.specs.Stages.{IsUntouched, recorded};
-ghost use Rattle.jb_journal.specs.Pending.{seen, IsBound, Puts};
+ghost use Rattle.jb_journal.specs.Spelling.{nth_piece, tail_bytes, record_front, back_bytes};
+ghost use Rattle.jb_journal.specs.Stages.{KeepsHead, with_record};
+ghost use Rattle.jb_journal.specs.Pending.{told_with, IsBound, PutsBytes};
 ghost use Rattle.jb_journal.specs.Writing.{Reaches};
 
 use crate::gathering::Gathering;
@@ -28,8 +28,8 @@ fn put<D: Disk>(
     requires place { 16 ≤ at }
     requires fits { at + length bytes.now < 2 ^ 63 }
     requires bound { IsBound gathering.old (D.device disk.old).contents }
-    requires room { Reaches (seen gathering.old (D.device disk.old).contents) Jnl (at + length bytes.now) }
-    ensures { Puts at bytes.now gathering.old (D.device disk.old) gathering.new (D.device disk.new) result }
+    requires room { Reaches (told_with gathering.old (D.device disk.old).contents) Jnl (at + length bytes.now) }
+    ensures { PutsBytes at bytes.now gathering.old (D.device disk.old) gathering.new (D.device disk.new) result }
 {
     gathering.put(disk, FileId::Jnl, at, bytes)
 }
@@ -44,9 +44,9 @@ fn put_lengths<D: Disk>(
     requires place { 16 ≤ at }
     requires fits { at + 8 * length lengths.now < 2 ^ 63 }
     requires bound { IsBound gathering.old (D.device disk.old).contents }
-    requires room { Reaches (seen gathering.old (D.device disk.old).contents) Jnl
+    requires room { Reaches (told_with gathering.old (D.device disk.old).contents) Jnl
         (at + 8 * length lengths.now) }
-    ensures { Puts at (flat_map length_bytes lengths.now) gathering.old (D.device disk.old)
+    ensures { PutsBytes at (flat_map length_bytes lengths.now) gathering.old (D.device disk.old)
         gathering.new (D.device disk.new) result }
 {
     let mut place = at;
@@ -69,9 +69,9 @@ fn put_tail<D: Disk>(
     requires within { k < length redo.now.pieces }
     requires fits { at + length (tail_bytes (nth_piece redo.now.pieces k)) < 2 ^ 63 }
     requires bound { IsBound gathering.old (D.device disk.old).contents }
-    requires room { Reaches (seen gathering.old (D.device disk.old).contents) Jnl
+    requires room { Reaches (told_with gathering.old (D.device disk.old).contents) Jnl
         (at + length (tail_bytes (nth_piece redo.now.pieces k))) }
-    ensures { Puts at (tail_bytes (nth_piece redo.now.pieces k)) gathering.old (D.device disk.old)
+    ensures { PutsBytes at (tail_bytes (nth_piece redo.now.pieces k)) gathering.old (D.device disk.old)
         gathering.new (D.device disk.new) result }
 {
     let head = redo.head(k);
@@ -94,9 +94,9 @@ fn put_piece<D: Disk>(
     requires within { k < length redo.now.pieces }
     requires fits { at + length (piece_bytes (nth_piece redo.now.pieces k)) < 2 ^ 63 }
     requires bound { IsBound gathering.old (D.device disk.old).contents }
-    requires room { Reaches (seen gathering.old (D.device disk.old).contents) Jnl
+    requires room { Reaches (told_with gathering.old (D.device disk.old).contents) Jnl
         (at + length (piece_bytes (nth_piece redo.now.pieces k))) }
-    ensures { Puts at (piece_bytes (nth_piece redo.now.pieces k)) gathering.old (D.device disk.old)
+    ensures { PutsBytes at (piece_bytes (nth_piece redo.now.pieces k)) gathering.old (D.device disk.old)
         gathering.new (D.device disk.new) result }
 {
     put(disk, gathering, at, &head_code(redo.head(k)))?;
@@ -113,9 +113,9 @@ fn put_pieces<D: Disk>(
     requires place { 16 ≤ at }
     requires fits { at + length (flat_map piece_bytes redo.now.pieces) < 2 ^ 63 }
     requires bound { IsBound gathering.old (D.device disk.old).contents }
-    requires room { Reaches (seen gathering.old (D.device disk.old).contents) Jnl
+    requires room { Reaches (told_with gathering.old (D.device disk.old).contents) Jnl
         (at + length (flat_map piece_bytes redo.now.pieces)) }
-    ensures { Puts at (flat_map piece_bytes redo.now.pieces) gathering.old (D.device disk.old)
+    ensures { PutsBytes at (flat_map piece_bytes redo.now.pieces) gathering.old (D.device disk.old)
         gathering.new (D.device disk.new) result }
 {
     let mut place = at;
@@ -135,9 +135,9 @@ fn put_front<D: Disk>(
 ) -> Result<(), DiskFailed>
     requires few { length lengths.now ≤ 4 }
     requires bound { IsBound gathering.old (D.device disk.old).contents }
-    requires room { Reaches (seen gathering.old (D.device disk.old).contents) Jnl
+    requires room { Reaches (told_with gathering.old (D.device disk.old).contents) Jnl
         (28 + 8 * length lengths.now) }
-    ensures { Puts 16 (front_bytes lengths.now pieces) gathering.old (D.device disk.old)
+    ensures { PutsBytes 16 (record_front lengths.now pieces) gathering.old (D.device disk.old)
         gathering.new (D.device disk.new) result }
 {
     put(disk, gathering, 16, &start_code(lengths.len() as u32))?;
@@ -162,8 +162,8 @@ fn put_back<D: Disk>(
     requires end { end ≡ at + length (flat_map piece_bytes redo.now.pieces) }
     requires fits { end + 4 < 2 ^ 63 }
     requires bound { IsBound gathering.old (D.device disk.old).contents }
-    requires room { Reaches (seen gathering.old (D.device disk.old).contents) Jnl (end + 4) }
-    ensures { Puts at (back_bytes redo.now.pieces) gathering.old (D.device disk.old)
+    requires room { Reaches (told_with gathering.old (D.device disk.old).contents) Jnl (end + 4) }
+    ensures { PutsBytes at (back_bytes redo.now.pieces) gathering.old (D.device disk.old)
         gathering.new (D.device disk.new) result }
 {
     put_pieces(disk, gathering, at, redo)?;
@@ -180,8 +180,8 @@ fn put_record<D: Disk>(
     requires writable { IsWritable redo.now }
     requires size { size ≡ length (record_bytes redo.now.lengths redo.now.pieces) }
     requires bound { IsBound gathering.old (D.device disk.old).contents }
-    requires room { Reaches (seen gathering.old (D.device disk.old).contents) Jnl (16 + size) }
-    ensures { Puts 16 (record_bytes redo.now.lengths redo.now.pieces) gathering.old (D.device disk.old)
+    requires room { Reaches (told_with gathering.old (D.device disk.old).contents) Jnl (16 + size) }
+    ensures { PutsBytes 16 (record_bytes redo.now.lengths redo.now.pieces) gathering.old (D.device disk.old)
         gathering.new (D.device disk.new) result }
 {
     put_front(disk, gathering, redo.lengths(), redo.pieces())?;
@@ -196,7 +196,7 @@ fn put_gathered<D: Disk>(disk: &mut D, redo: &Redo, size: u64) -> Result<(), Dis
     requires room { Reaches (D.device disk.old).contents Jnl (16 + size) }
     ensures told { OnOk result ((D.device disk.new).contents ≡ option_map (written Jnl 16
         (record_bytes redo.now.lengths redo.now.pieces)) (D.device disk.old).contents) }
-    ensures keeps { (start : Files) → Keeps (IsUntouched start) (D.device disk.old)
+    ensures keeps { (start : Files) → Keeps (KeepsHead start) (D.device disk.old)
         (D.device disk.new) }
     ensures come { OnOk result (ComeBy [] [] (D.device disk.old).moments (D.device disk.new).moments) }
     ensures cause { FailsBy ⊥ (D.device disk.old) (D.device disk.new) result }
@@ -210,11 +210,11 @@ fn put_gathered<D: Disk>(disk: &mut D, redo: &Redo, size: u64) -> Result<(), Dis
 pub(crate) fn write_record<D: Disk>(disk: &mut D, redo: &Redo) -> Result<(), DiskFailed>
     requires writable { IsWritable redo.now }
     requires room { Reaches (D.device disk.old).contents Jnl 16 }
-    ensures told { OnOk result ((D.device disk.new).contents ≡ option_map (recorded redo.now)
+    ensures told { OnOk result ((D.device disk.new).contents ≡ option_map (with_record redo.now)
         (D.device disk.old).contents) }
     ensures durable { OnOk result (ForSome (D.device disk.old).contents (λ files. LeavesNow (λ left.
-        left Jnl ≡ recorded redo.now files Jnl) (D.device disk.new).moments)) }
-    ensures keeps { (start : Files) → Keeps (IsUntouched start) (D.device disk.old)
+        left Jnl ≡ with_record redo.now files Jnl) (D.device disk.new).moments)) }
+    ensures keeps { (start : Files) → Keeps (KeepsHead start) (D.device disk.old)
         (D.device disk.new) }
     ensures come { OnOk result (ComeBy (journal_length redo.now ∷ []) (Jnl ∷ [])
         (D.device disk.old).moments (D.device disk.new).moments) }

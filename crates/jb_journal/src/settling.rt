@@ -12,7 +12,7 @@ ghost use Rattle.jb_redo.specs.Rules.{AreLegalLengths};
 ghost use Rattle.jb_journal.specs.declared.stopped.Stopped.{Stopped};
 ghost use Rattle.jb_journal.specs.declared.stopped.Stopped.TheVariants.{Early, Late};
 ghost use Rattle.jb_journal.specs.Commit.{IsReady};
-ghost use Rattle.jb_journal.specs.Doubt.{IsInDoubt, HasStopped, HasTriedToSync, DoubtReplays, IsSettledAt, answered};
+ghost use Rattle.jb_journal.specs.Doubt.{IsInDoubt, HasStopped, HasTriedToSync, DoubtReplays, IsSettledAt, settled_files};
 
 use crate::Stopped;
 use crate::committing::write_and_close;
@@ -51,7 +51,7 @@ pub fn settle<D: Disk>(disk: &mut D, redo: &Redo, stopped: Stopped) -> Result<bo
     // Settled: the files with the change or without it, as it answers, the gate closed, and nothing unsynced.
     ensures answer { IfOk result (λ stands. (start : Files) → IsReady redo.now start
         → Shows (IsInDoubt stopped redo.now start) (D.device disk.old)
-        → Shows (IsSettledAt (answered stands redo.now start)) (D.device disk.new)) }
+        → Shows (IsSettledAt (settled_files stands redo.now start)) (D.device disk.new)) }
     ensures durable { OnOk result ((start : Files) → IsReady redo.now start
         → Shows (IsInDoubt stopped redo.now start) (D.device disk.old)
         → IsAllSynced (D.device disk.new)) }

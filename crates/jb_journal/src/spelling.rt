@@ -1,10 +1,10 @@
 //! The bytes of a record, part by part.
 ghost use Rattle.std.specs.Prelude.{◌≡◌, ◌+◌, ◌++◌, length, if◌then◌else◌};
-ghost use Rattle.jb_disk.specs.Files.{number_of};
+ghost use Rattle.jb_disk.specs.Files.{file_number};
 ghost use Rattle.jb_bytes.specs.Number.{number_bytes};
 ghost use Rattle.jb_redo.specs.Record.{record_head, length_bytes, record_bytes};
 ghost use Rattle.jb_redo.specs.Changes.{IsWritable};
-ghost use Rattle.jb_journal.specs.Spelling.{head_bytes, size_of};
+ghost use Rattle.jb_journal.specs.Spelling.{head_bytes, spelled_size};
 
 use jb_disk::{Length, PieceHead, Redo};
 
@@ -40,7 +40,7 @@ fn kind_code(head: PieceHead) -> u8
 
 // The number of the file that a piece is copied from, else 0.
 fn source_code(head: PieceHead) -> u8
-    ensures { result ≡ if head.copy then number_of head.from else 0 }
+    ensures { result ≡ if head.copy then file_number head.from else 0 }
 {
     if head.copy { head.from.number() } else { 0 }
 }
@@ -57,7 +57,7 @@ pub(crate) fn head_code(head: PieceHead) -> [u8; 12]
 
 /// How many bytes a piece takes.
 pub(crate) fn piece_size(head: PieceHead) -> u64
-    ensures { result ≡ size_of head }
+    ensures { result ≡ spelled_size head }
 {
     if head.copy { 16 } else { 12 + head.len as u64 }
 }

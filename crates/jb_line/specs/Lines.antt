@@ -6,8 +6,8 @@ use Rattle.jb_line.specs.Keys.{meaning_of}
 use Rattle.jb_line.specs.Typing.{Typing, text_by, is_return, line_of}
 
 -- the line that these keys leave, as each key of them changes it
-abbrev pub text_of : List Key → List ℕ
-text_of keys = fold (λ text key. text_by text (meaning_of key)) [] keys
+abbrev pub line_text : List Key → List ℕ
+line_text keys = fold (λ text key. text_by text (meaning_of key)) [] keys
 
 -- the last of these keys is a return
 abbrev pub ends_in_return : List Key → Bool
@@ -15,7 +15,7 @@ ends_in_return keys = fold (λ before key. is_return (meaning_of key)) false key
 
 -- the state behind these keys, by the whole list
 abbrev pub typing_of : Bool → List Key → Typing
-typing_of masked keys = record { text = text_of keys; after_return = ends_in_return keys; masked = masked }
+typing_of masked keys = record { text = line_text keys; after_return = ends_in_return keys; masked = masked }
 
 -- a line, and the place of the key that ends it
 pub record Placed : Type 0 where

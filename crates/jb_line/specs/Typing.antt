@@ -20,15 +20,15 @@ abbrev pub first_typing : Typing
 first_typing = record { text = []; after_return = false; masked = false }
 
 -- the line has changed, and the last key is no return
-abbrev pub with_text : Typing → List ℕ → Typing
-with_text typing text = record { text = text; after_return = false; masked = typing.masked }
+abbrev pub retyped : Typing → List ℕ → Typing
+retyped typing text = record { text = text; after_return = false; masked = typing.masked }
 
 -- so many bytes fewer at the end of the line
 abbrev pub without_last : ℕ → Typing → Typing
-without_last dropped typing = with_text typing (take (length typing.text - dropped) typing.text)
+without_last dropped typing = retyped typing (take (length typing.text - dropped) typing.text)
 
 -- a line has at most 78 bytes, and none behind a return
-pub record IsPossible (len : ℕ) (after_return : Bool) : Type 0 where
+pub record IsPossibleLine (len : ℕ) (after_return : Bool) : Type 0 where
   pub fits : len ≤ MOST_LINE_BYTES
   pub none : IsTrue after_return → len ≡ 0
 

@@ -1,7 +1,7 @@
 //! The line as it is typed.
 ghost use Rattle.std.specs.Prelude.{◌≡◌, ◌≤◌, ◌<◌, ◌-◌, ◌++◌, ◌∷◌, [], false, List, None, Some, take, length};
 ghost use Rattle.jb_line.specs.declared.key.Key.{Key};
-ghost use Rattle.jb_line.specs.Typing.{Typing, first_typing, with_text, without_last, typing_by, echo_of_byte, echo_by, line_by, typing_after, echo_of, line_of};
+ghost use Rattle.jb_line.specs.Typing.{Typing, first_typing, retyped, without_last, typing_by, echo_of_byte, echo_by, line_by, typing_after, echo_of, line_of};
 ghost use Rattle.jb_line.specs.Lines.{Placed, HasTyped, placed};
 
 use crate::key::{Echo, Key, Meaning, STAR};
@@ -22,13 +22,13 @@ pub struct LineEditor {
 
 impl Model for LineEditor {
     ghost use Rattle.std.specs.Prelude.{List, ℕ, take};
-    ghost use Rattle.jb_line.specs.Typing.{Typing, IsPossible};
+    ghost use Rattle.jb_line.specs.Typing.{Typing, IsPossibleLine};
 
     ghost Value = { Typing };
 
     ghost view = { λ e. record { text = take e.len e.bytes; after_return = e.after_return; masked = e.masked } };
 
-    ghost invariant = { λ e. IsPossible e.len e.after_return };
+    ghost invariant = { λ e. IsPossibleLine e.len e.after_return };
 }
 
 /// What came of a key.
@@ -182,7 +182,7 @@ impl LineEditor {
     /// The byte is put behind the others.
     fn put(&mut self, byte: u8) -> Typed
         requires { length self.old.text < MOST_LINE_BYTES }
-        ensures exact { self.new ≡ with_text self.old (self.old.text ++ byte ∷ []) }
+        ensures exact { self.new ≡ retyped self.old (self.old.text ++ byte ∷ []) }
         ensures echo { result.echo ≡ echo_of_byte self.old.masked byte }
         ensures line { result.line ≡ None }
     {

@@ -20,7 +20,7 @@ use Rattle.jb_link.proofs.AreaLemmas.{by_place, listed_named, named_is_in, named
 use Rattle.jb_link.proofs.IdListLemmas.{bytes_had, has_bytes, known, live_with}
 use Rattle.jb_link.proofs.KeptLemmas.{none_there}
 use Rattle.jb_link.specs.IdLists.{IsGreatestWith, IsLeastWith, id_at}
-use Rattle.jb_link.specs.Kept.{IsKeptList, IsLastWith, Keeps}
+use Rattle.jb_link.specs.Kept.{IsKeptList, IsLastWith, KeepsReplyTo}
 use Rattle.jb_link.specs.Replied.{IsLastReply, IsReply}
 
 -- the live messages of an area, as their links see them
@@ -228,7 +228,7 @@ last_by_id loaded parent last id some has upto greatest later =
 
 -- a reply without an id keeps the parent's number
 pub reply_keeps : (loaded : Loaded) (parent number : ℕ) (message : LoadedMessage) → 1 ≤ parent → IsReply loaded parent number message → is_none (replyid_of message.subfields) ≡ true
-    → Keeps loaded parent number × (parent < number)
+    → KeepsReplyTo loaded parent number × (parent < number)
 reply_keeps loaded parent number message some reply no_id =
     let none = none_there (replyid_of message.subfields) no_id in
     let parent_is : parent_for (live_of loaded) number None message.head.reply_to ≡ parent =

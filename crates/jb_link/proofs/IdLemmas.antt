@@ -12,7 +12,7 @@ use Rattle.std.specs.Ordering.{is_eq, nat_cmp, ordering_then}
 use Rattle.std.specs.declared.cmp.Ordering.{Ordering}
 use Rattle.jb_state.specs.Links.{is_id}
 use Rattle.jb_state.specs.declared.loaded.LoadedSlot.{LoadedSlot}
-use Rattle.jb_link.specs.Ids.{IsKept, IsSettled, KeepsLowest, at_seat, hash_of, msgid_at, number_among, number_of}
+use Rattle.jb_link.specs.Ids.{IsNumberedNow, IsSettled, KeepsLowest, at_seat, hash_of, msgid_at, number_among, number_of}
 use Rattle.jb_state.specs.LiveSlots.{msgid_in}
 use Rattle.jb_link.specs.declared.ids.Ids.{Ids}
 
@@ -60,7 +60,7 @@ pub kept_among : (old new : BTreeMap (ℕ × Bor (List ℕ)) ℕ) (id : List ℕ
     → get_by (λ key. ordering_then (nat_cmp hash key.0) (slice_cmp nat_cmp id key.1.now)) new ≡ Some number
     → KeepsOthers (λ x y. is_eq (ordering_then (nat_cmp x.0 y.0) (slice_cmp nat_cmp x.1.now y.1.now))) (λ key. is_eq (ordering_then (nat_cmp hash key.0) (slice_cmp nat_cmp id key.1.now)))
     old.entries new.entries
-    → IsKept (number_among old) (number_among new) id number
+    → IsNumberedNow (number_among old) (number_among new) id number
 kept_among old new id hash number is none has keeps = λ other. by_bytes other (bytes_eq id other) refl
   where
     here : number_among new id ≡ number
@@ -138,7 +138,7 @@ seat_settled base slots old new id number h = record {
 
 -- the id has the number now, and the others have theirs
 pub seat_kept : (base : ℕ) (slots : List LoadedSlot) (old new : Ids) (id : List ℕ) (number : ℕ) → TakesSeat base slots old new id number
-    → IsKept (number_of base slots old) (number_of base slots new) id number
+    → IsNumberedNow (number_of base slots old) (number_of base slots new) id number
 seat_kept base slots old new id number h = λ other.
     by_place other (cases_eq (hash_of other % length old.seats.items) (hash_of id % length old.seats.items)) (bytes_eq id other) refl
   where
@@ -179,7 +179,7 @@ seat_kept base slots old new id number h = λ other.
 
 -- what an id that is kept changes is what a slot with that MSGID changes
 pub slot_kept : (old new : List ℕ → ℕ) (own : List ℕ) (number place : ℕ) (slots : List LoadedSlot) (slot : LoadedSlot) → slice_get slots place ≡ Some slot
-    → Some own ≡ msgid_in (Some slot) → IsKept old new own number → KeepsLowest old new number (slice_get slots place)
+    → Some own ≡ msgid_in (Some slot) → IsNumberedNow old new own number → KeepsLowest old new number (slice_get slots place)
 slot_kept old new own number place slots slot at named kept = λ id.
     kept id ∙ ap (λ b. cond b number (old id)) (same_condition id (bytes_eq own id) refl)
     ∙ ap (λ msgid. cond (is_id id msgid && (old id == 0)) number (old id)) (named ∙ ap msgid_in (sym at))
@@ -190,7 +190,7 @@ slot_kept old new own number place slots slot at named kept = λ id.
 
 -- the same, where memory was there
 pub slot_kept_on_ok : {T E : Type 0} (result : Result T E) (S : Type 0) (old new : List ℕ → ℕ) (own : List ℕ) (number place : ℕ) (slots : List LoadedSlot) (slot : LoadedSlot)
-    → slice_get slots place ≡ Some slot → Some own ≡ msgid_in (Some slot) → OnOk result (S × IsKept old new own number)
+    → slice_get slots place ≡ Some slot → Some own ≡ msgid_in (Some slot) → OnOk result (S × IsNumberedNow old new own number)
     → OnOk result (S × KeepsLowest old new number (slice_get slots place))
 slot_kept_on_ok (Ok value) S old new own number place slots slot at named h = (h.0, slot_kept old new own number place slots slot at named h.1)
 slot_kept_on_ok (Err error) S old new own number place slots slot at named h = tt

@@ -15,7 +15,7 @@ use Rattle.jb_link.proofs.AreaLemmas.{killed_names_none, length_set, named_befor
 use Rattle.jb_link.proofs.IdListLemmas.{id_is_in}
 use Rattle.jb_link.proofs.KeptLemmas.{keeps_pair}
 use Rattle.jb_link.specs.IdLists.{IsIdList, IsIdListBut, id_at, id_place}
-use Rattle.jb_link.specs.Kept.{IsKeptList, IsKeptListBut, Keeps, LosesPairOf, pair_at}
+use Rattle.jb_link.specs.Kept.{IsKeptList, IsKeptListBut, KeepsReplyTo, LosesPairOf, pair_at}
 use Rattle.jb_link.specs.IndexLaws.{HasOneMore}
 use Rattle.jb_link.specs.Order.{IsRising, id_order}
 
@@ -99,7 +99,7 @@ pairs_before before after number pairs more is list = record {
     kept : (one : ℕ) → one ≢ number → loaded_at after one ≡ loaded_at before one
     kept one other = named_before before after one more (λ e. other (e ∙ sym is))
 
-    moved : (first second : ℕ) → second ≢ number → Keeps before first second → Keeps after first second
+    moved : (first second : ℕ) → second ≢ number → KeepsReplyTo before first second → KeepsReplyTo after first second
     moved first second other keeps = record { message = keeps.message; live = kept second other ∙ keeps.live; no_id = keeps.no_id; reply_to = keeps.reply_to }
 
 -- the area with the message of this number killed

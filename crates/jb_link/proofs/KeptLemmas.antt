@@ -20,7 +20,7 @@ use Rattle.jb_link.proofs.MemberLemmas.{HasNoTwice, inserted_cases, inserted_new
 use Rattle.jb_link.proofs.OrderLemmas.{pair_order_total, same_numbers}
 use Rattle.jb_link.proofs.RisingLemmas.{found_at_split, inserted_rises, rises_from_sorted}
 use Rattle.jb_link.proofs.SearchLemmas.{last_among}
-use Rattle.jb_link.specs.Kept.{ArePairsBelow, IsKeptList, IsKeptListBut, IsReplyPair, Keeps, LosesPairOf, pair_at, pair_of}
+use Rattle.jb_link.specs.Kept.{ArePairsBelow, IsKeptList, IsKeptListBut, IsReplyPair, KeepsReplyTo, LosesPairOf, pair_at, kept_pair}
 use Rattle.jb_link.specs.Order.{IsRising, IsSplitAt, pair_order}
 
 -- pairs that stand alike are one
@@ -49,7 +49,7 @@ pub none_there : (id : Option (List ℕ)) → is_none id ≡ true → id ≡ Non
 none_there None h = refl
 none_there (Some id) h = cc
 
-pair_parts : (base number : ℕ) (message : LoadedMessage) (pair : ℕ × ℕ) → pair_of base number (Some message) ≡ Some pair → HasPair base number message pair
+pair_parts : (base number : ℕ) (message : LoadedMessage) (pair : ℕ × ℕ) → kept_pair base number (Some message) ≡ Some pair → HasPair base number message pair
 pair_parts base number message pair h =
     by (is_none (replyid_of message.subfields) && nat_le base message.head.reply_to && nat_lt message.head.reply_to number) refl h
   where
@@ -78,7 +78,7 @@ pub record IsPairOf (loaded : Loaded) (number : ℕ) (pair : ℕ × ℕ) : Type 
 pub pair_is_of : (loaded : Loaded) (number : ℕ) (pair : ℕ × ℕ) → pair_at loaded number ≡ Some pair → IsPairOf loaded number pair
 pair_is_of loaded number pair h = by (loaded_at loaded number) refl h
   where
-    by : (found : Option LoadedMessage) → loaded_at loaded number ≡ found → pair_of loaded.base number found ≡ Some pair → IsPairOf loaded number pair
+    by : (found : Option LoadedMessage) → loaded_at loaded number ≡ found → kept_pair loaded.base number found ≡ Some pair → IsPairOf loaded number pair
     by None e g = cc
     by (Some message) e g = record { message = message; live = e; has = pair_parts loaded.base number message pair g }
 
@@ -99,14 +99,14 @@ pair_replies loaded number kept other h =
     }
 
 -- and a later message that keeps a live number has that pair
-pub keeps_pair : (loaded : Loaded) (kept number : ℕ) → kept < number → IsSome (loaded_at loaded kept) → Keeps loaded kept number → pair_at loaded number ≡ Some (kept, number)
+pub keeps_pair : (loaded : Loaded) (kept number : ℕ) → kept < number → IsSome (loaded_at loaded kept) → KeepsReplyTo loaded kept number → pair_at loaded number ≡ Some (kept, number)
 keeps_pair loaded kept number later live keeps =
     let some = some_named (loaded_at loaded kept) live in
     let low = (named_is_in loaded kept some.0 some.1).low in
     let no_id : is_none (replyid_of keeps.message.subfields) ≡ true = ap is_none keeps.no_id in
     let from : nat_le loaded.base keeps.message.head.reply_to ≡ true = le-leb _ _ (omega (arith, low, keeps.reply_to)) in
     let to : nat_lt keeps.message.head.reply_to number ≡ true = lt-ltb _ _ (omega (arith, later, keeps.reply_to)) in
-    ap (pair_of loaded.base number) keeps.live
+    ap (kept_pair loaded.base number) keeps.live
     ∙ ap (λ b. cond b (Some (keeps.message.head.reply_to, number)) None) (and_from _ _ (and_from _ _ no_id from) to)
     ∙ ap (λ k. Some (k, number)) keeps.reply_to
 

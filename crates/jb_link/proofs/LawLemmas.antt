@@ -22,7 +22,7 @@ use Rattle.jb_link.proofs.IndexLemmas.{id_of, rises_alike}
 use Rattle.jb_link.proofs.FoundLemmas.{kept_is_parent, parent_kept_live}
 use Rattle.jb_link.specs.IdLists.{IsIdList, id_at, id_place}
 use Rattle.jb_link.specs.Index.{IsIndexOf, ReplyIndex}
-use Rattle.jb_link.specs.Kept.{IsKeptList, Keeps}
+use Rattle.jb_link.specs.Kept.{IsKeptList, KeepsReplyTo}
 use Rattle.jb_link.specs.IndexLaws.{RestsOnSlots, StaysUnderHeads, StaysUnderRelink}
 use Rattle.jb_link.specs.Order.{id_order}
 
@@ -55,10 +55,10 @@ alike_some goes (Some old) (Some new) h = refl
 
 -- what is kept is kept on
 keeps_on : (old new : Loaded) (kept number : ℕ) → kept < number → IsSome (loaded_at old kept) → Alike (KeepAlike old number) (loaded_at old number) (loaded_at new number)
-    → Keeps old kept number → Keeps new kept number
+    → KeepsReplyTo old kept number → KeepsReplyTo new kept number
 keeps_on old new kept number lower live alike keeps = by (loaded_at new number) refl (subst (λ found. Alike (KeepAlike old number) found (loaded_at new number)) keeps.live alike)
   where
-    by : (found : Option LoadedMessage) → loaded_at new number ≡ found → Alike (KeepAlike old number) (Some keeps.message) (loaded_at new number) → Keeps new kept number
+    by : (found : Option LoadedMessage) → loaded_at new number ≡ found → Alike (KeepAlike old number) (Some keeps.message) (loaded_at new number) → KeepsReplyTo new kept number
     by None e h = absurd (subst (λ found. Alike (KeepAlike old number) (Some keeps.message) found) e h)
     by (Some message) e h =
         let is : Alike (KeepAlike old number) (Some keeps.message) (Some message) = subst (λ found. Alike (KeepAlike old number) (Some keeps.message) found) e h in
@@ -71,10 +71,10 @@ keeps_on old new kept number lower live alike keeps = by (loaded_at new number) 
 
 -- and was kept before
 kept_before : (old new : Loaded) (kept number : ℕ) → kept < number → IsSome (loaded_at old kept) → Alike (KeepAlike old number) (loaded_at old number) (loaded_at new number)
-    → Keeps new kept number → Keeps old kept number
+    → KeepsReplyTo new kept number → KeepsReplyTo old kept number
 kept_before old new kept number lower live alike keeps = by (loaded_at old number) refl (subst (λ found. Alike (KeepAlike old number) (loaded_at old number) found) keeps.live alike)
   where
-    by : (found : Option LoadedMessage) → loaded_at old number ≡ found → Alike (KeepAlike old number) (loaded_at old number) (Some keeps.message) → Keeps old kept number
+    by : (found : Option LoadedMessage) → loaded_at old number ≡ found → Alike (KeepAlike old number) (loaded_at old number) (Some keeps.message) → KeepsReplyTo old kept number
     by None e h = absurd (subst (λ found. Alike (KeepAlike old number) found (Some keeps.message)) e h)
     by (Some message) e h =
         let is : Alike (KeepAlike old number) (Some message) (Some keeps.message) = subst (λ found. Alike (KeepAlike old number) found (Some keeps.message)) e h in

@@ -47,8 +47,8 @@ abbrev pub lent : Option (Bor (List ℕ)) → Option (List ℕ)
 lent id = option_map (λ bytes. bytes.now) id
 
 -- this id has this number now, where it had none; the others are as before
-abbrev pub IsKept : (List ℕ → ℕ) → (List ℕ → ℕ) → List ℕ → ℕ → Type 0
-IsKept old new id number = (other : List ℕ) → new other ≡ (if bytes_eq id other && (old id == 0) then number else old other)
+abbrev pub IsNumberedNow : (List ℕ → ℕ) → (List ℕ → ℕ) → List ℕ → ℕ → Type 0
+IsNumberedNow old new id number = (other : List ℕ) → new other ≡ (if bytes_eq id other && (old id == 0) then number else old other)
 
 -- the MSGID of a slot with this number has that number now, where it had none
 abbrev pub KeepsLowest : (List ℕ → ℕ) → (List ℕ → ℕ) → ℕ → Option LoadedSlot → Type 0

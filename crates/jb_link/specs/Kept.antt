@@ -7,7 +7,7 @@ use Rattle.jb_state.specs.declared.loaded.LoadedMessage.{LoadedMessage}
 use Rattle.jb_link.specs.Order.{IsRising, pair_order}
 
 -- the number names a live message without REPLYID, whose header keeps this ReplyTo
-pub record Keeps (loaded : Loaded) (kept number : ℕ) : Type 0 where
+pub record KeepsReplyTo (loaded : Loaded) (kept number : ℕ) : Type 0 where
   pub message : LoadedMessage
   pub live : loaded_at loaded number ≡ Some message
   pub no_id : replyid_of message.subfields ≡ None
@@ -17,32 +17,32 @@ pub record Keeps (loaded : Loaded) (kept number : ℕ) : Type 0 where
 pub record IsReplyPair (loaded : Loaded) (kept number : ℕ) : Type 0 where
   pub later : kept < number
   pub there : number < loaded.base + length loaded.slots
-  pub keeps : IsSome (loaded_at loaded kept) → Keeps loaded kept number
+  pub keeps : IsSome (loaded_at loaded kept) → KeepsReplyTo loaded kept number
 
 -- the pairs of a live message and of a later one that keeps its number, each once, in the order of the first and, of equal
 -- ones, of the second; a pair may stay whose first message is dead, since its number is never given again
 pub record IsKeptList (loaded : Loaded) (pairs : List (ℕ × ℕ)) : Type 0 where
   pub each : (kept number : ℕ) → Contains pairs (kept, number) → IsReplyPair loaded kept number
-  pub whole : (kept number : ℕ) → kept < number → IsSome (loaded_at loaded kept) → Keeps loaded kept number → Contains pairs (kept, number)
+  pub whole : (kept number : ℕ) → kept < number → IsSome (loaded_at loaded kept) → KeepsReplyTo loaded kept number → Contains pairs (kept, number)
   pub rising : IsRising pair_order (λ pair. pair) pairs
 
 -- the same, but for the pairs of one second number
 pub record IsKeptListBut (loaded : Loaded) (other : ℕ) (pairs : List (ℕ × ℕ)) : Type 0 where
   pub each : (kept number : ℕ) → Contains pairs (kept, number) → IsReplyPair loaded kept number × (number ≢ other)
-  pub whole : (kept number : ℕ) → number ≢ other → kept < number → IsSome (loaded_at loaded kept) → Keeps loaded kept number → Contains pairs (kept, number)
+  pub whole : (kept number : ℕ) → number ≢ other → kept < number → IsSome (loaded_at loaded kept) → KeepsReplyTo loaded kept number → Contains pairs (kept, number)
   pub rising : IsRising pair_order (λ pair. pair) pairs
 
 -- the pair of a message with this number, where it has no REPLYID and keeps a lower number that the area has
-abbrev pub pair_of : ℕ → ℕ → Option LoadedMessage → Option (ℕ × ℕ)
-pair_of base number None = None
-pair_of base number (Some message) =
+abbrev pub kept_pair : ℕ → ℕ → Option LoadedMessage → Option (ℕ × ℕ)
+kept_pair base number None = None
+kept_pair base number (Some message) =
     if is_none (replyid_of message.subfields) && nat_le base message.head.reply_to && nat_lt message.head.reply_to number
     then Some (message.head.reply_to, number)
     else None
 
 -- the pair of the live message that a number names
 abbrev pub pair_at : Loaded → ℕ → Option (ℕ × ℕ)
-pair_at loaded number = pair_of loaded.base number (loaded_at loaded number)
+pair_at loaded number = kept_pair loaded.base number (loaded_at loaded number)
 
 -- the pairs of the messages below one number, in the order of those
 pub record ArePairsBelow (loaded : Loaded) (end : ℕ) (pairs : List (ℕ × ℕ)) : Type 0 where

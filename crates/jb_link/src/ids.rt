@@ -1,7 +1,7 @@
 //! The lowest number with each id, of the messages met so far.
 ghost use Rattle.std.specs.Prelude.{◌≡◌, ◌%◌, ◌<◌, ◌≤◌, ℕ, List, IfOk, OnOk, length};
 ghost use Rattle.jb_state.specs.declared.loaded.LoadedSlot.{LoadedSlot};
-ghost use Rattle.jb_link.specs.Ids.{IsKept, IsSettled, at_seat, hash_of, msgid_at, number_of};
+ghost use Rattle.jb_link.specs.Ids.{IsNumberedNow, IsSettled, at_seat, hash_of, msgid_at, number_of};
 
 use crate::id::{hash_of, is_id};
 use crate::others::Others;
@@ -58,7 +58,7 @@ impl<'a> Ids<'a> {
         requires number { 1 ≤ number }
         requires id { msgid_at base slots.now number ≡ Some id.now }
         requires settled { IsSettled self.old }
-        ensures { OnOk result (IsSettled self.new × IsKept (number_of base slots.now self.old)
+        ensures { OnOk result (IsSettled self.new × IsNumberedNow (number_of base slots.now self.old)
             (number_of base slots.now self.new) id.now number) }
     {
         let seat = seat_of(self.seats.len(), id);

@@ -1,6 +1,6 @@
 //! The ids whose seats others have.
 ghost use Rattle.std.specs.Prelude.{◌≡◌, ◌≤◌, ℕ, List, OnOk};
-ghost use Rattle.jb_link.specs.Ids.{IsKept, number_among};
+ghost use Rattle.jb_link.specs.Ids.{IsNumberedNow, number_among};
 
 use crate::id::hash_of;
 use jb_base::OutOfMemory;
@@ -33,7 +33,7 @@ impl<'a> Others<'a> {
     /// Gives the id this number, where it has none yet.
     pub fn keep(&mut self, id: &'a [u8], number: u32) -> Result<(), OutOfMemory>
         requires { 1 ≤ number }
-        ensures { OnOk result (IsKept (number_among self.old.numbers)
+        ensures { OnOk result (IsNumberedNow (number_among self.old.numbers)
             (number_among self.new.numbers) id.now number) }
     {
         if self.number_of(id) == 0 {

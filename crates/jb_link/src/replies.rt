@@ -48,11 +48,11 @@ impl Model for Replies {
 
     ghost Value = { ReplyIndex };
 
-    ghost use Rattle.jb_link.specs.Inside.{HasRoom, index_of};
+    ghost use Rattle.jb_link.specs.Inside.{HasListRoom, reply_index_of};
 
-    ghost view = { index_of };
+    ghost view = { reply_index_of };
 
-    ghost invariant = { HasRoom };
+    ghost invariant = { HasListRoom };
 }
 
 impl Replies {

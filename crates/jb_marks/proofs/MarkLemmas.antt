@@ -21,20 +21,6 @@ mark_of-none crc id [] none = refl
 mark_of-none crc id (mark ∷ marks) none =
     cond-false _ _ _ (none 0 mark (omega arith)) ∙ mark_of-none crc id marks (λ k e below. none (suc k) e (omega arith))
 
--- a set changes the first mark of the pair
-pub with_mark-first : (mark : Mark) (marks : List Mark) (place : ℕ) → IsFirstOf mark.user_crc mark.user_id marks place → with_mark mark marks ≡ set marks place mark
-with_mark-first mark [] place first = absurd (omega (arith, first.within))
-with_mark-first mark (one ∷ marks) zero first = cond-true _ _ _ (first.here mark)
-with_mark-first mark (one ∷ marks) (suc place) first =
-    cond-false _ _ _ (first.before 0 mark (omega arith))
-    ∙ ap (λ (l : List Mark). one ∷ l) (with_mark-first mark marks place (record { within = omega (arith, first.within); here = first.here; before = λ k e below. first.before (suc k) e (omega arith) }))
-
--- a set puts a mark of a new pair last
-pub with_mark-none : (mark : Mark) (marks : List Mark) → HasNone mark.user_crc mark.user_id marks → with_mark mark marks ≡ marks ++ mark ∷ []
-with_mark-none mark [] none = refl
-with_mark-none mark (one ∷ marks) none =
-    cond-false _ _ _ (none 0 one (omega arith)) ∙ ap (λ (l : List Mark). one ∷ l) (with_mark-none mark marks (λ k e below. none (suc k) e (omega arith)))
-
 -- one mark more
 pub length-last : (marks : List Mark) (mark : Mark) → length (marks ++ mark ∷ []) ≡ length marks + 1
 length-last [] mark = refl

@@ -9,5 +9,5 @@ abbrev pub order_of : Inside → MarkOrder
 order_of kept = record { order = kept.order.items; room = vec_capacity kept.order }
 
 -- no area has more marks
-abbrev pub IsShort : Inside → Type 0
-IsShort kept = length kept.order.items ≤ MOST_MARKS
+abbrev pub AreFew : Inside → Type 0
+AreFew kept = length kept.order.items ≤ MOST_MARKS

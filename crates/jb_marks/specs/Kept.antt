@@ -10,7 +10,7 @@ abbrev pub store_of : Inside → MarkStore
 store_of kept = record { marks = kept.items.items; room = kept.room }
 
 -- the index is that of the marks, and both have the room
-pub record IsKept (kept : Inside) : Type 0 where
+pub record IsIndexed (kept : Inside) : Type 0 where
   pub ordered : IsOrdered kept.items.items kept.index.order
   pub few : length kept.items.items + kept.room ≤ MOST_MARKS
   pub marks_room : length kept.items.items + kept.room ≤ vec_capacity kept.items

@@ -23,11 +23,11 @@ impl Model for MarkIndex {
 
     ghost Value = { MarkOrder };
 
-    ghost use Rattle.jb_marks.specs.Indexed.{order_of, IsShort};
+    ghost use Rattle.jb_marks.specs.Indexed.{order_of, AreFew};
 
     ghost view = { order_of };
 
-    ghost invariant = { IsShort };
+    ghost invariant = { AreFew };
 }
 
 impl MarkIndex {

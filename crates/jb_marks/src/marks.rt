@@ -25,11 +25,11 @@ impl Model for Marks {
 
     ghost Value = { MarkStore };
 
-    ghost use Rattle.jb_marks.specs.Kept.{store_of, IsKept};
+    ghost use Rattle.jb_marks.specs.Kept.{store_of, IsIndexed};
 
     ghost view = { store_of };
 
-    ghost invariant = { IsKept };
+    ghost invariant = { IsIndexed };
 }
 
 impl Marks {

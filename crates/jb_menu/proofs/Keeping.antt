@@ -23,10 +23,10 @@ use Rattle.jb_menu.specs.declared.command_line.CommandLine.TheVariants.{Empty, L
 use Rattle.jb_menu.specs.declared.given.Given.{Given}
 use Rattle.jb_menu.specs.declared.given.Given.TheVariants.{Answer, Count, Fault, Line, Reply}
 use Rattle.jb_menu.specs.declared.moves.Moved.{Moved}
-use Rattle.jb_menu.specs.declared.state.Draft.{Draft}
+use Rattle.jb_menu.specs.declared.state.DraftHead.{DraftHead}
 use Rattle.jb_menu.specs.declared.state.Shown.{Shown}
-use Rattle.jb_menu.specs.declared.state.Stage.{Stage}
-use Rattle.jb_menu.specs.declared.state.Stage.TheVariants as stage
+use Rattle.jb_menu.specs.declared.state.MenuStage.{MenuStage}
+use Rattle.jb_menu.specs.declared.state.MenuStage.TheVariants as stage
 use Rattle.jb_menu.specs.declared.state.State.{State}
 use Rattle.jb_menu.specs.declared.state.State.TheVariants as state
 use Rattle.jb_menu.specs.declared.state.Visit.{Visit}
@@ -235,7 +235,7 @@ unfolding IsFor awaited_in
 holds_private on visit to subject (Line typed) place = record { board = place; awaits = λ _. refl; here = refl }
 holds_private on visit to subject _ place = record { board = place; awaits = λ _. refl; here = refl }
 
-fits_text : (on : Board) (visit : Visit) (draft : Draft) (text typed : List ℕ) → IsPlace on visit
+fits_text : (on : Board) (visit : Visit) (draft : DraftHead) (text typed : List ℕ) → IsPlace on visit
     → Fits on (text_row on visit draft text (Line typed))
 unfolding IsFor awaited_in
 fits_text on visit draft text typed place =
@@ -243,7 +243,7 @@ fits_text on visit draft text typed place =
     (either on (bytes_eq typed (codes "!")) _ _ (place, refl, refl)
     (either on (nat_lt MOST_POSTED_TEXT_BYTES (length text + length typed + 1)) _ _ (place, refl, refl) (place, refl, refl)))
 
-holds_text : (on : Board) (visit : Visit) (draft : Draft) (text : List ℕ) (given : Given) → IsPlace on visit
+holds_text : (on : Board) (visit : Visit) (draft : DraftHead) (text : List ℕ) (given : Given) → IsPlace on visit
     → Holds on (state.Area visit (stage.Text draft text)) given (text_row on visit draft text given)
 unfolding IsFor awaited_in
 holds_text on visit draft text (Line typed) place =
@@ -251,7 +251,7 @@ holds_text on visit draft text (Line typed) place =
     (fits_text on visit draft text typed place)
 holds_text on visit draft text _ place = record { board = place; awaits = λ _. refl; here = refl }
 
-holds_stage : (on : Board) (visit : Visit) (at : Stage) (given : Given) → IsPlace on visit
+holds_stage : (on : Board) (visit : Visit) (at : MenuStage) (given : Given) → IsPlace on visit
     → Holds on (state.Area visit at) given (stage_turn on visit at given)
 unfolding IsFor awaited_in stage_turn
 holds_stage on visit stage.Prompt given place = holds_area on visit given place

@@ -1,11 +1,18 @@
 -- Sessions step by step, worked by hand from the table of the menus and the texts of a session: beside what is given stands what
 -- is done then. A caret in a text is the end of a line.
-use Rattle.std.proofs.Common.{◌≡◌, ℕ, ◌==◌, true, false, List, [], ◌∷◌, ◌++◌, Some, None, map, flat_map, replicate, codes, pos, refl, if◌then◌else◌}
+use Rattle.std.proofs.Common.{◌≡◌, ℕ, zero, suc, ◌<◌, ◌+◌, ◌==◌, true, false, IsTrue, List, [], ◌∷◌, ◌++◌, Some, None, AllPairs, length, slice_index_or, map, flat_map, replicate, codes, pos, refl, ap, arith, if◌then◌else◌}
+use Rattle.std.specs.Char.{to_ascii_lowercase}
+use Rattle.std.specs.List.{list_all}
+use Rattle.std.proofs.lemmas.List.Elements.{All-cons, All-nil}
+use Rattle.std.proofs.lemmas.List.Kept.{AllPairs-cons}
 use Rattle.std.specs.Fmt.{digits}
 use Rattle.jb_base.specs.declared.area.Kind.TheVariants.{Local}
 use Rattle.jb_base.specs.declared.area.Rule.TheVariants.{A4}
 use Rattle.jb_conf.specs.declared.board.Board.{Board}
+use Rattle.jb_conf.specs.InRange.{AreAreasInRange, AreUsersInRange, HasCount, IsAreaInRange, IsUserInRange}
+use Rattle.jb_conf.specs.Ranges.{is_printed}
 use Rattle.jb_conf.specs.declared.board.BoardArea.{BoardArea}
+use Rattle.jb_conf.specs.declared.board.BoardUser.{BoardUser}
 use Rattle.jb_state.specs.Short.{short_of}
 use Rattle.jb_model.specs.declared.command.Command.TheVariants as command
 use Rattle.jb_model.specs.declared.command.Field.TheVariants as field
@@ -27,9 +34,12 @@ use Rattle.jb_menu.specs.declared.moves.MenuEnd.TheVariants.{Quit, LoginRefused}
 use Rattle.jb_menu.specs.declared.moves.Move.{Move}
 use Rattle.jb_menu.specs.declared.moves.Move.TheVariants as move
 use Rattle.jb_menu.specs.declared.moves.Move.TheVariants.{Ask, Look}
-use Rattle.jb_menu.specs.declared.state.Stage.TheVariants.{Text}
+use Rattle.jb_menu.specs.declared.state.MenuStage.TheVariants.{Text}
 use Rattle.jb_menu.specs.declared.state.State.{State}
 use Rattle.jb_menu.specs.declared.state.State.TheVariants.{Area, Ended, Name, Top}
+
+abbrev address : List ℕ
+address = codes "2:5020/1042"
 
 -- an area with this ordinal, name and reading level
 abbrev area : ℕ → List ℕ → ℕ → BoardArea
@@ -37,25 +47,87 @@ area ordinal name read = record {
   name = name;
   dir = codes "areas";
   base = name;
-  rules = record { ordinal = ordinal; address = codes "2:5020/1042"; kind = Local; read = read; post = 0; sysop = 255; slots = 16000 };
+  rules = record { ordinal = ordinal; address = address; kind = Local; read = read; post = 0; sysop = 255; slots = 16000 };
+}
+
+abbrev areas : List BoardArea
+areas = area 1 (codes "general") 10 ∷ area 2 (codes "staff") 200 ∷ area 3 (codes "news") 50 ∷ []
+
+abbrev people : List BoardUser
+people = record {
+  user = record { name = codes "Hello"; id = 8; level = 50 };
+  salt = [];
+  digest = [];
+} ∷ []
+
+area_in_range : (ordinal read : ℕ) (name : List ℕ) → HasCount 1 24 name → IsTrue (list_all is_printed name) → IsAreaInRange address (area ordinal name read)
+area_in_range ordinal read name count printed = record {
+  name = count;
+  printed = printed;
+  dir = (omega arith, omega arith);
+  base = (count.0, omega (arith, count.1));
+  under = refl;
+  slots_some = omega arith;
+  slots = omega arith;
+}
+
+-- what holds of three two by two
+apart : (R : BoardArea → BoardArea → Type 0) (x y z : BoardArea) → R x y → R x z → R y z → AllPairs R (x ∷ y ∷ z ∷ [])
+apart R x y z a b c =
+    let none : AllPairs R [] = λ i j d below within. absurd (omega arith) in
+    AllPairs-cons R x (y ∷ z ∷ []) (All-cons (R x) y (z ∷ []) a (All-cons (R x) z [] b (All-nil (R x))))
+    (AllPairs-cons R y (z ∷ []) (All-cons (R y) z [] c (All-nil (R y))) (AllPairs-cons R z [] (All-nil (R z)) none))
+
+-- the area at a place
+area_at : (k : ℕ) (d : BoardArea) → k < 3 → IsAreaInRange address (slice_index_or areas k d) × ((slice_index_or areas k d).rules.ordinal ≡ k + 1)
+area_at zero d within = (area_in_range 1 10 (codes "general") (omega arith, omega arith) refl, refl)
+area_at (suc zero) d within = (area_in_range 2 200 (codes "staff") (omega arith, omega arith) refl, refl)
+area_at (suc (suc zero)) d within = (area_in_range 3 50 (codes "news") (omega arith, omega arith) refl, refl)
+area_at (suc (suc (suc k))) d within = absurd (omega arith)
+
+areas_in_range : AreAreasInRange address areas
+areas_in_range = record {
+  each = λ k d within. (area_at k d within).0;
+  names = apart (λ one other. map to_ascii_lowercase one.name ≡ map to_ascii_lowercase other.name → ⊥) _ _ _ (λ same. let e : 7 ≡ 5 = ap length same in omega arith) (λ same. let e : 7 ≡ 4 = ap length same in omega arith) (λ same. let e : 5 ≡ 4 = ap length same in omega arith);
+  places = apart (λ one other. (one.dir ≡ other.dir) × (one.base ≡ other.base) → ⊥) _ _ _ (λ same. let e : 7 ≡ 5 = ap length same.1 in omega arith) (λ same. let e : 7 ≡ 4 = ap length same.1 in omega arith) (λ same. let e : 5 ≡ 4 = ap length same.1 in omega arith);
+  numbered = λ k d within. (area_at k d within).1;
+  together = omega arith;
+}
+
+users_in_range : AreUsersInRange people
+users_in_range = record {
+  each = All-cons IsUserInRange _ [] (record { name = (omega arith, omega arith); printed = refl; id_some = omega arith; id = omega arith; salt = omega arith }) (All-nil IsUserInRange);
+  names = λ i j d below within. absurd (omega arith);
+  ids = λ i j d below within. absurd (omega arith);
 }
 
 -- a board with three areas, of which the second is not for its one user
 abbrev board : Board
 board = record {
   name = codes "Test Board";
-  address = codes "2:5020/1042";
+  address = address;
   port = 2323;
   nodes = 1;
   offset = pos 0;
   pack_minutes = 60;
-  areas = area 1 (codes "general") 10 ∷ area 2 (codes "staff") 200 ∷ area 3 (codes "news") 50 ∷ [];
-  users = record {
-    user = record { name = codes "Hello"; id = 8; level = 50 };
-    salt = [];
-    digest = [];
-  } ∷ [];
+  areas = areas;
+  users = people;
   unknown = [];
+  in_range = record {
+    name_count = (omega arith, omega arith);
+    name_bytes = refl;
+    address_count = (omega arith, omega arith);
+    address_bytes = refl;
+    nodes_least = omega arith;
+    nodes_most = omega arith;
+    offset_least = omega arith;
+    offset_most = omega arith;
+    pack_most = omega arith;
+    area_count = (omega arith, omega arith);
+    area_values = areas_in_range;
+    user_count = (omega arith, omega arith);
+    user_values = users_in_range;
+  };
 }
 
 -- a text with the ends of its lines

@@ -19,7 +19,7 @@ use Rattle.jb_menu.specs.declared.given.Given.{Given}
 use Rattle.jb_menu.specs.declared.given.Given.TheVariants.{Answer, Fault, Reply}
 use Rattle.jb_menu.specs.declared.moves.Moved.{Moved}
 use Rattle.jb_menu.specs.declared.state.Shown.{Shown}
-use Rattle.jb_menu.specs.declared.state.Stage.TheVariants.{Acting, Listing, Marking, Reading, Seeking}
+use Rattle.jb_menu.specs.declared.state.MenuStage.TheVariants.{Acting, Listing, Marking, Reading, Seeking}
 use Rattle.jb_menu.specs.declared.state.State.TheVariants.{Area}
 use Rattle.jb_menu.specs.declared.state.Visit.{Visit}
 

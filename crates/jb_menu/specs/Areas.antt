@@ -15,7 +15,7 @@ use Rattle.jb_menu.specs.declared.command_line.CommandLine.TheVariants.{Empty, L
 use Rattle.jb_menu.specs.declared.given.Given.{Given}
 use Rattle.jb_menu.specs.declared.given.Given.TheVariants.{Line}
 use Rattle.jb_menu.specs.declared.moves.Moved.{Moved}
-use Rattle.jb_menu.specs.declared.state.Stage.TheVariants.{Acting, Listing, Prompt, Reading, Seeking, To}
+use Rattle.jb_menu.specs.declared.state.MenuStage.TheVariants.{Acting, Listing, Prompt, Reading, Seeking, To}
 use Rattle.jb_menu.specs.declared.state.State.TheVariants.{Area}
 use Rattle.jb_menu.specs.declared.state.Visit.{Visit}
 

@@ -8,8 +8,8 @@ use Rattle.jb_menu.specs.declared.given.Given.{Given}
 use Rattle.jb_menu.specs.declared.given.Given.TheVariants as given
 use Rattle.jb_menu.specs.declared.moves.Move.{Move}
 use Rattle.jb_menu.specs.declared.moves.Move.TheVariants as move
-use Rattle.jb_menu.specs.declared.state.Stage.{Stage}
-use Rattle.jb_menu.specs.declared.state.Stage.TheVariants.{Acting, Listing, Marking, Private, Prompt, Reading, Seeking, Subject, Text, To}
+use Rattle.jb_menu.specs.declared.state.MenuStage.{MenuStage}
+use Rattle.jb_menu.specs.declared.state.MenuStage.TheVariants.{Acting, Listing, Marking, Private, Prompt, Reading, Seeking, Subject, Text, To}
 use Rattle.jb_menu.specs.declared.state.State.{State}
 use Rattle.jb_menu.specs.declared.state.State.TheVariants.{Area, Counting, Ended, Entering, Name, Password, Top}
 
@@ -36,7 +36,7 @@ wanted_by (move.Count area) = a_count
 wanted_by (move.End text end) = nothing
 
 -- what a menu waits for in an area
-abbrev pub awaited_at : Stage → Wanted
+abbrev pub awaited_at : MenuStage → Wanted
 awaited_at Prompt = a_line
 awaited_at Listing = a_list
 awaited_at Seeking = a_list

@@ -26,12 +26,12 @@ capital_of byte =
     else None
 
 -- the letter that a byte is, in either case
-abbrev pub letter_of : ℕ → Option CommandLetter
-letter_of byte = capital_of (to_ascii_uppercase byte)
+abbrev pub command_letter : ℕ → Option CommandLetter
+command_letter byte = capital_of (to_ascii_uppercase byte)
 
 -- the number that a text is: one to ten digits, and not above what 32 bits hold
-abbrev pub number_of : List ℕ → Option ℕ
-number_of text = number_up_to (2 ^ 32 - 1) text
+abbrev pub typed_number : List ℕ → Option ℕ
+typed_number text = number_up_to (2 ^ 32 - 1) text
 
 -- the byte is a space
 abbrev pub is_space : ℕ → Bool
@@ -57,14 +57,14 @@ abbrev pub trimmed : List ℕ → List ℕ
 trimmed text = without_last_spaces (without_first_spaces text)
 
 -- a letter with a number, where there is one
-abbrev pub with_number : CommandLetter → Option ℕ → CommandLine
-with_number letter (Some number) = LetterNumber letter number
-with_number letter None = Unknown
+abbrev pub numbered_line : CommandLetter → Option ℕ → CommandLine
+numbered_line letter (Some number) = LetterNumber letter number
+numbered_line letter None = Unknown
 
 -- a letter, and what stands behind it: nothing, or spaces and a number
 abbrev pub behind_letter : CommandLetter → List ℕ → CommandLine
 behind_letter letter [] = Letter letter
-behind_letter letter (byte ∷ rest) = if is_space byte then with_number letter (number_of (without_first_spaces rest)) else Unknown
+behind_letter letter (byte ∷ rest) = if is_space byte then numbered_line letter (typed_number (without_first_spaces rest)) else Unknown
 
 -- a text that begins with a letter, where it does
 abbrev pub lettered : Option CommandLetter → List ℕ → CommandLine
@@ -79,7 +79,7 @@ number_or None line = line
 -- what a text says
 abbrev pub parsed : List ℕ → CommandLine
 parsed [] = Empty
-parsed (first ∷ rest) = number_or (number_of (first ∷ rest)) (lettered (letter_of first) rest)
+parsed (first ∷ rest) = number_or (typed_number (first ∷ rest)) (lettered (command_letter first) rest)
 
 -- what a line says; spaces at its ends do not matter
 unfoldable pub command_of : List ℕ → CommandLine

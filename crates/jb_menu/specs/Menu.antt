@@ -10,14 +10,14 @@ use Rattle.jb_menu.specs.Writing.{private_row, subject_row, text_row, to_row}
 use Rattle.jb_menu.specs.declared.given.Given.{Given}
 use Rattle.jb_menu.specs.declared.moves.Move.{Move}
 use Rattle.jb_menu.specs.declared.moves.Moved.{Moved}
-use Rattle.jb_menu.specs.declared.state.Stage.{Stage}
-use Rattle.jb_menu.specs.declared.state.Stage.TheVariants.{Acting, Listing, Marking, Private, Prompt, Reading, Seeking, Subject, Text, To}
+use Rattle.jb_menu.specs.declared.state.MenuStage.{MenuStage}
+use Rattle.jb_menu.specs.declared.state.MenuStage.TheVariants.{Acting, Listing, Marking, Private, Prompt, Reading, Seeking, Subject, Text, To}
 use Rattle.jb_menu.specs.declared.state.State.{State}
 use Rattle.jb_menu.specs.declared.state.State.TheVariants.{Area, Counting, Ended, Entering, Name, Password, Top}
 use Rattle.jb_menu.specs.declared.state.Visit.{Visit}
 
 -- in an area
-unfoldable pub stage_turn : Board → Visit → Stage → Given → Moved
+unfoldable pub stage_turn : Board → Visit → MenuStage → Given → Moved
 stage_turn board visit Prompt given = area_row board visit given
 stage_turn board visit Listing given = listing_row board visit given
 stage_turn board visit Seeking given = seeking_row board visit given

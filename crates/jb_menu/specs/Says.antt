@@ -11,8 +11,8 @@ use Rattle.jb_menu.specs.Boards.{area_name}
 use Rattle.jb_menu.specs.declared.moves.MenuEnd.TheVariants.{Quit}
 use Rattle.jb_menu.specs.declared.moves.Move.TheVariants.{Say, Ask, Look, End}
 use Rattle.jb_menu.specs.declared.moves.Moved.{Moved}
-use Rattle.jb_menu.specs.declared.state.Stage.{Stage}
-use Rattle.jb_menu.specs.declared.state.Stage.TheVariants.{Prompt}
+use Rattle.jb_menu.specs.declared.state.MenuStage.{MenuStage}
+use Rattle.jb_menu.specs.declared.state.MenuStage.TheVariants.{Prompt}
 use Rattle.jb_menu.specs.declared.state.State.{State}
 use Rattle.jb_menu.specs.declared.state.State.TheVariants.{Area, Ended, Top}
 use Rattle.jb_menu.specs.declared.state.Visit.{Visit}
@@ -34,11 +34,11 @@ abbrev pub to_area : Board → Visit → List ℕ → Moved
 to_area board visit lines = say (lines ++ prompt_text (area_name board visit.area)) (Area visit Prompt)
 
 -- the area is asked to do this
-abbrev pub ask : Visit → Command → Stage → Moved
+abbrev pub ask : Visit → Command → MenuStage → Moved
 ask visit command stage = record { step = Ask visit.area command; state = Area visit stage }
 
 -- the area is asked this
-abbrev pub look : Visit → Question → Stage → Moved
+abbrev pub look : Visit → Question → MenuStage → Moved
 look visit question stage = record { step = Look visit.area question; state = Area visit stage }
 
 -- the user leaves

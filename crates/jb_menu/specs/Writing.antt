@@ -12,27 +12,27 @@ use Rattle.jb_menu.specs.Says.{ask, passed_over, say, to_area}
 use Rattle.jb_menu.specs.declared.given.Given.{Given}
 use Rattle.jb_menu.specs.declared.given.Given.TheVariants.{Line}
 use Rattle.jb_menu.specs.declared.moves.Moved.{Moved}
-use Rattle.jb_menu.specs.declared.state.Draft.{Draft}
+use Rattle.jb_menu.specs.declared.state.DraftHead.{DraftHead}
 use Rattle.jb_menu.specs.declared.state.Shown.{Shown}
-use Rattle.jb_menu.specs.declared.state.Stage.TheVariants.{Acting, Private, Subject, Text, To}
+use Rattle.jb_menu.specs.declared.state.MenuStage.TheVariants.{Acting, Private, Subject, Text, To}
 use Rattle.jb_menu.specs.declared.state.State.TheVariants.{Area}
 use Rattle.jb_menu.specs.declared.state.Visit.{Visit}
 
 -- a subject says already that it is an answer
-abbrev pub is_answer : List ℕ → Bool
-is_answer subject = starts_with (λ one other. one == other) subject (codes "Re: ")
+abbrev pub has_re : List ℕ → Bool
+has_re subject = starts_with (λ one other. one == other) subject (codes "Re: ")
 
 -- a subject that says that it is an answer
 abbrev pub marked_subject : List ℕ → List ℕ
-marked_subject subject = if is_answer subject then subject else codes "Re: " ++ subject
+marked_subject subject = if has_re subject then subject else codes "Re: " ++ subject
 
 -- the subject of the answer to a message, cut to what a post takes
 abbrev pub answer_subject : List ℕ → List ℕ
 answer_subject subject = take MOST_SUBJECT_BYTES (marked_subject subject)
 
 -- the answer to a message: to its sender, and private where the message is
-abbrev pub answer_to : Shown → Draft
-answer_to shown = record {
+abbrev pub answering_draft : Shown → DraftHead
+answering_draft shown = record {
   to = shown.from;
   subject = answer_subject shown.subject;
   reply_to = shown.number;
@@ -43,7 +43,7 @@ answer_to shown = record {
 abbrev pub reply_row : Board → Visit → Option Shown → Moved
 reply_row board visit None = to_area board visit (line (fixed_text NoMessageShown))
 reply_row board visit (Some shown) =
-    say (line (replying_text shown.from (answer_subject shown.subject)) ++ line (fixed_text TextLine)) (Area visit (Text (answer_to shown) []))
+    say (line (replying_text shown.from (answer_subject shown.subject)) ++ line (fixed_text TextLine)) (Area visit (Text (answering_draft shown) []))
 
 -- To: the receiver, as it is typed; an empty line cancels
 abbrev pub to_row : Board → Visit → Given → Moved
@@ -67,17 +67,17 @@ private_row visit to subject (Line typed) =
 private_row visit to subject _ = passed_over (Area visit (Private to subject))
 
 -- the message is posted
-abbrev pub post_row : Visit → Draft → List ℕ → Moved
+abbrev pub post_row : Visit → DraftHead → List ℕ → Moved
 post_row visit draft text = ask visit (Post draft.to draft.subject text draft.reply_to draft.private) Acting
 
 -- the line is put behind the text with a carriage return, and nothing is said; where the text would be too long, it is dropped
-abbrev pub more_row : Visit → Draft → List ℕ → List ℕ → Moved
+abbrev pub more_row : Visit → DraftHead → List ℕ → List ℕ → Moved
 more_row visit draft text typed =
     if nat_lt MOST_POSTED_TEXT_BYTES (length text + length typed + 1) then say (line (fixed_text TextFull)) (Area visit (Text draft text))
     else say [] (Area visit (Text draft (text ++ typed ++ 13 ∷ [])))
 
 -- Text: a stop alone posts, an exclamation mark alone cancels, and any other line belongs to the text
-abbrev pub text_row : Board → Visit → Draft → List ℕ → Given → Moved
+abbrev pub text_row : Board → Visit → DraftHead → List ℕ → Given → Moved
 text_row board visit draft text (Line typed) =
     if bytes_eq typed (codes ".") then post_row visit draft text
     else if bytes_eq typed (codes "!") then to_area board visit (line (fixed_text Cancelled))

@@ -1,6 +1,5 @@
 //! What an area answers.
 ghost use Rattle.std.specs.Prelude.{◌≡◌, ◌<◌, ◌++◌, IfOk, OnOk, length};
-ghost use Rattle.jb_conf.specs.InRange.{IsInRange};
 ghost use Rattle.jb_text.specs.Faults.{fault_text};
 ghost use Rattle.jb_text.specs.Letter.{line};
 ghost use Rattle.jb_text.specs.Replies.{reply_text};
@@ -12,7 +11,7 @@ use crate::lines::{
     append_line, fault_to_area, fixed_line, fixed_to_area, passed_over, reply_to_area, to_area,
 };
 use crate::moves::Moved;
-use crate::state::{Shown, Stage, State, Visit};
+use crate::state::{MenuStage, Shown, State, Visit};
 use jb_base::{Bytes, Name, OutOfMemory, PRIVATE};
 use jb_conf::Board;
 use jb_model::{Command, Letter, Reply};
@@ -67,7 +66,7 @@ pub fn listing_messages(
         }
         Given::Fault(why) => fault_to_area(alloc, board, visit, why),
         _ => {
-            let stage = Stage::Listing;
+            let stage = MenuStage::Listing;
             Ok(passed_over(alloc, State::Area { visit, stage }))
         }
     }
@@ -88,7 +87,7 @@ fn read_first(
         [] => fixed_to_area(alloc, board, visit, Fixed::NoUnread),
         [first, ..] => {
             let number = first.number;
-            let stage = Stage::Reading { marks: true };
+            let stage = MenuStage::Reading { marks: true };
             Ok(ask(visit, Command::Read { number }, stage))
         }
     }
@@ -110,7 +109,7 @@ pub fn seeking(
         }
         Given::Fault(why) => fault_to_area(alloc, board, visit, why),
         _ => {
-            let stage = Stage::Seeking;
+            let stage = MenuStage::Seeking;
             Ok(passed_over(alloc, State::Area { visit, stage }))
         }
     }
@@ -147,7 +146,6 @@ fn show(
     marks: bool,
     message: &Letter,
 ) -> Result<Moved, OutOfMemory>
-    requires board { IsInRange board.now }
     requires area { visit.area < length board.now.areas }
     ensures { IfOk result (λ moved. moved
         ≡ reading_row board.now visit marks (Given.Reply (Reply.Text message.now))) }
@@ -156,7 +154,7 @@ fn show(
     let visit = with_shown(alloc, visit, message)?;
     if marks {
         let number = message.number;
-        let stage = Stage::Marking { letter: text };
+        let stage = MenuStage::Marking { letter: text };
         Ok(ask(visit, Command::SetMark { number }, stage))
     } else {
         to_area(alloc, board, visit, text)
@@ -171,7 +169,6 @@ pub fn reading(
     marks: bool,
     given: &Given,
 ) -> Result<Moved, OutOfMemory>
-    requires board { IsInRange board.now }
     requires area { visit.area < length board.now.areas }
     ensures { IfOk result (λ moved. moved ≡ reading_row board.now visit marks given.now) }
 {
@@ -180,7 +177,7 @@ pub fn reading(
         Given::Reply(refusal) => reply_to_area(alloc, board, visit, refusal),
         Given::Fault(why) => fault_to_area(alloc, board, visit, why),
         _ => {
-            let stage = Stage::Reading { marks };
+            let stage = MenuStage::Reading { marks };
             Ok(passed_over(alloc, State::Area { visit, stage }))
         }
     }
@@ -224,7 +221,7 @@ pub fn marking(
             to_area(alloc, board, visit, lines)
         }
         _ => {
-            let stage = Stage::Marking { letter: text };
+            let stage = MenuStage::Marking { letter: text };
             Ok(passed_over(alloc, State::Area { visit, stage }))
         }
     }
@@ -244,7 +241,7 @@ pub fn acting(
         Given::Reply(answer) => reply_to_area(alloc, board, visit, answer),
         Given::Fault(why) => fault_to_area(alloc, board, visit, why),
         _ => {
-            let stage = Stage::Acting;
+            let stage = MenuStage::Acting;
             Ok(passed_over(alloc, State::Area { visit, stage }))
         }
     }

@@ -7,7 +7,7 @@ use crate::Given;
 use crate::command_line::{CommandLetter, CommandLine, command_of};
 use crate::lines::{fixed_to_area, passed_over, quit, say, to_area, to_top};
 use crate::moves::{Move, Moved};
-use crate::state::{Stage, State, Visit};
+use crate::state::{MenuStage, State, Visit};
 use crate::writing::reply;
 use jb_base::{Bytes, OutOfMemory};
 use jb_conf::Board;
@@ -22,7 +22,7 @@ const MOST_LISTED: u32 = 20;
 const MOST_OF_THREAD: u32 = 100;
 
 /// Asks the area to do this.
-pub fn ask(visit: Visit, command: Command, stage: Stage) -> Moved
+pub fn ask(visit: Visit, command: Command, stage: MenuStage) -> Moved
     ensures { result ≡ ask visit command stage }
 {
     let area = visit.area;
@@ -33,7 +33,7 @@ pub fn ask(visit: Visit, command: Command, stage: Stage) -> Moved
 }
 
 /// Asks the area this.
-fn look(visit: Visit, question: Question, stage: Stage) -> Moved
+fn look(visit: Visit, question: Question, stage: MenuStage) -> Moved
     ensures { result ≡ look visit question stage }
 {
     let area = visit.area;
@@ -56,7 +56,7 @@ fn command(
     match line {
         CommandLine::Empty => to_area(alloc, board, visit, Bytes::new(alloc)),
         CommandLine::Number(number) => {
-            let stage = Stage::Reading { marks: false };
+            let stage = MenuStage::Reading { marks: false };
             Ok(ask(visit, Command::Read { number }, stage))
         }
         CommandLine::Letter(letter) => letter_alone(alloc, board, visit, letter),
@@ -82,18 +82,18 @@ fn letter_alone(
         CommandLetter::L => Ok(list(visit, 0)),
         CommandLetter::N => {
             let question = Question::Unread { from: 0, most: 1 };
-            Ok(look(visit, question, Stage::Seeking))
+            Ok(look(visit, question, MenuStage::Seeking))
         }
         CommandLetter::P => {
             let text = fixed(alloc, Fixed::AskTo)?;
-            let stage = Stage::To;
+            let stage = MenuStage::To;
             Ok(say(text, State::Area { visit, stage }))
         }
         CommandLetter::Q => quit(alloc),
         CommandLetter::R => reply(alloc, board, visit),
-        CommandLetter::X => Ok(ask(visit, Command::Pack, Stage::Acting)),
+        CommandLetter::X => Ok(ask(visit, Command::Pack, MenuStage::Acting)),
         CommandLetter::Y => Ok(list_to(visit, 0)),
-        CommandLetter::Z => Ok(ask(visit, Command::Relink, Stage::Acting)),
+        CommandLetter::Z => Ok(ask(visit, Command::Relink, MenuStage::Acting)),
         _ => fixed_to_area(alloc, board, visit, Fixed::UnknownCommand),
     }
 }
@@ -111,12 +111,12 @@ fn letter_and_number(
         ≡ area_command board.now visit (CommandLine.LetterNumber letter number)) }
 {
     match letter {
-        CommandLetter::K => Ok(ask(visit, Command::Kill { number }, Stage::Acting)),
+        CommandLetter::K => Ok(ask(visit, Command::Kill { number }, MenuStage::Acting)),
         CommandLetter::L => Ok(list(visit, number)),
-        CommandLetter::M => Ok(ask(visit, Command::SetMark { number }, Stage::Acting)),
+        CommandLetter::M => Ok(ask(visit, Command::SetMark { number }, MenuStage::Acting)),
         CommandLetter::T => {
             let most = MOST_OF_THREAD;
-            Ok(look(visit, Question::Thread { number, most }, Stage::Listing))
+            Ok(look(visit, Question::Thread { number, most }, MenuStage::Listing))
         }
         CommandLetter::Y => Ok(list_to(visit, number)),
         _ => fixed_to_area(alloc, board, visit, Fixed::UnknownCommand),
@@ -125,18 +125,18 @@ fn letter_and_number(
 
 /// Lists the messages from a number on.
 fn list(visit: Visit, from: u32) -> Moved
-    ensures { result ≡ look visit (Question.List from 20) Stage.Listing }
+    ensures { result ≡ look visit (Question.List from 20) MenuStage.Listing }
 {
     let most = MOST_LISTED;
-    look(visit, Question::List { from, most }, Stage::Listing)
+    look(visit, Question::List { from, most }, MenuStage::Listing)
 }
 
 /// Lists the messages to the user from a number on.
 fn list_to(visit: Visit, from: u32) -> Moved
-    ensures { result ≡ look visit (Question.To from 20) Stage.Listing }
+    ensures { result ≡ look visit (Question.To from 20) MenuStage.Listing }
 {
     let most = MOST_LISTED;
-    look(visit, Question::To { from, most }, Stage::Listing)
+    look(visit, Question::To { from, most }, MenuStage::Listing)
 }
 
 /// Waits for a command of an area.
@@ -152,7 +152,7 @@ pub fn prompted(
     match given {
         Given::Line(line) => command(alloc, board, visit, command_of(line.as_slice())),
         _ => {
-            let stage = Stage::Prompt;
+            let stage = MenuStage::Prompt;
             Ok(passed_over(alloc, State::Area { visit, stage }))
         }
     }

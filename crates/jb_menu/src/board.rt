@@ -1,6 +1,5 @@
 //! What the menus take from the board.
 ghost use Rattle.std.specs.Prelude.{◌≡◌, ◌<◌, ◌≤◌, IfOk, length, position};
-ghost use Rattle.jb_conf.specs.InRange.{IsInRange};
 ghost use Rattle.jb_menu.specs.Boards.{area_name, area_named, counted_text, is_named_for, level_of, may_read, next_area, user_name};
 
 use jb_base::{Bytes, OutOfMemory};
@@ -55,7 +54,6 @@ fn place_of_readable(areas: &[BoardArea], level: u8) -> Option<usize>
 
 /// The first area from this one on that the user may read.
 pub fn next_area(board: &Board, user: u32, from: u32) -> Option<u32>
-    requires board { IsInRange board.now }
     requires user { user < length board.now.users }
     requires from { from ≤ length board.now.areas }
     ensures { result ≡ next_area board.now user from }
@@ -78,7 +76,6 @@ fn place_of_named(areas: &[BoardArea], level: u8, number: u32) -> Option<usize>
 
 /// The area with this number, where the user may read it.
 pub fn area_named(board: &Board, user: u32, number: u32) -> Option<u32>
-    requires board { IsInRange board.now }
     requires user { user < length board.now.users }
     ensures { result ≡ area_named board.now user number }
 {

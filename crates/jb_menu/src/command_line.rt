@@ -1,6 +1,6 @@
 //! What a line at a command prompt says.
 ghost use Rattle.std.specs.Prelude.{◌≡◌};
-ghost use Rattle.jb_menu.specs.CommandLines.{behind_letter, command_of, letter_of, number_of, parsed, without_first_spaces, without_last_spaces};
+ghost use Rattle.jb_menu.specs.CommandLines.{behind_letter, command_of, command_letter, typed_number, parsed, without_first_spaces, without_last_spaces};
 
 use jb_text::number_up_to;
 
@@ -34,7 +34,7 @@ pub enum CommandLine {
 
 /// The letter that a byte is, in either case.
 fn letter_of(byte: u8) -> Option<CommandLetter>
-    ensures { result ≡ letter_of byte }
+    ensures { result ≡ command_letter byte }
 {
     match byte.to_ascii_uppercase() {
         b'A' => Some(CommandLetter::A),
@@ -56,7 +56,7 @@ fn letter_of(byte: u8) -> Option<CommandLetter>
 
 /// The number that a text is.
 fn number_of(text: &[u8]) -> Option<u32>
-    ensures { result ≡ number_of text.now }
+    ensures { result ≡ typed_number text.now }
 {
     number_up_to(u32::MAX, text)
 }

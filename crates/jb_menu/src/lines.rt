@@ -8,7 +8,7 @@ ghost use Rattle.jb_menu.specs.Says.{passed_over, quit, say, to_area, to_top};
 
 use crate::board::area_name;
 use crate::moves::{MenuEnd, Move, Moved};
-use crate::state::{Stage, State, Visit};
+use crate::state::{MenuStage, State, Visit};
 use jb_base::{Bytes, OutOfMemory};
 use jb_conf::Board;
 use jb_model::Reply;
@@ -94,7 +94,7 @@ pub fn to_area(
 {
     let mut text = lines;
     text.append(prompt(alloc, area_name(board, visit.area))?.as_slice())?;
-    let stage = Stage::Prompt;
+    let stage = MenuStage::Prompt;
     Ok(say(text, State::Area { visit, stage }))
 }
 

@@ -1,6 +1,5 @@
 //! The log-in.
 ghost use Rattle.std.specs.Prelude.{◌≡◌, ◌<◌, IfOk, IfSome, length};
-ghost use Rattle.jb_conf.specs.InRange.{IsInRange};
 ghost use Rattle.jb_menu.specs.LogIn.{login_row, name_row, password_row, refused_row};
 
 use crate::Given;
@@ -87,7 +86,6 @@ pub fn password(
     name: Name,
     given: &Given,
 ) -> Result<Moved, OutOfMemory>
-    requires { IsInRange board.now }
     ensures { IfOk result (λ moved. moved ≡ password_row board.now refused name given.now) }
 {
     match given {

@@ -1,6 +1,5 @@
 //! The menus of one session.
 ghost use Rattle.std.specs.Prelude.{◌≡◌, ◌<◌, IfOk, OnErr, length};
-ghost use Rattle.jb_conf.specs.InRange.{IsInRange};
 ghost use Rattle.jb_text.specs.Lines.{start_text};
 ghost use Rattle.jb_menu.specs.Awaits.{AsksHere, Awaits, IsFor, Wanted, awaited_in, wanted_by};
 ghost use Rattle.jb_menu.specs.Menu.{MenuStep, menu_turn, stage_turn, user_in};
@@ -10,7 +9,7 @@ use crate::area::prompted;
 use crate::lines::passed_over;
 use crate::login::{name, password};
 use crate::moves::Moved;
-use crate::state::{Stage, State, Visit};
+use crate::state::{MenuStage, State, Visit};
 use crate::top::{counting, entering, top};
 use crate::writing::{private, subject, text, to};
 use crate::{Given, Move};
@@ -75,7 +74,6 @@ impl Menu {
     /// state stays. For want of memory the menu is at its end, where it passes over everything.
     #[tactic(auto, unfolding(crate::specs::Awaits::IsFor))]
     pub fn step(&mut self, alloc: Global, board: &Board, given: &Given) -> Result<Move, OutOfMemory>
-        requires board { IsInRange board.now }
         requires of { IsFor board.now self.old }
         ensures step { IfOk result (λ step. MenuStep board.now self.old given.now step self.new) }
         ensures err { OnErr result (self.new ≡ State.Ended) }
@@ -97,7 +95,6 @@ impl Menu {
 /// What is done in a state, and the state after it.
 #[tactic(auto, unfolding(crate::specs::Menu::menu_turn, crate::specs::Awaits::IsFor))]
 fn turn(alloc: Global, board: &Board, state: State, given: &Given) -> Result<Moved, OutOfMemory>
-    requires board { IsInRange board.now }
     requires of { IsFor board.now state }
     ensures { IfOk result (λ moved. moved ≡ menu_turn board.now state given.now) }
 {
@@ -123,27 +120,26 @@ fn stage_turn(
     alloc: Global,
     board: &Board,
     visit: Visit,
-    stage: Stage,
+    stage: MenuStage,
     given: &Given,
 ) -> Result<Moved, OutOfMemory>
-    requires board { IsInRange board.now }
     requires area { visit.area < length board.now.areas }
     ensures { IfOk result (λ moved. moved ≡ stage_turn board.now visit stage given.now) }
 {
     match stage {
-        Stage::Prompt => prompted(alloc, board, visit, given),
-        Stage::Listing => listing_messages(alloc, board, visit, given),
-        Stage::Seeking => seeking(alloc, board, visit, given),
-        Stage::Reading { marks } => reading(alloc, board, visit, marks, given),
-        Stage::Marking { letter } => marking(alloc, board, visit, letter, given),
-        Stage::Acting => acting(alloc, board, visit, given),
-        Stage::To => to(alloc, board, visit, given),
-        Stage::Subject { to: receiver } => subject(alloc, visit, receiver, given),
-        Stage::Private {
+        MenuStage::Prompt => prompted(alloc, board, visit, given),
+        MenuStage::Listing => listing_messages(alloc, board, visit, given),
+        MenuStage::Seeking => seeking(alloc, board, visit, given),
+        MenuStage::Reading { marks } => reading(alloc, board, visit, marks, given),
+        MenuStage::Marking { letter } => marking(alloc, board, visit, letter, given),
+        MenuStage::Acting => acting(alloc, board, visit, given),
+        MenuStage::To => to(alloc, board, visit, given),
+        MenuStage::Subject { to: receiver } => subject(alloc, visit, receiver, given),
+        MenuStage::Private {
             to: receiver,
             subject: about,
         } => private(alloc, visit, receiver, about, given),
-        Stage::Text {
+        MenuStage::Text {
             draft,
             text: so_far,
         } => { text(alloc, board, visit, draft, so_far, given) }

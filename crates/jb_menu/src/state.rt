@@ -45,7 +45,7 @@ impl Drop for Visit {
 }
 
 /// A message that is written: all of it but its text. It answers no message where that number is 0.
-pub struct Draft {
+pub struct DraftHead {
     pub to: Name,
     pub subject: Bytes,
     pub reply_to: u32,
@@ -53,9 +53,9 @@ pub struct Draft {
 }
 
 // Whoever lets go of one does so in one call.
-impl Drop for Draft {
+impl Drop for DraftHead {
     fn drop(self) {
-        let Draft {
+        let DraftHead {
             to: _to,
             subject: _subject,
             reply_to: _reply_to,
@@ -64,12 +64,12 @@ impl Drop for Draft {
     }
 }
 
-impl Draft {
+impl DraftHead {
     /// The command that posts it with this text.
     pub(crate) fn posted(self, text: Bytes) -> Command
         ensures { result ≡ Post self.to self.subject text self.reply_to self.private }
     {
-        let Draft {
+        let DraftHead {
             to,
             subject,
             reply_to,
@@ -87,7 +87,7 @@ impl Draft {
 
 /// What a menu waits for in an area.
 #[derive(Drop)]
-pub enum Stage {
+pub enum MenuStage {
     /// A command.
     Prompt,
     /// The messages of a list.
@@ -107,7 +107,7 @@ pub enum Stage {
     /// Whether it is private.
     Private { to: Name, subject: Bytes },
     /// A line of its text, behind the text so far.
-    Text { draft: Draft, text: Bytes },
+    Text { draft: DraftHead, text: Bytes },
 }
 
 /// What a menu waits for.
@@ -124,7 +124,7 @@ pub enum State {
     /// The figures of the area that the user enters.
     Entering { user: u32, area: u32 },
     /// Something in an area.
-    Area { visit: Visit, stage: Stage },
+    Area { visit: Visit, stage: MenuStage },
     /// Nothing: the session is over.
     Ended,
 }

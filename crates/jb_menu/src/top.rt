@@ -1,6 +1,5 @@
 //! Outside of the areas.
 ghost use Rattle.std.specs.Prelude.{◌≡◌, ◌<◌, IfOk, length};
-ghost use Rattle.jb_conf.specs.InRange.{IsInRange};
 ghost use Rattle.jb_menu.specs.Top.{count_row, counting_row, enter_row, entering_row, top_command, top_row};
 
 use crate::Given;
@@ -48,7 +47,6 @@ fn enter(alloc: Global, user: u32, area: Option<u32>) -> Result<Moved, OutOfMemo
 
 /// A command outside of the areas.
 fn command(alloc: Global, board: &Board, user: u32, line: CommandLine) -> Result<Moved, OutOfMemory>
-    requires board { IsInRange board.now }
     requires user { user < length board.now.users }
     ensures { IfOk result (λ moved. moved ≡ top_command board.now user line) }
 {
@@ -65,7 +63,6 @@ fn command(alloc: Global, board: &Board, user: u32, line: CommandLine) -> Result
 
 /// Waits for a command outside of the areas.
 pub fn top(alloc: Global, board: &Board, user: u32, given: &Given) -> Result<Moved, OutOfMemory>
-    requires board { IsInRange board.now }
     requires user { user < length board.now.users }
     ensures { IfOk result (λ moved. moved ≡ top_row board.now user given.now) }
 {
@@ -84,7 +81,6 @@ pub fn counting(
     lines: Bytes,
     given: &Given,
 ) -> Result<Moved, OutOfMemory>
-    requires board { IsInRange board.now }
     requires user { user < length board.now.users }
     requires area { area < length board.now.areas }
     ensures { IfOk result (λ moved. moved ≡ counting_row board.now user area lines given.now) }

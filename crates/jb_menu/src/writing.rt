@@ -3,13 +3,13 @@ ghost use Rattle.std.specs.Prelude.{◌≡◌, ◌<◌, ◌^◌, ◌++◌, [], �
 ghost use Rattle.jb_text.specs.Fixed.{fixed_text};
 ghost use Rattle.jb_text.specs.Letter.{line};
 ghost use Rattle.jb_text.specs.Lines.{replying_text};
-ghost use Rattle.jb_menu.specs.Writing.{answer_subject, answer_to, is_answer, marked_subject, more_row, post_row, private_row, reply_row, says_yes, subject_row, text_row, to_row};
+ghost use Rattle.jb_menu.specs.Writing.{answer_subject, answering_draft, has_re, marked_subject, more_row, post_row, private_row, reply_row, says_yes, subject_row, text_row, to_row};
 
 use crate::Given;
 use crate::area::ask;
 use crate::lines::{append_line, fixed_line, fixed_to_area, passed_over, say, whole};
 use crate::moves::Moved;
-use crate::state::{Draft, Shown, Stage, State, Visit};
+use crate::state::{DraftHead, MenuStage, Shown, State, Visit};
 use jb_base::{Bytes, MOST_POSTED_TEXT_BYTES, MOST_SUBJECT_BYTES, Name, OutOfMemory};
 use jb_conf::Board;
 use jb_text::{Fixed, fixed, replying};
@@ -17,7 +17,7 @@ use std::alloc::Global;
 
 /// Whether a subject says already that it is an answer.
 fn is_answer(subject: &[u8]) -> bool
-    ensures { result ≡ is_answer subject.now }
+    ensures { result ≡ has_re subject.now }
 {
     subject.starts_with(b"Re: ")
 }
@@ -45,10 +45,10 @@ fn answer_subject(alloc: Global, subject: &[u8]) -> Result<Bytes, OutOfMemory>
 }
 
 /// The answer to a message, without its text.
-fn answer_to(alloc: Global, shown: &Shown) -> Result<Draft, OutOfMemory>
-    ensures { IfOk result (λ draft. draft ≡ answer_to shown.now) }
+fn answer_to(alloc: Global, shown: &Shown) -> Result<DraftHead, OutOfMemory>
+    ensures { IfOk result (λ draft. draft ≡ answering_draft shown.now) }
 {
-    Ok(Draft {
+    Ok(DraftHead {
         to: Name::copy(alloc, shown.from.as_slice())?,
         subject: answer_subject(alloc, shown.subject.as_slice())?,
         reply_to: shown.number,
@@ -66,15 +66,15 @@ fn replying_lines(alloc: Global, from: &[u8], subject: &[u8]) -> Result<Bytes, O
 }
 
 /// The answer to a message, which waits for its text, and what is said then.
-fn answering(alloc: Global, shown: &Shown) -> Result<(Bytes, Stage), OutOfMemory>
+fn answering(alloc: Global, shown: &Shown) -> Result<(Bytes, MenuStage), OutOfMemory>
     ensures { IfOk result (λ begun. (begun.0 ≡ line (replying_text shown.now.from
         (answer_subject shown.now.subject)) ++ line (fixed_text Fixed.TextLine))
-        × (begun.1 ≡ Stage.Text (answer_to shown.now) [])) }
+        × (begun.1 ≡ MenuStage.Text (answering_draft shown.now) [])) }
 {
     let draft = answer_to(alloc, shown)?;
     let said = replying_lines(alloc, shown.from.as_slice(), draft.subject.as_slice())?;
     let text = Bytes::new(alloc);
-    Ok((said, Stage::Text { draft, text }))
+    Ok((said, MenuStage::Text { draft, text }))
 }
 
 /// Waits for the text of the answer to the message that was shown last.
@@ -97,7 +97,7 @@ pub fn to(alloc: Global, board: &Board, visit: Visit, given: &Given) -> Result<M
     match given {
         Given::Line(line) => receiver(alloc, board, visit, line.as_slice()),
         _ => {
-            let stage = Stage::To;
+            let stage = MenuStage::To;
             Ok(passed_over(alloc, State::Area { visit, stage }))
         }
     }
@@ -113,7 +113,7 @@ fn receiver(alloc: Global, board: &Board, visit: Visit, typed: &[u8]) -> Result<
     } else {
         let text = fixed(alloc, Fixed::AskSubject)?;
         let to = Name::copy(alloc, typed)?;
-        let stage = Stage::Subject { to };
+        let stage = MenuStage::Subject { to };
         Ok(say(text, State::Area { visit, stage }))
     }
 }
@@ -126,11 +126,11 @@ pub fn subject(alloc: Global, visit: Visit, to: Name, given: &Given) -> Result<M
         Given::Line(line) => {
             let text = fixed(alloc, Fixed::AskPrivate)?;
             let subject = Bytes::copy(alloc, line.as_slice())?;
-            let stage = Stage::Private { to, subject };
+            let stage = MenuStage::Private { to, subject };
             Ok(say(text, State::Area { visit, stage }))
         }
         _ => {
-            let stage = Stage::Subject { to };
+            let stage = MenuStage::Subject { to };
             Ok(passed_over(alloc, State::Area { visit, stage }))
         }
     }
@@ -156,30 +156,30 @@ pub fn private(
     match given {
         Given::Line(line) => {
             let text = fixed_line(alloc, Fixed::TextLine)?;
-            let draft = Draft {
+            let draft = DraftHead {
                 to,
                 subject,
                 reply_to: 0,
                 private: says_yes(line.as_slice()),
             };
-            let stage = Stage::Text {
+            let stage = MenuStage::Text {
                 draft,
                 text: Bytes::new(alloc),
             };
             Ok(say(text, State::Area { visit, stage }))
         }
         _ => {
-            let stage = Stage::Private { to, subject };
+            let stage = MenuStage::Private { to, subject };
             Ok(passed_over(alloc, State::Area { visit, stage }))
         }
     }
 }
 
 /// Posts a message.
-fn post(visit: Visit, draft: Draft, text: Bytes) -> Moved
+fn post(visit: Visit, draft: DraftHead, text: Bytes) -> Moved
     ensures { result ≡ post_row visit draft text }
 {
-    ask(visit, draft.posted(text), Stage::Acting)
+    ask(visit, draft.posted(text), MenuStage::Acting)
 }
 
 /// A text with this line behind it.
@@ -196,7 +196,7 @@ fn with_line(text: Bytes, typed: &[u8]) -> Result<Bytes, OutOfMemory>
 fn more(
     alloc: Global,
     visit: Visit,
-    draft: Draft,
+    draft: DraftHead,
     text: Bytes,
     typed: &[u8],
 ) -> Result<Moved, OutOfMemory>
@@ -205,11 +205,11 @@ fn more(
 {
     if text.len() + typed.len() + 1 > MOST_POSTED_TEXT_BYTES {
         let said = fixed_line(alloc, Fixed::TextFull)?;
-        let full = Stage::Text { draft, text };
+        let full = MenuStage::Text { draft, text };
         Ok(say(said, State::Area { visit, stage: full }))
     } else {
         let text = with_line(text, typed)?;
-        let stage = Stage::Text { draft, text };
+        let stage = MenuStage::Text { draft, text };
         Ok(say(Bytes::new(alloc), State::Area { visit, stage }))
     }
 }
@@ -219,7 +219,7 @@ fn text_line(
     alloc: Global,
     board: &Board,
     visit: Visit,
-    draft: Draft,
+    draft: DraftHead,
     text: Bytes,
     typed: &[u8],
 ) -> Result<Moved, OutOfMemory>
@@ -239,7 +239,7 @@ pub fn text(
     alloc: Global,
     board: &Board,
     visit: Visit,
-    draft: Draft,
+    draft: DraftHead,
     text: Bytes,
     given: &Given,
 ) -> Result<Moved, OutOfMemory>
@@ -249,7 +249,7 @@ pub fn text(
     match given {
         Given::Line(line) => text_line(alloc, board, visit, draft, text, line.as_slice()),
         _ => {
-            let stage = Stage::Text { draft, text };
+            let stage = MenuStage::Text { draft, text };
             Ok(passed_over(alloc, State::Area { visit, stage }))
         }
     }

@@ -86,21 +86,26 @@ id_crc (Some id) = jam_crc_of id
 abbrev pub plain_field : ℕ → List ℕ → Subfield
 plain_field id bytes = record { id = id; hi = 0; bytes = bytes }
 
--- the subfields of a posted message, in their order
-abbrev pub posted_subfields : AreaRules → AreaState → User → Draft → List Subfield
-posted_subfields rules state user draft =
-    (plain_field SENDER_NAME user.name ∷ plain_field RECEIVER_NAME draft.to ∷ plain_field MSGID (posted_msgid rules (next_number state)) ∷ [])
-    ++ map (plain_field REPLYID) (option_to_list (posted_replyid state draft.reply_to))
+-- the subfields of a posted message with these ids, in their order
+abbrev pub fields_with : User → Draft → List ℕ → Option (List ℕ) → List Subfield
+fields_with user draft msgid replyid =
+    (plain_field SENDER_NAME user.name ∷ plain_field RECEIVER_NAME draft.to ∷ plain_field MSGID msgid ∷ [])
+    ++ map (plain_field REPLYID) (option_to_list replyid)
     ++ plain_field SUBJECT draft.subject ∷ []
 
--- the header's fields of a posted message: it is local, unread, and answers its parent
-abbrev pub posted_head : AreaRules → AreaState → ℕ → Draft → Head
-posted_head rules state moment draft = record {
+-- the subfields of the message that is posted
+abbrev pub posted_subfields : AreaRules → AreaState → User → Draft → List Subfield
+posted_subfields rules state user draft =
+    fields_with user draft (posted_msgid rules (next_number state)) (posted_replyid state draft.reply_to)
+
+-- the header's fields of a posted message with these ids and this parent: it is local, and unread
+abbrev pub head_with : AreaRules → ℕ → Draft → List ℕ → Option (List ℕ) → ℕ → Head
+head_with rules moment draft msgid replyid parent = record {
   reserved = 0;
   times_read = 0;
-  msgid_crc = jam_crc_of (posted_msgid rules (next_number state));
-  reply_crc = id_crc (posted_replyid state draft.reply_to);
-  reply_to = posted_parent state draft.reply_to;
+  msgid_crc = jam_crc_of msgid;
+  reply_crc = id_crc replyid;
+  reply_to = parent;
   reply_first = 0;
   reply_next = 0;
   written = moment;
@@ -111,6 +116,11 @@ posted_head rules state moment draft = record {
   password = 0xFFFFFFFF;
   cost = 0;
 }
+
+-- its header's fields
+abbrev pub posted_head : AreaRules → AreaState → ℕ → Draft → Head
+posted_head rules state moment draft =
+    head_with rules moment draft (posted_msgid rules (next_number state)) (posted_replyid state draft.reply_to) (posted_parent state draft.reply_to)
 
 -- the message that is posted, under the CRC of its receiver's name
 abbrev pub posted_message : AreaRules → AreaState → User → ℕ → Draft → LiveMessage

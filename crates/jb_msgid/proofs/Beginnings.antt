@@ -7,8 +7,8 @@ use Rattle.std.proofs.lemmas.Bool.Decides.{eqb_tells, nat_tests}
 use Rattle.std.proofs.lemmas.List.{append-nil, drop_at, drop_all, drop_more, get_or-take, take-append-drop, length-take-le}
 use Rattle.std.proofs.lemmas.List.Sums.{prefix_len-le-length, fails_before_first, passes_at_first}
 use Rattle.std.proofs.lemmas.Option.{none-some, same_Some}
-use Rattle.jb_msgid.specs.Address.{BeginsWithout, IsPlain, IsUnclosed, MayBeginWith, doubled}
-use Rattle.jb_msgid.specs.Unquoting.{IsClosed, IsEnd}
+use Rattle.jb_msgid.specs.Address.{BeginsWithout, IsPlain, IsUnclosed, MayBeginWith, quotes_doubled}
+use Rattle.jb_msgid.specs.Unquoting.{IsClosed, IsQuoteEnd}
 use Rattle.jb_msgid.proofs.Doubling.{same_doubled}
 
 -- the test for a space
@@ -82,26 +82,26 @@ place_or_len text =
     grind (arith, nat_tests)
 
 -- the end of bytes between quotes
-pub closed_at : (text bytes rest : List ℕ) → text ≡ doubled bytes ++ rest → IsEnd rest → 0 < length rest → IsClosed text (record { bytes = bytes; end = length text - length rest + 1 })
+pub closed_at : (text bytes rest : List ℕ) → text ≡ quotes_doubled bytes ++ rest → IsQuoteEnd rest → 0 < length rest → IsClosed text (record { bytes = bytes; end = length text - length rest + 1 })
 closed_at text bytes [] spelled end some = absurd (omega arith)
 closed_at text bytes (quote ∷ behind) spelled end some =
-    let front = doubled bytes ++ quote ∷ [] in
-    let whole : text ≡ front ++ behind = spelled ∙ sym (append_assoc (doubled bytes) (quote ∷ []) behind) in
+    let front = quotes_doubled bytes ++ quote ∷ [] in
+    let whole : text ≡ front ++ behind = spelled ∙ sym (append_assoc (quotes_doubled bytes) (quote ∷ []) behind) in
     let n = length text - length (quote ∷ behind) + 1 in
-    let size : length front ≡ n = omega (arith, ap length whole, length-append front behind, length-append (doubled bytes) (quote ∷ [])) in
+    let size : length front ≡ n = omega (arith, ap length whole, length-append front behind, length-append (quotes_doubled bytes) (quote ∷ [])) in
     let after : drop n text ≡ behind = ap (drop n) whole ∙ drop_at front behind n size in
     record {
-      within = omega (arith, ap length whole, length-append front behind, length-append (doubled bytes) (quote ∷ []));
-      spelled = spelled ∙ ap (λ (b : ℕ). doubled bytes ++ b ∷ behind) end.0 ∙ ap (λ (l : List ℕ). doubled bytes ++ 34 ∷ l) (sym after);
+      within = omega (arith, ap length whole, length-append front behind, length-append (quotes_doubled bytes) (quote ∷ []));
+      spelled = spelled ∙ ap (λ (b : ℕ). quotes_doubled bytes ++ b ∷ behind) end.0 ∙ ap (λ (l : List ℕ). quotes_doubled bytes ++ 34 ∷ l) (sym after);
       closed = subst (BeginsWithout 34) (sym after) end.1;
     }
 
 -- a quote that nothing closes
-pub unclosed_text : (text inner bytes : List ℕ) → slice_get text 0 ≡ Some 34 → inner ≡ drop 1 text → inner ≡ doubled bytes → IsUnclosed text
+pub unclosed_text : (text inner bytes : List ℕ) → slice_get text 0 ≡ Some 34 → inner ≡ drop 1 text → inner ≡ quotes_doubled bytes → IsUnclosed text
 unclosed_text text inner bytes begins is spelled = record {
   quoted = begins;
   unclosed = λ address behind quoted.
-      let same = ap (drop 1) (sym quoted.spelled) ∙ sym is ∙ spelled ∙ sym (append-nil (doubled bytes)) in
+      let same = ap (drop 1) (sym quoted.spelled) ∙ sym is ∙ spelled ∙ sym (append-nil (quotes_doubled bytes)) in
       let none = (same_doubled address bytes (34 ∷ behind) [] (refl, quoted.closed) tt same).1 in
       omega (arith, ap length none);
 }

@@ -7,7 +7,7 @@ use Rattle.std.specs.Str.Parse.{AllDigits, digits_value}
 use Rattle.std.proofs.lemmas.Bool.{cases_lt}
 use Rattle.std.proofs.lemmas.Bool.Decides.{nat_tests}
 use Rattle.jb_msgid.specs.Address.{HasAddress}
-use Rattle.jb_msgid.specs.Answer.{IsReading}
+use Rattle.jb_msgid.specs.Answer.{ReadsMsgId}
 use Rattle.jb_msgid.specs.Serial.{IsSerial}
 use Rattle.jb_msgid.specs.Text.{msgid_text}
 use Rattle.jb_msgid.specs.declared.error.MsgIdError.TheVariants.{BadQuote, EmptyAddress, NoSerial}
@@ -32,7 +32,7 @@ eight_digits : (digits : List ℕ) (serial : ℕ) → length digits ≡ 8 → li
 eight_digits digits serial eight all value = record { digits = digits; spelled = refl; eight = eight; each = each_digit digits all; value = value }
 
 -- the usual text of the MSGIDs of this board
-usual : IsReading (codes "2:5020/1042 01000001") (Ok (record { address = codes "2:5020/1042"; serial = 16777217 }))
+usual : ReadsMsgId (codes "2:5020/1042 01000001") (Ok (record { address = codes "2:5020/1042"; serial = 16777217 }))
 usual = record {
   behind = codes " 01000001";
   address = plain (codes "2:5020/1042 01000001") 11 refl refl;
@@ -40,7 +40,7 @@ usual = record {
 }
 
 -- digits in capitals mean the same
-capitals : IsReading (codes "2:1/1 0000000A") (Ok (record { address = codes "2:1/1"; serial = 10 }))
+capitals : ReadsMsgId (codes "2:1/1 0000000A") (Ok (record { address = codes "2:1/1"; serial = 10 }))
 capitals = record {
   behind = codes " 0000000A";
   address = plain (codes "2:1/1 0000000A") 5 refl refl;
@@ -48,7 +48,7 @@ capitals = record {
 }
 
 -- an address between quotes, with two quotes of its own
-quoted : IsReading (codes "\"a \"\"b\"\"\" ffffffff") (Ok (record { address = codes "a \"b\""; serial = 4294967295 }))
+quoted : ReadsMsgId (codes "\"a \"\"b\"\"\" ffffffff") (Ok (record { address = codes "a \"b\""; serial = 4294967295 }))
 quoted = record {
   behind = codes " ffffffff";
   address = inr (record { spelled = refl; closed = omega arith }, omega arith);
@@ -63,7 +63,7 @@ written : (msgid_text (record { address = codes "2:1/1"; serial = 10 }) ≡ code
 written = (refl, refl, refl, refl)
 
 -- seven digits, and none
-seven_digits : IsReading (codes "2:1/1 0000000") (Err (NoSerial 13))
+seven_digits : ReadsMsgId (codes "2:1/1 0000000") (Err (NoSerial 13))
 seven_digits = record {
   address = codes "2:1/1";
   behind = codes " 0000000";
@@ -73,7 +73,7 @@ seven_digits = record {
   counted = refl;
 }
 
-no_digit : IsReading (codes "2:1/1 ") (Err (NoSerial 6))
+no_digit : ReadsMsgId (codes "2:1/1 ") (Err (NoSerial 6))
 no_digit = record {
   address = codes "2:1/1";
   behind = codes " ";
@@ -84,7 +84,7 @@ no_digit = record {
 }
 
 -- a letter that is no digit of base 16
-letter : IsReading (codes "2:1/1 0000g000") (Err (NoSerial 10))
+letter : ReadsMsgId (codes "2:1/1 0000g000") (Err (NoSerial 10))
 letter = record {
   address = codes "2:1/1";
   behind = codes " 0000g000";
@@ -95,7 +95,7 @@ letter = record {
 }
 
 -- nine digits
-nine_digits : IsReading (codes "2:1/1 000000001") (Err (NoSerial 14))
+nine_digits : ReadsMsgId (codes "2:1/1 000000001") (Err (NoSerial 14))
 nine_digits = record {
   address = codes "2:1/1";
   behind = codes " 000000001";
@@ -106,9 +106,9 @@ nine_digits = record {
 }
 
 -- a quote that nothing closes is told at the end of the text
-unclosed : IsReading (codes "\"a\"\"b 0000000a") (Err (BadQuote 14))
+unclosed : ReadsMsgId (codes "\"a\"\"b 0000000a") (Err (BadQuote 14))
 unclosed = (unclosed_text (codes "\"a\"\"b 0000000a") (codes "a\"\"b 0000000a") (codes "a\"b 0000000a") refl refl refl, refl)
 
 -- no text, a space at its beginning, and nothing between quotes
-no_address : IsReading [] (Err EmptyAddress) × IsReading (codes " 0000000a") (Err EmptyAddress) × IsReading (codes "\"\" 0000000a") (Err EmptyAddress)
+no_address : ReadsMsgId [] (Err EmptyAddress) × ReadsMsgId (codes " 0000000a") (Err EmptyAddress) × ReadsMsgId (codes "\"\" 0000000a") (Err EmptyAddress)
 no_address = (inl refl, inr (inl refl), inr (inr (codes " 0000000a", record { spelled = refl; closed = omega arith })))

@@ -6,7 +6,7 @@ use Rattle.std.proofs.lemmas.Bool.{eqb-false, or_parts}
 use Rattle.std.proofs.lemmas.Int.Digits.{digits_push, digits_value_push}
 use Rattle.std.proofs.lemmas.List.Elements.{All-nil, All-cons}
 use Rattle.std.proofs.lemmas.Str.{digit_value-digit_char}
-use Rattle.jb_msgid.specs.Address.{BeginsWithout, HasAddress, doubled}
+use Rattle.jb_msgid.specs.Address.{BeginsWithout, HasAddress, quotes_doubled}
 use Rattle.jb_msgid.specs.Serial.{IsSerial, last_digits}
 use Rattle.jb_msgid.specs.Text.{IsMsgId, address_text, msgid_text, wants_quotes}
 use Rattle.jb_msgid.specs.declared.value.MsgId.{MsgId}
@@ -28,7 +28,7 @@ no_first_quote (byte ∷ bytes) none =
 address_read : (quotes : Bool) (address behind : List ℕ) → wants_quotes address ≡ quotes → 0 < length address → HasAddress (address_text address ++ 32 ∷ behind) address (32 ∷ behind)
 address_read true address behind is some =
     let no_quote : 32 ≡ 34 → ⊥ = λ same. omega (arith, same) in
-    let written : address_text address ++ 32 ∷ behind ≡ 34 ∷ doubled address ++ 34 ∷ (32 ∷ behind) = rw is (append_assoc (34 ∷ doubled address) (34 ∷ []) (32 ∷ behind)) in
+    let written : address_text address ++ 32 ∷ behind ≡ 34 ∷ quotes_doubled address ++ 34 ∷ (32 ∷ behind) = rw is (append_assoc (34 ∷ quotes_doubled address) (34 ∷ []) (32 ∷ behind)) in
     inr (record { spelled = written; closed = no_quote }, some)
 address_read false address behind is some =
     let written : address_text address ++ 32 ∷ behind ≡ address ++ 32 ∷ behind = rw is refl in

@@ -2,9 +2,9 @@
 use Rattle.std.specs.Prelude.{◌≡◌, ◌≢◌, ℕ, ◌<◌, ◌⊎◌, ⊤, All, List, [], ◌∷◌, ◌++◌, Some, length, slice_get, ◌==◌, if◌then◌else◌}
 
 -- the bytes, with each quote twice
-abbrev pub doubled : List ℕ → List ℕ
-doubled [] = []
-doubled (byte ∷ bytes) = if byte == 34 then 34 ∷ 34 ∷ doubled bytes else byte ∷ doubled bytes
+abbrev pub quotes_doubled : List ℕ → List ℕ
+quotes_doubled [] = []
+quotes_doubled (byte ∷ bytes) = if byte == 34 then 34 ∷ 34 ∷ quotes_doubled bytes else byte ∷ quotes_doubled bytes
 
 -- the first byte, where there is one, is this one
 abbrev pub MayBeginWith : ℕ → List ℕ → Type 0
@@ -26,7 +26,7 @@ pub record IsPlain (text address behind : List ℕ) : Type 0 where
 
 -- bytes between quotes, each quote among them twice, so that no quote stands behind the closing one
 pub record IsQuoted (text address behind : List ℕ) : Type 0 where
-  pub spelled : text ≡ 34 ∷ doubled address ++ 34 ∷ behind
+  pub spelled : text ≡ 34 ∷ quotes_doubled address ++ 34 ∷ behind
   pub closed : BeginsWithout 34 behind
 
 -- the text begins with this address, and these bytes stand behind it

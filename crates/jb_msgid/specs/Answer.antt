@@ -7,12 +7,12 @@ use Rattle.jb_msgid.specs.declared.error.MsgIdError.TheVariants.{BadQuote, Empty
 use Rattle.jb_msgid.specs.declared.value.MsgId.{MsgId}
 
 -- the value of the text, or why it has none, or want of memory
-abbrev pub IsReading : List ℕ → Result MsgId MsgIdError → Type 0
-IsReading text (Ok value) = IsMsgId text value
-IsReading text (Err (NoSerial at)) = LacksSerial text at
-IsReading text (Err (BadQuote at)) = IsUnclosed text × (at ≡ length text)
-IsReading text (Err EmptyAddress) = HasNoAddress text
-IsReading text (Err OutOfMemory) = ⊤
+abbrev pub ReadsMsgId : List ℕ → Result MsgId MsgIdError → Type 0
+ReadsMsgId text (Ok value) = IsMsgId text value
+ReadsMsgId text (Err (NoSerial at)) = LacksSerial text at
+ReadsMsgId text (Err (BadQuote at)) = IsUnclosed text × (at ≡ length text)
+ReadsMsgId text (Err EmptyAddress) = HasNoAddress text
+ReadsMsgId text (Err OutOfMemory) = ⊤
 
 -- the one answer, unless memory runs out
 abbrev pub IsUnlessMemory : Result MsgId MsgIdError → Result MsgId MsgIdError → Type 0

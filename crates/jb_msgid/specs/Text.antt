@@ -1,7 +1,7 @@
 -- The text of a MSGID: an address, a space and a serial number (FTS-0009, "MSGID").
 use Rattle.std.specs.Prelude.{◌≡◌, ℕ, ◌+◌, Bool, List, [], ◌∷◌, ◌++◌, length, ◌==◌, ◌||◌, if◌then◌else◌}
 use Rattle.std.specs.List.{list_any}
-use Rattle.jb_msgid.specs.Address.{HasAddress, doubled}
+use Rattle.jb_msgid.specs.Address.{HasAddress, quotes_doubled}
 use Rattle.jb_msgid.specs.Serial.{IsFirstWrong, IsSerial, last_digits}
 use Rattle.jb_msgid.specs.declared.value.MsgId.{MsgId}
 
@@ -26,7 +26,7 @@ wants_quotes address = list_any (λ byte. byte == 32 || byte == 34) address
 
 -- an address as it is written
 abbrev pub address_text : List ℕ → List ℕ
-address_text address = if wants_quotes address then 34 ∷ doubled address ++ 34 ∷ [] else address
+address_text address = if wants_quotes address then 34 ∷ quotes_doubled address ++ 34 ∷ [] else address
 
 -- the one text that is written: quotes only where they are wanted, and digits in lower case
 abbrev pub msgid_text : MsgId → List ℕ

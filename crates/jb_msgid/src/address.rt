@@ -1,8 +1,8 @@
 //! The address at the beginning of the text.
 ghost use Rattle.std.specs.Prelude.{◌≡◌, ◌<◌, ◌≤◌, ◌==◌, [], ◌∷◌, ◌++◌, IfErr, IfOk, IfSome, MatchOption, Some, drop, length, position, slice_get, take, unwrap_or};
-ghost use Rattle.jb_msgid.specs.Address.{HasAddress, IsQuoted, doubled};
+ghost use Rattle.jb_msgid.specs.Address.{HasAddress, IsQuoted, quotes_doubled};
 ghost use Rattle.jb_msgid.specs.Answer.{IsAddressError};
-ghost use Rattle.jb_msgid.specs.Unquoting.{IsEnd, IsUnquoting};
+ghost use Rattle.jb_msgid.specs.Unquoting.{IsQuoteEnd, IsUnquoting};
 
 use crate::MsgIdError;
 use jb_bytes::{Bytes, OutOfMemory};
@@ -84,8 +84,8 @@ fn unquoted(alloc: Global, text: &[u8]) -> Result<Option<Address>, OutOfMemory>
 
 /// The next byte between quotes and the bytes behind it, where neither the closing quote nor the end comes first.
 fn next_inner(text: &[u8]) -> Option<(u8, &[u8])>
-    ensures inner { MatchOption result (IsEnd text.now) (λ next.
-        text.now ≡ doubled (next.0 ∷ []) ++ next.1.now) }
+    ensures inner { MatchOption result (IsQuoteEnd text.now) (λ next.
+        text.now ≡ quotes_doubled (next.0 ∷ []) ++ next.1.now) }
     ensures shorter { IfSome result (λ next. length next.1.now < length text.now) }
 {
     let (byte, behind) = text.split_first()?;

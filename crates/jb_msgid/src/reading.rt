@@ -1,7 +1,7 @@
 //! The text of a MSGID, read.
 ghost use Rattle.std.specs.Prelude.{◌≡◌, ℕ, Ok, Err, length};
 ghost use Rattle.jb_msgid.specs.Address.{HasNoAddress, IsUnclosed};
-ghost use Rattle.jb_msgid.specs.Answer.{IsReading, IsUnlessMemory};
+ghost use Rattle.jb_msgid.specs.Answer.{ReadsMsgId, IsUnlessMemory};
 ghost use Rattle.jb_msgid.specs.Text.{IsMsgId, LacksSerial};
 ghost use Rattle.jb_msgid.specs.declared.value.MsgId.{MsgId};
 
@@ -12,7 +12,7 @@ use std::alloc::Global;
 
 /// The value of the text (FTS-0009, "MSGID").
 pub fn parse(alloc: Global, text: &[u8]) -> Result<MsgId, MsgIdError>
-    ensures cause { IsReading text.now result }
+    ensures cause { ReadsMsgId text.now result }
 
     // Each text has one answer.
     ensures value { (value : MsgId) → IsMsgId text.now value → IsUnlessMemory result (Ok value) }
@@ -26,7 +26,7 @@ pub fn parse(alloc: Global, text: &[u8]) -> Result<MsgId, MsgIdError>
 }
 
 fn read(alloc: Global, text: &[u8]) -> Result<MsgId, MsgIdError>
-    ensures { IsReading text.now result }
+    ensures { ReadsMsgId text.now result }
 {
     let address = address_of(alloc, text)?;
     match serial_of(&text[address.end..]) {

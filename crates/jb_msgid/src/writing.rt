@@ -1,6 +1,6 @@
 //! The text of a MSGID, written.
 ghost use Rattle.std.specs.Prelude.{◌≡◌, ◌<◌, [], ◌∷◌, ◌++◌, IfOk, OnOk, length};
-ghost use Rattle.jb_msgid.specs.Address.{doubled};
+ghost use Rattle.jb_msgid.specs.Address.{quotes_doubled};
 ghost use Rattle.jb_msgid.specs.Text.{IsMsgId, address_text, msgid_text, wants_quotes};
 
 use crate::MsgId;
@@ -42,7 +42,7 @@ fn is_quoted(address: &[u8]) -> bool
 
 /// Appends the bytes, each quote twice.
 fn append_doubled(text: &mut Bytes, bytes: &[u8]) -> Result<(), OutOfMemory>
-    ensures { OnOk result (text.new ≡ text.old ++ doubled bytes.now) }
+    ensures { OnOk result (text.new ≡ text.old ++ quotes_doubled bytes.now) }
 {
     for byte in bytes {
         append_byte(text, *byte)?;
@@ -51,7 +51,7 @@ fn append_doubled(text: &mut Bytes, bytes: &[u8]) -> Result<(), OutOfMemory>
 }
 
 fn append_byte(text: &mut Bytes, byte: u8) -> Result<(), OutOfMemory>
-    ensures { OnOk result (text.new ≡ text.old ++ doubled (byte ∷ [])) }
+    ensures { OnOk result (text.new ≡ text.old ++ quotes_doubled (byte ∷ [])) }
 {
     if byte == b'"' {
         return text.append(b"\"\"");

@@ -6,7 +6,7 @@ use Rattle.jb_telnet.specs.declared.verb.Verb.TheVariants.{Will, Wont, Do, Dont}
 use Rattle.jb_option.specs.declared.side.Side.{Side}
 use Rattle.jb_option.specs.declared.side.Side.TheVariants.{Offered, On, Off}
 use Rattle.jb_option.specs.declared.options.TheConstants.{ECHO, SUPPRESS_GO_AHEAD}
-use Rattle.jb_option.specs.Table.{Sides, answer_to, side_after, side_of, sides_heard, spelled}
+use Rattle.jb_option.specs.Table.{Sides, verb_answer, side_after, side_of, sides_heard, spelled}
 use Rattle.jb_option.specs.Laws.{ends_within, AnswersOnlyChanges, AnswersNoRefusal, ExchangesEnd}
 
 -- the test holds however an option stands
@@ -57,7 +57,7 @@ unchanged_side : (sides : Sides) (said : Verb) (option : ℕ) → sides_heard si
 unchanged_side sides said option same = ap (λ w. side_of w said option) (sym same) ∙ side_heard sides said option
 
 -- an option that stands as was said is not spoken of again
-silent_known : (said : Verb) (side : Option Side) → IsSome side → side ≡ option_map (λ _. side_after said) side → answer_to said side ≡ None
+silent_known : (said : Verb) (side : Option Side) → IsSome side → side ≡ option_map (λ _. side_after said) side → verb_answer said side ≡ None
 silent_known Do None some is = cc
 silent_known Do (Some Off) some is = cc
 silent_known Dont (Some On) some is = cc
@@ -66,7 +66,7 @@ silent_known Will (Some Off) some is = cc
 silent_known Wont (Some On) some is = cc
 silent_known _ _ some is = refl
 
-silent_refused : (said : Verb) (side : Option Side) → side_after said ≡ Off → side ≡ option_map (λ _. side_after said) side → answer_to said side ≡ None
+silent_refused : (said : Verb) (side : Option Side) → side_after said ≡ Off → side ≡ option_map (λ _. side_after said) side → verb_answer said side ≡ None
 silent_refused Do side off is = cc
 silent_refused Will side off is = cc
 silent_refused Dont (Some On) off is = cc

@@ -18,6 +18,6 @@ abbrev pub option_answers : List Event → List (List ℕ)
 option_answers events = answers_behind [] events
 
 -- these events have led to how the options stand, and were given these answers
-pub record HasAnswered (sides : Sides) (events : List Event) (answers : List (List ℕ)) : Type 0 where
+pub record HasLedTo (sides : Sides) (events : List Event) (answers : List (List ℕ)) : Type 0 where
   pub reached : sides ≡ sides_of events
   pub given : answers ≡ option_answers events

@@ -4,7 +4,7 @@ use Rattle.std.specs.Option.{option_map, option_map_or}
 use Rattle.jb_telnet.specs.declared.verb.Verb.{Verb}
 use Rattle.jb_option.specs.declared.side.Side.{Side}
 use Rattle.jb_option.specs.declared.side.Side.TheVariants.{Off}
-use Rattle.jb_option.specs.Table.{Sides, answer_to, side_after, side_of, sides_heard, answer_heard}
+use Rattle.jb_option.specs.Table.{Sides, verb_answer, side_after, side_of, sides_heard, answer_heard}
 
 -- where the board has the option, what leaves the options as they stand is not answered
 abbrev pub AnswersOnlyChanges : Type 0
@@ -18,9 +18,9 @@ AnswersNoRefusal = (sides : Sides) (said : Verb) (option : ℕ) → side_after s
 
 -- where two sides answer each other by the table, at most so many answers follow what the first is told
 abbrev pub ends_within : ℕ → Verb → Option Side → Option Side → Bool
-ends_within zero said here there = is_none (answer_to said here)
+ends_within zero said here there = is_none (verb_answer said here)
 ends_within (suc n) said here there =
-    option_map_or (λ answer. ends_within n answer there (option_map (λ _. side_after said) here)) (answer_to said here) true
+    option_map_or (λ answer. ends_within n answer there (option_map (λ _. side_after said) here)) (verb_answer said here) true
 
 -- whatever is said first, and however the option stands on both sides, at most three answers follow
 abbrev pub ExchangesEnd : Type 0

@@ -31,23 +31,23 @@ is_on Offered = false
 is_on Off = false
 
 -- the table's answers, by what is said and how the option stands, where the board has it
-abbrev pub answer_to : Verb → Option Side → Option Verb
-answer_to Do (Some Offered) = None
-answer_to Do (Some Off) = Some Will
-answer_to Do (Some On) = None
-answer_to Do None = Some Wont
-answer_to Dont (Some Offered) = None
-answer_to Dont (Some On) = Some Wont
-answer_to Dont (Some Off) = None
-answer_to Dont None = None
-answer_to Will (Some Offered) = None
-answer_to Will (Some Off) = Some Do
-answer_to Will (Some On) = None
-answer_to Will None = Some Dont
-answer_to Wont (Some Offered) = None
-answer_to Wont (Some On) = Some Dont
-answer_to Wont (Some Off) = None
-answer_to Wont None = None
+abbrev pub verb_answer : Verb → Option Side → Option Verb
+verb_answer Do (Some Offered) = None
+verb_answer Do (Some Off) = Some Will
+verb_answer Do (Some On) = None
+verb_answer Do None = Some Wont
+verb_answer Dont (Some Offered) = None
+verb_answer Dont (Some On) = Some Wont
+verb_answer Dont (Some Off) = None
+verb_answer Dont None = None
+verb_answer Will (Some Offered) = None
+verb_answer Will (Some Off) = Some Do
+verb_answer Will (Some On) = None
+verb_answer Will None = Some Dont
+verb_answer Wont (Some Offered) = None
+verb_answer Wont (Some On) = Some Dont
+verb_answer Wont (Some Off) = None
+verb_answer Wont None = None
 
 -- the table's new states: how an option stands once this was said of it
 abbrev pub side_after : Verb → Side
@@ -93,7 +93,7 @@ spelled (Some verb) option = IAC ∷ code_of verb ∷ option ∷ []
 
 -- what is answered where this is said of an option
 abbrev pub answer_heard : Sides → Verb → ℕ → List ℕ
-answer_heard sides verb option = spelled (answer_to verb (side_of sides verb option)) option
+answer_heard sides verb option = spelled (verb_answer verb (side_of sides verb option)) option
 
 -- how the options stand after an event
 abbrev pub sides_after : Sides → Event → Sides

@@ -1,8 +1,8 @@
 //! The options as they stand, and the table.
 ghost use Rattle.std.specs.Prelude.{◌≡◌, ◌++◌, ◌∷◌, [], List, ℕ, take};
 ghost use Rattle.jb_telnet.specs.declared.event.Event.{Event};
-ghost use Rattle.jb_option.specs.Table.{Sides, first_sides, greeting_bytes, is_on, answer_to, side_after, side_of, sides_heard, answer_heard, sides_after, option_answer};
-ghost use Rattle.jb_option.specs.Events.{HasAnswered};
+ghost use Rattle.jb_option.specs.Table.{Sides, first_sides, greeting_bytes, is_on, verb_answer, side_after, side_of, sides_heard, answer_heard, sides_after, option_answer};
+ghost use Rattle.jb_option.specs.Events.{HasLedTo};
 
 use crate::answer::{Answer3, spell};
 use crate::side::Side;
@@ -35,7 +35,7 @@ impl Options {
     /// As they stand when the greeting has been sent.
     pub fn new() -> Options
         ensures exact { result ≡ first_sides }
-        ensures fits { HasAnswered result [] [] }
+        ensures fits { HasLedTo result [] [] }
     {
         Options {
             echo: Side::Offered,
@@ -67,8 +67,8 @@ impl Options {
         ensures value { take result.length result.bytes ≡ option_answer self.old event }
         // After any list of events, the answers are those to the whole list.
         ensures fits { (events : List Event) (answers : List (List ℕ))
-            → HasAnswered self.old events answers
-            → HasAnswered self.new (events ++ event ∷ []) (answers ++ take result.length result.bytes ∷ []) }
+            → HasLedTo self.old events answers
+            → HasLedTo self.new (events ++ event ∷ []) (answers ++ take result.length result.bytes ∷ []) }
     {
         self.answer(event)
     }
@@ -150,7 +150,7 @@ fn stands(verb: Verb) -> Side
 
 /// The table's answer, by what is said and how the option stands.
 fn tabled(verb: Verb, side: Option<Side>) -> Option<Verb>
-    ensures { result ≡ answer_to verb side }
+    ensures { result ≡ verb_answer verb side }
 {
     match (verb, side) {
         (Verb::Do, Some(Side::Off)) => Some(Verb::Will),

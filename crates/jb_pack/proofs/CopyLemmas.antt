@@ -20,7 +20,7 @@ use Rattle.jb_state.specs.declared.loaded.LoadedSlot.TheVariants.{Empty, Killed,
 use Rattle.jb_pack.specs.Copying.{PutsRun, PutsTexts}
 use Rattle.jb_pack.specs.Laid.{Lays, laid}
 use Rattle.jb_state.specs.Packed.{slot_text_size, texts_in, texts_size}
-use Rattle.jb_pack.specs.Runs.{IsJoined, IsPlaced, IsRun}
+use Rattle.jb_pack.specs.Runs.{IsJoined, IsRunPlaced, IsRun}
 use Rattle.jb_pack.specs.declared.run.Run.{Run}
 use Rattle.jb_pack.proofs.SlotLemmas.{keeps_then, lays_fewer, lays_none, lays_then}
 
@@ -44,7 +44,7 @@ pub bytes-more : (at n m : ℕ) (bytes : List ℕ) → bytes_at at (n + m) bytes
 bytes-more at n m bytes = take-more n m (drop at bytes) ∙ ap (λ (l : List ℕ). take n (drop at bytes) ++ take m l) (drop-drop n at bytes)
 
 -- the text of a message lies within .JDT, or has no byte
-pub text_placed : (texts_len at len : ℕ) → IsTextWithin texts_len at len → IsPlaced (min texts_len TEXTS_CEILING) (record { at = at; len = len })
+pub text_placed : (texts_len at len : ℕ) → IsTextWithin texts_len at len → IsRunPlaced (min texts_len TEXTS_CEILING) (record { at = at; len = len })
 text_placed texts_len at len within = record {
   inside = elim within.placed [
     | inl none ↦ inl none
@@ -53,11 +53,11 @@ text_placed texts_len at len within = record {
         let below = there.1 in
         inr (omega arith)
   ];
-  short = within.short;
+  short = omega (arith, within.short);
 }
 
 -- a text that has bytes is a part to read
-pub text_run : (end : ℕ) (run : Run) → run.len ≢ 0 → IsPlaced end run → IsRun end run
+pub text_run : (end : ℕ) (run : Run) → run.len ≢ 0 → IsRunPlaced end run → IsRun end run
 text_run end run some placed = record {
   inside = elim placed.inside [ inl none ↦ absurd (some none) | inr there ↦ there ];
   short = placed.short;

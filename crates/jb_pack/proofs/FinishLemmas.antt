@@ -11,7 +11,7 @@ use Rattle.std.proofs.Math.Seq.{drop-append-add, take-append_seam}
 use Rattle.jb_limits.specs.declared.limits.TheConstants.{HEADERS_CEILING, SHADOW_CEILING, TEXTS_CEILING, MOST_SLOTS}
 use Rattle.jb_redo.specs.Changes.{changed, record_size}
 use Rattle.jb_disk.specs.RedoView.{RedoView, bytes_of}
-use Rattle.jb_disk.specs.Files.{Files, number_of, overwritten}
+use Rattle.jb_disk.specs.Files.{Files, file_number, overwritten}
 use Rattle.jb_disk.specs.Steps.{IsCovered, Span, patched}
 use Rattle.jb_disk.specs.declared.file.FileId.{FileId}
 use Rattle.jb_disk.specs.declared.file.FileId.TheVariants.{Jhr, Jdt, Jdx, Jlr, Jnl, Ndt}
@@ -27,7 +27,7 @@ use Rattle.jb_state.specs.declared.loaded.LoadedSlot.TheVariants.{Empty, Killed,
 use Rattle.jb_redo.specs.Record.{piece_bytes}
 use Rattle.jb_redo.specs.Replay.{span_of, spans_in, writes}
 use Rattle.jb_redo.specs.Rules.{AreLegalLengths, IsLegalPiece, sizes_of}
-use Rattle.jb_redo.proofs.SpanLemmas.{spans_in-here, spans_in-other}
+use Rattle.jb_redo.proofs.SpanLemmas.{spans_in-here, spans_in-other, spans-append}
 use Rattle.jb_pack.specs.Bytes.{index_file}
 use Rattle.jb_pack.specs.Finish.{BringsNoText, HoldsWithCopies, IsPackOfCopies, PutsCopies}
 use Rattle.jb_pack.specs.Laid.{IsLaidOut, laid, pieces_into}
@@ -39,10 +39,10 @@ use Rattle.jb_pack.specs.declared.run.Run.{Run}
 use Rattle.jb_image.proofs.FileBytes.{length-bytes_at}
 use Rattle.jb_pack.proofs.FitLemmas.{headers_fit_kept}
 use Rattle.jb_pack.proofs.HeldLemmas.{length-index, length-packed}
-use Rattle.jb_pack.proofs.LaidLemmas.{length-record, spans-append}
 use Rattle.jb_pack.proofs.PlanLemmas.{marks_apart, texts_apart}
 use Rattle.jb_pack.proofs.StateLemmas.{sum_of_kept, texts_of_kept}
 use Rattle.jb_pack.proofs.WholeLemmas.{IsLaidIn, bytes_legal, grown_there, legal_lengths, legal_there, stand_there}
+use Rattle.jb_redo.proofs.LengthLemmas.{length-record}
 
 -- the parts have as many bytes together
 pub length-in : (file : List ℕ) (runs : List Run) → All (IsRun (length file)) runs → length (bytes_in file runs) ≡ runs_size runs
@@ -116,7 +116,7 @@ module _ (files : Files) where
       ])
 
   -- they write nothing else
-  pub copies_other : (at : ℕ) (runs : List Run) (file : FileId) → 1 ≢ number_of file → spans_in files (copies_of at runs) file ≡ []
+  pub copies_other : (at : ℕ) (runs : List Run) (file : FileId) → 1 ≢ file_number file → spans_in files (copies_of at runs) file ≡ []
   copies_other at [] file apart = refl
   copies_other at (run ∷ runs) file apart =
       spans_in-other files (Copy Ndt run.at Jdt at run.len) (copies_of (at + run.len) runs) file apart ∙ copies_other (at + run.len) runs file apart
@@ -172,7 +172,7 @@ bring_none (Copy from from_at to to_at len ∷ pieces) none =
 bring_none (Bytes file at bytes ∷ pieces) none =
     let first = unwritten (writes Jdt (Bytes file at bytes)) (Bytes file at bytes) (pieces_into pieces Jdt) none in
     All-cons BringsNoText (Bytes file at bytes) pieces
-    (λ same. let test : eqb (number_of Jdt) (number_of Jdt) ≡ false = subst (λ (f : FileId). eqb (number_of f) (number_of Jdt) ≡ false) same first.0 in absurd (cc))
+    (λ same. let test : eqb (file_number Jdt) (file_number Jdt) ≡ false = subst (λ (f : FileId). eqb (file_number f) (file_number Jdt) ≡ false) same first.0 in absurd (cc))
     (bring_none pieces first.1)
 
 -- the bytes of each file: of .JDT these texts, of the others those of the pieces
@@ -192,7 +192,7 @@ module _ (files : Files) (pieces : List Piece) (runs : List Run) (out : IsLaidOu
   texts = bytes_in (files Ndt) runs
 
   -- what is written into another file
-  spans_else : (file : FileId) → 1 ≢ number_of file → spans_in files (pieces ++ copies_of 0 runs) file ≡ spans_in files pieces file
+  spans_else : (file : FileId) → 1 ≢ file_number file → spans_in files (pieces ++ copies_of 0 runs) file ≡ spans_in files pieces file
   spans_else file apart =
       spans-append files pieces (copies_of 0 runs) file
       ∙ ap (λ (l : List Span). spans_in files pieces file ++ l) (copies_other files 0 runs file apart)
@@ -205,17 +205,17 @@ module _ (files : Files) (pieces : List Piece) (runs : List Run) (out : IsLaidOu
       ∙ ap (λ (l : List Piece). map (span_of files) l ++ spans_in files (copies_of 0 runs) Jdt) none
 
   -- the beginning of another file
-  front_else : (file : FileId) (old : List ℕ) → 1 ≢ number_of file → length (laid pieces file) ≤ length old
+  front_else : (file : FileId) (old : List ℕ) → 1 ≢ file_number file → length (laid pieces file) ≤ length old
       → patched (spans_in files (pieces ++ copies_of 0 runs) file) old ≡ laid pieces file ++ drop (length (laid pieces file)) old
   front_else file old apart long = ap (λ (l : List Span). patched l old) (spans_else file apart) ∙ out.fronts files file old long
 
   -- each of its bytes is written
-  cover_else : (file : FileId) (i : ℕ) → 1 ≢ number_of file → i < length (laid pieces file) → IsCovered (spans_in files (pieces ++ copies_of 0 runs) file) i
+  cover_else : (file : FileId) (i : ℕ) → 1 ≢ file_number file → i < length (laid pieces file) → IsCovered (spans_in files (pieces ++ copies_of 0 runs) file) i
   cover_else file i apart low = subst (λ (l : List Span). IsCovered l i) (sym (spans_else file apart)) (out.covers files file i low)
 
   -- no piece with its bytes passes a file's end
-  long_enough : (ends : FileId → ℕ) → ((file : FileId) → number_of file < 4 → length (written_bytes texts pieces file) ≤ ends file)
-      → (file : FileId) → number_of file < 4 → length (laid pieces file) ≤ ends file
+  long_enough : (ends : FileId → ℕ) → ((file : FileId) → file_number file < 4 → length (written_bytes texts pieces file) ≤ ends file)
+      → (file : FileId) → file_number file < 4 → length (laid pieces file) ≤ ends file
   long_enough ends longer Jhr low = longer Jhr low
   long_enough ends longer Jdt low = omega (arith, ap (λ (l : List Piece). length (flat_map bytes_of l)) none)
   long_enough ends longer Jdx low = longer Jdx low

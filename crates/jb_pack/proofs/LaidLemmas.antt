@@ -9,7 +9,7 @@ use Rattle.std.proofs.lemmas.List.{append-nil, map-append, drop-drop}
 use Rattle.std.proofs.lemmas.List.Elements.{All-append, All-cons, All-nil, filter-append}
 use Rattle.std.proofs.Math.Seq.{drop-append-add, take-append_seam}
 use Rattle.jb_disk.specs.RedoView.{RedoView, bytes_of}
-use Rattle.jb_disk.specs.Files.{Files, number_of, overwritten}
+use Rattle.jb_disk.specs.Files.{Files, file_number, overwritten}
 use Rattle.jb_disk.specs.FileLaws.{number-injective}
 use Rattle.jb_disk.specs.Steps.{IsCovered, Span, patched}
 use Rattle.jb_disk.specs.declared.file.FileId.{FileId}
@@ -17,35 +17,23 @@ use Rattle.jb_disk.specs.declared.piece.Piece.{Piece}
 use Rattle.jb_disk.specs.declared.piece.Piece.TheVariants.{Bytes, Copy}
 use Rattle.jb_redo.specs.Replay.{span_of, spans_in, writes}
 use Rattle.jb_redo.specs.Record.{length_bytes, piece_bytes, record_bytes, record_end, record_head}
-use Rattle.jb_redo.proofs.SpanLemmas.{spans_in-here, spans_in-other}
+use Rattle.jb_redo.proofs.SpanLemmas.{spans_in-here, spans_in-other, covered-first, spans-append}
 use Rattle.jb_pack.specs.Laid.{IsLaidOut, IsLegalIn, Lays, laid, pieces_into}
 use Rattle.jb_redo.specs.Changes.{record_size}
 use Rattle.jb_bytes.specs.Number.{number_bytes}
 use Rattle.jb_disk.specs.declared.piece.Length.{Length}
 use Rattle.jb_redo.proofs.RecordLemmas.{length-lengths}
+use Rattle.jb_redo.proofs.LengthLemmas.{length-record}
 
 -- spans behind others are written last
 pub patched-append : (first second : List Span) (old : List ℕ) → patched (first ++ second) old ≡ patched second (patched first old)
 patched-append [] second old = refl
 patched-append (span ∷ first) second old = patched-append first second (overwritten span.at span.bytes old)
 
--- a place that the first have
-pub covered-first : (first second : List Span) (i : ℕ) → IsCovered first i → IsCovered (first ++ second) i
-covered-first [] second i none = absurd none
-covered-first (span ∷ first) second i covered = elim covered [
-  | inl here ↦ inl here
-  | inr rest ↦ inr (covered-first first second i rest)
-]
-
 -- a place that the second have
 pub covered-second : (first second : List Span) (i : ℕ) → IsCovered second i → IsCovered (first ++ second) i
 covered-second [] second i covered = covered
 covered-second (span ∷ first) second i covered = inr (covered-second first second i covered)
-
--- the spans of pieces behind others
-pub spans-append : (files : Files) (first second : List Piece) (file : FileId) → spans_in files (first ++ second) file ≡ spans_in files first file ++ spans_in files second file
-spans-append files first second file =
-    ap (map (span_of files)) (filter-append (writes file) first second) ∙ map-append (span_of files) (filter (writes file) first) (filter (writes file) second)
 
 -- the bytes of pieces behind others
 laid-append : (first second : List Piece) (file : FileId) → laid (first ++ second) file ≡ laid first file ++ laid second file
@@ -53,13 +41,13 @@ laid-append first second file =
     ap (flat_map bytes_of) (filter-append (writes file) first second) ∙ flat_map-append bytes_of (filter (writes file) first) (filter (writes file) second)
 
 -- the bytes of one piece in its file
-laid-one : (file other : FileId) (at : ℕ) (bytes : List ℕ) → number_of file ≡ number_of other → laid (Bytes file at bytes ∷ []) other ≡ bytes
+laid-one : (file other : FileId) (at : ℕ) (bytes : List ℕ) → file_number file ≡ file_number other → laid (Bytes file at bytes ∷ []) other ≡ bytes
 laid-one file other at bytes same =
     let kept : filter (writes other) (Bytes file at bytes ∷ []) ≡ Bytes file at bytes ∷ [] = grind (arith, nat_tests) in
     ap (flat_map bytes_of) kept ∙ append-nil bytes
 
 -- it is written into no other
-into-none : (file other : FileId) (at : ℕ) (bytes : List ℕ) → number_of file ≢ number_of other → pieces_into (Bytes file at bytes ∷ []) other ≡ []
+into-none : (file other : FileId) (at : ℕ) (bytes : List ℕ) → file_number file ≢ file_number other → pieces_into (Bytes file at bytes ∷ []) other ≡ []
 into-none file other at bytes apart = grind (arith, nat_tests)
 
 -- a write right behind the front of a file makes the front longer
@@ -111,7 +99,7 @@ module _ (pieces : List Piece) (file : FileId) (at : ℕ) (bytes : List ℕ) whe
       ∙ ap (λ (l : List Span). spans_in files pieces file ++ l) (spans_in-here files (Bytes file at bytes) [] file refl)
 
   -- and into another
-  spans-other : (files : Files) (other : FileId) → number_of file ≢ number_of other → spans_in files more other ≡ spans_in files pieces other
+  spans-other : (files : Files) (other : FileId) → file_number file ≢ file_number other → spans_in files more other ≡ spans_in files pieces other
   spans-other files other apart =
       spans-append files pieces (Bytes file at bytes ∷ []) other
       ∙ ap (λ (l : List Span). spans_in files pieces other ++ l) (spans_in-other files (Bytes file at bytes) [] other apart)
@@ -139,23 +127,23 @@ module _ (pieces : List Piece) (file : FileId) (at : ℕ) (bytes : List ℕ) whe
         ])
 
     -- the pieces are laid out still
-    pub laid_out : number_of file < 4 → at < 2 ^ 32 → length bytes < 2 ^ 32 → length more < 2 ^ 32 → IsLaidOut more
+    pub laid_out : file_number file < 4 → at < 2 ^ 32 → length bytes < 2 ^ 32 → length more < 2 ^ 32 → IsLaidOut more
     laid_out base place short few = record {
-      fronts = λ files other old long. elim (cases_eq (number_of file) (number_of other)) [
+      fronts = λ files other old long. elim (cases_eq (file_number file) (file_number other)) [
         | inl same ↦
             subst (λ (f : FileId). length (laid more f) ≤ length old → patched (spans_in files more f) old ≡ laid more f ++ drop (length (laid more f)) old)
             (number-injective file other same) (front-here files old) long
         | inr apart ↦
-            let same : laid more other ≡ laid pieces other = laid-other other (λ is. apart (sym (ap number_of is))) in
+            let same : laid more other ≡ laid pieces other = laid-other other (λ is. apart (sym (ap file_number is))) in
             ap (λ (l : List Span). patched l old) (spans-other files other apart)
             ∙ was.fronts files other old (omega (arith, ap length same))
             ∙ ap (λ (l : List ℕ). l ++ drop (length l) old) (sym same)
       ];
-      covers = λ files other i low. elim (cases_eq (number_of file) (number_of other)) [
+      covers = λ files other i low. elim (cases_eq (file_number file) (file_number other)) [
         | inl same ↦
             subst (λ (f : FileId). i < length (laid more f) → IsCovered (spans_in files more f) i) (number-injective file other same) (covers-here files i) low
         | inr apart ↦
-            let same : laid more other ≡ laid pieces other = laid-other other (λ is. apart (sym (ap number_of is))) in
+            let same : laid more other ≡ laid pieces other = laid-other other (λ is. apart (sym (ap file_number is))) in
             subst (λ (l : List Span). IsCovered l i) (sym (spans-other files other apart)) (was.covers files other i (omega (arith, ap length same)))
       ];
       each =
@@ -167,28 +155,12 @@ module _ (pieces : List Piece) (file : FileId) (at : ℕ) (bytes : List ℕ) whe
       few = few;
     }
 
--- the rest of a record takes sixteen
-pub length-record : (lengths : List Length) (pieces : List Piece) → length (record_bytes lengths pieces) ≡ 16 + 8 * length lengths + length (flat_map piece_bytes pieces)
-length-record lengths pieces =
-    let head : List ℕ = record_head ++ number_bytes 4 (length lengths) in
-    let first : List ℕ = head ++ flat_map length_bytes lengths in
-    let second : List ℕ = first ++ number_bytes 4 (length pieces) in
-    let third : List ℕ = second ++ flat_map piece_bytes pieces in
-    omega (
-      arith,
-      length-append head (flat_map length_bytes lengths),
-      length-append first (number_bytes 4 (length pieces)),
-      length-append second (flat_map piece_bytes pieces),
-      length-append third record_end,
-      length-lengths lengths,
-    )
-
 -- a record with one piece more
 pub size_more : (old new : RedoView) (file : FileId) (at : ℕ) (bytes : List ℕ) → new.lengths ≡ old.lengths → new.pieces ≡ old.pieces ++ Bytes file at bytes ∷ []
     → record_size new ≡ record_size old + 12 + length bytes
 size_more old new file at bytes lengths_are pieces_are =
     let piece : length (piece_bytes (Bytes file at bytes)) ≡ 12 + length bytes =
-    length-append (0 ∷ number_of file ∷ 0 ∷ 0 ∷ number_bytes 4 at ++ number_bytes 4 (length bytes)) bytes in
+    length-append (0 ∷ file_number file ∷ 0 ∷ 0 ∷ number_bytes 4 at ++ number_bytes 4 (length bytes)) bytes in
     let all : length (flat_map piece_bytes new.pieces) ≡ length (flat_map piece_bytes old.pieces) + (12 + length bytes) =
     ap (λ (l : List Piece). length (flat_map piece_bytes l)) pieces_are
     ∙ ap length (flat_map-append piece_bytes old.pieces (Bytes file at bytes ∷ []))
@@ -198,7 +170,7 @@ size_more old new file at bytes lengths_are pieces_are =
 
 -- what one piece more lays
 pub lays_one : (old new : RedoView) (file : FileId) (at : ℕ) (bytes : List ℕ) → new.lengths ≡ old.lengths → new.pieces ≡ old.pieces ++ Bytes file at bytes ∷ []
-    → at ≡ length (laid old.pieces file) → number_of file < 4 → at < 2 ^ 32 → length bytes < 2 ^ 32 → length new.pieces < 2 ^ 32 → Lays file 1 bytes old new
+    → at ≡ length (laid old.pieces file) → file_number file < 4 → at < 2 ^ 32 → length bytes < 2 ^ 32 → length new.pieces < 2 ^ 32 → Lays file 1 bytes old new
 lays_one old new file at bytes lengths_are pieces_are at_is base place short few = record {
   lengths = lengths_are;
   here = ap (λ (l : List Piece). laid l file) pieces_are ∙ laid-here old.pieces file at bytes;

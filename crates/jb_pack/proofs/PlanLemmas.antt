@@ -4,13 +4,12 @@ use Rattle.std.specs.Prelude.{slice_index_or, ◌^◌}
 use Rattle.std.specs.List.{flat_map, position_or_len}
 use Rattle.std.proofs.lemmas.List.Sums.{sum_by-le}
 use Rattle.jb_redo.specs.Record.{piece_bytes}
-use Rattle.jb_pack.proofs.LaidLemmas.{length-record}
 use Rattle.std.proofs.lemmas.List.{length-map}
 use Rattle.std.proofs.lemmas.List.Elements.{All-nil}
-use Rattle.jb_limits.specs.declared.limits.TheConstants.{HEADERS_CEILING, TEXTS_CEILING, MOST_SLOTS}
+use Rattle.jb_limits.specs.declared.limits.TheConstants.{HEADERS_CEILING, TEXTS_CEILING, MOST_SLOTS, MOST_TEXT_BYTES}
 use Rattle.jb_redo.specs.Changes.{changed}
 use Rattle.jb_disk.specs.RedoView.{RedoView, bytes_of}
-use Rattle.jb_disk.specs.Files.{Files, number_of}
+use Rattle.jb_disk.specs.Files.{Files, file_number}
 use Rattle.jb_disk.specs.declared.file.FileId.TheVariants.{Jhr, Jdt, Jdx, Jlr}
 use Rattle.jb_disk.specs.declared.piece.Piece.{Piece}
 use Rattle.jb_image.specs.Stands.{fixed_of}
@@ -33,6 +32,7 @@ use Rattle.jb_pack.specs.Plan.{IsPackOf, PutsArea, PutsBase, StandPacked, length
 use Rattle.jb_pack.proofs.FitLemmas.{headers_fit_kept}
 use Rattle.jb_pack.proofs.HeldLemmas.{length-headers, length-index, length-packed}
 use Rattle.jb_pack.proofs.WholeLemmas.{grown_there, laid_in_any, legal_lengths, legal_there, stand_there}
+use Rattle.jb_redo.proofs.LengthLemmas.{length-record}
 
 -- nothing is laid out
 pub laid_out_none : IsLaidOut []
@@ -50,11 +50,11 @@ nothing (byte ∷ bytes) none = absurd (omega (arith, none))
 
 -- two files
 jhr_not_jdx : Jhr ≢ Jdx
-jhr_not_jdx same = absurd (omega (arith, ap number_of same))
+jhr_not_jdx same = absurd (omega (arith, ap file_number same))
 
 -- and the other way round
 jdx_not_jhr : Jdx ≢ Jhr
-jdx_not_jhr same = absurd (omega (arith, ap number_of same))
+jdx_not_jhr same = absurd (omega (arith, ap file_number same))
 
 -- all of .JHR and .JDX is put
 pub area_put : (loaded : Loaded) (old one two new : RedoView) (count : ℕ) → length (laid old.pieces Jhr) ≡ 0
@@ -128,11 +128,11 @@ base_put loaded one two lengths_are none area =
 
 -- .JDT is neither of them
 pub texts_apart : (Jdt ≢ Jhr) × (Jdt ≢ Jdx)
-texts_apart = (λ same. absurd (omega (arith, ap number_of same)), λ same. absurd (omega (arith, ap number_of same)))
+texts_apart = (λ same. absurd (omega (arith, ap file_number same)), λ same. absurd (omega (arith, ap file_number same)))
 
 -- nor is .JLR
 pub marks_apart : (Jlr ≢ Jhr) × (Jlr ≢ Jdx)
-marks_apart = (λ same. absurd (omega (arith, ap number_of same)), λ same. absurd (omega (arith, ap number_of same)))
+marks_apart = (λ same. absurd (omega (arith, ap file_number same)), λ same. absurd (omega (arith, ap file_number same)))
 
 -- all parts of a pack, put one after another
 pub pack_of : (limit : ℕ) (loaded : Loaded) (two new : RedoView) (contents : Option Files) → IsSound limit loaded → limit ≤ MOST_SLOTS
@@ -141,12 +141,12 @@ pack_of limit loaded two new contents sound limited fits base texts =
     let lays = texts.lays in
     let all_lengths : new.lengths ≡ lengths_with (headers_size (kept_slots loaded)) (texts_size (kept_slots loaded)) (length (kept_slots loaded)) =
     lays.lengths ∙ base.lengths in
-    let headers : laid new.pieces Jhr ≡ headers_file (packed loaded) = ap (flat_map bytes_of) (lays.others Jhr (λ same. absurd (omega (arith, ap number_of same)))) ∙ base.headers in
-    let index : laid new.pieces Jdx ≡ index_file (packed loaded) = ap (flat_map bytes_of) (lays.others Jdx (λ same. absurd (omega (arith, ap number_of same)))) ∙ base.index in
+    let headers : laid new.pieces Jhr ≡ headers_file (packed loaded) = ap (flat_map bytes_of) (lays.others Jhr (λ same. absurd (omega (arith, ap file_number same)))) ∙ base.headers in
+    let index : laid new.pieces Jdx ≡ index_file (packed loaded) = ap (flat_map bytes_of) (lays.others Jdx (λ same. absurd (omega (arith, ap file_number same)))) ∙ base.index in
     let no_texts : laid two.pieces Jdt ≡ [] = ap (flat_map bytes_of) (base.others Jdt texts_apart.0 texts_apart.1) in
     let all_texts : laid new.pieces Jdt ≡ texts.bytes = lays.here ∙ ap (λ (l : List ℕ). l ++ texts.bytes) no_texts in
     let no_marks : laid new.pieces Jlr ≡ [] =
-    ap (flat_map bytes_of) (lays.others Jlr (λ same. absurd (omega (arith, ap number_of same))) ∙ base.others Jlr marks_apart.0 marks_apart.1) in
+    ap (flat_map bytes_of) (lays.others Jlr (λ same. absurd (omega (arith, ap file_number same))) ∙ base.others Jlr marks_apart.0 marks_apart.1) in
     let many : length (kept_slots loaded) ≤ MOST_SLOTS = omega (arith, sound.few_slots, length-drop (new_base loaded - loaded.base) loaded.slots) in
     let headers_fit : 1024 + headers_size (kept_slots loaded) ≤ HEADERS_CEILING = headers_fit_kept limit loaded sound in
     let out : IsLaidOut new.pieces = lays.kept base.laid_out in
@@ -177,9 +177,9 @@ pack_of limit loaded two new contents sound limited fits base texts =
 -- texts together are no more bytes than a number of 64 bits counts
 pub texts_small : (limit : ℕ) (loaded : Loaded) → IsSound limit loaded → limit ≤ MOST_SLOTS → texts_size loaded.slots < 2 ^ 64
 texts_small limit loaded sound limited =
-    omega (arith, sum_by-le slot_text_size 1048576 loaded.slots (λ k d low. short (slice_index_or loaded.slots k d) (sound.within k d low)), sound.few_slots)
+    omega (arith, sum_by-le slot_text_size MOST_TEXT_BYTES loaded.slots (λ k d low. short (slice_index_or loaded.slots k d) (sound.within k d low)), sound.few_slots)
   where
-    short : (slot : LoadedSlot) → IsSlotWithin loaded.headers_len loaded.texts_len slot → slot_text_size slot ≤ 1048576
+    short : (slot : LoadedSlot) → IsSlotWithin loaded.headers_len loaded.texts_len slot → slot_text_size slot ≤ MOST_TEXT_BYTES
     short Empty within = omega arith
     short (Killed at) within = omega arith
     short (Live message) within = within.text.short

@@ -20,7 +20,7 @@ use Rattle.jb_state.specs.declared.loaded.LoadedSlot.{LoadedSlot}
 use Rattle.jb_state.specs.declared.loaded.LoadedSlot.TheVariants.{Empty, Killed, Live}
 use Rattle.jb_pack.specs.Finish.{PutsCopies}
 use Rattle.jb_state.specs.Packed.{is_live_slot, live_slots, slot_text_size, texts_in, texts_size}
-use Rattle.jb_pack.specs.Runs.{IsJoined, IsPlaced, IsRun, bytes_in, copies_of, runs_size}
+use Rattle.jb_pack.specs.Runs.{IsJoined, IsRunPlaced, IsRun, bytes_in, copies_of, runs_size}
 use Rattle.jb_pack.specs.Shadow.{IsBelowCeiling, IsCopyIn, left_of, not_copied}
 use Rattle.jb_pack.specs.declared.copied.CopiedText.{CopiedText}
 use Rattle.jb_pack.specs.declared.run.Run.{Run}
@@ -43,8 +43,8 @@ copy_below (copied ∷ copies) (suc k) each = copy_below copies k (All-tail IsBe
 -- the text of a message, of which nothing is left, as its copy stands in .NDT
 pub record IsTextRun (copies : List CopiedText) (message : LoadedMessage) (text : Run) : Type 0 where
   pub len : text.len ≡ message.text_len
-  pub placed : IsPlaced SHADOW_CEILING text
-  pub inside : (files : Files) → All (IsCopyIn (files Jdt) (files Ndt)) copies → IsPlaced (length (files Ndt)) text
+  pub placed : IsRunPlaced SHADOW_CEILING text
+  pub inside : (files : Files) → All (IsCopyIn (files Jdt) (files Ndt)) copies → IsRunPlaced (length (files Ndt)) text
   pub bytes : (files : Files) → All (IsCopyIn (files Jdt) (files Ndt)) copies → bytes_at text.at text.len (files Ndt) ≡ text_of (files Jdt) message
 
 -- it is so
@@ -59,7 +59,7 @@ is_text_run headers_len texts_len copies k message below within none =
       len = refl;
       placed = record {
         inside = elim cases [ inl there ↦ let len = there.1 in inr (omega (arith, low)) | inr empty ↦ inl empty ];
-        short = within.text.short;
+        short = omega (arith, within.text.short);
       };
       inside = λ files each. record {
         inside = elim cases [
@@ -69,7 +69,7 @@ is_text_run headers_len texts_len copies k message below within none =
               inr (omega arith)
           | inr empty ↦ inl empty
         ];
-        short = within.text.short;
+        short = omega (arith, within.text.short);
       };
       bytes = λ files each. elim cases [
         | inl there ↦
@@ -167,7 +167,7 @@ module _ (loaded : Loaded) (copies : List CopiedText) (start : RedoView) where
     size_is = sum_by-cons slot_text_size (Live message) rest
 
     -- the text is put with the part, where it stands right behind it
-    pub putting_joined : (more : Run) → IsJoined run text more → ((end : ℕ) → IsRun end run → IsPlaced end text → IsRun end more) → IsPutting redo more end rest
+    pub putting_joined : (more : Run) → IsJoined run text more → ((end : ℕ) → IsRun end run → IsRunPlaced end text → IsRun end more) → IsPutting redo more end rest
     putting_joined more joined more_is = record {
       runs = putting.runs;
       lengths = putting.lengths;
@@ -193,7 +193,7 @@ module _ (loaded : Loaded) (copies : List CopiedText) (start : RedoView) where
 
     -- it begins a part of its own, once that before it is put
     pub putting_next : (redo' : RedoView) (next : ℕ) → redo'.lengths ≡ redo.lengths → redo'.pieces ≡ redo.pieces ++ Copy Ndt run.at Jdt end run.len ∷ [] → next ≡ end + run.len
-        → KeepsRoom redo redo' → ((end : ℕ) → IsPlaced end text → IsRun end text) → IsPutting redo' text next rest
+        → KeepsRoom redo redo' → ((end : ℕ) → IsRunPlaced end text → IsRun end text) → IsPutting redo' text next rest
     putting_next redo' next lengths_are pieces_are next_is keeps text_is = record {
       runs = putting.runs ++ run ∷ [];
       lengths = lengths_are ∙ putting.lengths;

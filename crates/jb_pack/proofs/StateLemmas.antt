@@ -11,9 +11,9 @@ use Rattle.jb_state.specs.Links.{Linkable}
 use Rattle.jb_state.specs.Live.{change_live_from, is_killed, is_live, killed_count, live_count, live_from}
 use Rattle.jb_state.specs.Loaded.{header_size}
 use Rattle.jb_state.specs.PackedState.{emptied, first_number_or, packed_base, packed_slots, packed_state}
-use Rattle.jb_state.specs.Relinked.{relinked}
+use Rattle.jb_state.specs.Relinked.{relinked, relink_by}
 use Rattle.jb_state.specs.Sound.{IsSlotWithin, IsSound, IsTextWithin}
-use Rattle.jb_state.specs.State.{LiveMessage, SlotState, live_message, next_number, no_message, slot_state, state_of, text_of}
+use Rattle.jb_state.specs.State.{LiveMessage, SlotState, live_message, next_number, no_message, slot_state, state_of, text_of, with_text}
 use Rattle.jb_state.specs.Tight.{header_bytes, headers_together, text_bytes, texts_together}
 use Rattle.jb_state.specs.declared.loaded.Loaded.{Loaded}
 use Rattle.jb_state.specs.declared.loaded.LoadedMessage.{LoadedMessage}
@@ -29,10 +29,6 @@ length-text texts_len texts message within size = elim within.placed [
   | inl none ↦ omega (arith, length-take message.text_len (drop message.text_at texts))
   | inr some ↦ omega (arith, some.0, length-take message.text_len (drop message.text_at texts), length-drop message.text_at texts)
 ]
-
--- a relink by what the links of these live messages rest on
-abbrev pub relink_by : List Linkable → ℕ → LiveMessage → LiveMessage
-relink_by live number message = relinked live (record { number = number; message = message })
 
 -- the first part of bytes behind others
 first_behind : (front first rest : List ℕ) (at len : ℕ) → at ≡ length front → len ≡ length first → take len (drop at (front ++ (first ++ rest))) ≡ first
@@ -77,10 +73,6 @@ base_packed texts loaded =
     let same : next_number (state_of texts loaded) ≡ next_number (state_of [] loaded) = omega (arith, length-map loaded.slots (slot_state texts), length-map loaded.slots (slot_state [])) in
     ap (λ n. first_number_or n (live_from loaded.base (map (slot_state texts) loaded.slots))) same
     ∙ first_without_texts texts (next_number (state_of [] loaded)) loaded.base loaded.slots
-
--- a live message with its text out of the file of texts
-abbrev with_text : List ℕ → LoadedMessage → LiveMessage
-with_text texts message = record { owner = message.owner; head = message.head; subfields = message.subfields; text = text_of texts message }
 
 -- a number that empty slots do not add to: over the slots after a pack as over those before it
 sum_packed : (f : SlotState → ℕ) (g : LoadedSlot → ℕ) (P : LoadedSlot → Type 0) (change : ℕ → LiveMessage → LiveMessage) (texts : List ℕ)

@@ -7,7 +7,7 @@ use Rattle.std.proofs.lemmas.List.Kept.{AllPairs-cons}
 use Rattle.jb_limits.specs.declared.limits.TheConstants.{HEADERS_CEILING, TEXTS_CEILING, MOST_SLOTS}
 use Rattle.jb_redo.specs.Changes.{changed}
 use Rattle.jb_disk.specs.RedoView.{RedoView}
-use Rattle.jb_disk.specs.Files.{Files, number_of}
+use Rattle.jb_disk.specs.Files.{Files, file_number}
 use Rattle.jb_disk.specs.FileLaws.{length-of_length}
 use Rattle.jb_disk.specs.Memory.{of_length}
 use Rattle.jb_disk.specs.Steps.{IsCovered, patched}
@@ -21,7 +21,7 @@ use Rattle.jb_state.specs.LiveSlots.{linkables_from}
 use Rattle.jb_state.specs.Sound.{IsSound}
 use Rattle.jb_state.specs.declared.loaded.Loaded.{Loaded}
 use Rattle.jb_redo.specs.Replay.{IsGrowthCovered, spans_in}
-use Rattle.jb_redo.specs.Rules.{AreLegalLengths, IsBefore, IsLegal, IsLegalLength, IsLegalPiece, new_sizes, sizes_of}
+use Rattle.jb_redo.specs.Rules.{AreLegalLengths, IsBefore, IsLegalRecord, IsLegalLength, IsLegalPiece, new_sizes, sizes_of}
 use Rattle.jb_pack.specs.Bytes.{IsReadAgain, headers_file, index_file}
 use Rattle.jb_pack.specs.Laid.{IsLaidOut, IsLegalIn, laid}
 use Rattle.jb_pack.specs.Laws.{ArePacked}
@@ -35,11 +35,11 @@ use Rattle.jb_pack.proofs.StandLemmas.{packed_together}
 pub record IsLaidIn (files : Files) (pieces : List Piece) (bytes : FileId → List ℕ) : Type 0 where
   pub fronts : (file : FileId) (old : List ℕ) → length (bytes file) ≤ length old → patched (spans_in files pieces file) old ≡ bytes file ++ drop (length (bytes file)) old
   pub covers : (file : FileId) (i : ℕ) → i < length (bytes file) → IsCovered (spans_in files pieces file) i
-  pub each : (ends : FileId → ℕ) → ((file : FileId) → number_of file < 4 → length (bytes file) ≤ ends file) → All (IsLegalPiece (sizes_of files) ends) pieces
+  pub each : (ends : FileId → ℕ) → ((file : FileId) → file_number file < 4 → length (bytes file) ≤ ends file) → All (IsLegalPiece (sizes_of files) ends) pieces
   pub few : length pieces < 2 ^ 32
 
 -- a piece with its bytes is legal over any files
-pub bytes_legal : (sizes ends now : FileId → ℕ) (piece : Piece) → ((file : FileId) → number_of file < 4 → ends file ≤ now file) → IsLegalIn ends piece → IsLegalPiece sizes now piece
+pub bytes_legal : (sizes ends now : FileId → ℕ) (piece : Piece) → ((file : FileId) → file_number file < 4 → ends file ≤ now file) → IsLegalIn ends piece → IsLegalPiece sizes now piece
 bytes_legal sizes ends now (Bytes file at bytes) longer legal =
     let above = longer file legal.of_base in
     record { of_base = legal.of_base; place = legal.place; size = legal.size; within = omega (arith, legal.within) }
@@ -132,7 +132,7 @@ module _ (limit : ℕ) (loaded : Loaded) (change : RedoView) (sound : IsSound li
   size_of file = ap (λ (l : List Length). new_sizes l (sizes_of files) file) lengths_are
 
   -- no file of the base gets fewer bytes than are written into it
-  long_enough : (file : FileId) → number_of file < 4 → length (bytes file) ≤ new_sizes change.lengths (sizes_of files) file
+  long_enough : (file : FileId) → file_number file < 4 → length (bytes file) ≤ new_sizes change.lengths (sizes_of files) file
   long_enough Jhr low = omega (arith, size_of Jhr, headers_size_is)
   long_enough Jdt low = omega (arith, size_of Jdt, size)
   long_enough Jdx low = omega (arith, size_of Jdx, index_size)
@@ -141,7 +141,7 @@ module _ (limit : ℕ) (loaded : Loaded) (change : RedoView) (sound : IsSound li
   long_enough Ndt low = absurd (omega (arith, low))
 
   -- the change makes a record
-  pub legal_there : IsLegal (sizes_of files) change.lengths change.pieces
+  pub legal_there : IsLegalRecord (sizes_of files) change.lengths change.pieces
   legal_there = record {
     lengths_are = subst AreLegalLengths (sym lengths_are)
         (legal_lengths (headers_size (kept_slots loaded)) (texts_size (kept_slots loaded)) (length (kept_slots loaded)) (headers_fit_kept limit loaded sound) fits few_kept);

@@ -1,21 +1,21 @@
 -- Parts of a file that are read at once, and those of .NDT that are copied into .JDT.
 use Rattle.std.specs.Prelude.{◌≡◌, ◌⊎◌, ℕ, ◌+◌, ◌≤◌, List, [], ◌∷◌, ◌++◌, sum_by}
-use Rattle.jb_limits.specs.declared.limits.TheConstants.{MOST_TEXT_BYTES}
 use Rattle.jb_disk.specs.declared.file.FileId.TheVariants.{Jdt, Ndt}
 use Rattle.jb_disk.specs.declared.piece.Piece.{Piece}
 use Rattle.jb_disk.specs.declared.piece.Piece.TheVariants.{Copy}
 use Rattle.jb_image.specs.Places.{bytes_at}
 use Rattle.jb_pack.specs.declared.run.Run.{Run}
+use Rattle.jb_pack.specs.declared.run.TheConstants.{PACK_STEP_BYTES}
 
 -- the part ends at or before this place, and is read at once
 pub record IsRun (end : ℕ) (run : Run) : Type 0 where
   pub inside : run.at + run.len ≤ end
-  pub short : run.len ≤ MOST_TEXT_BYTES
+  pub short : run.len ≤ PACK_STEP_BYTES
 
 -- the same, or it has no byte
-pub record IsPlaced (end : ℕ) (run : Run) : Type 0 where
+pub record IsRunPlaced (end : ℕ) (run : Run) : Type 0 where
   pub inside : (run.len ≡ 0) ⊎ (run.at + run.len ≤ end)
-  pub short : run.len ≤ MOST_TEXT_BYTES
+  pub short : run.len ≤ PACK_STEP_BYTES
 
 -- the one part, and the next one right behind it
 pub record IsJoined (run next more : Run) : Type 0 where

@@ -9,7 +9,7 @@ use Rattle.jb_state.specs.declared.loaded.LoadedSlot.{LoadedSlot}
 use Rattle.jb_state.specs.declared.loaded.LoadedSlot.TheVariants.{Empty, Killed, Live}
 
 -- the message's header begins at this place of .JHR and its text at that of .JDT, and its MessageNumber is this number
-pub record StandsAt (files : Files) (number header_at text_at : ℕ) (message : LoadedMessage) : Type 0 where
+pub record StandsInFiles (files : Files) (number header_at text_at : ℕ) (message : LoadedMessage) : Type 0 where
   pub header : message.header_at ≡ header_at
   pub text : message.text_at ≡ text_at
   pub numbered : (header_in files header_at).number ≡ number
@@ -21,5 +21,5 @@ StandTogether files number header_at text_at [] = (length (files Jhr) ≡ header
 StandTogether files number header_at text_at (Empty ∷ slots) = StandTogether files (number + 1) header_at text_at slots
 StandTogether files number header_at text_at (Killed killed_at ∷ slots) = ⊥
 StandTogether files number header_at text_at (Live message ∷ slots) =
-    StandsAt files number header_at text_at message
+    StandsInFiles files number header_at text_at message
     × StandTogether files (number + 1) (header_at + header_size message) (text_at + message.text_len) slots

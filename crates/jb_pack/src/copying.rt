@@ -1,13 +1,14 @@
 //! The texts that are left are copied into .NDT.
 ghost use Rattle.std.specs.Prelude.{◌≡◌, ◌+◌, ◌≤◌, All, IfOk, length, min};
 ghost use Rattle.std.specs.Option.{ForSome};
-ghost use Rattle.jb_limits.specs.declared.limits.TheConstants.{MOST_TEXT_BYTES, SHADOW_CEILING};
+ghost use Rattle.jb_limits.specs.declared.limits.TheConstants.{SHADOW_CEILING};
 ghost use Rattle.jb_disk.specs.Device.{FailsBy};
 ghost use Rattle.jb_disk.specs.declared.file.FileId.TheVariants.{Jdt as texts_file};
 ghost use Rattle.jb_state.specs.Sound.{IsSlotWithin};
 ghost use Rattle.jb_pack.specs.Advance.{CopiesFirst};
 ghost use Rattle.jb_pack.specs.Shadow.{HasCopies, IsBelowCeiling, left_first};
 ghost use Rattle.jb_pack.specs.Touching.{TouchesShadow};
+ghost use Rattle.jb_pack.specs.declared.run.TheConstants.{PACK_STEP_BYTES};
 
 use crate::copied::{CopiedText, left_of};
 use crate::reaching::Reach;
@@ -17,7 +18,7 @@ use jb_disk::{Disk, DiskFailed};
 use jb_state::{Loaded, LoadedSlot};
 
 /// Copies what is left of the texts of the first slots behind what .NDT has, as far as it reaches, and answers how many bytes
-/// .NDT has then. Texts that stand one behind another in .JDT are copied at once, up to 1,048,576 bytes.
+/// .NDT has then. Texts that stand one behind another in .JDT are copied at once, up to `PACK_STEP_BYTES`.
 pub(crate) fn copy_texts<D: Disk>(
     disk: &mut D,
     loaded: &Loaded,
@@ -35,7 +36,7 @@ pub(crate) fn copy_texts<D: Disk>(
     requires some { reach.slots ≤ length loaded.now.slots }
     requires room { reach.behind + left_first reach.slots
         (record { texts = copies.old; len = reach.behind }) loaded.now.slots ≤ SHADOW_CEILING }
-    requires buffer { min MOST_TEXT_BYTES reach.bytes ≤ length buffer.old }
+    requires buffer { min PACK_STEP_BYTES reach.bytes ≤ length buffer.old }
     requires bytes { reach.bytes ≡ left_first reach.slots
         (record { texts = copies.old; len = reach.behind }) loaded.now.slots }
 

@@ -38,7 +38,7 @@ fn put_copy(redo: &mut Redo, run: Run, end: u32) -> Result<u32, OutOfMemory>
 }
 
 /// Puts the texts of the live messages of these slots, none of which is left to copy, one behind another into .JDT. Texts
-/// that stand one behind another in .NDT are one piece, up to 1,048,576 bytes.
+/// that stand one behind another in .NDT are one piece, up to `PACK_STEP_BYTES`.
 fn put_copies(redo: &mut Redo, copies: &[CopiedText], loaded: &Loaded) -> Result<(), OutOfMemory>
     requires each { All IsBelowCeiling copies.now }
     requires all { sum (lefts copies.now loaded.now.slots) ≡ 0 }

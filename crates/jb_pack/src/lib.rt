@@ -37,3 +37,4 @@ pub use moving::pack_loaded;
 pub use packer::Packer;
 pub use packing::Packing;
 pub use planning::{pack_comes_to, plan};
+pub use run::PACK_STEP_BYTES;

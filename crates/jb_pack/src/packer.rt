@@ -23,11 +23,12 @@ use crate::copied::{CopiedText, NOT_COPIED};
 use crate::finishing::put_copied_pack;
 use crate::planning::packing_of;
 use crate::reaching::{leaves_more, most_of, reach_of};
+use crate::run::PACK_STEP_BYTES;
 use crate::shadow::empty_shadow;
 use crate::sizes::sizes_of;
 use crate::stepping::step;
 use crate::{PackError, Packing};
-use jb_base::{MOST_TEXT_BYTES, OutOfMemory};
+use jb_base::OutOfMemory;
 use jb_disk::{Disk, Redo};
 use jb_state::{Links, Loaded};
 use std::alloc::Global;
@@ -86,15 +87,15 @@ impl Packer {
     /// more bytes than the budget, and syncs .NDT. Answers whether a text is left.
     ///
     /// Where .NDT would pass its ceiling it is emptied before that, all copies are forgotten, and it goes on with the first
-    /// text and with what is left of the budget. With a budget of at least 1,048,576 bytes, which no text exceeds, each call
+    /// text and with what is left of the budget. With a budget of at least `PACK_STEP_BYTES`, which no text exceeds, each call
     /// that does not empty .NDT copies one at least where one is left.
     ///
-    /// Texts that stand one behind another in .JDT are one part, of at most 1,048,576 bytes, which is read and written at
+    /// Texts that stand one behind another in .JDT are one part, of at most `PACK_STEP_BYTES`, which is read and written at
     /// once: three calls of the device for each part, one sync behind them, and two calls more where .NDT is emptied.
     /// Where it copies none and empties nothing, as with nothing left, it makes no call and takes no memory. It reads and
     /// writes each byte that it copies once, no more of them than the budget, and its time is linear in these and in the
     /// slots. It takes memory for one part, no more bytes than it copies (or than the budget, where .NDT is emptied) nor than
-    /// 1,048,576, which it gives back, and 12 bytes for each slot that is new, before it calls the device.
+    /// `PACK_STEP_BYTES`, which it gives back, and 12 bytes for each slot that is new, before it calls the device.
     pub fn some<D: Disk>(
         &mut self,
         alloc: Global,
@@ -132,7 +133,7 @@ impl Packer {
         if most == 0 {
             return Ok(leaves_more(first.stop));
         }
-        let mut buffer = zeros(alloc, most.min(MOST_TEXT_BYTES) as usize)?;
+        let mut buffer = zeros(alloc, most.min(PACK_STEP_BYTES) as usize)?;
         self.copies.resize(slots.len(), NOT_COPIED)?;
         let done = step(
             disk,

@@ -158,7 +158,7 @@ fn put_pack<D: Disk>(
 /// longer than .JDT may be, nothing is put.
 ///
 /// Its time is linear in the bytes of the live messages. It takes the memory of the new files once, and of one part of the
-/// texts, at most 1,048,576 bytes, and makes at most one device read a live message. After an error the redo is no change.
+/// texts, at most `PACK_STEP_BYTES`, and makes at most one device read a live message. After an error the redo is no change.
 pub fn plan<D: Disk>(
     alloc: Global,
     disk: &mut D,

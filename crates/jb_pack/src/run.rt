@@ -1,8 +1,13 @@
 //! Parts of a file that are read at once.
 ghost use Rattle.std.specs.Prelude.{◌≡◌, ◌≢◌, ◌+◌, ◌<◌, ◌^◌, ℕ, IfNone, IfSome};
-ghost use Rattle.jb_pack.specs.Runs.{IsJoined, IsPlaced, IsRun};
+ghost use Rattle.jb_pack.specs.Runs.{IsJoined, IsRunPlaced, IsRun};
 
 use jb_base::MOST_TEXT_BYTES;
+
+/// Bytes of the texts that one step of a pack copies at most, and of its buffer. A text fits into one step.
+pub const PACK_STEP_BYTES: u32 = 1_048_576;
+
+const _: () = prove!(MOST_TEXT_BYTES <= PACK_STEP_BYTES);
 
 /// A part of a file that is read at once: where it begins, and how many bytes it has.
 #[derive(Clone, Copy)]
@@ -16,7 +21,7 @@ pub(crate) struct Run {
 pub(crate) fn joined(run: Run, next: Run) -> Option<Run>
     requires { run.at + run.len < 2 ^ 32 }
     ensures joined { IfSome result (IsJoined run next) }
-    ensures run { (end : ℕ) → IsRun end run → IsPlaced end next → IfSome result (IsRun end) }
+    ensures run { (end : ℕ) → IsRun end run → IsRunPlaced end next → IfSome result (IsRun end) }
     ensures other { IfNone result (next.len ≢ 0) }
 {
     if next.len == 0 {
@@ -25,7 +30,7 @@ pub(crate) fn joined(run: Run, next: Run) -> Option<Run>
     if run.len == 0 {
         return Some(next);
     }
-    if next.at != run.at + run.len || next.len as u64 + run.len as u64 > MOST_TEXT_BYTES as u64 {
+    if next.at != run.at + run.len || next.len as u64 + run.len as u64 > PACK_STEP_BYTES as u64 {
         return None;
     }
     Some(Run {

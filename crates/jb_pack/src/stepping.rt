@@ -1,7 +1,7 @@
 //! One step of a packer.
 ghost use Rattle.std.specs.Prelude.{◌≡◌, ◌≤◌, All, IfOk, OnOk, length, min, nat_lt};
 ghost use Rattle.std.specs.Option.{ForSome};
-ghost use Rattle.jb_limits.specs.declared.limits.TheConstants.{MOST_SLOTS, MOST_TEXT_BYTES, SHADOW_CEILING, TEXTS_CEILING};
+ghost use Rattle.jb_limits.specs.declared.limits.TheConstants.{MOST_SLOTS, SHADOW_CEILING, TEXTS_CEILING};
 ghost use Rattle.jb_disk.specs.Device.{FailsBy};
 ghost use Rattle.jb_disk.specs.Runs.{IsAllSynced};
 ghost use Rattle.jb_disk.specs.declared.file.FileId.TheVariants.{Jdt as texts_file};
@@ -11,6 +11,7 @@ ghost use Rattle.jb_state.specs.Packed.{texts_size};
 ghost use Rattle.jb_pack.specs.Reaching.{IsReach, Starts, most_of};
 ghost use Rattle.jb_pack.specs.Shadow.{HasCopies, IsBelowCeiling, left};
 ghost use Rattle.jb_pack.specs.Touching.{TouchesShadow};
+ghost use Rattle.jb_pack.specs.declared.run.TheConstants.{PACK_STEP_BYTES};
 
 use crate::copied::{CopiedText, forget};
 use crate::copying::copy_texts;
@@ -80,7 +81,7 @@ pub(crate) fn step<D: Disk>(
     requires slots { length copies.old ≡ length loaded.now.slots }
     requires has { ForSome (D.device disk.old).contents
         (HasCopies (record { texts = copies.old; len = first.behind })) }
-    requires buffer { min MOST_TEXT_BYTES (most_of budget first) ≤ length buffer.old }
+    requires buffer { min PACK_STEP_BYTES (most_of budget first) ≤ length buffer.old }
     ensures copies { IfOk result (λ step.
         Copies budget loaded.now.slots (record { texts = copies.old; len = first.behind })
         (record { texts = copies.new; len = step.len })) }

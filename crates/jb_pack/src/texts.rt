@@ -46,7 +46,7 @@ fn put_run<D: Disk>(
 }
 
 /// Puts the texts of the live messages of these slots into .JDT, one behind another from its beginning on. Texts that stand
-/// one behind another already are read at once, up to 1,048,576 bytes.
+/// one behind another already are read at once, up to `PACK_STEP_BYTES`.
 pub(crate) fn put_texts<D: Disk>(
     alloc: Global,
     disk: &mut D,

@@ -35,6 +35,7 @@ use Rattle.jb_model.specs.declared.command.Command.TheVariants.{Post, Read, Peek
 use Rattle.jb_model.specs.declared.reply.Reply.{Reply}
 use Rattle.jb_model.specs.declared.reply.Reply.TheVariants.{Relinked, Text}
 use Rattle.jb_plain.specs.Small.{AreSmall, IsSmall}
+use Rattle.jb_model.proofs.RangeLaws.{none_of}
 
 -- slots that a base may have are small
 small_slot : (slot : SlotState) → IsSlotInRange slot → IsSmall slot
@@ -194,11 +195,6 @@ small_spliced state parent number small =
     (λ some. cond_both (last == 0) first_slots next_slots AreSmall
     (λ e. small_renamed state parent (with_first_reply number) (message_at state parent) (λ m. record { header = refl; text = refl }) small (λ m is. small_live state parent m is small))
     (λ e. small_renamed state last (with_next_reply number) (message_at state last) (λ m. record { header = refl; text = refl }) small (λ m is. small_live state last m is small)))
-
--- where there is no refusal, the test of the first fails, and there is none later
-none_of : (b : Bool) (reply : Reply) (later : Option Reply) → cond b (Some reply) later ≡ None → (b ≡ false) × (later ≡ None)
-none_of true reply later none = absurd (cc)
-none_of false reply later none = (refl, none)
 
 -- where there is room for a message, it is small
 small_room : (rules : AreaRules) (state : AreaState) (message : LiveMessage) → room_refusal rules state message ≡ None → IsSmall (live_message message)

@@ -10,11 +10,7 @@ use Rattle.jb_model.specs.Post.{Draft, plain_field}
 use Rattle.jb_state.specs.Posted.{slots_with, spliced_slots}
 use Rattle.jb_state.specs.Relinked.{relinked_slots}
 use Rattle.jb_state.specs.State.{AreaState, LiveMessage}
-use Rattle.jb_plain.specs.declared.post.Draft.{Draft as LentDraft}
-
--- the area with its links written
-abbrev pub relinked_area : AreaState → AreaState
-relinked_area state = record state { slots = relinked_slots state }
+use Rattle.jb_plain.specs.declared.post.PlainDraft.{PlainDraft as LentDraft}
 
 -- the area with a reply to this parent named by its neighbour
 abbrev pub spliced_area : AreaState → ℕ → ℕ → AreaState
@@ -38,10 +34,3 @@ tightened_area state = record state {
 -- what a user wrote, as the definitions see it
 abbrev pub draft_of : LentDraft → Draft
 draft_of draft = record { to = draft.to.now; subject = draft.subject.now; text = draft.text.now; reply_to = draft.reply_to; private = draft.private }
-
--- the subfields of a posted message with these ids
-abbrev pub fields_with : User → Draft → List ℕ → Option (List ℕ) → List Subfield
-fields_with user draft msgid replyid =
-    (plain_field SENDER_NAME user.name ∷ plain_field RECEIVER_NAME draft.to ∷ plain_field MSGID msgid ∷ [])
-    ++ map (plain_field REPLYID) (option_to_list replyid)
-    ++ plain_field SUBJECT draft.subject ∷ []

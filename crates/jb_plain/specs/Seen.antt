@@ -9,8 +9,8 @@ use Rattle.jb_state.specs.declared.area.Slot.TheVariants.{Live}
 use Rattle.jb_plain.specs.declared.held.PlainState.{PlainState}
 
 -- the state of an area that began with files without a byte that is no message's
-abbrev pub seen : PlainState → AreaState
-seen state = record {
+abbrev pub seen_state : PlainState → AreaState
+seen_state state = record {
   created = 0;
   counter = state.counter;
   active = state.active;

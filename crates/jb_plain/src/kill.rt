@@ -1,7 +1,7 @@
 //! A message is killed.
 ghost use Rattle.std.specs.Prelude.{◌≡◌};
 ghost use Rattle.jb_model.specs.Kill.{kill_step};
-ghost use Rattle.jb_plain.specs.Seen.{seen};
+ghost use Rattle.jb_plain.specs.Seen.{seen_state};
 
 use crate::held::PlainState;
 use crate::message::visible_at;
@@ -13,8 +13,8 @@ use jb_state::Slot;
 
 /// A message is killed by its sender, its receiver or the sysop.
 pub(crate) fn kill(rules: &AreaRules, state: &mut PlainState, user: &User, number: u32) -> Reply
-    ensures { record { reply = result; state = seen state.new }
-        ≡ kill_step rules.now (seen state.old) user.now number }
+    ensures { record { reply = result; state = seen_state state.new }
+        ≡ kill_step rules.now (seen_state state.old) user.now number }
 {
     if let Some(rule) = denied(user, rules, Action::List) {
         return Reply::Denied { rule };

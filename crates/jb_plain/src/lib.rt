@@ -21,4 +21,4 @@ mod slots;
 mod state;
 
 pub use fit::may_run;
-pub use run::{Replies, run_slow};
+pub use run::{ReplyList, run_slow};

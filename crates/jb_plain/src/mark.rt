@@ -3,7 +3,7 @@ ghost use Rattle.std.specs.Prelude.{◌≡◌, IfOk, OnOk};
 ghost use Rattle.jb_state.specs.Marks.{is_mark, mark_of, with_mark};
 ghost use Rattle.jb_model.specs.SetMark.{mark_at, mark_refusal, set_mark_step};
 ghost use Rattle.jb_state.specs.Visible.{mark_of_user};
-ghost use Rattle.jb_plain.specs.Seen.{seen};
+ghost use Rattle.jb_plain.specs.Seen.{seen_state};
 
 use crate::held::PlainState;
 use crate::rule::denied;
@@ -49,7 +49,7 @@ fn put_mark(marks: &mut Vec<Mark>, mark: Mark) -> Result<(), OutOfMemory>
 
 /// The user's mark.
 fn user_mark(state: &PlainState, user: &User) -> Option<Mark>
-    ensures { result ≡ mark_of_user user.now (seen state.now) }
+    ensures { result ≡ mark_of_user user.now (seen_state state.now) }
 {
     let user_crc = jam_crc(user.name.as_slice());
     first_mark(&state.marks, user_crc, user.id)
@@ -57,7 +57,7 @@ fn user_mark(state: &PlainState, user: &User) -> Option<Mark>
 
 /// Why a mark is not set.
 fn refusal(state: &PlainState, user: &User, number: u32) -> Option<Reply>
-    ensures { result ≡ mark_refusal (seen state.now) user.now number }
+    ensures { result ≡ mark_refusal (seen_state state.now) user.now number }
 {
     if state.next() <= number {
         return Some(Reply::NoMessage { number });
@@ -70,7 +70,7 @@ fn refusal(state: &PlainState, user: &User, number: u32) -> Option<Reply>
 
 /// The user's mark at this number.
 fn raised(state: &PlainState, user: &User, number: u32) -> Mark
-    ensures { result ≡ mark_at (seen state.now) user.now number }
+    ensures { result ≡ mark_at (seen_state state.now) user.now number }
 {
     let high = match user_mark(state, user) {
         Some(mark) => mark.high.max(number),
@@ -91,8 +91,8 @@ pub(crate) fn set_mark(
     user: &User,
     number: u32,
 ) -> Result<Reply, OutOfMemory>
-    ensures { IfOk result (λ reply. record { reply = reply; state = seen state.new }
-        ≡ set_mark_step rules.now (seen state.old) user.now number) }
+    ensures { IfOk result (λ reply. record { reply = reply; state = seen_state state.new }
+        ≡ set_mark_step rules.now (seen_state state.old) user.now number) }
 {
     if let Some(rule) = denied(user, rules, Action::List) {
         return Ok(Reply::Denied { rule });

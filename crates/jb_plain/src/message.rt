@@ -8,7 +8,7 @@ ghost use Rattle.jb_state.specs.Message.{envelope_of};
 ghost use Rattle.jb_model.specs.Letter.{letter_of};
 ghost use Rattle.jb_state.specs.Tight.{owned};
 ghost use Rattle.jb_state.specs.Visible.{is_shown, visible_at};
-ghost use Rattle.jb_plain.specs.Seen.{HasAt, seen, with_head};
+ghost use Rattle.jb_plain.specs.Seen.{HasAt, seen_state, with_head};
 
 use crate::held::PlainState;
 use jb_access::{Action, Parties, allowed};
@@ -50,7 +50,7 @@ pub(crate) fn shown(rules: &AreaRules, user: &User, message: &Message) -> bool
 
 /// The live message that a number names.
 pub(crate) fn message_at(state: &PlainState, number: u32) -> Option<&Message>
-    ensures named { option_map (λ (m : Bor _). owned m.now) result ≡ message_at (seen state.now) number }
+    ensures named { option_map (λ (m : Bor _). owned m.now) result ≡ message_at (seen_state state.now) number }
     ensures placed { IfSome result (λ m. HasAt state.now number m.now) }
 {
     if number < state.base {
@@ -70,7 +70,7 @@ pub(crate) fn visible_at<'a>(
     number: u32,
 ) -> Option<&'a Message>
     ensures named { option_map (λ (m : Bor _). owned m.now) result
-        ≡ visible_at rules.now user.now (seen state.now) number }
+        ≡ visible_at rules.now user.now (seen_state state.now) number }
     ensures placed { IfSome result (λ m. HasAt state.now number m.now) }
 {
     let message = message_at(state, number)?;

@@ -3,7 +3,7 @@ ghost use Rattle.std.specs.Prelude.{◌≡◌, ◌<◌, ◌≤◌, ◌^◌, IfOk
 ghost use Rattle.jb_model.specs.Pack.{pack_refusal, pack_step};
 ghost use Rattle.jb_state.specs.Tight.{texts_together};
 ghost use Rattle.jb_plain.specs.Changes.{cut_area, tightened_area};
-ghost use Rattle.jb_plain.specs.Seen.{seen};
+ghost use Rattle.jb_plain.specs.Seen.{seen_state};
 ghost use Rattle.jb_plain.specs.Small.{AreSmall};
 
 use crate::held::PlainState;
@@ -20,8 +20,8 @@ use std::alloc::Global;
 
 /// Why an area is not packed: its live texts are too long together.
 fn refusal(state: &PlainState) -> Option<Reply>
-    requires { texts_together (seen state.now).slots < 2 ^ 64 }
-    ensures { result ≡ pack_refusal (seen state.now) }
+    requires { texts_together (seen_state state.now).slots < 2 ^ 64 }
+    ensures { result ≡ pack_refusal (seen_state state.now) }
 {
     let length = texts_length(&state.slots);
     if length > TEXTS_CEILING {
@@ -33,7 +33,7 @@ fn refusal(state: &PlainState) -> Option<Reply>
 /// Drops the first slots, and all killed messages.
 fn drop_killed(state: &mut PlainState, front: usize)
     requires { front ≤ vec_len state.old.slots }
-    ensures { seen state.new ≡ cut_area (seen state.old) front }
+    ensures { seen_state state.new ≡ cut_area (seen_state state.old) front }
 {
     cut_front(&mut state.slots, front);
     empty_killed(&mut state.slots);
@@ -42,7 +42,7 @@ fn drop_killed(state: &mut PlainState, front: usize)
 
 /// Takes the lengths of files that hold just the messages.
 fn tighten(state: &mut PlainState)
-    ensures { seen state.new ≡ tightened_area (seen state.old) }
+    ensures { seen_state state.new ≡ tightened_area (seen_state state.old) }
 {
     state.headers_len = headers_length(&state.slots);
     state.texts_len = texts_length(&state.slots);
@@ -55,9 +55,9 @@ pub(crate) fn pack(
     state: &mut PlainState,
     user: &User,
 ) -> Result<Reply, OutOfMemory>
-    requires { AreSmall (seen state.old).slots }
-    ensures { IfOk result (λ reply. record { reply = reply; state = seen state.new }
-        ≡ pack_step rules.now (seen state.old) user.now) }
+    requires { AreSmall (seen_state state.old).slots }
+    ensures { IfOk result (λ reply. record { reply = reply; state = seen_state state.new }
+        ≡ pack_step rules.now (seen_state state.old) user.now) }
 {
     if let Some(rule) = denied(user, rules, Action::Tend) {
         return Ok(Reply::Denied { rule });

@@ -2,12 +2,12 @@
 ghost use Rattle.std.specs.Prelude.{◌≡◌, ◌+◌, ◌<◌, ◌≤◌, ◌++◌, ◌∷◌, [], IfOk, OnOk, Some, length, option_map};
 ghost use Rattle.std.specs.Borrow.{Bor};
 ghost use Rattle.jb_state.specs.Message.{header_length};
-ghost use Rattle.jb_model.specs.Post.{answer_refusal, draft_refusal, id_crc, plain_field, post_step, posted_message, room_refusal};
+ghost use Rattle.jb_model.specs.Post.{answer_refusal, draft_refusal, id_crc, plain_field, post_step, posted_message, room_refusal, fields_with};
 ghost use Rattle.jb_state.specs.Posted.{posted_replyid, posted_state, with_first_reply, with_next_reply};
 ghost use Rattle.jb_state.specs.State.{next_number};
 ghost use Rattle.jb_state.specs.Tight.{owned};
-ghost use Rattle.jb_plain.specs.Changes.{draft_of, fields_with, renamed_area, spliced_area};
-ghost use Rattle.jb_plain.specs.Seen.{seen};
+ghost use Rattle.jb_plain.specs.Changes.{draft_of, renamed_area, spliced_area};
+ghost use Rattle.jb_plain.specs.Seen.{seen_state};
 
 use crate::held::PlainState;
 use crate::links::{last_reply, parent_with};
@@ -27,7 +27,7 @@ use std::alloc::Global;
 
 /// What a user wrote.
 #[derive(Clone, Copy)]
-pub(crate) struct Draft<'a> {
+pub(crate) struct PlainDraft<'a> {
     pub(crate) to: &'a [u8],
     pub(crate) subject: &'a [u8],
     pub(crate) text: &'a [u8],
@@ -46,7 +46,7 @@ fn too_long(field: Field, bytes: &[u8]) -> Option<Reply>
 }
 
 /// Why a draft is refused: a part of it is empty or too long.
-fn unfit(draft: Draft<'_>) -> Option<Reply>
+fn unfit(draft: PlainDraft<'_>) -> Option<Reply>
     ensures { result ≡ draft_refusal (draft_of draft.entry) }
 {
     if draft.to.is_empty() {
@@ -63,8 +63,13 @@ fn unfit(draft: Draft<'_>) -> Option<Reply>
 }
 
 /// Why a draft is refused: it answers a message that the user does not see.
-fn unanswered(rules: &AreaRules, state: &PlainState, user: &User, draft: Draft<'_>) -> Option<Reply>
-    ensures { result ≡ answer_refusal rules.now (seen state.now) user.now (draft_of draft.entry) }
+fn unanswered(
+    rules: &AreaRules,
+    state: &PlainState,
+    user: &User,
+    draft: PlainDraft<'_>,
+) -> Option<Reply>
+    ensures { result ≡ answer_refusal rules.now (seen_state state.now) user.now (draft_of draft.entry) }
 {
     if draft.reply_to == 0 {
         return None;
@@ -79,7 +84,7 @@ fn unanswered(rules: &AreaRules, state: &PlainState, user: &User, draft: Draft<'
 
 /// Why there is no room for the message.
 fn no_room(rules: &AreaRules, state: &PlainState, message: &Message) -> Option<Reply>
-    ensures { result ≡ room_refusal rules.now (seen state.now) (owned message.now) }
+    ensures { result ≡ room_refusal rules.now (seen_state state.now) (owned message.now) }
 {
     let headers = state
         .headers_len
@@ -101,7 +106,7 @@ fn no_room(rules: &AreaRules, state: &PlainState, message: &Message) -> Option<R
 
 /// The REPLYID of an answer to a number: the MSGID that the message has there, where it is copied.
 fn replyid_of(state: &PlainState, reply_to: u32) -> Option<&[u8]>
-    ensures { option_map (λ (b : Bor _). b.now) result ≡ posted_replyid (seen state.now) reply_to }
+    ensures { option_map (λ (b : Bor _). b.now) result ≡ posted_replyid (seen_state state.now) reply_to }
 {
     let answered = message_at(state, reply_to)?;
     let id = answered.subfields.first(MSGID)?;
@@ -129,7 +134,7 @@ fn put_field(
 fn subfields_of(
     alloc: Global,
     user: &User,
-    draft: Draft<'_>,
+    draft: PlainDraft<'_>,
     msgid: &[u8],
     replyid: Option<&[u8]>,
 ) -> Result<Subfields, OutOfMemory>
@@ -164,11 +169,11 @@ fn message_of(
     state: &PlainState,
     user: &User,
     moment: u32,
-    draft: Draft<'_>,
+    draft: PlainDraft<'_>,
 ) -> Result<Message, OutOfMemory>
-    requires { next_number (seen state.now) ≤ LAST_POSTED_NUMBER }
+    requires { next_number (seen_state state.now) ≤ LAST_POSTED_NUMBER }
     ensures { IfOk result (λ message. owned message
-        ≡ posted_message rules.now (seen state.now) user.now moment (draft_of draft.entry)) }
+        ≡ posted_message rules.now (seen_state state.now) user.now moment (draft_of draft.entry)) }
 {
     let number = state.next();
     let msgid = posted_msgid(alloc, rules, number)?;
@@ -200,7 +205,7 @@ fn message_of(
 
 /// Makes a number the first reply of a message.
 fn name_first(state: &mut PlainState, named: u32, number: u32)
-    ensures { seen state.new ≡ renamed_area (seen state.old) named (with_first_reply number) }
+    ensures { seen_state state.new ≡ renamed_area (seen_state state.old) named (with_first_reply number) }
 {
     if let Some(message) = message_at(state, named) {
         let head = Head {
@@ -213,7 +218,7 @@ fn name_first(state: &mut PlainState, named: u32, number: u32)
 
 /// Makes a number the next reply behind a message.
 fn name_next(state: &mut PlainState, named: u32, number: u32)
-    ensures { seen state.new ≡ renamed_area (seen state.old) named (with_next_reply number) }
+    ensures { seen_state state.new ≡ renamed_area (seen_state state.old) named (with_next_reply number) }
 {
     if let Some(message) = message_at(state, named) {
         let head = Head {
@@ -226,7 +231,7 @@ fn name_next(state: &mut PlainState, named: u32, number: u32)
 
 /// Lets the neighbour of a new reply to this parent name it: the parent where it has no live reply, else its last reply.
 fn splice(state: &mut PlainState, parent: u32, number: u32)
-    ensures { seen state.new ≡ spliced_area (seen state.old) parent number }
+    ensures { seen_state state.new ≡ spliced_area (seen_state state.old) parent number }
 {
     if parent == 0 {
         return;
@@ -241,10 +246,10 @@ fn splice(state: &mut PlainState, parent: u32, number: u32)
 
 /// Puts the message behind the others.
 fn append(state: &mut PlainState, message: Message) -> Result<(), OutOfMemory>
-    requires numbers { next_number (seen state.old) ≤ LAST_POSTED_NUMBER }
-    requires headers { (seen state.old).headers_len + header_length (owned message) ≤ HEADERS_CEILING }
-    requires texts { (seen state.old).texts_len + length message.text ≤ TEXTS_CEILING }
-    ensures { OnOk result (seen state.new ≡ posted_state (seen state.old) (owned message)) }
+    requires numbers { next_number (seen_state state.old) ≤ LAST_POSTED_NUMBER }
+    requires headers { (seen_state state.old).headers_len + header_length (owned message) ≤ HEADERS_CEILING }
+    requires texts { (seen_state state.old).texts_len + length message.text ≤ TEXTS_CEILING }
+    ensures { OnOk result (seen_state state.new ≡ posted_state (seen_state state.old) (owned message)) }
 {
     let number = state.next();
     let headers = headed_length(&message.subfields);
@@ -264,10 +269,10 @@ pub(crate) fn post(
     state: &mut PlainState,
     user: &User,
     moment: u32,
-    draft: Draft<'_>,
+    draft: PlainDraft<'_>,
 ) -> Result<Reply, OutOfMemory>
-    ensures { IfOk result (λ reply. record { reply = reply; state = seen state.new }
-        ≡ post_step rules.now (seen state.old) user.now moment (draft_of draft.entry)) }
+    ensures { IfOk result (λ reply. record { reply = reply; state = seen_state state.new }
+        ≡ post_step rules.now (seen_state state.old) user.now moment (draft_of draft.entry)) }
 {
     if let Some(rule) = denied(user, rules, Action::Post) {
         return Ok(Reply::Denied { rule });

@@ -2,7 +2,7 @@
 ghost use Rattle.std.specs.Prelude.{◌≡◌, IfOk};
 ghost use Rattle.jb_model.specs.Read.{peek_step, read_message, read_step};
 ghost use Rattle.jb_state.specs.Tight.{owned};
-ghost use Rattle.jb_plain.specs.Seen.{seen, with_head};
+ghost use Rattle.jb_plain.specs.Seen.{seen_state, with_head};
 
 use crate::held::PlainState;
 use crate::message::{field, letter, visible_at};
@@ -38,8 +38,8 @@ pub(crate) fn read(
     moment: u32,
     number: u32,
 ) -> Result<Reply, OutOfMemory>
-    ensures { IfOk result (λ reply. record { reply = reply; state = seen state.new }
-        ≡ read_step rules.now (seen state.old) user.now moment number) }
+    ensures { IfOk result (λ reply. record { reply = reply; state = seen_state state.new }
+        ≡ read_step rules.now (seen_state state.old) user.now moment number) }
 {
     if let Some(rule) = denied(user, rules, Action::List) {
         return Ok(Reply::Denied { rule });
@@ -62,8 +62,8 @@ pub(crate) fn peek(
     user: &User,
     number: u32,
 ) -> Result<Reply, OutOfMemory>
-    ensures { IfOk result (λ reply. record { reply = reply; state = seen state.now }
-        ≡ peek_step rules.now (seen state.now) user.now number) }
+    ensures { IfOk result (λ reply. record { reply = reply; state = seen_state state.now }
+        ≡ peek_step rules.now (seen_state state.now) user.now number) }
 {
     if let Some(rule) = denied(user, rules, Action::List) {
         return Ok(Reply::Denied { rule });

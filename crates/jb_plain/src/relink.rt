@@ -1,9 +1,9 @@
 //! The reply links of an area are computed anew.
 ghost use Rattle.std.specs.Prelude.{◌≡◌, ◌+◌, ◌≤◌, length, IfOk, OnOk, vec_len};
 ghost use Rattle.jb_model.specs.Relink.{relink_step};
-ghost use Rattle.jb_plain.specs.Seen.{seen};
+ghost use Rattle.jb_plain.specs.Seen.{seen_state};
 ghost use Rattle.jb_plain.specs.Walk.{heads_from, linkables_from, with_heads, wrong_from};
-ghost use Rattle.jb_plain.specs.Changes.{relinked_area};
+ghost use Rattle.jb_state.specs.Relinked.{relinked_area};
 
 use crate::held::PlainState;
 use crate::links::{head_of, is_wrong};
@@ -63,7 +63,7 @@ pub(crate) fn put_heads(slots: &mut Vec<Slot>, heads: &[Option<Head>])
 /// Writes the links that the area gives into all its headers.
 pub(crate) fn write_links(alloc: Global, state: &mut PlainState) -> Result<(), OutOfMemory>
     ensures kept { vec_len state.new.slots ≡ vec_len state.old.slots }
-    ensures value { OnOk result (seen state.new ≡ relinked_area (seen state.old)) }
+    ensures value { OnOk result (seen_state state.new ≡ relinked_area (seen_state state.old)) }
 {
     let heads = linked_heads(alloc, &state.slots, state.base)?;
     put_heads(&mut state.slots, &heads);
@@ -77,8 +77,8 @@ pub(crate) fn relink(
     state: &mut PlainState,
     user: &User,
 ) -> Result<Reply, OutOfMemory>
-    ensures { IfOk result (λ reply. record { reply = reply; state = seen state.new }
-        ≡ relink_step rules.now (seen state.old) user.now) }
+    ensures { IfOk result (λ reply. record { reply = reply; state = seen_state state.new }
+        ≡ relink_step rules.now (seen_state state.old) user.now) }
 {
     if let Some(rule) = denied(user, rules, Action::Tend) {
         return Ok(Reply::Denied { rule });

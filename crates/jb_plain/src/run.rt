@@ -4,14 +4,14 @@ ghost use Rattle.jb_model.specs.Run.{area_of, run_of};
 ghost use Rattle.jb_state.specs.State.{IsWellFormed};
 ghost use Rattle.jb_model.specs.Step.{step as step_of};
 ghost use Rattle.jb_state.specs.Tight.{tight_state};
-ghost use Rattle.jb_plain.specs.Seen.{seen};
+ghost use Rattle.jb_plain.specs.Seen.{seen_state};
 ghost use Rattle.jb_plain.specs.Small.{AreSmall};
 
 use crate::held::PlainState;
 use crate::kill::kill;
 use crate::mark::set_mark;
 use crate::pack::pack;
-use crate::post::{Draft, post};
+use crate::post::{PlainDraft, post};
 use crate::read::{peek, read};
 use crate::relink::relink;
 use jb_base::{AreaRules, OutOfMemory};
@@ -22,11 +22,11 @@ use std::marker::Model;
 
 /// The replies to a list of commands, in order. Contracts see the list of them.
 #[derive(Drop)]
-pub struct Replies {
+pub struct ReplyList {
     items: Vec<Reply>,
 }
 
-impl Model for Replies {
+impl Model for ReplyList {
     ghost use Rattle.std.specs.Prelude.{List};
     ghost use Rattle.jb_model.specs.declared.reply.Reply.{Reply};
 
@@ -35,7 +35,7 @@ impl Model for Replies {
     ghost view = { λ s. s.items.items };
 }
 
-impl Replies {
+impl ReplyList {
     /// The replies, in order.
     pub fn as_slice(&self) -> &[Reply]
         ensures { result.now ≡ self.now }
@@ -51,9 +51,9 @@ fn step(
     state: &mut PlainState,
     asked: &Asked,
 ) -> Result<Reply, OutOfMemory>
-    requires { AreSmall (seen state.old).slots }
-    ensures { IfOk result (λ reply. record { reply = reply; state = seen state.new }
-        ≡ step_of rules.now (seen state.old) asked.now.user asked.now.moment asked.now.command) }
+    requires { AreSmall (seen_state state.old).slots }
+    ensures { IfOk result (λ reply. record { reply = reply; state = seen_state state.new }
+        ≡ step_of rules.now (seen_state state.old) asked.now.user asked.now.moment asked.now.command) }
 {
     let user = &asked.user;
     match &asked.command {
@@ -64,7 +64,7 @@ fn step(
             reply_to,
             private,
         } => {
-            let draft = Draft {
+            let draft = PlainDraft {
                 to: to.as_slice(),
                 subject: subject.as_slice(),
                 text: text.as_slice(),
@@ -89,7 +89,7 @@ pub fn run_slow(
     rules: &AreaRules,
     area: Area,
     list: &[Asked],
-) -> Result<(Area, Replies), OutOfMemory>
+) -> Result<(Area, ReplyList), OutOfMemory>
     requires { IsWellFormed rules.now.slots (tight_state area) }
     ensures replies { IfOk result (λ pair. pair.1 ≡ (run_of rules.now (tight_state area) list.now).replies) }
     ensures area { IfOk result (λ pair. pair.0
@@ -101,5 +101,5 @@ pub fn run_slow(
         let reply = step(alloc, rules, &mut state, asked)?;
         replies.push(reply)?;
     }
-    Ok((state.into_area(), Replies { items: replies }))
+    Ok((state.into_area(), ReplyList { items: replies }))
 }

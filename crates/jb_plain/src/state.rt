@@ -6,7 +6,7 @@ ghost use Rattle.jb_model.specs.Run.{area_of};
 ghost use Rattle.jb_state.specs.State.{IsWellFormed, live_message, next_number};
 ghost use Rattle.jb_state.specs.Tight.{header_bytes, headers_together, owned, owned_slot, text_bytes, texts_together, tight_state};
 ghost use Rattle.jb_state.specs.declared.area.Message.{Message};
-ghost use Rattle.jb_plain.specs.Seen.{HasAt, seen, with_head};
+ghost use Rattle.jb_plain.specs.Seen.{HasAt, seen_state, with_head};
 
 use crate::held::PlainState;
 use crate::slots::{headers_length, live_messages, set_head, set_slot, texts_length};
@@ -16,7 +16,7 @@ impl PlainState {
     /// The state of an area whose files hold nothing but its messages.
     pub(crate) fn of(area: Area, slots: u32) -> PlainState
         requires { IsWellFormed slots (tight_state area) }
-        ensures { seen result ≡ tight_state area }
+        ensures { seen_state result ≡ tight_state area }
     {
         let slots = area.slots.into_vec();
         let headers_len = headers_length(&slots);
@@ -34,7 +34,7 @@ impl PlainState {
 
     /// The area of the state.
     pub(crate) fn into_area(self) -> Area
-        ensures { result ≡ area_of (seen self) }
+        ensures { result ≡ area_of (seen_state self) }
     {
         Area {
             base: self.base,
@@ -45,7 +45,7 @@ impl PlainState {
 
     /// The number that the next message gets.
     pub(crate) fn next(&self) -> u32
-        ensures { result ≡ next_number (seen self.now) }
+        ensures { result ≡ next_number (seen_state self.now) }
     {
         self.base + self.slots.len() as u32
     }
@@ -54,7 +54,7 @@ impl PlainState {
     pub(crate) fn put_slot(&mut self, number: u32, slot: Slot)
         requires low { self.old.base ≤ number }
         requires inside { number - self.old.base < length self.old.slots.items }
-        ensures { seen self.new ≡ with_slot (seen self.old) number (owned_slot slot) }
+        ensures { seen_state self.new ≡ with_slot (seen_state self.old) number (owned_slot slot) }
     {
         let place = (number - self.base) as usize;
         set_slot(&mut self.slots, place, slot);
@@ -64,8 +64,8 @@ impl PlainState {
     pub(crate) fn put_head(&mut self, number: u32, head: Head)
         requires low { self.old.base ≤ number }
         requires inside { number - self.old.base < length self.old.slots.items }
-        ensures { (message : Message) → HasAt self.old number message → seen self.new
-            ≡ with_slot (seen self.old) number (live_message (with_head head (owned message))) }
+        ensures { (message : Message) → HasAt self.old number message → seen_state self.new
+            ≡ with_slot (seen_state self.old) number (live_message (with_head head (owned message))) }
     {
         let place = (number - self.base) as usize;
         set_head(&mut self.slots, place, head);
@@ -73,7 +73,7 @@ impl PlainState {
 
     /// Counts a change: modcounter is one more, and activemsgs the number of live messages.
     pub(crate) fn count(&mut self)
-        ensures { seen self.new ≡ counted (seen self.old) }
+        ensures { seen_state self.new ≡ counted (seen_state self.old) }
     {
         self.counter = self.counter.wrapping_add(1);
         self.active = live_messages(&self.slots) as u32;

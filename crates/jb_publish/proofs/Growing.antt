@@ -5,7 +5,7 @@ use Rattle.std.proofs.lemmas.Bool.Decides.{nat_tests}
 use mathlib.Core.List.{IsPrefix}
 use prog.Atomic.{either}
 use Rattle.logbook.specs.Pages.{Cell, cell, keeps, no_nib, step, Moves, Goes}
-use Rattle.jb_publish.specs.Books.{IsKept, Grows}
+use Rattle.jb_publish.specs.Books.{TellsLength, Grows}
 use Rattle.jb_publish.proofs.Fronts.{prefix_whole}
 
 module _ {E : Type 0} where
@@ -17,7 +17,7 @@ module _ {E : Type 0} where
 
   pub grows_goes : (log v items : List E) (e : E) (old new : ℕ) → old ≡ length v → new ≡ length items → IsPrefix v items → IsPrefix v log
       → (b : Bool) → (length log == old) ≡ b
-      → Goes IsKept shown moved 0 (v, (no_nib, None)) (λ n. either (n == old) new n) (Grows items (step 0 old new e) (v, (no_nib, None))) ((length log, true) ∷ (0, true) ∷ []) log
+      → Goes TellsLength shown moved 0 (v, (no_nib, None)) (λ n. either (n == old) new n) (Grows items (step 0 old new e) (v, (no_nib, None))) ((length log, true) ∷ (0, true) ∷ []) log
   grows_goes log v items e old new len all more pre true is =
       let here : length log ≡ old = grind (arith, nat_tests) in
       let same : v ≡ log = prefix_whole v log pre (omega arith) in
@@ -45,7 +45,7 @@ module _ {E : Type 0} where
 
   -- whatever the book is, the exchange goes on to the list, or finds another length
   pub grows_moves : (v items : List E) (e : E) (old new : ℕ) → old ≡ length v → new ≡ length items → IsPrefix v items
-      → Moves IsKept shown moved 0 (v, (no_nib, None)) (λ n. either (n == old) new n) (Grows items (step 0 old new e) (v, (no_nib, None)))
+      → Moves TellsLength shown moved 0 (v, (no_nib, None)) (λ n. either (n == old) new n) (Grows items (step 0 old new e) (v, (no_nib, None)))
   grows_moves v items e old new len all more cs log kept pre away =
-      let P : List Cell → Type 0 = λ c. (0 < length c) × ((cell c 0).1 ≡ true) × Goes IsKept shown moved 0 (v, (no_nib, None)) (λ n. either (n == old) new n) (Grows items (step 0 old new e) (v, (no_nib, None))) c log in
+      let P : List Cell → Type 0 = λ c. (0 < length c) × ((cell c 0).1 ≡ true) × Goes TellsLength shown moved 0 (v, (no_nib, None)) (λ n. either (n == old) new n) (Grows items (step 0 old new e) (v, (no_nib, None))) c log in
       subst P (sym kept) (omega arith, refl, grows_goes log v items e old new len all more pre (length log == old) refl)

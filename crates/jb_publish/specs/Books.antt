@@ -3,13 +3,13 @@ use Rattle.std.specs.Prelude.{ℕ, ◌≡◌, ◌==◌, true, List, [], ◌∷�
 use Rattle.logbook.specs.Pages.{Cell, Step, View, Book, Named}
 
 -- the word of the book whose value is the length of the list
-abbrev pub head_of : Book → Named
-head_of b = record { tracked = true; key = 0; book = b }
+abbrev pub length_word : Book → Named
+length_word b = record { tracked = true; key = 0; book = b }
 
 module _ {E : Type 0} where
   -- the first word is the length of the list; a book has two words, of which this one leaves the second at 0
-  abbrev pub IsKept : List Cell → List E → Type 0
-  IsKept cells log = cells ≡ (length log, true) ∷ (0, true) ∷ []
+  abbrev pub TellsLength : List Cell → List E → Type 0
+  TellsLength cells log = cells ≡ (length log, true) ∷ (0, true) ∷ []
 
   -- where the word was the one expected, the list is now this one
   abbrev pub Grows : List E → Step E → View E ℕ → ℕ → View E ℕ → Type 0

@@ -4,12 +4,12 @@ use Rattle.left_right.specs.Sides.{view}
 use Rattle.left_right.specs.declared.Absorb as Copying
 use Rattle.jb_publish.specs.declared.meaning.Absorbs as Changing
 use Rattle.jb_publish.specs.declared.edition.Edition.{Edition}
-use Rattle.jb_publish.specs.declared.known.Mark.{Mark}
+use Rattle.jb_publish.specs.declared.known.PairMark.{PairMark}
 use Rattle.jb_publish.specs.declared.ends.Shower.{Shower}
 
 -- which pair it is of, the list that was published, the changes that no look sees yet, and the value that looks see
 pub record Publication (T K O E : Type 0) : Type 0 where
-  pub mark : Option (Mark O)
+  pub mark : Option (PairMark O)
   pub list : List E
   pub queued : List K
   pub value : T

@@ -1,7 +1,7 @@
 //! The writer's end, a reader's end, and a look. Their fields are the crate's own.
 ghost use Rattle.std.specs.Prelude.{◌≡◌, ◌≤◌, true, fold, is_some, vec_capacity};
 ghost use Rattle.left_right.specs.Sides.{view};
-ghost use Rattle.jb_publish.specs.Books.{head_of};
+ghost use Rattle.jb_publish.specs.Books.{length_word};
 ghost use Rattle.jb_publish.specs.Marks.{book_at};
 ghost use Rattle.jb_publish.specs.declared.ends.TheConstants.{ROOM};
 
@@ -39,7 +39,7 @@ where
     pub(crate) front: Front<E>,
     ghost bound: { is_some (view writer.desk.place).mark ≡ true },
     ghost tied: { front.seen.book ≡ book_at (view writer.desk.place).mark },
-    ghost named: { word ≡ head_of front.seen.book },
+    ghost named: { word ≡ length_word front.seen.book },
     ghost begun: { (writer.desk.shown.value.begun ≡ true) × (writer.desk.spare.value.begun ≡ true) },
     ghost current: { writer.desk.shown.value.front.count ≡ front.count },
     ghost lacks: { fold T.changed writer.desk.spare.value.value lacking.items ≡ writer.desk.shown.value.value },

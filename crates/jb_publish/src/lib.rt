@@ -23,6 +23,6 @@ mod writer;
 
 pub use ends::{ROOM, Shower, Shown, Sight};
 pub use front::Front;
-pub use known::{Known, Mark};
+pub use known::{Known, PairMark};
 pub use meaning::{Absorbs, NamesList, NamesOpening, Published};
 pub use pairing::pair;

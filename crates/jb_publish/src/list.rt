@@ -1,7 +1,7 @@
 //! The book whose log is the published list. The one of its words that counts is the length of the list.
 ghost use Rattle.std.specs.Prelude.{◌≡◌, ◌≤◌, ◌<◌, length};
 ghost use mathlib.Core.List.{IsPrefix};
-ghost use Rattle.jb_publish.specs.Books.{head_of};
+ghost use Rattle.jb_publish.specs.Books.{length_word};
 
 use crate::meaning::{NamesList, Published};
 use crossbeam_utils::Backoff;
@@ -19,9 +19,9 @@ pub(crate) struct ListLaw;
 impl<E> Rule<E, u64> for ListLaw {
     ghost use Rattle.std.specs.Prelude.{[]};
     ghost use base.Fml.{ftrue};
-    ghost use Rattle.jb_publish.specs.Books.{IsKept};
+    ghost use Rattle.jb_publish.specs.Books.{TellsLength};
 
-    ghost holds = { λ cells log. IsKept cells log };
+    ghost holds = { λ cells log. TellsLength cells log };
 
     ghost first = { [] };
 
@@ -75,7 +75,7 @@ pub(crate) fn go_on<T: Published<O, E>, O, E, J: NamesList<E>, R: Wait>(
     old: u64,
     new: u64,
 ) -> ListSeen<E>
-    requires word { word.now ≡ head_of seen.now.book }
+    requires word { word.now ≡ length_word seen.now.book }
     requires old { old ≡ length seen.now.log }
     requires list { IsPrefix seen.now.log J.items × (new ≡ length J.items) }
     ensures { (result.book ≡ seen.now.book) × (result.log ≡ J.items) }

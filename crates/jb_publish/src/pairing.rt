@@ -3,7 +3,7 @@ ghost use Rattle.std.specs.Prelude.{◌≡◌, ◌<◌, ◌≤◌, ℕ, true, fa
 ghost use Rattle.left_right.specs.Sides.{view};
 ghost use Rattle.jb_publish.specs.Accounts.{IsFresh, account_of, arrived};
 ghost use Rattle.jb_publish.specs.Editions.{edition};
-ghost use Rattle.jb_publish.specs.Marks.{StandsFrom, blank, opening_at};
+ghost use Rattle.jb_publish.specs.Marks.{ValueStandsFrom, blank, opening_at};
 ghost use Rattle.jb_publish.specs.Publications.{publication_of};
 ghost use Rattle.jb_publish.specs.Shows.{Binds};
 
@@ -24,7 +24,7 @@ fn bind<T: Published<O, E> + Drop, O, E, J: NamesOpening<O>, R: Wait>(
     front: &Front<E>,
 ) -> EditionWriter<T, O, E>
     requires fresh { writer.desk.shown.value.begun ≡ false }
-    requires stands { StandsFrom T.stands J.opening writer.desk.shown.value.value front.now.seen.log }
+    requires stands { ValueStandsFrom T.stands J.opening writer.desk.shown.value.value front.now.seen.log }
     ensures shown { result.desk.shown.value ≡ edition writer.desk.shown.value.value front.now true }
     ensures spare { (result.desk.spare.value.value ≡ writer.desk.shown.value.value)
         × (result.desk.spare.value.begun ≡ true) }
@@ -74,7 +74,7 @@ pub fn pair<T: Published<O, E> + Absorbs<K> + Drop, K: Drop, O, E, J: NamesOpeni
 ) -> Result<(Shower<T, K, O, E>, Vec<Shown<T, O, E>>), AllocError>
     requires readers { (0 < readers) × (readers ≤ 33) }
     requires alike { first ≡ second }
-    requires stands { StandsFrom T.stands J.opening first [] }
+    requires stands { ValueStandsFrom T.stands J.opening first [] }
 
     // Nothing is published or queued, and looks show the value.
     ensures list { IfOk result (λ r. (publication_of r.0).list ≡ []) }

@@ -2,11 +2,11 @@
 ghost use Rattle.std.specs.Prelude.{◌≡◌, ◌≤◌, ◌<◌, true, [], ◌∷◌, ◌++◌, is_some, length, IfOk, IfErr};
 ghost use mathlib.Core.List.{IsPrefix};
 ghost use Rattle.left_right.specs.Sides.{view};
-ghost use Rattle.jb_publish.specs.Accounts.{account_in, account_of, looked, told_with, turned_away, value_in};
-ghost use Rattle.jb_publish.specs.Fronts.{list_of};
-ghost use Rattle.jb_publish.specs.Marks.{StandsFrom, known, opening_at};
+ghost use Rattle.jb_publish.specs.Accounts.{account_in, account_of, looked, told_with, refused_once, value_in};
+ghost use Rattle.jb_publish.specs.Fronts.{known_list};
+ghost use Rattle.jb_publish.specs.Marks.{ValueStandsFrom, known, opening_at};
 ghost use Rattle.jb_publish.specs.Pairs.{IsIn};
-ghost use Rattle.jb_publish.specs.Shows.{IsOf};
+ghost use Rattle.jb_publish.specs.Shows.{IsOfPair};
 
 use crate::ends::{EditionReader, EditionReading, Shown, Sight};
 use crate::front::Front;
@@ -22,7 +22,7 @@ fn enter<T: Published<O, E> + Drop, O, E, J: Floor>(
     requires least { J.least ≡ least }
     requires bound { is_some (view reader.place).mark ≡ true }
     ensures enough { IfOk result (λ r. least ≤ r.part.value.front.count) }
-    ensures of { IfOk result (λ r. IsOf T.stands (view reader.place).mark r.part.value) }
+    ensures of { IfOk result (λ r. IsOfPair T.stands (view reader.place).mark r.part.value) }
     ensures looks { IfOk result (λ r. view r.place ≡ known (view reader.place).mark
         ((view reader.place).looks ++ r.part.value.front.count ∷ [])) }
     ensures err { IfErr result (λ r. view r.place ≡ view reader.place) }
@@ -44,7 +44,7 @@ impl<T: Published<O, E> + Drop, O, E> Shown<T, O, E> {
 
     /// What its looks have shown.
     pub fn seen(&self) -> Front<E>
-        ensures list { list_of result ≡ (account_of self.now).shown }
+        ensures list { known_list result ≡ (account_of self.now).shown }
         ensures pair { IsIn (account_of self.now).mark result }
     {
         self.shown.again()
@@ -62,12 +62,12 @@ impl<T: Published<O, E> + Drop, O, E> Shown<T, O, E> {
         requires { IsIn (account_of self.old).mark told }
 
         // It was told the longer of the two lists, which the other begins.
-        ensures longer { length (account_of self.old).told ≤ length (list_of told)
-            → (account_of self.new).told ≡ list_of told }
-        ensures shorter { length (list_of told) < length (account_of self.old).told
+        ensures longer { length (account_of self.old).told ≤ length (known_list told)
+            → (account_of self.new).told ≡ known_list told }
+        ensures shorter { length (known_list told) < length (account_of self.old).told
             → (account_of self.new).told ≡ (account_of self.old).told }
         ensures begins { IsPrefix (account_of self.old).told (account_of self.new).told
-            × IsPrefix (list_of told) (account_of self.new).told }
+            × IsPrefix (known_list told) (account_of self.new).told }
 
         // All else stays.
         ensures same { account_of self.new ≡ told_with (account_of self.old) (account_of self.new).told }
@@ -85,7 +85,7 @@ impl<T: Published<O, E> + Drop, O, E> Shown<T, O, E> {
         // The look shows a list that begins with all that was shown and with all that was told, and the value stands for it.
         ensures begins { IfOk result (λ sight. IsPrefix (account_of self).shown
             (account_in sight).shown × IsPrefix (account_of self).told (account_in sight).shown) }
-        ensures stands { IfOk result (λ sight. StandsFrom T.stands
+        ensures stands { IfOk result (λ sight. ValueStandsFrom T.stands
             (opening_at (account_of self).mark) (value_in sight) (account_in sight).shown) }
 
         // Beside that it is counted how much it showed, and all else stays.
@@ -93,7 +93,7 @@ impl<T: Published<O, E> + Drop, O, E> Shown<T, O, E> {
             account_in sight ≡ looked (account_of self) (account_in sight).shown) }
 
         // A reader that was not let in counts that alone.
-        ensures err { IfErr result (λ back. account_of back ≡ turned_away (account_of self)) }
+        ensures err { IfErr result (λ back. account_of back ≡ refused_once (account_of self)) }
     {
         let Shown {
             reader,

@@ -20,10 +20,10 @@ impl Floor for Brand {
 pub(crate) struct EditionLaw;
 
 impl<T: Published<O, E>, O, E> Protocol<Edition<T, E>, Known<O>> for EditionLaw {
-    ghost use Rattle.jb_publish.specs.Shows.{Shows};
+    ghost use Rattle.jb_publish.specs.Shows.{ShowsReaders};
     ghost use Rattle.jb_publish.specs.Marks.{blank};
 
-    ghost holds = { Shows T.stands };
+    ghost holds = { ShowsReaders T.stands };
 
     ghost first = { blank };
 }
@@ -34,9 +34,9 @@ pub(crate) struct Look<J> {
 }
 
 impl<T: Published<O, E>, O, E, J: Floor> Outcome<Edition<T, E>, Known<O>> for Look<J> {
-    ghost use Rattle.jb_publish.specs.Shows.{Looks};
+    ghost use Rattle.jb_publish.specs.Shows.{LooksInto};
 
-    ghost then = { Looks T.stands J.least };
+    ghost then = { LooksInto T.stands J.least };
 }
 
 /// The writer names the mark.

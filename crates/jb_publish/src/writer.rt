@@ -3,8 +3,8 @@ ghost use Rattle.std.specs.Prelude.{◌≡◌, ◌≤◌, ◌<◌, true, fold, l
 ghost use mathlib.Core.List.{IsPrefix};
 ghost use Rattle.jb_publish.specs.Accounts.{account_of};
 ghost use Rattle.jb_publish.specs.Editions.{edition};
-ghost use Rattle.jb_publish.specs.Fronts.{list_of};
-ghost use Rattle.jb_publish.specs.Marks.{StandsFrom, opening_at};
+ghost use Rattle.jb_publish.specs.Fronts.{known_list};
+ghost use Rattle.jb_publish.specs.Marks.{ValueStandsFrom, opening_at};
 ghost use Rattle.jb_publish.specs.Pairs.{IsIn};
 ghost use Rattle.jb_publish.specs.Publications.{publication_of, queued_with, shown_with};
 ghost use Rattle.jb_publish.specs.declared.ends.TheConstants.{ROOM};
@@ -75,7 +75,7 @@ impl<T: Published<O, E> + Absorbs<K> + Drop, K: Drop, O, E> Shower<T, K, O, E> {
     /// that still see the copy from before the last showing.
     pub fn show<J: NamesList<E>, R: Wait>(self, rt: &R, count: u64) -> Shower<T, K, O, E>
         requires longer { IsPrefix (publication_of self).list J.items × (count ≡ length J.items) }
-        requires stands { StandsFrom T.stands (opening_at (publication_of self).mark)
+        requires stands { ValueStandsFrom T.stands (opening_at (publication_of self).mark)
             (fold T.changed (publication_of self).value (publication_of self).queued) J.items }
         ensures { publication_of result ≡ shown_with T.changed (publication_of self) J.items }
     {
@@ -103,7 +103,7 @@ impl<T: Published<O, E> + Absorbs<K> + Drop, K: Drop, O, E> Shower<T, K, O, E> {
 
     /// All that was published, for a reader to learn.
     pub fn tell(&self) -> Front<E>
-        ensures list { list_of result ≡ (publication_of self.now).list }
+        ensures list { known_list result ≡ (publication_of self.now).list }
         ensures pair { IsIn (publication_of self.now).mark result }
     {
         self.front.again()

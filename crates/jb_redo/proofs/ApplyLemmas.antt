@@ -11,13 +11,13 @@ use Rattle.jb_disk.specs.declared.piece.Length.{Length}
 use Rattle.jb_disk.specs.declared.piece.Piece.{Piece}
 use Rattle.jb_disk.specs.declared.piece.Piece.TheVariants.{Bytes, Copy}
 use Rattle.jb_disk.specs.Device.{Device, OnlyReads, Turns}
-use Rattle.jb_disk.specs.Files.{Files, number_of, overwritten}
+use Rattle.jb_disk.specs.Files.{Files, file_number, overwritten}
 use Rattle.jb_disk.specs.FileLaws.{same_file, same_files, with_file-here, with_file-other, number-injective, length-overwritten}
-use Rattle.jb_disk.specs.Steps.{Span, IsCovered, IsWithin, patched}
+use Rattle.jb_disk.specs.Steps.{Span, IsCovered, AreWithin, patched}
 use Rattle.jb_disk.proofs.RunLemmas.{keeps-refl, keeps-then, keeps-reads}
 use Rattle.jb_redo.specs.declared.part.Part.{Part}
 use Rattle.jb_redo.specs.declared.sizes.Sizes.{Sizes}
-use Rattle.jb_redo.specs.Applying.{IsSound, HasRoom, copied, pieced, HasAppliedTo, HasPieced, KeepsInRange, KeepsWay}
+use Rattle.jb_redo.specs.Applying.{IsSoundPart, LiesWithin, copied, pieced, HasAppliedTo, HasPieced, KeepsInRange, KeepsWay}
 use Rattle.jb_redo.specs.OnTheWay.{IsOnTheWay}
 use Rattle.jb_redo.specs.Reading.{BeginsWith, IsRecordOf, HasRecord}
 use Rattle.jb_redo.specs.Record.{record_end, piece_bytes}
@@ -78,17 +78,17 @@ patched-push [] span old = refl
 patched-push (first ∷ spans) span old = patched-push spans span (overwritten first.at first.bytes old)
 
 -- spans within a file keep its length
-pub length-patched : (spans : List Span) (old : List ℕ) → IsWithin spans (length old) → length (patched spans old) ≡ length old
+pub length-patched : (spans : List Span) (old : List ℕ) → AreWithin spans (length old) → length (patched spans old) ≡ length old
 length-patched [] old within = refl
 length-patched (span ∷ spans) old within =
     let size = length-overwritten span.at span.bytes old within.0 in
-    length-patched spans (overwritten span.at span.bytes old) (subst (IsWithin spans) (sym size) within.1) ∙ size
+    length-patched spans (overwritten span.at span.bytes old) (subst (AreWithin spans) (sym size) within.1) ∙ size
 
 -- one piece more, written last
-spans_in-push : (files : Files) (pieces : List Piece) (piece : Piece) (file : FileId) → number_of (target_of piece) ≡ number_of file
+spans_in-push : (files : Files) (pieces : List Piece) (piece : Piece) (file : FileId) → file_number (target_of piece) ≡ file_number file
     → spans_in files (pieces ++ piece ∷ []) file ≡ spans_in files pieces file ++ span_of files piece ∷ []
 spans_in-push files [] piece file same = spans_in-here files piece [] file same
-spans_in-push files (first ∷ pieces) piece file same = elim (cases_eq (number_of (target_of first)) (number_of file)) [
+spans_in-push files (first ∷ pieces) piece file same = elim (cases_eq (file_number (target_of first)) (file_number file)) [
   | inl here ↦ spans_in-here files first (pieces ++ piece ∷ []) file here ∙ ap (λ (l : List Span). span_of files first ∷ l) (spans_in-push files pieces piece file same)
       ∙ ap (λ (l : List Span). l ++ span_of files piece ∷ []) (sym (spans_in-here files first pieces file here))
   | inr apart ↦ spans_in-other files first (pieces ++ piece ∷ []) file apart ∙ spans_in-push files pieces piece file same
@@ -96,10 +96,10 @@ spans_in-push files (first ∷ pieces) piece file same = elim (cases_eq (number_
 ]
 
 -- one piece more that goes into another file
-spans_in-pass : (files : Files) (pieces : List Piece) (piece : Piece) (file : FileId) → number_of (target_of piece) ≢ number_of file
+spans_in-pass : (files : Files) (pieces : List Piece) (piece : Piece) (file : FileId) → file_number (target_of piece) ≢ file_number file
     → spans_in files (pieces ++ piece ∷ []) file ≡ spans_in files pieces file
 spans_in-pass files [] piece file apart = spans_in-other files piece [] file apart
-spans_in-pass files (first ∷ pieces) piece file apart = elim (cases_eq (number_of (target_of first)) (number_of file)) [
+spans_in-pass files (first ∷ pieces) piece file apart = elim (cases_eq (file_number (target_of first)) (file_number file)) [
   | inl here ↦ spans_in-here files first (pieces ++ piece ∷ []) file here ∙ ap (λ (l : List Span). span_of files first ∷ l) (spans_in-pass files pieces piece file apart)
       ∙ sym (spans_in-here files first pieces file here)
   | inr other ↦ spans_in-other files first (pieces ++ piece ∷ []) file other ∙ spans_in-pass files pieces piece file apart ∙ sym (spans_in-other files first pieces file other)
@@ -111,7 +111,7 @@ covered_in : (files : Files) (pieces : List Piece) (piece : Piece) (others : Lis
 covered_in files [] piece others i low high = subst (λ (l : List Span). IsCovered l i) (sym (spans_in-here files piece others (target_of piece) refl)) (inl (low, high))
 covered_in files (first ∷ pieces) piece others i low high =
     let rest = covered_in files pieces piece others i low high in
-    elim (cases_eq (number_of (target_of first)) (number_of (target_of piece))) [
+    elim (cases_eq (file_number (target_of first)) (file_number (target_of piece))) [
       | inl here ↦ subst (λ (l : List Span). IsCovered l i) (sym (spans_in-here files first (pieces ++ piece ∷ others) (target_of piece) here)) (inr rest)
       | inr apart ↦ subst (λ (l : List Span). IsCovered l i) (sym (spans_in-other files first (pieces ++ piece ∷ others) (target_of piece) apart)) rest
     ]
@@ -127,14 +127,14 @@ module _ (files : Files) (count read at : ℕ) (ends : Sizes) (now : Files) (siz
   now_is file = ap (λ (f : Files). f file) done.is
 
   -- the journal and the shadow of the texts are as they were
-  pub applied_kept : (file : FileId) → 4 ≤ number_of file → now file ≡ files file
+  pub applied_kept : (file : FileId) → 4 ≤ file_number file → now file ≡ files file
   applied_kept file high = now_is file ∙ ap (λ (l : List Span). patched l (files file)) (no_spans (sizes_of files) (size_in ends) files done.has.pieces file legal_so_far high)
 
   -- the files keep their lengths
   pub applied_size : (file : FileId) → length (now file) ≡ size_in ends file
   applied_size file =
       ap length (now_is file)
-      ∙ length-patched (spans_in files done.has.pieces file) (files file) (subst (IsWithin (spans_in files done.has.pieces file)) (sized file) (spans_within files (size_in ends) done.has.pieces file legal_so_far))
+      ∙ length-patched (spans_in files done.has.pieces file) (files file) (subst (AreWithin (spans_in files done.has.pieces file)) (sized file) (spans_within files (size_in ends) done.has.pieces file legal_so_far))
       ∙ sym (sized file)
 
   -- so the lengths that are kept are those of these files too
@@ -152,7 +152,7 @@ module _ (files : Files) (count read at : ℕ) (ends : Sizes) (now : Files) (siz
         place = legal.place;
         source = legal.source;
         size = legal.size;
-        inside = omega (arith, ap length (applied_kept from (omega (arith, ap number_of legal.shadow))));
+        inside = omega (arith, ap length (applied_kept from (omega (arith, ap file_number legal.shadow))));
         within = legal.within;
       }
 
@@ -167,7 +167,7 @@ module _ (files : Files) (count read at : ℕ) (ends : Sizes) (now : Files) (siz
         place = legal.place;
         source = legal.source;
         size = legal.size;
-        inside = omega (arith, ap length (applied_kept from (omega (arith, ap number_of legal.shadow))));
+        inside = omega (arith, ap length (applied_kept from (omega (arith, ap file_number legal.shadow))));
         within = legal.within;
       }
 
@@ -179,7 +179,7 @@ module _ (files : Files) (count read at : ℕ) (ends : Sizes) (now : Files) (siz
   pub none_back : (place : ℕ) → HasNoPieceAt now ends place → HasNoPieceAt files ends place
   none_back place none piece legal begins = none piece (legal_on piece legal) (subst (λ (l : List ℕ). BeginsWith l (piece_bytes piece)) (sym (same_journal place)) begins)
 
-  module _ (part : Part) (sound : IsSound part) (there : IsPartAt now ends at part) where
+  module _ (part : Part) (sound : IsSoundPart part) (there : IsPartAt now ends at part) where
     -- what the piece writes is the same over the files as they were
     same_span : span_of files there.piece ≡ span_of now there.piece
     same_span = span_same (sizes_of files) (size_in ends) files now there.piece (legal_back there.piece there.legal) (sym (applied_kept Ndt (omega arith)))
@@ -212,7 +212,7 @@ module _ (files : Files) (count read at : ℕ) (ends : Sizes) (now : Files) (siz
         ap (λ s. length s.bytes) span_is ∙ length-take-le part.len (drop part.from_at (files part.from)) (omega (arith, length-drop part.from_at (files part.from)))
 
     -- there is room for it
-    pub part_room : HasRoom part now
+    pub part_room : LiesWithin part now
     part_room =
         let within = span_within files (size_in ends) there.piece (legal_back there.piece there.legal) in
         let place : (span_of files there.piece).at ≡ part.to_at = ap (λ s. s.at) span_is in
@@ -235,7 +235,7 @@ module _ (files : Files) (count read at : ℕ) (ends : Sizes) (now : Files) (siz
       next_now : (file : FileId) → copied part part.len now file ≡ patched (spans_in files (done.has.pieces ++ there.piece ∷ []) file) (files file)
       next_now file = elim (same_file file part.to) [
         | inl same ↦
-            let target : number_of (target_of there.piece) ≡ number_of file = ap number_of (sym there.target ∙ sym same) in
+            let target : file_number (target_of there.piece) ≡ file_number file = ap file_number (sym there.target ∙ sym same) in
             subst (λ (f : FileId). copied part part.len now f ≡ overwritten part.to_at (take part.len (drop part.from_at (files part.from))) (now f)) (sym same)
             (with_file-here part.to _ now ∙ ap (λ (l : List ℕ). overwritten part.to_at (take part.len (drop part.from_at l)) (now part.to)) (applied_kept part.from sound.source))
             ∙ ap (overwritten part.to_at (take part.len (drop part.from_at (files part.from)))) (now_is file)
@@ -296,9 +296,9 @@ module _ (count read at : ℕ) (ends : Sizes) (old now : Option Files) (sized : 
       let on = turns_on (AppliedSoFar count read at ends) old now files told is in
       record_or_bad_place files at (bad_piece files count read at ends on.2.has more (none_back files count read at ends on.0 (sized files is) on.2 at (none on.0 on.1))) (has files is)
 
-  module _ (part : Part) (sound : IsSound part) (there : ForSome now (λ files. IsPartAt files ends at part)) where
+  module _ (part : Part) (sound : IsSoundPart part) (there : ForSome now (λ files. IsPartAt files ends at part)) where
     -- there is room for the piece that is read
-    pub told_part_room : ForSome now (HasRoom part)
+    pub told_part_room : ForSome now (LiesWithin part)
     told_part_room = λ files is.
         let from = turns_from (AppliedSoFar count read at ends) old now files told is in
         part_room from.0 count read at ends files (sized from.0 from.1) from.2 part sound (there files is)

@@ -8,14 +8,14 @@ use Rattle.jb_disk.specs.declared.file.FileId.{FileId}
 use Rattle.jb_disk.specs.declared.piece.Length.{Length}
 use Rattle.jb_disk.specs.declared.piece.Piece.{Piece}
 use Rattle.jb_disk.specs.Device.{Device, OnlyReads, Tears, Resizes, TellsAnImage, FailsBy, IsPast}
-use Rattle.jb_disk.specs.Files.{Files, number_of, overwritten, written, InFile}
+use Rattle.jb_disk.specs.Files.{Files, file_number, overwritten, written, InFile}
 use Rattle.jb_disk.specs.FileLaws.{same_file, same_files, with_file-here, with_file-other, length-overwritten}
 use Rattle.jb_disk.specs.ImageLaws.{get-before, get-behind}
 use Rattle.jb_disk.specs.Runs.{Keeps}
 use Rattle.jb_disk.specs.Steps.{Cut}
 use Rattle.jb_disk.proofs.RunLemmas.{keeps-then, keeps-reads, keeps-write, keeps-resize}
 use Rattle.jb_redo.specs.declared.part.Part.{Part}
-use Rattle.jb_redo.specs.Applying.{IsSound, HasRoom, copied, copied_chunk, KeepsInRange}
+use Rattle.jb_redo.specs.Applying.{IsSoundPart, LiesWithin, copied, copied_chunk, KeepsInRange}
 use Rattle.jb_redo.specs.OnTheWay.{IsOnTheWay}
 use Rattle.jb_redo.specs.Rules.{sizes_of, new_sizes}
 use Rattle.jb_redo.proofs.WalkLemmas.{drop_twice}
@@ -83,13 +83,13 @@ copied_none part files = same_files (copied part 0 files) files (λ file. elim (
   | inr other ↦ with_file-other part.to file _ files other
 ])
 
-module _ (part : Part) (files : Files) (sound : IsSound part) (room : HasRoom part files) where
+module _ (part : Part) (files : Files) (sound : IsSoundPart part) (room : LiesWithin part files) where
   -- the two files are not one
   apart : part.from ≢ part.to
   apart same =
       let source = sound.source in
       let target = sound.target in
-      omega (arith, ap number_of same)
+      omega (arith, ap file_number same)
 
   -- the file that is copied from is as it was
   pub copied_source : (count : ℕ) → copied part count files part.from ≡ files part.from
@@ -122,7 +122,7 @@ module _ (part : Part) (files : Files) (sound : IsSound part) (room : HasRoom pa
       ])
 
   -- there is room for the rest
-  pub room_after : (count : ℕ) → count ≤ part.len → HasRoom part (copied part count files)
+  pub room_after : (count : ℕ) → count ≤ part.len → LiesWithin part (copied part count files)
   room_after count few =
       let inside = room.inside in
       let within = room.within in
@@ -153,17 +153,17 @@ told_none part None = refl
 told_none part (Some files) = ap Some (sym (copied_none part files))
 
 -- one chunk more, where the disk tells it
-pub told_more : (part : Part) (done n : ℕ) (old now new : Option Files) → IsSound part → ForSome old (HasRoom part) → done + n ≤ part.len → now ≡ option_map (copied part done) old
+pub told_more : (part : Part) (done n : ℕ) (old now new : Option Files) → IsSoundPart part → ForSome old (LiesWithin part) → done + n ≤ part.len → now ≡ option_map (copied part done) old
     → new ≡ option_map (copied_chunk part done n) now → new ≡ option_map (copied part (done + n)) old
 told_more part done n None now new sound room few was is = is ∙ ap (option_map (copied_chunk part done n)) was
 told_more part done n (Some files) now new sound room few was is =
     is ∙ ap (option_map (copied_chunk part done n)) was ∙ ap Some (copied_more part files sound (room files refl) done n few)
 
 -- there is room for the rest, where the disk tells it
-pub told_room : (part : Part) (done : ℕ) (old now : Option Files) → IsSound part → ForSome old (HasRoom part) → done ≤ part.len → now ≡ option_map (copied part done) old → ForSome now (HasRoom part)
+pub told_room : (part : Part) (done : ℕ) (old now : Option Files) → IsSoundPart part → ForSome old (LiesWithin part) → done ≤ part.len → now ≡ option_map (copied part done) old → ForSome now (LiesWithin part)
 told_room part done old now sound room few is = λ files there.
     let from = told_from old now (copied part done) files is there in
-    subst (HasRoom part) (sym from.2) (room_after part from.0 sound (room from.0 from.1) done few)
+    subst (LiesWithin part) (sym from.2) (room_after part from.0 sound (room from.0 from.1) done few)
 
 -- a read and a write keep all that is on its way, where pieces are written into the range
 pub chunk_keeps : {T E : Type 0} (file : FileId) (at len : ℕ) (bytes : List ℕ) (old mid new : Device) (result : Result T E) → length bytes ≡ len → TellsAnImage new → OnlyReads old mid

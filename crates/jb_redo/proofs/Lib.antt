@@ -1,6 +1,7 @@
 pub mod ApplyLemmas
 pub mod CopyLemmas
 pub mod FieldLemmas
+pub mod LengthLemmas
 pub mod OneReading
 pub mod PieceLemmas
 pub mod RecordLemmas

@@ -7,7 +7,7 @@ use Rattle.jb_disk.specs.declared.file.FileId.{FileId}
 use Rattle.jb_disk.specs.declared.piece.Length.{Length}
 use Rattle.jb_disk.specs.declared.piece.Piece.{Piece}
 use Rattle.jb_redo.specs.Record.{record_head, record_end, length_bytes, piece_bytes, record_bytes}
-use Rattle.jb_redo.specs.Rules.{sizes_of, new_sizes, IsLegalLength, IsBefore, IsLegalPiece, IsLegal}
+use Rattle.jb_redo.specs.Rules.{sizes_of, new_sizes, IsLegalLength, IsBefore, IsLegalPiece, IsLegalRecord}
 use Rattle.jb_redo.specs.Reading.{BeginsWith, Beginning, Nothing, HeadAlone, Lengths, Pieces, beginning_bytes, IsLegalBeginning, IsNextField, IsStoppedAt, record_part}
 use Rattle.jb_redo.specs.Laws.{HasOneRecordAtMost, HasOneBadPlaceAtMost, HasRecordOrBadPlace}
 use Rattle.jb_redo.proofs.Spelling.{same_number, same_length, same_piece, GoesOn, meet}
@@ -254,7 +254,7 @@ module _ (sizes : FileId → ℕ) where
       ]
 
 -- a legal record is a legal beginning
-pub whole_legal : (sizes : FileId → ℕ) (lengths : List Length) (pieces : List Piece) → IsLegal sizes lengths pieces → IsLegalBeginning sizes (Pieces lengths (length pieces) pieces)
+pub whole_legal : (sizes : FileId → ℕ) (lengths : List Length) (pieces : List Piece) → IsLegalRecord sizes lengths pieces → IsLegalBeginning sizes (Pieces lengths (length pieces) pieces)
 whole_legal sizes lengths pieces legal = record { lengths_are = legal.lengths_are; many = legal.pieces_are.many; so_far = omega arith; each = legal.pieces_are.each }
 
 -- the places of two beginnings that stop are one
@@ -274,7 +274,7 @@ record_begun lengths pieces behind =
     append_assoc (beginning_bytes (Pieces lengths (length pieces) pieces)) record_end behind
 
 -- where a beginning stops there is no record
-stopped_without_record : (sizes : FileId → ℕ) (bytes : List ℕ) (at : ℕ) (lengths : List Length) (pieces : List Piece) → IsStoppedAt sizes bytes at → IsLegal sizes lengths pieces
+stopped_without_record : (sizes : FileId → ℕ) (bytes : List ℕ) (at : ℕ) (lengths : List Length) (pieces : List Piece) → IsStoppedAt sizes bytes at → IsLegalRecord sizes lengths pieces
     → BeginsWith bytes (record_bytes lengths pieces) → ⊥
 stopped_without_record sizes bytes at lengths pieces stopped legal begins =
     let whole = Pieces lengths (length pieces) pieces in
@@ -299,11 +299,11 @@ pieces_in (Pieces lengths count pieces) = pieces
 pieces_in other = []
 
 -- bytes begin with one record at most
-pub one_record_of : (sizes : FileId → ℕ) (bytes : List ℕ) (lengths lengths' : List Length) (pieces pieces' : List Piece) → IsLegal sizes lengths pieces → IsLegal sizes lengths' pieces'
+pub one_record_of : (sizes : FileId → ℕ) (bytes : List ℕ) (lengths lengths' : List Length) (pieces pieces' : List Piece) → IsLegalRecord sizes lengths pieces → IsLegalRecord sizes lengths' pieces'
     → BeginsWith bytes (record_bytes lengths pieces) → BeginsWith bytes (record_bytes lengths' pieces') → (lengths ≡ lengths') × (pieces ≡ pieces')
 unfolding lengths_in pieces_in
 one_record_of sizes bytes lengths lengths' pieces pieces' legal legal' begins begins' =
-    let whole : (set : List Length) (put : List Piece) → IsLegal sizes set put → IsLegalBeginning sizes (Pieces set (length put) put) =
+    let whole : (set : List Length) (put : List Piece) → IsLegalRecord sizes set put → IsLegalBeginning sizes (Pieces set (length put) put) =
     λ set put are. record { lengths_are = are.lengths_are; many = are.pieces_are.many; so_far = omega arith; each = are.pieces_are.each } in
     elim (beginnings_meet sizes (Pieces lengths (length pieces) pieces) (Pieces lengths' (length pieces') pieces') (record_end ++ begins.behind) (record_end ++ begins'.behind)
     (whole lengths pieces legal) (whole lengths' pieces' legal')

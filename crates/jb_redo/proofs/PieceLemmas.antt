@@ -7,7 +7,7 @@ use Rattle.jb_disk.specs.declared.file.FileId.{FileId}
 use Rattle.jb_disk.specs.declared.file.FileId.TheVariants.{Jdt, Jnl, Ndt}
 use Rattle.jb_disk.specs.declared.piece.Piece.{Piece}
 use Rattle.jb_disk.specs.declared.piece.Piece.TheVariants.{Bytes, Copy}
-use Rattle.jb_disk.specs.Files.{Files, number_of}
+use Rattle.jb_disk.specs.Files.{Files, file_number}
 use Rattle.jb_disk.specs.FileLaws.{number-injective}
 use Rattle.jb_redo.specs.declared.part.Front.{Front}
 use Rattle.jb_redo.specs.declared.part.Front.TheVariants.{Bytes as GivenFront, Copy as CopyFront}
@@ -53,7 +53,7 @@ rest_of (Copy from from_at to to_at len) = number_bytes 4 from_at
 pub piece_parts : (sizes ends : FileId → ℕ) (piece : Piece) → IsLegalPiece sizes ends piece → piece_bytes piece ≡ front_bytes (front_of piece) ++ rest_of piece
 piece_parts sizes ends (Bytes file at bytes) legal = refl
 piece_parts sizes ends (Copy from from_at to to_at len) legal =
-    λ i. 1 ∷ number_of (legal.texts i) ∷ number_of (legal.shadow i) ∷ 0 ∷ (number_bytes 4 to_at ++ number_bytes 4 len ++ number_bytes 4 from_at)
+    λ i. 1 ∷ file_number (legal.texts i) ∷ file_number (legal.shadow i) ∷ 0 ∷ (number_bytes 4 to_at ++ number_bytes 4 len ++ number_bytes 4 from_at)
 
 -- its front keeps the rules
 pub front_legal : (sizes ends : FileId → ℕ) (piece : Piece) → IsLegalPiece sizes ends piece → IsLegalFront (front_of piece)
@@ -86,7 +86,7 @@ bad_front files ends at bytes size read none piece legal begins =
     none (front_of piece) (front_legal (sizes_of files) (size_in ends) piece legal) (front_there files ends at bytes piece size read legal begins)
 
 -- the piece behind a front of given bytes
-pub given_there : (files : Files) (ends : Sizes) (at end : ℕ) (to : FileId) (to_at len : ℕ) → end ≡ length (files Jnl) → number_of to < 4 → to_at < 2 ^ 32 → len < 2 ^ 32
+pub given_there : (files : Files) (ends : Sizes) (at end : ℕ) (to : FileId) (to_at len : ℕ) → end ≡ length (files Jnl) → file_number to < 4 → to_at < 2 ^ 32 → len < 2 ^ 32
     → BeginsWith (journal_from files at) (front_bytes (GivenFront to to_at len)) → at + 12 + len ≤ end → to_at + len ≤ size_in ends to → IsPartAt files ends at (given_part_of at to to_at len)
 given_there files ends at end to to_at len end_is of_base low short front whole within =
     let bytes = take len (drop (at + 12) (files Jnl)) in

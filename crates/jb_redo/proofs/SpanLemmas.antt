@@ -1,38 +1,38 @@
 -- What pieces write into a file.
-use Rattle.std.proofs.Common.{◌≡◌, ◌≢◌, inl, inr, ℕ, ◌+◌, ◌<◌, ◌≤◌, List, [], ◌∷◌, All, length, take, drop, refl, ap, sym, ◌∙◌, subst, arith}
+use Rattle.std.proofs.Common.{◌≡◌, ◌≢◌, inl, inr, ℕ, ◌+◌, ◌<◌, ◌≤◌, List, [], ◌∷◌, ◌++◌, All, length, filter, map, take, drop, refl, ap, sym, ◌∙◌, subst, arith}
 use Rattle.std.proofs.lemmas.Bool.{cases_eq}
 use Rattle.std.proofs.lemmas.Bool.Decides.{nat_tests}
-use Rattle.std.proofs.lemmas.List.{length-take-le, length-drop}
-use Rattle.std.proofs.lemmas.List.Elements.{All-head, All-tail}
+use Rattle.std.proofs.lemmas.List.{length-take-le, length-drop, map-append}
+use Rattle.std.proofs.lemmas.List.Elements.{All-head, All-tail, filter-append}
 use Rattle.jb_disk.specs.declared.file.FileId.{FileId}
 use Rattle.jb_disk.specs.declared.file.FileId.TheVariants.{Ndt}
 use Rattle.jb_disk.specs.declared.piece.Piece.{Piece}
 use Rattle.jb_disk.specs.declared.piece.Piece.TheVariants.{Bytes, Copy}
-use Rattle.jb_disk.specs.Files.{Files, number_of}
+use Rattle.jb_disk.specs.Files.{Files, file_number}
 use Rattle.jb_disk.specs.FileLaws.{number-injective}
-use Rattle.jb_disk.specs.Steps.{Span, IsWithin}
+use Rattle.jb_disk.specs.Steps.{Span, AreWithin, IsCovered}
 use Rattle.jb_redo.specs.Rules.{IsLegalPiece, sizes_of}
-use Rattle.jb_redo.specs.Replay.{target_of, span_of, spans_in}
+use Rattle.jb_redo.specs.Replay.{target_of, span_of, spans_in, writes}
 
 -- a piece that is written into this file
-pub spans_in-here : (files : Files) (piece : Piece) (pieces : List Piece) (file : FileId) → number_of (target_of piece) ≡ number_of file
+pub spans_in-here : (files : Files) (piece : Piece) (pieces : List Piece) (file : FileId) → file_number (target_of piece) ≡ file_number file
     → spans_in files (piece ∷ pieces) file ≡ span_of files piece ∷ spans_in files pieces file
 spans_in-here files piece pieces file same = grind (arith, nat_tests)
 
 -- a piece that is not
-pub spans_in-other : (files : Files) (piece : Piece) (pieces : List Piece) (file : FileId) → number_of (target_of piece) ≢ number_of file
+pub spans_in-other : (files : Files) (piece : Piece) (pieces : List Piece) (file : FileId) → file_number (target_of piece) ≢ file_number file
     → spans_in files (piece ∷ pieces) file ≡ spans_in files pieces file
 spans_in-other files piece pieces file apart = grind (arith, nat_tests)
 
 -- a legal piece is written into a file of the base
-pub legal_target : (sizes ends : FileId → ℕ) (piece : Piece) → IsLegalPiece sizes ends piece → number_of (target_of piece) < 4
+pub legal_target : (sizes ends : FileId → ℕ) (piece : Piece) → IsLegalPiece sizes ends piece → file_number (target_of piece) < 4
 legal_target sizes ends (Bytes file at bytes) legal = legal.of_base
 legal_target sizes ends (Copy from from_at to to_at len) legal =
-    let texts = ap number_of legal.texts in
+    let texts = ap file_number legal.texts in
     omega (arith, texts)
 
 -- nothing is written into the journal and the shadow of the texts
-pub no_spans : (sizes ends : FileId → ℕ) (files : Files) (pieces : List Piece) (file : FileId) → All (IsLegalPiece sizes ends) pieces → 4 ≤ number_of file → spans_in files pieces file ≡ []
+pub no_spans : (sizes ends : FileId → ℕ) (files : Files) (pieces : List Piece) (file : FileId) → All (IsLegalPiece sizes ends) pieces → 4 ≤ file_number file → spans_in files pieces file ≡ []
 no_spans sizes ends files [] file legal high = refl
 no_spans sizes ends files (piece ∷ pieces) file legal high =
     let target = legal_target sizes ends piece (All-head (IsLegalPiece sizes ends) piece pieces legal) in
@@ -53,7 +53,7 @@ spans_same sizes ends one other [] file legal same = refl
 spans_same sizes ends one other (piece ∷ pieces) file legal same =
     let first = All-head (IsLegalPiece sizes ends) piece pieces legal in
     let rest = spans_same sizes ends one other pieces file (All-tail (IsLegalPiece sizes ends) piece pieces legal) same in
-    elim (cases_eq (number_of (target_of piece)) (number_of file)) [
+    elim (cases_eq (file_number (target_of piece)) (file_number file)) [
       | inl here ↦ spans_in-here one piece pieces file here ∙ (λ i. span_same sizes ends one other piece first same i ∷ rest i) ∙ sym (spans_in-here other piece pieces file here)
       | inr apart ↦ spans_in-other one piece pieces file apart ∙ rest ∙ sym (spans_in-other other piece pieces file apart)
     ]
@@ -68,12 +68,25 @@ span_within files ends (Copy from from_at to to_at len) legal =
     omega (arith, size)
 
 -- and so do all of them
-pub spans_within : (files : Files) (ends : FileId → ℕ) (pieces : List Piece) (file : FileId) → All (IsLegalPiece (sizes_of files) ends) pieces → IsWithin (spans_in files pieces file) (ends file)
+pub spans_within : (files : Files) (ends : FileId → ℕ) (pieces : List Piece) (file : FileId) → All (IsLegalPiece (sizes_of files) ends) pieces → AreWithin (spans_in files pieces file) (ends file)
 spans_within files ends [] file legal = tt
 spans_within files ends (piece ∷ pieces) file legal =
     let first = span_within files ends piece (All-head (IsLegalPiece (sizes_of files) ends) piece pieces legal) in
     let rest = spans_within files ends pieces file (All-tail (IsLegalPiece (sizes_of files) ends) piece pieces legal) in
-    elim (cases_eq (number_of (target_of piece)) (number_of file)) [
-      | inl here ↦ subst (λ (l : List Span). IsWithin l (ends file)) (sym (spans_in-here files piece pieces file here)) (subst (λ (f : FileId). (span_of files piece).at + length (span_of files piece).bytes ≤ ends f) (number-injective (target_of piece) file here) first, rest)
-      | inr apart ↦ subst (λ (l : List Span). IsWithin l (ends file)) (sym (spans_in-other files piece pieces file apart)) rest
+    elim (cases_eq (file_number (target_of piece)) (file_number file)) [
+      | inl here ↦ subst (λ (l : List Span). AreWithin l (ends file)) (sym (spans_in-here files piece pieces file here)) (subst (λ (f : FileId). (span_of files piece).at + length (span_of files piece).bytes ≤ ends f) (number-injective (target_of piece) file here) first, rest)
+      | inr apart ↦ subst (λ (l : List Span). AreWithin l (ends file)) (sym (spans_in-other files piece pieces file apart)) rest
     ]
+
+-- the spans of pieces behind others
+pub spans-append : (files : Files) (first second : List Piece) (file : FileId) → spans_in files (first ++ second) file ≡ spans_in files first file ++ spans_in files second file
+spans-append files first second file =
+    ap (map (span_of files)) (filter-append (writes file) first second) ∙ map-append (span_of files) (filter (writes file) first) (filter (writes file) second)
+
+-- a place that the first have
+pub covered-first : (first second : List Span) (i : ℕ) → IsCovered first i → IsCovered (first ++ second) i
+covered-first [] second i none = absurd none
+covered-first (span ∷ first) second i covered = elim covered [
+  | inl here ↦ inl here
+  | inr rest ↦ inr (covered-first first second i rest)
+]

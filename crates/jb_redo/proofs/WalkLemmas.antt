@@ -11,7 +11,7 @@ use Rattle.jb_disk.specs.declared.file.FileId.{FileId}
 use Rattle.jb_disk.specs.declared.file.FileId.TheVariants.{Jnl}
 use Rattle.jb_disk.specs.declared.piece.Length.{Length}
 use Rattle.jb_disk.specs.declared.piece.Piece.{Piece}
-use Rattle.jb_disk.specs.Files.{Files, number_of, ceiling_of}
+use Rattle.jb_disk.specs.Files.{Files, file_number, ceiling_of}
 use Rattle.jb_disk.specs.FileLaws.{number-injective}
 use Rattle.jb_redo.specs.declared.part.Part.{Part}
 use Rattle.jb_redo.specs.declared.sizes.Sizes.{Sizes}
@@ -101,28 +101,28 @@ module _ (files : Files) where
 
   -- no length more, where there is to be one
   pub bad_length : (count read least at : ℕ) (ends : Sizes) → HasLengthsTo files count read least at ends → read < count
-      → ((entry : Length) → IsLegalLength entry → least ≤ number_of entry.file → BeginsWith (journal_from files at) (length_bytes entry) → ⊥) → IsBadAt files at
+      → ((entry : Length) → IsLegalLength entry → least ≤ file_number entry.file → BeginsWith (journal_from files at) (length_bytes entry) → ⊥) → IsBadAt files at
   bad_length count read least at ends has more none = stops_at (Lengths count has.lengths) at has.read_to (λ field next begins. elim next [
-    | inl length_more ↦ none length_more.entry length_more.legal (has.no_less (number_of length_more.entry.file) length_more.later) (subst (BeginsWith (journal_from files at)) length_more.is begins)
+    | inl length_more ↦ none length_more.entry length_more.legal (has.no_less (file_number length_more.entry.file) length_more.later) (subst (BeginsWith (journal_from files at)) length_more.is begins)
     | inr all ↦ absurd (omega (arith, all.all, has.size))
   ])
 
   -- the last of these is below a number as all are
-  last_below : (lengths : List Length) (entry : Length) (number : ℕ) → All (λ other. number_of other.file < number) (lengths ++ entry ∷ []) → number_of entry.file + 1 ≤ number
+  last_below : (lengths : List Length) (entry : Length) (number : ℕ) → All (λ other. file_number other.file < number) (lengths ++ entry ∷ []) → file_number entry.file + 1 ≤ number
   last_below lengths entry number all =
       let last = all (length lengths) entry (omega (arith, length-append lengths (entry ∷ []))) in
       let is : get_or (lengths ++ entry ∷ []) (length lengths) entry ≡ entry = get_or_at lengths entry [] entry (length lengths) refl in
-      let below : number_of entry.file < number = rw is at last in
+      let below : file_number entry.file < number = rw is at last in
       omega (arith, below)
 
   -- one length more
-  pub next_length : (count read least next at : ℕ) (ends now : Sizes) (entry : Length) → next ≡ number_of entry.file → HasLengthsTo files count read least at ends → read < count → IsLegalLength entry → least ≤ number_of entry.file
+  pub next_length : (count read least next at : ℕ) (ends now : Sizes) (entry : Length) → next ≡ file_number entry.file → HasLengthsTo files count read least at ends → read < count → IsLegalLength entry → least ≤ file_number entry.file
       → BeginsWith (journal_from files at) (length_bytes entry) → size_in now ≡ with_size entry (size_in ends) → HasLengthsTo files count (read + 1) (next + 1) (at + 8) now
   next_length count read least next at ends now entry next_is has more legal high begins set = record {
     lengths = has.lengths ++ entry ∷ [];
     size = omega (arith, has.size, length-append has.lengths (entry ∷ []));
     read_to = read_field (Lengths count has.lengths) (Lengths count (has.lengths ++ entry ∷ [])) at (at + 8) (length_bytes entry) has.read_to begins spelled legal_now refl;
-    below = All-push (λ other. number_of other.file < next + 1) has.lengths entry (λ k d low. let b = has.below k d low in omega (arith, b)) (omega arith);
+    below = All-push (λ other. file_number other.file < next + 1) has.lengths entry (λ k d low. let b = has.below k d low in omega (arith, b)) (omega arith);
     no_less = λ number all. let last = last_below has.lengths entry number all in omega (arith, last);
     ends_are = set ∙ ap (with_size entry) has.ends_are ∙ sym (new_sizes-push has.lengths entry (sizes_of files));
   }
@@ -238,7 +238,7 @@ module _ (files : Files) where
 pub within_set : (sizes ends now : Sizes) (entry : Length) → AreWithin sizes ends → IsLegalLength entry → size_in now ≡ with_size entry (size_in ends) → AreWithin sizes now
 within_set sizes ends now entry within legal set file =
     let here : size_in now file ≡ with_size entry (size_in ends) file = ap (λ (f : FileId → ℕ). f file) set in
-    elim (cases_eq (number_of file) (number_of entry.file)) [
+    elim (cases_eq (file_number file) (file_number entry.file)) [
       | inl same ↦
           let len = here ∙ with_size-here entry (size_in ends) file same in
           let below = legal.of_base in

@@ -8,19 +8,19 @@ use Rattle.jb_disk.specs.declared.file.FileId.TheVariants.{Jnl, Ndt}
 use Rattle.jb_disk.specs.declared.piece.Length.{Length}
 use Rattle.jb_disk.specs.declared.piece.Piece.{Piece}
 use Rattle.jb_disk.specs.declared.piece.Piece.TheVariants.{Bytes, Copy}
-use Rattle.jb_disk.specs.Files.{Files, number_of, InFile, IsResized}
+use Rattle.jb_disk.specs.Files.{Files, file_number, InFile, IsResized}
 use Rattle.jb_disk.specs.FileLaws.{same_file, length-of_length}
 use Rattle.jb_disk.specs.ImageLaws.{get-of_length}
 use Rattle.jb_disk.specs.Memory.{of_length}
-use Rattle.jb_disk.specs.Steps.{Span, IsCovered, IsWithin, AgreesBut, Torn, Cut, patched}
+use Rattle.jb_disk.specs.Steps.{Span, IsCovered, AreWithin, AgreesBut, Torn, Cut, patched}
 use Rattle.jb_disk.proofs.StepLemmas.{patched-same}
 use Rattle.jb_disk.specs.Gate.{IsGateOpen, with_gate_closed}
 use Rattle.jb_redo.specs.Laws.{HasOneReplayAtMost}
-use Rattle.jb_redo.specs.OnTheWay.{IsBetween, IsOnTheWay}
+use Rattle.jb_redo.specs.OnTheWay.{IsFileBetween, IsOnTheWay}
 use Rattle.jb_redo.specs.Reading.{IsRecordOf, BeginsWith}
 use Rattle.jb_redo.specs.Record.{record_bytes}
 use Rattle.jb_redo.specs.Replay.{spans_in, applied, IsGrowthCovered, Replays}
-use Rattle.jb_redo.specs.Rules.{sizes_of, new_sizes, IsLegalPiece, IsLegal}
+use Rattle.jb_redo.specs.Rules.{sizes_of, new_sizes, IsLegalPiece, IsLegalRecord}
 use Rattle.jb_redo.proofs.OneReading.{one_record}
 use Rattle.jb_redo.proofs.SizeLemmas.{given_or_not, not_given}
 use Rattle.jb_redo.proofs.SpanLemmas.{no_spans, spans_same, spans_within}
@@ -37,7 +37,7 @@ resized_same len old new same resized =
     get_or_default new k d 0 low ∙ resized.same k (omega arith) (omega arith) ∙ get_or_default old k 0 d (omega arith))
 
 -- a file between two equal lengths into which nothing is written
-between_kept : (len : ℕ) (start now : List ℕ) → len ≡ length start → IsBetween len [] start now → now ≡ start
+between_kept : (len : ℕ) (start now : List ℕ) → len ≡ length start → IsFileBetween len [] start now → now ≡ start
 between_kept len start now same between =
     let a = between.no_shorter in
     let b = between.no_longer in
@@ -47,7 +47,7 @@ between_kept len start now same between =
     ∙ get_or_default start k 0 d (omega arith))
 
 -- a file on its way, of the new length now, and the file from which it came, of that length too
-pub between_agrees : (len : ℕ) (spans : List Span) (start now mid other : List ℕ) → IsBetween len spans start now → IsResized len now mid → IsResized len start other
+pub between_agrees : (len : ℕ) (spans : List Span) (start now mid other : List ℕ) → IsFileBetween len spans start now → IsResized len now mid → IsResized len start other
     → ((i : ℕ) → length start ≤ i → i < len → IsCovered spans i) → AgreesBut (IsCovered spans) mid other
 between_agrees len spans start now mid other between resized from grown =
     let a = between.no_shorter in
@@ -65,13 +65,13 @@ between_agrees len spans start now mid other between resized from grown =
     }
 
 -- where each byte past the old end is written, both come to the same
-pub between_patched : (len : ℕ) (spans : List Span) (start now mid other : List ℕ) → IsWithin spans len → IsBetween len spans start now → IsResized len now mid → IsResized len start other
+pub between_patched : (len : ℕ) (spans : List Span) (start now mid other : List ℕ) → AreWithin spans len → IsFileBetween len spans start now → IsResized len now mid → IsResized len start other
     → ((i : ℕ) → length start ≤ i → i < len → IsCovered spans i) → patched spans mid ≡ patched spans other
 between_patched len spans start now mid other within between resized from grown =
-    patched-same (IsCovered spans) spans mid other (subst (IsWithin spans) (sym resized.size) within) (between_agrees len spans start now mid other between resized from grown) (λ i low covered. covered)
+    patched-same (IsCovered spans) spans mid other (subst (AreWithin spans) (sym resized.size) within) (between_agrees len spans start now mid other between resized from grown) (λ i low covered. covered)
 
 -- files are on the way to what is made of them
-pub between_start : (len : ℕ) (spans : List Span) (start : List ℕ) → IsBetween len spans start start
+pub between_start : (len : ℕ) (spans : List Span) (start : List ℕ) → IsFileBetween len spans start start
 between_start len spans start = record { no_shorter = omega arith; no_longer = omega arith; same = λ i low short. inr refl }
 
 module _ (lengths : List Length) (pieces : List Piece) (start : Files) where
@@ -83,11 +83,11 @@ module _ (lengths : List Length) (pieces : List Piece) (start : Files) where
   pub way_cut : (file : FileId) (before after : Files) → IsOnTheWay lengths pieces start before → InFile file (Cut (new_sizes lengths (sizes_of start) file)) before after
       → IsOnTheWay lengths pieces start after
   way_cut file before after way step other = elim (same_file other file) [
-    | inl same ↦ subst (λ (f : FileId). IsBetween (new_sizes lengths (sizes_of start) f) (spans_in start pieces f) (start f) (after f)) (sym same) here
-    | inr apart ↦ subst (IsBetween (new_sizes lengths (sizes_of start) other) (spans_in start pieces other) (start other)) (sym (step.others other apart)) (way other)
+    | inl same ↦ subst (λ (f : FileId). IsFileBetween (new_sizes lengths (sizes_of start) f) (spans_in start pieces f) (start f) (after f)) (sym same) here
+    | inr apart ↦ subst (IsFileBetween (new_sizes lengths (sizes_of start) other) (spans_in start pieces other) (start other)) (sym (step.others other apart)) (way other)
   ]
     where
-      here : IsBetween (new_sizes lengths (sizes_of start) file) (spans_in start pieces file) (start file) (after file)
+      here : IsFileBetween (new_sizes lengths (sizes_of start) file) (spans_in start pieces file) (start file) (after file)
       here =
           let was = way file in
           let a = was.no_shorter in
@@ -108,11 +108,11 @@ module _ (lengths : List Length) (pieces : List Piece) (start : Files) where
   pub way_torn : (file : FileId) (at len : ℕ) (before after : Files) → IsOnTheWay lengths pieces start before → InFile file (Torn at len) before after
       → ((i : ℕ) → at ≤ i → i < at + len → IsCovered (spans_in start pieces file) i) → IsOnTheWay lengths pieces start after
   way_torn file at len before after way step covers other = elim (same_file other file) [
-    | inl same ↦ subst (λ (f : FileId). IsBetween (new_sizes lengths (sizes_of start) f) (spans_in start pieces f) (start f) (after f)) (sym same) here
-    | inr apart ↦ subst (IsBetween (new_sizes lengths (sizes_of start) other) (spans_in start pieces other) (start other)) (sym (step.others other apart)) (way other)
+    | inl same ↦ subst (λ (f : FileId). IsFileBetween (new_sizes lengths (sizes_of start) f) (spans_in start pieces f) (start f) (after f)) (sym same) here
+    | inr apart ↦ subst (IsFileBetween (new_sizes lengths (sizes_of start) other) (spans_in start pieces other) (start other)) (sym (step.others other apart)) (way other)
   ]
     where
-      here : IsBetween (new_sizes lengths (sizes_of start) file) (spans_in start pieces file) (start file) (after file)
+      here : IsFileBetween (new_sizes lengths (sizes_of start) file) (spans_in start pieces file) (start file) (after file)
       here =
           let was = way file in
           let a = was.no_shorter in
@@ -135,12 +135,12 @@ module _ (lengths : List Length) (pieces : List Piece) (start : Files) where
           }
 
   -- where the record is one over the files at the start
-  module _ (legal : IsLegal (sizes_of start) lengths pieces) (now : Files) (way : IsOnTheWay lengths pieces start now) where
+  module _ (legal : IsLegalRecord (sizes_of start) lengths pieces) (now : Files) (way : IsOnTheWay lengths pieces start now) where
     -- the journal and the shadow of the texts are as they were
-    pub way_kept : (file : FileId) → 4 ≤ number_of file → now file ≡ start file
+    pub way_kept : (file : FileId) → 4 ≤ file_number file → now file ≡ start file
     way_kept file high =
         between_kept (new_sizes lengths (sizes_of start) file) (start file) (now file) (not_given lengths (sizes_of start) file legal.lengths_are.each high)
-        (subst (λ (l : List Span). IsBetween (new_sizes lengths (sizes_of start) file) l (start file) (now file))
+        (subst (λ (l : List Span). IsFileBetween (new_sizes lengths (sizes_of start) file) l (start file) (now file))
         (no_spans (sizes_of start) (new_sizes lengths (sizes_of start)) start pieces file legal.pieces_are.each high) (way file))
 
     -- the files are to have the same lengths
@@ -167,7 +167,7 @@ module _ (lengths : List Length) (pieces : List Piece) (start : Files) where
     way_piece (Copy from from_at to to_at len) is =
         let inside = is.inside in
         let within = is.within in
-        let high : 4 ≤ number_of from = omega (arith, ap number_of is.shadow) in
+        let high : 4 ≤ file_number from = omega (arith, ap file_number is.shadow) in
         record {
           shadow = is.shadow;
           texts = is.texts;
@@ -179,7 +179,7 @@ module _ (lengths : List Length) (pieces : List Piece) (start : Files) where
         }
 
     -- so the record is one over the files on the way
-    pub way_legal : IsLegal (sizes_of now) lengths pieces
+    pub way_legal : IsLegalRecord (sizes_of now) lengths pieces
     way_legal = record {
       lengths_are = legal.lengths_are;
       pieces_are = record { many = legal.pieces_are.many; each = λ k d low. way_piece _ (legal.pieces_are.each k d low) };

@@ -11,9 +11,9 @@ RefusesFor files (Bad at) = IsBadAt files at
 RefusesFor files StoreFault = Unit {0}
 
 -- the answer to whether there is a record; a fault says nothing of the files
-abbrev pub AnswersFor : {T : Type 0} → Files → Result T RecordError → Type 0
-AnswersFor files (Ok value) = HasRecord files
-AnswersFor files (Err error) = RefusesFor files error
+abbrev pub AnswersRecord : {T : Type 0} → Files → Result T RecordError → Type 0
+AnswersRecord files (Ok value) = HasRecord files
+AnswersRecord files (Err error) = RefusesFor files error
 
 -- a fault of the disk, and no record that is bad
 abbrev pub is_record_fault : RecordError → Bool

@@ -3,7 +3,7 @@ use Rattle.std.specs.Prelude.{◌≡◌, ℕ, ◌+◌, ◌^◌, ◌<◌, ◌≤�
 use Rattle.jb_disk.specs.declared.file.FileId.{FileId}
 use Rattle.jb_disk.specs.declared.piece.Piece.{Piece}
 use Rattle.jb_disk.specs.Device.{Device}
-use Rattle.jb_disk.specs.Files.{Files, number_of, written, IsResized}
+use Rattle.jb_disk.specs.Files.{Files, file_number, written, IsResized}
 use Rattle.jb_disk.specs.Runs.{Keeps}
 use Rattle.jb_disk.specs.Steps.{patched, IsCovered}
 use Rattle.jb_disk.specs.declared.piece.Length.{Length}
@@ -17,14 +17,14 @@ use Rattle.jb_redo.specs.Replay.{spans_in}
 use Rattle.jb_redo.specs.Walk.{size_in, HasPiecesTo}
 
 -- bytes go into a file of the base, from one that is none, and both places fit 64 bits
-pub record IsSound (part : Part) : Type 0 where
-  pub source : 4 ≤ number_of part.from
-  pub target : number_of part.to < 4
+pub record IsSoundPart (part : Part) : Type 0 where
+  pub source : 4 ≤ file_number part.from
+  pub target : file_number part.to < 4
   pub from_end : part.from_at + part.len < 2 ^ 64
   pub to_end : part.to_at + part.len < 2 ^ 64
 
 -- the bytes of a part lie within the one file and go within the other
-pub record HasRoom (part : Part) (files : Files) : Type 0 where
+pub record LiesWithin (part : Part) (files : Files) : Type 0 where
   pub inside : part.from_at + part.len ≤ length (files part.from)
   pub within : part.to_at + part.len ≤ length (files part.to)
 

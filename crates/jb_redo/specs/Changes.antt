@@ -5,7 +5,7 @@ use Rattle.jb_disk.specs.RedoView.{RedoView, held_by}
 use Rattle.jb_disk.specs.Files.{Files}
 use Rattle.jb_redo.specs.Record.{record_bytes}
 use Rattle.jb_redo.specs.Replay.{applied, IsGrowthCovered}
-use Rattle.jb_redo.specs.Rules.{sizes_of, AreLegalLengths, IsLegal}
+use Rattle.jb_redo.specs.Rules.{sizes_of, AreLegalLengths, IsLegalRecord}
 
 -- the files with the change done
 abbrev pub changed : RedoView → Files → Files
@@ -23,7 +23,7 @@ pub record IsWritable (change : RedoView) : Type 0 where
 -- of whatever files have the one property the change makes files of which, beside those before, the other is true
 pub record Brings (change : RedoView) (before : Files → Type 0) (after : Files → Files → Type 0) : Type 0 where
   -- it makes a record over them, which writes each byte past an old end
-  pub legal : (files : Files) → before files → IsLegal (sizes_of files) change.lengths change.pieces
+  pub legal : (files : Files) → before files → IsLegalRecord (sizes_of files) change.lengths change.pieces
   pub grown : (files : Files) → before files → IsGrowthCovered change.lengths change.pieces files
   -- what the files are then
   pub made : (files : Files) → before files → after files (changed change files)

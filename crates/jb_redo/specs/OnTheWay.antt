@@ -9,7 +9,7 @@ use Rattle.jb_redo.specs.Replay.{spans_in}
 use Rattle.jb_redo.specs.Rules.{sizes_of, new_sizes}
 
 -- one file on the way: any length between the old and the new one, any bytes where pieces go and where it grew
-pub record IsBetween (len : ℕ) (spans : List Span) (start now : List ℕ) : Type 0 where
+pub record IsFileBetween (len : ℕ) (spans : List Span) (start now : List ℕ) : Type 0 where
   pub no_shorter : min (length start) len ≤ length now
   pub no_longer : length now ≤ max (length start) len
   pub same : (i : ℕ) → i < length start → i < len → IsCovered spans i ⊎ (slice_index now i ≡ slice_index start i)
@@ -17,4 +17,4 @@ pub record IsBetween (len : ℕ) (spans : List Span) (start now : List ℕ) : Ty
 -- each of the files is on its way; so the journal and the shadow of the texts are as they were
 abbrev pub IsOnTheWay : List Length → List Piece → Files → Files → Type 0
 IsOnTheWay lengths pieces start now = (file : FileId)
-    → IsBetween (new_sizes lengths (sizes_of start) file) (spans_in start pieces file) (start file) (now file)
+    → IsFileBetween (new_sizes lengths (sizes_of start) file) (spans_in start pieces file) (start file) (now file)

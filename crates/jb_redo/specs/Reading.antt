@@ -8,7 +8,7 @@ use Rattle.jb_disk.specs.declared.piece.Length.{Length}
 use Rattle.jb_disk.specs.declared.piece.Piece.{Piece}
 use Rattle.jb_disk.specs.Files.{Files}
 use Rattle.jb_redo.specs.Record.{record_head, record_end, length_bytes, piece_bytes, record_bytes}
-use Rattle.jb_redo.specs.Rules.{sizes_of, new_sizes, IsLegalLength, IsBefore, IsLegalPiece, AreLegalLengths, IsLegal}
+use Rattle.jb_redo.specs.Rules.{sizes_of, new_sizes, IsLegalLength, IsBefore, IsLegalPiece, AreLegalLengths, IsLegalRecord}
 
 -- the bytes of the journal behind its sixteen bytes of head
 abbrev pub record_part : Files → List ℕ
@@ -21,7 +21,7 @@ pub record BeginsWith (bytes first : List ℕ) : Type 0 where
 
 -- the journal holds the record of these lengths and pieces
 pub record IsRecordOf (files : Files) (lengths : List Length) (pieces : List Piece) : Type 0 where
-  pub legal : IsLegal (sizes_of files) lengths pieces
+  pub legal : IsLegalRecord (sizes_of files) lengths pieces
   pub begins : BeginsWith (record_part files) (record_bytes lengths pieces)
 
 -- the journal holds a record

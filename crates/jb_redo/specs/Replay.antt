@@ -4,7 +4,7 @@ use Rattle.jb_disk.specs.declared.file.FileId.{FileId}
 use Rattle.jb_disk.specs.declared.piece.Length.{Length}
 use Rattle.jb_disk.specs.declared.piece.Piece.{Piece}
 use Rattle.jb_disk.specs.declared.piece.Piece.TheVariants.{Bytes, Copy}
-use Rattle.jb_disk.specs.Files.{Files, number_of}
+use Rattle.jb_disk.specs.Files.{Files, file_number}
 use Rattle.jb_disk.specs.Memory.{of_length}
 use Rattle.jb_disk.specs.Steps.{Span, IsCovered, patched}
 use Rattle.jb_disk.specs.Gate.{IsGateOpen, with_gate_closed}
@@ -23,7 +23,7 @@ span_of files (Copy from from_at to to_at len) = record { at = to_at; bytes = ta
 
 -- whether a piece is written into this file
 abbrev pub writes : FileId → Piece → Bool
-writes file piece = number_of (target_of piece) == number_of file
+writes file piece = file_number (target_of piece) == file_number file
 
 -- what the pieces write into one file, in order
 abbrev pub spans_in : Files → List Piece → FileId → List Span

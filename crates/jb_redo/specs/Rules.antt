@@ -5,7 +5,7 @@ use Rattle.jb_disk.specs.declared.file.FileId.TheVariants.{Jdt, Ndt}
 use Rattle.jb_disk.specs.declared.piece.Length.{Length}
 use Rattle.jb_disk.specs.declared.piece.Piece.{Piece}
 use Rattle.jb_disk.specs.declared.piece.Piece.TheVariants.{Bytes, Copy}
-use Rattle.jb_disk.specs.Files.{Files, number_of, ceiling_of}
+use Rattle.jb_disk.specs.Files.{Files, file_number, ceiling_of}
 
 -- the lengths of these files
 abbrev pub sizes_of : Files → FileId → ℕ
@@ -13,7 +13,7 @@ sizes_of files file = length (files file)
 
 -- the files' lengths after one of them is set
 abbrev pub with_size : Length → (FileId → ℕ) → FileId → ℕ
-with_size entry sizes file = if number_of file == number_of entry.file then entry.len else sizes file
+with_size entry sizes file = if file_number file == file_number entry.file then entry.len else sizes file
 
 -- and after all of these are set, in order
 abbrev pub new_sizes : List Length → (FileId → ℕ) → FileId → ℕ
@@ -22,16 +22,16 @@ new_sizes (entry ∷ lengths) sizes = new_sizes lengths (with_size entry sizes)
 
 -- a new length of one of the four files of the base, at most the file's ceiling
 pub record IsLegalLength (entry : Length) : Type 0 where
-  pub of_base : number_of entry.file < 4
+  pub of_base : file_number entry.file < 4
   pub ceiling : entry.len ≤ ceiling_of entry.file
 
 -- of two new lengths the later one is of a later file
 abbrev pub IsBefore : Length → Length → Type 0
-IsBefore entry later = number_of entry.file < number_of later.file
+IsBefore entry later = file_number entry.file < file_number later.file
 
 -- given bytes of a piece: they go into a file of the base, and end at or below its length, which may be new
 pub record AreLegalBytes (ends : FileId → ℕ) (file : FileId) (at : ℕ) (bytes : List ℕ) : Type 0 where
-  pub of_base : number_of file < 4
+  pub of_base : file_number file < 4
   pub place : at < 2 ^ 32
   pub size : length bytes < 2 ^ 32
   pub within : at + length bytes ≤ ends file
@@ -63,6 +63,6 @@ pub record AreLegalPieces (sizes : FileId → ℕ) (lengths : List Length) (piec
   pub each : All (IsLegalPiece sizes (new_sizes lengths sizes)) pieces
 
 -- lengths and pieces that make a record over files of these sizes
-pub record IsLegal (sizes : FileId → ℕ) (lengths : List Length) (pieces : List Piece) : Type 0 where
+pub record IsLegalRecord (sizes : FileId → ℕ) (lengths : List Length) (pieces : List Piece) : Type 0 where
   pub lengths_are : AreLegalLengths lengths
   pub pieces_are : AreLegalPieces sizes lengths pieces

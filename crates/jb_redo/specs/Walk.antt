@@ -5,7 +5,7 @@ use Rattle.jb_disk.specs.declared.file.FileId.{FileId}
 use Rattle.jb_disk.specs.declared.file.FileId.TheVariants.{Jdt, Jnl, Ndt}
 use Rattle.jb_disk.specs.declared.piece.Length.{Length}
 use Rattle.jb_disk.specs.declared.piece.Piece.{Piece}
-use Rattle.jb_disk.specs.Files.{Files, number_of, ceiling_of}
+use Rattle.jb_disk.specs.Files.{Files, file_number, ceiling_of}
 use Rattle.jb_redo.specs.declared.part.Front.{Front}
 use Rattle.jb_redo.specs.declared.part.Front.TheVariants.{Bytes, Copy}
 use Rattle.jb_redo.specs.declared.part.Part.{Part}
@@ -17,7 +17,7 @@ use Rattle.jb_redo.specs.Replay.{target_of, span_of}
 
 -- the length that is kept of a file
 abbrev pub size_in : Sizes → FileId → ℕ
-size_in sizes file = slice_index sizes.by_file (number_of file)
+size_in sizes file = slice_index sizes.by_file (file_number file)
 
 -- these are the lengths of the files
 abbrev pub AreSizes : Sizes → Files → Type 0
@@ -38,8 +38,8 @@ pub record HasLengthsTo (files : Files) (count read least at : ℕ) (ends : Size
   pub lengths : List Length
   pub size : length lengths ≡ read
   pub read_to : IsReadTo files (Lengths count lengths) at
-  pub below : All (λ entry. number_of entry.file < least) lengths
-  pub no_less : (number : ℕ) → All (λ entry. number_of entry.file < number) lengths → least ≤ number
+  pub below : All (λ entry. file_number entry.file < least) lengths
+  pub no_less : (number : ℕ) → All (λ entry. file_number entry.file < number) lengths → least ≤ number
   pub ends_are : size_in ends ≡ new_sizes lengths (sizes_of files)
 
 -- the record's lengths are read up to this place, and the files end there then
@@ -51,16 +51,16 @@ pub record HasLengths (files : Files) (at : ℕ) (ends : Sizes) : Type 0 where
 -- a length that was kept before, or one that a file may be given
 abbrev pub AreWithin : Sizes → Sizes → Type 0
 AreWithin sizes ends = (file : FileId)
-    → (size_in ends file ≡ size_in sizes file) ⊎ (number_of file < 4) × (size_in ends file ≤ ceiling_of file)
+    → (size_in ends file ≡ size_in sizes file) ⊎ (file_number file < 4) × (size_in ends file ≤ ceiling_of file)
 
 -- the twelve bytes before what a piece brings with it: kind, files, a zero byte, place and length
 abbrev pub front_bytes : Front → List ℕ
-front_bytes (Bytes to at len) = 0 ∷ number_of to ∷ 0 ∷ 0 ∷ number_bytes 4 at ++ number_bytes 4 len
-front_bytes (Copy at len) = 1 ∷ number_of Jdt ∷ number_of Ndt ∷ 0 ∷ number_bytes 4 at ++ number_bytes 4 len
+front_bytes (Bytes to at len) = 0 ∷ file_number to ∷ 0 ∷ 0 ∷ number_bytes 4 at ++ number_bytes 4 len
+front_bytes (Copy at len) = 1 ∷ file_number Jdt ∷ file_number Ndt ∷ 0 ∷ number_bytes 4 at ++ number_bytes 4 len
 
 -- its numbers fit their bytes, and it goes into a file of the base
 abbrev pub IsLegalFront : Front → Type 0
-IsLegalFront (Bytes to at len) = (at < 2 ^ 32) × (len < 2 ^ 32) × (number_of to < 4)
+IsLegalFront (Bytes to at len) = (at < 2 ^ 32) × (len < 2 ^ 32) × (file_number to < 4)
 IsLegalFront (Copy at len) = (at < 2 ^ 32) × (len < 2 ^ 32)
 
 -- a piece at this place of the journal, whose bytes stand behind its front

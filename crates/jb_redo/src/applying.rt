@@ -7,7 +7,7 @@ ghost use Rattle.jb_disk.specs.declared.piece.Piece.{Piece};
 ghost use Rattle.jb_disk.specs.Device.{Turns, TellsAlike, CountsFaults, is_disk_fault};
 ghost use Rattle.jb_disk.specs.Files.{Files, InFile, IsResized};
 ghost use Rattle.jb_disk.specs.Runs.{Keeps};
-ghost use Rattle.jb_redo.specs.Applying.{IsSound, HasRoom, copied, copied_chunk, AreResized, KeepsInRange, KeepsWay, ArePieced, HasPieced, IsFault};
+ghost use Rattle.jb_redo.specs.Applying.{IsSoundPart, LiesWithin, copied, copied_chunk, AreResized, KeepsInRange, KeepsWay, ArePieced, HasPieced, IsFault};
 ghost use Rattle.jb_redo.specs.Answers.{is_record_fault};
 ghost use Rattle.jb_redo.specs.Laws.{HasOneReplayAtMost, ReplayOnTheWay};
 ghost use Rattle.jb_redo.specs.Reading.{HasRecord};
@@ -35,9 +35,9 @@ fn copy_chunk<D: Disk>(
     done: u64,
     chunk: &mut [u8],
 ) -> Result<(), DiskFailed>
-    requires sound { IsSound part.now }
+    requires sound { IsSoundPart part.now }
     requires behind { done + length chunk.old ≤ part.now.len }
-    requires room { ForSome (D.device disk.old).contents (HasRoom part.now) }
+    requires room { ForSome (D.device disk.old).contents (LiesWithin part.now) }
 
     // What a read gives then.
     ensures size { length chunk.new ≡ length chunk.old }
@@ -56,9 +56,9 @@ fn copy_chunk<D: Disk>(
 
 /// Copies all bytes of a part, as many at once as the buffer has.
 fn copy_part<D: Disk>(disk: &mut D, part: &Part, buffer: &mut [u8]) -> Result<(), DiskFailed>
-    requires sound { IsSound part.now }
+    requires sound { IsSoundPart part.now }
     requires some { 0 < length buffer.old }
-    requires room { ForSome (D.device disk.old).contents (HasRoom part.now) }
+    requires room { ForSome (D.device disk.old).contents (LiesWithin part.now) }
 
     // What a read gives then.
     ensures size { length buffer.new ≡ length buffer.old }

@@ -2,7 +2,7 @@
 ghost use Rattle.std.specs.Prelude.{◌≡◌, ◌<◌, ◌≤◌, IfSome, IfNone, IsTrue, ◌↔◌};
 ghost use Rattle.jb_bytes.specs.Number.{number_bytes};
 ghost use Rattle.jb_disk.specs.declared.piece.Length.{Length};
-ghost use Rattle.jb_disk.specs.Files.{number_of, ceiling_of};
+ghost use Rattle.jb_disk.specs.Files.{file_number, ceiling_of};
 ghost use Rattle.jb_redo.specs.Record.{length_bytes};
 ghost use Rattle.jb_redo.specs.Rules.{IsLegalLength};
 
@@ -25,7 +25,7 @@ pub(crate) fn is_same(bytes: &[u8; 4], mark: &[u8; 4]) -> bool
 
 /// The file of the base that has this number.
 pub(crate) fn base_file(number: u8) -> Option<FileId>
-    ensures found { IfSome result (λ file. (number_of file ≡ number) × (number < 4)) }
+    ensures found { IfSome result (λ file. (file_number file ≡ number) × (number < 4)) }
     ensures none { IfNone result (4 ≤ number) }
 {
     match number {
@@ -39,7 +39,7 @@ pub(crate) fn base_file(number: u8) -> Option<FileId>
 
 /// The greatest length that a file of the base is given.
 fn base_ceiling(file: FileId) -> u64
-    requires { number_of file < 4 }
+    requires { file_number file < 4 }
     ensures { result ≡ ceiling_of file }
 {
     match file {
@@ -54,9 +54,9 @@ fn base_ceiling(file: FileId) -> u64
 /// The new length that has these bytes, if there is one for a file whose number is at least `least`.
 pub(crate) fn decode_length(bytes: &[u8; 8], least: u8) -> Option<Length>
     ensures found { IfSome result (λ entry.
-        (bytes.now ≡ length_bytes entry) × IsLegalLength entry × (least ≤ number_of entry.file)) }
+        (bytes.now ≡ length_bytes entry) × IsLegalLength entry × (least ≤ file_number entry.file)) }
     ensures none { IfNone result ((entry : Length)
-        → IsLegalLength entry → least ≤ number_of entry.file → bytes.now ≡ length_bytes entry → ⊥) }
+        → IsLegalLength entry → least ≤ file_number entry.file → bytes.now ≡ length_bytes entry → ⊥) }
 {
     let [number, 0, 0, 0, a, b, c, d] = *bytes else {
         return None;

@@ -2,7 +2,7 @@
 ghost use Rattle.std.specs.Prelude.{◌≡◌, ◌+◌, ◌<◌, ◌≤◌, IfOk, IfErr, IfSome, IfNone, [], length};
 ghost use Rattle.std.specs.Option.{ForSome};
 ghost use Rattle.jb_disk.specs.Device.{OnlyReads, CountsFaults, is_disk_fault};
-ghost use Rattle.jb_disk.specs.Files.{number_of};
+ghost use Rattle.jb_disk.specs.Files.{file_number};
 ghost use Rattle.jb_disk.specs.declared.file.FileId.TheVariants.{Jnl as journal};
 ghost use Rattle.jb_disk.specs.declared.piece.Length.{Length};
 ghost use Rattle.jb_redo.specs.Answers.{is_record_fault, RefusesFor};
@@ -41,12 +41,12 @@ fn read_length<D: Disk>(
     // The length, where one stands there.
     ensures within { IfOk result (λ some. IfSome some (λ entry. at + 8 ≤ end)) }
     ensures legal { IfOk result (λ some. IfSome some (λ entry.
-        IsLegalLength entry × (least ≤ number_of entry.file))) }
+        IsLegalLength entry × (least ≤ file_number entry.file))) }
     ensures found { IfOk result (λ some. IfSome some (λ entry.
         ForSome (D.device disk.old).contents (λ files.
         BeginsWith (journal_from files at) (length_bytes entry)))) }
     ensures none { IfOk result (λ some. IfNone some (ForSome (D.device disk.old).contents (λ files.
-        (entry : Length) → IsLegalLength entry → least ≤ number_of entry.file
+        (entry : Length) → IsLegalLength entry → least ≤ file_number entry.file
         → BeginsWith (journal_from files at) (length_bytes entry) → ⊥))) }
 
     // The disk is only read.

@@ -1,8 +1,8 @@
 //! A piece as it stands in the journal: where its bytes are, and where they go.
 ghost use Rattle.std.specs.Prelude.{◌≡◌, ◌+◌, ◌<◌, ◌≤◌, IfSome, IfNone};
 ghost use Rattle.jb_disk.specs.declared.file.FileId.TheVariants.{Jdt as texts, Ndt as shadow};
-ghost use Rattle.jb_disk.specs.Files.{number_of};
-ghost use Rattle.jb_redo.specs.Applying.{IsSound};
+ghost use Rattle.jb_disk.specs.Files.{file_number};
+ghost use Rattle.jb_redo.specs.Applying.{IsSoundPart};
 ghost use Rattle.jb_redo.specs.declared.part.Front.{Front};
 ghost use Rattle.jb_redo.specs.Walk.{size_in, front_bytes, IsLegalFront, given_part_of, copied_part_of};
 
@@ -64,7 +64,7 @@ pub(crate) fn given_part(
     requires { at + 12 ≤ end }
     ensures found { IfSome result (λ part. (part ≡ given_part_of at to to_at len)
         × (at + 12 + len ≤ end) × (to_at + len ≤ size_in ends.now to)) }
-    ensures sound { number_of to < 4 → IfSome result IsSound }
+    ensures sound { file_number to < 4 → IfSome result IsSoundPart }
     ensures none { IfNone result (at + 12 + len ≤ end → to_at + len ≤ size_in ends.now to → ⊥) }
 {
     let from_at = at + FRONT_BYTES as u64;
@@ -95,7 +95,7 @@ pub(crate) fn copied_part(
     requires { at + 16 ≤ 18446744073709551615 }
     ensures found { IfSome result (λ part. (part ≡ copied_part_of at from_at to_at len)
         × (from_at + len ≤ size_in sizes.now shadow) × (to_at + len ≤ size_in ends.now texts)) }
-    ensures sound { IfSome result IsSound }
+    ensures sound { IfSome result IsSoundPart }
     ensures none { IfNone result
         (from_at + len ≤ size_in sizes.now shadow → to_at + len ≤ size_in ends.now texts → ⊥) }
 {

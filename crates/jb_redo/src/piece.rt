@@ -3,7 +3,7 @@ ghost use Rattle.std.specs.Prelude.{◌+◌, ◌<◌, ◌≤◌, IfOk, IfSome, I
 ghost use Rattle.std.specs.Option.{ForSome};
 ghost use Rattle.jb_disk.specs.Device.{OnlyReads, CountsFaults, is_disk_fault};
 ghost use Rattle.jb_disk.specs.declared.file.FileId.TheVariants.{Jnl as journal};
-ghost use Rattle.jb_redo.specs.Applying.{IsSound};
+ghost use Rattle.jb_redo.specs.Applying.{IsSoundPart};
 ghost use Rattle.jb_redo.specs.Reading.{BeginsWith};
 ghost use Rattle.jb_redo.specs.declared.part.Front.TheVariants.{Copy as copy};
 ghost use Rattle.jb_redo.specs.Walk.{size_in, journal_from, front_bytes, AreFixedSizes, IsPartAt, HasNoPieceAt};
@@ -29,7 +29,7 @@ fn read_copy<D: Disk>(
 
     // The copy, where one stands there.
     ensures within { IfOk result (λ some. IfSome some (λ part. part.behind ≤ size_in sizes.now journal)) }
-    ensures sound { IfOk result (λ some. IfSome some IsSound) }
+    ensures sound { IfOk result (λ some. IfSome some IsSoundPart) }
     ensures found { IfOk result (λ some. IfSome some (λ part. ForSome (D.device disk.old).contents (λ files.
         IsPartAt files ends.now at part))) }
     ensures none { IfOk result (λ some. IfNone some (ForSome (D.device disk.old).contents (λ files.
@@ -58,7 +58,7 @@ pub(crate) fn read_part<D: Disk>(
 
     // The piece, where one stands there.
     ensures within { IfOk result (λ some. IfSome some (λ part. part.behind ≤ size_in sizes.now journal)) }
-    ensures sound { IfOk result (λ some. IfSome some IsSound) }
+    ensures sound { IfOk result (λ some. IfSome some IsSoundPart) }
     ensures found { IfOk result (λ some. IfSome some (λ part. ForSome (D.device disk.old).contents (λ files.
         IsPartAt files ends.now at part))) }
     ensures none { IfOk result (λ some. IfNone some (ForSome (D.device disk.old).contents (λ files.

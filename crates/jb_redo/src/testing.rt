@@ -2,7 +2,7 @@
 ghost use Rattle.std.specs.Prelude.{◌<◌, IfOk, IfErr};
 ghost use Rattle.std.specs.Option.{ForSome};
 ghost use Rattle.jb_disk.specs.Device.{OnlyReads, CountsFaults};
-ghost use Rattle.jb_redo.specs.Answers.{AnswersFor, is_record_fault, RefusesFor};
+ghost use Rattle.jb_redo.specs.Answers.{AnswersRecord, is_record_fault, RefusesFor};
 ghost use Rattle.jb_redo.specs.Laws.{HasOneBadPlaceAtMost, HasOneRecordAtMost, HasRecordOrBadPlace};
 ghost use Rattle.jb_redo.specs.Walk.{AreSizes, HasLengths, HasPieces};
 
@@ -52,7 +52,7 @@ fn test_pieces<D: Disk>(
 
 /// The journal's record, walked through.
 fn walk_record<D: Disk>(disk: &mut D) -> Result<(), RecordError>
-    ensures answer { ForSome (D.device disk.old).contents (λ files. AnswersFor files result) }
+    ensures answer { ForSome (D.device disk.old).contents (λ files. AnswersRecord files result) }
     ensures kept { OnlyReads (D.device disk.old) (D.device disk.new) }
     ensures faults { CountsFaults is_record_fault (D.device disk.old) (D.device disk.new) result }
 {
@@ -73,7 +73,7 @@ fn walk_record<D: Disk>(disk: &mut D) -> Result<(), RecordError>
 /// memory.
 pub fn test_record<D: Disk>(disk: &mut D) -> Result<(), RecordError>
     // What the files say, where the disk tells them: they hold one record, or there is one place where it stops.
-    ensures answer { ForSome (D.device disk.old).contents (λ files. AnswersFor files result) }
+    ensures answer { ForSome (D.device disk.old).contents (λ files. AnswersRecord files result) }
     ensures one { HasOneRecordAtMost × HasOneBadPlaceAtMost × HasRecordOrBadPlace }
 
     // On every disk.

@@ -10,7 +10,7 @@ use Rattle.jb_model.specs.declared.entry.Entry.{Entry}
 use Rattle.jb_shared.specs.Passes.{Known, PassView, first_known}
 use Rattle.jb_shared.specs.declared.opening.Opening.{Opening}
 use Rattle.jb_run.specs.All.{Abandons, ClosesAll, OpenAs}
-use Rattle.jb_run.specs.Lives.{Ends, KeepsArea, Leaves, GoesOnFrom}
+use Rattle.jb_run.specs.Lives.{Ends, KeepsArea, LeavesArea, GoesOnFrom}
 use Rattle.jb_run.proofs.EndLemmas.{known_here}
 use Rattle.jb_run.proofs.WholeLemmas.{nobody}
 
@@ -23,11 +23,11 @@ keeps_area by before after opening row is_doubtful opens fresh ends =
     let is : longest.0 ≡ first_known (place.0 + 1) opening = sym place.2 ∙ fresh place.0 place.1 in
     let same : opening ≡ ends.opening = same_Some opening ends.opening (sym (ap (λ (k : Known). k.opening) is) ∙ (ends.each longest.0 longest.1).from) in
     let nothing : ends.history ≡ [] = sym longest.2 ∙ ap (λ (k : Known). k.front) is in
-    let settled : Leaves ends.opening [] is_doubtful after = subst (λ (h : List Entry). Leaves ends.opening h is_doubtful after) nothing ends.leaves in
+    let settled : LeavesArea ends.opening [] is_doubtful after = subst (λ (h : List Entry). LeavesArea ends.opening h is_doubtful after) nothing ends.leaves in
     record {
       opening = ends.opening;
       opens = subst (GoesOnFrom by before) same opens;
-      leaves = subst (λ (b : Bool). Leaves ends.opening [] b after) settled.stopped settled;
+      leaves = subst (λ (b : Bool). LeavesArea ends.opening [] b after) settled.stopped settled;
     }
 
 -- areas of which no node has seen anything are closed

@@ -3,7 +3,7 @@ use Rattle.std.proofs.Common.{◌≡◌, ℕ, zero, suc, ◌<◌, Bool, List, []
 use Rattle.std.specs.Prelude.{slice_index_or}
 use mathlib.Core.Option.{some-injective}
 use Rattle.jb_run.specs.All.{EndsAt}
-use Rattle.jb_run.specs.Lives.{Ends, Leaves}
+use Rattle.jb_run.specs.Lives.{Ends, LeavesArea}
 use Rattle.jb_run.specs.Rows.{IsColumn}
 use Rattle.jb_disk.specs.Device.{Device}
 use Rattle.jb_model.specs.History.{calls_of}
@@ -27,7 +27,7 @@ ends_alone pass is_doubtful after ends =
     record {
       opening = ends.opening;
       from = part.from;
-      leaves = subst (λ (h : List Entry). Leaves ends.opening h is_doubtful after) (sym same) ends.leaves;
+      leaves = subst (λ (h : List Entry). LeavesArea ends.opening h is_doubtful after) (sym same) ends.leaves;
       mine = ap (calls_of pass.known.node) same ∙ part.mine;
       others = λ node other.
           ap (calls_of node) same ∙ ends.others node (λ has. other (sym has.2 ∙ ap (λ (k : Known). k.node) (sym (has_one pass.known has.0 has.1))));

@@ -4,7 +4,7 @@ use Rattle.std.specs.Option.{ForSome}
 use Rattle.jb_area.specs.Area.{device_of, rules_of}
 use Rattle.jb_area.specs.Calls.{HasRest}
 use Rattle.jb_area.specs.declared.area.OpenArea.{OpenArea}
-use Rattle.jb_area_open.specs.Opening.{IsOpenAt, KeepsOpening, OpensAs, OpensAsAtStart, OpensFirmly, Refuses, device_after, is_opening_fault}
+use Rattle.jb_area_open.specs.Opening.{IsOpenAt, KeepsOpening, OpensAs, OpensAsAtStart, OpensFirmly, Refuses, opened_device, is_opening_fault}
 use Rattle.jb_area_open.specs.declared.error.OpeningError.{OpeningError}
 use Rattle.jb_area_open.specs.declared.error.OpeningError.TheVariants.{Base}
 use Rattle.jb_base.specs.declared.area.AreaRules.{AreaRules}
@@ -16,7 +16,7 @@ use Rattle.jb_disk.specs.Runs.{LeavesNow}
 use Rattle.jb_disk.proofs.RunLemmas.{runs-refl}
 use Rattle.jb_image.specs.declared.error.OpenError.TheVariants.{StoreFault}
 use Rattle.jb_journal.specs.Recover.{IsGrowthSafe}
-use Rattle.jb_run.specs.AreasErrors.{RefusesDisk, of_opening}
+use Rattle.jb_run.specs.AreasErrors.{RefusesDisk, refused_at}
 use Rattle.jb_run.specs.Lives.{OpensOver}
 
 -- what was only read, and counts no fault more, is as it was
@@ -38,7 +38,7 @@ leaves_first (now ∷ earlier) = λ files image. record { was = files; might = i
 
 -- a claim that was refused leaves what was there
 pub refuses_claim : (place slots : ℕ) (before after : Device) → OnlyReads before after → Rose before.faults after.faults → before.faults ≤ after.faults
-    → RefusesDisk place slots before after (of_opening place (Base StoreFault))
+    → RefusesDisk place slots before after (refused_at place (Base StoreFault))
 refuses_claim place slots before after reads rose later = record {
   why = Base StoreFault;
   is = refl;
@@ -52,8 +52,8 @@ refuses_claim place slots before after reads rose later = record {
 module _ {D : Type 0} (shown : D → Device) (by : AreaRules) (before : Device) where
   -- an area that was opened
   pub opens_over : (result : Result (OpenArea D) (D × OpeningError)) → IfOk result (λ area. rules_of area ≡ by) → IfOk result (HasRest shown)
-      → IfOk result (λ area. ForSome before.contents (λ was. IsGrowthSafe was → IsOpenAt shown was area)) → OnOk result ((device_after shown result).faults ≡ before.faults)
-      → KeepsOpening before (device_after shown result) → OpensFirmly before (device_after shown result) → TellsAlike before (device_after shown result)
+      → IfOk result (λ area. ForSome before.contents (λ was. IsGrowthSafe was → IsOpenAt shown was area)) → OnOk result ((opened_device shown result).faults ≡ before.faults)
+      → KeepsOpening before (opened_device shown result) → OpensFirmly before (opened_device shown result) → TellsAlike before (opened_device shown result)
       → IfOk result (OpensOver shown by before)
   opens_over (Ok area) rules rest opens faults crash firm alike =
       record { rules = rules; rest = rest; opens = opens; faults = faults; crash = crash; firm = firm; alike = alike }
@@ -61,9 +61,9 @@ module _ {D : Type 0} (shown : D → Device) (by : AreaRules) (before : Device) 
 
   -- and one that was refused
   pub refuses_disk : (result : Result (OpenArea D) (D × OpeningError)) → IfErr result (λ back. Refuses by.slots before (shown back.0) back.1)
-      → IfErr result (λ back. RoseIf (is_opening_fault back.1) before.faults (device_after shown result).faults) → KeepsOpening before (device_after shown result)
-      → OpensFirmly before (device_after shown result) → before.faults ≤ (device_after shown result).faults
-      → IfErr result (λ back. (place : ℕ) → RefusesDisk place by.slots before (shown back.0) (of_opening place back.1))
+      → IfErr result (λ back. RoseIf (is_opening_fault back.1) before.faults (opened_device shown result).faults) → KeepsOpening before (opened_device shown result)
+      → OpensFirmly before (opened_device shown result) → before.faults ≤ (opened_device shown result).faults
+      → IfErr result (λ back. (place : ℕ) → RefusesDisk place by.slots before (shown back.0) (refused_at place back.1))
   refuses_disk (Ok area) refuses cause crash firm later = tt
   refuses_disk (Err back) refuses cause crash firm later =
       λ place. record { why = back.1; is = refl; refuses = refuses; cause = cause; crash = crash; firm = firm; later = later }

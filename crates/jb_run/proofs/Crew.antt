@@ -24,7 +24,7 @@ use Rattle.jb_session.specs.Exchanges.{AreOf}
 use Rattle.jb_shared.specs.Passes.{PassView}
 use Rattle.jb_shared.specs.declared.shared.SharedArea.{SharedArea}
 use Rattle.jb_run.specs.Lines.{HandsDoors, PutsDoors}
-use Rattle.jb_run.specs.Workers.{AddsNode, AreNodes, AreReady, HasNodes, IsNode, IsReady, PackerIsReady, PartsLast, Rows, gate_of, gates_of, packer, passes_of, tallies_of, tally_of, with_passes}
+use Rattle.jb_run.specs.Workers.{AddsNode, AreNodes, AreReady, HasNodes, IsNode, IsFreshWorker, PackerIsReady, PartsLast, Rows, gate_of, gates_of, packer, worker_passes, tallies_of, tally_of, with_passes}
 use Rattle.jb_run.specs.Working.{AreAllOf, WorkAll, WorkToTheEnd}
 use Rattle.jb_run.proofs.Doors.{hands_more, hands_none, puts_more, puts_none}
 use Rattle.jb_run.proofs.Lists.{any_push, last_of, numbered_as, numbered_more, numbered_none, one_of, rows_given}
@@ -32,7 +32,7 @@ use Rattle.jb_run.proofs.Lists.{any_push, last_of, numbered_as, numbered_more, n
 module _ {R B C : Type 0} (gate : R → Gate) (reading : C → Option ℕ) (board : Board) (most : Option ℕ) where
   -- no node is ready
   pub has_none : (host : Desk) → HasNodes {B = B} gate reading board most [] host host
-  has_none host = record { doors = hands_none board.port most host; ready = numbered_none (IsReady reading host.reading) }
+  has_none host = record { doors = hands_none board.port most host; ready = numbered_none (IsFreshWorker reading host.reading) }
 
   -- a node more is ready
   pub has_more : (fewer more : List (Worker R B C)) (old mid new : Desk) → HasNodes gate reading board most fewer old mid
@@ -48,17 +48,17 @@ module _ {R B C : Type 0} (gate : R → Gate) (reading : C → Option ℕ) (boar
         doors = subst (λ (all : List Gate). HandsDoors board.port most all old new) (sym gates)
             (hands_more board.port most (gates_of gate fewer) (gate_of gate one) old mid new has.doors gives);
         ready = subst (λ (all : List (Worker R B C)). AreReady reading old.reading all) (sym adds.is)
-            (numbered_more (IsReady reading old.reading) fewer one has.ready
-            (subst (λ (shown : Option ℕ). IsReady reading shown (length fewer + 1) one) same adds.ready));
+            (numbered_more (IsFreshWorker reading old.reading) fewer one has.ready
+            (subst (λ (shown : Option ℕ). IsFreshWorker reading shown (length fewer + 1) one) same adds.ready));
       }
 
 -- what is ready is a node
-is_node : {R B C : Type 0} (reading : C → Option ℕ) (shown : Option ℕ) (n : ℕ) (one : Worker R B C) → IsReady reading shown n one → IsNode n one
+is_node : {R B C : Type 0} (reading : C → Option ℕ) (shown : Option ℕ) (n : ℕ) (one : Worker R B C) → IsFreshWorker reading shown n one → IsNode n one
 is_node reading shown n (Node slot) ready = ready.0
 is_node reading shown n (Packer slot) ready = ready
 
 pub are_nodes : {R B C : Type 0} (reading : C → Option ℕ) (shown : Option ℕ) (workers : List (Worker R B C)) → AreReady reading shown workers → AreNodes workers
-are_nodes reading shown workers ready = numbered_as (IsReady reading shown) IsNode workers (is_node reading shown) ready
+are_nodes reading shown workers ready = numbered_as (IsFreshWorker reading shown) IsNode workers (is_node reading shown) ready
 
 -- of doors, bells and clocks that show themselves so
 module _ {R B C : Type 0} (gate : R → Gate) (rings : B → Rings) (reading : C → Option ℕ) (shown : Option ℕ) (board : Board) where
@@ -69,9 +69,9 @@ module _ {R B C : Type 0} (gate : R → Gate) (rings : B → Rings) (reading : C
   -- a node that was ready has worked
   pub record NodeIsDone (n : ℕ) (old new : Worker R B C) : Type 0 where
     pub node : IsNode n new
-    pub works : NodeWorks shown board (gate_of gate old) (passes_of old) no_tally (gate_of gate new) (passes_of new) (tally_of new)
+    pub works : NodeWorks shown board (gate_of gate old) (worker_passes old) no_tally (gate_of gate new) (worker_passes new) (tally_of new)
 
-  node_done : (n : ℕ) (old new : Worker R B C) → IsReady reading shown n old → HasWorked gate rings reading board old new → NodeIsDone n old new
+  node_done : (n : ℕ) (old new : Worker R B C) → IsFreshWorker reading shown n old → HasWorked gate rings reading board old new → NodeIsDone n old new
   node_done n (Node old) (Node new) ready worked =
       let P : Option ℕ → Type 0 = λ r. NodeWorks r board (gate old.door) old.passes.items no_tally (gate new.door) new.passes.items new.tally in
       let Q : Tally → Type 0 = λ t. NodeWorks (reading old.clock) board (gate old.door) old.passes.items t (gate new.door) new.passes.items new.tally in
@@ -127,36 +127,36 @@ module _ {R B C : Type 0} (gate : R → Gate) (rings : B → Rings) (reading : C
   pub all_worked : (nodes : List (Worker R B C)) (slot : PackSlot B C) (after : List (Worker R B C)) (done : AreDone nodes slot after) → length nodes ≡ board.nodes
       → PackerIsReady reading shown slot
       → WorkAll shown board (gates_of gate nodes) (gates_of gate done.front) (rings slot.bell) (rings done.last.bell)
-      (map passes_of nodes ++ slot.passes.items ∷ []) (map passes_of done.front ++ done.last.passes.items ∷ []) (tallies_of done.front)
+      (map worker_passes nodes ++ slot.passes.items ∷ []) (map worker_passes done.front ++ done.last.passes.items ∷ []) (tallies_of done.front)
   all_worked nodes slot after done many ready =
       let front = done.front in
       let last = done.last in
-      let from : Rows = map passes_of nodes ++ slot.passes.items ∷ [] in
-      let to : Rows = map passes_of front ++ last.passes.items ∷ [] in
+      let from : Rows = map worker_passes nodes ++ slot.passes.items ∷ [] in
+      let to : Rows = map worker_passes front ++ last.passes.items ∷ [] in
       let packs = done.packer_done in
       record {
         doors = length-map nodes (gate_of gate) ∙ many;
         doors_after = length-map front (gate_of gate) ∙ done.count ∙ many;
         counts = length-map front tally_of ∙ done.count ∙ many;
-        started = length_push (map passes_of nodes) slot.passes.items ∙ ap (λ (n : ℕ). n + 1) (length-map nodes passes_of ∙ many);
-        ended = length_push (map passes_of front) last.passes.items ∙ ap (λ (n : ℕ). n + 1) (length-map front passes_of ∙ done.count ∙ many);
+        started = length_push (map worker_passes nodes) slot.passes.items ∙ ap (λ (n : ℕ). n + 1) (length-map nodes worker_passes ∙ many);
+        ended = length_push (map worker_passes front) last.passes.items ∙ ap (λ (n : ℕ). n + 1) (length-map front worker_passes ∙ done.count ∙ many);
         nodes = λ k one other tally within.
             let low : k < length nodes = omega (arith, within, many) in
             let low_after : k < length front = omega (arith, low, done.count) in
             let absent = one_of nodes k low in
-            let mine : get_or from k [] ≡ passes_of (get_or nodes k absent)
-            = get_or_append_left (map passes_of nodes) (slot.passes.items ∷ []) [] k (omega (arith, low, length-map nodes passes_of)) ∙ get_or-map passes_of nodes k absent [] low in
-            let mine_after : get_or to k [] ≡ passes_of (get_or front k absent)
-            = get_or_append_left (map passes_of front) (last.passes.items ∷ []) [] k (omega (arith, low_after, length-map front passes_of)) ∙ get_or-map passes_of front k absent [] low_after in
-            same_work (get_or (gates_of gate nodes) k one) (gate_of gate (get_or nodes k absent)) (get_or from k []) (passes_of (get_or nodes k absent))
-            (get_or (gates_of gate front) k other) (gate_of gate (get_or front k absent)) (get_or to k []) (passes_of (get_or front k absent))
+            let mine : get_or from k [] ≡ worker_passes (get_or nodes k absent)
+            = get_or_append_left (map worker_passes nodes) (slot.passes.items ∷ []) [] k (omega (arith, low, length-map nodes worker_passes)) ∙ get_or-map worker_passes nodes k absent [] low in
+            let mine_after : get_or to k [] ≡ worker_passes (get_or front k absent)
+            = get_or_append_left (map worker_passes front) (last.passes.items ∷ []) [] k (omega (arith, low_after, length-map front worker_passes)) ∙ get_or-map worker_passes front k absent [] low_after in
+            same_work (get_or (gates_of gate nodes) k one) (gate_of gate (get_or nodes k absent)) (get_or from k []) (worker_passes (get_or nodes k absent))
+            (get_or (gates_of gate front) k other) (gate_of gate (get_or front k absent)) (get_or to k []) (worker_passes (get_or front k absent))
             (get_or (tallies_of front) k tally) (tally_of (get_or front k absent))
             (get_or-map (gate_of gate) nodes k absent one low) mine (get_or-map (gate_of gate) front k absent other low_after) mine_after
             (get_or-map tally_of front k absent tally low_after) (done.nodes_done k absent low).works;
         packs = last.packs;
         packed = packs_so slot last (get_or from board.nodes []) (get_or to board.nodes [])
-            (get_or_push (map passes_of nodes) slot.passes.items [] board.nodes (length-map nodes passes_of ∙ many))
-            (get_or_push (map passes_of front) last.passes.items [] board.nodes (length-map front passes_of ∙ done.count ∙ many)) ready packs;
+            (get_or_push (map worker_passes nodes) slot.passes.items [] board.nodes (length-map nodes worker_passes ∙ many))
+            (get_or_push (map worker_passes front) last.passes.items [] board.nodes (length-map front worker_passes ∙ done.count ∙ many)) ready packs;
       }
     where
       same_work : (a a' : Gate) (b b' : List PassView) (c c' : Gate) (d d' : List PassView) (e e' : Tally) → a ≡ a' → b ≡ b' → c ≡ c' → d ≡ d' → e ≡ e'
@@ -182,51 +182,51 @@ module _ {R B C : Type 0} (gate : R → Gate) (rings : B → Rings) (reading : C
 module _ {D R B C : Type 0} (areas : List (SharedArea D)) where
   -- they have passes of all areas
   pub passes_all : (workers : List (Worker R B C)) → ((k : ℕ) (absent : Worker R B C) → k < length workers → IsAtWork areas (get_or workers k absent))
-      → (k : ℕ) (absent : Worker R B C) → k < length workers → AreOf areas (passes_of (get_or workers k absent))
+      → (k : ℕ) (absent : Worker R B C) → k < length workers → AreOf areas (worker_passes (get_or workers k absent))
   passes_all workers work k absent within = of (get_or workers k absent) (work k absent within)
     where
-      of : (one : Worker R B C) → IsAtWork areas one → AreOf areas (passes_of one)
+      of : (one : Worker R B C) → IsAtWork areas one → AreOf areas (worker_passes one)
       of (Node slot) at = at
       of (Packer slot) at = at.0
 
   -- a node with passes of all is at work
-  at_work : (n : ℕ) (one : Worker R B C) → IsNode n one → AreOf areas (passes_of one) → IsAtWork areas one
+  at_work : (n : ℕ) (one : Worker R B C) → IsNode n one → AreOf areas (worker_passes one) → IsAtWork areas one
   at_work n (Node slot) node ours = ours
   at_work n (Packer slot) node ours = absurd node
 
   -- nodes and the packer, with passes of all, are at work
-  pub all_at_work : (nodes : List (Worker R B C)) (slot : PackSlot B C) → AreNodes nodes → AreAllOf areas (map passes_of nodes ++ slot.passes.items ∷ [])
+  pub all_at_work : (nodes : List (Worker R B C)) (slot : PackSlot B C) → AreNodes nodes → AreAllOf areas (map worker_passes nodes ++ slot.passes.items ∷ [])
       → length slot.user.name ≤ MOST_NAME_BYTES → All (IsAtWork areas) (nodes ++ Packer slot ∷ [])
   all_at_work nodes slot are ours name = numbered_more (λ n one. IsAtWork areas one) nodes (Packer slot)
       (λ k absent within. at_work (k + 1) (get_or nodes k absent) (are k absent within)
       (subst (λ (w : List PassView). AreOf areas w)
-      (get_or_append_left (map passes_of nodes) (slot.passes.items ∷ []) [] k (omega (arith, within, length-map nodes passes_of)) ∙ get_or-map passes_of nodes k absent [] within)
-      (ours k (omega (arith, within, length_push (map passes_of nodes) slot.passes.items, length-map nodes passes_of))))) (
-        subst (λ (w : List PassView). AreOf areas w) (get_or_push (map passes_of nodes) slot.passes.items [] (length nodes) (length-map nodes passes_of))
-            (ours (length nodes) (omega (arith, length_push (map passes_of nodes) slot.passes.items, length-map nodes passes_of))),
+      (get_or_append_left (map worker_passes nodes) (slot.passes.items ∷ []) [] k (omega (arith, within, length-map nodes worker_passes)) ∙ get_or-map worker_passes nodes k absent [] within)
+      (ours k (omega (arith, within, length_push (map worker_passes nodes) slot.passes.items, length-map nodes worker_passes))))) (
+        subst (λ (w : List PassView). AreOf areas w) (get_or_push (map worker_passes nodes) slot.passes.items [] (length nodes) (length-map nodes worker_passes))
+            (ours (length nodes) (omega (arith, length_push (map worker_passes nodes) slot.passes.items, length-map nodes worker_passes))),
         name,
       )
 
   -- and have them still when they are done
-  pub all_of_still : (workers : List (Worker R B C)) → All (IsAtWork areas) workers → AreAllOf areas (map passes_of workers)
+  pub all_of_still : (workers : List (Worker R B C)) → All (IsAtWork areas) workers → AreAllOf areas (map worker_passes workers)
   all_of_still workers work n within =
-      let low : n < length workers = omega (arith, within, length-map workers passes_of) in
+      let low : n < length workers = omega (arith, within, length-map workers worker_passes) in
       let absent = one_of workers n low in
-      subst (λ (w : List PassView). AreOf areas w) (sym (get_or-map passes_of workers n absent [] low)) (passes_all workers work n absent low)
+      subst (λ (w : List PassView). AreOf areas w) (sym (get_or-map worker_passes workers n absent [] low)) (passes_all workers work n absent low)
 
 -- the passes of the workers are those of the nodes and of the packer behind them
-pub rows_of_all : {R B C : Type 0} (nodes : List (Worker R B C)) (slot : PackSlot B C) → map passes_of (nodes ++ Packer slot ∷ []) ≡ map passes_of nodes ++ slot.passes.items ∷ []
-rows_of_all nodes slot = map_push passes_of nodes (Packer slot)
+pub rows_of_all : {R B C : Type 0} (nodes : List (Worker R B C)) (slot : PackSlot B C) → map worker_passes (nodes ++ Packer slot ∷ []) ≡ map worker_passes nodes ++ slot.passes.items ∷ []
+rows_of_all nodes slot = map_push worker_passes nodes (Packer slot)
 
 module _ {R B C : Type 0} where
   -- the passes of the last go back
   pub rows_back : (more fewer : List (Worker R B C)) (one : Worker R B C) (vectors : List (Vec PassView Global)) (passes : Vec PassView Global) (k : ℕ) → more ≡ fewer ++ one ∷ []
-      → k ≡ length fewer → passes.items ≡ passes_of one → length more ≤ length vectors → with_passes fewer (lists_of (set vectors k passes)) ≡ with_passes more (lists_of vectors)
+      → k ≡ length fewer → passes.items ≡ worker_passes one → length more ≤ length vectors → with_passes fewer (lists_of (set vectors k passes)) ≡ with_passes more (lists_of vectors)
   rows_back more fewer one vectors passes k is place same within =
       let low : length fewer < length (lists_of vectors) = omega (arith, within, ap length is, length_push fewer one, length-lists_of vectors) in
       ap (λ (rows : Rows). with_passes fewer rows)
       (map-set (λ (v : Vec PassView Global). v.items) vectors k passes ∙ ap (λ (n : ℕ). set (lists_of vectors) n passes.items) place ∙ ap (set (lists_of vectors) (length fewer)) same)
-      ∙ rows_given passes_of fewer one (lists_of vectors) low ∙ ap (λ (l : List (Worker R B C)). with_passes l (lists_of vectors)) (sym is)
+      ∙ rows_given worker_passes fewer one (lists_of vectors) low ∙ ap (λ (l : List (Worker R B C)). with_passes l (lists_of vectors)) (sym is)
 
   module _ (gate : R → Gate) where
     -- the door of the last is back, and those of the others are put back behind it
@@ -267,17 +267,17 @@ module _ {R B C : Type 0} where
 
   -- nodes that have taken theirs, and the packer that takes the last, have the passes of all
   pub rows_of_crew : (workers : List (Worker R B C)) (rows all : Rows) (passes : List PassView) (n : ℕ) → with_passes workers rows ≡ all → length workers ≡ n → length rows ≡ n + 1
-      → passes ≡ get_or rows n [] → map passes_of workers ++ passes ∷ [] ≡ all
+      → passes ≡ get_or rows n [] → map worker_passes workers ++ passes ∷ [] ≡ all
   rows_of_crew workers rows all passes n is count many last =
-      ap (λ (p : List PassView). map passes_of workers ++ p ∷ []) last
-      ∙ ap (λ (l : Rows). map passes_of workers ++ get_or rows n [] ∷ l) (sym (drop_all (n + 1) rows (omega (arith, many))))
-      ∙ ap (λ (l : Rows). map passes_of workers ++ l) (sym (drop_more rows n [] (omega (arith, many))))
-      ∙ ap (λ (m : ℕ). map passes_of workers ++ drop m rows) (sym count) ∙ is
+      ap (λ (p : List PassView). map worker_passes workers ++ p ∷ []) last
+      ∙ ap (λ (l : Rows). map worker_passes workers ++ get_or rows n [] ∷ l) (sym (drop_all (n + 1) rows (omega (arith, many))))
+      ∙ ap (λ (l : Rows). map worker_passes workers ++ l) (sym (drop_more rows n [] (omega (arith, many))))
+      ∙ ap (λ (m : ℕ). map worker_passes workers ++ drop m rows) (sym count) ∙ is
 
   -- all passes are those of the workers, where each has its own
-  pub all_rows : (workers : List (Worker R B C)) (rows all : Rows) → all ≡ with_passes workers rows → length rows ≡ length workers → all ≡ map passes_of workers
+  pub all_rows : (workers : List (Worker R B C)) (rows all : Rows) → all ≡ with_passes workers rows → length rows ≡ length workers → all ≡ map worker_passes workers
   all_rows workers rows all is many =
-      is ∙ ap (λ (l : Rows). map passes_of workers ++ l) (drop_all (length workers) rows (omega (arith, many))) ∙ append-nil (map passes_of workers)
+      is ∙ ap (λ (l : Rows). map worker_passes workers ++ l) (drop_all (length workers) rows (omega (arith, many))) ∙ append-nil (map worker_passes workers)
 
 -- the packer's name is short enough for an area
 pub short_name : (user : User) → user ≡ packer → length user.name ≤ MOST_NAME_BYTES
@@ -293,19 +293,19 @@ module _ {R B C : Type 0} (gate : R → Gate) (rings : B → Rings) (reading : C
       → AreDone gate rings reading shown board nodes slot after → length nodes ≡ board.nodes → PackerIsReady reading shown slot → after ≡ fewer ++ Packer one ∷ []
       → TakesBell (rings one.bell) old mid → PutsDoors (gates_of gate fewer) mid new → has_failed ≡ any (map (λ tally. tally.door_failed) (tallies_of fewer))
       → to ≡ with_passes after rows → length rows ≡ board.nodes + 1
-      → WorkToTheEnd shown board (gates_of gate nodes) (rings slot.bell) (map passes_of nodes ++ slot.passes.items ∷ []) to old new has_failed
+      → WorkToTheEnd shown board (gates_of gate nodes) (rings slot.bell) (map worker_passes nodes ++ slot.passes.items ∷ []) to old new has_failed
   ends_work nodes slot after fewer one rows to old mid new has_failed done many ready parts bell doors failed all count =
       let same = same_from_push fewer done.front (Packer one) (Packer done.last) (sym parts ∙ done.is) in
       let last : one ≡ done.last = same_slot one done.last (Packer one) (Packer done.last) refl refl same.1 in
       let as_many : length rows ≡ length after = omega (arith, count, many, done.count, ap length done.is, length_push done.front (Packer done.last)) in
-      let rows_are : to ≡ map passes_of done.front ++ done.last.passes.items ∷ []
-      = all_rows after rows to all as_many ∙ ap (λ (l : List (Worker R B C)). map passes_of l) done.is ∙ rows_of_all done.front done.last in
+      let rows_are : to ≡ map worker_passes done.front ++ done.last.passes.items ∷ []
+      = all_rows after rows to all as_many ∙ ap (λ (l : List (Worker R B C)). map worker_passes l) done.is ∙ rows_of_all done.front done.last in
       record {
         gates_after = gates_of gate done.front;
         rings_after = rings done.last.bell;
         tallies = tallies_of done.front;
         works = subst (λ (l : Rows). WorkAll shown board (gates_of gate nodes) (gates_of gate done.front) (rings slot.bell) (rings done.last.bell)
-            (map passes_of nodes ++ slot.passes.items ∷ []) l (tallies_of done.front)) (sym rows_are)
+            (map worker_passes nodes ++ slot.passes.items ∷ []) l (tallies_of done.front)) (sym rows_are)
             (all_worked gate rings reading shown board nodes slot after done many ready);
         mid = mid;
         bell = subst (λ (p : PackSlot B C). TakesBell (rings p.bell) old mid) last bell;

@@ -11,7 +11,7 @@ use Rattle.jb_disk.specs.Device.{Device}
 use Rattle.jb_host.proofs.Callers.{keeps_more, keeps_none}
 use Rattle.jb_host.specs.Desk.{Desk, Disks, GivesDisk, HostCall, Place, TakesBack, and_call, asked_disk, handed_out, has_disk, with_place}
 use Rattle.jb_run.proofs.EachLemmas.{each_pair_last}
-use Rattle.jb_run.specs.Desks.{HandsOut, PutsBack, asked_for, with_each, without}
+use Rattle.jb_run.specs.Desks.{HandsOut, PutsBack, asked_for, with_each, with_areas_out}
 
 -- the areas have places of their own
 abbrev pub IsElsewhere : BoardArea → BoardArea → Type 0
@@ -53,12 +53,12 @@ with_place-other dir name dir' name' q disks apart =
     not_chosen (bytes_eq dir dir' && bytes_eq name name') q (disks dir name) (λ here. apart (key_parts dir name dir' name' here))
 
 -- the last disk is handed out last
-without-push : (areas : List BoardArea) (area : BoardArea) (disks : Disks) → without (areas ++ area ∷ []) disks ≡ with_place area.dir area.base handed_out (without areas disks)
+without-push : (areas : List BoardArea) (area : BoardArea) (disks : Disks) → with_areas_out (areas ++ area ∷ []) disks ≡ with_place area.dir area.base handed_out (with_areas_out areas disks)
 without-push [] area disks = refl
 without-push (first ∷ areas) area disks = without-push areas area (with_place first.dir first.base handed_out disks)
 
 -- a disk that is there still was there
-was_there : (areas : List BoardArea) (dir name : List ℕ) (device : Device) (disks : Disks) → without areas disks dir name ≡ has_disk device → disks dir name ≡ has_disk device
+was_there : (areas : List BoardArea) (dir name : List ℕ) (device : Device) (disks : Disks) → with_areas_out areas disks dir name ≡ has_disk device → disks dir name ≡ has_disk device
 was_there [] dir name device disks is = is
 was_there (area ∷ areas) dir name device disks is =
     chosen_disk (bytes_eq dir area.dir && bytes_eq name area.base) (disks dir name) device (was_there areas dir name device (with_place area.dir area.base handed_out disks) is)
@@ -101,7 +101,7 @@ pub hands_out_none : (desk : Desk) → HandsOut [] [] desk desk
 hands_out_none desk = record {
   count = refl;
   were = λ disks there k area device within. absurd (omega arith);
-  disks = sym (map-same (without []) desk.disks (λ disks. refl));
+  disks = sym (map-same (with_areas_out []) desk.disks (λ disks. refl));
   calls = sym (map-same (λ (earlier : List HostCall). earlier ++ []) desk.calls (λ earlier. append-nil earlier));
   rest = keeps_none desk;
 }
@@ -112,11 +112,11 @@ pub hands_out_more : (areas : List BoardArea) (devices : List Device) (area : Bo
 hands_out_more areas devices area device old mid new hands gives = record {
   count = length_push devices device ∙ ap (λ (n : ℕ). n + 1) hands.count ∙ sym (length_push areas area);
   were = λ disks there.
-      let out : mid.disks ≡ Some (without areas disks) = hands.disks ∙ told-map (without areas) old.disks disks there in
+      let out : mid.disks ≡ Some (with_areas_out areas disks) = hands.disks ∙ told-map (with_areas_out areas) old.disks disks there in
       each_pair_last (λ (a : BoardArea) (d : Device). disks a.dir a.base ≡ has_disk d) areas area devices device hands.count (hands.were disks there)
-      (was_there areas area.dir area.base device disks (gives.was (without areas disks) out));
+      (was_there areas area.dir area.base device disks (gives.was (with_areas_out areas disks) out));
   disks = gives.out ∙ ap (option_map (with_place area.dir area.base handed_out)) hands.disks
-      ∙ map-map (without areas) (with_place area.dir area.base handed_out) (without (areas ++ area ∷ [])) old.disks (without-push areas area);
+      ∙ map-map (with_areas_out areas) (with_place area.dir area.base handed_out) (with_areas_out (areas ++ area ∷ [])) old.disks (without-push areas area);
   calls = gives.calls ∙ ap (and_call (asked_disk area.dir area.base)) hands.calls
       ∙ map-map (λ (earlier : List HostCall). earlier ++ asked_for areas) (λ (earlier : List HostCall). earlier ++ asked_disk area.dir area.base ∷ []) (λ (earlier : List HostCall). earlier ++ asked_for (areas ++ area ∷ []))
       old.calls (λ earlier. ap (λ (more : List HostCall). earlier ++ more) (map_push (λ (a : BoardArea). asked_disk a.dir a.base) areas area) ∙ sym (append_assoc earlier (asked_for areas) (asked_disk area.dir area.base ∷ [])));

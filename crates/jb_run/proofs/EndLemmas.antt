@@ -8,7 +8,7 @@ use Rattle.jb_conf.specs.declared.board.BoardArea.{BoardArea}
 use Rattle.jb_disk.specs.Device.{Device}
 use Rattle.jb_host.specs.Desk.{Desk, TakesBack}
 use Rattle.jb_turn.specs.Rows.{Has}
-use Rattle.jb_shared.specs.Closing.{HasAll, known_by}
+use Rattle.jb_shared.specs.Closing.{HasEachNode, known_by}
 use Rattle.jb_shared.specs.Passes.{Known, PassView}
 use Rattle.jb_shared.specs.declared.shared.SharedArea.{SharedArea}
 use Rattle.jb_run.specs.All.{ClosesLast}
@@ -43,7 +43,7 @@ known_here row known has =
 
 module _ {D : Type 0} where
   -- the passes of all nodes are all
-  pub all_there : (nodes : ℕ) (area : SharedArea D) (row : List PassView) (count : ℕ) → count ≡ nodes → IsSharedBy nodes area row → HasAll (known_by row) count
+  pub all_there : (nodes : ℕ) (area : SharedArea D) (row : List PassView) (count : ℕ) → count ≡ nodes → IsSharedBy nodes area row → HasEachNode (known_by row) count
   all_there nodes area row count same by m some most =
       let here : m - 1 < nodes = omega (arith, some, most, same) in
       ((slice_index_or row (m - 1) nobody).known, known_there row (m - 1) (omega (arith, here, by.count)), by.numbers (m - 1) here ∙ omega (arith, some))

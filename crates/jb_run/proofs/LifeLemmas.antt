@@ -17,7 +17,7 @@ use Rattle.jb_host.specs.Desk.{Desk, GivesDisk, TakesBack}
 use Rattle.jb_model.specs.History.{last_faults}
 use Rattle.jb_model.specs.Standing.{InDoubt, Settled, Standing, is_settled}
 use Rattle.jb_state.specs.declared.loaded.Loaded.{Loaded}
-use Rattle.jb_shared.specs.Closing.{Closes, HasAll, IsMissing, known_by}
+use Rattle.jb_shared.specs.Closing.{Closes, HasEachNode, IsMissing, known_by}
 use Rattle.jb_shared.specs.Histories.{stopped_last}
 use Rattle.jb_shared.specs.Passes.{PassView}
 use Rattle.jb_shared.specs.Standing.{IsAt, opening_of}
@@ -52,7 +52,7 @@ takes_back_at dir name dir' name' device old new same_dir same_name back =
     subst (λ (d : List ℕ). TakesBack d name' device old new) same_dir (subst (λ (n : List ℕ). TakesBack dir n device old new) same_name back)
 
 -- no pass is missing where all are there
-pub none_missing : (passes : List PassView) (count : ℕ) (error : CloseError) → HasAll (known_by passes) count → IsMissing passes count error → ⊥
+pub none_missing : (passes : List PassView) (count : ℕ) (error : CloseError) → HasEachNode (known_by passes) count → IsMissing passes count error → ⊥
 none_missing passes count (PassMissing node) all missing = missing.2 (all node missing.0 missing.1)
 
 module _ {D : Type 0} (shown : D → Device) where

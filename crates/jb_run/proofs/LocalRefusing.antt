@@ -6,8 +6,8 @@ use Rattle.std.proofs.lemmas.Slice.Eq.{bytes_eq-Decides}
 use Rattle.jb_area_open.specs.declared.error.OpeningError.{OpeningError}
 use Rattle.jb_area_open.specs.declared.error.OpeningError.TheVariants.{BadJournal, Base}
 use Rattle.jb_run.specs.All.{RefusesAll, RefusesNext}
-use Rattle.jb_run.specs.Desks.{AreOut, Stand, with_each, without}
-use Rattle.jb_run.specs.AreasErrors.{AsksNothing, HasNoDisk, LacksRoom, RefusesArea, RefusesDisk, ReturnsDisk, of_host as of_host_call, of_opening}
+use Rattle.jb_run.specs.Desks.{AreOut, Stand, with_each, with_areas_out}
+use Rattle.jb_run.specs.AreasErrors.{AsksNothing, HasNoDisk, LacksRoom, RefusesArea, RefusesDisk, ReturnsDisk, of_host as of_host_call, refused_at}
 use Rattle.jb_run.specs.declared.areas_error.AreasError.{AreasError}
 use Rattle.jb_run.specs.declared.areas_error.AreasError.TheVariants as areas
 use Rattle.jb_bytes.specs.Fault.{Rose}
@@ -52,7 +52,7 @@ record Leaves (old new : Desk) (error : AreasError) : Type 0 where
   cause : error ≡ areas.HostFault → Rose old.faults new.faults
   steady : (error ≡ areas.HostFault → ⊥) → new.faults ≡ old.faults
 
-no_disk_fault : (place : ℕ) (why : OpeningError) → of_opening place why ≡ areas.HostFault → ⊥
+no_disk_fault : (place : ℕ) (why : OpeningError) → refused_at place why ≡ areas.HostFault → ⊥
 no_disk_fault place (BadJournal at) is = cc
 no_disk_fault place (Base refused.OutOfMemory) is = cc
 no_disk_fault place (Base error) is = cc
@@ -89,7 +89,7 @@ returned dir name before after was stood other_dir other_name =
 
 -- the disks of areas were handed out, one more call of the host came, and they were put back
 pub all_back : (done : List BoardArea) (befores afters : List Device) (was last : Disks) → Stand done befores was
-    → ((dir name : List ℕ) → IsBack (without done was dir name) (last dir name)) → length afters ≡ length done
+    → ((dir name : List ℕ) → IsBack (with_areas_out done was dir name) (last dir name)) → length afters ≡ length done
     → (dir name : List ℕ) → IsBack (was dir name) (with_each done afters last dir name)
 all_back done befores afters was last stand back count dir name = by (is_of done dir name) refl
   where
@@ -102,7 +102,7 @@ all_back done befores afters was last stand back count dir name = by (is_of done
         let P : Place → Type 0 = λ w. IsBack w (last dir name) in
         subst (λ (w : Place). IsBack (was dir name) w) (sym (is_untouched done afters last dir name off)) (subst P (is_left done was dir name off) (back dir name))
 
-pub still_all_out : (done : List BoardArea) (was last : Disks) → ((dir name : List ℕ) → IsBack (without done was dir name) (last dir name)) → AreOut done last
+pub still_all_out : (done : List BoardArea) (was last : Disks) → ((dir name : List ℕ) → IsBack (with_areas_out done was dir name) (last dir name)) → AreOut done last
 still_all_out done was last back = λ k area within. still_out _ _ (are_out done was k area within) (back _ _)
 
 -- END
@@ -168,8 +168,8 @@ all_refused areas old new error r =
     let next = next_refused (length r.done + 1) r.left r.mid r.last error r.refuses in
     record {
       disks = λ was told.
-          let out : r.mid.disks ≡ Some (without r.done was) = r.out.disks ∙ ap (option_map (without r.done)) told in
-          let last = next.disks (without r.done was) out in (
+          let out : r.mid.disks ≡ Some (with_areas_out r.done was) = r.out.disks ∙ ap (option_map (with_areas_out r.done)) told in
+          let last = next.disks (with_areas_out r.done was) out in (
             with_each r.done r.afters last.0,
             r.back.disks last.0 last.1 (still_all_out r.done was last.0 last.2) ∙ ap (option_map (with_each r.done r.afters)) last.1,
             all_back r.done r.befores r.afters was last.0 (r.out.were was told) last.2 r.back.count,

@@ -6,8 +6,8 @@ use Rattle.std.specs.List.{fold}
 use Rattle.std.specs.Option.{ForSome, option_map}
 use Rattle.std.specs.Vec.{with_items}
 use Rattle.std.proofs.lemmas.List.{length-set, with_items_is}
-use Rattle.jb_run.specs.All.{AreWhole, ClosesAll, OpenAs, OpensAll, any, passes_at}
-use Rattle.jb_run.specs.Desks.{Stand, asked_for, with_each, without}
+use Rattle.jb_run.specs.All.{AreShared, ClosesAll, OpenAs, OpensAll, any, passes_at}
+use Rattle.jb_run.specs.Desks.{Stand, asked_for, with_each, with_areas_out}
 use Rattle.jb_run.specs.declared.opening.SharedAreas.{SharedAreas}
 use Rattle.jb_run.specs.Lives.{GoesOnFrom}
 use Rattle.jb_run.specs.Rows.{lists_of}
@@ -90,14 +90,14 @@ one_failed areas befores afters openings from to doubts opens count went_on ends
     )
 
 -- the passes of the one node of areas that are whole
-pub are_of : {D : Type 0} (shared : SharedAreas D) (count : ℕ) → AreWhole shared 1 count → AreOf shared.areas.items (passes_at shared 0)
+pub are_of : {D : Type 0} (shared : SharedAreas D) (count : ℕ) → AreShared shared 1 count → AreOf shared.areas.items (passes_at shared 0)
 are_of shared count whole = record {
   count = whole.areas ∙ sym (whole.passes 0 (omega arith));
   each = λ k area pass within. whole.each 0 k area pass (omega arith) (omega (arith, within, whole.areas));
 }
 
 -- the list of the first node is that of its vector
-pub first_of : {D : Type 0} (shared : SharedAreas D) (count : ℕ) (node : Vec PassView Global) → AreWhole shared 1 count → node ≡ slice_index_or shared.nodes.items 0 node
+pub first_of : {D : Type 0} (shared : SharedAreas D) (count : ℕ) (node : Vec PassView Global) → AreShared shared 1 count → node ≡ slice_index_or shared.nodes.items 0 node
     → passes_at shared 0 ≡ node.items
 first_of shared count node whole found = list_at shared.nodes.items 0 node (omega (arith, whole.lists)) ∙ ap (λ (v : Vec PassView Global). v.items) (sym found)
 
@@ -108,7 +108,7 @@ first_set (vector ∷ vectors) node some = refl
 
 -- the passes of the first node after they were used
 pub first_after : {D : Type 0} (shared : SharedAreas D) (count : ℕ) (node : Vec PassView Global) (to : List PassView) (now : List (Vec PassView Global))
-    → AreWhole shared 1 count → node ≡ slice_index_or shared.nodes.items 0 node → length to ≡ count → now ≡ set shared.nodes.items 0 (with_items node to)
+    → AreShared shared 1 count → node ≡ slice_index_or shared.nodes.items 0 node → length to ≡ count → now ≡ set shared.nodes.items 0 (with_items node to)
     → slice_index_or (lists_of now) 0 [] ≡ to
 first_after shared count node to now whole found long is =
     let as_long : length to ≡ length node.items = long ∙ sym (whole.passes 0 (omega arith)) ∙ ap length (first_of shared count node whole found) in
@@ -117,10 +117,10 @@ first_after shared count node to now whole found long is =
 
 -- after a session the areas are still whole
 pub whole_after : {D : Type 0} (shared : SharedAreas D) (count : ℕ) (node : Vec PassView Global) (areas : List (SharedArea D)) (from to : List PassView) (now : Vec (Vec PassView Global) Global)
-    → AreWhole shared 1 count → node ≡ slice_index_or shared.nodes.items 0 node → areas ≡ shared.areas.items → from ≡ node.items
+    → AreShared shared 1 count → node ≡ slice_index_or shared.nodes.items 0 node → areas ≡ shared.areas.items → from ≡ node.items
     → now.items ≡ set shared.nodes.items 0 (with_items node to)
     → AreOf areas to → ((k : ℕ) (pass : PassView) → KeepsStart (slice_index_or from k pass).known (slice_index_or to k pass).known)
-    → AreWhole (record shared { nodes = now }) 1 count
+    → AreShared (record shared { nodes = now }) 1 count
 whole_after {D} shared count node areas from to now whole found same_areas same_passes is ours keeps =
     let of_them : AreOf shared.areas.items to = subst (λ (list : List (SharedArea D)). AreOf list to) same_areas ours in
     let long : length to ≡ count = sym of_them.count ∙ whole.areas in
@@ -163,7 +163,6 @@ serves_one path board old read opened served new session is_doubtful shared to c
       was = gives.was;
       board = board;
       reads = has.reads;
-      range = has.range;
       calls =
           last.calls ∙ ap (λ (d : Desk). d.calls) back ∙ first.calls
           ∙ ap (option_map (λ (earlier : List HostCall). earlier ++ asked_for board.areas)) gives.calls
@@ -183,8 +182,8 @@ serves_one path board old read opened served new session is_doubtful shared to c
       went_on = went_on;
       afters = closes.afters;
       disks = λ disks told.
-          let gone : served.disks ≡ Some (without board.areas disks) = disks_back ∙ first.disks ∙ ap (option_map (without board.areas)) (gives.disks ∙ told) in
-          last.disks (without board.areas disks) gone (are_out board.areas disks) ∙ ap (option_map (with_each board.areas closes.afters)) gone
+          let gone : served.disks ≡ Some (with_areas_out board.areas disks) = disks_back ∙ first.disks ∙ ap (option_map (with_areas_out board.areas)) (gives.disks ∙ told) in
+          last.disks (with_areas_out board.areas disks) gone (are_out board.areas disks) ∙ ap (option_map (with_each board.areas closes.afters)) gone
           ∙ ap (λ (d : Disks). Some d) (put_back board.areas closes.afters disks last.count);
       doubts = closes.doubts;
       ends = ends;

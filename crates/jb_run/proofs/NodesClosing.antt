@@ -5,13 +5,12 @@ use Rattle.std.specs.Prelude.{Option, Some, slice_index_or}
 use Rattle.jb_run.proofs.Callers.{still_whole}
 use Rattle.jb_run.proofs.RowLemmas.{length-lists_of}
 use Rattle.jb_run.proofs.WholeLemmas.{nobody}
-use Rattle.jb_run.specs.All.{AreOpenable, AreWhole, EndsAt, OpenAs, any, passes_at}
+use Rattle.jb_run.specs.All.{AreOpenable, AreShared, EndsAt, OpenAs, any, passes_at}
 use Rattle.jb_run.specs.Lives.{Ends, GoesOnFrom}
 use Rattle.jb_run.specs.Rows.{IsColumn, lists_of}
 use Rattle.jb_run.specs.declared.opening.SharedAreas.{SharedAreas}
 use Rattle.jb_bytes.specs.Fault.{Rose}
 use Rattle.jb_limits.specs.declared.limits.TheConstants.{MOST_ADDRESS_BYTES}
-use Rattle.jb_conf.specs.InRange.{IsInRange}
 use Rattle.jb_conf.specs.declared.board.Board.{Board}
 use Rattle.jb_conf.specs.declared.board.BoardArea.{BoardArea}
 use Rattle.jb_disk.specs.Device.{Device}
@@ -34,9 +33,9 @@ abbrev pub AllKeepStarts : Rows → Rows → Type 0
 AllKeepStarts from to = (n : ℕ) → n < length from → KeepStarts (slice_index_or from n []) (slice_index_or to n [])
 
 -- the areas are whole when all have worked
-pub whole_after : {D : Type 0} (shared : SharedAreas D) (now : Vec (Vec PassView Global) Global) (nodes count : ℕ) → AreWhole shared nodes count
+pub whole_after : {D : Type 0} (shared : SharedAreas D) (now : Vec (Vec PassView Global) Global) (nodes count : ℕ) → AreShared shared nodes count
     → length (lists_of now.items) ≡ nodes → AreAllOf shared.areas.items (lists_of now.items) → AllKeepStarts (lists_of shared.nodes.items) (lists_of now.items)
-    → AreWhole (record shared { nodes = now }) nodes count
+    → AreShared (record shared { nodes = now }) nodes count
 whole_after shared now nodes count whole many ours keep =
     still_whole shared now nodes count whole (sym (length-lists_of now.items) ∙ many)
     (λ n here. sym (ours n (omega (arith, here, many))).count ∙ whole.areas)
@@ -44,7 +43,7 @@ whole_after shared now nodes count whole many ours keep =
     (λ n k pass here within. (keep n (omega (arith, here, whole.lists, length-lists_of shared.nodes.items)) k pass).node)
 
 -- each node has its passes of areas that are whole
-pub all_of_whole : {D : Type 0} (shared : SharedAreas D) (nodes count : ℕ) → AreWhole shared nodes count → AreAllOf shared.areas.items (lists_of shared.nodes.items)
+pub all_of_whole : {D : Type 0} (shared : SharedAreas D) (nodes count : ℕ) → AreShared shared nodes count → AreAllOf shared.areas.items (lists_of shared.nodes.items)
 all_of_whole shared nodes count whole = λ n within.
     let here : n < nodes = omega (arith, within, length-lists_of shared.nodes.items, whole.lists) in
     record {
@@ -53,21 +52,21 @@ all_of_whole shared nodes count whole = λ n within.
     }
 
 -- areas are whole where all have their passes back
-pub whole_same : {D : Type 0} (shared : SharedAreas D) (now : Vec (Vec PassView Global) Global) (nodes count : ℕ) → AreWhole shared nodes count
-    → lists_of now.items ≡ lists_of shared.nodes.items → AreWhole (record shared { nodes = now }) nodes count
+pub whole_same : {D : Type 0} (shared : SharedAreas D) (now : Vec (Vec PassView Global) Global) (nodes count : ℕ) → AreShared shared nodes count
+    → lists_of now.items ≡ lists_of shared.nodes.items → AreShared (record shared { nodes = now }) nodes count
 whole_same shared now nodes count whole same =
     whole_after shared now nodes count whole (ap length same ∙ length-lists_of shared.nodes.items ∙ whole.lists)
     (subst (AreAllOf shared.areas.items) (sym same) (all_of_whole shared nodes count whole))
     (subst (AllKeepStarts (lists_of shared.nodes.items)) (sym same) (λ n within k pass. record { node = refl; opening = refl }))
 
--- the areas of a board in its ranges can be opened
-pub are_openable : (board : Board) → IsInRange board → AreOpenable board.areas
-are_openable board range = record {
-  few = range.area_count.1;
-  slots = λ k area within. (range.areas.each k area within).slots;
+-- the areas of a board can be opened
+pub are_openable : (board : Board) → AreOpenable board.areas
+are_openable board = let areas = board.in_range.area_values in record {
+  few = board.in_range.area_count.1;
+  slots = λ k area within. (areas.each k area within).slots;
   address = λ k area within.
-      subst (λ (a : List ℕ). length a ≤ MOST_ADDRESS_BYTES) (sym (range.areas.each k area within).under) (omega (arith, range.address.1));
-  places = range.areas.places;
+      subst (λ (a : List ℕ). length a ≤ MOST_ADDRESS_BYTES) (sym (areas.each k area within).under) (omega (arith, board.in_range.address_count.1));
+  places = areas.places;
 }
 
 -- the first of the passes

@@ -4,7 +4,7 @@ use Rattle.std.specs.Prelude.{Option, Some}
 use Rattle.std.specs.Option.{option_map}
 use Rattle.jb_run.proofs.RefuseLemmas.{refuses_none}
 use Rattle.jb_run.specs.All.{OpenAs}
-use Rattle.jb_run.specs.Desks.{HandsOut, with_each, without}
+use Rattle.jb_run.specs.Desks.{HandsOut, with_each, with_areas_out}
 use Rattle.jb_run.specs.declared.areas_error.AreasError.TheVariants as areas
 use Rattle.jb_bytes.specs.Fault.{Rose}
 use Rattle.jb_conf.specs.declared.board.Board.{Board}
@@ -117,12 +117,12 @@ begins_no_lines path most old new error r =
     record {
       why = inr (inr (inr r));
       disks = λ was told.
-          let gone : r.shut.disks ≡ Some (without r.board.areas was)
-          = doors.disks ∙ stopped.disks ∙ r.out.disks ∙ ap (option_map (without r.board.areas)) (gives.disks ∙ told) in (
-            with_each r.board.areas r.abandons.afters (without r.board.areas was),
-            back.disks (without r.board.areas was) gone (are_out r.board.areas was) ∙ ap (option_map (with_each r.board.areas r.abandons.afters)) gone,
-            all_back r.board.areas r.befores r.abandons.afters was (without r.board.areas was) (r.out.were was (gives.disks ∙ told))
-                (λ dir name. is_as_it_was (without r.board.areas was dir name)) back.count,
+          let gone : r.shut.disks ≡ Some (with_areas_out r.board.areas was)
+          = doors.disks ∙ stopped.disks ∙ r.out.disks ∙ ap (option_map (with_areas_out r.board.areas)) (gives.disks ∙ told) in (
+            with_each r.board.areas r.abandons.afters (with_areas_out r.board.areas was),
+            back.disks (with_areas_out r.board.areas was) gone (are_out r.board.areas was) ∙ ap (option_map (with_each r.board.areas r.abandons.afters)) gone,
+            all_back r.board.areas r.befores r.abandons.afters was (with_areas_out r.board.areas was) (r.out.were was (gives.disks ∙ told))
+                (λ dir name. is_as_it_was (with_areas_out r.board.areas was dir name)) back.count,
           );
       rest = record {
         settings = back.rest.settings ∙ doors.rest.settings ∙ stopped.rest.settings ∙ r.out.rest.settings ∙ gives.rest.settings;

@@ -2,7 +2,7 @@
 use Rattle.std.proofs.Common.{◌≡◌, ℕ, Bool, List, [], ◌∷◌, ◌++◌, length, Option, Some, None, refl, sym, ap, subst, ◌∙◌, append_assoc, arith}
 use Rattle.std.specs.Option.{ForSome, option_map}
 use Rattle.jb_run.specs.All.{ClosesAll, OpenAs}
-use Rattle.jb_run.specs.Desks.{HandsOut, Stand, asked_for, with_each, without}
+use Rattle.jb_run.specs.Desks.{HandsOut, Stand, asked_for, with_each, with_areas_out}
 use Rattle.jb_conf.specs.declared.board.Board.{Board}
 use Rattle.jb_disk.specs.Device.{Device}
 use Rattle.jb_host.specs.Desk.{Belfry, Desk, Disks, HostCall, and_call, asked_bell, asked_settings, bell_out, has_bell}
@@ -53,7 +53,6 @@ serves_all path most board old read opened new befores openings from end has out
       was = gives.was;
       board = board;
       reads = has.reads;
-      range = has.range;
       calls =
           back.calls ∙ work.doors.calls ∙ work.bell.calls ∙ bell.calls
           ∙ ap (and_call (asked_bell (length board.areas) board.pack_minutes most))
@@ -87,9 +86,9 @@ serves_all path most board old read opened new befores openings from end has out
       works = subst (λ (r : Option ℕ). WorkAll r board runs.gates work.gates_after runs.rings work.rings_after from runs.to work.tallies) same_reading works;
       afters = closes.afters;
       disks = λ disks told.
-          let gone : runs.worked.disks ≡ Some (without board.areas disks)
-          = work.doors.disks ∙ work.bell.disks ∙ bell.disks ∙ doors.disks ∙ out.disks ∙ ap (option_map (without board.areas)) (gives.disks ∙ told) in
-          back.disks (without board.areas disks) gone (are_out board.areas disks) ∙ ap (option_map (with_each board.areas closes.afters)) gone
+          let gone : runs.worked.disks ≡ Some (with_areas_out board.areas disks)
+          = work.doors.disks ∙ work.bell.disks ∙ bell.disks ∙ doors.disks ∙ out.disks ∙ ap (option_map (with_areas_out board.areas)) (gives.disks ∙ told) in
+          back.disks (with_areas_out board.areas disks) gone (are_out board.areas disks) ∙ ap (option_map (with_each board.areas closes.afters)) gone
           ∙ ap (λ (d : Disks). Some d) (put_back board.areas closes.afters disks back.count);
       doubts = closes.doubts;
       ends = ends;

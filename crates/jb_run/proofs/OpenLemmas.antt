@@ -10,7 +10,7 @@ use Rattle.jb_shared.specs.Areas.{IsOf, passes_of}
 use Rattle.jb_shared.specs.Passes.{Known, PassView, first_known}
 use Rattle.jb_shared.specs.declared.opening.Opening.{Opening}
 use Rattle.jb_shared.specs.declared.shared.SharedArea.{SharedArea}
-use Rattle.jb_run.specs.All.{AreLive, AreWhole, OpenAs, OpensAll}
+use Rattle.jb_run.specs.All.{AreLive, AreShared, OpenAs, OpensAll}
 use Rattle.jb_run.specs.Lives.{HasLive, GoesOnFrom}
 use Rattle.jb_run.specs.Rows.{IsDealt, lists_of}
 use Rattle.jb_run.specs.declared.opening.SharedAreas.{SharedAreas}
@@ -62,7 +62,7 @@ module _ {D : Type 0} where
     pub has : HasLive live opening.loaded
 
   -- no area is open and shared
-  pub opens_none : (nodes : ℕ) (desk : Desk) (shared : SharedAreas D) → AreWhole shared nodes 0 → shared.live.items ≡ [] → OpensAll [] nodes desk desk shared
+  pub opens_none : (nodes : ℕ) (desk : Desk) (shared : SharedAreas D) → AreShared shared nodes 0 → shared.live.items ≡ [] → OpensAll [] nodes desk desk shared
   opens_none nodes desk shared whole uncounted = record {
     befores = [];
     openings = [];
@@ -75,7 +75,7 @@ module _ {D : Type 0} where
   -- one area more is open and shared
   pub opens_more : (areas : List BoardArea) (nodes : ℕ) (area : BoardArea) (before : Device) (opening : Opening) (row : List PassView) (old mid new : Desk) (fewer more : SharedAreas D)
       → GivesDisk area.dir area.base before mid new → GoesOnFrom area.rules before opening → ((n : ℕ) → n < nodes → (slice_index_or row n nobody).known ≡ first_known (n + 1) opening)
-      → IsDealt (lists_of fewer.nodes.items) row (lists_of more.nodes.items) → AreWhole more nodes (length areas + 1)
+      → IsDealt (lists_of fewer.nodes.items) row (lists_of more.nodes.items) → AreShared more nodes (length areas + 1)
       → CountsOne opening fewer more → OpensAll areas nodes old mid fewer → OpensAll (areas ++ area ∷ []) nodes old new more
   opens_more areas nodes area before opening row old mid new fewer more gives opens fresh dealt whole counts all =
       let as_many : length (lists_of fewer.nodes.items) ≡ nodes = length-lists_of fewer.nodes.items ∙ all.whole.lists in
@@ -86,23 +86,23 @@ module _ {D : Type 0} where
         start = open_more areas all.befores all.openings (lists_of fewer.nodes.items) area before opening row (lists_of more.nodes.items) all.out.count
             (λ n here. all.whole.passes n (omega (arith, here, as_many))) opens (λ n here. fresh n (omega (arith, here, as_many))) dealt all.start;
         live = subst (AreLive (all.openings ++ opening ∷ [])) (sym counts.behind) (live_more all.openings opening fewer.live.items counts.live counts.has all.live);
-        whole = subst (AreWhole more nodes) (sym (length_push areas area)) whole;
+        whole = subst (AreShared more nodes) (sym (length_push areas area)) whole;
       }
 
   -- the same at a place of the list
   pub opens_at : (areas : List BoardArea) (nodes k : ℕ) (area : BoardArea) (before : Device) (opening : Opening) (row : List PassView) (old mid new : Desk) (fewer more : SharedAreas D)
       → k < length areas → area ≡ slice_index_or areas k area
       → GivesDisk area.dir area.base before mid new → GoesOnFrom area.rules before opening → ((n : ℕ) → n < nodes → (slice_index_or row n nobody).known ≡ first_known (n + 1) opening)
-      → IsDealt (lists_of fewer.nodes.items) row (lists_of more.nodes.items) → AreWhole more nodes (k + 1)
+      → IsDealt (lists_of fewer.nodes.items) row (lists_of more.nodes.items) → AreShared more nodes (k + 1)
       → CountsOne opening fewer more → OpensAll (take k areas) nodes old mid fewer → OpensAll (take (k + 1) areas) nodes old new more
   opens_at areas nodes k area before opening row old mid new fewer more within here gives opens fresh dealt whole counts all =
       let next : take (k + 1) areas ≡ take k areas ++ area ∷ [] = take_more areas k area within ∙ ap (λ (a : BoardArea). take k areas ++ a ∷ []) (sym here) in
       subst (λ (l : List BoardArea). OpensAll l nodes old new more) (sym next)
       (opens_more (take k areas) nodes area before opening row old mid new fewer more gives opens fresh dealt
-      (subst (λ (n : ℕ). AreWhole more nodes (n + 1)) (sym (length-take-le k areas (omega arith))) whole) counts all)
+      (subst (λ (n : ℕ). AreShared more nodes (n + 1)) (sym (length-take-le k areas (omega arith))) whole) counts all)
 
   -- none of the first is open yet
-  pub opens_begin : (areas : List BoardArea) (nodes : ℕ) (desk : Desk) (shared : SharedAreas D) → AreWhole shared nodes 0 → shared.live.items ≡ []
+  pub opens_begin : (areas : List BoardArea) (nodes : ℕ) (desk : Desk) (shared : SharedAreas D) → AreShared shared nodes 0 → shared.live.items ≡ []
       → OpensAll (take (length shared.areas.items) areas) nodes desk desk shared
   opens_begin areas nodes desk shared whole uncounted =
       subst (λ (n : ℕ). OpensAll (take n areas) nodes desk desk shared) (sym whole.areas) (opens_none nodes desk shared whole uncounted)
@@ -122,12 +122,12 @@ module _ {D : Type 0} where
   -- and it stands behind the others
   pub opens_next : (areas : List BoardArea) (nodes k : ℕ) (area : BoardArea) (one : SharedArea D) (row : List PassView) (live : ℕ) (room : Vec PassView Global) (old mid new : Desk) (fewer more : SharedAreas D)
       → k ≡ length fewer.areas.items → length fewer.areas.items < length areas → area ≡ slice_index_or areas k area → OpensOne area nodes mid new one row live → room.items ≡ [] → nodes ≤ vec_capacity room
-      → IsBehind more fewer one row room → more.live.items ≡ fewer.live.items ++ live ∷ [] → AreWhole fewer nodes (length fewer.areas.items)
+      → IsBehind more fewer one row room → more.live.items ≡ fewer.live.items ++ live ∷ [] → AreShared fewer nodes (length fewer.areas.items)
       → OpensAll (take (length fewer.areas.items) areas) nodes old mid fewer → OpensAll (take (length more.areas.items) areas) nodes old new more
   opens_next areas nodes k area one row live room old mid new fewer more place within here opens empty fits behind counted whole all =
       let n = length fewer.areas.items in
       let by : IsSharedBy nodes one row = record { count = opens.count; ours = opens.ours; numbers = λ m low. ap (λ (k : Known). k.node) (opens.fresh m low); all = opens.all } in
-      let is_whole : AreWhole more nodes (n + 1) = whole_more more fewer one row room nodes n behind by empty fits whole in
+      let is_whole : AreShared more nodes (n + 1) = whole_more more fewer one row room nodes n behind by empty fits whole in
       subst (λ (m : ℕ). OpensAll (take m areas) nodes old new more) (sym is_whole.areas)
       (opens_at areas nodes n area opens.before opens.opening row old mid new fewer more within (here ∙ ap (λ (m : ℕ). slice_index_or areas m area) place) opens.gives opens.opens opens.fresh behind.passes is_whole
       (record { live = live; behind = counted; has = opens.counts }) all)

@@ -11,10 +11,10 @@ use Rattle.jb_model.specs.declared.command.Command.{Command}
 use Rattle.jb_model.specs.declared.entry.Entry.{Entry}
 use Rattle.jb_state.specs.declared.look.SharedFault.TheVariants as fault
 use Rattle.jb_model.specs.declared.reply.Reply.{Reply}
-use Rattle.jb_session.specs.Exchanges.{Exchange, Gives, Happens, Passed, PassedLast, Wants}
+use Rattle.jb_session.specs.Exchanges.{Exchange, GivesAnswer, Happens, Passed, PassedLast, Wants}
 use Rattle.jb_session.specs.Served.{Served}
 use Rattle.jb_session.specs.declared.end.SessionEnd.{SessionEnd}
-use Rattle.jb_shared.specs.Calls.{Asks, Calls, IsStopped, ending, recording}
+use Rattle.jb_shared.specs.Calls.{Asks, Calls, IsStoppedCall, ending, recording}
 use Rattle.jb_shared.specs.Looks.{Looks}
 use Rattle.jb_shared.specs.Passes.{Known, PassView, refusing, seen, stepping, turned_away}
 use Rattle.jb_shared.specs.declared.error.SharedError.{SharedError}
@@ -43,7 +43,7 @@ records : (old new : Known) (ended : Option Bool) (call : Entry) → new ≡ rec
 records old new None call is = record { node = ap (λ (k : Known). k.node) is; opening = ap (λ (k : Known). k.opening) is }
 records old new (Some stands) call is = record { node = ap (λ (k : Known). k.node) is; opening = ap (λ (k : Known). k.opening) is }
 
-stopped : (old new : Known) (user : User) (moment : ℕ) (command : Command) → IsStopped old new user moment command → KeepsStart old new
+stopped : (old new : Known) (user : User) (moment : ℕ) (command : Command) → IsStoppedCall old new user moment command → KeepsStart old new
 stopped old new user moment command (inl begun) = records old new begun.0 _ begun.2
 stopped old new user moment command (inr not_begun) = records old new None _ not_begun.1
 
@@ -83,7 +83,7 @@ some_of [] n within = absurd (omega (arith, within))
 some_of (x ∷ xs) n within = x
 
 module _ (reading : Option ℕ) where
-  answered : (user : User) (act : Act) (old new : Known) (what : Given) → Gives reading user act old new what → KeepsStart old new
+  answered : (user : User) (act : Act) (old new : Known) (what : Given) → GivesAnswer reading user act old new what → KeepsStart old new
   answered user (Ask command) old new (given.Reply reply) g = called old new user g.0 command (Ok reply) g.2
   answered user (Ask command) old new (given.Fault fault.StoreFault) g = called old new user g.0 command (Err StoreFault) g.2
   answered user (Ask command) old new (given.Fault (fault.Gap shown held)) g = called old new user g.0 command (Err (Gap shown held)) g.2

@@ -2,7 +2,7 @@
 use Rattle.std.proofs.Common.{◌≡◌, ℕ, zero, suc, ◌<◌, Bool, true, false, ◌&&◌, ◌||◌, List, [], ◌∷◌, length, refl, sym, ap, ◌∙◌, arith}
 use Rattle.std.specs.Prelude.{bytes_eq, if◌then◌else◌, slice_index_or}
 use Rattle.std.proofs.lemmas.Slice.Eq.{bytes_eq-Decides}
-use Rattle.jb_run.specs.Desks.{AreOut, Stand, with_each, without}
+use Rattle.jb_run.specs.Desks.{AreOut, Stand, with_each, with_areas_out}
 use Rattle.jb_conf.specs.declared.board.BoardArea.{BoardArea}
 use Rattle.jb_disk.specs.Device.{Device}
 use Rattle.jb_disk.specs.Silent.{silent_device}
@@ -81,7 +81,7 @@ is_among (first ∷ areas) zero area within = first_of_them _ _ (own first)
 is_among (first ∷ areas) (suc k) area within =
     second_of_them (is_for (slice_index_or areas k area).dir (slice_index_or areas k area).base first) _ (is_among areas k area (omega (arith, within)))
 
-stays_out : (areas : List BoardArea) (disks : Disks) (dir name : List ℕ) → disks dir name ≡ handed_out → without areas disks dir name ≡ handed_out
+stays_out : (areas : List BoardArea) (disks : Disks) (dir name : List ℕ) → disks dir name ≡ handed_out → with_areas_out areas disks dir name ≡ handed_out
 stays_out [] disks dir name out = out
 stays_out (area ∷ areas) disks dir name out =
     stays_out areas (with_place area.dir area.base handed_out disks) dir name
@@ -92,18 +92,18 @@ stays_out (area ∷ areas) disks dir name out =
     always false = refl
 
 -- the disks of the areas are out
-pub is_out : (areas : List BoardArea) (disks : Disks) (dir name : List ℕ) → is_of areas dir name ≡ true → without areas disks dir name ≡ handed_out
+pub is_out : (areas : List BoardArea) (disks : Disks) (dir name : List ℕ) → is_of areas dir name ≡ true → with_areas_out areas disks dir name ≡ handed_out
 is_out [] disks dir name on = absurd (false_is_not_true on)
 is_out (area ∷ areas) disks dir name on =
     either (is_for dir name area)
     (λ here. stays_out areas (with_place area.dir area.base handed_out disks) dir name (chosen (is_for dir name area) handed_out (disks dir name) here))
     (λ off. is_out areas (with_place area.dir area.base handed_out disks) dir name (other_one (is_for dir name area) (is_of areas dir name) on off))
 
-pub are_out : (areas : List BoardArea) (disks : Disks) → AreOut areas (without areas disks)
+pub are_out : (areas : List BoardArea) (disks : Disks) → AreOut areas (with_areas_out areas disks)
 are_out areas disks k area within = is_out areas disks _ _ (is_among areas k area within)
 
 -- and no other is
-pub is_left : (areas : List BoardArea) (disks : Disks) (dir name : List ℕ) → is_of areas dir name ≡ false → without areas disks dir name ≡ disks dir name
+pub is_left : (areas : List BoardArea) (disks : Disks) (dir name : List ℕ) → is_of areas dir name ≡ false → with_areas_out areas disks dir name ≡ disks dir name
 is_left [] disks dir name off = refl
 is_left (area ∷ areas) disks dir name off =
     is_left areas (with_place area.dir area.base handed_out disks) dir name (not_second (is_for dir name area) (is_of areas dir name) off)
@@ -145,9 +145,9 @@ same_filled (area ∷ areas) (device ∷ devices) one other dir name count same 
 
 -- disks that were handed out and put back
 pub put_back : (areas : List BoardArea) (devices : List Device) (disks : Disks) → length devices ≡ length areas
-    → with_each areas devices (without areas disks) ≡ with_each areas devices disks
+    → with_each areas devices (with_areas_out areas disks) ≡ with_each areas devices disks
 put_back areas devices disks count =
-    λ i. λ dir name. same_filled areas devices (without areas disks) disks dir name count (is_left areas disks dir name) i
+    λ i. λ dir name. same_filled areas devices (with_areas_out areas disks) disks dir name count (is_left areas disks dir name) i
 
 -- where the disks of the areas stand, there is one
 pub is_there : (areas : List BoardArea) (disks : Disks) (dir name : List ℕ)

@@ -13,7 +13,7 @@ use Rattle.jb_server.specs.Rounds.{AnswersRing, Came, OnPass, Rung, RungsRun}
 use Rattle.jb_server.specs.Sessions.{Session, SessionsRun}
 use Rattle.jb_server.specs.Tallies.{no_tally}
 use Rattle.jb_server.specs.declared.tally.Tally.{Tally}
-use Rattle.jb_session.specs.Exchanges.{Asks}
+use Rattle.jb_session.specs.Exchanges.{AsksPass}
 use Rattle.jb_shared.specs.Passes.{Known, PassView}
 use Rattle.jb_run.specs.Workers.{Rows, packer}
 use Rattle.jb_run.specs.Working.{WorkAll}
@@ -56,7 +56,7 @@ module _ (reading : Option ℕ) where
   ring_keeps : (user : User) (number : ℕ) (came : Came) (from to : List PassView) → AnswersRing reading user number came from to → KeepStarts from to
   ring_keeps user number None from to answers = all_same from to answers.1
   ring_keeps user number (Some answer) from to answers =
-      on_pass number (λ before after. Asks reading user Pack before after answer) from to answers
+      on_pass number (λ before after. AsksPass reading user Pack before after answer) from to answers
       (λ before after asks. called before after user asks.0 Pack answer asks.2)
 
   -- through the rings of a packer

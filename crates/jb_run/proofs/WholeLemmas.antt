@@ -7,7 +7,7 @@ use Rattle.std.proofs.lemmas.List.Elements.{All-push}
 use Rattle.jb_shared.specs.Areas.{IsOf, passes_of}
 use Rattle.jb_shared.specs.Passes.{PassView}
 use Rattle.jb_shared.specs.declared.shared.SharedArea.{SharedArea}
-use Rattle.jb_run.specs.All.{AreWhole, passes_at}
+use Rattle.jb_run.specs.All.{AreShared, passes_at}
 use Rattle.jb_run.specs.Rows.{AreRoomy, HaveRoom, IsDealt, lists_of}
 use Rattle.jb_run.specs.declared.opening.SharedAreas.{SharedAreas}
 use Rattle.jb_run.proofs.EachLemmas.{EachPair, all_end, all_most, each_pair_end, each_pair_last, each_pair_most, one_of}
@@ -40,26 +40,26 @@ module _ {D : Type 0} where
     pub all : passes_of area ≡ nodes
 
   -- each shared area has its pass of this node
-  ours_of : (shared : SharedAreas D) (nodes count n : ℕ) → n < nodes → AreWhole shared nodes count → EachPair IsOf shared.areas.items (passes_at shared n)
+  ours_of : (shared : SharedAreas D) (nodes count n : ℕ) → n < nodes → AreShared shared nodes count → EachPair IsOf shared.areas.items (passes_at shared n)
   ours_of shared nodes count n here whole = λ k area pass within. whole.each n k area pass here (omega (arith, within, whole.areas))
 
   -- which has its number
-  numbers_of : (shared : SharedAreas D) (nodes count n : ℕ) → n < nodes → AreWhole shared nodes count → All (IsAt n) (passes_at shared n)
+  numbers_of : (shared : SharedAreas D) (nodes count n : ℕ) → n < nodes → AreShared shared nodes count → All (IsAt n) (passes_at shared n)
   numbers_of shared nodes count n here whole = λ k pass within. whole.numbers n k pass here (omega (arith, within, whole.passes n here))
 
   -- each is shared with all nodes
-  all_of : (shared : SharedAreas D) (nodes count : ℕ) → AreWhole shared nodes count → All (λ (area : SharedArea D). passes_of area ≡ nodes) shared.areas.items
+  all_of : (shared : SharedAreas D) (nodes count : ℕ) → AreShared shared nodes count → All (λ (area : SharedArea D). passes_of area ≡ nodes) shared.areas.items
   all_of shared nodes count whole = λ k area within. whole.all k area (omega (arith, within, whole.areas))
 
   -- and there is room to close it
-  rooms_of : (shared : SharedAreas D) (nodes count : ℕ) → AreWhole shared nodes count → All (IsRoom nodes) shared.rooms.items
+  rooms_of : (shared : SharedAreas D) (nodes count : ℕ) → AreShared shared nodes count → All (IsRoom nodes) shared.rooms.items
   rooms_of shared nodes count whole = λ k room within. (whole.empty k room (omega (arith, within, whole.rooms)), whole.fits k room (omega (arith, within, whole.rooms)))
 
   -- areas are whole by these
   whole_by : (shared : SharedAreas D) (nodes count : ℕ) → length shared.areas.items ≡ count → length shared.nodes.items ≡ nodes → length shared.rooms.items ≡ count
       → ((n : ℕ) → n < nodes → length (passes_at shared n) ≡ count) → ((n : ℕ) → n < nodes → EachPair IsOf shared.areas.items (passes_at shared n))
       → ((n : ℕ) → n < nodes → All (IsAt n) (passes_at shared n)) → All (λ (area : SharedArea D). passes_of area ≡ nodes) shared.areas.items → All (IsRoom nodes) shared.rooms.items
-      → AreWhole shared nodes count
+      → AreShared shared nodes count
   whole_by shared nodes count areas lists rooms passes ours numbers all room = record {
     areas = areas;
     lists = lists;
@@ -84,7 +84,7 @@ module _ {D : Type 0} where
 
   -- one area more
   pub whole_more : (more fewer : SharedAreas D) (area : SharedArea D) (row : List PassView) (room : Vec PassView Global) (nodes count : ℕ)
-      → IsBehind more fewer area row room → IsSharedBy nodes area row → room.items ≡ [] → nodes ≤ vec_capacity room → AreWhole fewer nodes count → AreWhole more nodes (count + 1)
+      → IsBehind more fewer area row room → IsSharedBy nodes area row → room.items ≡ [] → nodes ≤ vec_capacity room → AreShared fewer nodes count → AreShared more nodes (count + 1)
   whole_more more fewer area row room nodes count behind by empty fits whole =
       let next : (n : ℕ) → n < nodes → passes_at more n ≡ passes_at fewer n ++ slice_index_or row n nobody ∷ []
       = λ n here. behind_at more fewer area row room n (omega (arith, here, whole.lists)) behind in
@@ -105,20 +105,20 @@ module _ {D : Type 0} where
 
   -- a node has as many passes as there are areas
   pub passes_same : (more fewer : SharedAreas D) (area : SharedArea D) (row : List PassView) (room : Vec PassView Global) (nodes count n : ℕ) → n < nodes
-      → IsBehind more fewer area row room → AreWhole more nodes count → length (passes_at fewer n) ≡ length fewer.areas.items
+      → IsBehind more fewer area row room → AreShared more nodes count → length (passes_at fewer n) ≡ length fewer.areas.items
   passes_same more fewer area row room nodes count n here behind whole =
       let in_fewer : n < length (lists_of fewer.nodes.items) = omega (arith, here, whole.lists, nodes_same more fewer area row room behind, length-lists_of fewer.nodes.items) in
       omega (arith, whole.areas, whole.passes n here, ap length behind.areas, length_push fewer.areas.items area, dealt_length (lists_of fewer.nodes.items) row (lists_of more.nodes.items) n in_fewer behind.passes)
 
   -- and as much room
   rooms_same : (more fewer : SharedAreas D) (area : SharedArea D) (row : List PassView) (room : Vec PassView Global) (nodes count : ℕ)
-      → IsBehind more fewer area row room → AreWhole more nodes count → length fewer.rooms.items ≡ length fewer.areas.items
+      → IsBehind more fewer area row room → AreShared more nodes count → length fewer.rooms.items ≡ length fewer.areas.items
   rooms_same more fewer area row room nodes count behind whole =
       omega (arith, whole.areas, whole.rooms, ap length behind.areas, ap length behind.rooms, length_push fewer.areas.items area, length_push fewer.rooms.items room)
 
   -- each of them has its pass of this node
   both_ours : (more fewer : SharedAreas D) (area : SharedArea D) (row : List PassView) (room : Vec PassView Global) (nodes count n : ℕ) → n < nodes
-      → IsBehind more fewer area row room → AreWhole more nodes count → EachPair IsOf (fewer.areas.items ++ area ∷ []) (passes_at fewer n ++ slice_index_or row n nobody ∷ [])
+      → IsBehind more fewer area row room → AreShared more nodes count → EachPair IsOf (fewer.areas.items ++ area ∷ []) (passes_at fewer n ++ slice_index_or row n nobody ∷ [])
   both_ours more fewer area row room nodes count n here behind whole =
       subst (λ (l : List PassView). EachPair IsOf (fewer.areas.items ++ area ∷ []) l)
       (behind_at more fewer area row room n (omega (arith, here, whole.lists, nodes_same more fewer area row room behind)) behind)
@@ -126,14 +126,14 @@ module _ {D : Type 0} where
 
   -- which has its number
   both_numbers : (more fewer : SharedAreas D) (area : SharedArea D) (row : List PassView) (room : Vec PassView Global) (nodes count n : ℕ) → n < nodes
-      → IsBehind more fewer area row room → AreWhole more nodes count → All (IsAt n) (passes_at fewer n ++ slice_index_or row n nobody ∷ [])
+      → IsBehind more fewer area row room → AreShared more nodes count → All (IsAt n) (passes_at fewer n ++ slice_index_or row n nobody ∷ [])
   both_numbers more fewer area row room nodes count n here behind whole =
       subst (All (IsAt n)) (behind_at more fewer area row room n (omega (arith, here, whole.lists, nodes_same more fewer area row room behind)) behind)
       (numbers_of more nodes count n here whole)
 
   -- the last of them
   pub whole_last : (more fewer : SharedAreas D) (area : SharedArea D) (row : List PassView) (room : Vec PassView Global) (nodes count : ℕ)
-      → IsBehind more fewer area row room → AreWhole more nodes count → IsSharedBy nodes area row
+      → IsBehind more fewer area row room → AreShared more nodes count → IsSharedBy nodes area row
   whole_last more fewer area row room nodes count behind whole =
       let same : length row ≡ nodes = behind.passes.count ∙ length-lists_of fewer.nodes.items ∙ sym (nodes_same more fewer area row room behind) ∙ whole.lists in
       record {
@@ -148,13 +148,13 @@ module _ {D : Type 0} where
       }
 
   -- there is room for the passes of the last
-  pub room_last : (more fewer : SharedAreas D) (room : Vec PassView Global) (nodes count : ℕ) → more.rooms.items ≡ fewer.rooms.items ++ room ∷ [] → AreWhole more nodes count
+  pub room_last : (more fewer : SharedAreas D) (room : Vec PassView Global) (nodes count : ℕ) → more.rooms.items ≡ fewer.rooms.items ++ room ∷ [] → AreShared more nodes count
       → (room.items ≡ []) × (nodes ≤ vec_capacity room)
   room_last more fewer room nodes count behind whole = all_end (IsRoom nodes) fewer.rooms.items room (subst (All (IsRoom nodes)) behind (rooms_of more nodes count whole))
 
   -- and those before it
   pub whole_less : (more fewer : SharedAreas D) (area : SharedArea D) (row : List PassView) (room : Vec PassView Global) (nodes count : ℕ)
-      → IsBehind more fewer area row room → AreWhole more nodes count → AreWhole fewer nodes (length fewer.areas.items)
+      → IsBehind more fewer area row room → AreShared more nodes count → AreShared fewer nodes (length fewer.areas.items)
   whole_less more fewer area row room nodes count behind whole =
       let same : (n : ℕ) → n < nodes → length (passes_at fewer n) ≡ length fewer.areas.items
       = λ n here. passes_same more fewer area row room nodes count n here behind whole in
@@ -166,29 +166,29 @@ module _ {D : Type 0} where
       (all_most (IsRoom nodes) fewer.rooms.items room (subst (All (IsRoom nodes)) behind.rooms (rooms_of more nodes count whole)))
 
   -- as many areas as there are
-  pub whole_as : (shared : SharedAreas D) (nodes count : ℕ) → AreWhole shared nodes count → AreWhole shared nodes (length shared.areas.items)
-  whole_as shared nodes count whole = subst (AreWhole shared nodes) (sym whole.areas) whole
+  pub whole_as : (shared : SharedAreas D) (nodes count : ℕ) → AreShared shared nodes count → AreShared shared nodes (length shared.areas.items)
+  whole_as shared nodes count whole = subst (AreShared shared nodes) (sym whole.areas) whole
 
   -- and as many nodes
-  pub whole_own : (shared : SharedAreas D) (nodes count : ℕ) → AreWhole shared nodes count → AreWhole shared (length shared.nodes.items) (length shared.areas.items)
-  whole_own shared nodes count whole = subst (λ (m : ℕ). AreWhole shared m (length shared.areas.items)) (sym whole.lists) (whole_as shared nodes count whole)
+  pub whole_own : (shared : SharedAreas D) (nodes count : ℕ) → AreShared shared nodes count → AreShared shared (length shared.nodes.items) (length shared.areas.items)
+  whole_own shared nodes count whole = subst (λ (m : ℕ). AreShared shared m (length shared.areas.items)) (sym whole.lists) (whole_as shared nodes count whole)
 
   -- the list of a node, as its vector has it
-  pub node_at : (shared : SharedAreas D) (nodes count n : ℕ) (node : Vec PassView Global) → n < nodes → AreWhole shared nodes count
+  pub node_at : (shared : SharedAreas D) (nodes count n : ℕ) (node : Vec PassView Global) → n < nodes → AreShared shared nodes count
       → length (slice_index_or shared.nodes.items n node).items ≡ count
   node_at shared nodes count n node here whole = ap length (sym (list_at shared.nodes.items n node (omega (arith, here, whole.lists)))) ∙ whole.passes n here
 
   -- each node has a last pass where there is an area
-  pub last_of_each : (shared : SharedAreas D) (nodes count : ℕ) → 0 < count → AreWhole shared nodes count → All (λ (node : Vec PassView Global). 0 < length node.items) shared.nodes.items
+  pub last_of_each : (shared : SharedAreas D) (nodes count : ℕ) → 0 < count → AreShared shared nodes count → All (λ (node : Vec PassView Global). 0 < length node.items) shared.nodes.items
   last_of_each shared nodes count some whole = λ n node within. omega (arith, some, node_at shared nodes count n node (omega (arith, within, whole.lists)) whole)
 
   -- each node has room for one more where there is room for more areas
-  pub room_of_each : (shared : SharedAreas D) (nodes count limit : ℕ) → count < limit → AreWhole shared nodes count → HaveRoom limit shared.nodes.items
+  pub room_of_each : (shared : SharedAreas D) (nodes count limit : ℕ) → count < limit → AreShared shared nodes count → HaveRoom limit shared.nodes.items
       → All (λ (node : Vec PassView Global). length node.items < vec_capacity node) shared.nodes.items
   room_of_each shared nodes count limit low whole room = λ n node within. omega (arith, low, room n node within, node_at shared nodes count n node (omega (arith, within, whole.lists)) whole)
 
   -- no area is there yet
-  pub whole_none : (shared : SharedAreas D) (nodes limit : ℕ) → length shared.areas.items ≡ 0 → length shared.rooms.items ≡ 0 → AreRoomy shared.nodes.items nodes limit → AreWhole shared nodes 0
+  pub whole_none : (shared : SharedAreas D) (nodes limit : ℕ) → length shared.areas.items ≡ 0 → length shared.rooms.items ≡ 0 → AreRoomy shared.nodes.items nodes limit → AreShared shared nodes 0
   whole_none shared nodes limit areas rooms roomy = record {
     areas = areas;
     lists = roomy.as_many;

@@ -28,7 +28,7 @@ module _ {D : Type 0} where
   passes_at shared node = slice_index_or (lists_of shared.nodes.items) node []
 
   -- so many areas, each shared with so many nodes, which are numbered from 1 and have a pass of it each, and room to close each
-  pub record AreWhole (shared : SharedAreas D) (nodes count : ℕ) : Type 0 where
+  pub record AreShared (shared : SharedAreas D) (nodes count : ℕ) : Type 0 where
     pub areas : length shared.areas.items ≡ count
     pub lists : length shared.nodes.items ≡ nodes
     pub rooms : length shared.rooms.items ≡ count
@@ -41,7 +41,7 @@ module _ {D : Type 0} where
     pub fits : (k : ℕ) (room : _) → k < count → nodes ≤ vec_capacity (slice_index_or shared.rooms.items k room)
 
   -- room for so many areas, as many passes of each node, and as many counts
-  pub record HasRoom (shared : SharedAreas D) (count : ℕ) : Type 0 where
+  pub record HasAreaRoom (shared : SharedAreas D) (count : ℕ) : Type 0 where
     pub areas : count ≤ vec_capacity shared.areas
     pub passes : HaveRoom count shared.nodes.items
     pub rooms : count ≤ vec_capacity shared.rooms
@@ -67,7 +67,7 @@ pub record OpensAll {D : Type 0} (areas : List BoardArea) (nodes : ℕ) (old new
   pub out : HandsOut areas befores old new
   pub start : OpenAs areas befores openings (lists_of shared.nodes.items)
   pub live : AreLive openings shared.live.items
-  pub whole : AreWhole shared nodes (length areas)
+  pub whole : AreShared shared nodes (length areas)
 
 -- the last of the areas that are open is closed with its passes, and its disk is back
 pub record ClosesLast {D : Type 0} (areas : List BoardArea) (more fewer : SharedAreas D) (old new : Desk) (is_doubtful : Bool) : Type 0 where

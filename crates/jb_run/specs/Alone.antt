@@ -1,6 +1,6 @@
 -- How an area that one node alone used is closed.
 use Rattle.std.specs.Prelude.{◌≡◌, ◌≢◌, ℕ, ◌<◌, Bool, List, [], length, slice_index_or, Some}
-use Rattle.jb_run.specs.Lives.{Leaves}
+use Rattle.jb_run.specs.Lives.{LeavesArea}
 use Rattle.jb_disk.specs.Device.{Device}
 use Rattle.jb_model.specs.History.{calls_of}
 use Rattle.jb_shared.specs.Closing.{OneBegins}
@@ -13,7 +13,7 @@ use Rattle.jb_shared.specs.declared.opening.Opening.{Opening}
 pub record EndsAlone (known : Known) (is_doubtful : Bool) (after : Device) : Type 0 where
   pub opening : Opening
   pub from : known.opening ≡ Some opening
-  pub leaves : Leaves opening known.front is_doubtful after
+  pub leaves : LeavesArea opening known.front is_doubtful after
   pub mine : calls_of known.node known.front ≡ known.mine
   pub others : (node : ℕ) → node ≢ known.node → calls_of node known.front ≡ []
   pub shown : OneBegins known.shown (settled_of known.front)

@@ -18,15 +18,15 @@ of_host Failed = HostFault
 of_host no_host_memory = OutOfMemory
 
 -- the refusal of the area at this place
-abbrev pub of_opening : ℕ → OpeningError → AreasError
-of_opening place (BadJournal at) = Area place (BadJournal at)
-of_opening place (Base refused.OutOfMemory) = OutOfMemory
-of_opening place (Base error) = Area place (Base error)
+abbrev pub refused_at : ℕ → OpeningError → AreasError
+refused_at place (BadJournal at) = Area place (BadJournal at)
+refused_at place (Base refused.OutOfMemory) = OutOfMemory
+refused_at place (Base error) = Area place (Base error)
 
 -- the area is refused for this over its disk, of which a crash meanwhile leaves files that open as some might have before
 pub record RefusesDisk (place slots : ℕ) (before after : Device) (error : AreasError) : Type 0 where
   pub why : OpeningError
-  pub is : error ≡ of_opening place why
+  pub is : error ≡ refused_at place why
   pub refuses : Refuses slots before after why
   pub cause : RoseIf (is_opening_fault why) before.faults after.faults
   pub crash : KeepsOpening before after

@@ -19,9 +19,9 @@ abbrev pub AreOut : List BoardArea → Disks → Type 0
 AreOut areas disks = (k : ℕ) (area : BoardArea) → k < length areas → disks (slice_index_or areas k area).dir (slice_index_or areas k area).base ≡ handed_out
 
 -- the same disks, with those of these areas out
-abbrev pub without : List BoardArea → Disks → Disks
-without [] disks = disks
-without (area ∷ areas) disks = without areas (with_place area.dir area.base handed_out disks)
+abbrev pub with_areas_out : List BoardArea → Disks → Disks
+with_areas_out [] disks = disks
+with_areas_out (area ∷ areas) disks = with_areas_out areas (with_place area.dir area.base handed_out disks)
 
 -- the same disks, with these at the places of the areas
 abbrev pub with_each : List BoardArea → List Device → Disks → Disks
@@ -33,7 +33,7 @@ with_each (area ∷ areas) (device ∷ devices) disks = with_each areas devices 
 pub record HandsOut (areas : List BoardArea) (devices : List Device) (old new : Desk) : Type 0 where
   pub count : length devices ≡ length areas
   pub were : ForSome old.disks (Stand areas devices)
-  pub disks : new.disks ≡ option_map (without areas) old.disks
+  pub disks : new.disks ≡ option_map (with_areas_out areas) old.disks
   pub calls : new.calls ≡ option_map (λ earlier. earlier ++ asked_for areas) old.calls
   pub rest : KeepsRest old new
 

@@ -72,7 +72,7 @@ HoldsAt (InDoubt before after) device = ForSome device.contents (λ files. (load
 
 -- the disk is left as the history says: it has failed as often as the history tells, and the area is in doubt just where the
 -- device stopped the last call, which then has raised its count of faults
-pub record Leaves (opening : Opening) (entries : List Entry) (is_doubtful : Bool) (after : Device) : Type 0 where
+pub record LeavesArea (opening : Opening) (entries : List Entry) (is_doubtful : Bool) (after : Device) : Type 0 where
   pub history : IsHistory opening entries
   pub faults : last_faults opening.faults entries ≡ after.faults
   pub told : is_some after.contents ≡ is_some opening.texts
@@ -87,14 +87,14 @@ pub record Leaves (opening : Opening) (entries : List Entry) (is_doubtful : Bool
 pub record KeepsArea (by : AreaRules) (before after : Device) : Type 0 where
   pub opening : Opening
   pub opens : GoesOnFrom by before opening
-  pub leaves : Leaves opening [] false after
+  pub leaves : LeavesArea opening [] false after
 
 -- an area is closed with these passes: there is one history, the longest front, of which each knows a part and in which no other node
 -- has a call, and the disk is left as it says
 pub record Ends (passes : List PassView) (is_doubtful : Bool) (after : Device) : Type 0 where
   pub opening : Opening
   pub history : List Entry
-  pub leaves : Leaves opening history is_doubtful after
+  pub leaves : LeavesArea opening history is_doubtful after
   pub each : (known : Known) → Has (known_by passes) known → IsPartOf opening history known
   pub others : (node : ℕ) → (HasNode (known_by passes) node → ⊥) → calls_of node history ≡ []
   pub longest : (known : Known) × Has (known_by passes) known × (known.front ≡ history)

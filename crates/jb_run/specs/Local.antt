@@ -5,8 +5,7 @@ use Rattle.jb_run.specs.All.{OpenAs, RefusesAll, any}
 use Rattle.jb_run.specs.Desks.{Stand, asked_for, with_each}
 use Rattle.jb_run.specs.declared.areas_error.AreasError.{AreasError}
 use Rattle.jb_bytes.specs.Fault.{Rose}
-use Rattle.jb_conf.specs.InRange.{IsInRange}
-use Rattle.jb_conf.specs.Settings.{IsReading}
+use Rattle.jb_conf.specs.Settings.{ReadsSettings}
 use Rattle.jb_conf.specs.declared.board.Board.{Board}
 use Rattle.jb_conf.specs.declared.board.BoardArea.{BoardArea}
 use Rattle.jb_conf.specs.declared.error.ConfError.{ConfError}
@@ -27,8 +26,7 @@ use Rattle.jb_run.specs.declared.error.RunError.TheVariants.{HostFault}
 pub record HasBoard (path : List ℕ) (board : Board) (old new : Desk) : Type 0 where
   pub bytes : List ℕ
   pub gives : GivesSettings path bytes old new
-  pub reads : IsReading bytes (Ok board)
-  pub range : IsInRange board
+  pub reads : ReadsSettings bytes (Ok board)
 
 -- the host has no settings file there
 pub record HasNoSettings (path : List ℕ) (old new : Desk) (error : RunError) : Type 0 where
@@ -42,7 +40,7 @@ pub record RefusesSettings (path : List ℕ) (old new : Desk) (error : RunError)
   pub why : ConfError
   pub is : error ≡ of_settings why
   pub gives : GivesSettings path bytes old new
-  pub reads : IsReading bytes (Err why)
+  pub reads : ReadsSettings bytes (Err why)
 
 -- the areas that the settings say are not opened
 pub record RefusesAreas (path : List ℕ) (old new : Desk) (error : RunError) : Type 0 where
@@ -91,8 +89,7 @@ pub record ServesOne (path : List ℕ) (old new : Desk) (end : LocalEnd) : Type 
   pub bytes : List ℕ
   pub was : ForSome old.settings (λ pages. pages path ≡ Some bytes)
   pub board : Board
-  pub reads : IsReading bytes (Ok board)
-  pub range : IsInRange board
+  pub reads : ReadsSettings bytes (Ok board)
   -- then the areas are opened, in order; no call of the host comes behind
   pub calls : new.calls ≡ option_map (λ earlier. earlier ++ asked_settings path ∷ asked_for board.areas) old.calls
   pub befores : List Device

@@ -27,8 +27,8 @@ status_with true session = 4
 status_with false session = session_status session
 
 -- the exit status
-abbrev pub status_of : LocalEnd → ℕ
-status_of end = status_with end.is_doubtful end.session
+abbrev pub local_status : LocalEnd → ℕ
+local_status end = status_with end.is_doubtful end.session
 
 -- a refusal of the host
 abbrev pub of_host : HostError → RunError

@@ -6,8 +6,7 @@ use Rattle.jb_run.specs.Desks.{HandsOut, Stand, asked_for, with_each}
 use Rattle.jb_run.specs.Lives.{Ends}
 use Rattle.jb_run.specs.Rows.{IsColumn}
 use Rattle.jb_bytes.specs.Fault.{Rose}
-use Rattle.jb_conf.specs.InRange.{IsInRange}
-use Rattle.jb_conf.specs.Settings.{IsReading}
+use Rattle.jb_conf.specs.Settings.{ReadsSettings}
 use Rattle.jb_conf.specs.declared.board.Board.{Board}
 use Rattle.jb_disk.specs.Device.{Device}
 use Rattle.jb_host.specs.Desk.{Desk, Doors, KeepsRest, asked_bell, asked_settings, has_bell}
@@ -73,8 +72,7 @@ pub record ServesAll (path : List ℕ) (most : Option ℕ) (old new : Desk) (end
   pub bytes : List ℕ
   pub was : ForSome old.settings (λ pages. pages path ≡ Some bytes)
   pub board : Board
-  pub reads : IsReading bytes (Ok board)
-  pub range : IsInRange board
+  pub reads : ReadsSettings bytes (Ok board)
   -- then the areas are opened, in order, then the doors, in order, then the bell; no call of the host comes behind
   pub calls : new.calls ≡ option_map (λ earlier. earlier ++ asked_settings path ∷ asked_for board.areas
       ++ asked_doors board.port most 1 board.nodes ++ asked_bell (length board.areas) board.pack_minutes most ∷ []) old.calls

@@ -9,5 +9,5 @@ status_with false true = 5
 status_with false false = 0
 
 -- the exit status
-abbrev pub status_of : NodesEnd → ℕ
-status_of end = status_with end.is_doubtful end.door_failed
+abbrev pub nodes_status : NodesEnd → ℕ
+nodes_status end = status_with end.is_doubtful end.door_failed

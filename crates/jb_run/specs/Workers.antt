@@ -24,9 +24,9 @@ Rows = List (List PassView)
 
 module _ {R B C : Type 0} where
   -- its passes
-  abbrev pub passes_of : Worker R B C → List PassView
-  passes_of (Node slot) = slot.passes.items
-  passes_of (Packer slot) = slot.passes.items
+  abbrev pub worker_passes : Worker R B C → List PassView
+  worker_passes (Node slot) = slot.passes.items
+  worker_passes (Packer slot) = slot.passes.items
 
   -- what it has counted; a packer counts no callers
   abbrev pub tally_of : Worker R B C → Tally
@@ -39,7 +39,7 @@ module _ {R B C : Type 0} where
 
   -- the passes of all, with those of these workers in front
   abbrev pub with_passes : List (Worker R B C) → Rows → Rows
-  with_passes workers rows = map passes_of workers ++ drop (length workers) rows
+  with_passes workers rows = map worker_passes workers ++ drop (length workers) rows
 
   -- it is the node with this number
   abbrev pub IsNode : ℕ → Worker R B C → Type 0
@@ -64,13 +64,13 @@ module _ {R B C : Type 0} (gate : R → Gate) where
 -- of clocks that show themselves so, where the host's clocks show this
 module _ {R B C : Type 0} (reading : C → Option ℕ) (shown : Option ℕ) where
   -- it is the node with this number, with a clock of the host, and has counted nothing yet
-  abbrev pub IsReady : ℕ → Worker R B C → Type 0
-  IsReady number (Node slot) = (slot.node ≡ number) × (reading slot.clock ≡ shown) × (slot.tally ≡ no_tally)
-  IsReady number (Packer slot) = ⊥
+  abbrev pub IsFreshWorker : ℕ → Worker R B C → Type 0
+  IsFreshWorker number (Node slot) = (slot.node ≡ number) × (reading slot.clock ≡ shown) × (slot.tally ≡ no_tally)
+  IsFreshWorker number (Packer slot) = ⊥
 
   -- they are the nodes from 1 on, and ready
   abbrev pub AreReady : List (Worker R B C) → Type 0
-  AreReady workers = (k : ℕ) (absent : Worker R B C) → k < length workers → IsReady (k + 1) (slice_index_or workers k absent)
+  AreReady workers = (k : ℕ) (absent : Worker R B C) → k < length workers → IsFreshWorker (k + 1) (slice_index_or workers k absent)
 
 -- the packer is ready: with a clock of the host, as the user who packs, and has packed nothing yet
 pub record PackerIsReady {B C : Type 0} (reading : C → Option ℕ) (shown : Option ℕ) (slot : PackSlot B C) : Type 0 where
@@ -84,7 +84,7 @@ module _ {R B C : Type 0} (gate : R → Gate) (reading : C → Option ℕ) (boar
   pub record AddsNode (fewer more : List (Worker R B C)) (old new : Desk) : Type 0 where
     pub worker : Worker R B C
     pub is : more ≡ fewer ++ worker ∷ []
-    pub ready : IsReady reading old.reading (length fewer + 1) worker
+    pub ready : IsFreshWorker reading old.reading (length fewer + 1) worker
     pub gives : GivesDoor (length fewer + 1) board.port most (gate_of gate worker) old new
 
   -- these nodes are ready: their doors were handed out

@@ -1,6 +1,6 @@
 //! Why the areas of a board are not opened.
 ghost use Rattle.std.specs.Prelude.{◌≡◌};
-ghost use Rattle.jb_run.specs.AreasErrors.{of_host, of_opening};
+ghost use Rattle.jb_run.specs.AreasErrors.{of_host, refused_at};
 ghost use Rattle.jb_run.specs.declared.areas_error.AreasError.TheVariants.{OutOfMemory as no_memory};
 
 use jb_area_open::OpeningError;
@@ -40,7 +40,7 @@ impl From<HostError> for AreasError {
 
 /// The refusal of the area at this place.
 pub(crate) fn refused(place: u32, error: OpeningError) -> AreasError
-    ensures { result ≡ of_opening place error }
+    ensures { result ≡ refused_at place error }
 {
     match error {
         OpeningError::Base(OpenError::OutOfMemory) => AreasError::OutOfMemory,

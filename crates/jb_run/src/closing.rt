@@ -2,7 +2,7 @@
 ghost use Rattle.std.specs.Prelude.{◌≡◌, ◌≤◌, IfNone, IfSome, List, length, take, vec_len};
 ghost use Rattle.jb_disk.specs.Device.{Device};
 ghost use Rattle.jb_shared.specs.declared.opening.Opening.{Opening};
-ghost use Rattle.jb_run.specs.All.{Abandons, AreOpenable, AreWhole, ClosesAll, ClosesLast, OpenAs};
+ghost use Rattle.jb_run.specs.All.{Abandons, AreOpenable, AreShared, ClosesAll, ClosesLast, OpenAs};
 ghost use Rattle.jb_run.specs.Rows.{lists_of};
 
 use crate::dealing::collect;
@@ -19,9 +19,9 @@ fn close_last<R: Wait, H: Host>(
     areas: &[BoardArea],
     shared: &mut SharedAreas<H::Disk>,
 ) -> Option<bool>
-    requires whole { AreWhole shared.old (length shared.old.nodes.items) (length shared.old.areas.items) }
+    requires whole { AreShared shared.old (length shared.old.nodes.items) (length shared.old.areas.items) }
     requires within { length shared.old.areas.items ≤ length areas.now }
-    ensures whole { AreWhole shared.new (length shared.new.nodes.items) (length shared.new.areas.items) }
+    ensures whole { AreShared shared.new (length shared.new.nodes.items) (length shared.new.areas.items) }
     ensures closed { IfSome result (ClosesLast areas.now shared.old shared.new (H.desk host.old)
         (H.desk host.new)) }
     ensures none { IfNone result ((length shared.old.areas.items ≡ 0)
@@ -45,7 +45,7 @@ pub(crate) fn close_areas<R: Wait, H: Host>(
     mut shared: SharedAreas<H::Disk>,
 ) -> bool
     requires areas { AreOpenable areas.now }
-    requires whole { AreWhole shared (length shared.nodes.items) (length shared.areas.items) }
+    requires whole { AreShared shared (length shared.nodes.items) (length shared.areas.items) }
     requires within { length shared.areas.items ≤ length areas.now }
     ensures { ClosesAll (take (length shared.areas.items) areas.now) (lists_of shared.nodes.items)
         (H.desk host.old) (H.desk host.new) result }
@@ -73,7 +73,7 @@ pub(crate) fn abandon_areas<R: Wait, H: Host>(
     shared: SharedAreas<H::Disk>,
 )
     requires areas { AreOpenable areas.now }
-    requires whole { AreWhole shared (length shared.nodes.items) (length shared.areas.items) }
+    requires whole { AreShared shared (length shared.nodes.items) (length shared.areas.items) }
     requires within { length shared.areas.items ≤ length areas.now }
     ensures { (befores : List Device) (openings : List Opening)
         → OpenAs (take (length shared.areas.items) areas.now) befores openings (lists_of shared.nodes.items)

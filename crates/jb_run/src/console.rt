@@ -1,7 +1,6 @@
 //! The run of one session.
 ghost use Rattle.std.specs.Prelude.{◌≡◌, ◌⊎◌, IfErr, IfOk, IsSome, ℕ, List, Some, length};
-ghost use Rattle.jb_run.specs.All.{AreWhole, passes_at};
-ghost use Rattle.jb_conf.specs.InRange.{IsInRange};
+ghost use Rattle.jb_run.specs.All.{AreShared, passes_at};
 ghost use Rattle.jb_host.specs.Desk.{Desk};
 ghost use Rattle.jb_host.specs.Wire.{Wire};
 ghost use Rattle.jb_session.specs.Served.{Served};
@@ -45,10 +44,9 @@ fn serve<R: Wait, H: Host>(
     board: &Board,
     shared: &mut SharedAreas<H::Disk>,
 ) -> SessionEnd
-    requires board { IsInRange board.now }
-    requires whole { AreWhole shared.old 1 (length board.now.areas) }
+    requires whole { AreShared shared.old 1 (length board.now.areas) }
     requires console { IsSome (H.desk host.old).console }
-    ensures whole { AreWhole shared.new 1 (length board.now.areas) }
+    ensures whole { AreShared shared.new 1 (length board.now.areas) }
     ensures served { (old now : Wire) × ((H.desk host.old).console ≡ Some old)
         × (H.desk host.new ≡ record (H.desk host.old) { console = Some now })
         × Served (H.desk host.old).reading board.now old (passes_at shared.old 0) result now
@@ -76,7 +74,6 @@ fn run_board<R: Wait, H: Host>(
     host: &mut H,
     board: &Board,
 ) -> Result<LocalEnd, RunError>
-    requires board { IsInRange board.now }
     requires console { IsSome (H.desk host.old).console }
     ensures { (path : List ℕ) (old : Desk) → HasBoard path board.now old (H.desk host.old)
         → RunsLocal path old (H.desk host.new) result }

@@ -1,6 +1,6 @@
 //! How a run with one session ends.
 ghost use Rattle.std.specs.Prelude.{◌≡◌};
-ghost use Rattle.jb_run.specs.LocalEnding.{status_of};
+ghost use Rattle.jb_run.specs.LocalEnding.{local_status};
 
 use jb_session::SessionEnd;
 
@@ -14,7 +14,7 @@ pub struct LocalEnd {
 impl LocalEnd {
     /// The exit status of the program. An area in doubt goes first.
     pub fn status(self) -> u8
-        ensures { result ≡ status_of self }
+        ensures { result ≡ local_status self }
     {
         if self.is_doubtful {
             return 4;

@@ -1,4 +1,4 @@
-//! What the refusal of an area means, in words for the operator.
+//! What the refusal of an area means, and what its opening has made good, in words for the operator.
 ghost use Rattle.std.specs.Prelude.{◌≡◌};
 
 use jb_area_open::OpeningError;
@@ -7,6 +7,9 @@ use jb_conf::BoardArea;
 use jb_host::Host;
 use jb_image::OpenError;
 use std::alloc::Global;
+
+/// What is said of a journal whose change recovery has done.
+const DONE: &str = "a change that waited in its journal is done";
 
 /// What the refusal of a base means.
 fn of_base(error: OpenError) -> &'static str {
@@ -81,5 +84,17 @@ pub(crate) fn tell<H: Host>(
     match line(alloc, area, place, error) {
         Ok(line) => host.note(line.as_str()),
         Err(_) => host.note(meaning(error)),
+    }
+}
+
+/// Tells the operator of which area, by its folder and its base, a change waited in the journal, which is done now; without memory for
+/// that, the words alone.
+pub(crate) fn tell_done<H: Host>(alloc: Global, host: &mut H, area: &BoardArea)
+    ensures { H.desk host.new ≡ H.desk host.old }
+{
+    let (dir, base) = (area.dir.as_str(), area.base.as_str());
+    match format!(in alloc; "board: {dir}/{base}: {DONE}") {
+        Ok(line) => host.note(line.as_str()),
+        Err(_) => host.note(DONE),
     }
 }

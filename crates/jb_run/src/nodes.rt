@@ -1,12 +1,11 @@
 //! The run of many nodes.
 ghost use Rattle.std.specs.Prelude.{◌≡◌, ◌+◌, ◌<◌, ◌≤◌, ◌++◌, ◌∷◌, ℕ, List, [], IfErr, IfOk, length, map, vec_capacity, vec_len};
-ghost use Rattle.jb_run.specs.All.{AreWhole};
+ghost use Rattle.jb_run.specs.All.{AreShared};
 ghost use Rattle.jb_run.specs.Rows.{lists_of};
-ghost use Rattle.jb_conf.specs.InRange.{IsInRange};
 ghost use Rattle.jb_host.specs.Desk.{Desk};
 ghost use Rattle.jb_run.specs.Local.{HasBoard};
 ghost use Rattle.jb_run.specs.Nodes.{RunsNodes};
-ghost use Rattle.jb_run.specs.Workers.{AreReady, PackerIsReady, gates_of, packer, passes_of};
+ghost use Rattle.jb_run.specs.Workers.{AreReady, PackerIsReady, gates_of, packer, worker_passes};
 ghost use Rattle.jb_run.specs.Working.{AreAllOf, GivesUp, RunsOn, WorkToTheEnd};
 
 use crate::closing::{abandon_areas, close_areas};
@@ -45,7 +44,6 @@ where
     <H::Door as Door>::Link: Send,
     H::Bell: Send,
     H::Clock: Send,
-    requires board { IsInRange board.now }
     requires areas { length shared.old.areas.items ≡ length board.now.areas }
     requires nodes { length crew.nodes.items ≡ board.now.nodes }
     requires lists { length shared.old.nodes.items ≡ board.now.nodes + 1 }
@@ -53,10 +51,10 @@ where
     requires ready { AreReady H.Clock.reading (H.desk host.old).reading crew.nodes.items }
     requires packer { PackerIsReady H.Clock.reading (H.desk host.old).reading crew.packer }
     requires ours { AreAllOf shared.old.areas.items
-        (map passes_of crew.nodes.items ++ crew.packer.passes.items ∷ []) }
+        (map worker_passes crew.nodes.items ++ crew.packer.passes.items ∷ []) }
     ensures worked { WorkToTheEnd (H.desk host.old).reading board.now
         (gates_of H.Door.gate crew.nodes.items) (H.Bell.rings crew.packer.bell)
-        (map passes_of crew.nodes.items ++ crew.packer.passes.items ∷ [])
+        (map worker_passes crew.nodes.items ++ crew.packer.passes.items ∷ [])
         (lists_of shared.new.nodes.items) (H.desk host.old) (H.desk host.new) result }
 
     // The areas are the same, and the passes are still theirs.
@@ -88,11 +86,10 @@ where
     <H::Door as Door>::Link: Send,
     H::Bell: Send,
     H::Clock: Send,
-    requires board { IsInRange board.now }
     requires none { room.workers.items ≡ [] }
     requires room { board.now.nodes + 1 ≤ vec_capacity room.workers }
     requires packer { room.packer ≡ packer }
-    requires whole { AreWhole shared (board.now.nodes + 1) (length board.now.areas) }
+    requires whole { AreShared shared (board.now.nodes + 1) (length board.now.areas) }
     ensures ok { IfOk result (λ end. RunsOn board.now calls (lists_of shared.nodes.items)
         (H.desk host.old) (H.desk host.new) end) }
     ensures err { IfErr result (λ error. GivesUp board.now calls (lists_of shared.nodes.items)
@@ -149,7 +146,6 @@ where
     <H::Door as Door>::Link: Send,
     H::Bell: Send,
     H::Clock: Send,
-    requires { IsInRange board.now }
     ensures { (path : List ℕ) (old : Desk) → HasBoard path board.now old (H.desk host.old)
         → RunsNodes path calls old (H.desk host.new) result }
 {

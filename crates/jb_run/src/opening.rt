@@ -1,8 +1,9 @@
 //! All areas are opened and shared, one after another.
 ghost use Rattle.std.specs.Prelude.{◌≡◌, ◌+◌, ◌<◌, ◌≤◌, IfErr, IfOk, List, OnOk, [], length, slice_index_or, take};
+ghost use Rattle.jb_limits.specs.declared.limits.TheConstants.{MOST_NODES};
 ghost use Rattle.jb_conf.specs.declared.board.BoardArea.{BoardArea};
 ghost use Rattle.jb_host.specs.Desk.{Desk};
-ghost use Rattle.jb_run.specs.All.{AreOpenable, AreWhole, HasRoom, OpensAll, RefusesAll, StopsAt};
+ghost use Rattle.jb_run.specs.All.{AreOpenable, AreShared, HasAreaRoom, OpensAll, RefusesAll, StopsAt};
 ghost use Rattle.jb_run.specs.AreasErrors.{RefusesArea};
 
 use crate::areas_error::AreasError;
@@ -35,8 +36,8 @@ fn with_room<D: Disk>(
     count: usize,
     nodes: u32,
 ) -> Result<SharedAreas<D>, OutOfMemory>
-    ensures room { IfOk result (λ shared. HasRoom shared count) }
-    ensures none { IfOk result (λ shared. AreWhole shared nodes 0) }
+    ensures room { IfOk result (λ shared. HasAreaRoom shared count) }
+    ensures none { IfOk result (λ shared. AreShared shared nodes 0) }
     ensures uncounted { IfOk result (λ shared. shared.live.items ≡ []) }
 {
     let nodes = roomy_lists(alloc, nodes as usize, count)?;
@@ -61,12 +62,12 @@ fn open_next<R: Wait, H: Host>(
     nodes: u32,
 ) -> Result<(), AreasError>
     requires areas { AreOpenable areas.now }
-    requires nodes { (0 < nodes) × (nodes ≤ 33) }
+    requires nodes { (0 < nodes) × (nodes ≤ MOST_NODES + 1) }
     requires next { length shared.old.areas.items < length areas.now }
-    requires whole { AreWhole shared.old nodes (length shared.old.areas.items) }
+    requires whole { AreShared shared.old nodes (length shared.old.areas.items) }
     requires counted { length shared.old.live.items ≡ length shared.old.areas.items }
-    requires room { HasRoom shared.old (length areas.now) }
-    ensures room { HasRoom shared.new (length areas.now) }
+    requires room { HasAreaRoom shared.old (length areas.now) }
+    ensures room { HasAreaRoom shared.new (length areas.now) }
     ensures count { OnOk result (length shared.new.areas.items ≡ length shared.old.areas.items + 1) }
     ensures ok { OnOk result ((old : Desk) → OpensAll
         (take (length shared.old.areas.items) areas.now) nodes old (H.desk host.old) shared.old
@@ -100,10 +101,10 @@ fn open_rest<R: Wait, H: Host>(
     nodes: u32,
 ) -> Result<(), AreasError>
     requires areas { AreOpenable areas.now }
-    requires nodes { (0 < nodes) × (nodes ≤ 33) }
-    requires none { AreWhole shared.old nodes 0 }
+    requires nodes { (0 < nodes) × (nodes ≤ MOST_NODES + 1) }
+    requires none { AreShared shared.old nodes 0 }
     requires uncounted { shared.old.live.items ≡ [] }
-    requires room { HasRoom shared.old (length areas.now) }
+    requires room { HasAreaRoom shared.old (length areas.now) }
     ensures ok { OnOk result (OpensAll areas.now nodes (H.desk host.old) (H.desk host.new) shared.new) }
     ensures err { IfErr result (StopsAt areas.now nodes (H.desk host.old) (H.desk host.new) shared.new) }
 {
@@ -123,7 +124,7 @@ pub(crate) fn open_areas<R: Wait, H: Host>(
     nodes: u32,
 ) -> Result<SharedAreas<H::Disk>, AreasError>
     requires areas { AreOpenable areas.now }
-    requires nodes { (0 < nodes) × (nodes ≤ 33) }
+    requires nodes { (0 < nodes) × (nodes ≤ MOST_NODES + 1) }
     ensures ok { IfOk result (OpensAll areas.now nodes (H.desk host.old) (H.desk host.new)) }
     ensures err { IfErr result (RefusesAll areas.now (H.desk host.old) (H.desk host.new)) }
 {

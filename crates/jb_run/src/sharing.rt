@@ -1,19 +1,19 @@
 //! One area: its disk is taken from the host, opened and shared, and put back.
-ghost use Rattle.std.specs.Prelude.{◌≡◌, ◌<◌, ◌≤◌, ℕ, All, Bool, IfErr, IfOk, List, length, map};
+ghost use Rattle.std.specs.Prelude.{◌≡◌, ◌<◌, ◌≤◌, ℕ, All, Bool, IfErr, IfOk, List, length, map, ◌+◌};
 ghost use Rattle.std.specs.Option.{ForSome};
-ghost use Rattle.jb_limits.specs.declared.limits.TheConstants.{MOST_ADDRESS_BYTES, MOST_SLOTS};
+ghost use Rattle.jb_limits.specs.declared.limits.TheConstants.{MOST_ADDRESS_BYTES, MOST_SLOTS, MOST_NODES};
 ghost use Rattle.jb_disk.specs.Device.{Device};
 ghost use Rattle.jb_host.specs.Desk.{GivesDisk, TakesBack, handed_out};
 ghost use Rattle.jb_state.specs.Live.{live_count};
 ghost use Rattle.jb_state.specs.State.{slot_state};
 ghost use Rattle.jb_shared.specs.Areas.{IsOf, passes_of};
-ghost use Rattle.jb_shared.specs.Closing.{known_by, HasAll};
+ghost use Rattle.jb_shared.specs.Closing.{known_by, HasEachNode};
 ghost use Rattle.jb_run.specs.AreasErrors.{RefusesArea};
 ghost use Rattle.jb_run.specs.Lives.{Ends, OpensOver, SharesArea};
 
 use crate::areas_error::{AreasError, refused};
 use crate::claiming::open_claimed;
-use crate::meanings::tell;
+use crate::meanings::{tell, tell_done};
 use jb_area::OpenArea;
 use jb_base::AreaRules;
 use jb_conf::BoardArea;
@@ -43,8 +43,8 @@ fn count_live(slots: &[LoadedSlot]) -> usize
         .count()
 }
 
-/// Opens an area by these rules over the disk that the host has for it; where that is refused the disk is back, and the operator is
-/// told.
+/// Opens an area by these rules over the disk that the host has for it; where that is refused the disk is back. The operator is told of
+/// that, and of a change that waited in the journal.
 fn open_disk<H: Host>(
     alloc: Global,
     host: &mut H,
@@ -61,8 +61,14 @@ fn open_disk<H: Host>(
     ensures err { IfErr result (RefusesArea place area.now (H.desk host.old) (H.desk host.new)) }
 {
     let disk = host.disk(area.dir.as_str(), area.base.as_str())?;
-    match open_claimed(alloc, disk, rules) {
-        Ok(opened) => Ok(opened),
+    let mut waited = false;
+    match open_claimed(alloc, disk, rules, &mut waited) {
+        Ok(opened) => {
+            if waited {
+                tell_done(alloc, host, area);
+            }
+            Ok(opened)
+        }
         Err((disk, error)) => {
             host.put_back(area.dir.as_str(), area.base.as_str(), disk);
             let refusal = refused(place, error);
@@ -86,7 +92,7 @@ pub(crate) fn share<R: Wait, H: Host>(
 ) -> Result<Shared<H::Disk>, AreasError>
     requires few_slots { area.now.rules.slots ≤ MOST_SLOTS }
     requires address { length area.now.rules.address ≤ MOST_ADDRESS_BYTES }
-    requires nodes { (0 < nodes) × (nodes ≤ 33) }
+    requires nodes { (0 < nodes) × (nodes ≤ MOST_NODES + 1) }
     ensures ok { IfOk result (λ shared. SharesArea H.Disk.device area.now nodes (H.desk host.old)
         (H.desk host.new) shared.area shared.passes.items shared.live) }
     ensures err { IfErr result (RefusesArea place area.now (H.desk host.old) (H.desk host.new)) }
@@ -112,7 +118,7 @@ pub(crate) fn end<R: Wait, H: Host>(
     passes: Vec<Pass>,
 ) -> bool
     requires ours { All (IsOf shared) passes.items }
-    requires all { HasAll (known_by passes.items) (passes_of shared) }
+    requires all { HasEachNode (known_by passes.items) (passes_of shared) }
     ensures { (after : Device) × TakesBack area.now.dir area.now.base after (H.desk host.old)
         (H.desk host.new) × Ends passes.items result after }
 {

@@ -1,7 +1,6 @@
 //! What the operator is told of a run: that callers may come, what the areas then hold, and whose password all may know.
 ghost use Rattle.std.specs.Prelude.{◌≡◌, ◌≤◌, IsTrue, length};
 ghost use Rattle.std.specs.List.{list_all};
-ghost use Rattle.jb_conf.specs.InRange.{IsInRange};
 ghost use Rattle.jb_conf.specs.Ranges.{is_printed};
 ghost use Rattle.jb_run.specs.Telling.{AreNamed, area_line, listening_line};
 
@@ -96,7 +95,6 @@ pub(crate) fn port_of<D: Door, B, C>(board: &Board, nodes: &Vec<Worker<D, B, C>>
 /// Tells at which port callers may come and how many at once, each area with its number of live messages, and each user whose digest is
 /// one of the example.
 pub(crate) fn tell_open<H: Host>(host: &mut H, board: &Board, port: u16, live: &[usize])
-    requires board { IsInRange board.now }
     ensures { H.desk host.new ≡ H.desk host.old }
 {
     let line = listening_line(port, board.nodes);

@@ -7,7 +7,7 @@ use Rattle.std.proofs.lemmas.List.Sums.{fold-append}
 use Rattle.jb_base.specs.declared.user.User.{User}
 use Rattle.jb_host.specs.Rings.{IsFoundShut, Rings, RingsFor}
 use Rattle.jb_shared.specs.Passes.{Known, PassView}
-use Rattle.jb_server.specs.Rounds.{AnswersRing, AnswersRings, Came, OnPass, PackerWorks, Rung, RungsRun, came_of, numbers_of, packs_after, packs_with}
+use Rattle.jb_server.specs.Rounds.{AnswersRing, AnswersRings, Came, OnPass, PackerWorks, Rung, RungsRun, came_of, ring_numbers, packs_after, packs_with}
 use Rattle.jb_server.proofs.Told.{left_more, left_none, took_more, took_none}
 
 -- what happens on the pass at a place happens on that of the area with the next number
@@ -64,7 +64,7 @@ module _ (reading : Option ℕ) (user : User) where
           rang =
               let P : List ℕ → Type 0 = λ w. old.to_come ≡ option_map (λ rest. w ++ rest) new.to_come in
               subst P (sym (map-append (λ (rung : Rung). rung.number) rungs (last ∷ [])))
-              (took_more old.to_come now.to_come new.to_come (numbers_of rungs) number s.rang rings.first);
+              (took_more old.to_come now.to_come new.to_come (ring_numbers rungs) number s.rang rings.first);
           left = left_more old.left now.left new.left rungs last s.left rings.left;
         };
         counts =
@@ -77,7 +77,7 @@ module _ (reading : Option ℕ) (user : User) where
   pub works_shut : (old now new : Rings) (from to : List PassView) (before packs : ℕ) → IsPacking old from before now to packs → IsFoundShut now new
       → PackerWorks reading user old from before new to packs
   works_shut old now new from to before packs so_far found =
-      let P : Option (List ℕ) → Type 0 = λ w. old.to_come ≡ option_map (λ rest. numbers_of so_far.rungs ++ rest) w in
+      let P : Option (List ℕ) → Type 0 = λ w. old.to_come ≡ option_map (λ rest. ring_numbers so_far.rungs ++ rest) w in
       let Q : Option ℕ → Type 0 = λ w. old.left ≡ option_map (λ n. n + length so_far.rungs) w in
       record {
         rungs = so_far.rungs;

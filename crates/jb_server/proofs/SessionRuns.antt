@@ -11,7 +11,7 @@ use Rattle.jb_session.specs.Served.{Served}
 use Rattle.jb_session.specs.declared.end.SessionEnd.{SessionEnd}
 use Rattle.jb_shared.specs.Passes.{PassView}
 use Rattle.jb_server.specs.Sessions.{NodeWorks, Serves, Session, SessionsRun, back_of, ends_of, given_of}
-use Rattle.jb_server.specs.Tallies.{and_failed, counted, counted_all}
+use Rattle.jb_server.specs.Tallies.{and_failed, tallied, counted_all}
 use Rattle.jb_server.specs.declared.tally.Tally.{Tally}
 use Rattle.jb_server.proofs.Told.{added_more, added_none, left_more, left_none, took_more, took_none}
 
@@ -24,7 +24,7 @@ module _ (reading : Option ℕ) (board : Board) where
       (to, subst P run served, refl)
   run_more (session ∷ sessions) last from mid to run served = (run.0, run.1, run_more sessions last run.0 mid to run.2 served)
 
-  -- a node that goes on: its sessions, each counted under its end; its door has not failed, and is not found shut
+  -- a node that goes on: its sessions, each tallied under its end; its door has not failed, and is not found shut
   pub record IsServing (old : Gate) (from : List PassView) (before : Tally) (now : Gate) (to : List PassView) (tally : Tally) : Type 0 where
     pub sessions : List Session
     pub serves : Serves reading board sessions old from now to
@@ -45,7 +45,7 @@ module _ (reading : Option ℕ) (board : Board) where
   -- it has served one more
   pub serving_more : (old now mid new : Gate) (from seat to : List PassView) (before tally : Tally) (given back : Wire) (end : SessionEnd)
       → IsServing old from before now seat tally → GivesLink given now mid → Served reading board given seat end back to → HangsUp back mid new
-      → IsServing old from before new to (counted tally end)
+      → IsServing old from before new to (tallied tally end)
   serving_more old now mid new from seat to before tally given back end so_far gives served hangs =
       let last : Session = record { given = given; end = end; back = back } in
       let sessions = so_far.sessions in
@@ -70,9 +70,9 @@ module _ (reading : Option ℕ) (board : Board) where
         shut = hangs.shut ∙ gives.shut ∙ so_far.shut;
         faults = hangs.faults ∙ gives.faults ∙ so_far.faults;
         counts =
-            let P : List SessionEnd → Type 0 = λ w. counted tally end ≡ counted_all before w in
+            let P : List SessionEnd → Type 0 = λ w. tallied tally end ≡ counted_all before w in
             subst P (sym (map-append (λ (session : Session). session.end) sessions (last ∷ [])))
-            (ap (λ (w : Tally). counted w end) so_far.counts ∙ sym (fold-append counted before (ends_of sessions) (end ∷ [])));
+            (ap (λ (w : Tally). tallied w end) so_far.counts ∙ sym (fold-append tallied before (ends_of sessions) (end ∷ [])));
       }
 
   -- the door gave none: what was served stays

@@ -7,7 +7,7 @@ use Rattle.jb_host.specs.Rings.{Rings}
 use Rattle.jb_model.specs.declared.command.Command.TheVariants.{Pack}
 use Rattle.jb_model.specs.declared.reply.Reply.{Reply}
 use Rattle.jb_model.specs.declared.reply.Reply.TheVariants.{Packed}
-use Rattle.jb_session.specs.Exchanges.{Asks}
+use Rattle.jb_session.specs.Exchanges.{AsksPass}
 use Rattle.jb_shared.specs.Passes.{Known, PassView}
 use Rattle.jb_shared.specs.declared.error.SharedError.{SharedError}
 use Rattle.jb_server.specs.Tallies.{more_of}
@@ -22,8 +22,8 @@ pub record Rung : Type 0 where
   pub came : Came
 
 -- the numbers of rings
-abbrev pub numbers_of : List Rung → List ℕ
-numbers_of rungs = map (λ rung. rung.number) rungs
+abbrev pub ring_numbers : List Rung → List ℕ
+ring_numbers rungs = map (λ rung. rung.number) rungs
 
 -- and what came of them
 abbrev pub came_of : List Rung → List Came
@@ -55,7 +55,7 @@ module _ (reading : Option ℕ) (user : User) where
   -- a ring for an area that is not there is passed over; else a pack is asked there, as the packer's next call
   abbrev pub AnswersRing : ℕ → Came → List PassView → List PassView → Type 0
   AnswersRing number None old new = ((number ≡ 0) ⊎ (length old < number)) × (new ≡ old)
-  AnswersRing number (Some answer) old new = OnPass number (λ before after. Asks reading user Pack before after answer) old new
+  AnswersRing number (Some answer) old new = OnPass number (λ before after. AsksPass reading user Pack before after answer) old new
 
   -- the rings, one after another
   abbrev pub RungsRun : List PassView → List Rung → List PassView → Type 0
@@ -65,7 +65,7 @@ module _ (reading : Option ℕ) (user : User) where
   -- the rings are those that the bell was to give next, each answered
   pub record AnswersRings (rungs : List Rung) (old : Rings) (from : List PassView) (new : Rings) (to : List PassView) : Type 0 where
     pub run : RungsRun from rungs to
-    pub rang : old.to_come ≡ option_map (λ rest. numbers_of rungs ++ rest) new.to_come
+    pub rang : old.to_come ≡ option_map (λ rest. ring_numbers rungs ++ rest) new.to_come
     pub left : old.left ≡ option_map (λ n. n + length rungs) new.left
 
   -- what a packer has done once its bell is shut, since no ring was left: it has answered the rings, and counted the packs that were done

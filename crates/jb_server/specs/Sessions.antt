@@ -30,9 +30,9 @@ abbrev pub ends_of : List Session → List SessionEnd
 ends_of sessions = map (λ session. session.end) sessions
 
 -- why a node serves no more: its door has failed, or is shut since no call was left
-abbrev pub Stops : Bool → Gate → Gate → Type 0
-Stops true old new = Rose old.faults new.faults × (new.is_shut ≡ old.is_shut)
-Stops false old new = (new.is_shut ≡ true) × (new.left ≡ Some 0) × (new.faults ≡ old.faults)
+abbrev pub EndsServing : Bool → Gate → Gate → Type 0
+EndsServing true old new = Rose old.faults new.faults × (new.is_shut ≡ old.is_shut)
+EndsServing false old new = (new.is_shut ≡ true) × (new.left ≡ Some 0) × (new.faults ≡ old.faults)
 
 -- a clock that shows this reading, where it tells one, and a board
 module _ (reading : Option ℕ) (board : Board) where
@@ -54,5 +54,5 @@ module _ (reading : Option ℕ) (board : Board) where
     pub sessions : List Session
     pub serves : Serves sessions old from new to
     pub has_failed : Bool
-    pub stops : Stops has_failed old new
+    pub stops : EndsServing has_failed old new
     pub tally : after ≡ and_failed has_failed (counted_all before (ends_of sessions))

@@ -1,6 +1,5 @@
 //! The work of a node.
 ghost use Rattle.std.specs.Prelude.{◌≡◌, length};
-ghost use Rattle.jb_conf.specs.InRange.{IsInRange};
 ghost use Rattle.jb_session.specs.Exchanges.{AreOf};
 ghost use Rattle.jb_server.specs.Workers.{NodeHasWorked};
 
@@ -21,7 +20,6 @@ pub(crate) fn serve_node<T: Wait, D: Disk, R: Door, C: Clock>(
     areas: &[SharedArea<D>],
     slot: &mut NodeSlot<R, C>,
 )
-    requires board { IsInRange board.now }
     requires areas { length areas.now ≡ length board.now.areas }
     requires ours { AreOf areas.now slot.old.passes.items }
     ensures ours { AreOf areas.now slot.new.passes.items }

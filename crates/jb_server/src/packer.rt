@@ -2,7 +2,7 @@
 ghost use Rattle.std.specs.Prelude.{◌≡◌, ◌≤◌, length};
 ghost use Rattle.jb_limits.specs.declared.limits.TheConstants.{MOST_NAME_BYTES};
 ghost use Rattle.jb_model.specs.declared.command.Command.{Command};
-ghost use Rattle.jb_session.specs.Exchanges.{AreOf, Asks};
+ghost use Rattle.jb_session.specs.Exchanges.{AreOf, AsksPass};
 ghost use Rattle.jb_shared.specs.Areas.{IsOf};
 ghost use Rattle.jb_server.specs.Rounds.{AnswersRing, packs_with};
 ghost use Rattle.jb_server.specs.Workers.{PackerHasWorked};
@@ -18,7 +18,15 @@ use std::alloc::Global;
 use std::fmt::Write;
 use std::sync::Wait;
 
-/// Asks a pack as the next call of a pass, at the moment that the clock shows.
+/// What the operator is told of a pack by the bell.
+enum Told<'t> {
+    Begins,
+    /// It has ended a doubt.
+    Settled,
+    Came(&'t Result<Reply, SharedError>),
+}
+
+/// Asks a pack as the next call of a pass, at the moment that the clock shows. `has_settled` is then whether that has ended a doubt.
 fn ask_pack<T: Wait, D: Disk, C: Clock>(
     rt: &T,
     alloc: Global,
@@ -26,32 +34,51 @@ fn ask_pack<T: Wait, D: Disk, C: Clock>(
     pass: &mut Pass,
     clock: &mut C,
     user: &User,
+    has_settled: &mut bool,
 ) -> Result<Reply, SharedError>
     requires ours { IsOf area.now pass.old }
     requires name { length user.now.name ≤ MOST_NAME_BYTES }
     ensures ours { IsOf area.now pass.new }
     ensures clock { C.reading clock.new ≡ C.reading clock.old }
-    ensures asks { Asks (C.reading clock.old) user.now Command.Pack pass.old.known pass.new.known result }
+    ensures asks { AsksPass (C.reading clock.old) user.now Command.Pack pass.old.known pass.new.known result }
 {
     let moment = clock.now();
-    area.call(rt, alloc, pass, user, moment, &Command::Pack)
+    let came = area.call(rt, alloc, pass, user, moment, &Command::Pack);
+    *has_settled = pass.has_settled();
+    came
 }
 
-/// Tells the operator that a pack begins, or what came of it.
-fn tell<B: Bell>(bell: &mut B, number: u32, came: Option<&Result<Reply, SharedError>>)
+/// Tells the operator this of the area with this number.
+fn tell<B: Bell>(bell: &mut B, number: u32, told: Told<'_>)
     ensures { B.rings bell.new ≡ B.rings bell.old }
 {
     let mut line = ArrayString::<96>::new();
     let _ = write!(line, "bell: area {number}: ");
-    let _ = match came {
-        None => line.write_str("pack begins"),
-        Some(Ok(Reply::Packed { live, dropped, .. })) => {
+    let _ = match told {
+        Told::Begins => line.write_str("pack begins"),
+        Told::Settled => line.write_str("settled"),
+        Told::Came(Ok(Reply::Packed { live, dropped, .. })) => {
             write!(line, "packed, live {live} dropped {dropped}")
         }
-        Some(Err(SharedError::StoreFault)) => line.write_str("the device failed, in doubt"),
-        Some(_) => line.write_str("not packed"),
+        Told::Came(Err(SharedError::StoreFault)) => line.write_str("the device failed, in doubt"),
+        Told::Came(_) => line.write_str("not packed"),
     };
     bell.note(line.as_str());
+}
+
+/// Tells the operator what came of a pack of the area with this number, and before it whether that has ended a doubt.
+fn tell_end<B: Bell>(
+    bell: &mut B,
+    number: u32,
+    came: &Result<Reply, SharedError>,
+    has_settled: bool,
+)
+    ensures { B.rings bell.new ≡ B.rings bell.old }
+{
+    if has_settled {
+        tell(bell, number, Told::Settled);
+    }
+    tell(bell, number, Told::Came(came));
 }
 
 impl<B: Bell, C: Clock> PackSlot<B, C> {
@@ -77,7 +104,8 @@ impl<B: Bell, C: Clock> PackSlot<B, C> {
     {
         let k = number.checked_sub(1)? as usize;
         let area = areas.get(k)?;
-        tell(&mut self.bell, number, None);
+        tell(&mut self.bell, number, Told::Begins);
+        let mut has_settled = false;
         let came = ask_pack(
             rt,
             alloc,
@@ -85,8 +113,9 @@ impl<B: Bell, C: Clock> PackSlot<B, C> {
             &mut self.passes[k],
             &mut self.clock,
             &self.user,
+            &mut has_settled,
         );
-        tell(&mut self.bell, number, Some(&came));
+        tell_end(&mut self.bell, number, &came, has_settled);
         Some(came)
     }
 }

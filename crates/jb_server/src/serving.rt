@@ -1,6 +1,5 @@
 //! All workers at the same time.
 ghost use Rattle.std.specs.Prelude.{◌≡◌, ◌<◌, All, ℕ, length, slice_index_or};
-ghost use Rattle.jb_conf.specs.InRange.{IsInRange};
 ghost use Rattle.jb_server.specs.Workers.{HasWorked, IsAtWork};
 
 use crate::node::serve_node;
@@ -23,7 +22,6 @@ fn work<T: Wait, D: Disk, R: Door, B: Bell, C: Clock>(
     areas: &[SharedArea<D>],
     worker: &mut Worker<R, B, C>,
 )
-    requires board { IsInRange board.now }
     requires areas { length areas.now ≡ length board.now.areas }
     requires ours { IsAtWork areas.now worker.old }
     ensures ours { IsAtWork areas.now worker.new }
@@ -46,7 +44,6 @@ pub fn serve<
 >(rt: &T, alloc: Global, board: &Board, areas: &[SharedArea<D>], workers: &mut [Worker<R, B, C>])
 where
     R::Link: Send,
-    requires board { IsInRange board.now }
     requires areas { length areas.now ≡ length board.now.areas }
     requires ours { All (IsAtWork areas.now) workers.old }
     ensures ours { All (IsAtWork areas.now) workers.new }

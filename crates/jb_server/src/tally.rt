@@ -1,6 +1,6 @@
 //! What a node counts.
 ghost use Rattle.std.specs.Prelude.{◌≡◌, true};
-ghost use Rattle.jb_server.specs.Tallies.{and_failed, counted, no_tally};
+ghost use Rattle.jb_server.specs.Tallies.{and_failed, tallied, no_tally};
 
 use jb_session::SessionEnd;
 
@@ -44,7 +44,7 @@ impl Tally {
 
     /// Counts a session under its end.
     pub fn count(&mut self, end: SessionEnd)
-        ensures { self.new ≡ counted self.old end }
+        ensures { self.new ≡ tallied self.old end }
     {
         self.calls = self.calls.saturating_add(1);
         match end {

@@ -7,7 +7,7 @@ use Rattle.jb_talk.specs.Asking.{most_asked}
 use Rattle.jb_bytes.specs.Fault.{Rose}
 use Rattle.jb_limits.specs.declared.limits.TheConstants.{MOST_SESSION_BYTES}
 use Rattle.jb_conf.specs.declared.board.Board.{Board}
-use Rattle.jb_host.specs.Wire.{Begins, Sends, Takes, Wire}
+use Rattle.jb_host.specs.Wire.{IsFrontOf, Sends, Takes, Wire}
 use Rattle.jb_host.proofs.Wires.{rose_later, sends_more, sends_none, takes_more, takes_none}
 use Rattle.jb_menu.specs.declared.given.Given.{Given}
 use Rattle.jb_shared.specs.Passes.{PassView}
@@ -264,7 +264,7 @@ module _ (reading : Option ℕ) (board : Board) where
 
   -- a write failed
   pub ends_unsent : EachTalks → TalksGrow → EachStands → (old now now' : Wire) (from to : List PassView) (rest : List ℕ) (talking : Talking) (part : List ℕ)
-      → Stands reading board old from now rest talking None to → Begins part talking.owed → Sends now.sent part now'.sent → now'.to_come ≡ now.to_come → Later now now'
+      → Stands reading board old from now rest talking None to → IsFrontOf part talking.owed → Sends now.sent part now'.sent → now'.to_come ≡ now.to_come → Later now now'
       → Rose now.faults now'.faults → Rose now.unsent now'.unsent → Served reading board old from LinkFault now' to
   ends_unsent each grow stands old now now' from to rest talking part s begins sends to_come later faults unsent = record {
     taken = s.heard ++ rest;

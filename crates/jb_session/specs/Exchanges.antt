@@ -42,25 +42,25 @@ pub record AreOf {D : Type 0} (areas : List (SharedArea D)) (passes : List PassV
 -- the clock shows this reading, where it tells one
 module _ (reading : Option ℕ) where
   -- the command is asked on a pass as its node's next call, at the moment that the clock shows
-  abbrev pub Asks : User → Command → Known → Known → Result Reply SharedError → Type 0
-  Asks user command old new result = (moment : ℕ) × ForSome reading (λ shown. moment ≡ shown) × Calls old new user moment command result
+  abbrev pub AsksPass : User → Command → Known → Known → Result Reply SharedError → Type 0
+  AsksPass user command old new result = (moment : ℕ) × ForSome reading (λ shown. moment ≡ shown) × Calls old new user moment command result
 
   -- how a pass answers an act of the user: a call with its reply or the fault that stopped it, a look and a count by what they show,
   -- or that they were not let in
-  abbrev pub Gives : User → Act → Known → Known → Given → Type 0
-  Gives user (Ask command) old new (given.Reply reply) = Asks user command old new (Ok reply)
-  Gives user (Ask command) old new (given.Fault fault.StoreFault) = Asks user command old new (Err StoreFault)
-  Gives user (Ask command) old new (given.Fault (fault.Gap shown held)) = Asks user command old new (Err (Gap shown held))
-  Gives user (Ask command) old new (given.Fault fault.RunSpent) = Asks user command old new (Err RunSpent)
-  Gives user (Look question) old new (given.Answer answer) = Looks old new × OfShown new (λ index. answer ≡ answer_to index user question)
-  Gives user (Look question) old new (given.Fault fault.Barred) = new ≡ turned_away old
-  Gives user Count old new (given.Count unread) = Looks old new × OfShown new (λ index. unread ≡ length (unread_to index user))
-  Gives user Count old new (given.Fault fault.Barred) = new ≡ turned_away old
-  Gives user act old new what = ⊥
+  abbrev pub GivesAnswer : User → Act → Known → Known → Given → Type 0
+  GivesAnswer user (Ask command) old new (given.Reply reply) = AsksPass user command old new (Ok reply)
+  GivesAnswer user (Ask command) old new (given.Fault fault.StoreFault) = AsksPass user command old new (Err StoreFault)
+  GivesAnswer user (Ask command) old new (given.Fault (fault.Gap shown held)) = AsksPass user command old new (Err (Gap shown held))
+  GivesAnswer user (Ask command) old new (given.Fault fault.RunSpent) = AsksPass user command old new (Err RunSpent)
+  GivesAnswer user (Look question) old new (given.Answer answer) = Looks old new × OfShown new (λ index. answer ≡ answer_to index user question)
+  GivesAnswer user (Look question) old new (given.Fault fault.Barred) = new ≡ turned_away old
+  GivesAnswer user Count old new (given.Count unread) = Looks old new × OfShown new (λ index. unread ≡ length (unread_to index user))
+  GivesAnswer user Count old new (given.Fault fault.Barred) = new ≡ turned_away old
+  GivesAnswer user act old new what = ⊥
 
   -- how a pass stands where memory was wanting for the answer
   abbrev pub Wants : User → Act → Known → Known → Type 0
-  Wants user (Ask command) old new = Asks user command old new (Err OutOfMemory)
+  Wants user (Ask command) old new = AsksPass user command old new (Err OutOfMemory)
   Wants user (Look question) old new = Looks old new
   Wants user Count old new = ⊥
 
@@ -76,7 +76,7 @@ module _ (reading : Option ℕ) where
 
     -- a request was answered
     abbrev pub Exchanged : Exchange → List PassView → List PassView → Type 0
-    Exchanged exchange old new = Happens exchange.request (λ user before after. Gives user exchange.request.act before after exchange.given) old new
+    Exchanged exchange old new = Happens exchange.request (λ user before after. GivesAnswer user exchange.request.act before after exchange.given) old new
 
     -- a request was made, and memory was wanting for its answer
     abbrev pub Lacks : Request → List PassView → List PassView → Type 0

@@ -1,11 +1,10 @@
 //! One request, done on the area that it asks.
 ghost use Rattle.std.specs.Prelude.{◌≡◌, ◌<◌, ◌≤◌, ℕ, Option, false, length, IfOk, OnErr};
 ghost use Rattle.jb_limits.specs.declared.limits.TheConstants.{MOST_NAME_BYTES};
-ghost use Rattle.jb_conf.specs.InRange.{IsInRange};
 ghost use Rattle.jb_shared.specs.Areas.{IsOf};
 ghost use Rattle.jb_talk.specs.Asking.{is_line};
 ghost use Rattle.jb_talk.specs.declared.request.Act.{Act};
-ghost use Rattle.jb_session.specs.Exchanges.{AreOf, Exchanged, Gives, Lacks, Wants};
+ghost use Rattle.jb_session.specs.Exchanges.{AreOf, Exchanged, GivesAnswer, Lacks, Wants};
 
 use jb_base::{OutOfMemory, User};
 use jb_conf::Board;
@@ -19,7 +18,7 @@ use jb_talk::{Act, Request};
 use std::alloc::Global;
 use std::sync::Wait;
 
-/// Asks a command, at the moment that the clock shows.
+/// Asks a command, at the moment that the clock shows. `has_settled` is then whether that has ended a doubt.
 fn call<R: Wait, D: Disk, C: Clock>(
     rt: &R,
     alloc: Global,
@@ -28,18 +27,21 @@ fn call<R: Wait, D: Disk, C: Clock>(
     clock: &mut C,
     user: &User,
     command: &Command,
+    has_settled: &mut bool,
 ) -> Result<Given, OutOfMemory>
     requires ours { IsOf area.now pass.old }
     requires name { length user.now.name ≤ MOST_NAME_BYTES }
     ensures ours { IsOf area.now pass.new }
     ensures clock { C.reading clock.new ≡ C.reading clock.old }
-    ensures ok { IfOk result (λ given. Gives (C.reading clock.old) user.now
+    ensures ok { IfOk result (λ given. GivesAnswer (C.reading clock.old) user.now
         (Act.Ask command.now) pass.old.known pass.new.known given) }
     ensures err { OnErr result (Wants (C.reading clock.old) user.now
         (Act.Ask command.now) pass.old.known pass.new.known) }
 {
     let moment = clock.now();
-    match area.call(rt, alloc, pass, user, moment, command) {
+    let came = area.call(rt, alloc, pass, user, moment, command);
+    *has_settled = pass.has_settled();
+    match came {
         Ok(reply) => Ok(Given::Reply(reply)),
         Err(SharedError::StoreFault) => Ok(Given::Fault(SharedFault::StoreFault)),
         Err(SharedError::Gap { shown, held }) => {
@@ -60,7 +62,7 @@ fn look<D: Disk>(
     requires ours { IsOf area.now pass.old }
     ensures ours { IsOf area.now pass.new }
     ensures ok { (reading : Option ℕ) → IfOk result (λ given.
-        Gives reading user.now (Act.Look question.now) pass.old.known pass.new.known given) }
+        GivesAnswer reading user.now (Act.Look question.now) pass.old.known pass.new.known given) }
     ensures err { (reading : Option ℕ) → OnErr result
         (Wants reading user.now (Act.Look question.now) pass.old.known pass.new.known) }
 {
@@ -76,7 +78,7 @@ fn count<D: Disk>(area: &SharedArea<D>, pass: &mut Pass, user: &User) -> Given
     requires ours { IsOf area.now pass.old }
     ensures ours { IsOf area.now pass.new }
     ensures ok { (reading : Option ℕ)
-        → Gives reading user.now Act.Count pass.old.known pass.new.known result }
+        → GivesAnswer reading user.now Act.Count pass.old.known pass.new.known result }
 {
     match area.unread_count(pass, user) {
         Ok(unread) => Given::Count(unread),
@@ -93,23 +95,25 @@ fn act<R: Wait, D: Disk, C: Clock>(
     clock: &mut C,
     user: &User,
     act: &Act,
+    has_settled: &mut bool,
 ) -> Result<Given, OutOfMemory>
     requires ours { IsOf area.now pass.old }
     requires name { length user.now.name ≤ MOST_NAME_BYTES }
     ensures ours { IsOf area.now pass.new }
     ensures clock { C.reading clock.new ≡ C.reading clock.old }
-    ensures ok { IfOk result (λ given. Gives
+    ensures ok { IfOk result (λ given. GivesAnswer
         (C.reading clock.old) user.now act.now pass.old.known pass.new.known given) }
     ensures err { OnErr result (Wants (C.reading clock.old) user.now act.now pass.old.known pass.new.known) }
 {
     match act {
-        Act::Ask(command) => call(rt, alloc, area, pass, clock, user, command),
+        Act::Ask(command) => call(rt, alloc, area, pass, clock, user, command, has_settled),
         Act::Look(question) => look(area, pass, user, question),
         Act::Count => Ok(count(area, pass, user)),
     }
 }
 
-/// Does a request on the area that it asks, on its pass. A fault of the area is an answer too; without memory there is none.
+/// Does a request on the area that it asks, on its pass. A fault of the area is an answer too; without memory there is none. A command
+/// says in `has_settled` whether it has ended a doubt.
 pub(crate) fn exchange<R: Wait, D: Disk, C: Clock>(
     rt: &R,
     alloc: Global,
@@ -118,8 +122,8 @@ pub(crate) fn exchange<R: Wait, D: Disk, C: Clock>(
     passes: &mut [Pass],
     clock: &mut C,
     request: &Request,
+    has_settled: &mut bool,
 ) -> Result<Given, OutOfMemory>
-    requires board { IsInRange board.now }
     requires user { request.now.user < length board.now.users }
     requires area { request.now.area < length areas.now }
     requires ours { AreOf areas.now passes.old }
@@ -140,5 +144,6 @@ pub(crate) fn exchange<R: Wait, D: Disk, C: Clock>(
         clock,
         user,
         &request.act,
+        has_settled,
     )
 }

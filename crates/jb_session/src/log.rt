@@ -5,9 +5,9 @@ use crate::end::SessionEnd;
 use arrayvec::ArrayString;
 use jb_host::{Clock, Link};
 use jb_menu::Given;
-use jb_model::Reply;
+use jb_model::{Command, Reply};
 use jb_state::SharedFault;
-use jb_talk::{Request, Talk};
+use jb_talk::{Act, Request, Talk};
 use std::fmt::Write;
 
 /// A line takes no memory. What does not fit is left out.
@@ -31,6 +31,8 @@ pub(crate) struct Log {
     /// The name of who has logged in, if one has.
     user: Option<Shown>,
     deed: Option<Deed>,
+    /// The area of which a doubt was ended.
+    settled: Option<u32>,
 }
 
 /// A name as it is shown: its first bytes, with `?` in place of those that are not printed in ASCII.
@@ -66,6 +68,7 @@ impl Log {
             tried: None,
             user: None,
             deed: None,
+            settled: None,
         }
     }
 
@@ -74,9 +77,24 @@ impl Log {
         self.tried = talk.name_tried().map(shown);
     }
 
-    /// Keeps what the answer to a request says of the area.
-    pub(crate) fn keep(&mut self, request: &Request, given: &Given) {
+    /// Tells that a pack begins, where one is asked.
+    pub(crate) fn ask<L: Link>(&self, link: &mut L, request: &Request)
+        ensures { L.wire link.new ≡ L.wire link.old }
+    {
+        if let Act::Ask(Command::Pack) = &request.act {
+            let mut line = Line::new();
+            let area = request.area.saturating_add(1);
+            let _ = write!(line, "area {area}: pack begins");
+            link.note(line.as_str());
+        }
+    }
+
+    /// Keeps what the answer to a request says of the area, and whether a doubt was ended for it.
+    pub(crate) fn keep(&mut self, request: &Request, given: &Given, has_settled: bool) {
         let area = request.area.saturating_add(1);
+        if has_settled {
+            self.settled = Some(area);
+        }
         match given {
             Given::Fault(SharedFault::StoreFault) => self.deed = Some(Deed::Doubt(area)),
             Given::Reply(Reply::Packed { live, dropped, .. }) => {
@@ -94,6 +112,11 @@ impl Log {
     pub(crate) fn tell<L: Link>(&mut self, link: &mut L, talk: &Talk)
         ensures { L.wire link.new ≡ L.wire link.old }
     {
+        if let Some(area) = self.settled.take() {
+            let mut line = Line::new();
+            let _ = write!(line, "area {area}: settled");
+            link.note(line.as_str());
+        }
         let mut line = Line::new();
         if talk.is_logged_in() && self.user.is_none() {
             self.user = self.tried.take();

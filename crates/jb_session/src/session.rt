@@ -2,7 +2,6 @@
 ghost use Rattle.std.specs.Prelude.{◌≡◌, ◌+◌, ◌<◌, ◌≤◌, ℕ, List, [], None, Option, Some, false, true, IfErr, IfOk, OnErr, OnOk, drop, length, take};
 ghost use Rattle.std.specs.Option.{is_some};
 ghost use Rattle.jb_limits.specs.declared.limits.TheConstants.{MOST_SESSION_BYTES};
-ghost use Rattle.jb_conf.specs.InRange.{IsInRange};
 ghost use Rattle.jb_host.specs.Wire.{Wire};
 ghost use Rattle.jb_shared.specs.Passes.{PassView};
 ghost use Rattle.jb_talk.specs.Asking.{most_asked};
@@ -25,22 +24,23 @@ use std::alloc::Global;
 use std::sync::Wait;
 
 /// Does a request, and tells the talk the answer. Gives the request that follows.
-fn respond<R: Wait, D: Disk, C: Clock>(
+fn respond<R: Wait, D: Disk, L: Link, C: Clock>(
     rt: &R,
     alloc: Global,
     board: &Board,
     areas: &[SharedArea<D>],
     passes: &mut [Pass],
+    link: &mut L,
     clock: &mut C,
     log: &mut Log,
     talk: &mut Talk,
     request: &Request,
 ) -> Result<Option<Request>, OutOfMemory>
-    requires board { IsInRange board.now }
     requires areas { length areas.now ≡ length board.now.areas }
     requires ours { AreOf areas.now passes.old }
     requires hands { Hands board.now talk.old (Some request.now) }
     ensures ours { AreOf areas.now passes.new }
+    ensures wire { L.wire link.new ≡ L.wire link.old }
     ensures clock { C.reading clock.new ≡ C.reading clock.old }
     ensures hands { IfOk result (λ next. Hands board.now talk.new next) }
     ensures counted { OnOk result (talk.new.taken ≡ talk.old.taken) }
@@ -56,28 +56,40 @@ fn respond<R: Wait, D: Disk, C: Clock>(
         → Served (C.reading clock.old) board.now old from SessionEnd.OutOfMemory now passes.new) }
 {
     conversations_are_one();
-    let given = exchange(rt, alloc, board, areas, passes, clock, request)?;
-    log.keep(request, &given);
+    log.ask(link, request);
+    let mut has_settled = false;
+    let given = exchange(
+        rt,
+        alloc,
+        board,
+        areas,
+        passes,
+        clock,
+        request,
+        &mut has_settled,
+    )?;
+    log.keep(request, &given, has_settled);
     talk.answer(alloc, board, &given)
 }
 
 /// Does a request, where there is one, and all that follow.
-fn respond_all<R: Wait, D: Disk, C: Clock>(
+fn respond_all<R: Wait, D: Disk, L: Link, C: Clock>(
     rt: &R,
     alloc: Global,
     board: &Board,
     areas: &[SharedArea<D>],
     passes: &mut [Pass],
+    link: &mut L,
     clock: &mut C,
     log: &mut Log,
     talk: &mut Talk,
     first: Option<Request>,
 ) -> Result<(), OutOfMemory>
-    requires board { IsInRange board.now }
     requires areas { length areas.now ≡ length board.now.areas }
     requires ours { AreOf areas.now passes.old }
     requires hands { Hands board.now talk.old first }
     ensures ours { AreOf areas.now passes.new }
+    ensures wire { L.wire link.new ≡ L.wire link.old }
     ensures clock { C.reading clock.new ≡ C.reading clock.old }
     ensures hands { OnOk result (Hands board.now talk.new None) }
     ensures counted { OnOk result (talk.new.taken ≡ talk.old.taken) }
@@ -92,7 +104,9 @@ fn respond_all<R: Wait, D: Disk, C: Clock>(
 {
     let mut next = first;
     while let Some(request) = next {
-        next = respond(rt, alloc, board, areas, passes, clock, log, talk, &request)?;
+        next = respond(
+            rt, alloc, board, areas, passes, link, clock, log, talk, &request,
+        )?;
     }
     Ok(())
 }
@@ -111,23 +125,24 @@ fn first_line(piece: &[u8]) -> &[u8]
 
 /// Hears a piece, as far as the byte at which a line ends or an area is asked something, and does all that is asked then.
 /// Gives how many bytes were heard.
-fn hear<R: Wait, D: Disk, C: Clock>(
+fn hear<R: Wait, D: Disk, L: Link, C: Clock>(
     rt: &R,
     alloc: Global,
     board: &Board,
     areas: &[SharedArea<D>],
     passes: &mut [Pass],
+    link: &mut L,
     clock: &mut C,
     log: &mut Log,
     talk: &mut Talk,
     piece: &[u8],
 ) -> Result<usize, OutOfMemory>
-    requires board { IsInRange board.now }
     requires areas { length areas.now ≡ length board.now.areas }
     requires ours { AreOf areas.now passes.old }
     requires hands { Hands board.now talk.old None }
     requires room { talk.old.taken + length piece.now ≤ MOST_SESSION_BYTES }
     ensures ours { AreOf areas.now passes.new }
+    ensures wire { L.wire link.new ≡ L.wire link.old }
     ensures clock { C.reading clock.new ≡ C.reading clock.old }
     ensures hands { OnOk result (Hands board.now talk.new None) }
     ensures within { IfOk result (λ heard. heard ≤ length piece.now) }
@@ -152,6 +167,7 @@ fn hear<R: Wait, D: Disk, C: Clock>(
         board,
         areas,
         passes,
+        link,
         clock,
         log,
         talk,
@@ -174,7 +190,6 @@ fn take<R: Wait, D: Disk, L: Link, C: Clock>(
     talk: &mut Talk,
     piece: &[u8],
 ) -> Result<(), SessionEnd>
-    requires board { IsInRange board.now }
     requires areas { length areas.now ≡ length board.now.areas }
     requires ours { AreOf areas.now passes.old }
     requires hands { Hands board.now talk.old None }
@@ -198,7 +213,9 @@ fn take<R: Wait, D: Disk, L: Link, C: Clock>(
             return Err(SessionEnd::LinkFault);
         };
         let rest = &piece[at..];
-        let Ok(heard) = hear(rt, alloc, board, areas, passes, clock, log, talk, rest) else {
+        let Ok(heard) = hear(
+            rt, alloc, board, areas, passes, link, clock, log, talk, rest,
+        ) else {
             return Err(SessionEnd::OutOfMemory);
         };
         log.tell(link, talk);
@@ -219,7 +236,6 @@ fn turn<R: Wait, D: Disk, L: Link, C: Clock>(
     log: &mut Log,
     talk: &mut Talk,
 ) -> Result<(), SessionEnd>
-    requires board { IsInRange board.now }
     requires areas { length areas.now ≡ length board.now.areas }
     requires ours { AreOf areas.now passes.old }
     requires hands { Hands board.now talk.old None }
@@ -271,7 +287,6 @@ fn serve_talk<R: Wait, D: Disk, L: Link, C: Clock>(
     log: &mut Log,
     talk: &mut Talk,
 ) -> SessionEnd
-    requires board { IsInRange board.now }
     requires areas { length areas.now ≡ length board.now.areas }
     requires ours { AreOf areas.now passes.old }
     requires hands { Hands board.now talk.old None }
@@ -307,7 +322,6 @@ pub fn serve_session<R: Wait, D: Disk, L: Link, C: Clock>(
     link: &mut L,
     clock: &mut C,
 ) -> SessionEnd
-    requires board { IsInRange board.now }
     requires areas { length areas.now ≡ length board.now.areas }
     requires ours { AreOf areas.now passes.old }
     ensures ours { AreOf areas.now passes.new }

@@ -12,18 +12,18 @@ use Rattle.jb_model.specs.declared.entry.Entry.{Entry}
 use Rattle.jb_publish.specs.Fronts.{book_of}
 use Rattle.jb_publish.specs.Marks.{book_at, mark_with}
 use Rattle.jb_publish.specs.Publications.{publication_of}
-use Rattle.jb_publish.specs.declared.known.Mark.{Mark}
+use Rattle.jb_publish.specs.declared.known.PairMark.{PairMark}
 use Rattle.jb_publish.proofs.Fronts.{prefix_shorter, prefix_trans}
 use Rattle.jb_turn.specs.Rows.{Has}
 use Rattle.jb_turn.specs.Whole as turn
 use Rattle.jb_turn.proofs.Histories.{none_has}
 use Rattle.logbook.specs.Pages.{Book}
 use Rattle.jb_shared.specs.Areas.{IsOf}
-use Rattle.jb_shared.specs.Closing.{Closes, HasAll, HasNode, IsLowestMissing, IsPartOf, OneBegins, known_by}
+use Rattle.jb_shared.specs.Closing.{Closes, HasEachNode, HasNode, IsLowestMissing, IsPartOf, OneBegins, known_by}
 use Rattle.jb_shared.specs.InTurn.{SeatRow}
 use Rattle.jb_shared.specs.Keeping.{IsKept}
 use Rattle.jb_shared.specs.Passes.{AreaId, IsPairOf, Known, PassView, row_in}
-use Rattle.jb_shared.specs.Standing.{StandsFor, caller_of}
+use Rattle.jb_shared.specs.Standing.{StandsForHistory, caller_of}
 use Rattle.jb_shared.specs.declared.opening.Opening.{Opening}
 use Rattle.jb_shared.specs.declared.shared.SharedArea.{SharedArea}
 use Rattle.jb_shared.specs.declared.shown.ShownArea.{ShownArea}
@@ -49,20 +49,20 @@ has_map f (y ∷ ys) z (zero, here) = (y, (zero, refl), some-injective (f y) z h
 has_map f (y ∷ ys) z (suc k, there) = let later = has_map f ys z (k, there) in (later.0, (suc later.1.0, later.1.1), later.2)
 
 -- a node that a row has, a pass knows, and the other way round
-to_known : (passes : List PassView) (node : ℕ) → turn.HasNode (map row_in passes) node → HasNode (known_by passes) node
+to_known : (passes : List PassView) (node : ℕ) → turn.HasRow (map row_in passes) node → HasNode (known_by passes) node
 to_known passes node (r, has, is) =
     let one = has_map row_in passes r has in (one.0.known, map_has (λ (p : PassView). p.known) passes one.0 one.1, ap (λ (row : SeatRow). row.node) one.2 ∙ is)
 
-of_known : (passes : List PassView) (node : ℕ) → HasNode (known_by passes) node → turn.HasNode (map row_in passes) node
+of_known : (passes : List PassView) (node : ℕ) → HasNode (known_by passes) node → turn.HasRow (map row_in passes) node
 of_known passes node (known, has, is) =
     let one = has_map (λ (p : PassView). p.known) passes known has in (row_in one.0, map_has row_in passes one.0 one.1, ap (λ (k : Known). k.node) one.2 ∙ is)
 
 -- all nodes are there
-pub all_known : (passes : List PassView) (count : ℕ) → turn.HasAll (map row_in passes) count → HasAll (known_by passes) count
+pub all_known : (passes : List PassView) (count : ℕ) → turn.HasRows (map row_in passes) count → HasEachNode (known_by passes) count
 all_known passes count all = λ node above within. to_known passes node (all node above within)
 
 -- the lowest one that is missing
-pub missing_known : (passes : List PassView) (count node : ℕ) → turn.IsLowestMissing (map row_in passes) count node → IsLowestMissing (known_by passes) count node
+pub missing_known : (passes : List PassView) (count node : ℕ) → turn.IsLowestRowMissing (map row_in passes) count node → IsLowestMissing (known_by passes) count node
 missing_known passes count node (above, within, none, lower) =
     (above, within, (λ has. let row = of_known passes node has in none row.0 row.1 row.2), λ less more below. to_known passes less (lower less more below))
 
@@ -93,14 +93,14 @@ shown_more passes i pass longest next within is on here all =
     (subst (λ (p : PassView). IsPrefix p.known.shown next) is here)
 
 -- the mark of a pass, where it is known
-mark_parts : (area : Option AreaId) (opening : Option Opening) (first : Mark Opening) (book : Book) → option_and_then (λ (id : AreaId). option_map (mark_with id.book) opening) area ≡ Some first → option_map (λ (id : AreaId). id.book) area ≡ Some book
+mark_parts : (area : Option AreaId) (opening : Option Opening) (first : PairMark Opening) (book : Book) → option_and_then (λ (id : AreaId). option_map (mark_with id.book) opening) area ≡ Some first → option_map (λ (id : AreaId). id.book) area ≡ Some book
     → (opening ≡ Some first.opening) × (book ≡ book_at (Some first))
 mark_parts None opening first book is pair = absurd (cc (is))
 mark_parts (Some id) None first book is pair = absurd (cc (is))
 mark_parts (Some id) (Some opening) first book is pair =
-    let mark : mark_with id.book opening ≡ first = ap (λ (o : Option (Mark Opening)). unwrap_or o first) is in (
-      ap (λ (m : Mark Opening). Some m.opening) mark,
-      ap (λ (o : Option Book). unwrap_or o book) (sym pair) ∙ ap (λ (m : Mark Opening). book_at (Some m)) mark,
+    let mark : mark_with id.book opening ≡ first = ap (λ (o : Option (PairMark Opening)). unwrap_or o first) is in (
+      ap (λ (m : PairMark Opening). Some m.opening) mark,
+      ap (λ (o : Option Book). unwrap_or o book) (sym pair) ∙ ap (λ (m : PairMark Opening). book_at (Some m)) mark,
     )
 
 module _ {D : Type 0} where
@@ -120,7 +120,7 @@ module _ {D : Type 0} where
       → book ≡ book_at (publication_of state.shower).mark
   same_pair shown book passes state paired whole =
       let longest = has_map row_in passes whole.longest.0 whole.longest.1 in
-      (known_start shown book passes state paired whole longest.0 longest.1).1 ∙ ap (λ (m : Option (Mark Opening)). book_at m) (sym whole.stands_for.index.pair)
+      (known_start shown book passes state paired whole longest.0 longest.1).1 ∙ ap (λ (m : Option (PairMark Opening)). book_at m) (sym whole.stands_for.index.pair)
 
   -- one history, of which each pass knows a part
   pub closes : (shown : D → Device) (book : Book) (passes : List PassView) (state : ShownArea D) (area : OpenArea D) (longest : List Entry) → All (λ (pass : PassView). IsPairOf pass book) passes
@@ -131,7 +131,7 @@ module _ {D : Type 0} where
       record {
         opening = whole.first.opening;
         history = whole.log;
-        stands = subst (λ (a : OpenArea D). StandsFor shown a whole.first.opening whole.log) (sym same) whole.stands_for.area;
+        stands = subst (λ (a : OpenArea D). StandsForHistory shown a whole.first.opening whole.log) (sym same) whole.stands_for.area;
         each = λ known has.
             let one = has_map (λ (p : PassView). p.known) passes known has in
             let fits = whole.fits (row_in one.0) (map_has row_in passes one.0 one.1) in

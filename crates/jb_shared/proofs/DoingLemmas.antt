@@ -21,13 +21,13 @@ use Rattle.jb_model.specs.declared.command.Command.{Command}
 use Rattle.jb_state.specs.declared.loaded.Loaded.{Loaded}
 use Rattle.jb_model.specs.declared.reply.Reply.{Reply}
 use Rattle.jb_shared.specs.Begun.{IsFollowed}
-use Rattle.jb_shared.specs.Keeping.{Follows, HasChange}
+use Rattle.jb_shared.specs.Keeping.{FollowsCommand, HasChange}
 use Rattle.jb_shared.proofs.IndexLemmas.{rests_no_change}
 
 module _ {D : Type 0} (shown : D → Device) where
   -- the edits that follow what is begun follow the command
   pub follows_begun : (old mid : OpenArea D) (user : User) (moment : ℕ) (command : Command) (value : Unit {0}) (edits : List OpEdit) → BeginsCall shown old mid user moment command (Ok value) → IsFollowed shown mid edits
-      → Follows shown old user moment command edits
+      → FollowsCommand shown old user moment command edits
   follows_begun old mid user moment command value edits begins followed = λ texts resting told.
       let P : AreaRules → Loaded → Type 0 = λ rules loaded. absorbed (index_of rules (state_of texts loaded)) edits ≡ index_of rules (step rules (state_of texts loaded) user moment command).state in
       subst (λ (rules : AreaRules). P rules (loaded_of old)) begins.rules

@@ -11,7 +11,7 @@ use Rattle.jb_model.specs.declared.entry.Entry.{Entry}
 use Rattle.jb_model.specs.declared.entry.Entry.TheVariants.{Called, Reopened}
 use Rattle.jb_model.proofs.HistoryLaws.{allowed_push, numbered_push, rises_push}
 use Rattle.jb_turn.specs.Rows.{calls, when}
-use Rattle.jb_shared.specs.Histories.{IsHistory, Tells, first_of, leads_to, stopped_behind}
+use Rattle.jb_shared.specs.Histories.{IsHistory, Tells, first_state, leads_to, stopped_behind}
 use Rattle.jb_shared.specs.Standing.{caller_of}
 use Rattle.jb_shared.specs.declared.opening.Opening.{Opening}
 
@@ -55,7 +55,7 @@ history_push opening history entry right next risen allow = record {
   risen =
       subst (λ (told : List ℕ). Rises opening.faults told) (sym (filter_map-append faults_of history (entry ∷ [])))
       (rises_by opening.faults (filter_map faults_of history) (faults_of entry) right.risen risen);
-  allowed = λ t. allowed_push opening.rules (Settled (first_of opening)) history entry (right.allowed t) (allow t);
+  allowed = λ t. allowed_push opening.rules (Settled (first_state opening)) history entry (right.allowed t) (allow t);
 }
 
 -- by whether the first one is the node's

@@ -9,6 +9,7 @@ use Rattle.jb_base.specs.declared.area.AreaRules.{AreaRules}
 use Rattle.jb_base.specs.declared.user.User.{User}
 use Rattle.jb_decide.specs.Coming.{Coming}
 use Rattle.jb_held.specs.declared.pending.Pending.{Pending}
+use Rattle.jb_state.specs.declared.change.Change.TheVariants.{Nothing}
 use Rattle.jb_disk.specs.Device.{Device}
 use Rattle.jb_index.specs.Edit.{absorbed}
 use Rattle.jb_index.specs.Index.{AreaIndex, index_of}
@@ -23,8 +24,8 @@ use Rattle.jb_model.specs.declared.entry.Entry.TheVariants.{Called, Reopened}
 use Rattle.jb_model.specs.declared.entry.Outcome.TheVariants.{Replied, InDoubt as LeftInDoubt, NotBegun}
 use Rattle.jb_model.specs.declared.reply.Reply.{Reply}
 use Rattle.jb_model.proofs.HistoryLaws.{standing_after_push}
-use Rattle.jb_shared.specs.Histories.{Tells, first_of, leads_to, state_at}
-use Rattle.jb_shared.specs.Keeping.{Follows, HasChange, IsDoubted}
+use Rattle.jb_shared.specs.Histories.{Tells, first_state, leads_to, state_at}
+use Rattle.jb_shared.specs.Keeping.{FollowsCommand, HasChange, IsDoubted}
 use Rattle.jb_shared.specs.Standing.{StandsInDoubt, StandsSettled, doubt_between, state_to}
 use Rattle.jb_shared.specs.declared.opening.Opening.{Opening}
 
@@ -61,12 +62,13 @@ module _ {D : Type 0} (shown : D → Device) where
   unchanged_no_change area texts (inr half) (texts', coming, doubt) =
       let is : None ≡ Some doubt.pending = ap pending_of (sym half.stage ∙ doubt.stage) in absurd (cc (is))
   unchanged_no_change area texts (inl none) (texts', coming, doubt) =
-      let is : Some none.pending ≡ Some doubt.pending = ap pending_of (sym none.stage ∙ doubt.stage) in
-      doubt.change.some (ap (λ (o : Option Pending). (unwrap_or o none.pending).change) (sym is) ∙ none.none)
+      let nothing : Pending = record { change = Nothing; replies = None } in
+      let is : Some nothing ≡ Some doubt.pending = ap pending_of (sym none.stage ∙ doubt.stage) in
+      doubt.change.some (ap (λ (o : Option Pending). (unwrap_or o nothing).change) (sym is))
 
   -- where an area that stands settled is: at a state, whose index is the one that looks see, and the edits make of it that after the command
   pub index_after : (area : OpenArea D) (opening : Opening) (history : List Entry) (index : AreaIndex) (user : User) (moment : ℕ) (command : Command) (edits : List OpEdit)
-      → StandsSettled shown area opening history → Tells opening → index ≡ index_of opening.rules (state_at (leads_to opening history)) → Follows shown area user moment command edits
+      → StandsSettled shown area opening history → Tells opening → index ≡ index_of opening.rules (state_at (leads_to opening history)) → FollowsCommand shown area user moment command edits
       → (state : AreaState) × (leads_to opening history ≡ Settled state) × (absorbed index edits ≡ index_of opening.rules (step opening.rules state user moment command).state)
   index_after area opening history index user moment command edits (state, stands) t is follows =
       let at = stands.at in
@@ -83,12 +85,12 @@ module _ {D : Type 0} (shown : D → Device) where
 
   -- the index after a call that was answered
   pub index_replied : (area : OpenArea D) (opening : Opening) (history : List Entry) (index : AreaIndex) (node call : ℕ) (user : User) (moment : ℕ) (command : Command) (reply : Reply) (edits : List OpEdit)
-      → StandsSettled shown area opening history → Tells opening → index ≡ index_of opening.rules (state_at (leads_to opening history)) → Follows shown area user moment command edits
+      → StandsSettled shown area opening history → Tells opening → index ≡ index_of opening.rules (state_at (leads_to opening history)) → FollowsCommand shown area user moment command edits
       → absorbed index edits ≡ index_of opening.rules (state_at (leads_to opening (history ++ Called node call user moment command (Replied reply) ∷ [])))
   index_replied area opening history index node call user moment command reply edits stands t is follows =
       let after = index_after area opening history index user moment command edits stands t is follows in
       let entry : Entry = Called node call user moment command (Replied reply) in
-      after.2 ∙ sym (ap (λ (s : Standing). index_of opening.rules (state_at s)) (standing_after_push opening.rules (first_of opening) history entry ∙ ap (λ (s : Standing). after_entry opening.rules s entry) after.1))
+      after.2 ∙ sym (ap (λ (s : Standing). index_of opening.rules (state_at s)) (standing_after_push opening.rules (first_state opening) history entry ∙ ap (λ (s : Standing). after_entry opening.rules s entry) after.1))
 
   -- the index after a call that the device stopped, which is that before it, and the one if its change stands
   pub index_stopped : (area : OpenArea D) (opening : Opening) (history : List Entry) (index : AreaIndex) (node call : ℕ) (user : User) (moment : ℕ) (command : Command) (faults : ℕ)
@@ -98,15 +100,15 @@ module _ {D : Type 0} (shown : D → Device) where
       let leads : leads_to opening history ≡ Settled state = sym (stands.leads t) in
       let entry : Entry = Called node call user moment command (LeftInDoubt faults) in
       is ∙ ap (λ (s : Standing). index_of opening.rules (state_at s)) leads
-      ∙ sym (ap (λ (s : Standing). index_of opening.rules (state_at s)) (standing_after_push opening.rules (first_of opening) history entry ∙ ap (λ (s : Standing). after_entry opening.rules s entry) leads))
+      ∙ sym (ap (λ (s : Standing). index_of opening.rules (state_at s)) (standing_after_push opening.rules (first_state opening) history entry ∙ ap (λ (s : Standing). after_entry opening.rules s entry) leads))
 
   pub doubted_stopped : (area new : OpenArea D) (opening : Opening) (history : List Entry) (index : AreaIndex) (node call : ℕ) (user : User) (moment : ℕ) (command : Command) (faults : ℕ) (edits : List OpEdit)
-      → StandsSettled shown area opening history → (Tells opening → index ≡ index_of opening.rules (state_at (leads_to opening history))) → (HasChange shown new → Follows shown area user moment command edits)
+      → StandsSettled shown area opening history → (Tells opening → index ≡ index_of opening.rules (state_at (leads_to opening history))) → (HasChange shown new → FollowsCommand shown area user moment command edits)
       → IsDoubted shown new opening (history ++ Called node call user moment command (LeftInDoubt faults) ∷ []) index edits
   doubted_stopped area new opening history index node call user moment command faults edits stands value follows = λ t before after between change.
       let then = index_after area opening history index user moment command edits stands t (value t) (follows change) in
       let entry : Entry = Called node call user moment command (LeftInDoubt faults) in
-      let leads = standing_after_push opening.rules (first_of opening) history entry ∙ ap (λ (s : Standing). after_entry opening.rules s entry) then.1 in
+      let leads = standing_after_push opening.rules (first_state opening) history entry ∙ ap (λ (s : Standing). after_entry opening.rules s entry) then.1 in
       let some : change_of (step opening.rules then.0 user moment command) ≡ Some after = ap after_of (sym leads ∙ between) in
       then.2 ∙ ap (index_of opening.rules) (change_is (step opening.rules then.0 user moment command) after some)
 
@@ -119,7 +121,7 @@ module _ {D : Type 0} (shown : D → Device) where
       → leads_to opening history ≡ InDoubt before after → leads_to opening (history ++ Called node call user moment command (NotBegun faults) ∷ []) ≡ leads_to opening history
   not_begun_leads opening history node call user moment command faults before after is =
       let entry : Entry = Called node call user moment command (NotBegun faults) in
-      standing_after_push opening.rules (first_of opening) history entry ∙ ap (λ (s : Standing). after_entry opening.rules s entry) is ∙ sym is
+      standing_after_push opening.rules (first_state opening) history entry ∙ ap (λ (s : Standing). after_entry opening.rules s entry) is ∙ sym is
 
   pub index_not_begun : (area : OpenArea D) (opening : Opening) (history : List Entry) (index : AreaIndex) (node call : ℕ) (user : User) (moment : ℕ) (command : Command) (faults : ℕ)
       → StandsInDoubt shown area opening history → Tells opening → index ≡ index_of opening.rules (state_at (leads_to opening history))
@@ -161,4 +163,4 @@ module _ {D : Type 0} (shown : D → Device) where
       let at = was.at in
       let leads : leads_to opening history ≡ InDoubt before after = sym (was.leads t) in
       reopened_by opening history index edits old new before after stands at.0 at.1 leads t at.2 at.3 (settled at.0 at.1 at.2) is doubted
-      ∙ sym (ap (λ (s : Standing). index_of opening.rules (state_at s)) (standing_after_push opening.rules (first_of opening) history (Reopened stands) ∙ ap (λ (s : Standing). after_entry opening.rules s (Reopened stands)) leads))
+      ∙ sym (ap (λ (s : Standing). index_of opening.rules (state_at s)) (standing_after_push opening.rules (first_state opening) history (Reopened stands) ∙ ap (λ (s : Standing). after_entry opening.rules s (Reopened stands)) leads))

@@ -18,13 +18,13 @@ use Rattle.jb_model.specs.declared.entry.Entry.{Entry}
 use Rattle.jb_model.specs.declared.entry.Entry.TheVariants.{Called, Reopened}
 use Rattle.jb_model.specs.declared.entry.Outcome.TheVariants.{Replied, InDoubt as LeftInDoubt, NotBegun}
 use Rattle.jb_model.specs.declared.reply.Reply.{Reply}
-use Rattle.jb_publish.specs.Marks.{StandsFrom as ShowsFrom, opening_at}
+use Rattle.jb_publish.specs.Marks.{ValueStandsFrom as ShowsFrom, opening_at}
 use Rattle.jb_publish.specs.Publications.{publication_of}
-use Rattle.jb_publish.specs.declared.known.Mark.{Mark}
+use Rattle.jb_publish.specs.declared.known.PairMark.{PairMark}
 use Rattle.jb_turn.specs.Rows.{Begins, StandsFrom}
 use Rattle.jb_shared.specs.Histories.{Tells, is_stopped, leads_to, settled_of, state_at}
 use Rattle.jb_shared.specs.InTurn.{Knows, SeatRow}
-use Rattle.jb_shared.specs.Keeping.{Follows, HasChange, IsDoubted, IsKept, IsKeptInDoubt, IsKeptSettled, IsPublished}
+use Rattle.jb_shared.specs.Keeping.{FollowsCommand, HasChange, IsDoubted, IsKept, IsKeptInDoubt, IsKeptSettled, IsPublished}
 use Rattle.jb_shared.specs.Showing.{CanShow, HasShown, published_with, value_with}
 use Rattle.jb_shared.specs.Shows.{IsShownAs}
 use Rattle.jb_shared.specs.Standing.{StandsSettled}
@@ -60,9 +60,9 @@ module _ {D : Type 0} (shown : D → Device) where
   }
 
   -- what may be shown, whatever the mark is
-  pub can_show : (P : ShownArea D → Mark Opening → List Entry → Type 0) (known new : SeatRow) (old now : ShownArea D) (done : Bool) (entry : Entry) (value : AreaIndex) → StandsFrom P known.opening old known.front
+  pub can_show : (P : ShownArea D → PairMark Opening → List Entry → Type 0) (known new : SeatRow) (old now : ShownArea D) (done : Bool) (entry : Entry) (value : AreaIndex) → StandsFrom P known.opening old known.front
       → now.shower ≡ old.shower → value_with now done ≡ value → new.front ≡ known.front ++ entry ∷ []
-      → ((first : Mark Opening) → P old first known.front → IsPublished shown old first known.front × IsShownAs value first.opening (known.front ++ entry ∷ []))
+      → ((first : PairMark Opening) → P old first known.front → IsPublished shown old first known.front × IsShownAs value first.opening (known.front ++ entry ∷ []))
       → CanShow now done new.front
   can_show P known new old now done entry value stands same is fronts from =
       let first = mark_known P known.opening old known.front stands in
@@ -73,7 +73,7 @@ module _ {D : Type 0} (shown : D → Device) where
         longer = subst (λ (l : List Entry). IsPrefix l (known.front ++ entry ∷ [])) (sym list) (settled_before known.front entry);
         queued = ap (λ s. (publication_of s).queued) same ∙ here.0.queued;
         stands =
-            subst (λ (m : Option (Mark Opening)). ShowsFrom IsShownAs (opening_at m) (value_with now done) (known.front ++ entry ∷ [])) (sym mark)
+            subst (λ (m : Option (PairMark Opening)). ShowsFrom IsShownAs (opening_at m) (value_with now done) (known.front ++ entry ∷ [])) (sym mark)
             (subst (λ (v : AreaIndex). IsShownAs v first.0.opening (known.front ++ entry ∷ [])) (sym is) here.1);
       }
 
@@ -85,7 +85,7 @@ module _ {D : Type 0} (shown : D → Device) where
       ∙ ap (published_with (publication_of old.shower) value) fronts
 
   -- once that is shown
-  pub published_shown : (old new : ShownArea D) (mark : Mark Opening) (history : List Entry) (entry : Entry) (index : AreaIndex) → IsPublished shown old mark history → StandsSettled shown new.area mark.opening (history ++ entry ∷ [])
+  pub published_shown : (old new : ShownArea D) (mark : PairMark Opening) (history : List Entry) (entry : Entry) (index : AreaIndex) → IsPublished shown old mark history → StandsSettled shown new.area mark.opening (history ++ entry ∷ [])
       → is_stopped entry ≡ false → (Tells mark.opening → index ≡ index_of mark.opening.rules (state_at (leads_to mark.opening (history ++ entry ∷ []))))
       → publication_of new.shower ≡ published_with (publication_of old.shower) index (history ++ entry ∷ []) → IsPublished shown new mark (history ++ entry ∷ [])
   published_shown old new mark history entry index was stands last is same = record {
@@ -97,7 +97,7 @@ module _ {D : Type 0} (shown : D → Device) where
   }
 
   -- where a call was stopped, nothing is shown
-  pub published_stopped : (old new : ShownArea D) (mark : Mark Opening) (history : List Entry) (entry : Entry) → IsPublished shown old mark history → new.shower ≡ old.shower → is_stopped entry ≡ true
+  pub published_stopped : (old new : ShownArea D) (mark : PairMark Opening) (history : List Entry) (entry : Entry) → IsPublished shown old mark history → new.shower ≡ old.shower → is_stopped entry ≡ true
       → (Tells mark.opening → (publication_of old.shower).value ≡ index_of mark.opening.rules (state_at (leads_to mark.opening (history ++ entry ∷ []))))
       → IsDoubted shown new.area mark.opening (history ++ entry ∷ []) (publication_of old.shower).value new.doubted.op → IsPublished shown new mark (history ++ entry ∷ [])
   published_stopped old new mark history entry was same last is doubted = record {
@@ -109,7 +109,7 @@ module _ {D : Type 0} (shown : D → Device) where
   }
 
   -- where nothing is recorded, neither
-  pub published_still : (old new : ShownArea D) (mark : Mark Opening) (history : List Entry) → IsPublished shown old mark history → new.shower ≡ old.shower
+  pub published_still : (old new : ShownArea D) (mark : PairMark Opening) (history : List Entry) → IsPublished shown old mark history → new.shower ≡ old.shower
       → IsDoubted shown new.area mark.opening history (publication_of old.shower).value new.doubted.op → IsPublished shown new mark history
   published_still old new mark history was same doubted = record {
     pair = ap (λ s. (publication_of s).mark) same ∙ was.pair;
@@ -120,7 +120,7 @@ module _ {D : Type 0} (shown : D → Device) where
   }
 
   -- a doubt that has ended: what is to be shown
-  pub shows_reopened : (old : ShownArea D) (area : OpenArea D) (mark : Mark Opening) (history : List Entry) (stands : Bool) → IsKeptInDoubt shown old mark history
+  pub shows_reopened : (old : ShownArea D) (area : OpenArea D) (mark : PairMark Opening) (history : List Entry) (stands : Bool) → IsKeptInDoubt shown old mark history
       → ((texts : List ℕ) (coming : Option Coming) → IsDoubtful shown old.area texts coming → SettlesAt shown stands (loaded_of old.area) texts coming area)
       → rules_of area ≡ rules_of old.area → TellsAlike (device_of shown old.area) (device_of shown area) → (device_of shown area).faults ≡ (device_of shown old.area).faults
       → ((publication_of old.shower).mark ≡ Some mark) × IsShownAs (value_with old stands) mark.opening (history ++ Reopened stands ∷ [])
@@ -131,7 +131,7 @@ module _ {D : Type 0} (shown : D → Device) where
   )
 
   -- and once that is shown
-  pub kept_reopened : (old new : ShownArea D) (area : OpenArea D) (mark : Mark Opening) (history : List Entry) (stands : Bool) → IsKeptInDoubt shown old mark history
+  pub kept_reopened : (old new : ShownArea D) (area : OpenArea D) (mark : PairMark Opening) (history : List Entry) (stands : Bool) → IsKeptInDoubt shown old mark history
       → ((texts : List ℕ) (coming : Option Coming) → IsDoubtful shown old.area texts coming → SettlesAt shown stands (loaded_of old.area) texts coming area)
       → rules_of area ≡ rules_of old.area → TellsAlike (device_of shown old.area) (device_of shown area) → (device_of shown area).faults ≡ (device_of shown old.area).faults
       → new.area ≡ area → publication_of new.shower ≡ published_with (publication_of old.shower) (value_with old stands) (history ++ Reopened stands ∷ [])
@@ -147,7 +147,7 @@ module _ {D : Type 0} (shown : D → Device) where
       }
 
   -- a doubt that could not be ended
-  pub kept_not_begun : (old new : ShownArea D) (area : OpenArea D) (mark : Mark Opening) (history : List Entry) (node call : ℕ) (user : User) (moment : ℕ) (command : Command) → IsKeptInDoubt shown old mark history
+  pub kept_not_begun : (old new : ShownArea D) (area : OpenArea D) (mark : PairMark Opening) (history : List Entry) (node call : ℕ) (user : User) (moment : ℕ) (command : Command) → IsKeptInDoubt shown old mark history
       → ((texts : List ℕ) (coming : Option Coming) → IsDoubtful shown old.area texts coming → IsDoubtful shown area texts coming) → loaded_of area ≡ loaded_of old.area
       → rules_of area ≡ rules_of old.area → TellsAlike (device_of shown old.area) (device_of shown area) → Rose (device_of shown old.area).faults (device_of shown area).faults → call ≡ length (calls_of node history) + 1
       → new ≡ record { area = area; shower = old.shower; doubted = old.doubted }
@@ -163,8 +163,8 @@ module _ {D : Type 0} (shown : D → Device) where
       }
 
   -- a call that was answered: what is to be shown
-  pub shows_replied : (old : ShownArea D) (area : OpenArea D) (change : IndexChange) (mark : Mark Opening) (history : List Entry) (node call : ℕ) (user : User) (moment : ℕ) (command : Command) (reply : Reply) → IsKeptSettled shown old mark history
-      → MeetsCall shown old.area area user moment command (Ok reply) → Follows shown old.area user moment command change.op → call ≡ length (calls_of node history) + 1
+  pub shows_replied : (old : ShownArea D) (area : OpenArea D) (change : IndexChange) (mark : PairMark Opening) (history : List Entry) (node call : ℕ) (user : User) (moment : ℕ) (command : Command) (reply : Reply) → IsKeptSettled shown old mark history
+      → MeetsCall shown old.area area user moment command (Ok reply) → FollowsCommand shown old.area user moment command change.op → call ≡ length (calls_of node history) + 1
       → ((publication_of old.shower).mark ≡ Some mark) × IsShownAs (absorbed (publication_of old.shower).value change.op) mark.opening (history ++ Called node call user moment command (Replied reply) ∷ [])
   shows_replied old area change mark history node call user moment command reply kept meets follows next =
       let entry : Entry = Called node call user moment command (Replied reply) in (
@@ -174,8 +174,8 @@ module _ {D : Type 0} (shown : D → Device) where
       )
 
   -- and once that is shown
-  pub kept_replied : (old new : ShownArea D) (area : OpenArea D) (change : IndexChange) (mark : Mark Opening) (history : List Entry) (node call : ℕ) (user : User) (moment : ℕ) (command : Command) (reply : Reply) → IsKeptSettled shown old mark history
-      → MeetsCall shown old.area area user moment command (Ok reply) → Follows shown old.area user moment command change.op → call ≡ length (calls_of node history) + 1 → new.area ≡ area
+  pub kept_replied : (old new : ShownArea D) (area : OpenArea D) (change : IndexChange) (mark : PairMark Opening) (history : List Entry) (node call : ℕ) (user : User) (moment : ℕ) (command : Command) (reply : Reply) → IsKeptSettled shown old mark history
+      → MeetsCall shown old.area area user moment command (Ok reply) → FollowsCommand shown old.area user moment command change.op → call ≡ length (calls_of node history) + 1 → new.area ≡ area
       → publication_of new.shower ≡ published_with (publication_of old.shower) (absorbed (publication_of old.shower).value change.op) (history ++ Called node call user moment command (Replied reply) ∷ [])
       → IsKept shown new mark (history ++ Called node call user moment command (Replied reply) ∷ [])
   kept_replied old new area change mark history node call user moment command reply kept meets follows next same published =
@@ -190,8 +190,8 @@ module _ {D : Type 0} (shown : D → Device) where
       }
 
   -- a call that the device stopped
-  pub kept_stopped : (old new : ShownArea D) (area : OpenArea D) (change : IndexChange) (mark : Mark Opening) (history : List Entry) (node call : ℕ) (user : User) (moment : ℕ) (command : Command) → IsKeptSettled shown old mark history
-      → MeetsCall shown old.area area user moment command (Err failing.StoreFault) → (HasChange shown area → Follows shown old.area user moment command change.op) → call ≡ length (calls_of node history) + 1
+  pub kept_stopped : (old new : ShownArea D) (area : OpenArea D) (change : IndexChange) (mark : PairMark Opening) (history : List Entry) (node call : ℕ) (user : User) (moment : ℕ) (command : Command) → IsKeptSettled shown old mark history
+      → MeetsCall shown old.area area user moment command (Err failing.StoreFault) → (HasChange shown area → FollowsCommand shown old.area user moment command change.op) → call ≡ length (calls_of node history) + 1
       → new ≡ record { area = area; shower = old.shower; doubted = change }
       → IsKept shown new mark (history ++ Called node call user moment command (LeftInDoubt (device_of shown area).faults) ∷ [])
   kept_stopped old new area change mark history node call user moment command kept meets follows next same =
@@ -206,7 +206,7 @@ module _ {D : Type 0} (shown : D → Device) where
       }
 
   -- a call that wanted memory
-  pub kept_wanting : (old new : ShownArea D) (area : OpenArea D) (change : IndexChange) (mark : Mark Opening) (history : List Entry) (user : User) (moment : ℕ) (command : Command) → IsKeptSettled shown old mark history
+  pub kept_wanting : (old new : ShownArea D) (area : OpenArea D) (change : IndexChange) (mark : PairMark Opening) (history : List Entry) (user : User) (moment : ℕ) (command : Command) → IsKeptSettled shown old mark history
       → MeetsCall shown old.area area user moment command (Err failing.OutOfMemory) → new ≡ record { area = area; shower = old.shower; doubted = change } → IsKept shown new mark history
   kept_wanting old new area change mark history user moment command kept meets same =
       subst (λ (s : ShownArea D). IsKept shown s mark history) (sym same) record {
@@ -217,11 +217,11 @@ module _ {D : Type 0} (shown : D → Device) where
       }
 
   -- an area that is not in doubt is settled
-  pub kept_settled : (state : ShownArea D) (mark : Mark Opening) (history : List Entry) → IsKept shown state mark history → (HasDoubt shown state.area → ⊥) → IsKeptSettled shown state mark history
+  pub kept_settled : (state : ShownArea D) (mark : PairMark Opening) (history : List Entry) → IsKept shown state mark history → (HasDoubt shown state.area → ⊥) → IsKeptSettled shown state mark history
   kept_settled state mark history kept none = record { area = stands_settled shown state.area mark.opening history kept.area none; index = kept.index }
 
   -- an area that does not rest is in doubt
-  pub kept_in_doubt : (state : ShownArea D) (mark : Mark Opening) (history : List Entry) → IsKept shown state mark history → ((texts : List ℕ) → IsResting shown state.area texts → ⊥) → IsKeptInDoubt shown state mark history
+  pub kept_in_doubt : (state : ShownArea D) (mark : PairMark Opening) (history : List Entry) → IsKept shown state mark history → ((texts : List ℕ) → IsResting shown state.area texts → ⊥) → IsKeptInDoubt shown state mark history
   kept_in_doubt state mark history kept none = record { area = stands_in_doubt shown state.area mark.opening history kept.area none; index = kept.index }
 
   -- the same of a state that is out
@@ -242,7 +242,7 @@ module _ {D : Type 0} (shown : D → Device) where
       let first = mark_known (IsKeptInDoubt shown) known.opening state known.front knows.stands_for in doubtful_doubts shown state.area first.0.opening known.front first.2.area
 
   -- what looks see is of the mark that the seat knows, and shows all that is settled of what it has seen
-  pub fits : (mark : Option (Mark Opening)) (state : ShownArea D) (history : List Entry) → StandsFrom (IsKept shown) mark state history → ((publication_of state.shower).mark ≡ mark) × ((publication_of state.shower).list ≡ settled_of history)
+  pub fits : (mark : Option (PairMark Opening)) (state : ShownArea D) (history : List Entry) → StandsFrom (IsKept shown) mark state history → ((publication_of state.shower).mark ≡ mark) × ((publication_of state.shower).list ≡ settled_of history)
   fits mark state history stands = let first = mark_known (IsKept shown) mark state history stands in (first.2.index.pair ∙ sym first.1, first.2.index.list)
 
 -- a beginning is no longer

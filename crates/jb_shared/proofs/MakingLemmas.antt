@@ -19,14 +19,14 @@ use Rattle.jb_state.specs.declared.loaded.Loaded.{Loaded}
 use Rattle.jb_publish.specs.Marks.{book_at, mark_with, opening_at}
 use Rattle.jb_publish.specs.Publications.{publication_of}
 use Rattle.jb_publish.specs.declared.ends.Shown.{Shown}
-use Rattle.jb_publish.specs.declared.known.Mark.{Mark}
+use Rattle.jb_publish.specs.declared.known.PairMark.{PairMark}
 use Rattle.jb_publish.proofs.Fronts.{prefix_get}
 use Rattle.jb_publish.proofs.Places.{each_end}
-use Rattle.jb_shared.specs.Keeping.{IsKept, mark_of}
+use Rattle.jb_shared.specs.Keeping.{IsKept, history_mark}
 use Rattle.jb_publish.specs.Accounts.{Account, account_of, arrived}
 use Rattle.jb_publish.specs.Fronts.{book_of}
 use Rattle.jb_turn.specs.Rows.{row}
-use Rattle.jb_turn.specs.Seats.{AreNew, IsNew, TurnId, id_of, row_of}
+use Rattle.jb_turn.specs.Seats.{AreNewSeats, IsNew, TurnId, id_of, row_of}
 use Rattle.jb_turn.specs.declared.seat.Seat.{Seat}
 use Rattle.logbook.specs.Pages.{Book}
 use Rattle.jb_shared.specs.Areas.{IsShared, passes_of}
@@ -38,7 +38,7 @@ use Rattle.jb_shared.specs.Passes.{PassView, first_known}
 use Rattle.jb_shared.specs.declared.refusal.Refusal.{Refusal}
 use Rattle.jb_shared.specs.declared.shared.SharedArea.{SharedArea}
 use Rattle.jb_shared.specs.Shows.{IsShownAs}
-use Rattle.jb_shared.specs.Standing.{StandsFor, opening_of}
+use Rattle.jb_shared.specs.Standing.{StandsForHistory, opening_of}
 use Rattle.jb_shared.specs.declared.opening.Opening.{Opening}
 use Rattle.jb_shared.specs.declared.shown.ShownArea.{ShownArea}
 
@@ -55,7 +55,7 @@ told_texts (Some files) loaded texts told rests = sym (rests files refl).holds.t
 
 module _ {D : Type 0} (shown : D → Device) where
   -- an area at rest stands for the empty history from how it stands
-  pub stands_new : (area : OpenArea D) → HasRest shown area → StandsFor shown area (opening_of shown area) []
+  pub stands_new : (area : OpenArea D) → HasRest shown area → StandsForHistory shown area (opening_of shown area) []
   stands_new area rest = (
     Settled (state_of rest.texts (loaded_of area)),
     record {
@@ -79,27 +79,27 @@ module _ {D : Type 0} (shown : D → Device) where
   }
 
   -- the mark that is known is that of the state
-  marked : (state : ShownArea D) (mark : Option (Mark Opening)) → (publication_of state.shower).mark ≡ mark → opening_at mark ≡ Some (opening_of shown state.area)
-      → ((publication_of state.shower).mark ≡ Some (mark_of shown state)) × ((mark_of shown state).opening ≡ opening_of shown state.area)
+  marked : (state : ShownArea D) (mark : Option (PairMark Opening)) → (publication_of state.shower).mark ≡ mark → opening_at mark ≡ Some (opening_of shown state.area)
+      → ((publication_of state.shower).mark ≡ Some (history_mark shown state)) × ((history_mark shown state).opening ≡ opening_of shown state.area)
   marked state None is opens = absurd (cc (opens))
   marked state (Some mark) is opens =
-      let same : mark_of shown state ≡ mark = ap (λ (o : Option (Mark Opening)). unwrap_or o (mark_with (book_at {O = Opening} None) (opening_of shown state.area))) is in (
-        is ∙ ap (λ (m : Mark Opening). Some m) (sym same),
-        ap (λ (m : Mark Opening). m.opening) same ∙ ap (λ (o : Option Opening). unwrap_or o mark.opening) opens,
+      let same : history_mark shown state ≡ mark = ap (λ (o : Option (PairMark Opening)). unwrap_or o (mark_with (book_at {O = Opening} None) (opening_of shown state.area))) is in (
+        is ∙ ap (λ (m : PairMark Opening). Some m) (sym same),
+        ap (λ (m : PairMark Opening). m.opening) same ∙ ap (λ (o : Option Opening). unwrap_or o mark.opening) opens,
       )
 
   -- what lies behind a new turn stands for no entries yet
   pub kept_new : (state : ShownArea D) (index : AreaIndex) → HasRest shown state.area → ((texts : List ℕ) → index ≡ index_of (rules_of state.area) (state_of texts (loaded_of state.area)))
       → (publication_of state.shower).list ≡ [] → (publication_of state.shower).queued ≡ [] → (publication_of state.shower).value ≡ index
       → opening_at (publication_of state.shower).mark ≡ Some (opening_of shown state.area)
-      → IsKept shown state (mark_of shown state) [] × ((mark_of shown state).opening ≡ opening_of shown state.area) × ((publication_of state.shower).mark ≡ Some (mark_of shown state))
+      → IsKept shown state (history_mark shown state) [] × ((history_mark shown state).opening ≡ opening_of shown state.area) × ((publication_of state.shower).mark ≡ Some (history_mark shown state))
   kept_new state index rest is list queued value opens =
       let mark = marked state (publication_of state.shower).mark refl opens in
       let stands = stands_new state.area rest in
       let shows = shows_new state.area index rest is in
-      let back : opening_of shown state.area ≡ (mark_of shown state).opening = sym mark.1 in (
+      let back : opening_of shown state.area ≡ (history_mark shown state).opening = sym mark.1 in (
         record {
-          area = subst (λ (o : Opening). StandsFor shown state.area o []) back stands;
+          area = subst (λ (o : Opening). StandsForHistory shown state.area o []) back stands;
           index = record {
             pair = mark.0;
             list = list;
@@ -130,23 +130,23 @@ last_at [] x = refl
 last_at (y ∷ ys) x = last_at ys x
 
 -- a reader that is the last of a beginning of new ones is new
-pub reader_is_fresh : (mark : Mark Opening) (all readers rest : List (Shown AreaIndex Opening Entry)) (reader : Shown AreaIndex Opening Entry) → IsPrefix readers all → readers ≡ rest ++ reader ∷ [] → AreFresh mark all
+pub reader_is_fresh : (mark : PairMark Opening) (all readers rest : List (Shown AreaIndex Opening Entry)) (reader : Shown AreaIndex Opening Entry) → IsPrefix readers all → readers ≡ rest ++ reader ∷ [] → AreFresh mark all
     → account_of reader ≡ arrived (Some mark) []
 reader_is_fresh mark all readers rest reader begins is fresh =
     fresh (length rest) reader (prefix_get (rest ++ reader ∷ []) all (length rest) reader (subst (λ (l : List (Shown AreaIndex Opening Entry)). IsPrefix l all) is begins) (last_at rest reader))
 
 -- new passes, with one more
-pub joined_fresh : (turn : TurnId) (mark : Mark Opening) (passes : List PassView) (pass : PassView) → ((k : ℕ) (p : PassView) → slice_get passes k ≡ Some p → p ≡ fresh_pass turn mark k) → pass ≡ fresh_pass turn mark (length passes)
+pub joined_fresh : (turn : TurnId) (mark : PairMark Opening) (passes : List PassView) (pass : PassView) → ((k : ℕ) (p : PassView) → slice_get passes k ≡ Some p → p ≡ fresh_pass turn mark k) → pass ≡ fresh_pass turn mark (length passes)
     → (k : ℕ) (p : PassView) → slice_get (passes ++ pass ∷ []) k ≡ Some p → p ≡ fresh_pass turn mark k
 joined_fresh turn mark passes pass all last = each_end (λ (k : ℕ) (p : PassView). p ≡ fresh_pass turn mark k) passes pass all last
 
 -- a row by its parts
-rows : (node node' : ℕ) (opening opening' : Option (Mark Opening)) (front front' mine mine' : List Entry) (remarks remarks' : List Refusal) → node ≡ node' → opening ≡ opening' → front ≡ front' → mine ≡ mine' → remarks ≡ remarks'
+rows : (node node' : ℕ) (opening opening' : Option (PairMark Opening)) (front front' mine mine' : List Entry) (remarks remarks' : List Refusal) → node ≡ node' → opening ≡ opening' → front ≡ front' → mine ≡ mine' → remarks ≡ remarks'
     → row node opening front mine remarks ≡ row node' opening' front' mine' remarks'
 rows node node' opening opening' front front' mine mine' remarks remarks' e f g h i = cc
 
 -- the pass of a new seat with a new end that looks
-pub pass_is_fresh : (turn turn' : TurnId) (mark : Mark Opening) (k : ℕ) (known : SeatRow) (account : Account Opening Entry) → turn' ≡ turn → known.node ≡ k + 1 → known.opening ≡ Some mark → known.front ≡ [] → known.mine ≡ [] → known.remarks ≡ []
+pub pass_is_fresh : (turn turn' : TurnId) (mark : PairMark Opening) (k : ℕ) (known : SeatRow) (account : Account Opening Entry) → turn' ≡ turn → known.node ≡ k + 1 → known.opening ≡ Some mark → known.front ≡ [] → known.mine ≡ [] → known.remarks ≡ []
     → account ≡ arrived (Some mark) [] → ◌≡◌ {A = PassView} (record { area = Some (record { turn = turn'; book = book_at known.opening }); known = known_by_both known account }) (fresh_pass turn mark k)
 pass_is_fresh turn turn' mark k known account same node opening front mine remarks fresh =
     let is : known ≡ row (k + 1) (Some mark) [] [] [] = rows known.node (k + 1) known.opening (Some mark) known.front [] known.mine [] known.remarks [] node opening front mine remarks in
@@ -155,11 +155,11 @@ pass_is_fresh turn turn' mark k known account same node opening front mine remar
 
 module _ {S : Type 0} where
   -- the first of the seats that are left is the new one of this place
-  pub first_is_new : (mark : Mark Opening) (all left rest : List (Seat S (Mark Opening) Entry Refusal)) (n : ℕ) (seat : Seat S (Mark Opening) Entry Refusal) → seat ∷ rest ≡ left → left ≡ drop n all → AreNew mark all → IsNew mark n seat
+  pub first_is_new : (mark : PairMark Opening) (all left rest : List (Seat S (PairMark Opening) Entry Refusal)) (n : ℕ) (seat : Seat S (PairMark Opening) Entry Refusal) → seat ∷ rest ≡ left → left ≡ drop n all → AreNewSeats mark all → IsNew mark n seat
   first_is_new mark all left rest n seat whole are new = new n seat (dropped_at all rest n seat (whole ∙ are)).0
 
   -- a new reader is one of a new seat
-  pub parts_fit : (mark : Mark Opening) (n : ℕ) (seat : Seat S (Mark Opening) Entry Refusal) (known : SeatRow) (account : Account Opening Entry) → known ≡ row_of seat → IsNew mark n seat → account ≡ arrived (Some mark) []
+  pub parts_fit : (mark : PairMark Opening) (n : ℕ) (seat : Seat S (PairMark Opening) Entry Refusal) (known : SeatRow) (account : Account Opening Entry) → known ≡ row_of seat → IsNew mark n seat → account ≡ arrived (Some mark) []
       → (account.mark ≡ known.opening) × (account.told ≡ settled_of known.front)
   parts_fit mark n seat known account same is fresh = (
     ap (λ (a : Account Opening Entry). a.mark) fresh ∙ sym (ap (λ (r : SeatRow). r.opening) same ∙ is.1),
@@ -167,7 +167,7 @@ module _ {S : Type 0} where
   )
 
   -- and both make a new pass
-  pub pass_of_new : (turn turn' : TurnId) (mark : Mark Opening) (n : ℕ) (seat : Seat S (Mark Opening) Entry Refusal) (known : SeatRow) (account : Account Opening Entry) → turn' ≡ turn → known ≡ row_of seat → IsNew mark n seat
+  pub pass_of_new : (turn turn' : TurnId) (mark : PairMark Opening) (n : ℕ) (seat : Seat S (PairMark Opening) Entry Refusal) (known : SeatRow) (account : Account Opening Entry) → turn' ≡ turn → known ≡ row_of seat → IsNew mark n seat
       → account ≡ arrived (Some mark) []
       → ◌≡◌ {A = PassView} (record { area = Some (record { turn = turn'; book = book_at known.opening }); known = known_by_both known account }) (fresh_pass turn mark n)
   pass_of_new turn turn' mark n seat known account here same is fresh =
@@ -176,7 +176,7 @@ module _ {S : Type 0} where
 
 module _ {D : Type 0} (shown : D → Device) where
   -- a new area with its passes
-  pub shared_made : (was : OpenArea D) (nodes : ℕ) (area : SharedArea D) (mark : Mark Opening) (passes : List PassView) → passes_of area ≡ nodes → length passes ≡ nodes
+  pub shared_made : (was : OpenArea D) (nodes : ℕ) (area : SharedArea D) (mark : PairMark Opening) (passes : List PassView) → passes_of area ≡ nodes → length passes ≡ nodes
       → ((k : ℕ) (pass : PassView) → slice_get passes k ≡ Some pass → pass ≡ fresh_pass (id_of area.turn) mark k) → book_of area.origin ≡ book_at (Some mark) → mark.opening ≡ opening_of shown was
       → IsShared shown was nodes area passes
   shared_made was nodes area mark passes seats count fresh pair opens = record {

@@ -13,7 +13,7 @@ use Rattle.jb_model.specs.declared.entry.Outcome.TheVariants.{Replied, InDoubt a
 use Rattle.jb_model.proofs.HistoryLaws.{standing_after_push}
 use Rattle.jb_model.proofs.SettledLaws.{settled_prefix_push, settles}
 use Rattle.jb_turn.specs.Rows.{Begins}
-use Rattle.jb_shared.specs.Histories.{IsHistory, Tells, first_of, is_stopped, settled_of, settled_with}
+use Rattle.jb_shared.specs.Histories.{IsHistory, Tells, first_state, is_stopped, settled_of, settled_with}
 use Rattle.jb_shared.specs.declared.opening.Opening.{Opening}
 
 -- what begins a beginning begins the whole
@@ -117,5 +117,5 @@ longest_on rules first done (entry ∷ rest) here may =
     (longest_on rules first (done ++ entry ∷ []) rest next (subst (λ (s : Standing). AllowsEach rules s rest) (sym after) may.1))
 
 -- of a legal history all that is settled is the longest settled beginning
-pub settled_longest : (opening : Opening) (history : List Entry) → IsHistory opening history → Tells opening → settled_of history ≡ settled_prefix opening.rules (first_of opening) history
-settled_longest opening history right t = longest_on opening.rules (first_of opening) [] history refl (right.allowed t)
+pub settled_longest : (opening : Opening) (history : List Entry) → IsHistory opening history → Tells opening → settled_of history ≡ settled_prefix opening.rules (first_state opening) history
+settled_longest opening history right t = longest_on opening.rules (first_state opening) [] history refl (right.allowed t)

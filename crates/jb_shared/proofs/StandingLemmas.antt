@@ -22,8 +22,8 @@ use Rattle.jb_model.specs.declared.entry.Outcome.TheVariants.{Replied, InDoubt a
 use Rattle.jb_state.specs.declared.loaded.Loaded.{Loaded}
 use Rattle.jb_model.specs.declared.reply.Reply.{Reply}
 use Rattle.jb_model.proofs.HistoryLaws.{standing_after_push}
-use Rattle.jb_shared.specs.Histories.{Tells, first_of}
-use Rattle.jb_shared.specs.Standing.{IsAt, StandsAt, StandsFor, StandsInDoubt, StandsSettled, doubt_between, state_to}
+use Rattle.jb_shared.specs.Histories.{Tells, first_state}
+use Rattle.jb_shared.specs.Standing.{IsAt, StandsAt, StandsForHistory, StandsInDoubt, StandsSettled, doubt_between, state_to}
 use Rattle.jb_shared.specs.declared.opening.Opening.{Opening}
 use Rattle.jb_shared.proofs.HistoryLemmas.{history_push, last_new, last_same, rose_from, stopped_push}
 
@@ -52,7 +52,7 @@ module _ {D : Type 0} (shown : D → Device) where
     told = alike ∙ stands.told;
     at = at;
     kind = kind ∙ ap not (sym (stopped_push false history entry));
-    leads = λ t. leads t ∙ ap (λ (s : Standing). after_entry opening.rules s entry) (stands.leads t) ∙ sym (standing_after_push opening.rules (first_of opening) history entry);
+    leads = λ t. leads t ∙ ap (λ (s : Standing). after_entry opening.rules s entry) (stands.leads t) ∙ sym (standing_after_push opening.rules (first_state opening) history entry);
   }
 
   -- a call that was answered: the area is settled
@@ -88,7 +88,7 @@ module _ {D : Type 0} (shown : D → Device) where
   -- a call that the device stopped
   pub stands_stopped : (old new : OpenArea D) (opening : Opening) (history : List Entry) (node call : ℕ) (user : User) (moment : ℕ) (command : Command)
       → StandsSettled shown old opening history → MeetsCall shown old new user moment command (Err area.StoreFault) → call ≡ length (calls_of node history) + 1
-      → StandsFor shown new opening (history ++ Called node call user moment command (LeftInDoubt (device_of shown new).faults) ∷ [])
+      → StandsForHistory shown new opening (history ++ Called node call user moment command (LeftInDoubt (device_of shown new).faults) ∷ [])
   stands_stopped old new opening history node call user moment command (state, stands) meets next =
       let at = stands.at in
       let stopped = meets.failed at.0 at.1 in
@@ -103,7 +103,7 @@ module _ {D : Type 0} (shown : D → Device) where
 
   -- a call that wanted memory
   pub stands_still : (old new : OpenArea D) (opening : Opening) (history : List Entry) (user : User) (moment : ℕ) (command : Command)
-      → StandsSettled shown old opening history → MeetsCall shown old new user moment command (Err area.OutOfMemory) → StandsFor shown new opening history
+      → StandsSettled shown old opening history → MeetsCall shown old new user moment command (Err area.OutOfMemory) → StandsForHistory shown new opening history
   stands_still old new opening history user moment command (state, stands) meets =
       let at = stands.at in
       let failed = meets.failed at.0 at.1 in (
@@ -149,7 +149,7 @@ module _ {D : Type 0} (shown : D → Device) where
   pub stands_not_begun : (old new : OpenArea D) (opening : Opening) (history : List Entry) (node call : ℕ) (user : User) (moment : ℕ) (command : Command) → StandsInDoubt shown old opening history
       → ((texts : List ℕ) (coming : Option Coming) → IsDoubtful shown old texts coming → IsDoubtful shown new texts coming) → loaded_of new ≡ loaded_of old
       → rules_of new ≡ rules_of old → TellsAlike (device_of shown old) (device_of shown new) → Rose (device_of shown old).faults (device_of shown new).faults → call ≡ length (calls_of node history) + 1
-      → StandsFor shown new opening (history ++ Called node call user moment command (NotBegun (device_of shown new).faults) ∷ [])
+      → StandsForHistory shown new opening (history ++ Called node call user moment command (NotBegun (device_of shown new).faults) ∷ [])
   stands_not_begun old new opening history node call user moment command (before, after, was) still loaded rules alike rose next =
       let at = was.at in
       let entry : Entry = Called node call user moment command (NotBegun (device_of shown new).faults) in
@@ -162,12 +162,12 @@ module _ {D : Type 0} (shown : D → Device) where
       )
 
   -- an area that is not in doubt is settled
-  pub stands_settled : (area : OpenArea D) (opening : Opening) (history : List Entry) → StandsFor shown area opening history → (HasDoubt shown area → ⊥) → StandsSettled shown area opening history
+  pub stands_settled : (area : OpenArea D) (opening : Opening) (history : List Entry) → StandsForHistory shown area opening history → (HasDoubt shown area → ⊥) → StandsSettled shown area opening history
   stands_settled area opening history (Settled state, stands) none = (state, stands)
   stands_settled area opening history (InDoubt before after, stands) none = let at = stands.at in absurd (none (record { texts = at.0; coming = at.1; doubt = at.2 }))
 
   -- an area that does not rest is in doubt
-  pub stands_in_doubt : (area : OpenArea D) (opening : Opening) (history : List Entry) → StandsFor shown area opening history → ((texts : List ℕ) → IsResting shown area texts → ⊥) → StandsInDoubt shown area opening history
+  pub stands_in_doubt : (area : OpenArea D) (opening : Opening) (history : List Entry) → StandsForHistory shown area opening history → ((texts : List ℕ) → IsResting shown area texts → ⊥) → StandsInDoubt shown area opening history
   stands_in_doubt area opening history (InDoubt before after, stands) none = (before, after, stands)
   stands_in_doubt area opening history (Settled state, stands) none = let at = stands.at in absurd (none at.0 at.1)
 

@@ -5,7 +5,8 @@ use Rattle.jb_area.specs.Area.{IsResting, copied_of, loaded_of, rules_of}
 use Rattle.jb_area.specs.Calls.{FailsWith, HasRest, MeetsCall, StepsPack}
 use Rattle.jb_area.specs.Copying.{HasCopiedSome, begun_of}
 use Rattle.jb_area.specs.declared.area.OpenArea.{OpenArea}
-use Rattle.jb_limits.specs.declared.limits.TheConstants.{MOST_ENTRIES, MOST_TEXT_BYTES}
+use Rattle.jb_limits.specs.declared.limits.TheConstants.{MOST_ENTRIES}
+use Rattle.jb_pack.specs.declared.run.TheConstants.{PACK_STEP_BYTES}
 use Rattle.jb_base.specs.declared.user.User.{User}
 use Rattle.jb_decide.specs.Packs.{is_pack_refused}
 use Rattle.jb_decide.specs.declared.error.AreaError.{AreaError}
@@ -18,15 +19,15 @@ use Rattle.jb_model.specs.declared.reply.Reply.{Reply}
 use Rattle.jb_pack.specs.Shadow.{Shadow, left}
 use Rattle.jb_pack.proofs.PlanLemmas.{texts_small}
 use Rattle.jb_publish.specs.Accounts.{Account}
-use Rattle.jb_publish.specs.declared.known.Mark.{Mark}
+use Rattle.jb_publish.specs.declared.known.PairMark.{PairMark}
 use Rattle.jb_state.specs.Packed.{texts_size}
 use Rattle.jb_state.specs.declared.loaded.Loaded.{Loaded}
 use Rattle.jb_turn.specs.Rows.{Begins, StandsFrom}
-use Rattle.jb_turn.specs.Steps.{given, seen as took_in}
+use Rattle.jb_turn.specs.Steps.{given, sighted as took_in}
 use Rattle.jb_turn.specs.declared.seat.Held.{Held}
-use Rattle.jb_shared.specs.Calls.{AreLast, AreLeft, AreSteps, Asks, Calls, HasSteps}
+use Rattle.jb_shared.specs.Calls.{AreLast, AreLeft, AreSteps, Asks, Calls, HasSteps, Runs, call_of}
 use Rattle.jb_shared.specs.Histories.{settled_of}
-use Rattle.jb_shared.specs.InTurn.{Runs, SeatRow}
+use Rattle.jb_shared.specs.InTurn.{Leads, SeatRow}
 use Rattle.jb_shared.specs.Inside.{known_by_both}
 use Rattle.jb_shared.specs.Keeping.{HasChange, IsKept, IsKeptSettled}
 use Rattle.jb_shared.specs.Passes.{Known, refusing, seen, stepping}
@@ -36,7 +37,7 @@ use Rattle.jb_shared.specs.declared.opening.Opening.{Opening}
 use Rattle.jb_shared.specs.declared.refusal.Refusal.{Refusal}
 use Rattle.jb_shared.specs.declared.refusal.Refusal.TheVariants.{Gap, Spent, Stepped}
 use Rattle.jb_shared.specs.declared.shown.ShownArea.{ShownArea}
-use Rattle.jb_shared.proofs.CallLemmas.{Keeps, calls_through, keeps_as, performs_keep, runs_perform}
+use Rattle.jb_shared.proofs.CallLemmas.{calls_through, leads_behind, leads_still}
 use Rattle.jb_shared.proofs.IndexLemmas.{unchanged_no_change}
 use Rattle.jb_shared.proofs.KeepingLemmas.{kept_wanting}
 use Rattle.jb_shared.proofs.SettledLemmas.{begins_itself, begins_on}
@@ -76,13 +77,13 @@ module _ {D : Type 0} (shown : D → Device) where
   }
 
   -- what stands for the history stands for it behind a step that wanted memory
-  pub kept_without : (old new : ShownArea D) (area : OpenArea D) (mark : Mark Opening) (history : List Entry) (user : User) (moment : ℕ) → IsKeptSettled shown old mark history → StepsPack shown old.area area (Err failing.OutOfMemory)
+  pub kept_without : (old new : ShownArea D) (area : OpenArea D) (mark : PairMark Opening) (history : List Entry) (user : User) (moment : ℕ) → IsKeptSettled shown old mark history → StepsPack shown old.area area (Err failing.OutOfMemory)
       → new ≡ record { area = area; shower = old.shower; doubted = old.doubted } → IsKept shown new mark history
   kept_without old new area mark history user moment kept steps same =
       kept_wanting shown old new area old.doubted mark history user moment Pack kept (meets_step old.area area user moment failing.OutOfMemory steps) same
 
   -- and behind one that was done
-  pub kept_step : (old new : ShownArea D) (area : OpenArea D) (mark : Mark Opening) (history : List Entry) (user : User) (moment : ℕ) (more : Bool) → IsKeptSettled shown old mark history → StepsPack shown old.area area (Ok more)
+  pub kept_step : (old new : ShownArea D) (area : OpenArea D) (mark : PairMark Opening) (history : List Entry) (user : User) (moment : ℕ) (more : Bool) → IsKeptSettled shown old mark history → StepsPack shown old.area area (Ok more)
       → new ≡ record { area = area; shower = old.shower; doubted = old.doubted } → IsKept shown new mark history
   kept_step old new area mark history user moment more kept steps same = kept_without old new area mark history user moment kept (step_wanting old.area area more steps) same
 
@@ -92,7 +93,7 @@ module _ {D : Type 0} (shown : D → Device) where
 
 -- how much a step has copied, by whether a pack would be refused
 pub copies_by : {D : Type 0} (old new : OpenArea D) (more refused : Bool) → (refused ≡ true → (more ≡ false) × (new ≡ old))
-    → (refused ≡ false → HasCopiedSome MOST_TEXT_BYTES (loaded_of old).slots (copied_of old) (copied_of new) more) → CopiesOnePart old new more
+    → (refused ≡ false → HasCopiedSome PACK_STEP_BYTES (loaded_of old).slots (copied_of old) (copied_of new) more) → CopiesOnePart old new more
 copies_by old new more true stays copied = let is = stays refl in inr (is.1, is.0)
 copies_by old new more false stays copied = inl (copied refl)
 
@@ -111,9 +112,9 @@ no_more true shown settled is fits = refl
 no_more false shown settled is fits = absurd (omega (arith, is, fits))
 
 -- a step keeps the mark, and what was seen as a beginning
-pub step_keeps : {T : Type 0} (old new : SeatRow) (user : User) (moment : ℕ) (result : Result T SharedError) → RunsStep old new user moment result → Keeps old new
-step_keeps old new user moment (Ok value) is = keeps_as old old new is (record { mark = refl; front = begins_itself old.front })
-step_keeps old new user moment (Err error) runs = performs_keep old new user moment Pack (Err error) (runs_perform old old new None user moment Pack (Err error) refl runs)
+pub step_keeps : {T : Type 0} (old new : SeatRow) (user : User) (moment : ℕ) (result : Result T SharedError) → RunsStep old new user moment result → (new.opening ≡ old.opening) × Begins old.front new.front
+step_keeps old new user moment (Ok value) is = (ap (λ (r : SeatRow). r.opening) is, subst (λ (r : SeatRow). Begins old.front r.front) (sym is) (begins_itself old.front))
+step_keeps old new user moment (Err error) runs = (runs.mark, runs.grows)
 
 -- more of the history, and then more
 pub taken_on : (old mid new : Known) → HasTaken old mid → HasTaken mid new → HasTaken old new
@@ -179,7 +180,7 @@ left_push (Stepped None ∷ steps) bytes left = absurd left
 left_push (Stepped (Some first) ∷ steps) bytes left = left_push steps bytes left
 
 -- steps behind the first one
-pub steps_behind : (old mid new : Known) (user : User) (moment bytes most : ℕ) (result : Result (Unit {0}) SharedError) → most ≡ 2 * (bytes / MOST_TEXT_BYTES) + 1 → HasTaken (refusing old (Stepped (Some bytes))) mid
+pub steps_behind : (old mid new : Known) (user : User) (moment bytes most : ℕ) (result : Result (Unit {0}) SharedError) → most ≡ 2 * (bytes / PACK_STEP_BYTES) + 1 → HasTaken (refusing old (Stepped (Some bytes))) mid
     → StepsOn (AreLast most) mid new user moment result → StepsOn AreSteps old new user moment result
 steps_behind old mid new user moment bytes most (Ok done) is first (steps, last, taken) =
     (Stepped (Some bytes) ∷ steps, subst (λ (n : ℕ). AreLast n steps) is last, taken_steps (refusing old (Stepped (Some bytes))) mid new steps first taken)
@@ -227,14 +228,14 @@ stepped_in account old taken new front left took grows is =
 module _ {D : Type 0} (shown : D → Device) where
   -- a turn that ended the pack
   pub stopped_in : (account : Account Opening Entry) (old taken new : SeatRow) (front : List Entry) (state state' : ShownArea D) (user : User) (moment : ℕ) (error : SharedError)
-      → taken ≡ took_in old front → Begins old.front front → StandsFrom (IsKept shown) taken.opening state taken.front → Runs taken new user moment Pack (Err error) → length front < MOST_ENTRIES
+      → taken ≡ took_in old front → Begins old.front front → StandsFrom (IsKept shown) taken.opening state taken.front → RunsStep {T = Unit {0}} taken new user moment (Err error) → length front < MOST_ENTRIES
       → StandsFrom (IsKept shown) new.opening state' new.front → Begins account.shown (settled_of front)
       → Asks (known_by_both old account) (known_by_both new account) user moment Pack (Err error)
   stopped_in account old taken new front state state' user moment error took grows stands runs room later begins =
-      calls_through shown account old taken new front state state' user moment Pack (Err error) took grows stands (runs_perform taken taken new None user moment Pack (Err error) refl runs) room later begins
+      calls_through shown account old taken new front state state' user moment Pack (Err error) took grows stands (leads_behind taken taken new None user moment Pack (Err error) (leads_still _ taken (λ account. refl)) runs) room later begins
 
 -- of texts that were copied it is said whether one is left
-pub says_left : {D : Type 0} (old new : OpenArea D) (more : Bool) → (loaded_of new) ≡ (loaded_of old) → HasCopiedSome MOST_TEXT_BYTES (loaded_of old).slots (copied_of old) (copied_of new) more → more ≡ nat_lt 0 (uncopied new)
+pub says_left : {D : Type 0} (old new : OpenArea D) (more : Bool) → (loaded_of new) ≡ (loaded_of old) → HasCopiedSome PACK_STEP_BYTES (loaded_of old).slots (copied_of old) (copied_of new) more → more ≡ nat_lt 0 (uncopied new)
 says_left old new more same copied =
     copied.says ∙ (ap (λ (l : Loaded). nat_lt 0 (left copied.shadow l.slots)) (sym same) ∙ ap (λ (k : Option Shadow). nat_lt 0 (left (begun_of k) (loaded_of new).slots)) (sym copied.kept))
 
@@ -252,7 +253,7 @@ module _ {D : Type 0} (shown : D → Device) where
   pub leaves_as : (old : OpenArea D) (held : Held (ShownArea D)) (list : List Entry) (user : User) (more : Bool) (left : Option ℕ) (rest : HasRest shown old) → (loaded_of held.state.area) ≡ (loaded_of old)
       → is_some left ≡ more → IfSome left (λ bytes. bytes ≡ texts_size (loaded_of held.state.area).slots)
       → ((texts : List ℕ) → IsResting shown old texts → is_pack_refused (rules_of old) texts (loaded_of old) user ≡ true → (more ≡ false) × (held.state.area ≡ old))
-      → ((texts : List ℕ) → IsResting shown old texts → is_pack_refused (rules_of old) texts (loaded_of old) user ≡ false → HasCopiedSome MOST_TEXT_BYTES (loaded_of old).slots (copied_of old) (copied_of held.state.area) more)
+      → ((texts : List ℕ) → IsResting shown old texts → is_pack_refused (rules_of old) texts (loaded_of old) user ≡ false → HasCopiedSome PACK_STEP_BYTES (loaded_of old).slots (copied_of old) (copied_of held.state.area) more)
       → LeavesAs shown held list user left
   leaves_as old held list user more (Some bytes) rest same is bytes_are stays copies = (some_left (is_pack_refused (rules_of old) rest.texts (loaded_of old) user) refl, bytes_are)
     where

@@ -1,6 +1,7 @@
 -- What a call makes of what its pass knows, by its answer.
 use Rattle.std.specs.Prelude.{◌≡◌, ◌⊎◌, ℕ, ◌+◌, ◌*◌, ◌/◌, ◌<◌, ◌≤◌, Bool, List, [], ◌∷◌, ◌++◌, length, Option, Some, None, Result, Ok, Err}
-use Rattle.jb_limits.specs.declared.limits.TheConstants.{MOST_ENTRIES, MOST_TEXT_BYTES}
+use Rattle.jb_limits.specs.declared.limits.TheConstants.{MOST_ENTRIES}
+use Rattle.jb_pack.specs.declared.run.TheConstants.{PACK_STEP_BYTES}
 use Rattle.jb_base.specs.declared.user.User.{User}
 use Rattle.jb_model.specs.declared.command.Command.{Command}
 use Rattle.jb_model.specs.declared.command.Command.TheVariants.{Pack}
@@ -18,9 +19,9 @@ use Rattle.jb_shared.specs.declared.opening.Opening.{Opening}
 use Rattle.jb_shared.specs.declared.refusal.Refusal.{Refusal}
 use Rattle.jb_shared.specs.declared.refusal.Refusal.TheVariants as refusal
 
--- the entry of the node's next call
-abbrev pub call_of : Known → User → ℕ → Command → Outcome → Entry
-call_of known user moment command outcome = Called known.node (length known.mine + 1) user moment command outcome
+-- the entry of the next call of the node whose calls these are
+abbrev pub call_of : ℕ → List Entry → User → ℕ → Command → Outcome → Entry
+call_of node mine user moment command outcome = Called node (length mine + 1) user moment command outcome
 
 -- what is known once a doubt has ended so, where there was one
 abbrev pub ending : Known → Option Bool → Known
@@ -31,32 +32,42 @@ ending known (Some stands) = record known { front = known.front ++ Reopened stan
 abbrev pub recording : Known → Entry → Known
 recording known call = record known { front = known.front ++ call ∷ []; mine = known.mine ++ call ∷ [] }
 
+-- what is known before and after a call at rest whose entry is this by its outcome, by its answer: an answered one is recorded with its
+-- reply, and one that a fault stopped as such; want of memory leaves no entry of it
+abbrev pub Runs : Known → Known → (Outcome → Entry) → Result Reply SharedError → Type 0
+Runs old new call (Ok reply) = new ≡ recording old (call (Replied reply))
+Runs old new call (Err StoreFault) = (faults : ℕ) × (new ≡ recording old (call (InDoubt faults)))
+Runs old new call (Err OutOfMemory) = new ≡ old
+Runs old new call (Err error) = ⊥
+
 -- a call that the device stopped: it was begun, and its change is in doubt; or the doubt before it could not be ended, and it was not begun
-abbrev pub IsStopped : Known → Known → User → ℕ → Command → Type 0
-IsStopped old new user moment command =
-    ((ended : Option Bool) × (faults : ℕ) × (new ≡ recording (ending old ended) (call_of old user moment command (InDoubt faults))))
-    ⊎ ((faults : ℕ) × (new ≡ recording old (call_of old user moment command (NotBegun faults))))
+abbrev pub IsStoppedCall : Known → Known → User → ℕ → Command → Type 0
+IsStoppedCall old new user moment command =
+    ((ended : Option Bool) × (faults : ℕ) × (new ≡ recording (ending old ended) (call_of old.node old.mine user moment command (InDoubt faults))))
+    ⊎ ((faults : ℕ) × (new ≡ recording old (call_of old.node old.mine user moment command (NotBegun faults))))
+
+-- a call that was let through: it runs once a doubt has ended, where there was one; or the device stopped it
+abbrev pub Performs : Known → Known → User → ℕ → Command → Result Reply SharedError → Type 0
+Performs old new user moment command result =
+    ((ended : Option Bool) × Runs (ending old ended) new (call_of old.node old.mine user moment command) result)
+    ⊎ ((result ≡ Err StoreFault) × IsStoppedCall old new user moment command)
 
 -- what is known before, with the whole history taken, and after, by the answer: what looks showed and how often they were not let in
--- stays. An answered call is recorded with its reply, and one that a fault stopped as such; want of memory leaves no entry of the
--- call; a pass that was shown more entries than are settled of the history, and a history that is spent, leave none at all
+-- stays. A pass that was shown more entries than are settled of the history, and a history that is spent, leave no entry at all
 abbrev pub Answers : Known → Known → User → ℕ → Command → Result Reply SharedError → Type 0
-Answers old new user moment command (Ok reply) = (length old.front < MOST_ENTRIES)
-    × ((ended : Option Bool) × (new ≡ recording (ending old ended) (call_of old user moment command (Replied reply))))
-Answers old new user moment command (Err StoreFault) = (length old.front < MOST_ENTRIES) × IsStopped old new user moment command
-Answers old new user moment command (Err OutOfMemory) = (length old.front < MOST_ENTRIES) × ((ended : Option Bool) × (new ≡ ending old ended))
+Answers old new user moment command (Err StoreFault) = (length old.front < MOST_ENTRIES) × IsStoppedCall old new user moment command
 Answers old new user moment command (Err (Gap shown held)) = (length old.front < MOST_ENTRIES)
     × ((shown ≡ length old.shown) × (held ≡ length (settled_of old.front)) × (new ≡ refusing old (refusal.Gap shown held)))
 Answers old new user moment command (Err RunSpent) = (MOST_ENTRIES ≤ length old.front) × (new ≡ refusing old refusal.Spent)
+Answers old new user moment command result = (length old.front < MOST_ENTRIES)
+    × ((ended : Option Bool) × Runs (ending old ended) new (call_of old.node old.mine user moment command) result)
 
 -- how what was shown stands to what is settled of the history that was taken, by the answer: it is a beginning of that; a gap comes
 -- just where it is not, and then it goes on from all of that; where the history is spent nothing is known of the two
-abbrev pub IsCovered : List Entry → List Entry → Result Reply SharedError → Type 0
-IsCovered shown settled (Ok reply) = Begins shown settled
-IsCovered shown settled (Err StoreFault) = Begins shown settled
-IsCovered shown settled (Err OutOfMemory) = Begins shown settled
-IsCovered shown settled (Err (Gap count held)) = Begins settled shown × (length settled < length shown)
-IsCovered shown settled (Err RunSpent) = Unit {0}
+abbrev pub IsShownFrom : List Entry → List Entry → Result Reply SharedError → Type 0
+IsShownFrom shown settled (Err (Gap count held)) = Begins settled shown × (length settled < length shown)
+IsShownFrom shown settled (Err RunSpent) = Unit {0}
+IsShownFrom shown settled result = Begins shown settled
 
 -- a call in one turn: it takes the whole history, which goes on from what the pass had seen, and leaves a legal one
 pub record Asks (old new : Known) (user : User) (moment : ℕ) (command : Command) (result : Result Reply SharedError) : Type 0 where
@@ -65,7 +76,7 @@ pub record Asks (old new : Known) (user : User) (moment : ℕ) (command : Comman
   pub taken : List Entry
   pub grows : Begins old.front taken
   pub answers : Answers (seen old taken) new user moment command result
-  pub covered : IsCovered old.shown (settled_of taken) result
+  pub covered : IsShownFrom old.shown (settled_of taken) result
   pub history : IsHistory opening new.front
 
 -- behind each of these steps of a pack a text was left to copy
@@ -86,7 +97,7 @@ AreSteps [] = ⊥
 AreSteps (refusal.Gap shown held ∷ steps) = ⊥
 AreSteps (refusal.Spent ∷ steps) = ⊥
 AreSteps (refusal.Stepped None ∷ steps) = steps ≡ []
-AreSteps (refusal.Stepped (Some bytes) ∷ steps) = AreLast (2 * (bytes / MOST_TEXT_BYTES) + 1) steps
+AreSteps (refusal.Stepped (Some bytes) ∷ steps) = AreLast (2 * (bytes / PACK_STEP_BYTES) + 1) steps
 
 -- the turns before the last one: a pack that is done has made all its steps, one that is not at least a beginning, and no other command has any
 abbrev pub HasSteps : Command → List Refusal → Result Reply SharedError → Type 0

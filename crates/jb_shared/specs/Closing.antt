@@ -7,7 +7,7 @@ use Rattle.jb_model.specs.declared.entry.Entry.{Entry}
 use Rattle.jb_turn.specs.Rows.{Begins, Has}
 use Rattle.jb_shared.specs.Histories.{settled_of}
 use Rattle.jb_shared.specs.Passes.{Known, PassView}
-use Rattle.jb_shared.specs.Standing.{StandsFor}
+use Rattle.jb_shared.specs.Standing.{StandsForHistory}
 use Rattle.jb_shared.specs.declared.error.CloseError.{CloseError}
 use Rattle.jb_shared.specs.declared.error.CloseError.TheVariants.{PassMissing}
 use Rattle.jb_shared.specs.declared.opening.Opening.{Opening}
@@ -21,8 +21,8 @@ abbrev pub HasNode : List Known → ℕ → Type 0
 HasNode all node = (known : Known) × Has all known × (known.node ≡ node)
 
 -- each node from 1 to this number is among them
-abbrev pub HasAll : List Known → ℕ → Type 0
-HasAll all count = (node : ℕ) → 0 < node → node ≤ count → HasNode all node
+abbrev pub HasEachNode : List Known → ℕ → Type 0
+HasEachNode all count = (node : ℕ) → 0 < node → node ≤ count → HasNode all node
 
 -- this is the lowest number up to the other one whose node is not among them
 abbrev pub IsLowestMissing : List Known → ℕ → ℕ → Type 0
@@ -45,7 +45,7 @@ pub record IsPartOf (opening : Opening) (history : List Entry) (known : Known) :
 pub record Closes {D : Type 0} (shown : D → Device) (passes : List PassView) (area : OpenArea D) : Type 0 where
   pub opening : Opening
   pub history : List Entry
-  pub stands : StandsFor shown area opening history
+  pub stands : StandsForHistory shown area opening history
   pub each : (known : Known) → Has (known_by passes) known → IsPartOf opening history known
   pub others : (node : ℕ) → (HasNode (known_by passes) node → ⊥) → calls_of node history ≡ []
   pub longest : (known : Known) × Has (known_by passes) known × (known.front ≡ history)

@@ -11,12 +11,12 @@ abbrev pub Tells : Opening → Type 0
 Tells opening = IsSome opening.texts
 
 -- the state from which the history goes on; its texts are those that were told
-abbrev pub first_of : Opening → AreaState
-first_of opening = state_of (unwrap_or opening.texts []) opening.loaded
+abbrev pub first_state : Opening → AreaState
+first_state opening = state_of (unwrap_or opening.texts []) opening.loaded
 
 -- where the history leads
 abbrev pub leads_to : Opening → List Entry → Standing
-leads_to opening history = standing_after opening.rules (first_of opening) history
+leads_to opening history = standing_after opening.rules (first_state opening) history
 
 -- the entry is a call that the device stopped
 abbrev pub is_stopped : Entry → Bool
@@ -52,4 +52,4 @@ state_at (InDoubt before after) = before
 pub record IsHistory (opening : Opening) (history : List Entry) : Type 0 where
   pub numbered : AreNumbered history
   pub risen : Rises opening.faults (filter_map faults_of history)
-  pub allowed : Tells opening → AllowsEach opening.rules (Settled (first_of opening)) history
+  pub allowed : Tells opening → AllowsEach opening.rules (Settled (first_state opening)) history

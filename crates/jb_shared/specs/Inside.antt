@@ -3,7 +3,7 @@ use Rattle.std.specs.Prelude.{◌≡◌, true, is_some, Option, Some, None, []}
 use Rattle.jb_model.specs.declared.entry.Entry.{Entry}
 use Rattle.jb_publish.specs.Accounts.{Account, account_of}
 use Rattle.jb_publish.specs.Marks.{book_at, opening_at}
-use Rattle.jb_publish.specs.declared.known.Mark.{Mark}
+use Rattle.jb_publish.specs.declared.known.PairMark.{PairMark}
 use Rattle.jb_turn.specs.Seats.{resting_row, resting_turn}
 use Rattle.jb_turn.specs.declared.view.Row.{Row}
 use Rattle.jb_shared.specs.Passes.{Known, PassView}
@@ -13,7 +13,7 @@ use Rattle.jb_shared.specs.declared.pass.Pass.TheInside.{Inside}
 use Rattle.jb_shared.specs.declared.refusal.Refusal.{Refusal}
 
 -- what is known by a row of the turn and by a reader's account
-abbrev pub known_by_both : Row (Mark Opening) Entry Refusal → Account Opening Entry → Known
+abbrev pub known_by_both : Row (PairMark Opening) Entry Refusal → Account Opening Entry → Known
 known_by_both row account = record {
   node = row.node;
   opening = opening_at row.opening;
@@ -43,5 +43,5 @@ abbrev pub pass_in : Inside → PassView
 pass_in held = pass_of held.parts
 
 -- the parts are there
-abbrev pub IsHeld : Inside → Type 0
-IsHeld held = is_some held.parts ≡ true
+abbrev pub HasParts : Inside → Type 0
+HasParts held = is_some held.parts ≡ true

@@ -15,9 +15,9 @@ use Rattle.jb_model.specs.declared.command.Command.{Command}
 use Rattle.jb_model.specs.declared.entry.Entry.{Entry}
 use Rattle.jb_publish.specs.Marks.{book_at, mark_with}
 use Rattle.jb_publish.specs.Publications.{publication_of}
-use Rattle.jb_publish.specs.declared.known.Mark.{Mark}
+use Rattle.jb_publish.specs.declared.known.PairMark.{PairMark}
 use Rattle.jb_shared.specs.Histories.{Tells, leads_to, settled_of, state_at}
-use Rattle.jb_shared.specs.Standing.{StandsFor, StandsInDoubt, StandsSettled, opening_of}
+use Rattle.jb_shared.specs.Standing.{StandsForHistory, StandsInDoubt, StandsSettled, opening_of}
 use Rattle.jb_shared.specs.declared.opening.Opening.{Opening}
 use Rattle.jb_shared.specs.declared.shown.ShownArea.{ShownArea}
 
@@ -28,8 +28,8 @@ module _ {D : Type 0} (shown : D → Device) where
   HasChange area = (texts : List ℕ) × (coming : Coming) × IsDoubtful shown area texts (Some coming)
 
   -- of an area at rest whose disk tells its files, the edits make of the index that of the area after the command
-  abbrev pub Follows : OpenArea D → User → ℕ → Command → List OpEdit → Type 0
-  Follows area user moment command edits = (texts : List ℕ) → IsResting shown area texts → IsSome (device_of shown area).contents
+  abbrev pub FollowsCommand : OpenArea D → User → ℕ → Command → List OpEdit → Type 0
+  FollowsCommand area user moment command edits = (texts : List ℕ) → IsResting shown area texts → IsSome (device_of shown area).contents
       → absorbed (index_of (rules_of area) (state_of texts (loaded_of area))) edits
       ≡ index_of (rules_of area) (step (rules_of area) (state_of texts (loaded_of area)) user moment command).state
 
@@ -39,7 +39,7 @@ module _ {D : Type 0} (shown : D → Device) where
       → absorbed index edits ≡ index_of opening.rules after
 
   -- looks see all that is settled of the history, and nothing waits to be shown
-  pub record IsPublished (state : ShownArea D) (mark : Mark Opening) (history : List Entry) : Type 0 where
+  pub record IsPublished (state : ShownArea D) (mark : PairMark Opening) (history : List Entry) : Type 0 where
     pub pair : (publication_of state.shower).mark ≡ Some mark
     pub list : (publication_of state.shower).list ≡ settled_of history
     pub queued : (publication_of state.shower).queued ≡ []
@@ -47,22 +47,22 @@ module _ {D : Type 0} (shown : D → Device) where
     pub doubted : IsDoubted state.area mark.opening history (publication_of state.shower).value state.doubted.op
 
   -- the area stands so for the history, and looks see all that is settled of it
-  pub record IsKeptBy (stands : OpenArea D → Opening → List Entry → Type 0) (state : ShownArea D) (mark : Mark Opening) (history : List Entry) : Type 0 where
+  pub record IsKeptBy (stands : OpenArea D → Opening → List Entry → Type 0) (state : ShownArea D) (mark : PairMark Opening) (history : List Entry) : Type 0 where
     pub area : stands state.area mark.opening history
     pub index : IsPublished state mark history
 
   -- it stands for the history, at rest or in doubt
-  abbrev pub IsKept : ShownArea D → Mark Opening → List Entry → Type 0
-  IsKept = IsKeptBy (StandsFor shown)
+  abbrev pub IsKept : ShownArea D → PairMark Opening → List Entry → Type 0
+  IsKept = IsKeptBy (StandsForHistory shown)
 
   -- and is settled
-  abbrev pub IsKeptSettled : ShownArea D → Mark Opening → List Entry → Type 0
+  abbrev pub IsKeptSettled : ShownArea D → PairMark Opening → List Entry → Type 0
   IsKeptSettled = IsKeptBy (StandsSettled shown)
 
   -- and is in doubt
-  abbrev pub IsKeptInDoubt : ShownArea D → Mark Opening → List Entry → Type 0
+  abbrev pub IsKeptInDoubt : ShownArea D → PairMark Opening → List Entry → Type 0
   IsKeptInDoubt = IsKeptBy (StandsInDoubt shown)
 
   -- the mark from which its history goes on
-  abbrev pub mark_of : ShownArea D → Mark Opening
-  mark_of state = unwrap_or (publication_of state.shower).mark (mark_with (book_at {O = Opening} None) (opening_of shown state.area))
+  abbrev pub history_mark : ShownArea D → PairMark Opening
+  history_mark state = unwrap_or (publication_of state.shower).mark (mark_with (book_at {O = Opening} None) (opening_of shown state.area))

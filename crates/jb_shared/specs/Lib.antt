@@ -7,6 +7,7 @@ pub mod Begun
 pub mod Keeping
 pub mod Showing
 pub mod InTurn
+pub mod Noting
 pub mod Areas
 pub mod Making
 pub mod Calls

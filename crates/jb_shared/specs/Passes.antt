@@ -4,7 +4,7 @@ use Rattle.std.specs.Option.{option_map}
 use Rattle.logbook.specs.Pages.{Book}
 use Rattle.jb_model.specs.declared.entry.Entry.{Entry}
 use Rattle.jb_publish.specs.Marks.{mark_with}
-use Rattle.jb_publish.specs.declared.known.Mark.{Mark}
+use Rattle.jb_publish.specs.declared.known.PairMark.{PairMark}
 use Rattle.jb_turn.specs.Rows.{row}
 use Rattle.jb_turn.specs.Seats.{TurnId}
 use Rattle.jb_turn.specs.declared.view.Row.{Row}
@@ -68,9 +68,9 @@ abbrev pub IsPairOf : PassView → Book → Type 0
 IsPairOf pass book = option_map (λ area. area.book) pass.area ≡ Some book
 
 -- the mark of what its looks see
-abbrev pub mark_in : PassView → Option (Mark Opening)
-mark_in pass = option_and_then (λ area. option_map (mark_with area.book) pass.known.opening) pass.area
+abbrev pub mark_seen : PassView → Option (PairMark Opening)
+mark_seen pass = option_and_then (λ area. option_map (mark_with area.book) pass.known.opening) pass.area
 
 -- the row of its seat
-abbrev pub row_in : PassView → Row (Mark Opening) Entry Refusal
-row_in pass = row pass.known.node (mark_in pass) pass.known.front pass.known.mine pass.known.refused
+abbrev pub row_in : PassView → Row (PairMark Opening) Entry Refusal
+row_in pass = row pass.known.node (mark_seen pass) pass.known.front pass.known.mine pass.known.refused

@@ -3,9 +3,9 @@ use Rattle.std.specs.Prelude.{◌≡◌, Bool, List, [], if◌then◌else◌}
 use mathlib.Core.List.{IsPrefix}
 use Rattle.jb_index.specs.Index.{AreaIndex}
 use Rattle.jb_model.specs.declared.entry.Entry.{Entry}
-use Rattle.jb_publish.specs.Marks.{StandsFrom, opening_at}
+use Rattle.jb_publish.specs.Marks.{ValueStandsFrom, opening_at}
 use Rattle.jb_publish.specs.Publications.{Publication, publication_of}
-use Rattle.jb_shared.specs.Shows.{IsShownAs, changed}
+use Rattle.jb_shared.specs.Shows.{IsShownAs, index_changed}
 use Rattle.jb_shared.specs.declared.change.IndexChange.{IndexChange}
 use Rattle.jb_shared.specs.declared.opening.Opening.{Opening}
 use Rattle.jb_shared.specs.declared.shown.ShownArea.{ShownArea}
@@ -17,13 +17,13 @@ published_with p value list = record { mark = p.mark; list = list; queued = []; 
 module _ {D : Type 0} where
   -- the index that looks see, with the change that is kept where it is done
   abbrev pub value_with : ShownArea D → Bool → AreaIndex
-  value_with state done = if done then changed (publication_of state.shower).value state.doubted else (publication_of state.shower).value
+  value_with state done = if done then index_changed (publication_of state.shower).value state.doubted else (publication_of state.shower).value
 
   -- that index may be shown as these entries
   pub record CanShow (state : ShownArea D) (done : Bool) (entries : List Entry) : Type 0 where
     pub longer : IsPrefix (publication_of state.shower).list entries
     pub queued : (publication_of state.shower).queued ≡ []
-    pub stands : StandsFrom IsShownAs (opening_at (publication_of state.shower).mark) (value_with state done) entries
+    pub stands : ValueStandsFrom IsShownAs (opening_at (publication_of state.shower).mark) (value_with state done) entries
 
   -- it is shown so
   pub record HasShown (old new : ShownArea D) (done : Bool) (entries : List Entry) : Type 0 where

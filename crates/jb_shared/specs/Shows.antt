@@ -9,8 +9,8 @@ use Rattle.jb_shared.specs.declared.change.IndexChange.{IndexChange}
 use Rattle.jb_shared.specs.declared.opening.Opening.{Opening}
 
 -- the index after a change
-abbrev pub changed : AreaIndex → IndexChange → AreaIndex
-changed index change = absorbed index change.op
+abbrev pub index_changed : AreaIndex → IndexChange → AreaIndex
+index_changed index change = absorbed index change.op
 
 -- the entries are a legal history that ends settled, and where the disk tells its files, the index is that of the area after them
 pub record IsShownAs (index : AreaIndex) (opening : Opening) (entries : List Entry) : Type 0 where

@@ -61,8 +61,8 @@ module _ {D : Type 0} (shown : D → Device) where
     pub leads : Tells opening → standing ≡ leads_to opening entries
 
   -- the area stands for the history, at rest or in doubt
-  abbrev pub StandsFor : OpenArea D → Opening → List Entry → Type 0
-  StandsFor area opening entries = (standing : Standing) × StandsAt area opening entries standing
+  abbrev pub StandsForHistory : OpenArea D → Opening → List Entry → Type 0
+  StandsForHistory area opening entries = (standing : Standing) × StandsAt area opening entries standing
 
   -- the area stands for the history, and is settled
   abbrev pub StandsSettled : OpenArea D → Opening → List Entry → Type 0

@@ -3,7 +3,8 @@ use Rattle.std.specs.Prelude.{◌≡◌, ◌⊎◌, ℕ, ◌<◌, ◌≤◌, Boo
 use Rattle.jb_area.specs.Area.{IsResting, copied_of, loaded_of, rules_of}
 use Rattle.jb_area.specs.Copying.{HasCopiedSome, begun_of}
 use Rattle.jb_area.specs.declared.area.OpenArea.{OpenArea}
-use Rattle.jb_limits.specs.declared.limits.TheConstants.{MOST_ENTRIES, MOST_TEXT_BYTES}
+use Rattle.jb_limits.specs.declared.limits.TheConstants.{MOST_ENTRIES}
+use Rattle.jb_pack.specs.declared.run.TheConstants.{PACK_STEP_BYTES}
 use Rattle.jb_base.specs.declared.user.User.{User}
 use Rattle.jb_decide.specs.Packs.{is_pack_refused}
 use Rattle.jb_disk.specs.Device.{Device}
@@ -14,8 +15,8 @@ use Rattle.jb_publish.specs.Publications.{publication_of}
 use Rattle.jb_state.specs.Packed.{texts_size}
 use Rattle.jb_turn.specs.Rows.{Begins}
 use Rattle.jb_turn.specs.declared.seat.Held.{Held}
-use Rattle.jb_shared.specs.Calls.{AreLeft, Asks}
-use Rattle.jb_shared.specs.InTurn.{Runs, SeatRow}
+use Rattle.jb_shared.specs.Calls.{AreLeft, Asks, Runs, call_of}
+use Rattle.jb_shared.specs.InTurn.{Leads, SeatRow}
 use Rattle.jb_shared.specs.Passes.{Known, refusing, seen, stepping}
 use Rattle.jb_shared.specs.declared.error.SharedError.{SharedError}
 use Rattle.jb_shared.specs.declared.refusal.Refusal.{Refusal}
@@ -39,12 +40,12 @@ StepsOn made old new user moment (Err error) = (steps : List Refusal) × AreLeft
 -- a step while the area is out with the seat: it records nothing, or what stopped the pack
 abbrev pub RunsStep : {T : Type 0} → SeatRow → SeatRow → User → ℕ → Result T SharedError → Type 0
 RunsStep old new user moment (Ok value) = new ≡ old
-RunsStep old new user moment (Err error) = Runs old new user moment Pack (Err error)
+RunsStep old new user moment (Err error) = Leads (λ before after. Runs before after (call_of old.node old.mine user moment Pack) (Err error)) old new
 
 -- of the texts of the area as many were copied as a step may copy, and it is said whether one is left; or the area is as it was,
 -- and it is said that none is
 abbrev pub CopiesOnePart : {D : Type 0} → OpenArea D → OpenArea D → Bool → Type 0
-CopiesOnePart old new more = HasCopiedSome MOST_TEXT_BYTES (loaded_of old).slots (copied_of old) (copied_of new) more ⊎ ((new ≡ old) × (more ≡ false))
+CopiesOnePart old new more = HasCopiedSome PACK_STEP_BYTES (loaded_of old).slots (copied_of old) (copied_of new) more ⊎ ((new ≡ old) × (more ≡ false))
 
 -- how many bytes of the area's texts are left to copy for a pack
 abbrev pub uncopied : {D : Type 0} → OpenArea D → ℕ
@@ -66,3 +67,8 @@ module _ {D : Type 0} (shown : D → Device) where
   abbrev pub LeavesAs : Held (ShownArea D) → List Entry → User → Option ℕ → Type 0
   LeavesAs held list user None = MayCopy held list user → uncopied held.state.area ≡ 0
   LeavesAs held list user (Some bytes) = (0 < uncopied held.state.area) × (bytes ≡ texts_size (loaded_of held.state.area).slots)
+
+  -- the remark is none of a step, or what a step of a pack of this user says
+  abbrev pub TellsLeft : Held (ShownArea D) → List Entry → User → Option Refusal → Type 0
+  TellsLeft held list user (Some (Stepped left)) = LeavesAs held list user left
+  TellsLeft held list user _ = Unit {0}

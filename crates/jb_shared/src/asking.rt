@@ -1,72 +1,21 @@
 //! Calls on a pass.
-ghost use Rattle.std.specs.Prelude.{◌≡◌, ◌≤◌, length, Some};
+ghost use Rattle.std.specs.Prelude.{◌≡◌, ◌≤◌, length};
 ghost use Rattle.jb_limits.specs.declared.limits.TheConstants.{MOST_NAME_BYTES};
-ghost use Rattle.jb_publish.specs.Accounts.{account_of};
-ghost use Rattle.jb_turn.specs.Rows.{StandsFrom};
-ghost use Rattle.jb_turn.specs.Seats.{front, id_of, opening, resting_row, resting_turn, row_of, Holds};
-ghost use Rattle.jb_turn.specs.Steps.{given};
+ghost use Rattle.jb_turn.specs.Seats.{id_of, resting_row, resting_turn};
 ghost use Rattle.jb_shared.specs.Areas.{IsOf};
 ghost use Rattle.jb_shared.specs.Calls.{Asks, Calls};
 ghost use Rattle.jb_shared.specs.Inside.{known_in};
-ghost use Rattle.jb_shared.specs.InTurn.{IsToldOf};
-ghost use Rattle.jb_shared.specs.Keeping.{IsKept};
-ghost use Rattle.jb_shared.specs.declared.refusal.Refusal.TheVariants.{Gap, Spent};
 
+use crate::call::Call;
 use crate::calling::perform;
-use crate::entering::{Entered, leave};
-use crate::noting::{give_gap, give_spent};
+use crate::entering::{Entered, end, leave};
 use crate::parts::Parts;
-use crate::published::IndexReader;
-use crate::shared::{AreaSeat, AreaTurn};
-use crate::shown::ShownArea;
-use crate::{Pass, SharedArea, SharedError};
+use crate::{Pass, Refusal, SharedArea, SharedError};
 use jb_base::{MOST_ENTRIES, User};
 use jb_disk::Disk;
 use jb_model::{Command, Reply};
-use jb_turn::Held;
 use std::alloc::Global;
-use std::marker::Brand;
 use std::sync::Wait;
-
-/// Gives the area back, refused since the history is spent.
-fn end_spent<D: Disk>(
-    turn: &AreaTurn<D>,
-    mut seat: AreaSeat<D>,
-    held: Held<ShownArea<D>>,
-    reader: IndexReader,
-) -> Parts
-    requires seat { Holds turn.now seat held.count }
-    requires stands { StandsFrom (IsKept D.device) (opening seat) held.state (front seat) }
-    requires told { IsToldOf (row_of seat) (account_of reader) }
-    ensures here { resting_turn result.seat ≡ id_of turn.now }
-    ensures row { resting_row result.seat ≡ given (row_of seat) (Some Spent) }
-    ensures account { account_of result.reader ≡ account_of reader }
-{
-    give_spent::<D, Brand>(turn, &mut seat, held);
-    let seat = seat.rest();
-    Parts { seat, reader }
-}
-
-/// Gives the area back, refused since the pass was shown more entries than are settled.
-fn end_gap<D: Disk>(
-    turn: &AreaTurn<D>,
-    mut seat: AreaSeat<D>,
-    held: Held<ShownArea<D>>,
-    reader: IndexReader,
-    shown: u64,
-    settled: u64,
-) -> Parts
-    requires seat { Holds turn.now seat held.count }
-    requires stands { StandsFrom (IsKept D.device) (opening seat) held.state (front seat) }
-    requires told { IsToldOf (row_of seat) (account_of reader) }
-    ensures here { resting_turn result.seat ≡ id_of turn.now }
-    ensures row { resting_row result.seat ≡ given (row_of seat) (Some (Gap shown settled)) }
-    ensures account { account_of result.reader ≡ account_of reader }
-{
-    give_gap::<D, Brand>(turn, &mut seat, held, shown, settled);
-    let seat = seat.rest();
-    Parts { seat, reader }
-}
 
 impl<D: Disk> SharedArea<D> {
     /// A call in one turn, with the parts of a pass of this area.
@@ -75,15 +24,15 @@ impl<D: Disk> SharedArea<D> {
         rt: &R,
         alloc: Global,
         parts: Parts,
-        user: &User,
-        moment: u32,
-        command: &Command,
+        call: Call<'_>,
+        has_settled: &mut bool,
     ) -> (Parts, Result<Reply, SharedError>)
         requires ours { resting_turn parts.seat ≡ id_of self.now.turn }
-        requires name { length user.now.name ≤ MOST_NAME_BYTES }
+        requires name { length call.user.now.name ≤ MOST_NAME_BYTES }
         ensures ours { resting_turn result.0.seat ≡ id_of self.now.turn }
         ensures mark { (resting_row result.0.seat).opening ≡ (resting_row parts.seat).opening }
-        ensures asks { Asks (known_in parts) (known_in result.0) user.now moment command.now result.1 }
+        ensures asks { Asks (known_in parts) (known_in result.0) call.entry.user.now
+            call.entry.moment call.entry.command.now result.1 }
     {
         let Entered {
             mut seat,
@@ -91,23 +40,37 @@ impl<D: Disk> SharedArea<D> {
             reader,
         } = self.enter(rt, parts);
         if held.count >= MOST_ENTRIES {
-            let parts = end_spent(&self.turn, seat, held, reader);
+            let parts = end(
+                &self.turn,
+                seat,
+                held,
+                reader,
+                call.user,
+                Some(Refusal::Spent),
+            );
             return (parts, Err(SharedError::RunSpent));
         }
         if !held.state.shower.covers(&reader) {
             let shown = reader.entries();
             let settled = held.state.shower.entries();
-            let parts = end_gap(&self.turn, seat, held, reader, shown, settled);
+            let remark = Refusal::Gap {
+                shown,
+                held: settled,
+            };
+            let parts = end(&self.turn, seat, held, reader, call.user, Some(remark));
             let gap = SharedError::Gap {
                 shown,
                 held: settled,
             };
             return (parts, Err(gap));
         }
-        let (held, answer) = perform(
-            rt, alloc, &self.turn, &mut seat, held, user, moment, command,
-        );
-        (leave(&self.turn, seat, held, reader), answer)
+        let was_in_doubt = held.state.area.in_doubt();
+        let (held, answer) = perform(rt, alloc, &self.turn, &mut seat, held, call);
+        *has_settled = was_in_doubt && !held.state.area.in_doubt();
+        (
+            leave(&self.turn, seat, held, reader, call.user, None),
+            answer,
+        )
     }
 
     /// A call with the parts of a pass of this area. A pack goes by steps first.
@@ -116,22 +79,22 @@ impl<D: Disk> SharedArea<D> {
         rt: &R,
         alloc: Global,
         parts: Parts,
-        user: &User,
-        moment: u32,
-        command: &Command,
+        call: Call<'_>,
+        has_settled: &mut bool,
     ) -> (Parts, Result<Reply, SharedError>)
         requires ours { resting_turn parts.seat ≡ id_of self.now.turn }
-        requires name { length user.now.name ≤ MOST_NAME_BYTES }
+        requires name { length call.user.now.name ≤ MOST_NAME_BYTES }
         ensures ours { resting_turn result.0.seat ≡ id_of self.now.turn }
         ensures mark { (resting_row result.0.seat).opening ≡ (resting_row parts.seat).opening }
-        ensures calls { Calls (known_in parts) (known_in result.0) user.now moment command.now result.1 }
+        ensures calls { Calls (known_in parts) (known_in result.0) call.entry.user.now
+            call.entry.moment call.entry.command.now result.1 }
     {
-        let Command::Pack = command else {
-            return self.ask(rt, alloc, parts, user, moment, command);
+        let Command::Pack = call.command else {
+            return self.ask(rt, alloc, parts, call, has_settled);
         };
-        let (parts, copied) = self.copy_by_steps(rt, alloc, parts, user, moment);
+        let (parts, copied) = self.copy_by_steps(rt, alloc, parts, call.user, call.moment);
         match copied {
-            Ok(()) => self.ask(rt, alloc, parts, user, moment, command),
+            Ok(()) => self.ask(rt, alloc, parts, call, has_settled),
             Err(error) => (parts, Err(error)),
         }
     }
@@ -164,11 +127,18 @@ impl<D: Disk> SharedArea<D> {
         ensures ours { IsOf self.now pass.new }
         ensures calls { Calls pass.old.known pass.new.known user.now moment command.now result }
     {
+        let call = Call {
+            user,
+            moment,
+            command,
+        };
         let Some(parts) = pass.parts.take() else {
             unreachable!()
         };
-        let (parts, answer) = self.call_with(rt, alloc, parts, user, moment, command);
+        let mut has_settled = false;
+        let (parts, answer) = self.call_with(rt, alloc, parts, call, &mut has_settled);
         pass.parts = Some(parts);
+        pass.has_settled = has_settled;
         answer
     }
 }

@@ -1,11 +1,11 @@
 //! A shared area ends with all its passes.
 ghost use Rattle.std.specs.Prelude.{◌≡◌, ◌⊎◌, All, IfErr, IfOk, OnOk};
 ghost use mathlib.Core.List.{IsPrefix};
-ghost use Rattle.jb_publish.specs.Fronts.{book_of, list_of};
+ghost use Rattle.jb_publish.specs.Fronts.{book_of, known_list};
 ghost use Rattle.jb_publish.specs.Pairs.{IsIn};
 ghost use Rattle.jb_publish.specs.Publications.{publication_of};
 ghost use Rattle.jb_shared.specs.Areas.{passes_of, IsOf};
-ghost use Rattle.jb_shared.specs.Closing.{known_by, Closes, HasAll, IsMissing};
+ghost use Rattle.jb_shared.specs.Closing.{known_by, Closes, HasEachNode, IsMissing};
 ghost use Rattle.jb_shared.specs.Passes.{IsPairOf};
 
 use crate::shown::ShownArea;
@@ -19,7 +19,7 @@ use std::sync::Wait;
 impl Pass {
     /// What its looks have shown.
     fn shown(&self) -> Front<Entry>
-        ensures list { list_of result ≡ self.now.known.shown }
+        ensures list { known_list result ≡ self.now.known.shown }
         ensures pair { IsPairOf self.now (book_of result) }
     {
         match &self.parts {
@@ -33,8 +33,8 @@ impl Pass {
 fn longer(one: Front<Entry>, other: Front<Entry>) -> Front<Entry>
     requires pair { book_of other ≡ book_of one }
     ensures pair { book_of result ≡ book_of one }
-    ensures one { IsPrefix (list_of one) (list_of result) }
-    ensures other { IsPrefix (list_of other) (list_of result) }
+    ensures one { IsPrefix (known_list one) (known_list result) }
+    ensures other { IsPrefix (known_list other) (known_list result) }
 {
     if one.covers(&other) { one } else { other }
 }
@@ -43,7 +43,7 @@ fn longer(one: Front<Entry>, other: Front<Entry>) -> Front<Entry>
 fn longest_shown(origin: &Front<Entry>, passes: &[Pass]) -> Front<Entry>
     requires pair { All (λ pass. IsPairOf pass (book_of origin.now)) passes.now }
     ensures pair { book_of result ≡ book_of origin.now }
-    ensures begins { All (λ pass. IsPrefix pass.known.shown (list_of result)) passes.now }
+    ensures begins { All (λ pass. IsPrefix pass.known.shown (known_list result)) passes.now }
 {
     let mut longest = origin.again();
     for pass in passes {
@@ -56,8 +56,8 @@ fn longest_shown(origin: &Front<Entry>, passes: &[Pass]) -> Front<Entry>
 fn end<D: Disk, R: Wait>(rt: &R, state: ShownArea<D>, longest: &Front<Entry>) -> OpenArea<D>
     requires pair { IsIn (publication_of state.shower).mark longest.now }
     ensures area { result ≡ state.area }
-    ensures begins { IsPrefix (list_of longest.now) (publication_of state.shower).list
-        ⊎ IsPrefix (publication_of state.shower).list (list_of longest.now) }
+    ensures begins { IsPrefix (known_list longest.now) (publication_of state.shower).list
+        ⊎ IsPrefix (publication_of state.shower).list (known_list longest.now) }
 {
     let ShownArea {
         area,
@@ -82,7 +82,7 @@ impl<D: Disk> SharedArea<D> {
         requires ours { All (IsOf self) passes.items }
 
         // All passes are there, and what they know is of one history, for which the area stands.
-        ensures all { OnOk result (HasAll (known_by passes.items) (passes_of self)) }
+        ensures all { OnOk result (HasEachNode (known_by passes.items) (passes_of self)) }
         ensures closed { IfOk result (λ area. Closes D.device passes.items area) }
 
         // A pass is missing, and nothing has changed.

@@ -4,14 +4,14 @@ ghost use Rattle.jb_area.specs.Area.{HasBegun};
 ghost use Rattle.jb_area.specs.Calls.{EndsCall, HasRest, MeetsCall};
 ghost use Rattle.jb_decide.specs.Errors.{is_area_fault};
 ghost use Rattle.jb_limits.specs.declared.limits.TheConstants.{MOST_NAME_BYTES};
-ghost use Rattle.jb_shared.specs.Keeping.{Follows, HasChange};
+ghost use Rattle.jb_shared.specs.Keeping.{FollowsCommand, HasChange};
 
+use crate::call::Call;
 use crate::change::IndexChange;
 use crate::changing::change_of;
 use jb_area::{AreaError, OpenArea};
-use jb_base::User;
 use jb_disk::Disk;
-use jb_model::{Command, Reply};
+use jb_model::Reply;
 use std::alloc::Global;
 
 /// Finishes the call that is begun.
@@ -30,19 +30,20 @@ fn finish<D: Disk>(area: &mut OpenArea<D>) -> Result<Reply, AreaError>
 pub(crate) fn run<D: Disk>(
     alloc: Global,
     area: &mut OpenArea<D>,
-    user: &User,
-    moment: u32,
-    command: &Command,
+    call: Call<'_>,
     change: &mut IndexChange,
 ) -> Result<Reply, AreaError>
     requires rests { HasRest D.device area.old }
-    requires name { length user.now.name ≤ MOST_NAME_BYTES }
-    ensures meets { MeetsCall D.device area.old area.new user.now moment command.now result }
-    ensures done { OnOk result (Follows D.device area.old user.now moment command.now change.new.op) }
+    requires name { length call.user.now.name ≤ MOST_NAME_BYTES }
+    ensures meets { MeetsCall D.device area.old area.new call.entry.user.now call.entry.moment
+        call.entry.command.now result }
+    ensures done { OnOk result (FollowsCommand D.device area.old call.entry.user.now call.entry.moment
+        call.entry.command.now change.new.op) }
     ensures doubted { OnErr result (HasChange D.device area.new
-        → Follows D.device area.old user.now moment command.now change.new.op) }
+        → FollowsCommand D.device area.old call.entry.user.now call.entry.moment call.entry.command.now
+        change.new.op) }
 {
-    match area.begin(alloc, user, moment, command) {
+    match area.begin(alloc, call.user, call.moment, call.command) {
         Ok(()) => {
             let Ok(made) = change_of(alloc, area) else {
                 area.abandon();

@@ -3,18 +3,18 @@ ghost use Rattle.std.specs.Prelude.{◌≡◌, List, Some};
 ghost use Rattle.jb_model.specs.declared.entry.Entry.{Entry};
 ghost use Rattle.jb_publish.specs.Accounts.{account_of, told_with};
 ghost use Rattle.jb_turn.specs.Rows.{Begins, StandsFrom};
-ghost use Rattle.jb_turn.specs.Seats.{front, id_of, opening, resting_row, resting_turn, row_of, Holds};
-ghost use Rattle.jb_turn.specs.Steps.{given, seen};
-ghost use Rattle.jb_shared.specs.Histories.{settled_of};
-ghost use Rattle.jb_shared.specs.InTurn.{IsOut, IsToldOf};
+ghost use Rattle.jb_turn.specs.Seats.{front, id_of, opening, resting_row, resting_turn, row_of, HoldsTurn};
+ghost use Rattle.jb_turn.specs.Steps.{given, sighted};
+ghost use Rattle.jb_shared.specs.InTurn.{IsBehind, IsOut, IsToldOf};
 ghost use Rattle.jb_shared.specs.Keeping.{IsKept};
-ghost use Rattle.jb_shared.specs.Stepping.{LeavesAs};
+ghost use Rattle.jb_shared.specs.Stepping.{LeavesAs, TellsLeft};
 ghost use Rattle.jb_shared.specs.declared.refusal.Refusal.TheVariants.{Stepped};
 
 use crate::SharedArea;
-use crate::noting::{give_plain, give_stepped};
+use crate::noting::give;
 use crate::parts::Parts;
 use crate::published::IndexReader;
+use crate::refusal::Refusal;
 use crate::shared::{AreaSeat, AreaTurn};
 use crate::showing::inform;
 use crate::shown::ShownArea;
@@ -38,7 +38,7 @@ impl<D: Disk> SharedArea<D> {
 
         // The area is out with the seat, which has seen more of the history.
         ensures out { IsOut (IsKept D.device) self.now.turn result.seat result.held }
-        ensures took { row_of result.seat ≡ seen (resting_row parts.seat) (front result.seat) }
+        ensures took { row_of result.seat ≡ sighted (resting_row parts.seat) (front result.seat) }
         ensures grows { Begins (resting_row parts.seat).front (front result.seat) }
 
         // The end that looks was told all that is settled of it, and all else of it stays.
@@ -54,82 +54,70 @@ impl<D: Disk> SharedArea<D> {
     }
 }
 
-/// Gives the area back.
-fn end_plain<D: Disk>(
+/// Gives the area back behind a call of this user, with this remark, or with none.
+pub(crate) fn end<D: Disk>(
     turn: &AreaTurn<D>,
     mut seat: AreaSeat<D>,
     held: Held<ShownArea<D>>,
     reader: IndexReader,
+    user: &User,
+    remark: Option<Refusal>,
 ) -> Parts
-    requires seat { Holds turn.now seat held.count }
+    requires seat { HoldsTurn turn.now seat held.count }
     requires stands { StandsFrom (IsKept D.device) (opening seat) held.state (front seat) }
     requires told { IsToldOf (row_of seat) (account_of reader) }
+    requires left { TellsLeft D.device held (account_of reader).shown user.now remark }
     ensures here { resting_turn result.seat ≡ id_of turn.now }
-    ensures row { resting_row result.seat ≡ row_of seat }
+    ensures row { resting_row result.seat ≡ given (row_of seat) remark }
     ensures account { account_of result.reader ≡ account_of reader }
 {
-    give_plain(turn, &mut seat, held);
+    give::<D, Brand>(turn, &mut seat, held, &reader, user, remark);
     let seat = seat.rest();
     Parts { seat, reader }
 }
 
-/// Gives the area back, once the end that looks has learned all that is shown.
+/// The same, once the end that looks has learned all that is shown.
 pub(crate) fn leave<D: Disk>(
     turn: &AreaTurn<D>,
     seat: AreaSeat<D>,
     held: Held<ShownArea<D>>,
     mut reader: IndexReader,
+    user: &User,
+    remark: Option<Refusal>,
 ) -> Parts
     requires out { IsOut (IsKept D.device) turn.now seat held }
-    requires mark { (account_of reader).mark ≡ opening seat }
-    requires told { Begins (account_of reader).told (settled_of (front seat)) }
+    requires told { IsBehind (row_of seat) (account_of reader) }
+    requires left { TellsLeft D.device held (account_of reader).shown user.now remark }
     ensures here { resting_turn result.seat ≡ id_of turn.now }
-    ensures row { resting_row result.seat ≡ row_of seat }
+    ensures row { resting_row result.seat ≡ given (row_of seat) remark }
     ensures account { (list : List Entry) × (account_of result.reader ≡ told_with (account_of reader) list) }
 {
     inform(&held.state.shower, &mut reader);
-    end_plain(turn, seat, held, reader)
+    end(turn, seat, held, reader, user, remark)
 }
 
-/// Gives the area back behind a step of a pack of this user.
-fn end_stepped<D: Disk>(
+/// The same, behind a step of a pack of this user that left so much.
+pub(crate) fn leave_stepped<D: Disk>(
     turn: &AreaTurn<D>,
-    mut seat: AreaSeat<D>,
+    seat: AreaSeat<D>,
     held: Held<ShownArea<D>>,
     reader: IndexReader,
     user: &User,
     left: Option<u64>,
 ) -> Parts
-    requires seat { Holds turn.now seat held.count }
-    requires stands { StandsFrom (IsKept D.device) (opening seat) held.state (front seat) }
-    requires told { IsToldOf (row_of seat) (account_of reader) }
-    requires left { LeavesAs D.device held (account_of reader).shown user.now left }
-    ensures here { resting_turn result.seat ≡ id_of turn.now }
-    ensures row { resting_row result.seat ≡ given (row_of seat) (Some (Stepped left)) }
-    ensures account { account_of result.reader ≡ account_of reader }
-{
-    give_stepped::<D, Brand>(turn, &mut seat, held, &reader, user, left);
-    let seat = seat.rest();
-    Parts { seat, reader }
-}
-
-/// The same as [`leave`], behind a step of a pack of this user that left so much.
-pub(crate) fn leave_stepped<D: Disk>(
-    turn: &AreaTurn<D>,
-    seat: AreaSeat<D>,
-    held: Held<ShownArea<D>>,
-    mut reader: IndexReader,
-    user: &User,
-    left: Option<u64>,
-) -> Parts
     requires out { IsOut (IsKept D.device) turn.now seat held }
-    requires mark { (account_of reader).mark ≡ opening seat }
-    requires told { Begins (account_of reader).told (settled_of (front seat)) }
+    requires told { IsBehind (row_of seat) (account_of reader) }
     requires left { LeavesAs D.device held (account_of reader).shown user.now left }
     ensures here { resting_turn result.seat ≡ id_of turn.now }
     ensures row { resting_row result.seat ≡ given (row_of seat) (Some (Stepped left)) }
     ensures account { (list : List Entry) × (account_of result.reader ≡ told_with (account_of reader) list) }
 {
-    inform(&held.state.shower, &mut reader);
-    end_stepped(turn, seat, held, reader, user, left)
+    leave(
+        turn,
+        seat,
+        held,
+        reader,
+        user,
+        Some(Refusal::Stepped { left }),
+    )
 }

@@ -11,6 +11,7 @@
 #![tactic(auto)]
 
 mod asking;
+mod call;
 mod calling;
 mod change;
 mod changing;

@@ -1,5 +1,6 @@
 //! An area is shared: it is put behind a turn with the end that shows its index, and its passes are made.
-ghost use Rattle.std.specs.Prelude.{◌≡◌, ◌<◌, ◌≤◌, ℕ, List, Some, [], All, IfErr, IfOk, length, slice_get, vec_capacity};
+ghost use Rattle.std.specs.Prelude.{◌≡◌, ◌<◌, ◌≤◌, ℕ, List, Some, [], All, IfErr, IfOk, length, slice_get, vec_capacity, ◌+◌};
+ghost use Rattle.jb_limits.specs.declared.limits.TheConstants.{MOST_NODES};
 ghost use Rattle.jb_area.specs.Area.{loaded_of, rules_of};
 ghost use Rattle.jb_area.specs.Calls.{HasRest};
 ghost use Rattle.jb_index.specs.Index.{index_of};
@@ -7,10 +8,10 @@ ghost use Rattle.jb_state.specs.State.{state_of};
 ghost use Rattle.jb_publish.specs.Accounts.{IsFresh};
 ghost use Rattle.jb_publish.specs.Marks.{opening_at};
 ghost use Rattle.jb_publish.specs.Publications.{publication_of};
-ghost use Rattle.jb_publish.specs.declared.known.Mark.{Mark};
-ghost use Rattle.jb_turn.specs.Seats.{id_of, AreNew, Rests};
+ghost use Rattle.jb_publish.specs.declared.known.PairMark.{PairMark};
+ghost use Rattle.jb_turn.specs.Seats.{id_of, AreNewSeats, Rests};
 ghost use Rattle.jb_shared.specs.Areas.{IsShared};
-ghost use Rattle.jb_shared.specs.Keeping.{IsKept, mark_of};
+ghost use Rattle.jb_shared.specs.Keeping.{IsKept, history_mark};
 ghost use Rattle.jb_shared.specs.Making.{AreFresh, fresh_pass};
 ghost use Rattle.jb_shared.specs.Passes.{PassView};
 ghost use Rattle.jb_shared.specs.Standing.{opening_of};
@@ -56,7 +57,7 @@ fn ends<D: Disk, J: NamesOpening<Opening>, R: Wait>(
 ) -> Result<(IndexShower, Vec<IndexReader>), AllocError>
     requires names { J.opening ≡ Some (opening_of D.device area.now) }
     requires rest { HasRest D.device area.now }
-    requires nodes { (0 < nodes) × (nodes ≤ 33) }
+    requires nodes { (0 < nodes) × (nodes ≤ MOST_NODES + 1) }
     requires first { (texts : List ℕ) → first
         ≡ index_of (rules_of area.now) (state_of texts (loaded_of area.now)) }
     requires alike { first ≡ second }
@@ -80,11 +81,11 @@ fn join<D: Disk>(
     mut passes: Vec<Pass>,
 ) -> Vec<Pass>
     requires resting { All (Rests turn.now) seats.items }
-    requires fresh { (mark : Mark Opening) × AreNew mark seats.items × AreFresh mark readers.items }
+    requires fresh { (mark : PairMark Opening) × AreNewSeats mark seats.items × AreFresh mark readers.items }
     requires room { (length readers.items ≡ length seats.items) × (passes.items ≡ [])
         × (length seats.items ≤ vec_capacity passes) }
     ensures count { length result.items ≡ length seats.items }
-    ensures fresh { (mark : Mark Opening) → AreNew mark seats.items → AreFresh mark readers.items
+    ensures fresh { (mark : PairMark Opening) → AreNewSeats mark seats.items → AreFresh mark readers.items
         → (k : ℕ) (pass : PassView) → slice_get result.items k ≡ Some pass
         → pass ≡ fresh_pass (id_of turn.now) mark k }
 {
@@ -95,6 +96,7 @@ fn join<D: Disk>(
         };
         passes.push_reserved(Pass {
             parts: Some(Parts { seat, reader }),
+            has_settled: false,
         });
     }
     seats.destroy_empty();
@@ -110,11 +112,11 @@ fn turn_with<D: Disk, R: Wait>(
     passes: Vec<Pass>,
     nodes: u32,
 ) -> Result<(SharedArea<D>, Vec<Pass>), OpenArea<D>>
-    requires kept { IsKept D.device state (mark_of D.device state) [] }
-    requires opening { (mark_of D.device state).opening ≡ opening_of D.device state.area }
-    requires nodes { (0 < nodes) × (nodes ≤ 33) }
+    requires kept { IsKept D.device state (history_mark D.device state) [] }
+    requires opening { (history_mark D.device state).opening ≡ opening_of D.device state.area }
+    requires nodes { (0 < nodes) × (nodes ≤ MOST_NODES + 1) }
     requires count { length readers.items ≡ nodes }
-    requires fresh { AreFresh (mark_of D.device state) readers.items }
+    requires fresh { AreFresh (history_mark D.device state) readers.items }
     requires room { (passes.items ≡ []) × (nodes ≤ vec_capacity passes) }
     ensures ok { IfOk result (λ r. IsShared D.device state.area nodes r.0 r.1.items) }
     ensures err { IfErr result (λ back. back ≡ state.area) }
@@ -149,7 +151,7 @@ impl<D: Disk> SharedArea<D> {
         nodes: u32,
     ) -> Result<(SharedArea<D>, Vec<Pass>), OpenArea<D>>
         requires rest { HasRest D.device area }
-        requires nodes { (0 < nodes) × (nodes ≤ 33) }
+        requires nodes { (0 < nodes) × (nodes ≤ MOST_NODES + 1) }
         ensures ok { IfOk result (λ r. IsShared D.device area nodes r.0 r.1.items) }
         ensures err { IfErr result (λ back. back ≡ area) }
     {

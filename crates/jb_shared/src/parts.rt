@@ -8,10 +8,10 @@ use crate::Opening;
 use crate::published::IndexReader;
 use crate::refusal::Refusal;
 use jb_model::Entry;
-use jb_publish::Mark;
+use jb_publish::PairMark;
 use jb_turn::RestingSeat;
 
-pub(crate) type AreaRest = RestingSeat<Mark<Opening>, Entry, Refusal>;
+pub(crate) type AreaRest = RestingSeat<PairMark<Opening>, Entry, Refusal>;
 
 /// A node's seat of the turn, and its end that looks. That end is of the area for which the seat is, and was told all that is settled
 /// of what the seat has seen.

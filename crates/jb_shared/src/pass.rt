@@ -7,7 +7,7 @@ use crate::shared::AreaSeat;
 use crate::shown::ShownArea;
 use jb_disk::Disk;
 use jb_model::Entry;
-use jb_publish::Mark;
+use jb_publish::PairMark;
 use jb_turn::Seated;
 use std::marker::Model;
 
@@ -17,6 +17,15 @@ use std::marker::Model;
 pub struct Pass {
     /// They are away only while a call on the pass is made.
     pub(crate) parts: Option<Parts>,
+    /// Whether its last call has ended a doubt.
+    pub(crate) has_settled: bool,
+}
+
+impl Pass {
+    /// Whether the last call on it has ended a doubt of the area, and left none.
+    pub fn has_settled(&self) -> bool {
+        self.has_settled
+    }
 }
 
 impl Model for Pass {
@@ -24,15 +33,15 @@ impl Model for Pass {
 
     ghost Value = { PassView };
 
-    ghost use Rattle.jb_shared.specs.Inside.{pass_in, IsHeld};
+    ghost use Rattle.jb_shared.specs.Inside.{pass_in, HasParts};
 
     ghost view = { pass_in };
 
-    ghost invariant = { IsHeld };
+    ghost invariant = { HasParts };
 }
 
 // Closing takes passes in as they are.
-impl<D: Disk> Seated<ShownArea<D>, Mark<Opening>, Entry, Refusal> for Pass {
+impl<D: Disk> Seated<ShownArea<D>, PairMark<Opening>, Entry, Refusal> for Pass {
     ghost use Rattle.std.specs.Prelude.{Some};
     ghost use Rattle.std.specs.Prelude.{◌≡◌};
     ghost use Rattle.jb_shared.specs.Passes.{row_in, turn_in};

@@ -18,9 +18,9 @@ impl Published<Opening, Entry> for Index {
 }
 
 impl Absorbs<IndexChange> for Index {
-    ghost use Rattle.jb_shared.specs.Shows.{changed};
+    ghost use Rattle.jb_shared.specs.Shows.{index_changed};
 
-    ghost changed = { changed };
+    ghost changed = { index_changed };
 
     fn absorb(&mut self, change: &IndexChange) {
         Index::absorb(self, &change.op);

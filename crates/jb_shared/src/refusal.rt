@@ -1,6 +1,7 @@
 //! What a turn leaves that is no entry.
 
-/// How a turn of a pass ended that left no entry in the history. It exists in proofs alone.
+/// How a turn of a pass ended that left no entry in the history. It is kept in proofs alone.
+#[derive(Clone, Copy)]
 pub enum Refusal {
     /// The pass was shown more entries than are settled of the history.
     Gap { shown: u64, held: u64 },

@@ -2,11 +2,11 @@
 ghost use Rattle.std.specs.Prelude.{◌≡◌, ◌≤◌, fold, length};
 ghost use mathlib.Core.List.{IsPrefix};
 ghost use Rattle.jb_publish.specs.Accounts.{account_of, told_with};
-ghost use Rattle.jb_publish.specs.Marks.{StandsFrom, opening_at};
+ghost use Rattle.jb_publish.specs.Marks.{ValueStandsFrom, opening_at};
 ghost use Rattle.jb_publish.specs.Publications.{publication_of, shown_with};
 ghost use Rattle.jb_turn.specs.Seats.{front};
 ghost use Rattle.jb_shared.specs.Showing.{CanShow, HasShown};
-ghost use Rattle.jb_shared.specs.Shows.{IsShownAs, changed};
+ghost use Rattle.jb_shared.specs.Shows.{IsShownAs, index_changed};
 
 use crate::change::IndexChange;
 use crate::published::{IndexReader, IndexShower};
@@ -39,9 +39,9 @@ fn show_front<D: Disk, J: NamesList<Entry>, R: Wait>(
     requires names { J.items ≡ front seat.now }
     requires longer { IsPrefix (publication_of shower).list (front seat.now)
         × (count ≡ length (front seat.now)) }
-    requires stands { StandsFrom IsShownAs (opening_at (publication_of shower).mark) (fold changed
+    requires stands { ValueStandsFrom IsShownAs (opening_at (publication_of shower).mark) (fold index_changed
         (publication_of shower).value (publication_of shower).queued) (front seat.now) }
-    ensures { publication_of result ≡ shown_with changed (publication_of shower) (front seat.now) }
+    ensures { publication_of result ≡ shown_with index_changed (publication_of shower) (front seat.now) }
 {
     shower.show::<J, R>(rt, count)
 }

@@ -3,7 +3,8 @@ ghost use Rattle.std.specs.Prelude.{◌≡◌, ◌<◌, ◌≤◌, ◌+◌, ◌*
 ghost use mathlib.Core.List.{IsPrefix};
 ghost use Rattle.jb_area.specs.Area.{HasDoubt, loaded_of};
 ghost use Rattle.jb_area.specs.Calls.{HasRest};
-ghost use Rattle.jb_limits.specs.declared.limits.TheConstants.{MOST_ENTRIES, MOST_TEXT_BYTES};
+ghost use Rattle.jb_limits.specs.declared.limits.TheConstants.{MOST_ENTRIES};
+ghost use Rattle.jb_pack.specs.declared.run.TheConstants.{PACK_STEP_BYTES};
 ghost use Rattle.jb_model.specs.declared.entry.Entry.{Entry};
 ghost use Rattle.jb_publish.specs.Accounts.{account_of};
 ghost use Rattle.jb_publish.specs.Publications.{publication_of};
@@ -15,15 +16,16 @@ ghost use Rattle.jb_shared.specs.Keeping.{IsKept, IsKeptSettled};
 ghost use Rattle.jb_shared.specs.Calls.{AreLast, AreSteps};
 ghost use Rattle.jb_shared.specs.Stepping.{CopiesOnePart, LeavesAs, RunsStep, StepsAs, StepsOn};
 
+use crate::call::Call;
 use crate::entering::{Entered, leave, leave_stepped};
-use crate::noting::note_in_doubt;
+use crate::noting::{Noted, note};
 use crate::parts::Parts;
 use crate::published::IndexReader;
 use crate::shared::{AreaSeat, AreaTurn};
 use crate::shown::ShownArea;
 use crate::{SharedArea, SharedError};
-use jb_area::{AreaError, OpenArea};
-use jb_base::{MOST_ENTRIES, MOST_TEXT_BYTES, User};
+use jb_area::{AreaError, OpenArea, PACK_STEP_BYTES};
+use jb_base::{MOST_ENTRIES, User};
 use jb_disk::Disk;
 use jb_model::Command;
 use jb_state::LoadedSlot;
@@ -71,9 +73,9 @@ fn bytes_where_left<D: Disk>(area: &OpenArea<D>, more: bool) -> Option<u64>
 /// In how many turns behind the first one texts of so many bytes are copied where nobody posts meanwhile. Two turns copy more than
 /// 1,048,576 bytes together, since the second begins with the text that had no place in the first.
 fn turns_behind(bytes: u64) -> u64
-    ensures { result ≡ 2 * (bytes / MOST_TEXT_BYTES) + 1 }
+    ensures { result ≡ 2 * (bytes / PACK_STEP_BYTES) + 1 }
 {
-    2 * (bytes / MOST_TEXT_BYTES as u64) + 1
+    2 * (bytes / PACK_STEP_BYTES as u64) + 1
 }
 
 /// Whether texts may be copied in this turn. Where the history is spent, the area in doubt or the pass was shown more than is
@@ -120,14 +122,19 @@ fn copy_part<D: Disk>(
         → LeavesAs D.device result.0 list user.now left) }
 {
     let mut held = held;
-    match held.state.area.pack_some(alloc, user, MOST_TEXT_BYTES) {
+    match held.state.area.pack_some(alloc, user, PACK_STEP_BYTES) {
         Ok(more) => {
             let left = bytes_where_left(&held.state.area, more);
             (held, Ok(left))
         }
         Err(AreaError::StoreFault) => {
             let pack = Command::Pack;
-            note_in_doubt::<D, Brand>(turn, seat, &mut held, user, moment, &pack);
+            let call = Call {
+                user,
+                moment,
+                command: &pack,
+            };
+            note::<D, Brand>(turn, seat, &mut held, Noted::InDoubt { call });
             (held, Err(SharedError::StoreFault))
         }
         Err(AreaError::OutOfMemory) => (held, Err(SharedError::OutOfMemory)),
@@ -166,7 +173,10 @@ impl<D: Disk> SharedArea<D> {
                 leave_stepped(&self.turn, seat, held, reader, user, left),
                 Ok(left),
             ),
-            Err(error) => (leave(&self.turn, seat, held, reader), Err(error)),
+            Err(error) => (
+                leave(&self.turn, seat, held, reader, user, None),
+                Err(error),
+            ),
         }
     }
 

@@ -1,6 +1,7 @@
 pub mod CountLaws
 pub mod LinkLaws
 pub mod LinkedLaws
+pub mod MarkLaws
 pub mod PackLaws
 pub mod PlaceLaws
 pub mod RelinkLaws

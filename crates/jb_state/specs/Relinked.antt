@@ -10,6 +10,10 @@ relinked live one =
     with_links (parent_of live (linkable one)) (first_reply_of live one.number)
     (next_reply_of live one.number (parent_of live (linkable one))) one.message
 
+-- a relink by what the links of these live messages rest on
+abbrev pub relink_by : List Linkable → ℕ → LiveMessage → LiveMessage
+relink_by live number message = relinked live (record { number = number; message = message })
+
 -- the slots of an area with the links that its live messages give, all computed over the area as it is
 abbrev pub relinked_slots : AreaState → List SlotState
 relinked_slots state =

@@ -65,6 +65,11 @@ pub record IsWellFormed (limit : ℕ) (state : AreaState) : Type 0 where
 abbrev pub text_of : List ℕ → LoadedMessage → List ℕ
 text_of texts message = take message.text_len (drop message.text_at texts)
 
+-- the loaded message, with its text out of the file of texts
+abbrev pub with_text : List ℕ → LoadedMessage → LiveMessage
+with_text texts message =
+    record { owner = message.owner; head = message.head; subfields = message.subfields; text = text_of texts message }
+
 -- a loaded slot, with its text out of the file of texts
 abbrev pub slot_state : List ℕ → LoadedSlot → SlotState
 slot_state texts Empty = no_message

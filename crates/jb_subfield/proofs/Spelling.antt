@@ -6,13 +6,13 @@ use Rattle.jb_bytes.proofs.Spelled.{at_front, behind_is, fields_in-list}
 use Rattle.jb_bytes.specs.Spelled.{behind_front, field_at_front}
 use Rattle.jb_bytes.specs.Subfields.{IsSubfield, IsSubfieldList, IsCutAt, one_subfield, subfield_bytes}
 use Rattle.jb_bytes.specs.declared.subfield.Subfield.{Subfield}
-use Rattle.jb_subfield.specs.Answer.{IsReading, IsUnlessMemory}
-use Rattle.jb_subfield.specs.Laws.{IsPrefixFree, HasOneListAtMost}
+use Rattle.jb_subfield.specs.Answer.{ReadsSubfields, IsUnlessMemory}
+use Rattle.jb_subfield.specs.Laws.{ArePrefixFree, HasOneListAtMost}
 use Rattle.jb_bytes.specs.Whole.{HasNoWhole}
 use Rattle.jb_subfield.specs.declared.error.SubfieldError.TheVariants.{Cut, OutOfMemory}
 
 -- no spelling of one subfield is a proper prefix of another's
-pub prefix_free : IsPrefixFree
+pub prefix_free : ArePrefixFree
 prefix_free one other rest more fits fits' same = (
   sym (at_front one rest fits) ∙ ap field_at_front same ∙ at_front other more fits',
   sym (behind_is one rest fits) ∙ ap behind_front same ∙ behind_is other more fits',
@@ -64,13 +64,13 @@ cut_once bytes at other cut cut' =
     omega (arith, ap length same, length-drop at bytes, length-drop other bytes)
 
 -- a list is the one answer
-pub only_list : (bytes : List ℕ) (result : _) → IsReading bytes result → (fields : List Subfield) → IsSubfieldList fields bytes → IsUnlessMemory result (Ok fields)
+pub only_list : (bytes : List ℕ) (result : _) → ReadsSubfields bytes result → (fields : List Subfield) → IsSubfieldList fields bytes → IsUnlessMemory result (Ok fields)
 only_list bytes (Ok mine) reading fields list = inl (ap Ok (one_list bytes mine fields reading list))
 only_list bytes (Err (Cut at)) reading fields list = absurd (cut_has_no_list bytes at fields reading list)
 only_list bytes (Err OutOfMemory) reading fields list = inr refl
 
 -- a place is the one answer
-pub only_place : (bytes : List ℕ) (result : _) → IsReading bytes result → (at : ℕ) → IsCutAt bytes at → IsUnlessMemory result (Err (Cut at))
+pub only_place : (bytes : List ℕ) (result : _) → ReadsSubfields bytes result → (at : ℕ) → IsCutAt bytes at → IsUnlessMemory result (Err (Cut at))
 only_place bytes (Ok mine) reading at cut = absurd (cut_has_no_list bytes at mine cut reading)
 only_place bytes (Err (Cut mine)) reading at cut = inl (ap (λ n. Err (Cut n)) (cut_once bytes mine at reading cut))
 only_place bytes (Err OutOfMemory) reading at cut = inr refl

@@ -5,7 +5,7 @@ use Rattle.jb_bytes.specs.Number.{number_at}
 use Rattle.jb_bytes.specs.Subfields.{IsSubfield, one_subfield}
 use Rattle.jb_bytes.specs.Whole.{HasNoWhole}
 use Rattle.jb_bytes.specs.declared.subfield.Subfield.{Subfield}
-use Rattle.jb_subfield.specs.Answer.{IsReading}
+use Rattle.jb_subfield.specs.Answer.{ReadsSubfields}
 use Rattle.jb_subfield.specs.declared.error.SubfieldError.TheVariants.{Cut}
 
 -- bytes that are fewer than a head and the data of which it tells begin with no subfield
@@ -42,26 +42,26 @@ three_fit : All IsSubfield (sender ∷ kludge ∷ subject ∷ [])
 three_fit = All-push IsSubfield (sender ∷ kludge ∷ []) subject two_fit (record { id = omega arith; hi = omega arith; size = omega arith })
 
 -- no bytes are no subfields
-read_none : IsReading [] (Ok [])
+read_none : ReadsSubfields [] (Ok [])
 read_none = record { each = All-nil IsSubfield; spelled = refl }
 
 -- all three are read
-read_three : IsReading spelled (Ok (sender ∷ kludge ∷ subject ∷ []))
+read_three : ReadsSubfields spelled (Ok (sender ∷ kludge ∷ subject ∷ []))
 read_three = record { each = three_fit; spelled = refl }
 
 -- the first is cut in its head, and in its data
-cut_at_first_head : IsReading (take 7 spelled) (Err (Cut 0))
+cut_at_first_head : ReadsSubfields (take 7 spelled) (Err (Cut 0))
 cut_at_first_head = record { fields = []; before = record { each = All-nil IsSubfield; spelled = refl }; remain = omega arith; cut = no_whole (take 7 spelled) (omega arith) }
 
-cut_in_first_data : IsReading (take 11 spelled) (Err (Cut 0))
+cut_in_first_data : ReadsSubfields (take 11 spelled) (Err (Cut 0))
 cut_in_first_data = record { fields = []; before = record { each = All-nil IsSubfield; spelled = refl }; remain = omega arith; cut = no_whole (take 11 spelled) (omega arith) }
 
 -- a single byte is left behind the first
-cut_at_second : IsReading (take 13 spelled) (Err (Cut 12))
+cut_at_second : ReadsSubfields (take 13 spelled) (Err (Cut 12))
 cut_at_second = record { fields = sender ∷ []; before = record { each = sender_fits; spelled = refl }; remain = omega arith; cut = no_whole (0xD0 ∷ []) (omega arith) }
 
 -- the third is cut in its head, and in its data
-cut_in_third_head : IsReading (take 27 spelled) (Err (Cut 20))
+cut_in_third_head : ReadsSubfields (take 27 spelled) (Err (Cut 20))
 cut_in_third_head = record {
   fields = sender ∷ kludge ∷ [];
   before = record { each = two_fit; spelled = refl };
@@ -69,7 +69,7 @@ cut_in_third_head = record {
   cut = no_whole (0x06 ∷ 0x00 ∷ 0x00 ∷ 0x00 ∷ 0x03 ∷ 0x00 ∷ 0x00 ∷ []) (omega arith);
 }
 
-cut_in_third_data : IsReading (take 30 spelled) (Err (Cut 20))
+cut_in_third_data : ReadsSubfields (take 30 spelled) (Err (Cut 20))
 cut_in_third_data = record {
   fields = sender ∷ kludge ∷ [];
   before = record { each = two_fit; spelled = refl };

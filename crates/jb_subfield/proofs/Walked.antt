@@ -4,7 +4,7 @@ use Rattle.std.proofs.lemmas.List.{append-nil, drop_at, take_at}
 use Rattle.std.proofs.lemmas.List.Elements.{All-nil, All-push}
 use Rattle.jb_bytes.proofs.Spelled.{subfield_bytes-push}
 use Rattle.jb_bytes.specs.Subfields.{AreSubfields, IsCutAt, IsSubfield, one_subfield, subfield_bytes}
-use Rattle.jb_bytes.specs.Whole.{BeginsWith, HasNoWhole}
+use Rattle.jb_bytes.specs.Whole.{BeginsWithField, HasNoWhole}
 use Rattle.jb_bytes.specs.declared.subfield.Subfield.{Subfield}
 
 -- subfields stand before the rest of bytes
@@ -18,7 +18,7 @@ pub begun : (bytes : List ℕ) → Walked bytes bytes
 begun bytes = record { fields = []; each = All-nil IsSubfield; spelled = refl }
 
 -- one more, where the rest begins with one
-pub further : (bytes rest : List ℕ) (field : Subfield) (behind : List ℕ) → Walked bytes rest → BeginsWith rest field behind → Walked bytes behind
+pub further : (bytes rest : List ℕ) (field : Subfield) (behind : List ℕ) → Walked bytes rest → BeginsWithField rest field behind → Walked bytes behind
 further bytes rest field behind walked begins = record {
   fields = walked.fields ++ field ∷ [];
   each = All-push IsSubfield walked.fields field walked.each begins.fits;

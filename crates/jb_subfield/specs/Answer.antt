@@ -6,10 +6,10 @@ use Rattle.jb_subfield.specs.declared.error.SubfieldError.{SubfieldError}
 use Rattle.jb_subfield.specs.declared.error.SubfieldError.TheVariants.{Cut, OutOfMemory}
 
 -- the list whose bytes these are, or the place of the first subfield that is not whole, or want of memory
-abbrev pub IsReading : List ℕ → Result (List Subfield) SubfieldError → Type 0
-IsReading bytes (Ok fields) = IsSubfieldList fields bytes
-IsReading bytes (Err (Cut at)) = IsCutAt bytes at
-IsReading bytes (Err OutOfMemory) = ⊤
+abbrev pub ReadsSubfields : List ℕ → Result (List Subfield) SubfieldError → Type 0
+ReadsSubfields bytes (Ok fields) = IsSubfieldList fields bytes
+ReadsSubfields bytes (Err (Cut at)) = IsCutAt bytes at
+ReadsSubfields bytes (Err OutOfMemory) = ⊤
 
 -- the one answer, unless memory runs out
 abbrev pub IsUnlessMemory : Result (List Subfield) SubfieldError → Result (List Subfield) SubfieldError → Type 0

@@ -4,8 +4,8 @@ use Rattle.jb_bytes.specs.declared.subfield.Subfield.{Subfield}
 use Rattle.jb_bytes.specs.Subfields.{IsSubfield, IsSubfieldList, one_subfield}
 
 -- no spelling of one subfield is a proper prefix of another's: bytes begin with one at most, and the rest is settled
-abbrev pub IsPrefixFree : Type 0
-IsPrefixFree = (one other : Subfield) (rest more : List ℕ) → IsSubfield one → IsSubfield other
+abbrev pub ArePrefixFree : Type 0
+ArePrefixFree = (one other : Subfield) (rest more : List ℕ) → IsSubfield one → IsSubfield other
     → one_subfield one ++ rest ≡ one_subfield other ++ more → (one ≡ other) × (rest ≡ more)
 
 -- bytes have at most one list

@@ -2,8 +2,8 @@
 ghost use Rattle.std.specs.Prelude.{◌≡◌, ℕ, ◌≤◌, List, Ok, Err, MatchOption, length};
 ghost use Rattle.jb_bytes.specs.Subfields.{AreSubfields, IsCutAt, IsSubfieldList};
 ghost use Rattle.jb_bytes.specs.declared.subfield.Subfield.{Subfield};
-ghost use Rattle.jb_subfield.specs.Answer.{IsReading, IsUnlessMemory};
-ghost use Rattle.jb_subfield.specs.Laws.{HasOneListAtMost, IsPrefixFree};
+ghost use Rattle.jb_subfield.specs.Answer.{ReadsSubfields, IsUnlessMemory};
+ghost use Rattle.jb_subfield.specs.Laws.{HasOneListAtMost, ArePrefixFree};
 
 use crate::SubfieldError;
 use jb_bytes::{Subfields, first_part};
@@ -28,7 +28,7 @@ pub fn cut_of(bytes: &[u8]) -> Option<u32>
 /// The subfields that stand in these bytes one after another. Nothing else may stand in them.
 pub fn decode(alloc: Global, bytes: &[u8]) -> Result<Subfields, SubfieldError>
     requires { length bytes.now ≤ 262_144 }
-    ensures cause { IsReading bytes.now result }
+    ensures cause { ReadsSubfields bytes.now result }
 
     // Each list and each place is answered.
     ensures found { (fields : List Subfield) → IsSubfieldList fields bytes.now
@@ -36,7 +36,7 @@ pub fn decode(alloc: Global, bytes: &[u8]) -> Result<Subfields, SubfieldError>
     ensures cut { (at : ℕ) → IsCutAt bytes.now at → IsUnlessMemory result (Err (SubfieldError.Cut at)) }
 
     // Bytes have no two answers.
-    ensures prefix_free { IsPrefixFree }
+    ensures prefix_free { ArePrefixFree }
     ensures alone { HasOneListAtMost }
 {
     read(alloc, bytes)
@@ -45,7 +45,7 @@ pub fn decode(alloc: Global, bytes: &[u8]) -> Result<Subfields, SubfieldError>
 /// The subfields, where all are whole.
 fn read(alloc: Global, bytes: &[u8]) -> Result<Subfields, SubfieldError>
     requires { length bytes.now ≤ 262_144 }
-    ensures { IsReading bytes.now result }
+    ensures { ReadsSubfields bytes.now result }
 {
     match cut_of(bytes) {
         Some(at) => Err(SubfieldError::Cut { at }),

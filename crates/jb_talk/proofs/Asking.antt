@@ -15,8 +15,8 @@ use Rattle.jb_menu.specs.declared.given.Given.TheVariants as given
 use Rattle.jb_menu.specs.declared.moves.Move.{Move}
 use Rattle.jb_menu.specs.declared.moves.Move.TheVariants as move
 use Rattle.jb_menu.specs.declared.moves.Moved.{Moved}
-use Rattle.jb_menu.specs.declared.state.Stage.{Stage}
-use Rattle.jb_menu.specs.declared.state.Stage.TheVariants as stage
+use Rattle.jb_menu.specs.declared.state.MenuStage.{MenuStage}
+use Rattle.jb_menu.specs.declared.state.MenuStage.TheVariants as stage
 use Rattle.jb_menu.specs.declared.state.State.{State}
 use Rattle.jb_menu.specs.declared.state.State.TheVariants as state
 use Rattle.jb_menu.specs.declared.state.Visit.{Visit}
@@ -98,7 +98,7 @@ count_falls board user area lines more None within = no
 count_falls board user area lines more (Some n) within = λ _. omega (arith, within)
 
 -- in an area
-stage_falls : (board : Board) (visit : Visit) (at : Stage) (what : Given) → is_line what ≡ false → Falls board (state.Area visit at) (stage_turn board visit at what)
+stage_falls : (board : Board) (visit : Visit) (at : MenuStage) (what : Given) → is_line what ≡ false → Falls board (state.Area visit at) (stage_turn board visit at what)
 unfolding stage_turn
 stage_falls board visit stage.Prompt (given.Line typed) line = on line
 stage_falls board visit stage.Prompt (given.Reply answer) line = no

@@ -9,7 +9,7 @@ use Rattle.jb_menu.specs.declared.given.Given.{Given}
 use Rattle.jb_talk.specs.declared.standing.Standing.{Standing}
 use Rattle.jb_talk.specs.declared.standing.Standing.TheVariants.{On, Waits, Over, Failed}
 use Rattle.jb_talk.specs.Turns.{Turn, event_turn, given_turn}
-use Rattle.jb_talk.specs.Conversations.{Conversation, Course, answered, conversation, first_course, heard, is_on, is_waiting, went}
+use Rattle.jb_talk.specs.Conversations.{Conversation, Course, answered, conversation, first_course, heard, is_going, is_waiting, went}
 use Rattle.jb_talk.specs.Laws.{IsFront}
 use Rattle.jb_talk.proofs.Talked.{answered_stays}
 
@@ -48,7 +48,7 @@ grows_answered board c (given ∷ left) =
 grows_heard : (board : Board) (t : Conversation) (event : Event) → Grows t.course (heard board t event).course
 grows_heard board t event =
     let turn : Turn = event_turn board t.course.place event in
-    grows_either t.course (is_on t.course.place.standing) (answered board (went t.course turn) t.left) t
+    grows_either t.course (is_going t.course.place.standing) (answered board (went t.course turn) t.left) t
     (grows_then t.course (went t.course turn) (answered board (went t.course turn) t.left).course (grows_went t.course turn)
     (grows_answered board (went t.course turn) t.left)) (grows_refl t.course)
 
@@ -76,20 +76,20 @@ answered_more board c (given ∷ left) later =
 
 -- with more answers it is the same as far as it went, or has gone on where answers were missing
 abbrev Follows : Board → Conversation → Conversation → List Given → Type 0
-Follows board t more later = (more ≡ resumed board t later) ⊎ ((is_on t.course.place.standing ≡ false) × Grows t.course more.course)
+Follows board t more later = (more ≡ resumed board t later) ⊎ ((is_going t.course.place.standing ≡ false) × Grows t.course more.course)
 
 grows_resumed : (board : Board) (t : Conversation) (later : List Given) → Grows t.course (resumed board t later).course
 grows_resumed board t later = grows_answered board t.course (t.left ++ later)
 
 -- what is not heard any more stays
-still_off : (board : Board) (t more : Conversation) (later : List Given) (event : Event) → is_on t.course.place.standing ≡ false
+still_off : (board : Board) (t more : Conversation) (later : List Given) (event : Event) → is_going t.course.place.standing ≡ false
     → Grows t.course more.course → Follows board (heard board t event) (heard board more event) later
 still_off board t more later event off grown =
     let same : heard board t event ≡ t = rw off refl in
     subst (λ (w : Conversation). Follows board w (heard board more event) later) (sym same)
     (inr (off, grows_then t.course more.course (heard board more event).course grown (grows_heard board more event)))
 
-follows_off : (board : Board) (t : Conversation) (later : List Given) (event : Event) → is_on t.course.place.standing ≡ false
+follows_off : (board : Board) (t : Conversation) (later : List Given) (event : Event) → is_going t.course.place.standing ≡ false
     → Follows board (heard board t event) (heard board (resumed board t later) event) later
 follows_off board t later event off = still_off board t (resumed board t later) later event off (grows_resumed board t later)
 
@@ -97,16 +97,16 @@ follows_off board t later event off = still_off board t (resumed board t later) 
 follows_in : (board : Board) (t : Conversation) (later : List Given) (event : Event) (s : Standing) → t.course.place.standing ≡ s
     → Follows board (heard board t event) (heard board (resumed board t later) event) later
 follows_in board t later event On at =
-    let on : is_on t.course.place.standing ≡ true = ap is_on at in
+    let on : is_going t.course.place.standing ≡ true = ap is_going at in
     let c : Course = went t.course (event_turn board t.course.place event) in
     let H : Conversation → Conversation = λ w. heard board w event in
     let here : heard board t event ≡ answered board c t.left = rw on refl in
     let there : heard board (record { course = t.course; left = t.left ++ later }) event ≡ answered board c (t.left ++ later) = rw on refl in
     inl (ap H (answered_stays board t.course (t.left ++ later) (ap is_waiting at)) ∙ there ∙ answered_more board c t.left later
     ∙ ap (λ (w : Conversation). resumed board w later) (sym here))
-follows_in board t later event Waits at = follows_off board t later event (ap is_on at)
-follows_in board t later event (Over end) at = follows_off board t later event (ap is_on at)
-follows_in board t later event Failed at = follows_off board t later event (ap is_on at)
+follows_in board t later event Waits at = follows_off board t later event (ap is_going at)
+follows_in board t later event (Over end) at = follows_off board t later event (ap is_going at)
+follows_in board t later event Failed at = follows_off board t later event (ap is_going at)
 
 follows_heard : (board : Board) (t more : Conversation) (later : List Given) (event : Event) → Follows board t more later
     → Follows board (heard board t event) (heard board more event) later

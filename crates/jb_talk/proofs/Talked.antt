@@ -10,7 +10,7 @@ use Rattle.jb_talk.specs.declared.request.Request.{Request}
 use Rattle.jb_talk.specs.declared.standing.Standing.{Standing}
 use Rattle.jb_talk.specs.declared.standing.Standing.TheVariants.{On, Waits, Over, Failed}
 use Rattle.jb_talk.specs.Turns.{Place, Turn, event_turn, given_turn}
-use Rattle.jb_talk.specs.Conversations.{Conversation, Course, Talks, answered, conversation, end_of, first_course, first_place, heard, is_on, is_waiting, went}
+use Rattle.jb_talk.specs.Conversations.{Conversation, Course, Talks, answered, conversation, end_of, first_course, first_place, heard, is_going, is_waiting, went}
 use Rattle.jb_talk.specs.Talking.{HasTalked, Talking, course_of, owing}
 
 -- where nothing is waited for, the answers are left
@@ -43,10 +43,10 @@ went_on talk sent asked turn =
 heard_on : (board : Board) (place : Place) (course : Course) (left : List Given) (event : Event) → course.place ≡ place → place.standing ≡ On
     → heard board (record { course = course; left = left }) event ≡ answered board (went course (event_turn board course.place event)) left
 heard_on board place course left event at on =
-    let b : is_on course.place.standing ≡ true = ap (λ (w : Place). is_on w.standing) at ∙ ap is_on on in
+    let b : is_going course.place.standing ≡ true = ap (λ (w : Place). is_going w.standing) at ∙ ap is_going on in
     rw b refl
 
-heard_not : (board : Board) (course : Course) (left : List Given) (event : Event) → is_on course.place.standing ≡ false
+heard_not : (board : Board) (course : Course) (left : List Given) (event : Event) → is_going course.place.standing ≡ false
     → heard board (record { course = course; left = left }) event ≡ record { course = course; left = left }
 heard_not board course left event off = rw off refl
 
@@ -77,7 +77,7 @@ talked_byte board talk kept bytes sent byte taken answers asked h more read = re
 -- an event behind the end
 pub talked_over : (board : Board) (talk : Talking) (kept bytes sent : List ℕ) (byte taken : ℕ) (event : Event) (answers : List Given) (asked : List Request)
     (h : HasTalked board talk bytes answers sent asked) → taken ≡ talk.taken + 1 → HasRead kept (bytes ++ byte ∷ []) (h.events ++ event ∷ [])
-    → is_on talk.place.standing ≡ false → is_waiting talk.place.standing ≡ false
+    → is_going talk.place.standing ≡ false → is_waiting talk.place.standing ≡ false
     → HasTalked board (record talk { kept = kept; taken = taken }) (bytes ++ byte ∷ []) answers sent (asked ++ [])
 talked_over board talk kept bytes sent byte taken event answers asked h more read off idle = record {
   counted = one_more taken talk.taken bytes byte more h.counted;
@@ -174,7 +174,7 @@ talks board talk bytes sent answers asked h =
     }
 
 -- what is not on does not go on
-pub not_on : (s : Standing) → (s ≡ On → ⊥) → is_on s ≡ false
+pub not_on : (s : Standing) → (s ≡ On → ⊥) → is_going s ≡ false
 not_on On off = absurd (off refl)
 not_on Waits off = refl
 not_on (Over end) off = refl

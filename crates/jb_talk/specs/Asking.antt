@@ -3,7 +3,7 @@ use Rattle.std.specs.Prelude.{ℕ, ◌-◌, Bool, true, false, length}
 use Rattle.jb_conf.specs.declared.board.Board.{Board}
 use Rattle.jb_menu.specs.declared.given.Given.{Given}
 use Rattle.jb_menu.specs.declared.given.Given.TheVariants.{Line}
-use Rattle.jb_menu.specs.declared.state.Stage.TheVariants.{Marking, Reading, Seeking}
+use Rattle.jb_menu.specs.declared.state.MenuStage.TheVariants.{Marking, Reading, Seeking}
 use Rattle.jb_menu.specs.declared.state.State.{State}
 use Rattle.jb_menu.specs.declared.state.State.TheVariants.{Area, Counting}
 

@@ -34,9 +34,9 @@ went course turn = record {
 }
 
 -- it goes on with what the caller sends
-abbrev pub is_on : Standing → Bool
-is_on On = true
-is_on _ = false
+abbrev pub is_going : Standing → Bool
+is_going On = true
+is_going _ = false
 
 -- it waits for an area's answer
 abbrev pub is_waiting : Standing → Bool
@@ -58,7 +58,7 @@ answered board course (given ∷ left) =
 -- an event, and the answers that it leads to ask for; behind the end, or while an answer is missing, it is not heard
 abbrev pub heard : Board → Conversation → Event → Conversation
 heard board talk event =
-    if is_on talk.course.place.standing then answered board (went talk.course (event_turn board talk.course.place event)) talk.left
+    if is_going talk.course.place.standing then answered board (went talk.course (event_turn board talk.course.place event)) talk.left
     else talk
 
 -- before the log-in, with no key pressed

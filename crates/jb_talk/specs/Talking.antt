@@ -12,7 +12,7 @@ use Rattle.jb_talk.specs.declared.request.Request.{Request}
 use Rattle.jb_talk.specs.declared.standing.Standing.TheVariants.{Failed}
 use Rattle.jb_talk.specs.declared.standing.TheConstants.{MOST_PIECE_BYTES}
 use Rattle.jb_talk.specs.Turns.{Place, Turn}
-use Rattle.jb_talk.specs.Conversations.{Course, answered, conversation, is_on, is_waiting}
+use Rattle.jb_talk.specs.Conversations.{Course, answered, conversation, is_going, is_waiting}
 
 -- the unit that the decoder is in, how many bytes were taken, where the talk is, and what is to be sent
 pub record Talking : Type 0 where
@@ -37,7 +37,7 @@ abbrev pub owing : Talking → Turn → Talking
 owing talk turn = record talk { place = turn.place; owed = talk.owed ++ turn.text }
 
 -- the user is the one who is logged in, and the board has the area
-pub record IsOf (board : Board) (talk : Talking) (request : Request) : Type 0 where
+pub record IsOfCaller (board : Board) (talk : Talking) (request : Request) : Type 0 where
   pub logged_in : user_in talk.place.menu ≡ Some request.user
   pub user : request.user < length board.users
   pub area : request.area < length board.areas
@@ -46,7 +46,7 @@ pub record IsOf (board : Board) (talk : Talking) (request : Request) : Type 0 wh
 pub record Hands (board : Board) (talk : Talking) (request : Option Request) : Type 0 where
   pub menu : IsFor board talk.place.menu
   pub waits : is_waiting talk.place.standing ≡ is_some request
-  pub of : IfSome request (IsOf board talk)
+  pub of : IfSome request (IsOfCaller board talk)
 
 -- memory was wanting: nothing is owed, and nothing more is heard
 pub record HasFailed (talk : Talking) : Type 0 where
@@ -56,4 +56,4 @@ pub record HasFailed (talk : Talking) : Type 0 where
 -- the most bytes that are wanted now: none before all that is owed is sent, none past the limit of a session
 abbrev pub most_wanted : Talking → ℕ
 most_wanted talk =
-    if is_on talk.place.standing && (length talk.owed == 0) then min MOST_PIECE_BYTES (MOST_SESSION_BYTES - talk.taken) else 0
+    if is_going talk.place.standing && (length talk.owed == 0) then min MOST_PIECE_BYTES (MOST_SESSION_BYTES - talk.taken) else 0

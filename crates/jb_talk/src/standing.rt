@@ -1,6 +1,6 @@
 //! Whether a talk goes on, and how it ends.
 ghost use Rattle.std.specs.Prelude.{◌≡◌};
-ghost use Rattle.jb_talk.specs.Conversations.{is_on};
+ghost use Rattle.jb_talk.specs.Conversations.{is_going};
 
 use jb_menu::MenuEnd;
 
@@ -23,7 +23,7 @@ pub enum Standing {
 impl Standing {
     /// Whether it goes on with what the caller sends.
     pub fn is_on(self) -> bool
-        ensures { result ≡ is_on self }
+        ensures { result ≡ is_going self }
     {
         matches!(self, Standing::On)
     }

@@ -3,7 +3,6 @@ ghost use Rattle.std.specs.Prelude.{◌≡◌, ◌+◌, ◌<◌, ◌≤◌, ◌+
 ghost use Rattle.std.specs.List.{flat_map};
 ghost use Rattle.std.specs.Option.{is_some, option_to_list};
 ghost use Rattle.jb_limits.specs.declared.limits.TheConstants.{MOST_SESSION_BYTES};
-ghost use Rattle.jb_conf.specs.InRange.{IsInRange};
 ghost use Rattle.jb_conf.specs.declared.board.Board.{Board};
 ghost use Rattle.jb_menu.specs.Awaits.{IsFor};
 ghost use Rattle.jb_menu.specs.declared.given.Given.{Given};
@@ -100,7 +99,6 @@ impl Talk {
     /// Hears a piece, as far as the byte at which an area is asked something. Bytes behind the end are heard, and lead to
     /// nothing. For want of memory the talk is over.
     pub fn hear(&mut self, alloc: Global, board: &Board, piece: &[u8]) -> Result<Heard, OutOfMemory>
-        requires board { IsInRange board.now }
         requires of { IsFor board.now self.old.place.menu }
         requires idle { is_waiting self.old.place.standing ≡ false }
         requires room { self.old.taken + length piece.now ≤ MOST_SESSION_BYTES }
@@ -152,7 +150,6 @@ impl Talk {
         board: &Board,
         given: &Given,
     ) -> Result<Option<Request>, OutOfMemory>
-        requires board { IsInRange board.now }
         requires of { IsFor board.now self.old.place.menu }
         requires waits { IsTrue (is_waiting self.old.place.standing) }
 

@@ -3,7 +3,6 @@ ghost use Rattle.std.specs.Prelude.{◌≡◌, ◌+◌, ◌<◌, ◌≤◌, ◌+
 ghost use Rattle.std.specs.List.{flat_map};
 ghost use Rattle.std.specs.Option.{option_to_list};
 ghost use Rattle.jb_limits.specs.declared.limits.TheConstants.{MOST_SESSION_BYTES};
-ghost use Rattle.jb_conf.specs.InRange.{IsInRange};
 ghost use Rattle.jb_line.specs.Typing.{typing_after, line_of};
 ghost use Rattle.jb_menu.specs.Awaits.{IsFor};
 ghost use Rattle.jb_menu.specs.declared.given.Given.{Given};
@@ -83,7 +82,6 @@ impl Talk {
         board: &Board,
         given: &Given,
     ) -> Result<Option<Request>, OutOfMemory>
-        requires board { IsInRange board.now }
         requires of { IsFor board.now self.old.place.menu }
         ensures turn { IfOk result (λ request.
             self.new ≡ owing self.old (given_turn board.now self.old.place given.now)) }
@@ -129,7 +127,6 @@ impl Talk {
         board: &Board,
         event: Event,
     ) -> Result<Option<Request>, OutOfMemory>
-        requires board { IsInRange board.now }
         requires of { IsFor board.now self.old.place.menu }
         requires on { self.old.place.standing ≡ Standing.On }
         ensures turn { IfOk result (λ request.
@@ -155,7 +152,6 @@ impl Talk {
         board: &Board,
         byte: u8,
     ) -> Result<Option<Request>, OutOfMemory>
-        requires board { IsInRange board.now }
         requires of { IsFor board.now self.old.place.menu }
         requires idle { is_waiting self.old.place.standing ≡ false }
         requires room { self.old.taken < MOST_SESSION_BYTES }

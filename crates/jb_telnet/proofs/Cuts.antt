@@ -4,7 +4,7 @@ use Rattle.jb_telnet.specs.declared.event.Event.{Event}
 use Rattle.jb_telnet.specs.declared.event.Event.TheVariants.{Byte}
 use Rattle.jb_telnet.specs.Units.{doubled, Spells, StartsWith, StartsWithNone, CutsInto}
 use Rattle.jb_telnet.specs.Front.{First, first_unit}
-use Rattle.jb_telnet.specs.Laws.{GoesOn}
+use Rattle.jb_telnet.specs.Laws.{GoesOnWith}
 use Rattle.jb_telnet.proofs.Fronts.{found_first, first_of}
 
 pub first_from : (event : Event) (bytes behind : List ℕ) → StartsWith event bytes behind → first_unit bytes ≡ Some (event, behind)
@@ -78,7 +78,7 @@ shorter event bytes behind starts = by_unit starts.unit starts.spelled starts.is
     by_unit [] spelled is = let none = first_of event [] [] spelled in absurd (cc)
     by_unit (x ∷ xs) spelled is = let sizes = ap length is in let parts = length-append xs behind in omega (arith, sizes, parts)
 
-any_cut : (n : ℕ) (bytes : List ℕ) → ((behind : List ℕ) → length behind < n → GoesOn behind []) → length bytes ≤ n → (first : First) → first_unit bytes ≡ first → GoesOn bytes []
+any_cut : (n : ℕ) (bytes : List ℕ) → ((behind : List ℕ) → length behind < n → GoesOnWith behind []) → length bytes ≤ n → (first : First) → first_unit bytes ≡ first → GoesOnWith bytes []
 any_cut n bytes each less None is = record { more = []; rest = bytes; cuts = (refl, none_from bytes is) }
 any_cut n bytes each less (Some (event, behind)) is =
     let starts = (found_first bytes).each event behind is in
@@ -87,19 +87,19 @@ any_cut n bytes each less (Some (event, behind)) is =
     record { more = event ∷ on.more; rest = on.rest; cuts = (behind, starts, on.cuts) }
 
 -- bytes of fewer than n have a cut
-any_below : (n : ℕ) (bytes : List ℕ) → length bytes < n → GoesOn bytes []
+any_below : (n : ℕ) (bytes : List ℕ) → length bytes < n → GoesOnWith bytes []
 any_below zero bytes less = absurd (omega arith)
 any_below (suc n) bytes less = any_cut n bytes (any_below n) (omega arith) (first_unit bytes) refl
 
 -- more bytes go on from a cut
-pub goes_on : (ys : List ℕ) (events : List Event) (bytes rest : List ℕ) → CutsInto bytes events rest → GoesOn (bytes ++ ys) events
+pub goes_on : (ys : List ℕ) (events : List Event) (bytes rest : List ℕ) → CutsInto bytes events rest → GoesOnWith (bytes ++ ys) events
 goes_on ys [] bytes rest cuts = any_below (length (bytes ++ ys) + 1) (bytes ++ ys) (omega arith)
 goes_on ys (event ∷ events) bytes rest cuts =
     let on = goes_on ys events cuts.0 rest cuts.2 in
     record { more = on.more; rest = on.rest; cuts = (cuts.0 ++ ys, longer ys event bytes cuts.0 cuts.1, on.cuts) }
 
 -- there is one cut at least
-pub cuts_some : (bytes : List ℕ) → GoesOn bytes []
+pub cuts_some : (bytes : List ℕ) → GoesOnWith bytes []
 cuts_some bytes = any_below (length bytes + 1) bytes (omega arith)
 
 -- bytes with each 255 doubled are cut into those bytes

@@ -4,14 +4,14 @@ use Rattle.jb_telnet.specs.declared.event.Event.{Event}
 use Rattle.jb_telnet.specs.Units.{CutsInto}
 
 -- the bytes are cut into these events, others behind them, and a rest
-pub record GoesOn (bytes : List ℕ) (events : List Event) : Type 0 where
+pub record GoesOnWith (bytes : List ℕ) (events : List Event) : Type 0 where
   pub more : List Event
   pub rest : List ℕ
   pub cuts : CutsInto bytes (events ++ more) rest
 
 -- any bytes are cut into events and a rest
 abbrev pub EachIsCut : Type 0
-EachIsCut = (bytes : List ℕ) → GoesOn bytes []
+EachIsCut = (bytes : List ℕ) → GoesOnWith bytes []
 
 -- no bytes are cut in two ways
 abbrev pub CutsOneWay : Type 0
@@ -20,4 +20,4 @@ CutsOneWay = (bytes : List ℕ) (events others : List Event) (rest other : List 
 
 -- more bytes give the events of fewer, and then others
 abbrev pub EventsGrow : Type 0
-EventsGrow = (bytes more : List ℕ) (events : List Event) (rest : List ℕ) → CutsInto bytes events rest → GoesOn (bytes ++ more) events
+EventsGrow = (bytes more : List ℕ) (events : List Event) (rest : List ℕ) → CutsInto bytes events rest → GoesOnWith (bytes ++ more) events

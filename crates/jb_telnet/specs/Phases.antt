@@ -8,12 +8,12 @@ use Rattle.jb_telnet.specs.Codes.{code_of}
 use Rattle.jb_telnet.specs.Front.{First, first_unit, behind_iac, behind_verb, behind_block}
 
 -- bytes that lead from between units to this phase
-abbrev pub kept_in : Phase → List ℕ
-kept_in Text = []
-kept_in Command = IAC ∷ []
-kept_in (Verb verb) = IAC ∷ code_of verb ∷ []
-kept_in Block = IAC ∷ SB ∷ []
-kept_in Escape = IAC ∷ SB ∷ IAC ∷ []
+abbrev pub phase_bytes : Phase → List ℕ
+phase_bytes Text = []
+phase_bytes Command = IAC ∷ []
+phase_bytes (Verb verb) = IAC ∷ code_of verb ∷ []
+phase_bytes Block = IAC ∷ SB ∷ []
+phase_bytes Escape = IAC ∷ SB ∷ IAC ∷ []
 
 -- the first unit, where the decoder is in this phase and these bytes come
 abbrev pub first_behind : Phase → List ℕ → First

@@ -4,9 +4,9 @@ use Rattle.jb_telnet.specs.declared.event.Event.{Event}
 use Rattle.jb_telnet.specs.Units.{StartsWith, CutsInto}
 
 -- the events that a push gives
-abbrev pub given : Option Event → List Event
-given None = []
-given (Some event) = event ∷ []
+abbrev pub events_given : Option Event → List Event
+events_given None = []
+events_given (Some event) = event ∷ []
 
 -- whatever follows, the same unit stands first, and the same bytes behind it
 abbrev pub ActsAs : List ℕ → List ℕ → Type 0

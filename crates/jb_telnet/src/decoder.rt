@@ -36,16 +36,16 @@ pub struct Decoder {
 
 impl Model for Decoder {
     ghost use Rattle.std.specs.Prelude.{List, ℕ};
-    ghost use Rattle.jb_telnet.specs.Phases.{kept_in};
+    ghost use Rattle.jb_telnet.specs.Phases.{phase_bytes};
 
     ghost Value = { List ℕ };
 
-    ghost view = { λ d. kept_in d.phase };
+    ghost view = { λ d. phase_bytes d.phase };
 }
 
 impl Decoder {
     ghost use Rattle.jb_telnet.specs.Units.{StartsWith};
-    ghost use Rattle.jb_telnet.specs.Reading.{HasRead, given};
+    ghost use Rattle.jb_telnet.specs.Reading.{HasRead, events_given};
 
     /// Between units, with no byte taken.
     pub fn new() -> Decoder
@@ -60,7 +60,7 @@ impl Decoder {
             → (result ≡ Some event) ↔ StartsWith event (self.old ++ byte ∷ []) [] }
         // After any list of pushes, the events are those of all the bytes.
         ensures fits { (bytes : List ℕ) (events : List Event) → HasRead self.old bytes events
-            → HasRead self.new (bytes ++ byte ∷ []) (events ++ given result) }
+            → HasRead self.new (bytes ++ byte ∷ []) (events ++ events_given result) }
     {
         let (phase, event) = step(self.phase, byte);
         self.phase = phase;

@@ -19,12 +19,12 @@ fn show_each(bytes: &mut [u8])
 
 /// A line while it is put together. Contracts see the list of its bytes.
 #[derive(Drop)]
-pub(crate) struct Draft {
+pub(crate) struct LineDraft {
     room: [u8; DRAFT_BYTES],
     len: usize,
 }
 
-impl Model for Draft {
+impl Model for LineDraft {
     ghost use Rattle.std.specs.Prelude.{List, ℕ, ◌≤◌, take};
 
     ghost Value = { List ℕ };
@@ -34,13 +34,13 @@ impl Model for Draft {
     ghost invariant = { λ d. d.len ≤ 128 };
 }
 
-impl Draft {
+impl LineDraft {
     /// So many spaces.
-    pub(crate) fn spaces(count: usize) -> Draft
+    pub(crate) fn spaces(count: usize) -> LineDraft
         requires { count ≤ 128 }
         ensures { result ≡ replicate count 32 }
     {
-        Draft {
+        LineDraft {
             room: [b' '; DRAFT_BYTES],
             len: count,
         }

@@ -4,7 +4,7 @@ ghost use Rattle.jb_text.specs.Fixed.{fixed_text};
 ghost use Rattle.jb_text.specs.Lines.{area_line_text, figures_text, listing_text, prompt_text, replying_text, start_text, welcome_text};
 
 use crate::Fixed;
-use crate::draft::{DRAFT_BYTES, Draft};
+use crate::draft::{DRAFT_BYTES, LineDraft};
 use crate::writing::{append_left, append_line_end, append_number, append_right, append_shown};
 use itoa::Buffer;
 use jb_base::{Bytes, OutOfMemory};
@@ -137,7 +137,7 @@ fn append_drafted(
 {
     let mut digits = Buffer::new();
     let figure = digits.format(number).as_bytes();
-    let mut line = Draft::spaces(8usize.saturating_sub(figure.len()));
+    let mut line = LineDraft::spaces(8usize.saturating_sub(figure.len()));
     line.put(figure);
     line.put(b"  ");
     line.put(from);

@@ -16,7 +16,8 @@ use Rattle.jb_state.specs.State.{AreaState, state_of}
 use Rattle.jb_model.specs.declared.command.Command.{Command}
 use Rattle.jb_state.specs.declared.loaded.Loaded.{Loaded}
 use Rattle.jb_model.specs.declared.reply.Reply.{Reply}
-use Rattle.jb_tool.specs.Tending.{OpensFor, OpensForEither, answer_to}
+use Rattle.jb_tool.specs.Tending.{OpensFor, OpensForEither, tool_answered}
+use Rattle.jb_disk.proofs.FileLemmas.{leaves_map}
 
 -- files that hold a loaded area stand for its state
 pub holds_stands : (loaded : Loaded) (texts : List ℕ) (files : Files) → length loaded.slots ≤ MOST_SLOTS → Holds loaded texts files → StandsFor MOST_SLOTS files (state_of texts loaded)
@@ -32,15 +33,10 @@ pub rest_opens : (loaded : Loaded) (texts : List ℕ) (files : Files) → length
 rest_opens loaded texts files few rests =
     record { after = files; replays = inl (λ is_open. rests.shut is_open.gate, refl); stands = holds_stands loaded texts files few rests.holds }
 
--- a weaker property of what a crash leaves now
-pub leaves_weaken : (P Q : Files → Type 0) (moments : List Images) → ((files : Files) → P files → Q files) → LeavesNow P moments → LeavesNow Q moments
-leaves_weaken P Q [] weaker all = tt
-leaves_weaken P Q (now ∷ earlier) weaker all = λ files image. weaker files (all files image)
-
 -- and of what one leaves at any moment
 pub leaves_only_weaken : (P Q : Files → Type 0) (old new : Device) → ((files : Files) → P files → Q files) → LeavesOnly old new P → LeavesOnly old new Q
 leaves_only_weaken P Q old new weaker leaves = record {
-  first = leaves_weaken P Q old.moments weaker leaves.first;
+  first = leaves_map P Q old.moments weaker leaves.first;
   run = runs-weaken P Q weaker old.moments new.moments leaves.run;
 }
 
@@ -63,7 +59,7 @@ module _ {D : Type 0} (shown : D → Device) (command : Command) where
 
   -- files between the area and the one to come
   pub either_way : (area : OpenArea D) (texts : List ℕ) (reply : Reply) (coming : Coming) → IsBegun shown area texts reply coming
-      → (answer_to command (state_of texts area.held)).state ≡ state_of coming.texts coming.to
+      → (tool_answered command (state_of texts area.held)).state ≡ state_of coming.texts coming.to
       → (files : Files) → OpensToEither area.held texts coming files → OpensForEither command (state_of texts area.held) files
   either_way area texts reply coming begun becomes files opens =
       let limit = begun.kept.ruled.few_slots in

@@ -30,7 +30,7 @@ use Rattle.jb_tool.proofs.ChangingLemmas.{either_way, few_resting, holds_stands,
 use Rattle.jb_tool.proofs.Recovering.{counts_then}
 use Rattle.jb_tool.specs.Changing.{DoesCommand, HasNoLine, IsStoppedBy, of_area}
 use Rattle.jb_tool.specs.Recovered.{is_tool_fault}
-use Rattle.jb_tool.specs.Tending.{OpensForEither, answer_to, tool_answer, tool_rules, tool_user}
+use Rattle.jb_tool.specs.Tending.{OpensForEither, tool_answered, tool_answer, tool_rules, tool_user}
 use Rattle.jb_tool.specs.declared.error.ToolError.{ToolError}
 
 -- a disk that tells its files goes on telling them
@@ -75,7 +75,7 @@ module _ {D : Type 0} (shown : D → Device) (command : Command) (old : OpenArea
   module _ (mid new : OpenArea D) (rules : old.rules ≡ tool_rules) (begins : BeginsCall shown old mid tool_user 0 command (Ok tt)) where
     -- what the command comes to
     becomes : (texts : List ℕ) (files : Files) → (shown old.disk).contents ≡ Some files → (rests : IsResting shown old texts)
-        → answer_to command (state_of texts old.held) ≡ record { reply = (begins.begun texts rests).reply; state = state_of (begins.begun texts rests).coming.texts (begins.begun texts rests).coming.to }
+        → tool_answered command (state_of texts old.held) ≡ record { reply = (begins.begun texts rests).reply; state = state_of (begins.begun texts rests).coming.texts (begins.begun texts rests).coming.to }
     becomes texts files there rests =
         let begun = begins.begun texts rests in
         let after = state_of begun.coming.texts begun.coming.to in
@@ -90,8 +90,8 @@ module _ {D : Type 0} (shown : D → Device) (command : Command) (old : OpenArea
         → LeavesOnly (shown old.disk) (shown new.disk) (OpensForEither command (state_of texts old.held))
     ending crash files there texts rests =
         let begun = begins.begun texts rests in
-        let to : (answer_to command (state_of texts mid.held)).state ≡ state_of begun.coming.texts begun.coming.to =
-        ap (λ (l : Loaded). (answer_to command (state_of texts l)).state) begins.loaded ∙ ap (λ (a : Answered). a.state) (becomes texts files there rests) in
+        let to : (tool_answered command (state_of texts mid.held)).state ≡ state_of begun.coming.texts begun.coming.to =
+        ap (λ (l : Loaded). (tool_answered command (state_of texts l)).state) begins.loaded ∙ ap (λ (a : Answered). a.state) (becomes texts files there rests) in
         let either = either_way shown command mid texts begun.reply begun.coming begun.begun to in
         let P : Files → Type 0 = OpensForEither command (state_of texts mid.held) in
         let leaves = leaves_only_weaken (OpensToEither mid.held texts begun.coming) P (shown mid.disk) (shown new.disk) either

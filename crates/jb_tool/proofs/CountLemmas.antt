@@ -7,7 +7,7 @@ use Rattle.jb_bytes.specs.declared.memory.OutOfMemory.{OutOfMemory}
 use Rattle.jb_state.specs.Message.{msgid_of}
 use Rattle.jb_state.specs.declared.loaded.LoadedMessage.{LoadedMessage}
 use Rattle.jb_state.specs.declared.loaded.LoadedSlot.TheVariants.{Live}
-use Rattle.jb_msgid.specs.Answer.{IsReading, IsUnlessMemory}
+use Rattle.jb_msgid.specs.Answer.{ReadsMsgId, IsUnlessMemory}
 use Rattle.jb_msgid.specs.Text.{IsMsgId}
 use Rattle.jb_msgid.specs.declared.error.MsgIdError.{MsgIdError}
 use Rattle.jb_msgid.specs.declared.error.MsgIdError.TheVariants.{BadQuote, EmptyAddress, NoSerial, OutOfMemory as no_memory}
@@ -48,7 +48,7 @@ module _ (fields : List Subfield) (text : List ℕ) (found : msgid_of fields ≡
       ]
 
   -- whether the first MSGID can be read, by what the reading of it answered
-  read_by : (answer : Result MsgId MsgIdError) → IsReading text answer → ((value : MsgId) → IsMsgId text value → IsUnlessMemory answer (Ok value))
+  read_by : (answer : Result MsgId MsgIdError) → ReadsMsgId text answer → ((value : MsgId) → IsMsgId text value → IsUnlessMemory answer (Ok value))
       → (readable : Bool) → IsReadAs answer readable → IsTrue readable ↔ HasReadableId fields
   read_by (Ok value) reads values readable is = (λ yes. record { text = text; found = found; value = value; reads = reads }, λ has. is)
   read_by (Err (NoSerial at)) reads values readable is = no_value (NoSerial at) readable (λ same. cc) is values
@@ -57,7 +57,7 @@ module _ (fields : List Subfield) (text : List ℕ) (found : msgid_of fields ≡
   read_by (Err no_memory) reads values readable is = absurd is
 
   -- where that is known
-  pub read_answered : (answer : Result MsgId MsgIdError) → IsReading text answer → ((value : MsgId) → IsMsgId text value → IsUnlessMemory answer (Ok value))
+  pub read_answered : (answer : Result MsgId MsgIdError) → ReadsMsgId text answer → ((value : MsgId) → IsMsgId text value → IsUnlessMemory answer (Ok value))
       → (result : Result Bool OutOfMemory) → IfOk result (IsReadAs answer) → IfOk result (λ readable. IsTrue readable ↔ HasReadableId fields)
   read_answered answer reads values (Ok readable) is = read_by answer reads values readable is
   read_answered answer reads values (Err error) is = tt

@@ -23,11 +23,6 @@ use Rattle.jb_record.specs.Fixed.{FitsFixedHeader, fixed_header_bytes, fixed_hea
 use Rattle.jb_tool.specs.LoadBase.{AgreeButHeaders, HaveNoByte, IsEmptyBase, empty_header}
 use Rattle.jb_journal.proofs.Told.{told_back}
 
--- a claim on success, from one
-pub on_ok : {T E : Type 0} (result : Result T E) (P Q : Type 0) → (P → Q) → OnOk result P → OnOk result Q
-on_ok (Ok value) P Q next p = next p
-on_ok (Err error) P Q next p = tt
-
 -- what is told of an empty disk is empty
 pub told_empty : (contents : Option Files) → contents ≡ Some (λ file. []) → ForSome contents HaveNoByte
 told_empty contents none = λ files there file.

@@ -11,15 +11,11 @@ use Rattle.jb_disk.specs.Files.{Files}
 use Rattle.jb_image.specs.Stands.{StandsFor}
 use Rattle.jb_state.specs.State.{AreaState, state_of}
 use Rattle.jb_state.specs.declared.loaded.Loaded.{Loaded}
-use Rattle.jb_tool.specs.LoadRuns.{IsAt, IsFilled, IsLoaded, RestsAs, run_at}
-use Rattle.jb_tool.specs.LoadSummary.{summary_of}
+use Rattle.jb_tool.specs.LoadRuns.{IsRunAt, IsFilled, IsLoaded, RestsAs, run_at}
+use Rattle.jb_tool.specs.LoadSummary.{run_summary}
 use Rattle.jb_tool.specs.Workload.{LoadRun, empty_area}
 use Rattle.jb_tool.specs.declared.counts.Counts.{Counts}
-
--- files that hold a loaded area stand for its state
-holds_stands : (loaded : Loaded) (texts : List ℕ) (files : Files) → length loaded.slots ≤ MOST_SLOTS → Holds loaded texts files → StandsFor MOST_SLOTS files (state_of texts loaded)
-holds_stands loaded texts files few holds =
-    record { loaded = loaded; loads = holds.loads; few_slots = few; same = ap (λ (t : List ℕ). state_of t loaded) (sym holds.texts_are) }
+use Rattle.jb_tool.proofs.ChangingLemmas.{holds_stands}
 
 -- the area and the counts of a run are the run
 run_is : (area : AreaState) (counts : Counts) (run : LoadRun) → area ≡ run.area → counts.posts ≡ run.posts → counts.reads ≡ run.reads → counts.kills ≡ run.kills → run_at area counts ≡ run
@@ -28,10 +24,10 @@ run_is area counts run same posts reads kills = λ i. record { area = same i; po
 -- of a disk that shows itself so
 module _ {D : Type 0} (shown : D → Device) where
   -- the summary of an area that rests where a run has come is that of the run
-  pub summary_is : (area : OpenArea D) (counts : Counts) (run : LoadRun) (text : List ℕ) → IsAt shown area counts run
-      → ((texts : List ℕ) → text ≡ summary_of (run_at (state_of texts area.held) counts)) → text ≡ summary_of run
+  pub summary_is : (area : OpenArea D) (counts : Counts) (run : LoadRun) (text : List ℕ) → IsRunAt shown area counts run
+      → ((texts : List ℕ) → text ≡ run_summary (run_at (state_of texts area.held) counts)) → text ≡ run_summary run
   summary_is area counts run text at is =
-      is at.rests.texts ∙ ap (λ (r : LoadRun). summary_of r) (run_is (state_of at.rests.texts area.held) counts run at.rests.is at.posts at.reads at.kills)
+      is at.rests.texts ∙ ap (λ (r : LoadRun). run_summary r) (run_is (state_of at.rests.texts area.held) counts run at.rests.is at.posts at.reads at.kills)
 
   -- the files of an area that was filled
   pub filled_loaded : (seed count : ℕ) (text : List ℕ) (area : OpenArea D) → IsFilled shown seed count text area → IsLoaded seed count text (shown area.disk)

@@ -17,7 +17,7 @@ use Rattle.jb_model.specs.declared.command.Command.TheVariants.{Pack}
 use Rattle.jb_state.specs.declared.loaded.Loaded.{Loaded}
 use Rattle.jb_model.specs.declared.reply.Reply.{Reply}
 use Rattle.jb_tool.proofs.Recovering.{counts_then}
-use Rattle.jb_tool.specs.LoadRuns.{Goes, IsAt, IsReady, RestsAs, answers_in}
+use Rattle.jb_tool.specs.LoadRuns.{Goes, IsRunAt, IsLoadReady, RestsAs, answers_in}
 use Rattle.jb_tool.specs.Workload.{LoadRun, asked, behind_step, in_step, kills_in, load_rules, loader, marked, post_of_step, posts_in, reads_in, run_to, tenth}
 use Rattle.jb_tool.specs.declared.counts.Counts.{Counts}
 
@@ -60,10 +60,10 @@ module _ {D : Type 0} (shown : D → Device) where
 
   -- the same commands, otherwise told
   pub goes_as : (most : ℕ) (old new : OpenArea D) (was now : Counts) (f g : LoadRun → LoadRun) (result : Result (Unit {0}) AreaError)
-      → ((run : LoadRun) → IsAt shown old was run → f run ≡ g run) → Goes shown most old new was now f result → Goes shown most old new was now g result
+      → ((run : LoadRun) → IsRunAt shown old was run → f run ≡ g run) → Goes shown most old new was now f result → Goes shown most old new was now g result
   goes_as most old new was now f g (Ok done) same goes = record {
     ready = goes.ready;
-    done = λ tells run at. subst (IsAt shown new now) (same run at) (goes.done tells run at);
+    done = λ tells run at. subst (IsRunAt shown new now) (same run at) (goes.done tells run at);
     few = goes.few;
     faults = goes.faults;
     alike = goes.alike;
@@ -94,14 +94,14 @@ module _ {D : Type 0} (shown : D → Device) where
 
   -- so many steps were done since the first half may have ended before the first
   pub record HasGone (seed count steps : ℕ) (old new : OpenArea D) (was now : Counts) : Type 0 where
-    pub ready : IsReady shown new
-    pub done : IsSome (shown old.disk).contents → (run : LoadRun) → IsAt shown old was (behind_step count 0 run) → IsAt shown new now (run_to seed count steps run)
+    pub ready : IsLoadReady shown new
+    pub done : IsSome (shown old.disk).contents → (run : LoadRun) → IsRunAt shown old was (behind_step count 0 run) → IsRunAt shown new now (run_to seed count steps run)
     pub few : answers_in now ≤ answers_in was + 4 * steps
     pub quiet : (shown new.disk).faults ≡ (shown old.disk).faults
     pub alike : TellsAlike (shown old.disk) (shown new.disk)
 
   -- none yet
-  pub gone_nowhere : (seed count : ℕ) (area : OpenArea D) (counts : Counts) → IsReady shown area → HasGone seed count 0 area area counts counts
+  pub gone_nowhere : (seed count : ℕ) (area : OpenArea D) (counts : Counts) → IsLoadReady shown area → HasGone seed count 0 area area counts counts
   gone_nowhere seed count area counts ready = record { ready = ready; done = λ tells run at. at; few = omega arith; quiet = refl; alike = refl }
 
   module _ (seed count steps : ℕ) (a b c : OpenArea D) (x y z : Counts) (gone : HasGone seed count steps a b x y) where
@@ -109,7 +109,7 @@ module _ {D : Type 0} (shown : D → Device) where
     pub gone_further : Goes shown 4 b c y z (λ run. behind_step count (steps + 1) (in_step seed (steps + 1) run)) (Ok tt) → HasGone seed count (steps + 1) a c x z
     gone_further goes = record {
       ready = goes.ready;
-      done = λ tells run at. subst (IsAt shown c z) (one_step (steps + 1) run (omega arith)) (goes.done (gone.alike ∙ tells) (run_to seed count steps run) (gone.done tells run at));
+      done = λ tells run at. subst (IsRunAt shown c z) (one_step (steps + 1) run (omega arith)) (goes.done (gone.alike ∙ tells) (run_to seed count steps run) (gone.done tells run at));
       few = let first = gone.few in let second = goes.few in omega (arith, first, second);
       quiet = goes.faults.quiet ∙ gone.quiet;
       alike = goes.alike ∙ gone.alike;
@@ -125,7 +125,7 @@ module _ {D : Type 0} (shown : D → Device) where
     ask_failed counts error meets = record { ready = tt; done = tt; few = omega arith; faults = record { quiet = tt; later = meets.faults.later; cause = meets.faults.cause }; alike = meets.alike }
 
     -- a command that was answered, and is counted
-    pub ask_done : (was now : Counts) (reply : Reply) → IsReady shown old → MeetsCall shown old new loader moment command (Ok reply)
+    pub ask_done : (was now : Counts) (reply : Reply) → IsLoadReady shown old → MeetsCall shown old new loader moment command (Ok reply)
         → now.posts ≡ was.posts + posts_in reply → now.reads ≡ was.reads + reads_in reply → now.kills ≡ was.kills + kills_in reply
         → answers_in now ≤ answers_in was + 1 → Goes shown 1 old new was now (asked moment command) (Ok tt)
     ask_done was now reply ready meets posts reads kills few = record {
@@ -139,7 +139,7 @@ module _ {D : Type 0} (shown : D → Device) where
           let one = answered.step (λ letter is. tells) in
           let two = subst (λ (r : AreaRules). Step r (state_of at.rests.texts old.held) loader moment command reply after) ready.rules one in
           let three = subst (λ (s : AreaState). Step load_rules s loader moment command reply after) at.rests.is two in
-          subst (IsAt shown new now) (sym (asked_is moment command run reply after three)) (record {
+          subst (IsRunAt shown new now) (sym (asked_is moment command run reply after three)) (record {
             rests = record {
               texts = answered.coming.texts;
               rests = answered.rests.rests;

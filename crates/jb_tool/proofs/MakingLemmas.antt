@@ -21,12 +21,12 @@ use Rattle.jb_journal.specs.Recover.{IsGrowthSafe, IsRefusedOver, ReplaysAsAtSta
 use Rattle.jb_journal.specs.declared.error.JournalError.{JournalError}
 use Rattle.jb_journal.specs.declared.error.JournalError.TheVariants.{BadRecord, StoreFault}
 use Rattle.jb_redo.proofs.ApplyLemmas.{turns_from, turns_on}
-use Rattle.jb_tool.proofs.ChangingLemmas.{leaves_weaken}
 use Rattle.jb_tool.proofs.NewBaseLemmas.{base_ready, empty_beside, new_beside}
 use Rattle.jb_tool.specs.Making.{AreNoneOrNew, AreShutAndEmpty, HasNewBase, IsFoundEmpty, IsMade, KeepsOrMakes, RefusesMaking, ReplayInto}
-use Rattle.jb_tool.specs.Recovered.{IsRecoveredTo, KeepsReplay, of_journal}
+use Rattle.jb_tool.specs.Recovered.{IsRecoveredTo, KeepsReplay, tool_of_journal}
 use Rattle.jb_tool.proofs.Recovering.{is_told}
 use Rattle.jb_area_open.proofs.OpeningLemmas.{preparing_shut}
+use Rattle.jb_disk.proofs.FileLemmas.{leaves_map}
 
 -- a file without a length is empty
 no_length : (l : List ℕ) → length l ≡ 0 → l ≡ []
@@ -127,7 +127,7 @@ module _ (moment : ℕ) (change : RedoView) (makes : MakesBase moment change) (b
       let leaves = crash start there synced in
       let weaker : (files : Files) → IsPreparing start files → AreNoneOrNew moment files = λ files is. preparing_none moment start files (none start there) is in
       record {
-        first = leaves_weaken (IsPreparing start) (AreNoneOrNew moment) before.moments weaker leaves.first;
+        first = leaves_map (IsPreparing start) (AreNoneOrNew moment) before.moments weaker leaves.first;
         run = runs-weaken (IsPreparing start) (AreNoneOrNew moment) weaker before.moments mid.moments leaves.run;
       }
 
@@ -163,7 +163,7 @@ module _ (moment : ℕ) (change : RedoView) (makes : MakesBase moment change) (b
       }
 
 -- a refusal of recovery
-pub refused_recovery : (before after : Device) (error : JournalError) → ForSome before.contents (IsRefusedOver error after) → RefusesMaking before after (of_journal error)
+pub refused_recovery : (before after : Device) (error : JournalError) → ForSome before.contents (IsRefusedOver error after) → RefusesMaking before after (tool_of_journal error)
 refused_recovery before after (BadRecord at) is = is
 refused_recovery before after StoreFault is = inr refl
 
@@ -185,7 +185,7 @@ kept_making moment before after keeps = λ was there safe.
     let P : Files → Type 0 = λ files. ReplaysAsAtStart before.moments files ⊎ ReplayInto AreEmpty was × AreNoneOrNew moment files in
     let weaker : (files : Files) → ReplaysAsAtStart before.moments files → P files = λ files is. inl is in
     record {
-      first = leaves_weaken (ReplaysAsAtStart before.moments) P before.moments weaker leaves.first;
+      first = leaves_map (ReplaysAsAtStart before.moments) P before.moments weaker leaves.first;
       run = runs-weaken (ReplaysAsAtStart before.moments) P weaker before.moments after.moments leaves.run;
     }
 

@@ -4,20 +4,20 @@ use Rattle.std.specs.Prelude.{slice_index}
 use Rattle.jb_decide.proofs.AgreeLemmas.{loads_agree}
 use Rattle.jb_change.specs.NewBase.{AreEmpty, AreNew, MakesBase, new_loaded}
 use Rattle.jb_disk.specs.RedoView.{RedoView}
-use Rattle.jb_disk.specs.Files.{Files, number_of}
+use Rattle.jb_disk.specs.Files.{Files, file_number}
 use Rattle.jb_disk.specs.declared.file.FileId.{FileId}
 use Rattle.jb_disk.specs.declared.file.FileId.TheVariants.{Jhr, Jdt, Jdx, Jlr, Jnl}
 use Rattle.jb_journal.specs.Commit.{AgreeButJournal, IsReady}
 use Rattle.jb_redo.specs.Changes.{IsWritable}
 
 -- a file of a base is not the journal
-no_journal : (file : FileId) → number_of file < 4 → file ≢ Jnl
-no_journal file low is = let four : number_of file ≡ 4 = ap number_of is in omega (arith, low, four)
+no_journal : (file : FileId) → file_number file < 4 → file ≢ Jnl
+no_journal file low is = let four : file_number file ≡ 4 = ap file_number is in omega (arith, low, four)
 
 -- files that are the same but for the journal are new too
 pub new_beside : (moment : ℕ) (base files : Files) → AreNew moment base → AgreeButJournal files base → AreNew moment files
 new_beside moment base files new same =
-    let there : (file : FileId) → number_of file < 4 → files file ≡ base file = λ file low. same file (no_journal file low) in
+    let there : (file : FileId) → file_number file < 4 → files file ≡ base file = λ file low. same file (no_journal file low) in
     record {
       headers = there Jhr (omega arith) ∙ new.headers;
       others = λ file low ne. there file low ∙ new.others file low ne;

@@ -21,8 +21,9 @@ use Rattle.jb_state.specs.State.{state_of}
 use Rattle.jb_state.specs.declared.loaded.Loaded.{Loaded}
 use Rattle.jb_redo.specs.Reading.{HasRecord}
 use Rattle.jb_redo.specs.Replay.{Replays}
-use Rattle.jb_tool.specs.Recovered.{IsRecoveredTo, KeepsReplay, RefusesReading, of_journal}
+use Rattle.jb_tool.specs.Recovered.{IsRecoveredTo, KeepsReplay, RefusesReading, tool_of_journal}
 use Rattle.jb_tool.specs.declared.error.ToolError.TheVariants.{Open}
+use Rattle.jb_area_open.proofs.OpeningLemmas.{record_of}
 
 -- what is told, and that it is
 pub record IsTold (contents : Option Files) : Type 0 where
@@ -33,11 +34,6 @@ pub record IsTold (contents : Option Files) : Type 0 where
 pub is_told : (contents : Option Files) → IsSome contents → IsTold contents
 is_told None there = absurd (cc)
 is_told (Some files) there = record { files = files; is = refl }
-
--- behind an open gate a record was found
-pub record_of : (found : Recovered) (was : Files) → IsFound found was → IsGateOpen was → HasRecord was
-record_of Closed was shut opened = absurd (shut opened)
-record_of Replayed was is opened = is.1
 
 -- a base that was recovered and then only read, and what was found in its files
 pub recovered : (property : Files → Type 0) (before mid after : Device) (found : Recovered) → ForSome before.contents (IsFound found)
@@ -73,7 +69,7 @@ pub opens_stands : (files : Files) (loaded : Loaded) → OpensTo MOST_SLOTS file
 opens_stands files loaded opens = record { loaded = loaded; loads = opens.loads; few_slots = opens.few_slots; same = refl }
 
 -- a recovery that is refused
-pub refused : (before after : Device) (error : JournalError) → ForSome before.contents (IsRefusedOver error after) → RefusesReading before after (of_journal error)
+pub refused : (before after : Device) (error : JournalError) → ForSome before.contents (IsRefusedOver error after) → RefusesReading before after (tool_of_journal error)
 refused before after (BadRecord at) is = is
 refused before after StoreFault is = λ other. absurd (other refl)
 

@@ -18,11 +18,12 @@ use Rattle.jb_image.specs.Stands.{StandsFor}
 use Rattle.jb_journal.specs.Recover.{IsGrowthSafe}
 use Rattle.jb_state.specs.State.{AreaState, state_of}
 use Rattle.jb_model.specs.declared.command.Command.{Command}
-use Rattle.jb_tool.proofs.ChangingLemmas.{few_resting, holds_stands, leaves_only_weaken, leaves_weaken, opens_area}
+use Rattle.jb_tool.proofs.ChangingLemmas.{few_resting, holds_stands, leaves_only_weaken, opens_area}
 use Rattle.jb_tool.proofs.Recovering.{IsTold, is_told}
 use Rattle.jb_tool.specs.Changing.{DoesCommand, of_opening}
-use Rattle.jb_tool.specs.Tending.{Answer, IsOldOrNew, IsOpenedTo, KeepsOrTends, OpensFor, OpensForEither, Tends, answer_to}
+use Rattle.jb_tool.specs.Tending.{ToolAnswer, IsOldOrNew, IsOpenedTo, KeepsOrTends, OpensFor, OpensForEither, Tends, tool_answered}
 use Rattle.jb_tool.specs.declared.error.ToolError.{ToolError}
+use Rattle.jb_disk.proofs.FileLemmas.{leaves_map}
 
 -- what a crash leaves now opens to just what some opens to that it might leave now
 now_left : (command : Command) (was : Files) (moments : List Images) → LeavesNow (λ files. OpensAsAtStart moments files ⊎ IsOldOrNew command was files) moments
@@ -75,7 +76,7 @@ module _ {D : Type 0} (shown : D → Device) (command : Command) (before : Devic
   opened_stands files is = holds_stands area.held rest.texts files (few_resting shown command area rest.texts rest.rests) (rest.rests.kept.settled.rests files is).holds
 
   -- and what a crash leaves since then
-  opened_to : (new : OpenArea D) (answer : Answer) → DoesCommand shown command area new answer → (was : Files) → before.contents ≡ Some was
+  opened_to : (new : OpenArea D) (answer : ToolAnswer) → DoesCommand shown command area new answer → (was : Files) → before.contents ≡ Some was
       → IsOpenedTo command from was (shown area.disk) (shown new.disk)
   opened_to new answer changes was there =
       let now = opened_files was there in
@@ -83,12 +84,12 @@ module _ {D : Type 0} (shown : D → Device) (command : Command) (before : Devic
 
   module _ (new : OpenArea D) where
     -- the command is tended, or not
-    pub tends_opened : (answer : Answer) → DoesCommand shown command area new answer → Tends command before (shown new.disk) answer
+    pub tends_opened : (answer : ToolAnswer) → DoesCommand shown command area new answer → Tends command before (shown new.disk) answer
     tends_opened (Ok text) changes = λ was there.
         let now = opened_files was there in
         record {
           old = from;
-          new = (answer_to command from).state;
+          new = (tool_answered command from).state;
           outcome = (changes.answered now.files now.is rest.texts rest.rests, refl);
           record_found = (recovered was there).record_found;
           opening = shown area.disk;
@@ -124,7 +125,7 @@ module _ {D : Type 0} (shown : D → Device) (command : Command) (before : Devic
     ]
 
     -- and what a crash leaves meanwhile
-    pub crash_opened : (answer : Answer) → KeepsOpening before (shown area.disk) → DoesCommand shown command area new answer → KeepsOrTends command before (shown new.disk)
+    pub crash_opened : (answer : ToolAnswer) → KeepsOpening before (shown area.disk) → DoesCommand shown command area new answer → KeepsOrTends command before (shown new.disk)
     crash_opened answer keeps changes = λ was there safe.
         let now = opened_files was there in
         let P : Files → Type 0 = λ files. OpensAsAtStart before.moments files ⊎ IsOldOrNew command was files in
@@ -133,7 +134,7 @@ module _ {D : Type 0} (shown : D → Device) (command : Command) (before : Devic
         let first : (files : Files) → OpensAsAtStart before.moments files → P files = λ files opens. inl opens in
         let second : (files : Files) → OpensForEither command from files → P files = λ files opens. inr (record { old = from; before = opened_as was there safe; now = opens }) in
         record {
-          first = leaves_weaken (OpensAsAtStart before.moments) P before.moments first one.first;
+          first = leaves_map (OpensAsAtStart before.moments) P before.moments first one.first;
           run = runs-then P before.moments (shown area.disk).moments (shown new.disk).moments
               (runs-weaken (OpensAsAtStart before.moments) P first before.moments (shown area.disk).moments one.run)
               (runs-weaken (OpensForEither command from) P second (shown area.disk).moments (shown new.disk).moments two.run);

@@ -10,7 +10,7 @@ use Rattle.jb_model.specs.declared.command.Command.TheVariants as command
 use Rattle.jb_tool.specs.Making.{AnswersMake, KeepsOrMakes}
 use Rattle.jb_tool.specs.Outcome.{tool_outcome}
 use Rattle.jb_tool.specs.Recovered.{IsRecoveredTo, KeepsReplay, RefusesReading, is_tool_fault}
-use Rattle.jb_tool.specs.Tending.{Answer, KeepsOrTends, Tends}
+use Rattle.jb_tool.specs.Tending.{ToolAnswer, KeepsOrTends, Tends}
 use Rattle.jb_tool.specs.declared.tool.Tool.{Tool}
 use Rattle.jb_tool.specs.declared.tool.Tool.TheVariants as tool
 
@@ -21,12 +21,12 @@ pub record IsShown (shown : Tool) (text : List ℕ) (files : Files) : Type 0 whe
   pub outcome : (moment : ℕ) → tool_outcome shown moment (Some area) text area
 
 -- a tool that looks: the files are those to which the base replayed, and it prints what they stand for; or they are refused
-abbrev pub LooksAt : Tool → Device → Device → Answer → Type 0
+abbrev pub LooksAt : Tool → Device → Device → ToolAnswer → Type 0
 LooksAt shown before after (Ok text) = ForSome before.contents (λ was. IsRecoveredTo (IsShown shown text) was after)
 LooksAt shown before after (Err error) = RefusesReading before after error
 
 -- what a tool answers at a moment over the disk of the base, before it and after it
-abbrev pub SaysAs : Tool → ℕ → Device → Device → Answer → Type 0
+abbrev pub SaysAs : Tool → ℕ → Device → Device → ToolAnswer → Type 0
 SaysAs tool.List moment before after answer = LooksAt tool.List before after answer
 SaysAs tool.Check moment before after answer = LooksAt tool.Check before after answer
 SaysAs tool.Make moment before after answer = AnswersMake moment before after answer
@@ -34,7 +34,7 @@ SaysAs tool.Relink moment before after answer = Tends command.Relink before afte
 SaysAs tool.Pack moment before after answer = Tends command.Pack before after answer
 
 -- and what it does to the count of faults
-pub record AnswersTool (tool : Tool) (moment : ℕ) (before after : Device) (answer : Answer) : Type 0 where
+pub record AnswersTool (tool : Tool) (moment : ℕ) (before after : Device) (answer : ToolAnswer) : Type 0 where
   pub says : SaysAs tool moment before after answer
   pub faults : CountsFaults is_tool_fault before after answer
 

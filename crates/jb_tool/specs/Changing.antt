@@ -18,7 +18,7 @@ use Rattle.jb_model.specs.declared.reply.Reply.TheVariants as reply
 use Rattle.jb_area_open.specs.declared.error.OpeningError.{OpeningError}
 use Rattle.jb_area_open.specs.declared.error.OpeningError.TheVariants as opening
 use Rattle.jb_tool.specs.Recovered.{is_tool_fault}
-use Rattle.jb_tool.specs.Tending.{Answer, OpensForEither, answer_to, tool_answer}
+use Rattle.jb_tool.specs.Tending.{ToolAnswer, OpensForEither, tool_answered, tool_answer}
 use Rattle.jb_tool.specs.declared.error.ToolError.{ToolError}
 use Rattle.jb_tool.specs.declared.error.ToolError.TheVariants.{BadJournal, Open, TextFull}
 
@@ -39,11 +39,11 @@ HasNoLine said error = (error ≡ Open refused.OutOfMemory) ⊎ ((length : ℕ) 
 -- of a disk that shows itself so
 module _ {D : Type 0} (shown : D → Device) where
   -- this of the area at rest, where the disk tells what it holds
-  abbrev pub WhereTold : OpenArea D → (AreaState → Type 0) → Type 0
-  WhereTold area claim = ForSome (shown area.disk).contents (λ files. (texts : List ℕ) → IsResting shown area texts → claim (state_of texts area.held))
+  abbrev pub WhereAreaTold : OpenArea D → (AreaState → Type 0) → Type 0
+  WhereAreaTold area claim = ForSome (shown area.disk).contents (λ files. (texts : List ℕ) → IsResting shown area texts → claim (state_of texts area.held))
 
   -- nothing was written but copies of texts, of a pack, and all is synced as it was
-  pub record IsLeft (command : Command) (old new : OpenArea D) : Type 0 where
+  pub record LeavesSynced (command : Command) (old new : OpenArea D) : Type 0 where
     pub reads : OnlyReadsOrCopies command (shown old.disk) (shown new.disk)
     pub synced : (texts : List ℕ) → IsResting shown old texts → IsAllSynced (shown new.disk)
 
@@ -51,15 +51,15 @@ module _ {D : Type 0} (shown : D → Device) where
   abbrev pub IsStoppedBy : Command → OpenArea D → OpenArea D → ToolError → Type 0
   IsStoppedBy command old new error =
       (error ≡ Open refused.StoreFault)
-      ⊎ (((error ≡ Open refused.OutOfMemory) × IsLeft command old new)
+      ⊎ (((error ≡ Open refused.OutOfMemory) × LeavesSynced command old new)
       ⊎ ((length : ℕ) × (error ≡ TextFull length) × OnlyReads (shown old.disk) (shown new.disk)
-      × WhereTold old (λ area. tool_answer (answer_to command area).reply ≡ Err (TextFull length))))
+      × WhereAreaTold old (λ area. tool_answer (tool_answered command area).reply ≡ Err (TextFull length))))
 
   -- the command was done, and this is its line; or it was not
-  pub record DoesCommand (command : Command) (old new : OpenArea D) (result : Answer) : Type 0 where
-    pub answered : IfOk result (λ text. WhereTold old (λ area. tool_answer (answer_to command area).reply ≡ Ok text))
-    pub now : OnOk result (WhereTold old (λ area. ForSome (shown new.disk).contents (λ files. StandsFor MOST_SLOTS files (answer_to command area).state)))
+  pub record DoesCommand (command : Command) (old new : OpenArea D) (result : ToolAnswer) : Type 0 where
+    pub answered : IfOk result (λ text. WhereAreaTold old (λ area. tool_answer (tool_answered command area).reply ≡ Ok text))
+    pub now : OnOk result (WhereAreaTold old (λ area. ForSome (shown new.disk).contents (λ files. StandsFor MOST_SLOTS files (tool_answered command area).state)))
     pub synced : OnOk result (IsAllSynced (shown new.disk))
     pub failed : IfErr result (IsStoppedBy command old new)
-    pub crash : WhereTold old (λ area. LeavesOnly (shown old.disk) (shown new.disk) (OpensForEither command area))
+    pub crash : WhereAreaTold old (λ area. LeavesOnly (shown old.disk) (shown new.disk) (OpensForEither command area))
     pub faults : CountsFaults is_tool_fault (shown old.disk) (shown new.disk) result

@@ -11,7 +11,7 @@ use Rattle.jb_disk.specs.Device.{CountsFaults, Device, TellsAlike}
 use Rattle.jb_disk.specs.Runs.{IsAllSynced}
 use Rattle.jb_image.specs.Stands.{StandsFor}
 use Rattle.jb_state.specs.State.{AreaState, state_of}
-use Rattle.jb_tool.specs.LoadSummary.{summary_of}
+use Rattle.jb_tool.specs.LoadSummary.{run_summary}
 use Rattle.jb_tool.specs.Workload.{LoadRun, load_rules, load_run}
 use Rattle.jb_tool.specs.declared.counts.Counts.{Counts}
 
@@ -32,28 +32,28 @@ module _ {D : Type 0} (shown : D → Device) where
     pub is : state_of texts area.held ≡ state
 
   -- the area rests where this run has come, and so many answers were counted
-  pub record IsAt (area : OpenArea D) (counts : Counts) (run : LoadRun) : Type 0 where
+  pub record IsRunAt (area : OpenArea D) (counts : Counts) (run : LoadRun) : Type 0 where
     pub rests : RestsAs area run.area
     pub posts : counts.posts ≡ run.posts
     pub reads : counts.reads ≡ run.reads
     pub kills : counts.kills ≡ run.kills
 
   -- the area is at rest, under the rules of the workload
-  pub record IsReady (area : OpenArea D) : Type 0 where
+  pub record IsLoadReady (area : OpenArea D) : Type 0 where
     pub rest : HasRest shown area
     pub rules : area.rules ≡ load_rules
 
   -- commands were done, which take a run so far; or the disk failed, or there was no memory
   pub record Goes (most : ℕ) (old new : OpenArea D) (was now : Counts) (further : LoadRun → LoadRun) (result : Result (Unit {0}) AreaError) : Type 0 where
-    pub ready : OnOk result (IsReady new)
-    pub done : OnOk result (IsSome (shown old.disk).contents → (run : LoadRun) → IsAt old was run → IsAt new now (further run))
+    pub ready : OnOk result (IsLoadReady new)
+    pub done : OnOk result (IsSome (shown old.disk).contents → (run : LoadRun) → IsRunAt old was run → IsRunAt new now (further run))
     pub few : answers_in now ≤ answers_in was + most
     pub faults : CountsFaults is_area_fault (shown old.disk) (shown new.disk) result
     pub alike : TellsAlike (shown old.disk) (shown new.disk)
 
   -- the text is the summary of the whole run, and the area rests at its end
   pub record IsFilled (seed count : ℕ) (text : List ℕ) (area : OpenArea D) : Type 0 where
-    pub text_is : text ≡ summary_of (load_run seed count)
+    pub text_is : text ≡ run_summary (load_run seed count)
     pub rests : RestsAs area (load_run seed count).area
     pub rules : area.rules ≡ load_rules
 
@@ -64,6 +64,6 @@ module _ {D : Type 0} (shown : D → Device) where
 
 -- the text is the summary of the whole run, and the files, synced, stand for its last area
 pub record IsLoaded (seed count : ℕ) (text : List ℕ) (after : Device) : Type 0 where
-  pub text_is : text ≡ summary_of (load_run seed count)
+  pub text_is : text ≡ run_summary (load_run seed count)
   pub stands : ForSome after.contents (λ files. StandsFor MOST_SLOTS files (load_run seed count).area)
   pub synced : IsAllSynced after

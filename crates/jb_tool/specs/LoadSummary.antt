@@ -14,14 +14,14 @@ is_seen rules user killed_message = false
 is_seen rules user (live_message message) = is_shown rules user message
 
 -- a live message that has a parent
-abbrev pub is_answer : SlotState → Bool
-is_answer no_message = false
-is_answer killed_message = false
-is_answer (live_message message) = not (message.head.reply_to == 0)
+abbrev pub has_parent : SlotState → Bool
+has_parent no_message = false
+has_parent killed_message = false
+has_parent (live_message message) = not (message.head.reply_to == 0)
 
 -- so many live messages that have a parent
 abbrev pub answer_count : List SlotState → ℕ
-answer_count slots = count_by is_answer slots
+answer_count slots = count_by has_parent slots
 
 -- so many messages that the user has not read
 abbrev pub unread_count : AreaState → ℕ
@@ -52,5 +52,5 @@ file_lines area =
     ++ figure_line (codes "JDX") (8 * length area.slots)
 
 -- the summary of a run
-abbrev pub summary_of : LoadRun → List ℕ
-summary_of run = done_lines run ++ message_lines run.area ++ file_lines run.area
+abbrev pub run_summary : LoadRun → List ℕ
+run_summary run = done_lines run ++ message_lines run.area ++ file_lines run.area

@@ -4,7 +4,7 @@ use Rattle.std.specs.Option.{ForSome}
 use Rattle.jb_change.specs.NewBase.{AreEmpty, AreNew, new_area}
 use Rattle.jb_disk.specs.RedoView.{RedoView, HasRoom}
 use Rattle.jb_disk.specs.Device.{Device}
-use Rattle.jb_disk.specs.Files.{Files, number_of}
+use Rattle.jb_disk.specs.Files.{Files, file_number}
 use Rattle.jb_disk.specs.Gate.{IsGateOpen}
 use Rattle.jb_disk.specs.declared.file.FileId.{FileId}
 use Rattle.jb_disk.specs.Runs.{LeavesNow, LeavesOnly}
@@ -17,7 +17,7 @@ use Rattle.jb_redo.specs.Reading.{HasRecord}
 use Rattle.jb_redo.specs.Replay.{Replays}
 use Rattle.jb_tool.specs.Outcome.{tool_outcome}
 use Rattle.jb_tool.specs.Recovered.{IsRecoveredTo}
-use Rattle.jb_tool.specs.Tending.{Answer}
+use Rattle.jb_tool.specs.Tending.{ToolAnswer}
 use Rattle.jb_tool.specs.declared.error.ToolError.{ToolError}
 use Rattle.jb_tool.specs.declared.error.ToolError.TheVariants.{BadJournal, Open, AlreadyThere, TextFull}
 use Rattle.jb_tool.specs.declared.tool.Tool.TheVariants as tool
@@ -25,7 +25,7 @@ use Rattle.jb_tool.specs.declared.tool.Tool.TheVariants as tool
 -- one of the four files of a base is not empty
 pub record HoldSomething (files : Files) : Type 0 where
   pub file : FileId
-  pub of_base : number_of file < 4
+  pub of_base : file_number file < 4
   pub some : files file ≢ []
 
 -- what the files replay to has this property
@@ -61,7 +61,7 @@ RefusesMaking before after (Open error) = IsNotMade before after error
 RefusesMaking before after (TextFull length) = ⊥
 
 -- the answer of `make`
-abbrev pub AnswersMake : ℕ → Device → Device → Answer → Type 0
+abbrev pub AnswersMake : ℕ → Device → Device → ToolAnswer → Type 0
 AnswersMake moment before after (Ok text) = ForSome before.contents (λ was. IsMade moment text was after)
 AnswersMake moment before after (Err error) = RefusesMaking before after error
 

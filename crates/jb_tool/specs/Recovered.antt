@@ -31,9 +31,9 @@ pub record IsRecoveredTo (property : Files → Type 0) (was : Files) (after : De
   pub now : ForSome after.contents property
 
 -- a refusal of recovery, as one of a tool
-abbrev pub of_journal : JournalError → ToolError
-of_journal (BadRecord at) = BadJournal at
-of_journal JournalFault = Open StoreFault
+abbrev pub tool_of_journal : JournalError → ToolError
+tool_of_journal (BadRecord at) = BadJournal at
+tool_of_journal JournalFault = Open StoreFault
 
 -- which refusals are faults of the disk
 abbrev pub is_tool_fault : ToolError → Bool

@@ -29,8 +29,8 @@ use Rattle.jb_tool.specs.declared.error.ToolError.{ToolError}
 use Rattle.jb_tool.specs.declared.error.ToolError.TheVariants.{BadJournal, Open, AlreadyThere, TextFull}
 
 -- what a tool answers: the text to print, or why it is refused
-abbrev pub Answer : Type 0
-Answer = Result (List ℕ) ToolError
+abbrev pub ToolAnswer : Type 0
+ToolAnswer = Result (List ℕ) ToolError
 
 -- the user as whom a tool tends an area
 abbrev pub tool_user : User
@@ -41,18 +41,18 @@ abbrev pub tool_rules : AreaRules
 tool_rules = record { ordinal = 1; address = codes "1:1/1"; kind = Local; read = 0; post = 0; sysop = 255; slots = MOST_SLOTS }
 
 -- what that user's command is answered, and the area then; no command of a tool looks at the moment
-abbrev pub answer_to : Command → AreaState → Answered
-answer_to command area = step tool_rules area tool_user 0 command
+abbrev pub tool_answered : Command → AreaState → Answered
+tool_answered command area = step tool_rules area tool_user 0 command
 
 -- a reply, as what the tool answers: its line, or that the texts are too long
-abbrev pub tool_answer : Reply → Answer
+abbrev pub tool_answer : Reply → ToolAnswer
 tool_answer (reply.TextFull length) = Err (TextFull length)
 tool_answer answered = Ok (reply_text answered ++ 10 ∷ [])
 
 -- what the tool of a command answers of an area, and the area that it leaves: after a refusal the one that was there
-abbrev pub tended : Command → AreaState → Answer → AreaState → Type 0
-tended command area (Ok text) after = (tool_answer (answer_to command area).reply ≡ Ok text) × (after ≡ (answer_to command area).state)
-tended command area (Err error) after = (tool_answer (answer_to command area).reply ≡ Err error) × (after ≡ area)
+abbrev pub tended : Command → AreaState → ToolAnswer → AreaState → Type 0
+tended command area (Ok text) after = (tool_answer (tool_answered command area).reply ≡ Ok text) × (after ≡ (tool_answered command area).state)
+tended command area (Err error) after = (tool_answer (tool_answered command area).reply ≡ Err error) × (after ≡ area)
 
 -- what the files replay to stands for this area
 pub record OpensFor (area : AreaState) (files : Files) : Type 0 where
@@ -62,7 +62,7 @@ pub record OpensFor (area : AreaState) (files : Files) : Type 0 where
 
 -- files that open to this area, or to the one that the command makes of it
 abbrev pub OpensForEither : Command → AreaState → Files → Type 0
-OpensForEither command area files = OpensFor area files ⊎ OpensFor (answer_to command area).state files
+OpensForEither command area files = OpensFor area files ⊎ OpensFor (tool_answered command area).state files
 
 -- the disk as the opening left it: recovered, with files that stand for this area; from then on a crash at any moment leaves files that open to it, or to the one that the command makes of it
 pub record IsOpenedTo (command : Command) (area : AreaState) (was : Files) (opening after : Device) : Type 0 where
@@ -71,7 +71,7 @@ pub record IsOpenedTo (command : Command) (area : AreaState) (was : Files) (open
   pub since : LeavesOnly opening after (OpensForEither command area)
 
 -- the command was answered: of the area for which the files stood once they were opened, to which the base opened at the start where the record behind an open gate writes each byte past an old end; and the files, synced, stand for the area that it leaves
-pub record IsTended (command : Command) (answer : Answer) (was : Files) (after : Device) : Type 0 where
+pub record IsTended (command : Command) (answer : ToolAnswer) (was : Files) (after : Device) : Type 0 where
   pub old : AreaState
   pub new : AreaState
   pub outcome : tended command old answer new
@@ -96,7 +96,7 @@ IsNotTended command before after error =
     ⊎ (Refuses MOST_SLOTS before after (Base error) ⊎ ((error ≡ no_memory) × ForSome before.contents (λ was. IsLeftRecovered command was after)))
 
 -- a tool that has this command done
-abbrev pub Tends : Command → Device → Device → Answer → Type 0
+abbrev pub Tends : Command → Device → Device → ToolAnswer → Type 0
 Tends command before after (Ok text) = ForSome before.contents (λ was. IsTended command (Ok text) was after)
 Tends command before after (Err (TextFull length)) = ForSome before.contents (λ was. IsTended command (Err (TextFull length)) was after)
 Tends command before after (Err (BadJournal at)) = Refuses MOST_SLOTS before after (bad_journal at)
@@ -107,7 +107,7 @@ Tends command before after (Err AlreadyThere) = ⊥
 pub record IsOldOrNew (command : Command) (was files : Files) : Type 0 where
   pub old : AreaState
   pub before : OpensFor old was
-  pub now : OpensFor old files ⊎ OpensFor (answer_to command old).state files
+  pub now : OpensFor old files ⊎ OpensFor (tool_answered command old).state files
 
 -- a crash at any moment leaves files that open to just what some open to that it might have left at the start, or to one of these two areas
 abbrev pub KeepsOrTends : Command → Device → Device → Type 0

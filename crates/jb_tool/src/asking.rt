@@ -1,7 +1,7 @@
 //! Commands of the user, each done and counted.
 ghost use Rattle.std.specs.Prelude.{◌≡◌, ◌+◌, ◌-◌, ◌<◌, ◌≤◌, ◌%◌, ◌^◌, length};
 ghost use Rattle.jb_area.specs.Area.{loaded_of};
-ghost use Rattle.jb_tool.specs.LoadRuns.{Goes, IsReady, answers_in};
+ghost use Rattle.jb_tool.specs.LoadRuns.{Goes, IsLoadReady, answers_in};
 ghost use Rattle.jb_tool.specs.Workload.{asked, in_step, loader, marked, post_of_step, tenth};
 ghost use Rattle.jb_state.specs.State.{next_number};
 ghost use Rattle.jb_model.specs.declared.command.Command.TheVariants.{Pack as Packing};
@@ -16,7 +16,7 @@ use std::alloc::Global;
 
 /// The number that the next message gets.
 fn next_number<D: Disk>(area: &OpenArea<D>) -> u32
-    requires { IsReady D.device area.now }
+    requires { IsLoadReady D.device area.now }
     ensures next { result ≡ (loaded_of area.now).base + length (loaded_of area.now).slots }
     ensures low { 1 ≤ result }
 {
@@ -33,7 +33,7 @@ fn ask<D: Disk>(
     moment: u32,
     command: &Command,
 ) -> Result<(), AreaError>
-    requires ready { IsReady D.device area.old }
+    requires ready { IsLoadReady D.device area.old }
     requires few { answers_in counts.old < 2 ^ 32 - 1 }
     requires user { user.now ≡ loader }
     ensures { Goes D.device 1 area.old area.new counts.old counts.new (asked moment command.now) result }
@@ -56,7 +56,7 @@ fn ask_post<D: Disk>(
     seed: u32,
     step: u32,
 ) -> Result<(), AreaError>
-    requires ready { IsReady D.device area.old }
+    requires ready { IsLoadReady D.device area.old }
     requires few { answers_in counts.old < 2 ^ 32 - 1 }
     requires user { user.now ≡ loader }
     ensures { Goes D.device 1 area.old area.new counts.old counts.new
@@ -75,7 +75,7 @@ fn ask_tenth<D: Disk>(
     seed: u32,
     step: u32,
 ) -> Result<(), AreaError>
-    requires ready { IsReady D.device area.old }
+    requires ready { IsLoadReady D.device area.old }
     requires few { answers_in counts.old < 2 ^ 32 - 2 }
     requires user { user.now ≡ loader }
     requires tenth { step % 10 ≡ 0 }
@@ -98,7 +98,7 @@ pub(crate) fn ask_step<D: Disk>(
     seed: u32,
     step: u32,
 ) -> Result<(), AreaError>
-    requires ready { IsReady D.device area.old }
+    requires ready { IsLoadReady D.device area.old }
     requires few { answers_in counts.old < 2 ^ 32 - 2 }
     requires user { user.now ≡ loader }
     requires behind { 1 ≤ step }
@@ -120,7 +120,7 @@ pub(crate) fn ask_pack<D: Disk>(
     user: &User,
     moment: u32,
 ) -> Result<(), AreaError>
-    requires ready { IsReady D.device area.old }
+    requires ready { IsLoadReady D.device area.old }
     requires few { answers_in counts.old < 2 ^ 32 - 1 }
     requires user { user.now ≡ loader }
     ensures { Goes D.device 1 area.old area.new counts.old counts.new (asked moment Packing) result }
@@ -136,7 +136,7 @@ pub(crate) fn ask_mark<D: Disk>(
     user: &User,
     moment: u32,
 ) -> Result<(), AreaError>
-    requires ready { IsReady D.device area.old }
+    requires ready { IsLoadReady D.device area.old }
     requires few { answers_in counts.old < 2 ^ 32 - 1 }
     requires user { user.now ≡ loader }
     ensures { Goes D.device 1 area.old area.new counts.old counts.new (marked moment) result }

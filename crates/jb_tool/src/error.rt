@@ -2,7 +2,7 @@
 ghost use Rattle.std.specs.Prelude.{◌≡◌};
 ghost use Rattle.jb_image.specs.declared.error.OpenError.TheVariants.{OutOfMemory as no_memory, StoreFault as store_fault};
 ghost use Rattle.jb_tool.specs.Changing.{of_opening};
-ghost use Rattle.jb_tool.specs.Recovered.{of_journal};
+ghost use Rattle.jb_tool.specs.Recovered.{tool_of_journal};
 ghost use Rattle.jb_tool.specs.declared.error.ToolError.TheVariants.{Open};
 
 use jb_area_open::OpeningError;
@@ -27,7 +27,7 @@ pub enum ToolError {
 }
 
 impl From<JournalError> for ToolError {
-    ghost from_gives = { λ error refusal. refusal ≡ of_journal error };
+    ghost from_gives = { λ error refusal. refusal ≡ tool_of_journal error };
 
     fn from(error: JournalError) -> ToolError {
         match error {

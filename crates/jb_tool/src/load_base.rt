@@ -9,7 +9,7 @@ ghost use Rattle.jb_disk.specs.Files.{with_file};
 ghost use Rattle.jb_disk.specs.Runs.{IsAllSynced};
 ghost use Rattle.jb_disk.specs.declared.file.FileId.TheVariants.{Jhr};
 ghost use Rattle.jb_tool.specs.LoadBase.{HaveNoByte, IsEmptyBase, empty_header};
-ghost use Rattle.jb_tool.specs.LoadRuns.{IsReady, RestsAs, device_then};
+ghost use Rattle.jb_tool.specs.LoadRuns.{IsLoadReady, RestsAs, device_then};
 ghost use Rattle.jb_tool.specs.Workload.{empty_area};
 ghost use Rattle.jb_record.specs.Fixed.{fixed_header_bytes};
 
@@ -69,7 +69,7 @@ fn open<D: Disk>(alloc: Global, disk: D, loaded: Loaded) -> Result<OpenArea<D>, 
     requires loaded { loaded ≡ new_loaded 0 }
     requires made { ForSome (D.device disk).contents IsEmptyBase }
     requires synced { IsAllSynced (D.device disk) }
-    ensures ready { IfOk result (IsReady D.device) }
+    ensures ready { IfOk result (IsLoadReady D.device) }
     ensures empty { IfOk result (λ area. RestsAs D.device area empty_area) }
     ensures kept { device_then D.device result ≡ D.device disk }
     ensures err { IfErr result (λ back. back.1 ≡ no_memory) }
@@ -86,7 +86,7 @@ fn open<D: Disk>(alloc: Global, disk: D, loaded: Loaded) -> Result<OpenArea<D>, 
 /// Makes an empty base on a disk with empty files, and opens its area.
 pub(crate) fn make_area<D: Disk>(alloc: Global, disk: D) -> Result<OpenArea<D>, (D, AreaError)>
     requires empty { ForSome (D.device disk).contents HaveNoByte }
-    ensures ready { IfOk result (IsReady D.device) }
+    ensures ready { IfOk result (IsLoadReady D.device) }
     ensures empty { IfOk result (λ area. RestsAs D.device area empty_area) }
     ensures faults { CountsFaults (λ back.
         is_area_fault back.1) (D.device disk) (device_then D.device result) result }

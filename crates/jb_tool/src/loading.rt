@@ -5,8 +5,8 @@ ghost use Rattle.jb_area.specs.Area.{device_of};
 ghost use Rattle.jb_decide.specs.Errors.{is_area_fault};
 ghost use Rattle.jb_disk.specs.Device.{CountsFaults};
 ghost use Rattle.jb_tool.specs.LoadBase.{HaveNoByte};
-ghost use Rattle.jb_tool.specs.LoadRuns.{IsFilled, IsLoaded, IsReady, RestsAs};
-ghost use Rattle.jb_tool.specs.LoadSummary.{summary_of};
+ghost use Rattle.jb_tool.specs.LoadRuns.{IsFilled, IsLoaded, IsLoadReady, RestsAs};
+ghost use Rattle.jb_tool.specs.LoadSummary.{run_summary};
 ghost use Rattle.jb_tool.specs.Workload.{empty_area, load_run};
 
 use crate::counts::Counts;
@@ -29,7 +29,7 @@ fn fill<D: Disk>(
     seed: u32,
     count: u32,
 ) -> Result<Bytes, AreaError>
-    requires ready { IsReady D.device area.old }
+    requires ready { IsLoadReady D.device area.old }
     requires count { count ≤ 50_000 }
     ensures filled { IfOk result (λ text. IsSome (device_of D.device area.old).contents
         → RestsAs D.device area.old empty_area
@@ -67,7 +67,7 @@ pub fn load<D: Disk>(alloc: Global, disk: D, seed: u32, count: u32) -> (D, Resul
 /// answered as that.
 pub fn load_in_memory(alloc: Global, seed: u32, count: u32) -> Result<Bytes, OutOfMemory>
     requires count { count ≤ 50_000 }
-    ensures { IfOk result (λ text. text ≡ summary_of (load_run seed count)) }
+    ensures { IfOk result (λ text. text ≡ run_summary (load_run seed count)) }
 {
     let disk = SteadyDisk::new(alloc, ROOM)?;
     let (_, answer) = load(alloc, disk, seed, count);

@@ -1,6 +1,6 @@
 //! The steps, one after another.
 ghost use Rattle.std.specs.Prelude.{◌≡◌, ◌+◌, ◌-◌, ◌<◌, ◌≤◌, ◌^◌};
-ghost use Rattle.jb_tool.specs.LoadRuns.{Goes, IsReady, answers_in};
+ghost use Rattle.jb_tool.specs.LoadRuns.{Goes, IsLoadReady, answers_in};
 ghost use Rattle.jb_tool.specs.Workload.{behind_step, in_step, loader, run_to, whole_run};
 
 use crate::asking::{ask_mark, ask_pack, ask_step};
@@ -19,7 +19,7 @@ fn run_behind<D: Disk>(
     count: u32,
     step: u32,
 ) -> Result<(), AreaError>
-    requires ready { IsReady D.device area.old }
+    requires ready { IsLoadReady D.device area.old }
     requires few { answers_in counts.old < 2 ^ 32 - 2 }
     requires user { user.now ≡ loader }
     ensures { Goes D.device 2 area.old area.new counts.old counts.new (behind_step count step) result }
@@ -41,7 +41,7 @@ fn run_step<D: Disk>(
     count: u32,
     step: u32,
 ) -> Result<(), AreaError>
-    requires ready { IsReady D.device area.old }
+    requires ready { IsLoadReady D.device area.old }
     requires few { answers_in counts.old < 2 ^ 32 - 4 }
     requires user { user.now ≡ loader }
     requires behind { 1 ≤ step }
@@ -62,7 +62,7 @@ fn run_steps<D: Disk>(
     seed: u32,
     count: u32,
 ) -> Result<(), AreaError>
-    requires ready { IsReady D.device area.old }
+    requires ready { IsLoadReady D.device area.old }
     requires none { answers_in counts.old ≡ 0 }
     requires user { user.now ≡ loader }
     requires low { count ≤ 50_000 }
@@ -84,7 +84,7 @@ pub(crate) fn run_all<D: Disk>(
     seed: u32,
     count: u32,
 ) -> Result<(), AreaError>
-    requires ready { IsReady D.device area.old }
+    requires ready { IsLoadReady D.device area.old }
     requires none { answers_in counts.old ≡ 0 }
     requires user { user.now ≡ loader }
     requires low { count ≤ 50_000 }

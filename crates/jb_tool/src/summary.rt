@@ -2,7 +2,7 @@
 ghost use Rattle.std.specs.Prelude.{◌≡◌, ◌++◌, ℕ, List, IfOk, OnOk, map};
 ghost use Rattle.jb_limits.specs.declared.limits.TheConstants.{MOST_SLOTS};
 ghost use Rattle.jb_tool.specs.LoadRuns.{run_at};
-ghost use Rattle.jb_tool.specs.LoadSummary.{done_lines, figure_line, file_lines, slot_lines, summary_of};
+ghost use Rattle.jb_tool.specs.LoadSummary.{done_lines, figure_line, file_lines, slot_lines, run_summary};
 ghost use Rattle.jb_tool.specs.Workload.{load_rules, loader};
 ghost use Rattle.jb_state.specs.Sound.{IsSound};
 ghost use Rattle.jb_state.specs.State.{AreaState, slot_state, state_of};
@@ -74,7 +74,7 @@ pub(crate) fn summary(
     requires rules { rules.now ≡ load_rules }
     requires user { user.now ≡ loader }
     ensures { IfOk result (λ text. (texts : List ℕ)
-        → text ≡ summary_of (run_at (state_of texts loaded.now) counts.now)) }
+        → text ≡ run_summary (run_at (state_of texts loaded.now) counts.now)) }
 {
     let unread = count_unread(alloc, loaded, rules, user)?;
     let mut text = Bytes::new(alloc);

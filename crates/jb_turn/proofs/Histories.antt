@@ -7,10 +7,10 @@ use lib.ListN.{get_elem?}
 use Rattle.atomic_table.proofs.Lists.{set_here, set_else, at_longer}
 use Rattle.jb_turn.specs.declared.view.Row.{Row}
 use Rattle.jb_turn.specs.declared.view.View.{View}
-use Rattle.jb_turn.specs.declared.view.Stage.{Stage}
-use Rattle.jb_turn.specs.declared.view.Stage.TheVariants.{Idle, Waits, Came}
+use Rattle.jb_turn.specs.declared.view.TicketStage.{TicketStage}
+use Rattle.jb_turn.specs.declared.view.TicketStage.TheVariants.{Idle, Waits, Came}
 use Rattle.jb_turn.specs.Rows.{Begins, Has, calls, is_at, when}
-use Rattle.jb_turn.specs.Rule.{weight, waiting, HasTicket, IsDrawn, IsLongest, IsOut}
+use Rattle.jb_turn.specs.Rule.{weight, waiting, HasTicket, IsDrawn, IsLongest, IsStateOut}
 
 abbrev pick : {P : Type 0} → Dec P → ℕ → ℕ → ℕ
 pick (yes _) a b = a
@@ -129,7 +129,7 @@ module _ {E : Type 0} (caller : E → Option ℕ) where
   calls_none n xs log b none = no_more (calls caller n xs) (calls caller n b.0) (sym (calls_append n xs b.0) ∙ (ap (calls caller n) (sym b.1) ∙ none))
 
 -- a seat has at most one ticket
-pub weight_most : (s : Stage) → weight s ≤ 1
+pub weight_most : (s : TicketStage) → weight s ≤ 1
 weight_most Idle = omega arith
 weight_most (Waits t) = omega arith
 weight_most (Came t) = omega arith
@@ -165,10 +165,10 @@ module _ {O E Q : Type 0} where
       go (no n) = (j, u, r, set_else views id j w n ∙ there, has, is)
 
   -- a view that stays as it is served keeps the state out
-  pub out_set : (serving : ℕ) (views : List (View O E Q)) (id : ℕ) (v w : View O E Q) → get_elem? views id ≡ some v → (v.stage ≡ Came serving → w.stage ≡ Came serving) → IsOut serving views → IsOut serving (set views id w)
+  pub out_set : (serving : ℕ) (views : List (View O E Q)) (id : ℕ) (v w : View O E Q) → get_elem? views id ≡ some v → (v.stage ≡ Came serving → w.stage ≡ Came serving) → IsStateOut serving views → IsStateOut serving (set views id w)
   out_set serving views id v w at keeps (j, u, there, is) = go (ℕ_discrete j id)
     where
-      go : Dec (j ≡ id) → IsOut serving (set views id w)
+      go : Dec (j ≡ id) → IsStateOut serving (set views id w)
       go (yes e) = (id, w, set_here views id w (at_less views id v at), keeps (ap (λ (z : View O E Q). z.stage) (same_at views id j v u at there e) ∙ is))
       go (no n) = (j, u, set_else views id j w n ∙ there, is)
 

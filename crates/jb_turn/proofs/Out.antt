@@ -4,11 +4,11 @@ use Rattle.std.specs.Prelude.{IsSome}
 use mathlib.Core.Option.{none}
 use Rattle.atomic_table.specs.Table.{Me, step, Allows, rest}
 use Rattle.jb_turn.specs.declared.view.View.{View}
-use Rattle.jb_turn.specs.declared.view.Stage.{Stage}
-use Rattle.jb_turn.specs.declared.view.Stage.TheVariants.{Came}
+use Rattle.jb_turn.specs.declared.view.TicketStage.{TicketStage}
+use Rattle.jb_turn.specs.declared.view.TicketStage.TheVariants.{Came}
 use Rattle.jb_turn.specs.Rows.{view_of, head_row, StandsFrom}
 use Rattle.jb_turn.specs.Rule.{TurnRule}
-use Rattle.jb_turn.specs.Steps.{ticket, seen, Arrives, Gives, Counts}
+use Rattle.jb_turn.specs.Steps.{ticket, sighted, Arrives, Gives, Counts}
 use Rattle.jb_turn.proofs.TurnKeeps.{counts, gives_back}
 
 module _ (S O E Q : Type 0) (stands : S → O → List E → Type 0) (caller : E → Option ℕ) where
@@ -34,7 +34,7 @@ module _ (S O E Q : Type 0) (stands : S → O → List E → Type 0) (caller : E
   -- after the exchange and the look at the count the seat holds the turn
   pub holds_out : (t : ℕ) (me m m' m2 : Knows) → Arrives stands caller t me m → m' ≡ emptied m → m2 ≡ m' → (m2.0.stage ≡ Came (ticket m2.0.stage)) × (m2.1 ≡ (0, None) ∷ [])
   holds_out t me m m' m2 (log, x, is, more, more2, more3) now then_ = let e : m2 ≡ emptied m = then_ ∙ now in let came : m2.0.stage ≡ Came t = ap (λ (z : Knows). z.0.stage) e ∙ ap (λ (z : Knows). z.0.stage) is in
-      (came ∙ ap (λ (u : ℕ). let c : Stage = Came u in c) (sym (ap ticket came)), ap (λ (z : Knows). z.1) e ∙ ap (λ (z : Knows). (0, None) ∷ rest z.1) is)
+      (came ∙ ap (λ (u : ℕ). let c : TicketStage = Came u in c) (sym (ap ticket came)), ap (λ (z : Knows). z.1) e ∙ ap (λ (z : Knows). (0, None) ∷ rest z.1) is)
 
 module _ (S O E Q : Type 0) (stands : S → O → List E → Type 0) (caller : E → Option ℕ) (first : O) where
   abbrev IsOne : View O E Q → Type 0
@@ -42,7 +42,7 @@ module _ (S O E Q : Type 0) (stands : S → O → List E → Type 0) (caller : E
 
   -- the look at the count may be made after the exchange
   pub counts_out : (seats slots id t : ℕ) (me m m' : Me (Option S) (View O E Q)) → Arrives stands caller t me m → m' ≡ emptied S O E Q stands caller m → Allows (TurnRule stands caller first seats) slots id m' 2 (λ n. n) (Counts (step slots 2 0 0 none) m')
-  counts_out seats slots id t me m m' (log, x, is, more, more2, more3) now = let view : m'.0 ≡ view_of (Came t) (seen (head_row me.0.rows) log ∷ []) me.0.made = ap (λ (z : Me (Option S) (View O E Q)). z.0) now ∙ ap (λ (z : Me (Option S) (View O E Q)). z.0) is in
+  counts_out seats slots id t me m m' (log, x, is, more, more2, more3) now = let view : m'.0 ≡ view_of (Came t) (sighted (head_row me.0.rows) log ∷ []) me.0.made = ap (λ (z : Me (Option S) (View O E Q)). z.0) now ∙ ap (λ (z : Me (Option S) (View O E Q)). z.0) is in
       counts S O E Q stands caller first seats slots id m' (subst IsOne (sym view) refl) t (ap (λ (z : View O E Q). z.stage) view)
 
   -- the turn may be given after the exchange that puts the state back

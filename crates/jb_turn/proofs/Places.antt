@@ -7,7 +7,7 @@ use Rattle.std.proofs.lemmas.List.{reverse-append}
 use Rattle.atomic_table.proofs.Lists.{at_map}
 use Rattle.atomic_table.specs.declared.shared.Seat.{Seat}
 use Rattle.jb_turn.specs.declared.view.View.{View}
-use Rattle.jb_turn.specs.declared.view.Stage.TheVariants.{Idle}
+use Rattle.jb_turn.specs.declared.view.TicketStage.TheVariants.{Idle}
 use Rattle.jb_turn.specs.Rows.{Has, row, view_of, head_row}
 use Rattle.jb_turn.proofs.Histories.{has_left, has_right, has_either, none_has}
 

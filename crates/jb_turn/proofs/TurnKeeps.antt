@@ -10,12 +10,12 @@ use Rattle.atomic_table.specs.Table.{State, Me, step, Act, keeps, takes, gives, 
 use Rattle.atomic_table.proofs.Lists.{at_set, set_here, set_else, set_again, at_longer, one_turn}
 use Rattle.jb_turn.specs.declared.view.Row.{Row}
 use Rattle.jb_turn.specs.declared.view.View.{View}
-use Rattle.jb_turn.specs.declared.view.Stage.{Stage}
-use Rattle.jb_turn.specs.declared.view.Stage.TheVariants.{Idle, Waits, Came}
+use Rattle.jb_turn.specs.declared.view.TicketStage.{TicketStage}
+use Rattle.jb_turn.specs.declared.view.TicketStage.TheVariants.{Idle, Waits, Came}
 use Rattle.jb_turn.specs.Rows.{Has, calls, is_at, when, row, view_of, head_row, IsOwn, StandsFrom}
-use Rattle.jb_turn.specs.Rule.{Home, IsMade, HasTicket, weight, waiting, IsLongest, IsOut, IsHome, IsRow, IsStage, IsSeat, HasOwn, TurnRule}
-use Rattle.jb_turn.specs.Whole.{HasAll, HasNode, IsWhole}
-use Rattle.jb_turn.specs.Steps.{ticket, seen, noted, given, maker, maker_no_more, newcomer, both, spent, Draws, Arrives, Comes, Notes, Gives, Counts}
+use Rattle.jb_turn.specs.Rule.{Home, AreMade, HasTicket, weight, waiting, IsLongest, IsStateOut, IsHome, IsRow, IsStage, IsSeat, HasOwn, TurnRule}
+use Rattle.jb_turn.specs.Whole.{HasRows, HasRow, IsWhole}
+use Rattle.jb_turn.specs.Steps.{ticket, sighted, noted, given, maker, maker_no_more, newcomer, both, spent, Draws, Arrives, Comes, Notes, Gives, Counts}
 use Rattle.jb_turn.proofs.Places.{has_reverse, has_reversed}
 use Rattle.std.proofs.Common.{reverse}
 use Rattle.jb_turn.proofs.Histories.{put, put_here, put_else, passed, passed_on, passed_not, begins_self, begins_longer, only_has, none_has, at_less, at_end, has_left, has_right, has_either, calls_snoc, calls_other, calls_none, waiting_set, waiting_snoc, waiting_most, same_at, longest_set, out_set, drawn_set, drawn_longer, drawn_next}
@@ -51,21 +51,21 @@ module _ (S O E Q : Type 0) (stands : S → O → List E → Type 0) (caller : E
       (⊎_elim (λ (t : (j ≡ id) × (w ≡ v)). subst (λ (z : ℕ × V). IsSeat caller first log' homes' (length views) serving' next' whose' owner' z.0 z.1) (λ i. (sym t.0 i, t.1 i)) mine)
       (λ (t : (j ≢ id) × (get_elem? views j ≡ some v)). others j v t.0 t.1) (at_set views id j w v e))
 
-  unmade_set : (log : List E) (views : List V) (id : ℕ) (w : V) → ((n : ℕ) → (IsMade (length views) n → ⊥) → calls caller n log ≡ []) → (n : ℕ) → (IsMade (length (set views id w)) n → ⊥) → calls caller n log ≡ []
-  unmade_set log views id w un n h = un n (subst (λ (k : ℕ). IsMade k n → ⊥) (length-set views id w) h)
+  unmade_set : (log : List E) (views : List V) (id : ℕ) (w : V) → ((n : ℕ) → (AreMade (length views) n → ⊥) → calls caller n log ≡ []) → (n : ℕ) → (AreMade (length (set views id w)) n → ⊥) → calls caller n log ≡ []
+  unmade_set log views id w un n h = un n (subst (λ (k : ℕ). AreMade k n → ⊥) (length-set views id w) h)
 
   abbrev IsOne : V → Type 0
   IsOne v = v.rows ≡ head_row v.rows ∷ []
 
-  owns : (owner : ℕ → ℕ) (id : ℕ) (v : V) → IsOne v → HasOwn owner id v → (owner (id + 1) ≡ id) × HasNode v.rows (id + 1)
-  owns owner id v one own = ⊎_elim (λ (h : (owner (id + 1) ≡ id) × HasNode v.rows (id + 1)). h) (λ (h : (v.rows ≡ []) × (v.stage ≡ Idle)). absurd (cc (one, h.0))) own
+  owns : (owner : ℕ → ℕ) (id : ℕ) (v : V) → IsOne v → HasOwn owner id v → (owner (id + 1) ≡ id) × HasRow v.rows (id + 1)
+  owns owner id v one own = ⊎_elim (λ (h : (owner (id + 1) ≡ id) × HasRow v.rows (id + 1)). h) (λ (h : (v.rows ≡ []) × (v.stage ≡ Idle)). absurd (cc (one, h.0))) own
 
   -- a seat with one row still has its node where the row is another of the same node
-  owns_as : (owner : ℕ → ℕ) (id : ℕ) (v : V) → IsOne v → (q : Row O E Q) → q.node ≡ (head_row v.rows).node → HasOwn owner id v → (owner (id + 1) ≡ id) × HasNode (q ∷ []) (id + 1)
+  owns_as : (owner : ℕ → ℕ) (id : ℕ) (v : V) → IsOne v → (q : Row O E Q) → q.node ≡ (head_row v.rows).node → HasOwn owner id v → (owner (id + 1) ≡ id) × HasRow (q ∷ []) (id + 1)
   owns_as owner id v one q same own = let o = owns owner id v one own in let had = o.1 in
       let is : head_row v.rows ≡ had.0 = only_has (head_row v.rows) had.0 (subst (λ (l : List (Row O E Q)). Has l had.0) one had.1) in (o.0, (q, (0, refl), same ∙ ap (λ (r : Row O E Q). r.node) is ∙ had.2))
 
-  draw_else : (log : List E) (homes : Homes) (serving next : ℕ) (whose : ℕ → ℕ) (j id : ℕ) (rows : List (Row O E Q)) (st : Stage) → IsStage log homes serving next whose j rows st
+  draw_else : (log : List E) (homes : Homes) (serving next : ℕ) (whose : ℕ → ℕ) (j id : ℕ) (rows : List (Row O E Q)) (st : TicketStage) → IsStage log homes serving next whose j rows st
       → IsStage log homes serving (next + 1) (put whose next id) j rows st
   draw_else log homes serving next whose j id rows Idle h = tt
   draw_else log homes serving next whose j id rows (Waits t) h = let old : t < next = h.1 in (h.0, omega arith, put_else whose next id t (λ e. omega arith) ∙ h.2)
@@ -107,7 +107,7 @@ module _ (S O E Q : Type 0) (stands : S → O → List E → Type 0) (caller : E
             own = o.own;
             maker = o.maker;
           });
-          state = ⊎_elim (λ (h : IsHome stands first r.log s.homes). inl h) (λ (h : IsOut r.serving s.views). inr (out_set r.serving s.views id me.0 w at (λ e. absurd (cc (idle, e))) h)) r.state;
+          state = ⊎_elim (λ (h : IsHome stands first r.log s.homes). inl h) (λ (h : IsStateOut r.serving s.views). inr (out_set r.serving s.views id me.0 w at (λ e. absurd (cc (idle, e))) h)) r.state;
           longest = longest_set r.log s.views id me.0 w at (λ q h. h) r.longest;
         },
         (r.next, ap (λ (ws : List ℕ). get_or ws 0 0) r.words_are, refl),
@@ -128,7 +128,7 @@ module _ (S O E Q : Type 0) (stands : S → O → List E → Type 0) (caller : E
       let most = waiting_most s.views in let room = r.room in let few = r.few in let line = r.queue in
       one_turn r.serving t 18446744073709551616 a (omega arith) same
 
-  take_else : (log : List E) (homes homes' : Homes) (x : S) (serving next : ℕ) (whose : ℕ → ℕ) (j : ℕ) (rows : List (Row O E Q)) (st : Stage) → homes ≡ some (Some x) ∷ [] → IsStage log homes serving next whose j rows st
+  take_else : (log : List E) (homes homes' : Homes) (x : S) (serving next : ℕ) (whose : ℕ → ℕ) (j : ℕ) (rows : List (Row O E Q)) (st : TicketStage) → homes ≡ some (Some x) ∷ [] → IsStage log homes serving next whose j rows st
       → IsStage log homes' serving next whose j rows st
   take_else log homes homes' x serving next whose j rows Idle full h = tt
   take_else log homes homes' x serving next whose j rows (Waits t) full h = h
@@ -136,10 +136,10 @@ module _ (S O E Q : Type 0) (stands : S → O → List E → Type 0) (caller : E
 
   -- the look that finds the seat's own ticket served, and takes the state with it
   comes_now : (seats id : ℕ) (me : Sat) (s : St) (r : Rule seats s) → IsOne me.0 → me.1 ≡ [] → get_elem? s.views id ≡ some me.0 → (t : ℕ) → me.0.stage ≡ Waits t → r.serving ≡ t
-      → (IsHome stands first r.log s.homes ⊎ IsOut r.serving s.views)
+      → (IsHome stands first r.log s.homes ⊎ IsStateOut r.serving s.views)
       → (w : V) × (a : Act (Option S)) × Valid s.homes me.1 a × Rule seats (stepped s 1 (get_or s.words 1 0) id me.1 w a) × Arrives stands caller t me (w, carried_after me.1 a)
   comes_now seats id me s r one empty at t is serves (inl (x, full, st)) =
-      let r0 : Row O E Q = head_row me.0.rows in let w : V = view_of (Came t) (seen r0 r.log ∷ []) me.0.made in let mine = r.each id me.0 at in let old = mine.rows r0 (has_head me.0 one) in
+      let r0 : Row O E Q = head_row me.0.rows in let w : V = view_of (Came t) (sighted r0 r.log ∷ []) me.0.made in let mine = r.each id me.0 at in let old = mine.rows r0 (has_head me.0 one) in
       let place : IsStage r.log s.homes r.serving r.next r.whose id me.0.rows (Waits t) = subst (IsStage r.log s.homes r.serving r.next r.whose id me.0.rows) is mine.stage in
       let sum = waiting_set s.views id me.0 w at in let was : weight me.0.stage ≡ 1 = ap weight is in let line = r.queue in
       let out : set s.homes 0 none ≡ none ∷ [] = ap (λ (h : Homes). set h 0 none) full in
@@ -160,10 +160,10 @@ module _ (S O E Q : Type 0) (stands : S → O → List E → Type 0) (caller : E
           room = subst (λ (k : ℕ). k ≤ seats) (sym (length-set s.views id w)) r.room;
           unmade = unmade_set r.log s.views id w r.unmade;
           each = each_set s.views id w r.log (set s.homes 0 none) r.serving r.next r.whose r.owner record {
-            rows = λ q h. subst (IsRow caller first r.log (length s.views)) (only_has (seen r0 r.log) q h) record { opening = old.opening; begins = begins_self r.log; mine = old.mine; seen = old.mine; made_before = old.made_before };
-            owned = λ q h. subst (λ (z : Row O E Q). r.owner z.node ≡ id) (only_has (seen r0 r.log) q h) (mine.owned r0 (has_head me.0 one));
-            stage = (serves, place.1, place.2, out, λ q h. ap (λ (z : Row O E Q). z.front) (sym (only_has (seen r0 r.log) q h)));
-            own = inl (owns_as r.owner id me.0 one (seen r0 r.log) refl mine.own);
+            rows = λ q h. subst (IsRow caller first r.log (length s.views)) (only_has (sighted r0 r.log) q h) record { opening = old.opening; begins = begins_self r.log; mine = old.mine; seen = old.mine; made_before = old.made_before };
+            owned = λ q h. subst (λ (z : Row O E Q). r.owner z.node ≡ id) (only_has (sighted r0 r.log) q h) (mine.owned r0 (has_head me.0 one));
+            stage = (serves, place.1, place.2, out, λ q h. ap (λ (z : Row O E Q). z.front) (sym (only_has (sighted r0 r.log) q h)));
+            own = inl (owns_as r.owner id me.0 one (sighted r0 r.log) refl mine.own);
             maker = mine.maker;
           } (λ j v other there. let o = r.each j v there in record {
             rows = o.rows;
@@ -172,8 +172,8 @@ module _ (S O E Q : Type 0) (stands : S → O → List E → Type 0) (caller : E
             own = o.own;
             maker = o.maker;
           });
-          state = inr (id, w, here, ap (λ (u : ℕ). let c : Stage = Came u in c) (sym serves));
-          longest = (id, w, seen r0 r.log, here, (0, refl), refl);
+          state = inr (id, w, here, ap (λ (u : ℕ). let c : TicketStage = Came u in c) (sym serves));
+          longest = (id, w, sighted r0 r.log, here, (0, refl), refl);
         },
         (r.log, x, ap (λ (c : List (ℕ × Option S)). (w, (0, Some x) ∷ c)) empty, old.begins, old.mine, subst (λ (o : Option O). StandsFrom stands o x r.log) (sym old.opening) st),
       )
@@ -202,7 +202,7 @@ module _ (S O E Q : Type 0) (stands : S → O → List E → Type 0) (caller : E
   counts seats slots id me one t is s r deep at small =
       (me.0, keeps, tt, unmoved seats 2 id me s r at, (refl, ap (λ (ws : List ℕ). get_or ws 2 0) r.words_are ∙ ap length (sym ((came_at seats id me s r at t is).4 (head_row me.0.rows) (has_head me.0 one)))))
 
-  note_else : (log log' : List E) (homes : Homes) (serving next : ℕ) (whose : ℕ → ℕ) (j id : ℕ) (rows : List (Row O E Q)) (st : Stage) → whose serving ≡ id → j ≢ id → IsStage log homes serving next whose j rows st
+  note_else : (log log' : List E) (homes : Homes) (serving next : ℕ) (whose : ℕ → ℕ) (j id : ℕ) (rows : List (Row O E Q)) (st : TicketStage) → whose serving ≡ id → j ≢ id → IsStage log homes serving next whose j rows st
       → IsStage log' homes serving next whose j rows st
   note_else log log' homes serving next whose j id rows Idle is other h = tt
   note_else log log' homes serving next whose j id rows (Waits t) is other h = h
@@ -233,7 +233,7 @@ module _ (S O E Q : Type 0) (stands : S → O → List E → Type 0) (caller : E
           drawn = λ u a b. drawn_set r.whose s.views id me.0 w at u (λ h. h) (r.drawn u a b);
           queue = omega arith;
           room = subst (λ (k : ℕ). k ≤ seats) (sym (length-set s.views id w)) r.room;
-          unmade = unmade_set log' s.views id w (λ n h. calls_other caller n r.log e (own n (λ eq. h (subst (IsMade (length s.views)) (sym eq) old.made_before))) ∙ r.unmade n h);
+          unmade = unmade_set log' s.views id w (λ n h. calls_other caller n r.log e (own n (λ eq. h (subst (AreMade (length s.views)) (sym eq) old.made_before))) ∙ r.unmade n h);
           each = each_set s.views id w log' s.homes r.serving r.next r.whose r.owner record {
             rows = λ q h. subst (IsRow caller first log' (length s.views)) (only_has (noted caller r0 e) q h) record {
               opening = old.opening;
@@ -259,13 +259,13 @@ module _ (S O E Q : Type 0) (stands : S → O → List E → Type 0) (caller : E
             own = o.own;
             maker = o.maker;
           });
-          state = ⊎_elim (λ (h : IsHome stands first r.log s.homes). let full : s.homes ≡ some (Some h.0) ∷ [] = h.1 in let out : s.homes ≡ none ∷ [] = place.3 in absurd (cc (full, out))) (λ (h : IsOut r.serving s.views). inr (out_set r.serving s.views id me.0 w at (λ x. x) h)) r.state;
+          state = ⊎_elim (λ (h : IsHome stands first r.log s.homes). let full : s.homes ≡ some (Some h.0) ∷ [] = h.1 in let out : s.homes ≡ none ∷ [] = place.3 in absurd (cc (full, out))) (λ (h : IsStateOut r.serving s.views). inr (out_set r.serving s.views id me.0 w at (λ x. x) h)) r.state;
           longest = (id, w, noted caller r0 e, here, (0, refl), full_front);
         },
         λ e' named'. let same : e ≡ e' = cc (named, named') in ap (λ (z : E). (view_of me.0.stage (noted caller r0 z ∷ []) me.0.made, me.1)) same,
       )
 
-  give_else : (log : List E) (homes homes' : Homes) (serving next : ℕ) (whose : ℕ → ℕ) (j id : ℕ) (rows : List (Row O E Q)) (st : Stage) → whose serving ≡ id → j ≢ id → IsStage log homes serving next whose j rows st
+  give_else : (log : List E) (homes homes' : Homes) (serving next : ℕ) (whose : ℕ → ℕ) (j id : ℕ) (rows : List (Row O E Q)) (st : TicketStage) → whose serving ≡ id → j ≢ id → IsStage log homes serving next whose j rows st
       → IsStage log homes' (serving + 1) next whose j rows st
   give_else log homes homes' serving next whose j id rows Idle is other h = tt
   give_else log homes homes' serving next whose j id rows (Waits t) is other h = let apart : t ≢ serving = λ e. other (sym h.2 ∙ (ap whose e ∙ is)) in let a : serving ≤ t = h.0 in (omega arith, h.1, h.2)
@@ -323,7 +323,7 @@ module _ (S O E Q : Type 0) (stands : S → O → List E → Type 0) (caller : E
   cuts seats id v one some_made few_made s r at =
       let n : ℕ = length s.views in let left : V = maker_no_more v in let right : V = newcomer v in let part : List V = set s.views id left in let views' : List V = part ++ right ∷ [] in
       let mine = r.each id v at in let is = mine.maker some_made in let made_is : v.made ≡ n = is.0 in let last : id + 1 ≡ n = is.1 in
-      let r0 : Row O E Q = head_row v.rows in let known = mine.rows r0 (has_head v one) in let fresh : Row O E Q = row (v.made + 1) r0.opening r0.front [] [] in let none_yet : calls caller (v.made + 1) r.log ≡ [] = r.unmade (v.made + 1) (λ (is_made : IsMade n (v.made + 1)). let le : v.made + 1 ≤ n = is_made.1 in omega arith) in
+      let r0 : Row O E Q = head_row v.rows in let known = mine.rows r0 (has_head v one) in let fresh : Row O E Q = row (v.made + 1) r0.opening r0.front [] [] in let none_yet : calls caller (v.made + 1) r.log ≡ [] = r.unmade (v.made + 1) (λ (is_made : AreMade n (v.made + 1)). let le : v.made + 1 ≤ n = is_made.1 in omega arith) in
       let part_long : length part ≡ n = length-set s.views id left in
       let long : length views' ≡ n + 1 = omega (arith, length-append part (right ∷ [])) in
       let owner' : ℕ → ℕ = put r.owner (n + 1) n in
@@ -334,7 +334,7 @@ module _ (S O E Q : Type 0) (stands : S → O → List E → Type 0) (caller : E
         rows = λ q h. grown r.log n q (o.rows q h);
         owned = λ q h. let le : q.node ≤ n = (o.rows q h).made_before.1 in put_else r.owner (n + 1) n q.node (λ e. omega arith) ∙ o.owned q h;
         stage = o.stage;
-        own = ⊎_elim (λ (h : (r.owner (j + 1) ≡ j) × HasNode u.rows (j + 1)). inl (put_else r.owner (n + 1) n (j + 1) (λ e. omega arith) ∙ h.0, h.1)) (λ (h : (u.rows ≡ []) × (u.stage ≡ Idle)). inr h) o.own;
+        own = ⊎_elim (λ (h : (r.owner (j + 1) ≡ j) × HasRow u.rows (j + 1)). inl (put_else r.owner (n + 1) n (j + 1) (λ e. omega arith) ∙ h.0, h.1)) (λ (h : (u.rows ≡ []) × (u.stage ≡ Idle)). inr h) o.own;
         maker = λ some. dite (ℕ_discrete j id) (λ e. let z : made' ≡ 0 = drops_made e in absurd (omega arith))
             (λ ne. let z : made' ≡ u.made = keeps_made ne in let m = o.maker (omega arith) in absurd (ne (omega arith)));
       } in
@@ -349,7 +349,7 @@ module _ (S O E Q : Type 0) (stands : S → O → List E → Type 0) (caller : E
         drawn = λ u a b. drawn_longer r.whose part (right ∷ []) u (drawn_set r.whose s.views id v left at u (λ h. h) (r.drawn u a b));
         queue = omega arith;
         room = omega arith;
-        unmade = λ m h. r.unmade m (λ (is_made : IsMade n m). let le : m ≤ n = is_made.1 in h (is_made.0, omega arith));
+        unmade = λ m h. r.unmade m (λ (is_made : AreMade n m). let le : m ≤ n = is_made.1 in h (is_made.0, omega arith));
         each = λ j u e. subst (λ (k : ℕ). IsSeat caller first r.log s.homes k r.serving r.next r.whose owner' j u) (sym long)
             (⊎_elim (λ (in_part : get_elem? part j ≡ some u).
             ⊎_elim (λ (t : (j ≡ id) × (left ≡ u)). subst (λ (z : ℕ × V). Seat' z.0 z.1) (λ i. (sym t.0 i, t.1 i)) (old id v at (inr refl) 0 (λ ne. absurd (ne refl)) (λ _. refl)))
@@ -362,7 +362,7 @@ module _ (S O E Q : Type 0) (stands : S → O → List E → Type 0) (caller : E
               own = inl (ap (λ (k : ℕ). owner' (k + 1)) here ∙ (put_here r.owner (n + 1) n ∙ sym here), (fresh, (0, refl), ap (λ (k : ℕ). k + 1) (made_is ∙ sym here)));
               maker = λ _. (omega arith, omega arith);
             }) (at_end part right u j e));
-        state = ⊎_elim (λ (h : IsHome stands first r.log s.homes). inl h) (λ (h : IsOut r.serving s.views). let o = out_set r.serving s.views id v left at (λ x. x) h in inr (o.0, o.1, at_longer part (right ∷ []) o.0 o.1 o.2, o.3)) r.state;
+        state = ⊎_elim (λ (h : IsHome stands first r.log s.homes). inl h) (λ (h : IsStateOut r.serving s.views). let o = out_set r.serving s.views id v left at (λ x. x) h in inr (o.0, o.1, at_longer part (right ∷ []) o.0 o.1 o.2, o.3)) r.state;
         longest = let o = longest_set r.log s.views id v left at (λ q h. h) r.longest in (o.0, o.1, o.2, at_longer part (right ∷ []) o.0 o.1 o.3, o.4, o.5);
       }
 
@@ -388,7 +388,7 @@ module _ (S O E Q : Type 0) (stands : S → O → List E → Type 0) (caller : E
         drawn = λ t a b. drawn_set r.whose views1 other u spent there' t (λ h. absurd (subst (HasTicket t) idle' h)) (drawn_set r.whose s.views id v w at t (λ h. h) (r.drawn t a b));
         queue = omega arith;
         room = subst (λ (k : ℕ). k ≤ seats) (sym long) r.room;
-        unmade = λ n h. r.unmade n (subst (λ (k : ℕ). IsMade k n → ⊥) long h);
+        unmade = λ n h. r.unmade n (subst (λ (k : ℕ). AreMade k n → ⊥) long h);
         each = each_set views1 other spent r.log s.homes r.serving r.next r.whose owner' record {
           rows = λ q h. absurd (none_has q h);
           owned = λ q h. absurd (none_has q h);
@@ -401,17 +401,17 @@ module _ (S O E Q : Type 0) (stands : S → O → List E → Type 0) (caller : E
               owned = λ q h. ⊎_elim (λ (x : Has v.rows q). let o = mine.owned q x in passed_not r.owner other id q.node (λ e'. back (sym o ∙ e')) ∙ o)
                   (λ (x : Has u.rows q). passed_on r.owner other id q.node (his.owned q x)) (has_either v.rows u.rows q h);
               stage = subst (IsStage r.log s.homes r.serving r.next r.whose id w.rows) (sym idle) tt;
-              own = ⊎_elim (λ (h : (r.owner (id + 1) ≡ id) × HasNode v.rows (id + 1)). inl (passed_not r.owner other id (id + 1) (λ e'. back (sym h.0 ∙ e')) ∙ h.0, (h.1.0, has_left v.rows u.rows h.1.0 h.1.1, h.1.2))) (λ (h : (v.rows ≡ []) × (v.stage ≡ Idle)). absurd (some_row h.0)) mine.own;
+              own = ⊎_elim (λ (h : (r.owner (id + 1) ≡ id) × HasRow v.rows (id + 1)). inl (passed_not r.owner other id (id + 1) (λ e'. back (sym h.0 ∙ e')) ∙ h.0, (h.1.0, has_left v.rows u.rows h.1.0 h.1.1, h.1.2))) (λ (h : (v.rows ≡ []) × (v.stage ≡ Idle)). absurd (some_row h.0)) mine.own;
               maker = mine.maker;
             })
             (λ (t : (j ≢ id) × (get_elem? s.views j ≡ some z)). let o = r.each j z t.1 in record {
               rows = o.rows;
               owned = λ q h. let is = o.owned q h in passed_not r.owner other id q.node (λ e'. ne (sym is ∙ e')) ∙ is;
               stage = o.stage;
-              own = ⊎_elim (λ (h : (r.owner (j + 1) ≡ j) × HasNode z.rows (j + 1)). inl (passed_not r.owner other id (j + 1) (λ e'. ne (sym h.0 ∙ e')) ∙ h.0, h.1)) (λ (h : (z.rows ≡ []) × (z.stage ≡ Idle)). inr h) o.own;
+              own = ⊎_elim (λ (h : (r.owner (j + 1) ≡ j) × HasRow z.rows (j + 1)). inl (passed_not r.owner other id (j + 1) (λ e'. ne (sym h.0 ∙ e')) ∙ h.0, h.1)) (λ (h : (z.rows ≡ []) × (z.stage ≡ Idle)). inr h) o.own;
               maker = o.maker;
             }) (at_set s.views id j w z e)));
-        state = ⊎_elim (λ (h : IsHome stands first r.log s.homes). inl h) (λ (h : IsOut r.serving s.views).
+        state = ⊎_elim (λ (h : IsHome stands first r.log s.homes). inl h) (λ (h : IsStateOut r.serving s.views).
             inr (out_set r.serving views1 other u spent there' (λ came. absurd (cc (idle', came))) (out_set r.serving s.views id v w at (λ x. x) h))) r.state;
         longest = longest_join r here at there r.longest;
       }
@@ -449,17 +449,17 @@ module _ (S O E Q : Type 0) (stands : S → O → List E → Type 0) (caller : E
   }
 
   -- a resting seat that has every node stands alone: the state is at home, and stands for its longest front
-  pub closes : (seats id : ℕ) (v : V) (s : St) → Seen (Rule seats) id v s → v.stage ≡ Idle → HasAll v.rows seats → (x : S) × (s.homes ≡ some (Some x) ∷ []) × IsWhole stands caller v.rows x
-  closes seats id v s (r, at) idle all = let whole : IsHome stands first r.log s.homes = ⊎_elim (λ (h : IsHome stands first r.log s.homes). h) (λ (h : IsOut r.serving s.views). absurd (nobody h)) r.state in
+  pub closes : (seats id : ℕ) (v : V) (s : St) → Seen (Rule seats) id v s → v.stage ≡ Idle → HasRows v.rows seats → (x : S) × (s.homes ≡ some (Some x) ∷ []) × IsWhole stands caller v.rows x
+  closes seats id v s (r, at) idle all = let whole : IsHome stands first r.log s.homes = ⊎_elim (λ (h : IsHome stands first r.log s.homes). h) (λ (h : IsStateOut r.serving s.views). absurd (nobody h)) r.state in
       let long = r.longest in let q : Row O E Q = long.2 in
-      (whole.0, whole.1, record { first = first; log = r.log; stands_for = whole.2; fits = λ p h. let o = (r.each id v at).rows p h in record { opening = o.opening; begins = o.begins; mine = o.mine; seen = o.seen }; others = λ n no. r.unmade n (λ (made : IsMade (length s.views) n). let le : n ≤ length s.views = made.1 in let room = r.room in no (all n made.0 (omega arith))); longest = (q, mine_too (long.0) long.1 long.3 q long.4, long.5) })
+      (whole.0, whole.1, record { first = first; log = r.log; stands_for = whole.2; fits = λ p h. let o = (r.each id v at).rows p h in record { opening = o.opening; begins = o.begins; mine = o.mine; seen = o.seen }; others = λ n no. r.unmade n (λ (made : AreMade (length s.views) n). let le : n ≤ length s.views = made.1 in let room = r.room in no (all n made.0 (omega arith))); longest = (q, mine_too (long.0) long.1 long.3 q long.4, long.5) })
     where
       gone : (j : ℕ) (u : V) → j ≢ id → get_elem? s.views j ≡ some u → (u.rows ≡ []) × (u.stage ≡ Idle)
       gone j u ne there = let inside : j < length s.views = at_less s.views j u there in let room = r.room in let has = all (j + 1) (omega arith) (omega arith) in
           let owned : r.owner (j + 1) ≡ id = ap r.owner (sym has.2) ∙ (r.each id v at).owned has.0 has.1 in
-          ⊎_elim (λ (h : (r.owner (j + 1) ≡ j) × HasNode u.rows (j + 1)). absurd (ne (sym h.0 ∙ owned))) (λ (h : (u.rows ≡ []) × (u.stage ≡ Idle)). h) (r.each j u there).own
+          ⊎_elim (λ (h : (r.owner (j + 1) ≡ j) × HasRow u.rows (j + 1)). absurd (ne (sym h.0 ∙ owned))) (λ (h : (u.rows ≡ []) × (u.stage ≡ Idle)). h) (r.each j u there).own
 
-      nobody : IsOut r.serving s.views → ⊥
+      nobody : IsStateOut r.serving s.views → ⊥
       nobody (j, u, there, came) = dite (ℕ_discrete j id) (λ e. let same : v ≡ u = same_at s.views id j v u at there e in let clash : Idle ≡ Came r.serving = sym idle ∙ (ap (λ (z : V). z.stage) same ∙ came) in cc clash)
           (λ ne. let g = gone j u ne there in let clash : Idle ≡ Came r.serving = sym g.1 ∙ came in cc clash)
 
@@ -472,7 +472,7 @@ module _ (S O E Q : Type 0) (stands : S → O → List E → Type 0) (caller : E
   cuts_at seats id n v made one positive few = cuts seats id v one (omega arith) (omega arith)
 
   -- the table after the end of a turn with all seats, of which the last took in the others
-  pub ended : (seats id : ℕ) (v : V) (words : List ℕ) (slots : List (Option S)) (rows : List (Row O E Q)) (got : Option S) → Final (Seen (Rule seats) id v) words slots → v.stage ≡ Idle → v.rows ≡ reverse rows → HasAll rows seats
+  pub ended : (seats id : ℕ) (v : V) (words : List ℕ) (slots : List (Option S)) (rows : List (Row O E Q)) (got : Option S) → Final (Seen (Rule seats) id v) words slots → v.stage ≡ Idle → v.rows ≡ reverse rows → HasRows rows seats
       → get_elem? slots 0 ≡ some got → (x : S) × (got ≡ Some x) × IsWhole stands caller rows x
   ended seats id v words slots rows got (s, seen_, words_are, long, values) idle is all there =
       let has : (r : Row O E Q) → Has rows r → Has v.rows r = λ r h. subst (λ (l : List (Row O E Q)). Has l r) (sym is) (has_reverse rows r h) in

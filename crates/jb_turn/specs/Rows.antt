@@ -4,8 +4,8 @@ use mathlib.Core.Option.{some}
 use lib.ListN.{get_elem?}
 use Rattle.jb_turn.specs.declared.view.Row.{Row}
 use Rattle.jb_turn.specs.declared.view.View.{View}
-use Rattle.jb_turn.specs.declared.view.Stage.{Stage}
-use Rattle.jb_turn.specs.declared.view.Stage.TheVariants.{Idle}
+use Rattle.jb_turn.specs.declared.view.TicketStage.{TicketStage}
+use Rattle.jb_turn.specs.declared.view.TicketStage.TheVariants.{Idle}
 
 -- the second list begins with the first
 abbrev pub Begins : {A : Type 0} → List A → List A → Type 0
@@ -45,7 +45,7 @@ module _ {O E Q : Type 0} where
   row node opening front mine remarks = record { node = node; opening = opening; front = front; mine = mine; remarks = remarks }
 
   -- what a seat knows
-  abbrev pub view_of : Stage → List (Row O E Q) → ℕ → View O E Q
+  abbrev pub view_of : TicketStage → List (Row O E Q) → ℕ → View O E Q
   view_of stage rows made = record { stage = stage; rows = rows; made = made }
 
   -- the first row, or nobody's where there is none

@@ -6,9 +6,9 @@ use lib.ListN.{get_elem?}
 use Rattle.atomic_table.specs.Table.{State}
 use Rattle.jb_turn.specs.declared.view.Row.{Row}
 use Rattle.jb_turn.specs.declared.view.View.{View}
-use Rattle.jb_turn.specs.declared.view.Stage.{Stage}
-use Rattle.jb_turn.specs.declared.view.Stage.TheVariants.{Idle, Waits, Came}
-use Rattle.jb_turn.specs.Whole.{HasNode}
+use Rattle.jb_turn.specs.declared.view.TicketStage.{TicketStage}
+use Rattle.jb_turn.specs.declared.view.TicketStage.TheVariants.{Idle, Waits, Came}
+use Rattle.jb_turn.specs.Whole.{HasRow}
 use Rattle.jb_turn.specs.Rows.{Begins, Has, calls}
 
 -- the place of the state, as the table sees it: the state is there, or the place was emptied, or it is out with a seat
@@ -16,20 +16,20 @@ abbrev pub Home : Type 0 → Type 0
 Home S = List (maybe.Option (Option S))
 
 -- 1 where the seat has a ticket, else 0
-abbrev pub weight : Stage → ℕ
+abbrev pub weight : TicketStage → ℕ
 weight Idle = 0
 weight (Waits t) = 1
 weight (Came t) = 1
 
 -- the seat has this ticket
-abbrev pub HasTicket : ℕ → Stage → Type 0
+abbrev pub HasTicket : ℕ → TicketStage → Type 0
 HasTicket t Idle = ⊥
 HasTicket t (Waits u) = u ≡ t
 HasTicket t (Came u) = u ≡ t
 
 -- the nodes that were made are numbered from 1 up to their number
-abbrev pub IsMade : ℕ → ℕ → Type 0
-IsMade made n = (0 < n) × (n ≤ made)
+abbrev pub AreMade : ℕ → ℕ → Type 0
+AreMade made n = (0 < n) × (n ≤ made)
 
 module _ {O E Q : Type 0} where
   -- how many views have a ticket
@@ -52,15 +52,15 @@ module _ {O E Q : Type 0} where
     -- and they all stand in its front
     pub seen : calls caller r.node r.front ≡ r.mine
     -- the node was made
-    pub made_before : IsMade made r.node
+    pub made_before : AreMade made r.node
 
   -- the seat at place j still has the node that it was made with, or another seat took it in and it has none
   abbrev pub HasOwn : (ℕ → ℕ) → ℕ → View O E Q → Type 0
-  HasOwn owner j v = ((owner (j + 1) ≡ j) × HasNode v.rows (j + 1)) ⊎ ((v.rows ≡ []) × (v.stage ≡ Idle))
+  HasOwn owner j v = ((owner (j + 1) ≡ j) × HasRow v.rows (j + 1)) ⊎ ((v.rows ≡ []) × (v.stage ≡ Idle))
 
   -- the state is out with the seat whose ticket is served
-  abbrev pub IsOut : ℕ → List (View O E Q) → Type 0
-  IsOut serving views = (j : ℕ) × (v : View O E Q) × (get_elem? views j ≡ some v) × (v.stage ≡ Came serving)
+  abbrev pub IsStateOut : ℕ → List (View O E Q) → Type 0
+  IsStateOut serving views = (j : ℕ) × (v : View O E Q) × (get_elem? views j ≡ some v) × (v.stage ≡ Came serving)
 
   -- some front is the whole history
   abbrev pub IsLongest : List E → List (View O E Q) → Type 0
@@ -69,7 +69,7 @@ module _ {O E Q : Type 0} where
 module _ {S O E Q : Type 0} where
   -- what the stage of the seat at place j says: its ticket is out and no other seat's; and where the ticket's turn has
   -- come, it is the ticket that is served, the state's place is empty, and the seat has seen the whole history
-  abbrev pub IsStage : List E → Home S → ℕ → ℕ → (ℕ → ℕ) → ℕ → List (Row O E Q) → Stage → Type 0
+  abbrev pub IsStage : List E → Home S → ℕ → ℕ → (ℕ → ℕ) → ℕ → List (Row O E Q) → TicketStage → Type 0
   IsStage log home serving next whose j rows Idle = Unit {0}
   IsStage log home serving next whose j rows (Waits t) = (serving ≤ t) × (t < next) × (whose t ≡ j)
   IsStage log home serving next whose j rows (Came t) =
@@ -111,10 +111,10 @@ module _ {S O E Q : Type 0} (stands : S → O → List E → Type 0) (caller : E
     -- in its place it stands for the history. So it is out exactly with that view. An entry is one addition to the word
     -- of the length, made by the seat that has the state out; the state stands for the history again, with the entry, before
     -- it can be put back.
-    pub state : IsHome stands first log s.homes ⊎ IsOut serving s.views
+    pub state : IsHome stands first log s.homes ⊎ IsStateOut serving s.views
     -- The history is the longest front, and every front is a prefix of it (`each`, its rows).
     pub longest : IsLongest log s.views
     -- The n-th seat that was made has node n until another takes it in, no two views have one node, and the history's
     -- calls of a view's nodes stand in its front and are its own (`each`). No entry has a node that was not made.
     pub each : (j : ℕ) (v : View O E Q) → get_elem? s.views j ≡ some v → IsSeat caller first log s.homes (length s.views) serving next whose owner j v
-    pub unmade : (n : ℕ) → (IsMade (length s.views) n → ⊥) → calls caller n log ≡ []
+    pub unmade : (n : ℕ) → (AreMade (length s.views) n → ⊥) → calls caller n log ≡ []

@@ -2,7 +2,7 @@
 use Rattle.std.specs.Prelude.{◌≡◌, ℕ, ◌+◌, List, [], ◌∷◌, length, slice_get, Option, Some, None}
 use Rattle.atomic_table.specs.Seated.{TableId}
 use Rattle.jb_turn.specs.declared.view.Row.{Row}
-use Rattle.jb_turn.specs.declared.view.Stage.TheVariants.{Idle, Came}
+use Rattle.jb_turn.specs.declared.view.TicketStage.TheVariants.{Idle, Came}
 use Rattle.jb_turn.specs.declared.seat.Seat.{Seat}
 use Rattle.jb_turn.specs.declared.seat.RestingSeat.{RestingSeat}
 use Rattle.jb_turn.specs.declared.seat.Turn.{Turn}
@@ -51,8 +51,8 @@ module _ {S O E Q : Type 0} where
   seats_of t = t.seats
 
   -- the seat has no ticket
-  abbrev pub IsResting : Seat S O E Q → Type 0
-  IsResting s = (s.place.me.0.stage ≡ Idle) × (s.place.me.1 ≡ [])
+  abbrev pub HasNoTicket : Seat S O E Q → Type 0
+  HasNoTicket s = (s.place.me.0.stage ≡ Idle) × (s.place.me.1 ≡ [])
 
   -- the turn of its ticket has come, and the state was taken out of its place
   abbrev pub IsHolding : Seat S O E Q → Type 0
@@ -60,19 +60,19 @@ module _ {S O E Q : Type 0} where
 
   -- the seat is of this turn, and does not hold it
   abbrev pub Rests : Turn S O E Q → Seat S O E Q → Type 0
-  Rests t s = (turn_of s ≡ id_of t) × IsResting s
+  Rests t s = (turn_of s ≡ id_of t) × HasNoTicket s
 
   -- the seat is of this turn, it took the state that is out, and it has seen so many entries
-  abbrev pub Holds : Turn S O E Q → Seat S O E Q → ℕ → Type 0
-  Holds t s count = (turn_of s ≡ id_of t) × IsHolding s × (count ≡ length (front s))
+  abbrev pub HoldsTurn : Turn S O E Q → Seat S O E Q → ℕ → Type 0
+  HoldsTurn t s count = (turn_of s ≡ id_of t) × IsHolding s × (count ≡ length (front s))
 
   -- what the seat at place k of a new turn knows
   abbrev pub IsNew : O → ℕ → Seat S O E Q → Type 0
   IsNew first k s = (node s ≡ k + 1) × (opening s ≡ Some first) × (front s ≡ []) × (mine s ≡ []) × (remarks s ≡ [])
 
   -- the seats of a new turn, each at the place before its number
-  abbrev pub AreNew : O → List (Seat S O E Q) → Type 0
-  AreNew first seats = (k : ℕ) (s : Seat S O E Q) → slice_get seats k ≡ Some s → IsNew first k s
+  abbrev pub AreNewSeats : O → List (Seat S O E Q) → Type 0
+  AreNewSeats first seats = (k : ℕ) (s : Seat S O E Q) → slice_get seats k ≡ Some s → IsNew first k s
 
 module _ {O E Q : Type 0} where
   -- what a resting seat knows

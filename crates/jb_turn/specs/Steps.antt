@@ -3,12 +3,12 @@ use Rattle.std.specs.Prelude.{◌≡◌, ◌≢◌, ℕ, ◌+◌, ◌%◌, ◌^�
 use Rattle.atomic_table.specs.Table.{Me, Step}
 use Rattle.jb_turn.specs.declared.view.Row.{Row}
 use Rattle.jb_turn.specs.declared.view.View.{View}
-use Rattle.jb_turn.specs.declared.view.Stage.{Stage}
-use Rattle.jb_turn.specs.declared.view.Stage.TheVariants.{Idle, Waits, Came}
+use Rattle.jb_turn.specs.declared.view.TicketStage.{TicketStage}
+use Rattle.jb_turn.specs.declared.view.TicketStage.TheVariants.{Idle, Waits, Came}
 use Rattle.jb_turn.specs.Rows.{Begins, calls, when, is_at, row, view_of, head_row, StandsFrom}
 
 -- the ticket of a seat, 0 where it has none
-abbrev pub ticket : Stage → ℕ
+abbrev pub ticket : TicketStage → ℕ
 ticket Idle = 0
 ticket (Waits t) = t
 ticket (Came t) = t
@@ -20,8 +20,8 @@ listed (Some x) = x ∷ []
 
 module _ {O E Q : Type 0} where
   -- the row after a sight of the whole history
-  abbrev pub seen : Row O E Q → List E → Row O E Q
-  seen r log = row r.node r.opening log r.mine r.remarks
+  abbrev pub sighted : Row O E Q → List E → Row O E Q
+  sighted r log = row r.node r.opening log r.mine r.remarks
 
   -- the row with one entry more, which is also one of the node's own where it is its call
   abbrev pub noted : (E → Option ℕ) → Row O E Q → E → Row O E Q
@@ -59,14 +59,14 @@ module _ {S O E Q : Type 0} where
   -- where its turn has come the seat sees the whole history, and has the state out, which stands for it
   abbrev pub Arrives : (S → O → List E → Type 0) → (E → Option ℕ) → ℕ → Me (Option S) (View O E Q) → Me (Option S) (View O E Q) → Type 0
   Arrives stands caller t m m' =
-      (log : List E) × (x : S) × (m' ≡ (view_of (Came t) (seen (head_row m.0.rows) log ∷ []) m.0.made, (0, Some x) ∷ []))
+      (log : List E) × (x : S) × (m' ≡ (view_of (Came t) (sighted (head_row m.0.rows) log ∷ []) m.0.made, (0, Some x) ∷ []))
       × Begins (head_row m.0.rows).front log × (calls caller (head_row m.0.rows).node log ≡ (head_row m.0.rows).mine) × StandsFrom stands (head_row m.0.rows).opening x log
 
   -- a look at the ticket that is served: the turn has come where it is the seat's, else nothing is learnt
   abbrev pub Comes : (S → O → List E → Type 0) → (E → Option ℕ) → Step (Option S) → Me (Option S) (View O E Q) → ℕ → Me (Option S) (View O E Q) → Type 0
   Comes stands caller st m n m' = (n ≡ ticket m.0.stage % 2 ^ 64 → Arrives stands caller (ticket m.0.stage) m m') × (n ≢ ticket m.0.stage % 2 ^ 64 → m' ≡ m)
 
-  -- a look at the count while the state is out with the seat tells the length of what it has seen
+  -- a look at the count while the state is out with the seat tells the length of what it has sighted
   abbrev pub Counts : Step (Option S) → Me (Option S) (View O E Q) → ℕ → Me (Option S) (View O E Q) → Type 0
   Counts st m n m' = (m' ≡ m) × (n ≡ length (head_row m.0.rows).front)
 

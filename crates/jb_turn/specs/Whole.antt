@@ -5,19 +5,19 @@ use Rattle.jb_turn.specs.Rows.{Begins, Has, calls}
 
 module _ {O E Q : Type 0} where
   -- the node with this number is among the rows
-  abbrev pub HasNode : List (Row O E Q) → ℕ → Type 0
-  HasNode rows n = (r : Row O E Q) × Has rows r × (r.node ≡ n)
+  abbrev pub HasRow : List (Row O E Q) → ℕ → Type 0
+  HasRow rows n = (r : Row O E Q) × Has rows r × (r.node ≡ n)
 
   -- each node from 1 to n is among the rows
-  abbrev pub HasAll : List (Row O E Q) → ℕ → Type 0
-  HasAll rows n = (m : ℕ) → 0 < m → m ≤ n → HasNode rows m
+  abbrev pub HasRows : List (Row O E Q) → ℕ → Type 0
+  HasRows rows n = (m : ℕ) → 0 < m → m ≤ n → HasRow rows m
 
   -- n is the lowest number whose node is not among the rows
-  abbrev pub IsLowestMissing : List (Row O E Q) → ℕ → ℕ → Type 0
-  IsLowestMissing rows count n = (0 < n) × (n ≤ count) × ((r : Row O E Q) → Has rows r → r.node ≡ n → ⊥) × ((m : ℕ) → 0 < m → m < n → HasNode rows m)
+  abbrev pub IsLowestRowMissing : List (Row O E Q) → ℕ → ℕ → Type 0
+  IsLowestRowMissing rows count n = (0 < n) × (n ≤ count) × ((r : Row O E Q) → Has rows r → r.node ≡ n → ⊥) × ((m : ℕ) → 0 < m → m < n → HasRow rows m)
 
   -- what is known of a node fits the history: the opening, a prefix, and just the node's own calls
-  pub record Fits (caller : E → Option ℕ) (first : O) (log : List E) (r : Row O E Q) : Type 0 where
+  pub record FitsHistory (caller : E → Option ℕ) (first : O) (log : List E) (r : Row O E Q) : Type 0 where
     pub opening : r.opening ≡ Some first
     pub begins : Begins r.front log
     pub mine : calls caller r.node log ≡ r.mine
@@ -29,6 +29,6 @@ pub record IsWhole {S O E Q : Type 0} (stands : S → O → List E → Type 0) (
   pub first : O
   pub log : List E
   pub stands_for : stands state first log
-  pub fits : (r : Row O E Q) → Has rows r → Fits caller first log r
-  pub others : (n : ℕ) → (HasNode rows n → ⊥) → calls caller n log ≡ []
+  pub fits : (r : Row O E Q) → Has rows r → FitsHistory caller first log r
+  pub others : (n : ℕ) → (HasRow rows n → ⊥) → calls caller n log ≡ []
   pub longest : (r : Row O E Q) × Has rows r × (r.front ≡ log)

@@ -17,4 +17,4 @@ mod view;
 pub use kept::{Kept, NamesEntry, NamesRemark};
 pub use seat::{Held, RestingSeat, Seat, Turn};
 pub use seated::Seated;
-pub use view::{Row, Stage, View};
+pub use view::{Row, TicketStage, View};

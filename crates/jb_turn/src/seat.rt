@@ -1,7 +1,7 @@
 //! The turn, its seats, and the state that is out. Their fields are the crate's own.
 ghost use Rattle.std.specs.Prelude.{◌≡◌, ◌<◌, ◌≤◌, [], ◌∷◌};
 ghost use Rattle.jb_turn.specs.Rows.{head_row, first_view};
-ghost use Rattle.jb_turn.specs.declared.view.Stage.TheVariants.{Idle};
+ghost use Rattle.jb_turn.specs.declared.view.TicketStage.TheVariants.{Idle};
 
 use crate::kept::Kept;
 use crate::rule::{Key, Ruled};

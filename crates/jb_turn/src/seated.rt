@@ -1,6 +1,6 @@
 //! What holds a seat, so that closing takes it in.
 ghost use Rattle.std.specs.Prelude.{◌≡◌};
-ghost use Rattle.jb_turn.specs.Seats.{TurnId, node, row_of, turn_of, resting_row, resting_turn, IsResting};
+ghost use Rattle.jb_turn.specs.Seats.{TurnId, node, row_of, turn_of, resting_row, resting_turn, HasNoTicket};
 ghost use Rattle.jb_turn.specs.declared.view.Row.{Row};
 
 use crate::seat::{RestingSeat, Seat};
@@ -19,14 +19,14 @@ pub trait Seated<S, O, E, Q> {
 
     /// The seat itself.
     fn into_seat(self) -> Seat<S, O, E, Q>
-        ensures rests { (turn : TurnId) → rests self turn → (turn_of result ≡ turn) × IsResting result }
+        ensures rests { (turn : TurnId) → rests self turn → (turn_of result ≡ turn) × HasNoTicket result }
         ensures knows { row_of result ≡ knows self };
 }
 
 impl<S, O, E, Q> Seated<S, O, E, Q> for Seat<S, O, E, Q> {
-    ghost use Rattle.jb_turn.specs.Seats.{row_of, turn_of, IsResting};
+    ghost use Rattle.jb_turn.specs.Seats.{row_of, turn_of, HasNoTicket};
 
-    ghost rests = { λ seat turn. (turn_of seat ≡ turn) × IsResting seat };
+    ghost rests = { λ seat turn. (turn_of seat ≡ turn) × HasNoTicket seat };
 
     ghost knows = { row_of };
 

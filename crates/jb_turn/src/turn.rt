@@ -1,9 +1,9 @@
 //! The calls of a turn: seats are made with it, take the state in turn, note entries, give it back, and end it together.
 ghost use Rattle.std.specs.Prelude.{◌≡◌, ℕ, ◌+◌, ◌^◌, ◌<◌, ◌≤◌, List, [], ◌∷◌, ◌++◌, map, length, slice_get, Some, None, All, IfOk, IfErr, OnOk, MatchOption, IsTrue, ◌↔◌};
 ghost use Rattle.jb_turn.specs.Rows.{Begins, IsOwn, StandsFrom, calls};
-ghost use Rattle.jb_turn.specs.Steps.{seen, noted, given};
-ghost use Rattle.jb_turn.specs.Seats.{node, opening, front, mine, row_of, turn_of, id_of, seats_of, resting_row, resting_turn, IsResting, Rests, Holds, AreNew};
-ghost use Rattle.jb_turn.specs.Whole.{HasAll, HasNode, IsLowestMissing, IsWhole};
+ghost use Rattle.jb_turn.specs.Steps.{sighted, noted, given};
+ghost use Rattle.jb_turn.specs.Seats.{node, opening, front, mine, row_of, turn_of, id_of, seats_of, resting_row, resting_turn, HasNoTicket, Rests, HoldsTurn, AreNewSeats};
+ghost use Rattle.jb_turn.specs.Whole.{HasRows, HasRow, IsLowestRowMissing, IsWhole};
 
 use crate::kept::{Kept, NamesEntry, NamesRemark};
 use crate::rule::{Come, Count, Cut, Draw, Give, Glue, Key, Note};
@@ -30,7 +30,7 @@ impl<O, E, Q> RestingSeat<O, E, Q> {
     /// The seat itself, for a turn over `S`.
     pub fn wake<S>(self) -> Seat<S, O, E, Q>
         ensures same { (turn_of result ≡ resting_turn self) × (row_of result ≡ resting_row self) }
-        ensures rests { IsResting result }
+        ensures rests { HasNoTicket result }
     {
         let node = self.node;
         let place = self.into_badge().into_seat::<Option<S>>();
@@ -48,7 +48,7 @@ impl<O, E, Q> RestingSeat<O, E, Q> {
 impl<S, O, E, Q> Seat<S, O, E, Q> {
     /// Puts the seat into the form that does not name the state.
     pub fn rest(self) -> RestingSeat<O, E, Q>
-        requires { IsResting self }
+        requires { HasNoTicket self }
         ensures same { (resting_turn result ≡ turn_of self) × (resting_row result ≡ row_of self) }
     {
         let node = self.node;
@@ -65,7 +65,7 @@ impl<S, O, E, Q> Seat<S, O, E, Q> {
 }
 
 fn has_node<S, O, E, Q, P: Seated<S, O, E, Q>>(seats: &[P], number: u32) -> bool
-    ensures { IsTrue result ↔ HasNode (map P.knows seats.now) number }
+    ensures { IsTrue result ↔ HasRow (map P.knows seats.now) number }
 {
     for seat in seats {
         if seat.number() == number {
@@ -77,8 +77,8 @@ fn has_node<S, O, E, Q, P: Seated<S, O, E, Q>>(seats: &[P], number: u32) -> bool
 
 fn first_missing<S, O, E, Q, P: Seated<S, O, E, Q>>(seats: &[P], count: u32) -> Option<u32>
     requires { count ≤ 33 }
-    ensures { MatchOption result (HasAll (map P.knows seats.now) count)
-        (IsLowestMissing (map P.knows seats.now) count) }
+    ensures { MatchOption result (HasRows (map P.knows seats.now) count)
+        (IsLowestRowMissing (map P.knows seats.now) count) }
 {
     for number in 1..count + 1 {
         if !has_node::<S, O, E, Q, P>(seats, number) {
@@ -111,7 +111,7 @@ impl<S: Kept<O, E>, O, E, Q> Turn<S, O, E, Q> {
         // So many seats were made. The one at place k has node k + 1, rests, and knows the opening alone.
         ensures count { IfOk result (λ r. (seats_of r.0 ≡ seats) × (length r.1.items ≡ seats)) }
         ensures rests { IfOk result (λ r. All (Rests r.0) r.1.items) }
-        ensures fresh { IfOk result (λ r. AreNew (S.opening state) r.1.items) }
+        ensures fresh { IfOk result (λ r. AreNewSeats (S.opening state) r.1.items) }
 
         // Without memory nothing was made.
         ensures err { IfErr result (λ s. s ≡ state) }
@@ -156,12 +156,12 @@ impl<S: Kept<O, E>, O, E, Q> Turn<S, O, E, Q> {
         requires seat { Rests self.now seat.old }
 
         // The state is out with this seat, and stands for all that the seat has now seen.
-        ensures holds { Holds self.now seat.new result.count }
+        ensures holds { HoldsTurn self.now seat.new result.count }
         ensures state { StandsFrom S.stands (opening seat.new) result.state (front seat.new) }
 
         // The seat saw more of the history, and of its own calls there are those that it knew.
         ensures grows { Begins (front seat.old) (front seat.new) }
-        ensures same { row_of seat.new ≡ seen (row_of seat.old) (front seat.new) }
+        ensures same { row_of seat.new ≡ sighted (row_of seat.old) (front seat.new) }
         ensures own { calls S.caller (node seat.new) (front seat.new) ≡ mine seat.new }
     {
         let shared = &self.table.shared;
@@ -197,7 +197,7 @@ impl<S: Kept<O, E>, O, E, Q> Turn<S, O, E, Q> {
     ///
     /// Until the state stands for the history with this entry, it cannot be given back.
     pub fn note<J: NamesEntry<E>>(&self, seat: &mut Seat<S, O, E, Q>, held: &mut Held<S>)
-        requires seat { Holds self.now seat.old held.old.count }
+        requires seat { HoldsTurn self.now seat.old held.old.count }
         requires fits { held.old.count ≤ 2 ^ 62 }
         requires entry { (e : E) × (J.entry ≡ Some e) × IsOwn S.caller (node seat.old) e }
 
@@ -205,7 +205,7 @@ impl<S: Kept<O, E>, O, E, Q> Turn<S, O, E, Q> {
         ensures row { (e : E) → J.entry ≡ Some e → row_of seat.new ≡ noted S.caller (row_of seat.old) e }
 
         // The state is still out with this seat, as it was.
-        ensures holds { Holds self.now seat.new held.new.count }
+        ensures holds { HoldsTurn self.now seat.new held.new.count }
         ensures kept { held.new.state ≡ held.old.state }
         ensures count { held.new.count ≡ held.old.count + 1 }
     {
@@ -217,7 +217,7 @@ impl<S: Kept<O, E>, O, E, Q> Turn<S, O, E, Q> {
 
     /// Gives the state back, and keeps the remark that `J` names, if it names one.
     pub fn give<J: NamesRemark<Q>>(&self, seat: &mut Seat<S, O, E, Q>, held: Held<S>)
-        requires seat { Holds self.now seat.old held.count }
+        requires seat { HoldsTurn self.now seat.old held.count }
         requires state { StandsFrom S.stands (opening seat.old) held.state (front seat.old) }
         ensures rests { Rests self.now seat.new }
         ensures row { row_of seat.new ≡ given (row_of seat.old) J.remark }
@@ -242,11 +242,11 @@ impl<S: Kept<O, E>, O, E, Q> Turn<S, O, E, Q> {
         requires seats { All (λ seat. P.rests seat (id_of self)) seats.items }
 
         // All seats are there, and what they know is of one history, for which the state stands.
-        ensures all { OnOk result (HasAll (map P.knows seats.items) (seats_of self)) }
+        ensures all { OnOk result (HasRows (map P.knows seats.items) (seats_of self)) }
         ensures whole { IfOk result (IsWhole S.stands S.caller (map P.knows seats.items)) }
 
         // A seat is missing, and nothing has changed.
-        ensures missing { IfErr result (λ r. IsLowestMissing (map P.knows seats.items) (seats_of self) r.2) }
+        ensures missing { IfErr result (λ r. IsLowestRowMissing (map P.knows seats.items) (seats_of self) r.2) }
         ensures kept { IfErr result (λ r. (r.0 ≡ self) × (r.1.items ≡ seats.items)) }
     {
         if let Some(number) = first_missing::<S, O, E, Q, P>(seats.as_slice(), self.seats) {

@@ -2,7 +2,7 @@
 use std::collections::LinkedList;
 
 /// Where a seat stands in the queue. Tickets are counted from 0 and never wrap here.
-pub enum Stage {
+pub enum TicketStage {
     /// It has no ticket.
     Idle,
     /// It has drawn this ticket.
@@ -26,7 +26,7 @@ pub struct Row<O, E, Q> {
 
 /// A seat has one row. One that took in others has their rows too, and one that was taken in has none.
 pub struct View<O, E, Q> {
-    pub stage: Stage,
+    pub stage: TicketStage,
     pub rows: LinkedList<Row<O, E, Q>>,
     /// At the seat that was made last the number of seats that were made, at every other 0.
     pub made: u64,

@@ -11,11 +11,11 @@ use Rattle.jb_disk.specs.Device.{Device}
 use Rattle.jb_journal.specs.declared.stopped.Stopped.{Stopped}
 use Rattle.jb_model.specs.declared.command.Command.{Command}
 use Rattle.jb_model.specs.declared.reply.Reply.{Reply}
-use Rattle.trial_areas.specs.Leaves.{Leaves, LeavesBegun, LeavesEnded}
+use Rattle.trial_areas.specs.Leaves.{LeavesAtRest, LeavesBegun, LeavesEnded}
 
 -- a call from its beginning to its end
 pub leaves : {D : Type 0} (shown : D → Device) (old new : OpenArea D) (user : User) (moment : ℕ) (command : Command) (result : Result Reply AreaError)
-    → HasRest shown old → MeetsCall shown old new user moment command result → Leaves shown new result
+    → HasRest shown old → MeetsCall shown old new user moment command result → LeavesAtRest shown new result
 leaves shown old new user moment command (Ok reply) has meets =
     let answered = meets.answered has.texts has.rests in
     record { texts = answered.coming.texts; rests = answered.rests.rests }
@@ -27,7 +27,7 @@ leaves shown old new user moment command (Err OutOfMemory) has meets =
 
 -- a step of a pack
 pub leaves_copied : {D : Type 0} (shown : D → Device) (old new : OpenArea D) (result : Result Bool AreaError)
-    → HasRest shown old → StepsPack shown old new result → Leaves shown new result
+    → HasRest shown old → StepsPack shown old new result → LeavesAtRest shown new result
 leaves_copied shown old new (Ok more) has steps = record { texts = has.texts; rests = (steps.done has.texts has.rests).rests }
 leaves_copied shown old new (Err StoreFault) has steps = record { texts = has.texts; coming = None; doubt = steps.failed has.texts has.rests }
 leaves_copied shown old new (Err OutOfMemory) has steps = record { texts = has.texts; rests = (steps.failed has.texts has.rests).rests }

@@ -16,9 +16,9 @@ module _ {D : Type 0} (shown : D → Device) where
   LeavesFailed area OutOfMemory = HasRest shown area
 
   -- one that was done leaves an area at rest
-  abbrev pub Leaves : {A : Type 0} → OpenArea D → Result A AreaError → Type 0
-  Leaves area (Ok done) = HasRest shown area
-  Leaves area (Err error) = LeavesFailed area error
+  abbrev pub LeavesAtRest : {A : Type 0} → OpenArea D → Result A AreaError → Type 0
+  LeavesAtRest area (Ok done) = HasRest shown area
+  LeavesAtRest area (Err error) = LeavesFailed area error
 
   -- one that was begun leaves an area with the call begun
   abbrev pub LeavesBegun : OpenArea D → Result (Unit {0}) AreaError → Type 0

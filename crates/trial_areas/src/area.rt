@@ -3,7 +3,7 @@
 use crate::asking::{Deed, Way};
 use crate::quiet::Quiet;
 use crate::showing::{put_figures, put_memory};
-use crate::stage::{Closed, End, Outcome, Stage, Staged, not_asked, not_open, opened};
+use crate::stage::{Closed, End, Outcome, Staged, TrialStage, not_asked, not_open, opened};
 use jb_area::OpenArea;
 use jb_area_open::OpeningError;
 use jb_base::User;
@@ -25,13 +25,13 @@ impl Area {
     /// No area.
     pub(crate) fn none() -> Area {
         Area {
-            now: not_asked(Stage::None),
+            now: not_asked(TrialStage::None),
         }
     }
 
     // Its stage, taken out.
-    fn take(&mut self) -> Stage {
-        mem::replace(&mut self.now.stage, Stage::None)
+    fn take(&mut self) -> TrialStage {
+        mem::replace(&mut self.now.stage, TrialStage::None)
     }
 
     // Puts it in this stage.
@@ -53,7 +53,7 @@ impl Area {
     /// Asks a command, in this way.
     pub(crate) fn ask(&mut self, alloc: Global, asked: &Asked, way: Way) {
         let now = match self.take() {
-            Stage::Resting(area) => match way {
+            TrialStage::Resting(area) => match way {
                 Way::All => area.ask(alloc, asked, false),
                 Way::Own => area.ask(alloc, asked, true),
                 Way::Begun | Way::Parts => area.begin(alloc, asked),
@@ -66,7 +66,7 @@ impl Area {
     /// A step of a pack, that copies so many bytes at most.
     pub(crate) fn copy(&mut self, alloc: Global, user: &User, budget: u32) {
         let now = match self.take() {
-            Stage::Resting(area) => area.copy(alloc, user, budget),
+            TrialStage::Resting(area) => area.copy(alloc, user, budget),
             stage => not_asked(stage),
         };
         self.put(now);
@@ -88,8 +88,8 @@ impl Area {
     /// Ends the call that is begun or was stopped.
     pub(crate) fn end(&mut self, end: End) {
         let now = match self.take() {
-            Stage::Begun(area) => area.end(end),
-            Stage::Doubtful(area) if matches!(end, End::Reopen) => area.reopen(),
+            TrialStage::Begun(area) => area.end(end),
+            TrialStage::Doubtful(area) if matches!(end, End::Reopen) => area.reopen(),
             stage => not_asked(stage),
         };
         self.put(now);
@@ -98,11 +98,11 @@ impl Area {
     /// The disk, taken out.
     pub(crate) fn give(&mut self) -> Option<Quiet> {
         match self.take() {
-            Stage::Resting(area) => Some(area.close()),
-            Stage::Begun(area) => Some(area.close()),
-            Stage::Doubtful(area) => Some(area.close()),
-            Stage::Closed(closed) => Some(closed.disk),
-            Stage::None => None,
+            TrialStage::Resting(area) => Some(area.close()),
+            TrialStage::Begun(area) => Some(area.close()),
+            TrialStage::Doubtful(area) => Some(area.close()),
+            TrialStage::Closed(closed) => Some(closed.disk),
+            TrialStage::None => None,
         }
     }
 
@@ -116,7 +116,7 @@ impl Area {
     // The disk and the reason, where it is not open.
     fn closed(&self) -> Option<&Closed> {
         match &self.now.stage {
-            Stage::Closed(closed) => Some(closed),
+            TrialStage::Closed(closed) => Some(closed),
             _ => None,
         }
     }
@@ -192,7 +192,7 @@ impl Area {
     /// The reply that is coming.
     pub(crate) fn put_coming(&self, words: &mut Words) {
         match &self.now.stage {
-            Stage::Begun(begun) => put_reply(words, begun.coming()),
+            TrialStage::Begun(begun) => put_reply(words, begun.coming()),
             _ => words.word("none"),
         }
     }
@@ -200,9 +200,9 @@ impl Area {
     // The area that is open.
     fn opened(&self) -> Option<&OpenArea<Quiet>> {
         match &self.now.stage {
-            Stage::Resting(area) => Some(&area.area),
-            Stage::Begun(area) => Some(&area.area),
-            Stage::Doubtful(area) => Some(&area.area),
+            TrialStage::Resting(area) => Some(&area.area),
+            TrialStage::Begun(area) => Some(&area.area),
+            TrialStage::Doubtful(area) => Some(&area.area),
             _ => None,
         }
     }

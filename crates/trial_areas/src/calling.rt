@@ -2,12 +2,12 @@
 ghost use Rattle.std.specs.Prelude.{◌≤◌, OnErr, OnOk, length};
 ghost use Rattle.jb_area.specs.Area.{HasBegun, HasDoubt};
 ghost use Rattle.jb_area.specs.Calls.{HasRest};
-ghost use Rattle.jb_limits.specs.declared.limits.TheConstants.{MOST_TEXT_BYTES};
-ghost use Rattle.trial_areas.specs.Leaves.{Leaves, LeavesBegun, LeavesEnded};
+ghost use Rattle.jb_pack.specs.declared.run.TheConstants.{PACK_STEP_BYTES};
+ghost use Rattle.trial_areas.specs.Leaves.{LeavesAtRest, LeavesBegun, LeavesEnded};
 
 use jb_area::{AreaError, OpenArea};
 use jb_base::User;
-use jb_decide::Draft;
+use jb_decide::LentDraft;
 use jb_disk::Disk;
 use jb_journal::Stopped;
 use jb_model::{Asked, Command, Reply};
@@ -22,7 +22,7 @@ pub(crate) fn ask<D: Disk>(
 ) -> Result<Reply, AreaError>
     requires rests { HasRest D.device area.old }
     requires name { length asked.now.user.name ≤ 36 }
-    ensures { Leaves D.device area.new result }
+    ensures { LeavesAtRest D.device area.new result }
 {
     if !own {
         return area.run(alloc, &asked.user, asked.moment, &asked.command);
@@ -35,7 +35,7 @@ pub(crate) fn ask<D: Disk>(
             reply_to,
             private,
         } => {
-            let draft = Draft {
+            let draft = LentDraft {
                 to: to.as_slice(),
                 subject: subject.as_slice(),
                 text: text.as_slice(),
@@ -74,8 +74,8 @@ pub(crate) fn copy<D: Disk>(
     budget: u32,
 ) -> Result<bool, AreaError>
     requires rests { HasRest D.device area.old }
-    requires budget { MOST_TEXT_BYTES ≤ budget }
-    ensures { Leaves D.device area.new result }
+    requires budget { PACK_STEP_BYTES ≤ budget }
+    ensures { LeavesAtRest D.device area.new result }
 {
     area.pack_some(alloc, user, budget)
 }

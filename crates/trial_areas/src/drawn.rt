@@ -3,10 +3,11 @@
 use crate::asking::{TEXT, Way, asked_by, sized_post};
 use crate::base::Base;
 use crate::copied::Copied;
-use jb_base::{MOST_TEXT_BYTES, OutOfMemory};
+use jb_area::PACK_STEP_BYTES;
+use jb_base::OutOfMemory;
 use jb_disk::FileId;
 use jb_model::{Asked, Command, Reply};
-use jb_plain::{Replies, may_run, run_slow};
+use jb_plain::{ReplyList, may_run, run_slow};
 use jb_state::Area;
 use std::alloc::Global;
 use std::mem;
@@ -100,7 +101,7 @@ fn put_area(area: &mut Area, new: Area) {
 }
 
 // Asks these of the plain area, and gives its replies.
-fn run_plain(area: &mut Area, list: &[Asked], words: &mut Words) -> Option<Replies> {
+fn run_plain(area: &mut Area, list: &[Asked], words: &mut Words) -> Option<ReplyList> {
     let Ok(rules) = rules_of(words.alloc, 65_000) else {
         words.lack();
         return None;
@@ -137,7 +138,7 @@ fn ask_all(copy: &mut Copied<'_>, lot: &mut Lot, list: &[Asked], replies: &[Repl
     let alloc = copy.alloc;
     for (asked, reply) in list.iter().zip(replies) {
         if lot.draw(4) == 0 {
-            copy.area.copy(alloc, &asked.user, MOST_TEXT_BYTES);
+            copy.area.copy(alloc, &asked.user, PACK_STEP_BYTES);
         }
         copy.area.ask(alloc, asked, Way::All);
         if is_reply(copy, reply) {

@@ -6,9 +6,9 @@ ghost use Rattle.trial_areas.specs.Leaves.{LeavesFailed};
 
 use crate::calling::{abandon, ask, begin, copy, finish, reopen};
 use crate::quiet::Quiet;
-use jb_area::{AreaError, OpenArea};
+use jb_area::{AreaError, OpenArea, PACK_STEP_BYTES};
 use jb_area_open::{OpeningError, open_area};
-use jb_base::{AreaRules, MOST_ADDRESS_BYTES, MOST_NAME_BYTES, MOST_SLOTS, MOST_TEXT_BYTES, User};
+use jb_base::{AreaRules, MOST_ADDRESS_BYTES, MOST_NAME_BYTES, MOST_SLOTS, User};
 use jb_model::{Asked, Reply};
 use std::alloc::Global;
 use std::marker::Model;
@@ -91,7 +91,7 @@ pub(crate) struct Closed {
 
 /// The stage of an area.
 #[derive(Drop)]
-pub(crate) enum Stage {
+pub(crate) enum TrialStage {
     Resting(Resting),
     Begun(Begun),
     Doubtful(Doubtful),
@@ -128,7 +128,7 @@ pub(crate) enum End {
 
 /// A stage, and what came of the last thing that was asked.
 pub(crate) struct Staged {
-    pub stage: Stage,
+    pub stage: TrialStage,
     pub outcome: Outcome,
 }
 
@@ -146,7 +146,7 @@ impl Drop for Staged {
 fn at_rest(area: OpenArea<Quiet>, outcome: Outcome) -> Staged
     requires { HasRest silent_device area }
 {
-    let stage = Stage::Resting(Resting { area });
+    let stage = TrialStage::Resting(Resting { area });
     Staged { stage, outcome }
 }
 
@@ -154,7 +154,7 @@ fn at_rest(area: OpenArea<Quiet>, outcome: Outcome) -> Staged
 fn in_doubt(area: OpenArea<Quiet>) -> Staged
     requires { HasDoubt silent_device area }
 {
-    let stage = Stage::Doubtful(Doubtful { area });
+    let stage = TrialStage::Doubtful(Doubtful { area });
     Staged {
         stage,
         outcome: Outcome::Stopped,
@@ -172,7 +172,7 @@ fn not_done(area: OpenArea<Quiet>, error: AreaError) -> Staged
 }
 
 /// An area that is not asked in its stage.
-pub(crate) fn not_asked(stage: Stage) -> Staged {
+pub(crate) fn not_asked(stage: TrialStage) -> Staged {
     Staged {
         stage,
         outcome: Outcome::NotAsked,
@@ -181,7 +181,7 @@ pub(crate) fn not_asked(stage: Stage) -> Staged {
 
 /// An area that is not open.
 pub(crate) fn not_open(disk: Quiet, error: Option<OpeningError>) -> Staged {
-    not_asked(Stage::Closed(Closed { disk, error }))
+    not_asked(TrialStage::Closed(Closed { disk, error }))
 }
 
 /// The opening, or the disk with the refusal. Rules that no opening may have are refused without one.
@@ -222,7 +222,7 @@ impl Resting {
         }
         match begin(alloc, &mut area, asked) {
             Ok(()) => Staged {
-                stage: Stage::Begun(Begun { area }),
+                stage: TrialStage::Begun(Begun { area }),
                 outcome: Outcome::Begun,
             },
             Err(error) => not_done(area, error),
@@ -232,7 +232,7 @@ impl Resting {
     /// A step of a pack.
     pub(crate) fn copy(self, alloc: Global, user: &User, budget: u32) -> Staged {
         let Resting { mut area } = self;
-        if budget < MOST_TEXT_BYTES {
+        if budget < PACK_STEP_BYTES {
             return at_rest(area, Outcome::NotAsked);
         }
         match copy(alloc, &mut area, user, budget) {
@@ -270,7 +270,7 @@ impl Begun {
         match end {
             End::Finish => self.finish(),
             End::Abandon => self.abandon(),
-            End::Reopen => not_asked(Stage::Begun(self)),
+            End::Reopen => not_asked(TrialStage::Begun(self)),
         }
     }
 

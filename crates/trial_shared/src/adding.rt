@@ -1,7 +1,7 @@
 //! A number behind a turn, and seats that add to it.
 ghost use Rattle.std.specs.Prelude.{◌≡◌, ◌+◌, ◌^◌, ◌<◌, ◌≤◌, [], ◌∷◌, ◌++◌, Some};
 ghost use Rattle.jb_turn.specs.Rows.{StandsFrom};
-ghost use Rattle.jb_turn.specs.Seats.{node, opening, front, Rests, Holds};
+ghost use Rattle.jb_turn.specs.Seats.{node, opening, front, Rests, HoldsTurn};
 ghost use Rattle.trial_shared.specs.Totals.{stands_for_total};
 
 use jb_turn::{Held, Kept, NamesEntry, Seat, Turn};
@@ -38,8 +38,8 @@ fn note_added<J: NamesEntry<(u32, u64)>>(
     amount: u64,
 )
     requires entry { J.entry ≡ Some (node seat.old, amount) }
-    requires seat { Holds turn.now seat.old held.old.count × (held.old.count ≤ 2 ^ 62) }
-    ensures seat { Holds turn.now seat.new held.new.count }
+    requires seat { HoldsTurn turn.now seat.old held.old.count × (held.old.count ≤ 2 ^ 62) }
+    ensures seat { HoldsTurn turn.now seat.new held.new.count }
     ensures entry { front seat.new ≡ front seat.old ++ (node seat.old, amount) ∷ [] }
     ensures same { opening seat.new ≡ opening seat.old }
     ensures kept { held.new.state ≡ held.old.state }
@@ -49,9 +49,9 @@ fn note_added<J: NamesEntry<(u32, u64)>>(
 
 // Adds 1 to the number that is out, where there is room for it.
 fn add_one(turn: &Adders, seat: &mut Adder, held: &mut Held<Total>)
-    requires seat { Holds turn.now seat.old held.old.count }
+    requires seat { HoldsTurn turn.now seat.old held.old.count }
     requires state { StandsFrom stands_for_total (opening seat.old) held.old.state (front seat.old) }
-    ensures seat { Holds turn.now seat.new held.new.count }
+    ensures seat { HoldsTurn turn.now seat.new held.new.count }
     ensures state { StandsFrom stands_for_total (opening seat.new) held.new.state (front seat.new) }
 {
     if held.count <= 1 << 62 && held.state.sum < u64::MAX {

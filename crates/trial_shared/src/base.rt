@@ -1,7 +1,7 @@
 //! The files of a base, and the area that they hold.
 ghost use Rattle.std.specs.Prelude.{IfOk};
 ghost use Rattle.jb_area.specs.Calls.{HasRest};
-ghost use Rattle.jb_disk.specs.Memory.{device_of};
+ghost use Rattle.jb_disk.specs.Memory.{memory_device};
 
 use jb_area::OpenArea;
 use jb_area_open::open_area;
@@ -99,7 +99,7 @@ pub(crate) fn open(
     base: &Files,
     failing: &[u64],
 ) -> Result<OpenArea<MemDisk>, RowError>
-    ensures { IfOk result (HasRest device_of) }
+    ensures { IfOk result (HasRest memory_device) }
 {
     match base.disk(alloc, failing) {
         Ok(disk) => open_on(alloc, disk),
@@ -123,7 +123,7 @@ pub(crate) fn area_in(
     place: usize,
     words: &mut Words,
 ) -> Result<OpenArea<MemDisk>, RowError>
-    ensures { IfOk result (HasRest device_of) }
+    ensures { IfOk result (HasRest memory_device) }
 {
     let calls = match closed(words.alloc, base) {
         Ok(disk) => disk.calls(),

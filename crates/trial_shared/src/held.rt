@@ -101,10 +101,10 @@ impl<'a> HeldDisk<'a> {
 }
 
 impl<'a> Disk for HeldDisk<'a> {
-    ghost use Rattle.jb_disk.specs.Memory.{FailsNext, device_of};
+    ghost use Rattle.jb_disk.specs.Memory.{FailsNext, memory_device};
     ghost use Rattle.jb_disk.specs.MemoryLaws.{tells_an_image};
 
-    ghost device = { λ held. device_of held.disk };
+    ghost device = { λ held. memory_device held.disk };
 
     ghost fails_next = { λ held. FailsNext held.disk };
 

@@ -1,15 +1,17 @@
 //! What the nodes of a trial do in their threads, and what they note of it.
-ghost use Rattle.std.specs.Prelude.{◌<◌, ◌≤◌};
+ghost use Rattle.std.specs.Prelude.{◌<◌, ◌≤◌, ◌+◌};
+ghost use Rattle.jb_limits.specs.declared.limits.TheConstants.{MOST_NODES};
 
 use crate::asking::{Caller, caller_named};
 use crate::held::Meeting;
+use jb_base::MOST_NODES;
 use jb_model::Reply;
 use jb_state::Figures;
 use std::alloc::Global;
 use trial_rows::{Act, RowError, Words};
 
 /// As many nodes as there may be.
-pub(crate) const NODES: u32 = 33;
+pub(crate) const NODES: u32 = MOST_NODES + 1;
 
 /// What each node does in its thread.
 #[derive(Clone, Copy)]
@@ -29,7 +31,7 @@ pub(crate) enum Plan<'a> {
 impl<'a> Plan<'a> {
     /// How many nodes follow it.
     pub(crate) fn nodes(self) -> u32
-        ensures { (0 < result) × (result ≤ 33) }
+        ensures { (0 < result) × (result ≤ MOST_NODES + 1) }
     {
         match self {
             Plan::Drawn(..) | Plan::Crowd(..) => NODES,

@@ -6,7 +6,7 @@ use crate::noted::{Deed, Noted, Told, caller_at};
 use jb_base::AreaRules;
 use jb_disk::FileId;
 use jb_model::{Asked, Reply};
-use jb_plain::{Replies, may_run, run_slow};
+use jb_plain::{ReplyList, may_run, run_slow};
 use jb_state::{Area, Figures, Loaded};
 use std::alloc::Global;
 use std::mem;
@@ -69,7 +69,7 @@ fn is_same(alloc: Global, one: &Reply, other: &Reply) -> Result<bool, RowError> 
 
 impl<'a> Again<'a> {
     // Asks this of the plain program.
-    fn run(&mut self, alloc: Global, asked: Asked) -> Result<Replies, RowError> {
+    fn run(&mut self, alloc: Global, asked: Asked) -> Result<ReplyList, RowError> {
         if !may_run(&self.area, self.rules.slots) {
             return Err(RowError::Unknown(0));
         }
@@ -90,7 +90,7 @@ impl<'a> Again<'a> {
         node: u32,
         act: Act,
         number: u32,
-    ) -> Result<Replies, RowError> {
+    ) -> Result<ReplyList, RowError> {
         match asked_at(alloc, node, act, number) {
             Ok(asked) => self.run(alloc, asked),
             Err(error) => Err(error),

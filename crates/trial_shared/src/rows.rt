@@ -1,5 +1,6 @@
 //! The rows.
-ghost use Rattle.std.specs.Prelude.{◌<◌, ◌≤◌, IfOk};
+ghost use Rattle.std.specs.Prelude.{◌<◌, ◌≤◌, IfOk, ◌+◌};
+ghost use Rattle.jb_limits.specs.declared.limits.TheConstants.{MOST_NODES};
 
 use crate::asking::{Caller, caller_named, command_by};
 use crate::base::{area_in, empty, lengthened};
@@ -27,7 +28,7 @@ pub(crate) struct Trial<'a, R: Threads + Wait + Sync> {
 
 // From 1 to 33 nodes.
 fn nodes_in(row: &Row, words: &mut Words) -> Result<u32, RowError>
-    ensures { IfOk result (λ nodes. (0 < nodes) × (nodes ≤ 33)) }
+    ensures { IfOk result (λ nodes. (0 < nodes) × (nodes ≤ MOST_NODES + 1)) }
 {
     match row.u32(1, words) {
         nodes @ 1..=NODES => Ok(nodes),

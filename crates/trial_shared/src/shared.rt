@@ -1,5 +1,6 @@
 //! A shared area with its passes.
-ghost use Rattle.std.specs.Prelude.{◌<◌, ◌≤◌, IfOk};
+ghost use Rattle.std.specs.Prelude.{◌<◌, ◌≤◌, IfOk, ◌+◌};
+ghost use Rattle.jb_limits.specs.declared.limits.TheConstants.{MOST_NODES};
 ghost use Rattle.jb_area.specs.Calls.{HasRest};
 ghost use Rattle.jb_shared.specs.Areas.{IsOf};
 
@@ -84,7 +85,7 @@ impl<D: Disk + Drop> Shared<D> {
         nodes: u32,
     ) -> Result<Shared<D>, RowError>
         requires rest { HasRest D.device area }
-        requires nodes { (0 < nodes) × (nodes ≤ 33) }
+        requires nodes { (0 < nodes) × (nodes ≤ MOST_NODES + 1) }
     {
         match SharedArea::new(rt, alloc, area, nodes) {
             Ok((area, passes)) => Ok(Shared { area, passes }),

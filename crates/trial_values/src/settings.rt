@@ -1,5 +1,4 @@
 //! The rows on the settings file.
-ghost use Rattle.jb_conf.specs.InRange.{IsInRange};
 
 use jb_base::{AreaRules, Bytes, Kind, OutOfMemory};
 use jb_conf::{Board, BoardArea, BoardUser, ConfError, check_login, read};
@@ -72,9 +71,7 @@ pub(crate) fn answer(file: &[u8], row: &Row, words: &mut Words) {
     }
 }
 
-fn put_part(board: &Board, row: &Row, words: &mut Words)
-    requires { IsInRange board.now }
-{
+fn put_part(board: &Board, row: &Row, words: &mut Words) {
     match row.word(0) {
         "board" => put_board(words, board),
         "area" => put_area(words, board.areas.as_slice(), row),
@@ -148,9 +145,7 @@ fn put_user(words: &mut Words, users: &[BoardUser], row: &Row) {
 }
 
 // `login NAME PASSWORD`: the place of the user who logs in, from 0.
-fn login(board: &Board, row: &Row, words: &mut Words)
-    requires { IsInRange board.now }
-{
+fn login(board: &Board, row: &Row, words: &mut Words) {
     let name = row.bytes(1, words);
     let password = row.bytes(2, words);
     match check_login(board, name.as_slice(), password.as_slice()) {

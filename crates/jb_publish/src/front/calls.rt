@@ -1,7 +1,7 @@
 //! What is done with a front.
 ghost use Rattle.std.specs.Prelude.{◌≡◌, ◌≤◌, ◌<◌, length, MatchBool};
 ghost use mathlib.Core.List.{IsPrefix};
-ghost use Rattle.jb_publish.specs.Fronts.{book_of, list_of};
+ghost use Rattle.jb_publish.specs.Fronts.{book_of, known_list};
 
 use super::Front;
 
@@ -18,7 +18,7 @@ impl<E> Front<E> {
 
     /// How many entries the list has.
     pub fn entries(&self) -> u64
-        ensures { result ≡ length (list_of self.now) }
+        ensures { result ≡ length (known_list self.now) }
     {
         self.count
     }
@@ -26,7 +26,7 @@ impl<E> Front<E> {
     /// Shows that this list begins the other, which is no shorter.
     pub(crate) fn begins(&self, other: &Front<E>)
         requires { (book_of self.now ≡ book_of other.now) × (self.now.count ≤ other.now.count) }
-        ensures { IsPrefix (list_of self.now) (list_of other.now) }
+        ensures { IsPrefix (known_list self.now) (known_list other.now) }
     {
         let mut both = self.seen.again();
         both.learn(&other.seen);
@@ -35,10 +35,10 @@ impl<E> Front<E> {
     /// Whether the other list, of the same pair, is no longer. Then it begins this one, and else this one begins it.
     pub fn covers(&self, other: &Front<E>) -> bool
         requires { book_of other.now ≡ book_of self.now }
-        ensures prefix { MatchBool result (IsPrefix (list_of other.now) (list_of self.now))
-            (IsPrefix (list_of self.now) (list_of other.now)) }
-        ensures length { MatchBool result (length (list_of other.now)
-            ≤ length (list_of self.now)) (length (list_of self.now) < length (list_of other.now)) }
+        ensures prefix { MatchBool result (IsPrefix (known_list other.now) (known_list self.now))
+            (IsPrefix (known_list self.now) (known_list other.now)) }
+        ensures length { MatchBool result (length (known_list other.now)
+            ≤ length (known_list self.now)) (length (known_list self.now) < length (known_list other.now)) }
     {
         if other.count <= self.count {
             other.begins(self);

@@ -1,5 +1,5 @@
 use Rattle.jb_disk.proofs.RunLemmas.{stays_silent}
-use Rattle.jb_area.proofs.CommitLemmas.{ready_as, done_as, made_as, size_as, stopped_as, crash_as}
+use Rattle.jb_area.proofs.CommitLemmas.{ready_as, done_as, made_as, size_as, stopped_as, shut_as, crash_as}
 use Rattle.jb_area.proofs.Outcomes.{if_err_then, on_ok_then, on_ok_then2}
 use Rattle.jb_area.proofs.committing.commit_change.Goals as goal
 
@@ -24,6 +24,9 @@ returns-clause-size g c = on_ok_then c.commit.result _ _ c.commit.ensures.done (
 pub returns-clause-doubt : goal.returns-clause-doubt
 returns-clause-doubt g c = if_err_then c.commit.result _ _ c.commit.ensures.in_doubt (λ stopped doubt from texts copies coming settled is.
     stopped_as c.args.redo.now stopped (g.D.Disk.device c.args.disk.now) (g.D.Disk.device c.commit.new.disk) from texts copies (stays_silent _ _ c.commit.ensures.alike) doubt settled)
+
+pub returns-clause-early : goal.returns-clause-early
+returns-clause-early g c = shut_as c.args.redo.now c.commit.result (g.D.Disk.device c.args.disk.now) (g.D.Disk.device c.commit.new.disk) c.commit.ensures.opening
 
 pub returns-clause-crash : goal.returns-clause-crash
 returns-clause-crash g c = λ from texts copies coming settled is was there.

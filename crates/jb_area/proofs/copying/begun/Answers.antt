@@ -2,7 +2,7 @@ use Rattle.std.proofs.Common.{◌∙◌, Option, ap, subst, sym}
 use Rattle.std.specs.Option.{ForSome}
 use Rattle.jb_pack.proofs.TouchLemmas.{touches-none}
 use Rattle.jb_pack.specs.Shadow.{HasCopies, Shadow}
-use Rattle.jb_decide.specs.Holds.{HasAll}
+use Rattle.jb_decide.specs.Holds.{HoldsCopies}
 use Rattle.jb_area.specs.Copying.{begun_of}
 use Rattle.jb_area.proofs.Outcomes.{if_ok_then, if_ok_then2}
 use Rattle.jb_area.proofs.copying.begun.Goals as goal
@@ -12,7 +12,7 @@ returns-in-Some-clause-begun g c = sym (ap begun_of c.in-Some.is)
 
 pub returns-in-Some-clause-has : goal.returns-in-Some-clause-has
 returns-in-Some-clause-has g c =
-    subst (λ (k : Option Shadow). ForSome (g.D.Disk.device c.args.disk.now).contents (HasAll k)) c.in-Some.is c.requires.has
+    subst (λ (k : Option Shadow). ForSome (g.D.Disk.device c.args.disk.now).contents (HoldsCopies k)) c.in-Some.is c.requires.has
 
 pub returns-in-Some-clause-kept : goal.returns-in-Some-clause-kept
 returns-in-Some-clause-kept g c = touches-none (g.D.Disk.device c.args.disk.now)

@@ -5,7 +5,7 @@ use Rattle.jb_pack.proofs.PackerLemmas.{texts_kept}
 use Rattle.jb_pack.proofs.TouchLemmas.{touches-then}
 use Rattle.jb_pack.specs.Shadow.{Shadow}
 use Rattle.jb_pack.specs.declared.error.PackError.{PackError}
-use Rattle.jb_decide.specs.Holds.{HasAll}
+use Rattle.jb_decide.specs.Holds.{HoldsCopies}
 use Rattle.jb_area.specs.Copying.{begun_of}
 use Rattle.jb_area.proofs.BegunLemmas.{copied_begun, synced_unless, unless_always, unless_then}
 use Rattle.jb_area.proofs.Outcomes.{counts_behind, if_ok_then}
@@ -38,7 +38,7 @@ returns-in-Ok-clause-faults g c =
 pub returns-in-Err-clause-has : goal.returns-in-Err-clause-has
 returns-in-Err-clause-has g c =
     let result : Result Bool PackError = Err c.in-Err.error in
-    unless_always result _ (subst (λ (k : Option Shadow). ForSome (g.D.Disk.device c.begun.new.disk).contents (HasAll k)) (sym c.replace.ensures.after) (λ files there. tt))
+    unless_always result _ (subst (λ (k : Option Shadow). ForSome (g.D.Disk.device c.begun.new.disk).contents (HoldsCopies k)) (sym c.replace.ensures.after) (λ files there. tt))
 
 pub returns-in-Err-clause-durable : goal.returns-in-Err-clause-durable
 returns-in-Err-clause-durable g c =

@@ -5,10 +5,10 @@ use Rattle.jb_state.specs.declared.loaded.Loaded.{Loaded}
 use Rattle.jb_state.specs.declared.mark.Mark.{Mark}
 use Rattle.jb_change.specs.Headers.{Updates}
 use Rattle.jb_change.specs.Put.{IsInMark, LeavesRest}
-use Rattle.jb_change.proofs.AfterLemmas.{marked_first, marked_last}
 use Rattle.jb_change.proofs.LeavesLemmas.{leaves_behind, leaves_mark, leaves_nothing, leaves_rest}
 use Rattle.jb_change.proofs.UpdateLemmas.{updates_cleared, updates_mark, updates_new_mark}
 use Rattle.jb_change.proofs.changes.put_marked.Goals as goal
+use Rattle.jb_state.proofs.MarkLaws.{marked_first, marked_last}
 
 pub returns-in-Some-clause-makes : goal.returns-in-Some-clause-makes
 returns-in-Some-clause-makes c =

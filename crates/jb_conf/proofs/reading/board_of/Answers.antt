@@ -1,12 +1,13 @@
-use Rattle.std.proofs.Common.{inl, inr, [], ◌++◌, refl, ap, ◌∙◌, w32, FitsSigned, rules}
+use Rattle.std.proofs.Common.{◌≡◌, None, inl, inr, [], ◌++◌, refl, ap, ◌∙◌, w32, FitsSigned, rules}
 use Rattle.std.proofs.lemmas.Int.{to_z-of_z}
 use Rattle.std.proofs.lemmas.Result.{err_from_is_err_and}
 use Rattle.jb_conf.specs.Areas.{areas_of}
-use Rattle.jb_conf.specs.Settings.{board_fault, board_of}
+use Rattle.jb_conf.specs.Settings.{board_fault}
 use Rattle.jb_conf.specs.Unknown.{unknown_in, unknown_in_each}
 use Rattle.jb_conf.specs.Users.{users_of}
 use Rattle.jb_conf.specs.declared.unknown.Sort.TheVariants.{OfArea, OfBoard, OfUser}
 use Rattle.toml.specs.View.{table_view}
+use Rattle.jb_conf.proofs.Boards.{values_in_range}
 use Rattle.jb_conf.proofs.reading.board_of.Goals as goal
 
 pub returns-in_err-name : goal.returns-in_err-name
@@ -81,7 +82,7 @@ returns-in_err-users c =
     ])
 
 pub returns : goal.returns
-unfolding board_fault board_of
+unfolding board_fault
 returns c =
     let address = c.as_bytes.ensures.value ∙ c.in_ok-address.ensures.1 in
     let tables = c.in_ok-area_tables.ensures.row.1 in
@@ -89,15 +90,32 @@ returns c =
     let entries = table_view c.args.table.now in
     let small : FitsSigned w32 c.in_ok-offset.offset = search rules in (
       rw (c.in_ok-name.ensures.0, c.in_ok-address.ensures.0, c.in_ok-port.ensures.row.0, c.in_ok-nodes.ensures.row.0, c.in_ok-offset.ensures.0, c.in_ok-pack_minutes.ensures.row.0, c.in_ok-area_tables.ensures.row.0, c.in_ok-user_tables.ensures.row.0, ← address, ← tables, c.in_ok-areas.ensures.0, ← people, c.in_ok-users.ensures.0) refl,
-      λ i. record {
-        name = (c.in_ok-copy.ensures ∙ c.as_bytes-2.ensures.value ∙ c.in_ok-name.ensures.1) i;
-        address = (c.in_ok-copy-2.ensures ∙ c.as_bytes-3.ensures.value ∙ c.in_ok-address.ensures.1) i;
-        port = c.in_ok-port.ensures.row.1 i;
-        nodes = c.in_ok-nodes.ensures.row.1 i;
-        offset = (to_z-of_z w32 _ small ∙ c.in_ok-offset.ensures.1) i;
-        pack_minutes = c.in_ok-pack_minutes.ensures.row.1 i;
-        areas = (c.in_ok-areas.ensures.1 ∙ (λ j. areas_of (address j) [] (tables j))) i;
-        users = (c.in_ok-users.ensures.1 ∙ ap (users_of []) people) i;
-        unknown = (c.in_ok-unknown.ensures ∙ (λ j. unknown_in OfBoard 0 entries ++ unknown_in_each OfArea 1 (tables j) ++ unknown_in_each OfUser 1 (people j))) i;
+      record {
+        name = c.in_ok-copy.ensures ∙ c.as_bytes-2.ensures.value ∙ c.in_ok-name.ensures.1;
+        address = c.in_ok-copy-2.ensures ∙ c.as_bytes-3.ensures.value ∙ c.in_ok-address.ensures.1;
+        port = c.in_ok-port.ensures.row.1;
+        nodes = c.in_ok-nodes.ensures.row.1;
+        offset = to_z-of_z w32 _ small ∙ c.in_ok-offset.ensures.1;
+        pack_minutes = c.in_ok-pack_minutes.ensures.row.1;
+        areas = c.in_ok-areas.ensures.1 ∙ (λ j. areas_of (address j) [] (tables j));
+        users = c.in_ok-users.ensures.1 ∙ ap (users_of []) people;
+        unknown = c.in_ok-unknown.ensures ∙ (λ j. unknown_in OfBoard 0 entries ++ unknown_in_each OfArea 1 (tables j) ++ unknown_in_each OfUser 1 (people j));
       },
     )
+
+pub invariant_of-result : goal.invariant_of-result
+unfolding board_fault
+invariant_of-result c =
+    let address = c.as_bytes.ensures.value ∙ c.in_ok-address.ensures.1 in
+    let tables = c.in_ok-area_tables.ensures.row.1 in
+    let people = c.in_ok-user_tables.ensures.row.1 in
+    let entries = table_view c.args.table.now in
+    let small : FitsSigned w32 c.in_ok-offset.offset = search rules in
+    let none : board_fault entries ≡ None = rw (c.in_ok-name.ensures.0, c.in_ok-address.ensures.0, c.in_ok-port.ensures.row.0, c.in_ok-nodes.ensures.row.0, c.in_ok-offset.ensures.0, c.in_ok-pack_minutes.ensures.row.0, c.in_ok-area_tables.ensures.row.0, c.in_ok-user_tables.ensures.row.0, ← address, ← tables, c.in_ok-areas.ensures.0, ← people, c.in_ok-users.ensures.0) refl in
+    let name = c.in_ok-copy.ensures ∙ c.as_bytes-2.ensures.value ∙ c.in_ok-name.ensures.1 in
+    let kept = c.in_ok-copy-2.ensures ∙ c.as_bytes-3.ensures.value ∙ c.in_ok-address.ensures.1 in
+    let areas = c.in_ok-areas.ensures.1 ∙ (λ j. areas_of (address j) [] (tables j)) in
+    let users = c.in_ok-users.ensures.1 ∙ ap (users_of []) people in
+    record {
+      in_range = rw (name, kept, c.in_ok-nodes.ensures.row.1, to_z-of_z w32 _ small ∙ c.in_ok-offset.ensures.1, c.in_ok-pack_minutes.ensures.row.1, areas, users) (values_in_range entries none);
+    }

@@ -1,5 +1,4 @@
 use Rattle.jb_conf.proofs.Answering.{answered_not_toml, only_not_toml, only_settings}
-use Rattle.jb_conf.proofs.Boards.{reading_in_range}
 use Rattle.jb_conf.proofs.reading.read.Goals as goal
 
 pub returns-clause-settings : goal.returns-clause-settings
@@ -7,9 +6,6 @@ returns-clause-settings c = only_settings c.args.bytes.now c.read_document.resul
 
 pub returns-clause-not_toml : goal.returns-clause-not_toml
 returns-clause-not_toml c = only_not_toml c.args.bytes.now c.read_document.result c.read_document.ensures
-
-pub returns-clause-in_range : goal.returns-clause-in_range
-returns-clause-in_range c = reading_in_range c.args.bytes.now c.read_document.result c.read_document.ensures
 
 pub returns-clause-only_not_toml : goal.returns-clause-only_not_toml
 returns-clause-only_not_toml c = answered_not_toml c.args.bytes.now c.read_document.result c.read_document.ensures

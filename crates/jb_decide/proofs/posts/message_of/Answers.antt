@@ -5,11 +5,11 @@ use Rattle.jb_bytes.specs.Crc.{jam_crc_of}
 use Rattle.jb_bytes.specs.declared.subfield.Subfield.{Subfield}
 use Rattle.jb_state.specs.LiveSlots.{linkables}
 use Rattle.jb_state.specs.Links.{parent_for}
-use Rattle.jb_model.specs.Post.{Draft, posted_msgid}
+use Rattle.jb_model.specs.Post.{Draft, posted_msgid, fields_with, head_with}
 use Rattle.jb_state.specs.declared.loaded.Loaded.{Loaded}
 use Rattle.jb_state.specs.declared.message.Head.{Head}
 use Rattle.jb_link.specs.Parents.{copied_msgid, parent_behind}
-use Rattle.jb_decide.specs.Draft.{draft_of, fields_with, head_with, new_fields, new_head, next_of}
+use Rattle.jb_decide.specs.Draft.{draft_of, new_fields, new_head, next_of}
 use Rattle.jb_decide.proofs.PostLemmas.{loaded_with}
 use Rattle.jb_decide.proofs.posts.message_of.Goals as goal
 

@@ -2,8 +2,9 @@ use Rattle.std.proofs.Common.{List, ap, arith, subst, ◌∙◌}
 use Rattle.jb_state.specs.Loaded.{with_marks}
 use Rattle.jb_state.specs.declared.mark.Mark.{Mark}
 use Rattle.jb_state.specs.Places.{IsPlaceOf}
-use Rattle.jb_held.proofs.MarkLemmas.{marked_first, marked_last, ordered_first, ordered_last}
+use Rattle.jb_held.proofs.MarkLemmas.{ordered_first, ordered_last}
 use Rattle.jb_held.proofs.applying.set_loaded_mark.Goals as goal
+use Rattle.jb_state.proofs.MarkLaws.{marked_first, marked_last}
 
 pub returns-in-Some-clause-loaded : goal.returns-in-Some-clause-loaded
 returns-in-Some-clause-loaded c =

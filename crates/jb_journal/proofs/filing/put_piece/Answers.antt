@@ -3,7 +3,7 @@ use Rattle.std.specs.Option.{option_map}
 use Rattle.jb_disk.proofs.RunLemmas.{keeps-then}
 use Rattle.jb_redo.specs.OnTheWay.{IsOnTheWay}
 use Rattle.jb_journal.specs.Filing.{IsWrittenBy, with_piece}
-use Rattle.jb_journal.specs.Pending.{Pending, seen, IsHeld}
+use Rattle.jb_journal.specs.Pending.{Pending, told_with, StandsInFile}
 use Rattle.jb_journal.specs.Spelling.{nth_piece}
 use Rattle.jb_journal.specs.Writing.{Reaches}
 use Rattle.jb_journal.proofs.ComingLemmas.{come_on}
@@ -19,7 +19,7 @@ returns-in_ok-flush-clause-told g c =
     let was = c.args.gathering.now in
     let is = head-nth c.args.redo.now.pieces c.args.k c.head-head.result c.requires.within c.head-head.ensures in
     on_ok c.copy.result _ _ (λ told.
-    ap (λ (p : Pending). seen p (g.D.Disk.device c.copy.new.disk).contents) (c.copy.ensures.same ∙ c.flush.ensures.none) ∙ seen-none was.file was.at (g.D.Disk.device c.copy.new.disk).contents
+    ap (λ (p : Pending). told_with p (g.D.Disk.device c.copy.new.disk).contents) (c.copy.ensures.same ∙ c.flush.ensures.none) ∙ seen-none was.file was.at (g.D.Disk.device c.copy.new.disk).contents
     ∙ told ∙ option_map-same _ _ _ (λ files there. copy-written piece c.head-head.result is c.if-head.true files) ∙ ap (option_map (with_piece piece)) c.in_ok-flush.ensures.told) c.copy.ensures.told
 
 pub returns-in_ok-flush-clause-held : goal.returns-in_ok-flush-clause-held
@@ -29,9 +29,9 @@ returns-in_ok-flush-clause-held g c =
     let old = (g.D.Disk.device c.args.disk.now).contents in
     let new = (g.D.Disk.device c.copy.new.disk).contents in
     let is = head-nth c.args.redo.now.pieces c.args.k c.head-head.result c.requires.within c.head-head.ensures in
-    let room : Reaches (seen was old) was.file (was.at + 0) = Reaches-written old (seen was old) was.file was.file was.at (was.at + 0) was.bytes refl c.requires.held (λ files there. omega (arith, c.requires.held files there)) in
-    on_ok c.copy.result _ _ (λ told. subst (λ (p : Pending). IsHeld p new) (sym (c.copy.ensures.same ∙ c.flush.ensures.none))
-    (reaches-with piece (seen was old) new was.file (was.at + 0)
+    let room : Reaches (told_with was old) was.file (was.at + 0) = Reaches-written old (told_with was old) was.file was.file was.at (was.at + 0) was.bytes refl c.requires.held (λ files there. omega (arith, c.requires.held files there)) in
+    on_ok c.copy.result _ _ (λ told. subst (λ (p : Pending). StandsInFile p new) (sym (c.copy.ensures.same ∙ c.flush.ensures.none))
+    (reaches-with piece (told_with was old) new was.file (was.at + 0)
     (told ∙ option_map-same _ _ _ (λ files there. copy-written piece c.head-head.result is c.if-head.true files) ∙ ap (option_map (with_piece piece)) c.in_ok-flush.ensures.told) c.requires.place room)) c.copy.ensures.told
 
 pub returns-in_ok-flush-clause-keeps : goal.returns-in_ok-flush-clause-keeps

@@ -5,7 +5,7 @@ use Rattle.jb_disk.specs.declared.piece.Length.{Length}
 use Rattle.jb_disk.proofs.RunLemmas.{keeps-then}
 use Rattle.jb_disk.proofs.FileLemmas.{leaves_both}
 use Rattle.jb_redo.specs.OnTheWay.{IsOnTheWay}
-use Rattle.jb_journal.specs.Filing.{AreResized, AgreeBelow}
+use Rattle.jb_journal.specs.Filing.{HaveNewLengths, AgreeBelow}
 use Rattle.jb_journal.specs.Coming.{ComeBy}
 use Rattle.jb_journal.proofs.ComingLemmas.{come_on, syncs_behind}
 use Rattle.jb_journal.proofs.Told.{on_ok, on_ok_both}
@@ -15,8 +15,8 @@ use Rattle.jb_journal.proofs.filing.write_files.Goals as goal
 pub put_pieces-requires : goal.put_pieces-requires
 put_pieces-requires g c =
     let lengths = c.args.redo.now.lengths in
-    let told : Turns (AreResized lengths) (g.D.Disk.device c.args.disk.now).contents (g.D.Disk.device c.set_lengths.new.disk).contents =
-    subst (λ (l : List Length). Turns (AreResized l) (g.D.Disk.device c.args.disk.now).contents (g.D.Disk.device c.set_lengths.new.disk).contents) c.lengths.ensures c.in_ok-set_lengths.ensures.told in
+    let told : Turns (HaveNewLengths lengths) (g.D.Disk.device c.args.disk.now).contents (g.D.Disk.device c.set_lengths.new.disk).contents =
+    subst (λ (l : List Length). Turns (HaveNewLengths l) (g.D.Disk.device c.args.disk.now).contents (g.D.Disk.device c.set_lengths.new.disk).contents) c.lengths.ensures c.in_ok-set_lengths.ensures.told in
     record { place = pieces_place lengths c.args.redo.now.pieces _ _ told c.requires.room }
 
 pub returns-in_err-put_pieces-clause-keeps : goal.returns-in_err-put_pieces-clause-keeps
@@ -40,8 +40,8 @@ returns-clause-keeps g c = λ start legal.
 pub returns-clause-told : goal.returns-clause-told
 returns-clause-told g c =
     let lengths = c.args.redo.now.lengths in
-    let told : Turns (AreResized lengths) (g.D.Disk.device c.args.disk.now).contents (g.D.Disk.device c.set_lengths.new.disk).contents =
-    subst (λ (l : List Length). Turns (AreResized l) (g.D.Disk.device c.args.disk.now).contents (g.D.Disk.device c.set_lengths.new.disk).contents) c.lengths.ensures c.in_ok-set_lengths.ensures.told in
+    let told : Turns (HaveNewLengths lengths) (g.D.Disk.device c.args.disk.now).contents (g.D.Disk.device c.set_lengths.new.disk).contents =
+    subst (λ (l : List Length). Turns (HaveNewLengths l) (g.D.Disk.device c.args.disk.now).contents (g.D.Disk.device c.set_lengths.new.disk).contents) c.lengths.ensures c.in_ok-set_lengths.ensures.told in
     on_ok c.sync_changed.result _ _ (λ kept. λ start legal grown way. kept ∙ told_applied lengths c.args.redo.now.pieces start _ _ _ told c.in_ok-put_pieces.ensures.told legal grown way) c.sync_changed.ensures.kept
 
 pub returns-clause-durable : goal.returns-clause-durable

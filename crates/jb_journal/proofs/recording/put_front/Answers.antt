@@ -2,7 +2,7 @@ use Rattle.std.proofs.Common.{◌≡◌, ◌+◌, ◌*◌, ◌++◌, List, ℕ, 
 use Rattle.std.specs.List.{flat_map}
 use Rattle.jb_bytes.specs.Number.{number_bytes}
 use Rattle.jb_redo.specs.Record.{length_bytes}
-use Rattle.jb_journal.specs.Spelling.{front_bytes}
+use Rattle.jb_journal.specs.Spelling.{record_front}
 use Rattle.jb_journal.proofs.RecordLemmas.{length-front}
 use Rattle.jb_journal.proofs.PutsLemmas.{puts_room, puts_then, puts_failed}
 use Rattle.jb_redo.proofs.RecordLemmas.{length-lengths}
@@ -36,7 +36,7 @@ returns g c =
     let number : length c.number_code.result ≡ 4 = ap length c.number_code.ensures in
     let flat = flat_map length_bytes c.args.lengths.now in
     let both : length (c.start_code.result ++ flat) ≡ 8 + 8 * length c.args.lengths.now = length-append c.start_code.result flat ∙ omega (arith, code, length-lengths c.args.lengths.now) in
-    puts_then 16 (24 + 8 * length c.args.lengths.now) (c.start_code.result ++ flat) c.number_code.result (front_bytes c.args.lengths.now c.args.pieces) _ _ _ _ _ _ _ _
+    puts_then 16 (24 + 8 * length c.args.lengths.now) (c.start_code.result ++ flat) c.number_code.result (record_front c.args.lengths.now c.args.pieces) _ _ _ _ _ _ _ _
     (λ files is. omega (arith, c.requires.room files is, length-front c.args.lengths.now c.args.pieces))
     (omega (arith, both))
     (ap (λ (l : List ℕ). l ++ flat ++ number_bytes 4 c.args.pieces) (sym c.start_code.ensures) ∙ ap (λ (l : List ℕ). c.start_code.result ++ flat ++ l) (sym c.number_code.ensures))

@@ -2,7 +2,7 @@ use Rattle.std.proofs.Common.{◌≡◌, ◌<◌, length, ap, sym, arith, refl, 
 use Rattle.std.specs.List.{flat_map}
 use Rattle.std.proofs.lemmas.List.{drop_all}
 use Rattle.jb_redo.specs.Record.{piece_bytes}
-use Rattle.jb_journal.specs.Spelling.{nth_piece, size_of}
+use Rattle.jb_journal.specs.Spelling.{nth_piece, spelled_size}
 use Rattle.jb_journal.proofs.RecordLemmas.{head-nth, length-piece, more_pieces}
 use Rattle.jb_journal.proofs.PutsLemmas.{writing_on, writing_failed, writing_end}
 use Rattle.jb_journal.proofs.recording.put_pieces.Goals as goal
@@ -16,7 +16,7 @@ loop-k-preserved g c =
     let k = c.loop-k.k in
     let low : k < length pieces = omega (arith, c.loop-k-test.true, c.pieces-k-end.ensures) in
     let size : c.piece_size-place.result ≡ length (piece_bytes (nth_piece pieces k)) =
-    c.piece_size-place.ensures ∙ ap size_of (head-nth pieces k c.head.result low c.head.ensures) ∙ sym (length-piece (nth_piece pieces k)) in
+    c.piece_size-place.ensures ∙ ap spelled_size (head-nth pieces k c.head.result low c.head.ensures) ∙ sym (length-piece (nth_piece pieces k)) in
     writing_on _ _ _ _ _ _ _ _ c.piece_size-place.result _ _ (piece_bytes (nth_piece pieces k)) _ _ c.loop-k.invariant size (more_pieces pieces k low) c.in_ok-put_piece.ensures
 
 pub returns : goal.returns

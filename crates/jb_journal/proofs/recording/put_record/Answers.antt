@@ -1,10 +1,11 @@
 use Rattle.std.proofs.Common.{◌≡◌, ◌+◌, ◌*◌, ◌++◌, length, ap, sym, arith, ◌∙◌, List, ℕ}
 use Rattle.jb_disk.specs.declared.piece.Length.{Length}
 use Rattle.jb_redo.specs.Record.{record_bytes}
-use Rattle.jb_journal.specs.Spelling.{front_bytes, back_bytes}
-use Rattle.jb_journal.proofs.RecordLemmas.{length-record, length-front, record-parts}
+use Rattle.jb_journal.specs.Spelling.{record_front, back_bytes}
+use Rattle.jb_journal.proofs.RecordLemmas.{length-front, record-parts}
 use Rattle.jb_journal.proofs.PutsLemmas.{puts_room, puts_then}
 use Rattle.jb_journal.proofs.recording.put_record.Goals as goal
+use Rattle.jb_redo.proofs.LengthLemmas.{length-record}
 
 pub put_front-requires-clause-room : goal.put_front-requires-clause-room
 put_front-requires-clause-room g c = λ files is.
@@ -25,10 +26,10 @@ pub returns : goal.returns
 returns g c =
     let lengths = c.args.redo.now.lengths in
     let pieces = c.args.redo.now.pieces in
-    let front : front_bytes c.lengths.result.now c.pieces.result ≡ front_bytes lengths (length pieces) =
-    ap (λ (l : List Length). front_bytes l c.pieces.result) c.lengths.ensures ∙ ap (front_bytes lengths) c.pieces.ensures in
+    let front : record_front c.lengths.result.now c.pieces.result ≡ record_front lengths (length pieces) =
+    ap (λ (l : List Length). record_front l c.pieces.result) c.lengths.ensures ∙ ap (record_front lengths) c.pieces.ensures in
     let place = 28 + 8 * length c.lengths-2.result.now in
-    puts_then 16 place (front_bytes c.lengths.result.now c.pieces.result) (back_bytes pieces) (record_bytes lengths pieces) _ _ _ _ _ _ _ _
+    puts_then 16 place (record_front c.lengths.result.now c.pieces.result) (back_bytes pieces) (record_bytes lengths pieces) _ _ _ _ _ _ _ _
     (λ files is. omega (arith, c.requires.room files is, c.requires.size))
     (omega (arith, length-front c.lengths.result.now c.pieces.result, ap length c.lengths.ensures, ap length c.lengths-2.ensures))
     (record-parts lengths pieces ∙ ap (λ (l : List ℕ). l ++ back_bytes pieces) (sym front)) c.in_ok-put_front.ensures c.put_back.ensures

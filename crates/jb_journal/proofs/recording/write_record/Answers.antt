@@ -2,7 +2,7 @@ use Rattle.std.proofs.Common.{[], ◌∷◌, ℕ, subst, ◌+◌, ap, ◌∙◌,
 use Rattle.jb_disk.specs.declared.file.FileId.TheVariants.{Jnl}
 use Rattle.jb_disk.proofs.RunLemmas.{keeps-then, keeps-resize, keeps-sync}
 use Rattle.jb_redo.specs.Record.{record_bytes}
-use Rattle.jb_journal.specs.Stages.{IsUntouched, recorded}
+use Rattle.jb_journal.specs.Stages.{KeepsHead, with_record}
 use Rattle.jb_journal.specs.Coming.{ComeBy, journal_length}
 use Rattle.jb_journal.proofs.ComingLemmas.{come_on, come_then, come_resized, come_synced}
 use Rattle.jb_journal.proofs.Touching.{untouched_cut}
@@ -10,22 +10,22 @@ use Rattle.jb_journal.proofs.Told.{told_ended, durable_at, on_ok}
 use Rattle.jb_journal.proofs.recording.write_record.Goals as goal
 
 pub returns-in_err-set_len-clause-keeps : goal.returns-in_err-set_len-clause-keeps
-returns-in_err-set_len-clause-keeps g c = λ start. keeps-resize (IsUntouched start) Jnl _ _ _ _ (g.met.D.Disk.told c.args.disk.now) (g.met.D.Disk.told c.set_len.new.self) c.set_len.ensures.changed
+returns-in_err-set_len-clause-keeps g c = λ start. keeps-resize (KeepsHead start) Jnl _ _ _ _ (g.met.D.Disk.told c.args.disk.now) (g.met.D.Disk.told c.set_len.new.self) c.set_len.ensures.changed
     (λ before after was step. untouched_cut start before after _ (omega arith) was step)
 
 pub returns-in_err-put_gathered-clause-keeps : goal.returns-in_err-put_gathered-clause-keeps
-returns-in_err-put_gathered-clause-keeps g c = λ start. keeps-then (IsUntouched start) _ _ _
-    (keeps-resize (IsUntouched start) Jnl _ _ _ _ (g.met.D.Disk.told c.args.disk.now) (g.met.D.Disk.told c.set_len.new.self) c.set_len.ensures.changed
+returns-in_err-put_gathered-clause-keeps g c = λ start. keeps-then (KeepsHead start) _ _ _
+    (keeps-resize (KeepsHead start) Jnl _ _ _ _ (g.met.D.Disk.told c.args.disk.now) (g.met.D.Disk.told c.set_len.new.self) c.set_len.ensures.changed
     (λ before after was step. untouched_cut start before after _ (omega arith) was step))
     (c.put_gathered.ensures.keeps start)
 
 pub returns-clause-keeps : goal.returns-clause-keeps
-returns-clause-keeps g c = λ start. keeps-then (IsUntouched start) _ _ _
-    (keeps-then (IsUntouched start) _ _ _
-    (keeps-resize (IsUntouched start) Jnl _ _ _ _ (g.met.D.Disk.told c.args.disk.now) (g.met.D.Disk.told c.set_len.new.self) c.set_len.ensures.changed
+returns-clause-keeps g c = λ start. keeps-then (KeepsHead start) _ _ _
+    (keeps-then (KeepsHead start) _ _ _
+    (keeps-resize (KeepsHead start) Jnl _ _ _ _ (g.met.D.Disk.told c.args.disk.now) (g.met.D.Disk.told c.set_len.new.self) c.set_len.ensures.changed
     (λ before after was step. untouched_cut start before after _ (omega arith) was step))
     (c.put_gathered.ensures.keeps start))
-    (keeps-sync (IsUntouched start) Jnl _ _ _ (g.met.D.Disk.told c.put_gathered.new.disk) (g.met.D.Disk.told c.sync.new.self) c.sync.ensures.changed)
+    (keeps-sync (KeepsHead start) Jnl _ _ _ (g.met.D.Disk.told c.put_gathered.new.disk) (g.met.D.Disk.told c.sync.new.self) c.sync.ensures.changed)
 
 pub returns-clause-told : goal.returns-clause-told
 returns-clause-told g c =
@@ -35,7 +35,7 @@ returns-clause-told g c =
 pub returns-clause-durable : goal.returns-clause-durable
 returns-clause-durable g c =
     let told = told_ended Jnl 16 _ (record_bytes c.args.redo.now.lengths c.args.redo.now.pieces) _ _ _ c.requires.room (ap (λ n. 16 + n) c.record_size-size.ensures) c.in_ok-set_len.ensures.changed.done c.in_ok-put_gathered.ensures.told in
-    on_ok c.sync.result _ _ (λ done. durable_at Jnl (recorded c.args.redo.now) _ (g.D.Disk.device c.put_gathered.new.disk) (g.D.Disk.device c.sync.new.self) told done) c.sync.ensures.changed.done
+    on_ok c.sync.result _ _ (λ done. durable_at Jnl (with_record c.args.redo.now) _ (g.D.Disk.device c.put_gathered.new.disk) (g.D.Disk.device c.sync.new.self) told done) c.sync.ensures.changed.done
 
 pub returns-clause-come : goal.returns-clause-come
 returns-clause-come g c =

@@ -1,7 +1,8 @@
 use Rattle.std.proofs.Common.{◌<◌, length, ap, arith, ◌∙◌}
-use Rattle.jb_journal.specs.Spelling.{size_of}
-use Rattle.jb_journal.proofs.RecordLemmas.{head-nth, more_size, length-record}
+use Rattle.jb_journal.specs.Spelling.{spelled_size}
+use Rattle.jb_journal.proofs.RecordLemmas.{head-nth, more_size}
 use Rattle.jb_journal.proofs.spelling.record_size.Goals as goal
+use Rattle.jb_redo.proofs.LengthLemmas.{length-record}
 
 pub loop-k-init : goal.loop-k-init
 loop-k-init c = omega (arith, length-record c.args.redo.now.lengths c.args.redo.now.pieces, ap length c.lengths.ensures)
@@ -11,5 +12,5 @@ loop-k-preserved c =
     let pieces = c.args.redo.now.pieces in
     let k = c.loop-k.k in
     let low : k < length pieces = omega (arith, c.loop-k-test.true, c.pieces-k-end.ensures) in
-    let size = c.piece_size-size.ensures ∙ ap size_of (head-nth pieces k c.head.result low c.head.ensures) in
+    let size = c.piece_size-size.ensures ∙ ap spelled_size (head-nth pieces k c.head.result low c.head.ensures) in
     omega (arith, c.loop-k.invariant, more_size pieces k low, size)

@@ -1,5 +1,5 @@
 use Rattle.std.proofs.Common.{◌<◌, ◌++◌, ◌∷◌, [], ℕ, List, length, ap, sym, ◌∙◌, append_assoc, rules}
-use Rattle.jb_msgid.specs.Address.{doubled}
+use Rattle.jb_msgid.specs.Address.{quotes_doubled}
 use Rattle.jb_msgid.proofs.Beginnings.{closed_at}
 use Rattle.jb_msgid.proofs.Doubling.{doubled-push}
 use Rattle.jb_msgid.proofs.address.unquoted.Goals as goal
@@ -10,10 +10,10 @@ loop-byte-preserved c =
     let byte = c.in-Some.byte in
     let behind = c.in-Some.behind.now in
     c.loop-byte.invariant
-    ∙ ap (λ (l : List ℕ). doubled bytes ++ l) c.in-Some.ensures.inner
-    ∙ sym (append_assoc (doubled bytes) (doubled (byte ∷ [])) behind)
+    ∙ ap (λ (l : List ℕ). quotes_doubled bytes ++ l) c.in-Some.ensures.inner
+    ∙ sym (append_assoc (quotes_doubled bytes) (quotes_doubled (byte ∷ [])) behind)
     ∙ ap (λ (l : List ℕ). l ++ behind) (sym (doubled-push bytes byte))
-    ∙ ap (λ (l : List ℕ). doubled l ++ behind) (sym c.in_ok-append.ensures.ok)
+    ∙ ap (λ (l : List ℕ). quotes_doubled l ++ behind) (sym c.in_ok-append.ensures.ok)
 
 pub returns : goal.returns
 returns c =

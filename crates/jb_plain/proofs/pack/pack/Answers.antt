@@ -9,7 +9,7 @@ use Rattle.jb_state.specs.declared.area.Slot.{Slot}
 use Rattle.jb_model.specs.declared.reply.Reply.TheVariants.{Packed}
 use Rattle.jb_state.proofs.PackLaws.{length-relinked}
 use Rattle.jb_plain.specs.Changes.{cut_area, tightened_area}
-use Rattle.jb_plain.specs.Seen.{seen}
+use Rattle.jb_plain.specs.Seen.{seen_state}
 use Rattle.jb_plain.specs.Walk.{front_of}
 use Rattle.jb_plain.proofs.Lists.{front_of-first}
 use Rattle.jb_plain.proofs.SeenLaws.{answer, pack_way}
@@ -31,7 +31,7 @@ parts state base slots headers texts = counted (record state { base = base; slot
 pub returns : goal.returns
 returns c =
     let held = c.args.state.now in
-    let state : AreaState = seen held in
+    let state : AreaState = seen_state held in
     let front : ℕ = c.slots_in_front-front.result in
     let slots : List Slot = held.slots.items in
     let most : ℕ = 2 ^ 64 - 1 in
@@ -49,7 +49,7 @@ returns c =
       held.slots.ok,
       held.numbers,
     ) in
-    let state_is : seen c.count.new.self ≡ packed_state state =
+    let state_is : seen_state c.count.new.self ≡ packed_state state =
     c.count.ensures
     ∙ ap counted (c.tighten.ensures ∙ ap tightened_area (c.drop_killed.ensures ∙ ap (λ (a : AreaState). cut_area a front) c.in_ok-write_links.ensures.value))
     ∙ ap (λ (l : List SlotState). parts state (state.base + front) l (min (1024 + headers_together l) most) (min (texts_together l) most)) slots_is
@@ -60,7 +60,7 @@ returns c =
     c.live_messages-live.ensures.same ∙ ap (λ (l : List Slot). live_count (map owned_slot l)) c.deref.ensures.value in
     let dropped : c.killed_messages-dropped.result ≡ killed_count (map owned_slot slots) =
     c.killed_messages-dropped.ensures.same ∙ ap (λ (l : List Slot). killed_count (map owned_slot l)) c.deref-2.ensures.value in
-    ap (λ (n : ℕ). answer (Packed c.count.new.self.base n c.killed_messages-dropped.result) (seen c.count.new.self)) live
-    ∙ ap (λ (n : ℕ). answer (Packed c.count.new.self.base (live_count (map owned_slot slots)) n) (seen c.count.new.self)) dropped
+    ap (λ (n : ℕ). answer (Packed c.count.new.self.base n c.killed_messages-dropped.result) (seen_state c.count.new.self)) live
+    ∙ ap (λ (n : ℕ). answer (Packed c.count.new.self.base (live_count (map owned_slot slots)) n) (seen_state c.count.new.self)) dropped
     ∙ ap (λ (s : AreaState). answer (Packed s.base (live_count (map owned_slot slots)) (killed_count (map owned_slot slots))) s) state_is
     ∙ sym (pack_way c.args.rules.now state c.args.user.now (sym c.denied.ensures ∙ c.in_default.is) (sym c.refusal.ensures ∙ c.in_default-refusal.is))

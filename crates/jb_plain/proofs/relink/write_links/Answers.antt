@@ -3,7 +3,7 @@ use Rattle.std.specs.Prelude.{Option}
 use Rattle.jb_state.specs.Tight.{owned_slot}
 use Rattle.jb_state.specs.declared.area.Slot.{Slot}
 use Rattle.jb_state.specs.declared.message.Head.{Head}
-use Rattle.jb_plain.specs.Seen.{seen}
+use Rattle.jb_plain.specs.Seen.{seen_state}
 use Rattle.jb_plain.specs.Walk.{heads_from, linkables_from, with_heads}
 use Rattle.jb_plain.proofs.Lists.{length-heads_from, with_heads-relinked}
 use Rattle.jb_plain.proofs.SeenLaws.{with_slots}
@@ -24,7 +24,7 @@ returns-clause-value c =
     let heads : c.deref-2.result.now ≡ heads_from (linkables_from base slots) base slots =
     c.deref-2.ensures.value ∙ c.in_ok-heads.ensures
     ∙ ap (λ (l : List Slot). heads_from (linkables_from base l) base l) c.deref.ensures.value in
-    ap (with_slots (seen c.args.state.now))
+    ap (with_slots (seen_state c.args.state.now))
     (ap (map owned_slot) c.put_heads.ensures.value
     ∙ ap (λ (h : List (Option Head)). map owned_slot (with_heads h slots)) heads
     ∙ with_heads-relinked (linkables_from base slots) base slots)

@@ -7,7 +7,7 @@ use Rattle.jb_model.specs.Step.{step}
 use Rattle.jb_state.specs.Tight.{tight_state}
 use Rattle.jb_model.specs.declared.command.Asked.{Asked}
 use Rattle.jb_model.specs.declared.reply.Reply.{Reply}
-use Rattle.jb_plain.specs.Seen.{seen}
+use Rattle.jb_plain.specs.Seen.{seen_state}
 use Rattle.jb_plain.specs.Small.{AreSmall}
 use Rattle.jb_plain.proofs.SeenLaws.{answer}
 use Rattle.jb_plain.proofs.SmallLaws.{small_range, small_step}
@@ -21,7 +21,7 @@ loop-asked-init c =
     record {
       small = subst P (sym c.of-state.ensures) (small_range (tight_state c.args.area).slots c.requires.each);
       replies =
-          ap (λ (l : List Reply). l ++ (run_of rules (seen c.of-state.result) list).replies) c.new-replies.ensures.items
+          ap (λ (l : List Reply). l ++ (run_of rules (seen_state c.of-state.result) list).replies) c.new-replies.ensures.items
           ∙ ap (λ (s : AreaState). (run_of rules s list).replies) c.of-state.ensures;
       state = ap (λ (s : AreaState). (run_of rules s list).state) c.of-state.ensures;
     }
@@ -33,8 +33,8 @@ loop-asked-preserved c =
     let i : ℕ = c.loop-asked.asked-index in
     let asked : Asked = c.asked-item.result in
     let rest : List Asked = drop (i + 1) list in
-    let before : AreaState = seen c.loop-asked.state in
-    let after : AreaState = seen c.step.new.state in
+    let before : AreaState = seen_state c.loop-asked.state in
+    let after : AreaState = seen_state c.step.new.state in
     let P : AreaState → Type 0 = λ s. AreSmall s.slots in
     let answered : answer c.in_ok-reply.reply after ≡ step rules before asked.user asked.moment asked.command = c.in_ok-reply.ensures in
     let later : run_of rules before (drop i list) ≡ run_of rules before (asked ∷ rest) =

@@ -1,7 +1,7 @@
 use Rattle.std.proofs.Common.{◌≡◌, true, sym, ap, subst, ◌∙◌}
 use Rattle.jb_publish.specs.declared.edition.Edition.{Edition}
 use Rattle.jb_publish.specs.Editions.{edition}
-use Rattle.jb_publish.specs.Marks.{StandsFrom}
+use Rattle.jb_publish.specs.Marks.{ValueStandsFrom}
 use Rattle.jb_publish.proofs.Copies.{begun_common, in_step, same_value}
 use Rattle.jb_publish.proofs.Showing.{binds}
 use Rattle.jb_publish.proofs.pairing.bind.Goals as goal
@@ -11,7 +11,7 @@ show_as-requires g c = let o = c.open-open.ensures in let w = c.args.writer in l
     let alike = same_value g.row.T.coded w.desk.shown.value w.desk.spare.value w.log.items w.behind w.ahead w.in_step c.requires.fresh in
     let next : c.settle.new.self ≡ edition w.desk.shown.value.value f true = c.settle.ensures ∙ ap (λ v. edition v f true) (ap (λ x. x.value) (c.deref_mut.ensures.value ∙ o.values.1) ∙ alike) in
     binds g.T.Published.stands g.J.NamesOpening.opening _ _ c.open-open.result.0.shown.value c.settle.new.self
-    (subst (λ (x : Edition g.row.T.Denot g.row.E.Denot). StandsFrom g.T.Published.stands g.J.NamesOpening.opening x.value x.front.seen.log) (sym next) c.requires.stands)
+    (subst (λ (x : Edition g.row.T.Denot g.row.E.Denot). ValueStandsFrom g.T.Published.stands g.J.NamesOpening.opening x.value x.front.seen.log) (sym next) c.requires.stands)
     (ap (λ p. p.value.begun) o.values.0 ∙ c.requires.fresh)
     (ap (λ x. x.begun) next)
 

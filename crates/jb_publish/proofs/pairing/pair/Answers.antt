@@ -2,7 +2,7 @@ use Rattle.std.proofs.Common.{rules, false, List, ap, sym, subst, ◌∙◌, ref
 use Rattle.left_right.specs.Sides.{view}
 use Rattle.jb_publish.specs.declared.known.Known.{Known}
 use Rattle.jb_publish.specs.declared.edition.Edition.{Edition}
-use Rattle.jb_publish.specs.Marks.{StandsFrom}
+use Rattle.jb_publish.specs.Marks.{ValueStandsFrom}
 use Rattle.jb_publish.specs.Accounts.{IsFresh, arrived}
 use Rattle.jb_publish.proofs.Places.{each_end}
 use Rattle.jb_publish.proofs.Showing.{starts, admits}
@@ -16,7 +16,7 @@ reader-requires g c = admits g.T.Published.stands
 
 pub bind-requires-clause-stands : goal.bind-requires-clause-stands
 bind-requires-clause-stands g c = let start = c.in_ok-writer.ensures.0 in
-    subst (λ (z : g.row.T.Denot × List g.row.E.Denot). StandsFrom g.T.Published.stands g.J.NamesOpening.opening z.0 z.1) (λ i. (sym (ap (λ y. y.value) start) i, sym c.open-seen.ensures.1 i)) c.requires.stands
+    subst (λ (z : g.row.T.Denot × List g.row.E.Denot). ValueStandsFrom g.T.Published.stands g.J.NamesOpening.opening z.0 z.1) (λ i. (sym (ap (λ y. y.value) start) i, sym c.open-seen.ensures.1 i)) c.requires.stands
 
 pub loop-shower-preserved : goal.loop-shower-preserved
 loop-shower-preserved g c = let old = c.loop-shower.invariant in let s = c.admit.result in

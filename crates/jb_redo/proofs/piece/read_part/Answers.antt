@@ -1,6 +1,6 @@
 use Rattle.std.proofs.Common.{◌≡◌, ◌<◌, ◌∙◌, sym, subst}
 use Rattle.std.specs.Prelude.{◌^◌}
-use Rattle.jb_disk.specs.Files.{number_of}
+use Rattle.jb_disk.specs.Files.{file_number}
 use Rattle.jb_redo.specs.declared.part.Front.TheVariants.{Bytes}
 use Rattle.jb_redo.specs.Reading.{BeginsWith}
 use Rattle.jb_redo.specs.Walk.{IsPartAt, IsLegalFront, journal_from, front_bytes}
@@ -17,7 +17,7 @@ returns-in-Some-Bytes-clause-found g c =
     let rules : IsLegalFront (Bytes to to_at len) = front.1 in
     let low : to_at < 2 ^ 32 = rules.0 in
     let short : len < 2 ^ 32 = rules.1 in
-    let of_base : number_of to < 4 = rules.2 in
+    let of_base : file_number to < 4 = rules.2 in
     on_some c.given_part.result _ _ c.given_part.ensures.found (λ part made files is.
     subst (IsPartAt files c.args.ends.now c.args.at) (sym made.0)
     (given_there files c.args.ends.now c.args.at c.get-end.result to to_at len (c.get-end.ensures ∙ (c.requires files is).journal) of_base low short

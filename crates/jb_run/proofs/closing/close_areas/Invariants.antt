@@ -1,5 +1,5 @@
 use Rattle.std.proofs.Common.{◌≤◌, length, take}
-use Rattle.jb_run.specs.All.{AreWhole}
+use Rattle.jb_run.specs.All.{AreShared}
 use Rattle.jb_run.specs.Rows.{lists_of}
 use Rattle.jb_run.proofs.CloseLemmas.{AreFirst, ClosesFrom}
 use Rattle.jb_run.proofs.closing.close_areas.Given as goal
@@ -7,7 +7,7 @@ use Rattle.jb_run.proofs.closing.close_areas.Given as goal
 -- those from some place on are closed, and their passes are gone
 abbrev pub invariant-loop-doubtful : goal.invariant-loop-doubtful
 invariant-loop-doubtful g l = record {
-  whole : AreWhole l.shared (length l.shared.nodes.items) (length l.shared.areas.items);
+  whole : AreShared l.shared (length l.shared.nodes.items) (length l.shared.areas.items);
   within : length l.shared.areas.items ≤ length l.initial.shared.areas.items;
   passes : AreFirst (length l.shared.areas.items) (lists_of l.initial.shared.nodes.items) (lists_of l.shared.nodes.items);
   closes : ClosesFrom (length l.shared.areas.items) (take (length l.initial.shared.areas.items) l.areas) (lists_of l.initial.shared.nodes.items)

@@ -3,12 +3,12 @@ use Rattle.std.proofs.Math.Seq.{take-length}
 use Rattle.std.proofs.lemmas.List.{length-set}
 use Rattle.jb_run.proofs.RowLemmas.{length-lists_of}
 use Rattle.jb_run.proofs.WholeLemmas.{whole_own}
-use Rattle.jb_run.specs.All.{Abandons, AreOpenable, AreWhole, ClosesAll, OpenAs}
+use Rattle.jb_run.specs.All.{Abandons, AreOpenable, AreShared, ClosesAll, OpenAs}
 use Rattle.jb_run.specs.Rows.{lists_of}
 use Rattle.jb_run.specs.declared.opening.SharedAreas.{SharedAreas}
 use Rattle.jb_conf.specs.declared.board.BoardArea.{BoardArea}
 use Rattle.jb_host.specs.Desk.{Desk}
-use Rattle.jb_run.specs.Workers.{OpensLines, Rows, gates_of, passes_of}
+use Rattle.jb_run.specs.Workers.{OpensLines, Rows, gates_of, worker_passes}
 use Rattle.jb_run.specs.Working.{AreAllOf}
 use Rattle.jb_run.proofs.NodesClosing.{AllKeepStarts, all_of_whole, are_openable, whole_after, whole_same}
 use Rattle.jb_run.proofs.Crew.{rows_of_crew}
@@ -33,13 +33,13 @@ work-door_failed-requires-clause-ours g c κs within =
     let opened = c.in-Ok.ensures.ok in
     let at : c.len.result ≡ board.nodes = c.len.ensures ∙ c.open_lines.new.workers.ok.0 ∙ opened.all in
     let many : length left ≡ board.nodes + 1 = length-lists_of c.open_lines.new.nodes.items ∙ c.in-Ok.ensures.lists ∙ c.requires.whole.lists in
-    let rows : map passes_of workers ++ passes ∷ [] ≡ lists_of shared.nodes.items
+    let rows : map worker_passes workers ++ passes ∷ [] ≡ lists_of shared.nodes.items
     = rows_of_crew workers left (lists_of shared.nodes.items) passes board.nodes c.in-Ok.ensures.rows opened.all many
     (c.take_passes-passes.ensures.taken ∙ ap (λ (n : ℕ). get_or left n []) at) in
     subst (AreAllOf shared.areas.items) (sym rows) (all_of_whole shared (board.nodes + 1) count c.requires.whole)
 
 pub close_areas-is_doubtful-requires-clause-areas : goal.close_areas-is_doubtful-requires-clause-areas
-close_areas-is_doubtful-requires-clause-areas g c = subst AreOpenable (sym c.as_slice-in-Ok.ensures) (are_openable c.args.board.now c.requires.board)
+close_areas-is_doubtful-requires-clause-areas g c = subst AreOpenable (sym c.as_slice-in-Ok.ensures) (are_openable c.args.board.now)
 
 pub close_areas-is_doubtful-requires-clause-whole : goal.close_areas-is_doubtful-requires-clause-whole
 close_areas-is_doubtful-requires-clause-whole g c =
@@ -53,7 +53,7 @@ close_areas-is_doubtful-requires-clause-whole g c =
     let opened = c.in-Ok.ensures.ok in
     let at : c.len.result ≡ board.nodes = c.len.ensures ∙ c.open_lines.new.workers.ok.0 ∙ opened.all in
     let many : length left ≡ board.nodes + 1 = length-lists_of c.open_lines.new.nodes.items ∙ c.in-Ok.ensures.lists ∙ c.requires.whole.lists in
-    let rows : map passes_of workers ++ passes ∷ [] ≡ lists_of shared.nodes.items
+    let rows : map worker_passes workers ++ passes ∷ [] ≡ lists_of shared.nodes.items
     = rows_of_crew workers left (lists_of shared.nodes.items) passes board.nodes c.in-Ok.ensures.rows opened.all many
     (c.take_passes-passes.ensures.taken ∙ ap (λ (n : ℕ). get_or left n []) at) in
     let now = c.work-door_failed.new.shared.nodes in
@@ -62,19 +62,19 @@ close_areas-is_doubtful-requires-clause-whole g c =
     let keep : AllKeepStarts (lists_of shared.nodes.items) (lists_of now.items)
     = subst (λ (l : Rows). AllKeepStarts l (lists_of now.items)) rows
     (λ n within. work_keeps (g.H.Host.desk c.tell_open.new.host).reading board (gates_of g.H.Door.Door.gate workers) worked.gates_after (g.H.Bell.Bell.rings c.in-Ok.bell) worked.rings_after
-    (map passes_of workers ++ passes ∷ []) (lists_of now.items) worked.tallies worked.works n within) in
+    (map worker_passes workers ++ passes ∷ []) (lists_of now.items) worked.tallies worked.works n within) in
     let ours : AreAllOf shared.areas.items (lists_of now.items)
     = subst (λ (s : SharedAreas D). AreAllOf s.areas.items (lists_of now.items)) same_areas c.work-door_failed.ensures.ours in
-    let whole : AreWhole (record shared { nodes = now }) (board.nodes + 1) count
+    let whole : AreShared (record shared { nodes = now }) (board.nodes + 1) count
     = whole_after shared now (board.nodes + 1) count c.requires.whole worked.works.ended ours keep in
-    subst (λ (s : SharedAreas D). AreWhole s (length s.nodes.items) (length s.areas.items)) (sym same_areas)
+    subst (λ (s : SharedAreas D). AreShared s (length s.nodes.items) (length s.areas.items)) (sym same_areas)
     (whole_own (record shared { nodes = now }) (board.nodes + 1) count whole)
 
 pub part_nodes-requires-clause-lists : goal.part_nodes-requires-clause-lists
 part_nodes-requires-clause-lists g c = omega (arith, c.in-Err.ensures.few, c.in-Err.ensures.lists, c.requires.whole.lists)
 
 pub abandon_areas-requires-clause-areas : goal.abandon_areas-requires-clause-areas
-abandon_areas-requires-clause-areas g c = subst AreOpenable (sym c.as_slice-in-Err.ensures) (are_openable c.args.board.now c.requires.board)
+abandon_areas-requires-clause-areas g c = subst AreOpenable (sym c.as_slice-in-Err.ensures) (are_openable c.args.board.now)
 
 -- all passes are back
 pub abandon_areas-requires-clause-whole : goal.abandon_areas-requires-clause-whole
@@ -97,7 +97,7 @@ returns-in-Ok-clause-ok g c =
     let opened = c.in-Ok.ensures.ok in
     let at : c.len.result ≡ board.nodes = c.len.ensures ∙ c.open_lines.new.workers.ok.0 ∙ opened.all in
     let many : length left ≡ board.nodes + 1 = length-lists_of c.open_lines.new.nodes.items ∙ c.in-Ok.ensures.lists ∙ c.requires.whole.lists in
-    let rows : map passes_of workers ++ passes ∷ [] ≡ lists_of shared.nodes.items
+    let rows : map worker_passes workers ++ passes ∷ [] ≡ lists_of shared.nodes.items
     = rows_of_crew workers left (lists_of shared.nodes.items) passes board.nodes c.in-Ok.ensures.rows opened.all many
     (c.take_passes-passes.ensures.taken ∙ ap (λ (n : ℕ). get_or left n []) at) in
     let now = c.work-door_failed.new.shared.nodes in
@@ -106,10 +106,10 @@ returns-in-Ok-clause-ok g c =
     let keep : AllKeepStarts (lists_of shared.nodes.items) (lists_of now.items)
     = subst (λ (l : Rows). AllKeepStarts l (lists_of now.items)) rows
     (λ n within. work_keeps (g.H.Host.desk c.tell_open.new.host).reading board (gates_of g.H.Door.Door.gate workers) worked.gates_after (g.H.Bell.Bell.rings c.in-Ok.bell) worked.rings_after
-    (map passes_of workers ++ passes ∷ []) (lists_of now.items) worked.tallies worked.works n within) in
+    (map worker_passes workers ++ passes ∷ []) (lists_of now.items) worked.tallies worked.works n within) in
     let ours : AreAllOf shared.areas.items (lists_of now.items)
     = subst (λ (s : SharedAreas D). AreAllOf s.areas.items (lists_of now.items)) same_areas c.work-door_failed.ensures.ours in
-    let whole : AreWhole (record shared { nodes = now }) (board.nodes + 1) count
+    let whole : AreShared (record shared { nodes = now }) (board.nodes + 1) count
     = whole_after shared now (board.nodes + 1) count c.requires.whole worked.works.ended ours keep in
     let old = g.H.Host.desk c.args.host.now in
     let rung = g.H.Host.desk c.tell_open.new.host in
@@ -123,7 +123,7 @@ returns-in-Ok-clause-ok g c =
     let all : take (length c.work-door_failed.new.shared.areas.items) c.as_slice-in-Ok.result.now ≡ board.areas
     = ap (λ (l : List BoardArea). take (length c.work-door_failed.new.shared.areas.items) l) c.as_slice-in-Ok.ensures ∙ ap (λ (n : ℕ). take n board.areas) as_many ∙ take-length board.areas in
     runs_on g.H.Door.Door.gate g.H.Clock.Clock.reading board c.args.calls (g.H.Bell.Bell.rings c.in-Ok.bell) workers old rung end new
-    (map passes_of workers ++ passes ∷ []) (lists_of shared.nodes.items) (lists_of now.items) doubtful c.work-door_failed.result ready rows worked
+    (map worker_passes workers ++ passes ∷ []) (lists_of shared.nodes.items) (lists_of now.items) doubtful c.work-door_failed.result ready rows worked
     (subst (λ (d : Desk). ClosesAll board.areas (lists_of now.items) end d doubtful) (sym c.note.ensures)
     (subst (λ (l : List BoardArea). ClosesAll l (lists_of now.items) end closed doubtful) all c.close_areas-is_doubtful.ensures))
 

@@ -19,7 +19,7 @@ returns-in_default g c = λ path old has.
     begins_no_room path c.args.calls c.args.board.now old (g.H.Host.desk c.args.host.now) has
 
 pub open_areas-requires-clause-areas : goal.open_areas-requires-clause-areas
-open_areas-requires-clause-areas g c = subst AreOpenable (sym c.as_slice.ensures) (are_openable c.args.board.now c.requires)
+open_areas-requires-clause-areas g c = subst AreOpenable (sym c.as_slice.ensures) (are_openable c.args.board.now)
 
 pub returns-in_err-shared : goal.returns-in_err-shared
 returns-in_err-shared g c = λ path old has.

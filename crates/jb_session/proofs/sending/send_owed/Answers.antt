@@ -1,5 +1,5 @@
 use Rattle.std.proofs.Common.{ℕ, List, [], ◌++◌, None, subst, sym}
-use Rattle.jb_host.specs.Wire.{Begins, Sends}
+use Rattle.jb_host.specs.Wire.{IsFrontOf, Sends}
 use Rattle.jb_talk.specs.Talking.{Hands, Talking}
 use Rattle.jb_session.specs.Exchanges.{answers_of, asks_of}
 use Rattle.jb_session.proofs.Standing.{ends_unsent, sent_on, wrote}
@@ -9,7 +9,7 @@ pub returns-in_default-clause-err : goal.returns-in_default-clause-err
 returns-in_default-clause-err g c = λ reading board old from to rest s.
     let laws = c.conversations_are_one.ensures in
     let f = c.in_default.ensures in
-    let P : List ℕ → Type 0 = λ w. Begins f.err.0 w in
+    let P : List ℕ → Type 0 = λ w. IsFrontOf f.err.0 w in
     ends_unsent reading board laws.some laws.grows laws.stands old (g.L.Link.wire c.args.link.now) (g.L.Link.wire c.send.new.link) from to rest c.args.talk.now f.err.0 s (subst P c.owed.ensures f.err.1) f.err.2
     f.to_come (wrote _ _ f.ends f.unsent.later f.cause.later) f.cause.failed f.unsent.failed
 

@@ -12,4 +12,4 @@ returns-in_err-next-clause-err g c =
     let P : Option ℕ → Type 0 = λ w. Served w c.args.board.now old from OutOfMemory now c.respond.new.passes in
     let Q : Option ℕ → Type 0 = λ w. Stands w c.args.board.now old from now rest c.loop-next.talk (Some c.in-Some.request) c.loop-next.passes in
     let S : Option Request → Type 0 = λ w. Stands (g.C.Clock.reading c.args.clock.now) c.args.board.now old from now rest c.loop-next.talk w c.loop-next.passes in
-    subst P same (c.in_err-next.ensures.err old now from rest (subst Q (sym same) (subst S c.in-Some.is (c.loop-next.invariant.4 old now from rest s)))))
+    subst P same (c.in_err-next.ensures.err old now from rest (subst Q (sym same) (subst S c.in-Some.is (c.loop-next.invariant.5 old now from rest s)))))

@@ -11,6 +11,7 @@ abbrev pub invariant-loop-next : goal.invariant-loop-next
 invariant-loop-next g l =
     AreOf l.areas l.passes
     × (g.C.Clock.reading l.clock ≡ g.C.Clock.reading l.fn.clock)
+    × (g.L.Link.wire l.link ≡ g.L.Link.wire l.fn.link)
     × Hands l.board l.talk l.next
     × (l.talk.taken ≡ l.fn.talk.taken)
     × ((old now : Wire) (from : List PassView) (rest : List ℕ) → Stands (g.C.Clock.reading l.fn.clock) l.board old from now rest l.fn.talk l.fn.first l.fn.passes

@@ -17,9 +17,10 @@ returns-in_default-hear-clause-err g c = λ old from s.
     let now = g.L.Link.wire c.relieve.new.link in
     let P : Option ℕ → Type 0 = λ w. Stands w c.args.board.now old from now (take (length c.args.piece.now - c.loop-at.at) rest) c.relieve.new.talk None c.loop-at.passes
     → Served w c.args.board.now old from OutOfMemory now c.hear.new.passes in
-    subst P same (c.in_default-hear.ensures.err old now from)
+    subst (λ (w : Wire). Served reading c.args.board.now old from OutOfMemory w c.hear.new.passes) (sym c.hear.ensures.wire)
+    (subst P same (c.in_default-hear.ensures.err old now from)
     (rest_on reading c.args.board.now old now from c.loop-at.passes c.loop-at.at c.args.piece.now c.relieve.new.talk
-    (c.in-Ok.ensures.ok reading c.args.board.now old from c.loop-at.passes rest (c.loop-at.invariant.5 old from s)))
+    (c.in-Ok.ensures.ok reading c.args.board.now old from c.loop-at.passes rest (c.loop-at.invariant.5 old from s))))
 
 pub loop-at-preserved : goal.loop-at-preserved
 loop-at-preserved g c =
@@ -37,7 +38,7 @@ loop-at-preserved g c =
           let P : Option ℕ → Type 0 = λ w. Stands w c.args.board.now old from now (take (length c.args.piece.now - c.loop-at.at) rest) c.relieve.new.talk None c.loop-at.passes
           → Stands w c.args.board.now old from now (drop n (take (length c.args.piece.now - c.loop-at.at) rest)) c.hear.new.talk None c.hear.new.passes in
           let W : Wire → Type 0 = λ w. Stands reading c.args.board.now old from w (drop (c.loop-at.at + n) c.args.piece.now) c.hear.new.talk None c.hear.new.passes in
-          subst W (sym c.tell.ensures) (left_on reading c.args.board.now old now from c.hear.new.passes c.loop-at.at n c.args.piece.now c.hear.new.talk
+          subst W (sym (c.tell.ensures ∙ c.hear.ensures.wire)) (left_on reading c.args.board.now old now from c.hear.new.passes c.loop-at.at n c.args.piece.now c.hear.new.talk
           (subst P same (c.in-Ok-hear.ensures.ok old now from)
           (rest_on reading c.args.board.now old now from c.loop-at.passes c.loop-at.at c.args.piece.now c.relieve.new.talk
           (c.in-Ok.ensures.ok reading c.args.board.now old from c.loop-at.passes rest (c.loop-at.invariant.5 old from s))))),

@@ -8,12 +8,13 @@ use Rattle.jb_model.specs.declared.entry.Entry.{Entry}
 use Rattle.jb_model.specs.declared.entry.Outcome.TheVariants.{InDoubt, Replied}
 use Rattle.jb_model.specs.declared.reply.Reply.{Reply}
 use Rattle.jb_publish.specs.Publications.{publication_of}
-use Rattle.jb_turn.specs.Seats.{Holds, front, row_of}
-use Rattle.jb_shared.specs.InTurn.{SeatRow, next_call, recorded}
+use Rattle.jb_turn.specs.Seats.{HoldsTurn, front, row_of}
+use Rattle.jb_shared.specs.InTurn.{SeatRow, next_call}
 use Rattle.jb_shared.specs.Keeping.{IsKept, IsKeptSettled}
 use Rattle.jb_shared.specs.Showing.{value_with}
+use Rattle.jb_shared.proofs.CallLemmas.{leads_called, leads_still}
 use Rattle.jb_shared.proofs.KeepingLemmas.{can_show, kept_replied, kept_stopped, kept_wanting, out_rests, shown_as, shows_replied}
-use Rattle.jb_shared.proofs.KnowingLemmas.{knows_at, knows_called, knows_still, next_number}
+use Rattle.jb_shared.proofs.KnowingLemmas.{knows_noted, knows_still, next_number}
 use Rattle.jb_shared.proofs.calling.run.Goals as goal
 
 pub run-requires-clause-rests : goal.run-requires-clause-rests
@@ -23,16 +24,17 @@ pub show-requires-clause-can : goal.show-requires-clause-can
 show-requires-clause-can g c =
     let shown = g.D.Disk.device in
     let known = row_of c.args.seat.now in
+    let call = c.args.call in
     let knows = c.requires.out.0.knows in
     let old = c.args.held.state in
-    let entry : Entry = next_call known c.args.user.now c.args.moment c.args.command.now (Replied c.in-Ok.reply) in
-    let meets : MeetsCall shown old.area c.run.new.area c.args.user.now c.args.moment c.args.command.now (Ok c.in-Ok.reply)
-    = subst (λ (r : Result Reply AreaError). MeetsCall shown old.area c.run.new.area c.args.user.now c.args.moment c.args.command.now r) c.in-Ok.is c.run.ensures.meets in
-    can_show shown (IsKeptSettled shown) known (row_of c.note_replied.new.seat) old c.note_replied.new.held.state true entry (absorbed (publication_of old.shower).value c.run.new.change.op)
-    knows.stands_for (ap (λ s. s.shower) c.note_replied.ensures.kept) (ap (λ s. value_with s true) c.note_replied.ensures.kept) (ap (λ (r : SeatRow). r.front) c.note_replied.ensures.row)
+    let entry : Entry = next_call known call (Replied c.in-Ok.reply) in
+    let meets : MeetsCall shown old.area c.run.new.area call.user.now call.moment call.command.now (Ok c.in-Ok.reply)
+    = subst (λ (r : Result Reply AreaError). MeetsCall shown old.area c.run.new.area call.user.now call.moment call.command.now r) c.in-Ok.is c.run.ensures.meets in
+    can_show shown (IsKeptSettled shown) known (row_of c.note.new.seat) old c.note.new.held.state true entry (absorbed (publication_of old.shower).value c.run.new.change.op)
+    knows.stands_for (ap (λ s. s.shower) c.note.ensures.kept) (ap (λ s. value_with s true) c.note.ensures.kept) (ap (λ (r : SeatRow). r.front) c.note.ensures.row)
     (λ first was. (
       was.index,
-      (shows_replied shown old c.run.new.area c.run.new.change first known.front known.node (length known.mine + 1) c.args.user.now c.args.moment c.args.command.now c.in-Ok.reply was meets c.in-Ok.ensures.done
+      (shows_replied shown old c.run.new.area c.run.new.change first known.front known.node (length known.mine + 1) call.user.now call.moment call.command.now c.in-Ok.reply was meets c.in-Ok.ensures.done
           (next_number (IsKeptSettled shown) (IsKeptSettled shown) old known knows)).1,
     ))
 
@@ -40,54 +42,68 @@ pub returns-in-Ok-clause-out : goal.returns-in-Ok-clause-out
 returns-in-Ok-clause-out g c =
     let shown = g.D.Disk.device in
     let known = row_of c.args.seat.now in
+    let call = c.args.call in
     let knows = c.requires.out.0.knows in
     let old = c.args.held.state in
-    let kept = c.note_replied.ensures.kept in
-    let entry : Entry = next_call known c.args.user.now c.args.moment c.args.command.now (Replied c.in-Ok.reply) in
-    let meets : MeetsCall shown old.area c.run.new.area c.args.user.now c.args.moment c.args.command.now (Ok c.in-Ok.reply)
-    = subst (λ (r : Result Reply AreaError). MeetsCall shown old.area c.run.new.area c.args.user.now c.args.moment c.args.command.now r) c.in-Ok.is c.run.ensures.meets in
+    let kept = c.note.ensures.kept in
+    let entry : Entry = next_call known call (Replied c.in-Ok.reply) in
+    let meets : MeetsCall shown old.area c.run.new.area call.user.now call.moment call.command.now (Ok c.in-Ok.reply)
+    = subst (λ (r : Result Reply AreaError). MeetsCall shown old.area c.run.new.area call.user.now call.moment call.command.now r) c.in-Ok.is c.run.ensures.meets in
     record {
-      holds = subst (Holds c.args.turn.now c.note_replied.new.seat) (sym c.show.ensures.count) c.note_replied.ensures.seat;
+      holds = subst (HoldsTurn c.args.turn.now c.note.new.seat) (sym c.show.ensures.count) c.note.ensures.seat;
       knows =
-          knows_at (IsKeptSettled shown) (IsKept shown) c.show.result.state c.show.result.state (recorded known entry) (row_of c.note_replied.new.seat) refl c.note_replied.ensures.row
-          (knows_called (IsKeptSettled shown) (IsKept shown) old c.show.result.state known c.args.user.now c.args.moment c.args.command.now (Replied c.in-Ok.reply) knows
-          (λ first next was. kept_replied shown old c.show.result.state c.run.new.area c.run.new.change first known.front known.node (length known.mine + 1) c.args.user.now c.args.moment c.args.command.now c.in-Ok.reply was meets c.in-Ok.ensures.done next
+          knows_noted (IsKeptSettled shown) (IsKept shown) old c.show.result.state known (row_of c.note.new.seat) entry c.note.ensures.row knows
+          (λ first was. kept_replied shown old c.show.result.state c.run.new.area c.run.new.change first known.front known.node (length known.mine + 1) call.user.now call.moment call.command.now c.in-Ok.reply was meets c.in-Ok.ensures.done
+          (next_number (IsKeptSettled shown) (IsKept shown) old known knows)
           (c.show.ensures.shown.area ∙ ap (λ s. s.area) kept)
-          (shown_as shown old c.note_replied.new.held.state c.show.result.state true (front c.note_replied.new.seat) (known.front ++ entry ∷ []) (absorbed (publication_of old.shower).value c.run.new.change.op)
-          c.show.ensures.shown (ap (λ s. s.shower) kept) (ap (λ s. value_with s true) kept) (ap (λ (r : SeatRow). r.front) c.note_replied.ensures.row))));
+          (shown_as shown old c.note.new.held.state c.show.result.state true (front c.note.new.seat) (known.front ++ entry ∷ []) (absorbed (publication_of old.shower).value c.run.new.change.op)
+          c.show.ensures.shown (ap (λ s. s.shower) kept) (ap (λ s. value_with s true) kept) (ap (λ (r : SeatRow). r.front) c.note.ensures.row)));
     }
 
 pub returns-in-Err-StoreFault-clause-out : goal.returns-in-Err-StoreFault-clause-out
 returns-in-Err-StoreFault-clause-out g c =
     let shown = g.D.Disk.device in
     let known = row_of c.args.seat.now in
+    let call = c.args.call in
     let knows = c.requires.out.0.knows in
     let old = c.args.held.state in
     let faults = (device_of shown c.run.new.area).faults in
-    let meets : MeetsCall shown old.area c.run.new.area c.args.user.now c.args.moment c.args.command.now (Err failing.StoreFault)
-    = subst (λ (r : Result Reply AreaError). MeetsCall shown old.area c.run.new.area c.args.user.now c.args.moment c.args.command.now r)
+    let meets : MeetsCall shown old.area c.run.new.area call.user.now call.moment call.command.now (Err failing.StoreFault)
+    = subst (λ (r : Result Reply AreaError). MeetsCall shown old.area c.run.new.area call.user.now call.moment call.command.now r)
     (c.in-Err-StoreFault.is ∙ ap (λ (e : AreaError). Err e) c.in-Err-StoreFault.field-0-is) c.run.ensures.meets in
     record {
-      holds = c.note_in_doubt.ensures.seat;
+      holds = c.note-in-Err-StoreFault.ensures.seat;
       knows =
-          knows_at (IsKeptSettled shown) (IsKept shown) c.note_in_doubt.new.held.state c.note_in_doubt.new.held.state (recorded known (next_call known c.args.user.now c.args.moment c.args.command.now (InDoubt faults)))
-          (row_of c.note_in_doubt.new.seat) refl c.note_in_doubt.ensures.row
-          (knows_called (IsKeptSettled shown) (IsKept shown) old c.note_in_doubt.new.held.state known c.args.user.now c.args.moment c.args.command.now (InDoubt faults) knows
-          (λ first next was. kept_stopped shown old c.note_in_doubt.new.held.state c.run.new.area c.run.new.change first known.front known.node (length known.mine + 1) c.args.user.now c.args.moment c.args.command.now was meets
-          c.in-Err-StoreFault.ensures.doubted next c.note_in_doubt.ensures.kept));
+          knows_noted (IsKeptSettled shown) (IsKept shown) old c.note-in-Err-StoreFault.new.held.state known (row_of c.note-in-Err-StoreFault.new.seat) (next_call known call (InDoubt faults)) c.note-in-Err-StoreFault.ensures.row knows
+          (λ first was. kept_stopped shown old c.note-in-Err-StoreFault.new.held.state c.run.new.area c.run.new.change first known.front known.node (length known.mine + 1) call.user.now call.moment call.command.now was meets
+          c.in-Err-StoreFault.ensures.doubted (next_number (IsKeptSettled shown) (IsKept shown) old known knows) c.note-in-Err-StoreFault.ensures.kept);
     }
 
 pub returns-in-Err-OutOfMemory-clause-out : goal.returns-in-Err-OutOfMemory-clause-out
 returns-in-Err-OutOfMemory-clause-out g c =
     let shown = g.D.Disk.device in
     let known = row_of c.args.seat.now in
+    let call = c.args.call in
     let old = c.args.held.state in
-    let meets : MeetsCall shown old.area c.run.new.area c.args.user.now c.args.moment c.args.command.now (Err failing.OutOfMemory)
-    = subst (λ (r : Result Reply AreaError). MeetsCall shown old.area c.run.new.area c.args.user.now c.args.moment c.args.command.now r)
+    let meets : MeetsCall shown old.area c.run.new.area call.user.now call.moment call.command.now (Err failing.OutOfMemory)
+    = subst (λ (r : Result Reply AreaError). MeetsCall shown old.area c.run.new.area call.user.now call.moment call.command.now r)
     (c.in-Err-OutOfMemory.is ∙ ap (λ (e : AreaError). Err e) c.in-Err-OutOfMemory.field-0-is) c.run.ensures.meets in
     record {
       holds = c.requires.out.0.holds;
       knows =
           knows_still (IsKeptSettled shown) (IsKept shown) old (record { area = c.run.new.area; shower = old.shower; doubted = c.run.new.change }) known c.requires.out.0.knows
-          (λ first was. kept_wanting shown old (record { area = c.run.new.area; shower = old.shower; doubted = c.run.new.change }) c.run.new.area c.run.new.change first known.front c.args.user.now c.args.moment c.args.command.now was meets refl);
+          (λ first was. kept_wanting shown old (record { area = c.run.new.area; shower = old.shower; doubted = c.run.new.change }) c.run.new.area c.run.new.change first known.front call.user.now call.moment call.command.now was meets refl);
     }
+
+pub returns-in-Ok-clause-runs : goal.returns-in-Ok-clause-runs
+returns-in-Ok-clause-runs g c =
+    let call = c.args.call in
+    leads_called _ (row_of c.args.seat.now) (row_of c.note.new.seat) call.user.now call.moment call.command.now (Replied c.in-Ok.reply) c.note.ensures.row (λ account. refl)
+
+pub returns-in-Err-StoreFault-clause-runs : goal.returns-in-Err-StoreFault-clause-runs
+returns-in-Err-StoreFault-clause-runs g c =
+    let call = c.args.call in
+    leads_called _ (row_of c.args.seat.now) (row_of c.note-in-Err-StoreFault.new.seat) call.user.now call.moment call.command.now (InDoubt (device_of g.D.Disk.device c.run.new.area).faults) c.note-in-Err-StoreFault.ensures.row (λ account. (_, refl))
+
+pub returns-in-Err-OutOfMemory-clause-runs : goal.returns-in-Err-OutOfMemory-clause-runs
+returns-in-Err-OutOfMemory-clause-runs g c = leads_still _ (row_of c.args.seat.now) (λ account. refl)

@@ -1,7 +1,7 @@
-use Rattle.std.proofs.Common.{◌≡◌, Bool, Option, Some, sym, ◌∙◌, arith}
+use Rattle.std.proofs.Common.{None, Some, refl, sym, ◌∙◌, arith}
 use Rattle.jb_state.proofs.LinkLaws.{true_not_false}
 use Rattle.jb_turn.specs.Seats.{row_of}
-use Rattle.jb_shared.specs.InTurn.{ended}
+use Rattle.jb_shared.proofs.CallLemmas.{leads_still}
 use Rattle.jb_shared.proofs.KeepingLemmas.{out_in_doubt, out_settled}
 use Rattle.jb_shared.proofs.KnowingLemmas.{on_ok_then}
 use Rattle.jb_shared.proofs.calling.settle.Goals as goal
@@ -21,9 +21,10 @@ end_doubt-requires g c =
 
 pub returns-then-in_doubt-clause-ended : goal.returns-then-in_doubt-clause-ended
 returns-then-in_doubt-clause-ended g c =
-    let known = row_of c.args.seat.now in
-    let new = row_of c.end_doubt.new.seat in
-    on_ok_then c.end_doubt.result.1 ((stands : Bool) × (new ≡ ended known (Some stands))) ((stands : Option Bool) × (new ≡ ended known stands)) c.end_doubt.ensures.ended (λ is. (Some is.0, is.1))
+    on_ok_then c.end_doubt.result.1 _ _ c.end_doubt.ensures.ended (λ is. (Some is.0, is.1))
+
+pub returns-else-in_doubt-clause-ended : goal.returns-else-in_doubt-clause-ended
+returns-else-in_doubt-clause-ended g c = (None, leads_still _ (row_of c.args.seat.now) (λ account. refl))
 
 pub returns-else-in_doubt-clause-ok : goal.returns-else-in_doubt-clause-ok
 returns-else-in_doubt-clause-ok g c =

@@ -7,11 +7,12 @@ use Rattle.jb_decide.specs.declared.error.AreaError.TheVariants as failing
 use Rattle.jb_model.specs.declared.command.Command.TheVariants.{Pack}
 use Rattle.jb_model.specs.declared.entry.Outcome.TheVariants.{InDoubt}
 use Rattle.jb_turn.specs.Seats.{row_of}
-use Rattle.jb_shared.specs.InTurn.{next_call, recorded}
+use Rattle.jb_shared.specs.Calls.{call_of}
 use Rattle.jb_shared.specs.Keeping.{IsKept, IsKeptSettled}
 use Rattle.jb_shared.specs.Stepping.{CopiesOnePart}
+use Rattle.jb_shared.proofs.CallLemmas.{leads_called, leads_still}
 use Rattle.jb_shared.proofs.KeepingLemmas.{kept_stopped, out_rests}
-use Rattle.jb_shared.proofs.KnowingLemmas.{knows_at, knows_called, knows_still}
+use Rattle.jb_shared.proofs.KnowingLemmas.{knows_noted, knows_still, next_number}
 use Rattle.jb_shared.proofs.SteppingLemmas.{copies_by, kept_step, kept_without, leaves_as, meets_step, none_more, step_no_change, texts_few}
 use Rattle.jb_shared.proofs.stepping.copy_part.Goals as goal
 
@@ -69,14 +70,20 @@ returns-in-Err-StoreFault-clause-out g c =
     = subst (λ (r : Result Bool AreaError). StepsPack shown old.area area r) (c.in-Err-StoreFault.is ∙ ap (λ (e : AreaError). Err e) c.in-Err-StoreFault.field-0-is) c.pack_some.ensures.steps in
     let meets = meets_step shown old.area area c.args.user.now c.args.moment failing.StoreFault steps in
     record {
-      holds = c.note_in_doubt.ensures.seat;
+      holds = c.note.ensures.seat;
       knows =
-          knows_at (IsKeptSettled shown) (IsKept shown) c.note_in_doubt.new.held.state c.note_in_doubt.new.held.state (recorded known (next_call known c.args.user.now c.args.moment Pack (InDoubt faults)))
-          (row_of c.note_in_doubt.new.seat) refl c.note_in_doubt.ensures.row
-          (knows_called (IsKeptSettled shown) (IsKept shown) old c.note_in_doubt.new.held.state known c.args.user.now c.args.moment Pack (InDoubt faults) knows
-          (λ first next was. kept_stopped shown old c.note_in_doubt.new.held.state area old.doubted first known.front known.node (length known.mine + 1) c.args.user.now c.args.moment Pack was meets
-          (λ change. absurd (step_no_change shown old.area area rest.texts rest.rests steps change)) next c.note_in_doubt.ensures.kept));
+          knows_noted (IsKeptSettled shown) (IsKept shown) old c.note.new.held.state known (row_of c.note.new.seat) (call_of known.node known.mine c.args.user.now c.args.moment Pack (InDoubt faults))
+          c.note.ensures.row knows
+          (λ first was. kept_stopped shown old c.note.new.held.state area old.doubted first known.front known.node (length known.mine + 1) c.args.user.now c.args.moment Pack was meets
+          (λ change. absurd (step_no_change shown old.area area rest.texts rest.rests steps change)) (next_number (IsKeptSettled shown) (IsKept shown) old known knows) c.note.ensures.kept);
     }
+
+pub returns-in-Err-StoreFault-clause-steps : goal.returns-in-Err-StoreFault-clause-steps
+returns-in-Err-StoreFault-clause-steps g c =
+    leads_called _ (row_of c.args.seat.now) (row_of c.note.new.seat) c.args.user.now c.args.moment Pack (InDoubt (device_of g.D.Disk.device c.pack_some.new.self).faults) c.note.ensures.row (λ account. (_, refl))
+
+pub returns-in-Err-OutOfMemory-clause-steps : goal.returns-in-Err-OutOfMemory-clause-steps
+returns-in-Err-OutOfMemory-clause-steps g c = leads_still _ (row_of c.args.seat.now) (λ account. refl)
 
 pub returns-in-Err-OutOfMemory-clause-out : goal.returns-in-Err-OutOfMemory-clause-out
 returns-in-Err-OutOfMemory-clause-out g c =

@@ -7,7 +7,7 @@ use Rattle.jb_image.specs.Answers.{OpensTo}
 use Rattle.jb_state.specs.State.{state_of}
 use Rattle.jb_tool.proofs.Recovering.{opens_stands, recovered_has, unlisted}
 use Rattle.jb_tool.specs.Answers.{IsShown, LooksAt}
-use Rattle.jb_tool.specs.Tending.{Answer}
+use Rattle.jb_tool.specs.Tending.{ToolAnswer}
 use Rattle.jb_tool.specs.declared.error.ToolError.{ToolError}
 use Rattle.jb_tool.specs.declared.tool.Tool.TheVariants.{List as Listing}
 use Rattle.jb_tool.proofs.listing.list_base.Goals as goal
@@ -18,7 +18,7 @@ returns-in_err-listing-clause-answer g c =
     let after = g.D.Disk.device c.read_base.new.disk in
     let p = err_from_is_err_and c.from_residual-in_err-listing.result c.from_residual-in_err-listing.ensures.1 in
     let is = p.1 ∙ ap (λ (f : ToolError). Err f) p.2 in
-    subst (λ (a : Answer). LooksAt Listing before after a) (sym is)
+    subst (λ (a : ToolAnswer). LooksAt Listing before after a) (sym is)
     (unlisted (λ files. OpensTo MOST_SLOTS files c.in_ok-loaded.loaded) before after c.in_ok-loaded.ensures.opened)
 
 pub returns-clause-answer : goal.returns-clause-answer

@@ -3,9 +3,9 @@ use Rattle.std.specs.Option.{option_map}
 use Rattle.jb_disk.proofs.RunLemmas.{keeps-resize, keeps-sync, keeps-then, keeps-write}
 use Rattle.jb_disk.specs.Files.{with_file}
 use Rattle.jb_disk.specs.declared.file.FileId.TheVariants.{Jhr}
-use Rattle.jb_tool.proofs.LoadBaseLemmas.{header_size, on_ok, synced_header, told_whole}
+use Rattle.jb_tool.proofs.LoadBaseLemmas.{header_size, synced_header, told_whole}
 use Rattle.jb_tool.specs.LoadBase.{AgreeButHeaders}
-use Rattle.jb_journal.proofs.Told.{on_ok_both}
+use Rattle.jb_journal.proofs.Told.{on_ok_both, on_ok}
 use Rattle.jb_tool.proofs.load_base.write_header.Goals as goal
 
 pub returns-clause-told : goal.returns-clause-told

@@ -3,10 +3,10 @@ use Rattle.std.specs.Prelude.{codes}
 use Rattle.jb_state.specs.Live.{live_count}
 use Rattle.jb_state.specs.State.{slot_state}
 use Rattle.jb_state.specs.declared.loaded.LoadedSlot.{LoadedSlot}
-use Rattle.jb_tool.proofs.LoadBaseLemmas.{on_ok}
 use Rattle.jb_tool.proofs.LoadUnreadLemmas.{three_behind}
 use Rattle.jb_tool.specs.LoadSummary.{answer_count, figure_line}
 use Rattle.jb_tool.proofs.summary.append_messages.Goals as goal
+use Rattle.jb_journal.proofs.Told.{on_ok}
 
 pub returns : goal.returns
 returns c = on_ok c.append_figure-3.result _ _ (λ third texts.

@@ -7,7 +7,7 @@ use Rattle.jb_pack.specs.Shadow.{Shadow, left}
 use Rattle.jb_decide.proofs.DecidedLemmas.{sound_under}
 use Rattle.jb_decide.specs.Decided.{IsDecided}
 use Rattle.jb_decide.specs.Errors.{is_area_fault}
-use Rattle.jb_decide.specs.Holds.{AreTexts, HasAll}
+use Rattle.jb_decide.specs.Holds.{AreTexts, HoldsCopies}
 use Rattle.jb_decide.specs.declared.decided.Decided.{Decided}
 use Rattle.jb_decide.specs.declared.error.AreaError.{AreaError}
 use Rattle.jb_state.specs.declared.change.Change.TheVariants.{Nothing}
@@ -36,7 +36,7 @@ decide_pack-requires-clause-holds g c = λ files there. let has = c.requires.res
 pub decide_pack-requires-clause-has : goal.decide_pack-requires-clause-has
 decide_pack-requires-clause-has g c =
     let has = c.requires.rests in
-    subst (λ (k : Option Shadow). ForSome (g.D.Disk.device c.args.self.now.disk).contents (HasAll k)) c.in-Some.is has.rests.kept.copies
+    subst (λ (k : Option Shadow). ForSome (g.D.Disk.device c.args.self.now.disk).contents (HoldsCopies k)) c.in-Some.is has.rests.kept.copies
 
 pub returns-clause-begins : goal.returns-clause-begins
 returns-clause-begins g c = λ user moment may.

@@ -1,5 +1,5 @@
 use Rattle.std.proofs.Common.{◌+◌, ◌<◌, ◌≤◌, length, rules, inr}
-use Rattle.jb_disk.specs.Memory.{files_of, listed}
+use Rattle.jb_disk.specs.Memory.{files_of, files_of_list}
 use Rattle.jb_disk.proofs.MemoryLemmas.{past-fails-by, within-not-past, reads-quiet, present-quiet, done-fails-by, failed-fails-by}
 use Rattle.jb_disk.proofs.memory.MemDiskDisk.read_at.Goals as goal
 
@@ -25,15 +25,15 @@ returns-in_err-note-clause-cause c =
 
 pub invariant_of-self : goal.invariant_of-self
 invariant_of-self c =
-    present-quiet (listed c.self.inside.first) c.self.inside.calls.items c.refuse.new.calls.items (files_of c.self.inside.present) c.self.invariant c.refuse.ensures
+    present-quiet (files_of_list c.self.inside.first) c.self.inside.calls.items c.refuse.new.calls.items (files_of c.self.inside.present) c.self.invariant c.refuse.ensures
 
 pub invariant_of-self-in_err-note : goal.invariant_of-self-in_err-note
 invariant_of-self-in_err-note c =
-    present-quiet (listed c.self.inside.first) c.self.inside.calls.items c.note.new.calls.items (files_of c.self.inside.present) c.self.invariant c.in_err-note.ensures.err
+    present-quiet (files_of_list c.self.inside.first) c.self.inside.calls.items c.note.new.calls.items (files_of c.self.inside.present) c.self.invariant c.in_err-note.ensures.err
 
 pub invariant_of-self-2 : goal.invariant_of-self-2
 invariant_of-self-2 c =
-    present-quiet (listed c.self.inside.first) c.self.inside.calls.items c.note.new.calls.items (files_of c.self.inside.present) c.self.invariant (inr c.in_ok-note.ensures.ok)
+    present-quiet (files_of_list c.self.inside.first) c.self.inside.calls.items c.note.new.calls.items (files_of c.self.inside.present) c.self.invariant (inr c.in_ok-note.ensures.ok)
 
 pub returns-then-passes-clause-kept : goal.returns-then-passes-clause-kept
 returns-then-passes-clause-kept c =

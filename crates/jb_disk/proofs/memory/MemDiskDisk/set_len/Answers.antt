@@ -1,7 +1,7 @@
 use Rattle.std.proofs.Common.{◌≡◌, length, rules, ap, true, take, ◌∙◌, not, inl, refl, subst, ℕ, ◌≤◌}
 use Rattle.std.proofs.lemmas.List.{take_at}
 use Rattle.jb_bytes.specs.Fault.{Rose}
-use Rattle.jb_disk.specs.Memory.{listed, files_of, of_length}
+use Rattle.jb_disk.specs.Memory.{files_of_list, files_of, of_length}
 use Rattle.jb_disk.proofs.MemoryLemmas.{resizes, resizes-not, present-resized, present-unresized, present-kept, resized-moments, done-fails-by, failed-fails-by}
 use Rattle.jb_disk.proofs.memory.MemDiskDisk.set_len.Goals as goal
 
@@ -10,13 +10,13 @@ invariant_of-self-then-is_err c =
     let size : length c.self.inside.calls.items ≡ c.len-before.result = search rules in
     let back : c.truncate.new.self.items ≡ c.self.inside.calls.items = c.truncate.ensures.items ∙ ap (take c.len-before.result) c.in_ok-keep.ensures.ok.1 ∙ take_at c.self.inside.calls.items _ _ size in
     let here : files_of c.resize.new.self c.args.file ≡ files_of c.self.inside.present c.args.file = search rules in
-    present-kept (listed c.self.inside.first) c.args.file c.self.inside.calls.items c.truncate.new.self.items (files_of c.self.inside.present) (files_of c.resize.new.self) back c.self.invariant here c.resize.ensures.kept
+    present-kept (files_of_list c.self.inside.first) c.args.file c.self.inside.calls.items c.truncate.new.self.items (files_of c.self.inside.present) (files_of c.resize.new.self) back c.self.invariant here c.resize.ensures.kept
 
 pub invariant_of-self-else-is_err : goal.invariant_of-self-else-is_err
 invariant_of-self-else-is_err c =
     let so : not c.fails-fails.result ≡ true = search rules in
     let here : files_of c.resize.new.self c.args.file ≡ of_length c.args.len (files_of c.self.inside.present c.args.file) = search rules in
-    present-resized (listed c.self.inside.first) c.args.file c.args.len _ c.self.inside.calls.items c.keep.new.calls.items (files_of c.self.inside.present) (files_of c.resize.new.self) c.in_ok-keep.ensures.ok.1 so c.self.invariant here c.resize.ensures.kept
+    present-resized (files_of_list c.self.inside.first) c.args.file c.args.len _ c.self.inside.calls.items c.keep.new.calls.items (files_of c.self.inside.present) (files_of c.resize.new.self) c.in_ok-keep.ensures.ok.1 so c.self.invariant here c.resize.ensures.kept
 
 pub returns-clause-changed : goal.returns-clause-changed
 returns-clause-changed c =

@@ -1,4 +1,4 @@
-use Rattle.jb_disk.specs.Memory.{files_of, listed}
+use Rattle.jb_disk.specs.Memory.{files_of, files_of_list}
 use Rattle.jb_disk.proofs.MemoryLemmas.{counted-fails-by, present-synced, syncs}
 use Rattle.jb_disk.proofs.memory.MemDiskDisk.sync.Goals as goal
 
@@ -8,7 +8,7 @@ returns-clause-changed c =
 
 pub invariant_of-self : goal.invariant_of-self
 invariant_of-self c =
-    present-synced c.note.result (listed c.self.inside.first) c.args.file c.self.inside.calls.items c.note.new.calls.items (files_of c.self.inside.present) c.self.invariant c.note.ensures.ok c.note.ensures.err
+    present-synced c.note.result (files_of_list c.self.inside.first) c.args.file c.self.inside.calls.items c.note.new.calls.items (files_of c.self.inside.present) c.self.invariant c.note.ensures.ok c.note.ensures.err
 
 pub returns-clause-cause : goal.returns-clause-cause
 returns-clause-cause c =

@@ -1,6 +1,6 @@
 use Rattle.std.proofs.Common.{◌≡◌, length, rules, sym, ap, subst, true, ◌+◌, ◌≤◌, List, ℕ, ◌∙◌, not, inl, refl, ◌<◌}
 use Rattle.jb_disk.specs.Files.{overwritten}
-use Rattle.jb_disk.specs.Memory.{listed, files_of}
+use Rattle.jb_disk.specs.Memory.{files_of_list, files_of}
 use Rattle.jb_disk.proofs.MemoryLemmas.{tears, tears-not, tears-unwritten, present-wrote, present-quiet, present-unwritten, reads-quiet, within-not-past, past-fails-by, done-fails-by, failed-fails-by, wrote-contents, wrote-moments}
 use Rattle.jb_disk.proofs.memory.MemDiskDisk.write_at.Goals as goal
 
@@ -17,7 +17,7 @@ invariant_of-self-2 c =
     let so : not c.fails-fails.result ≡ true = search rules in
     let fits : c.args.at + length c.in-Ok.copy.items ≤ length (files_of c.self.inside.present c.args.file) = subst (λ (n : ℕ). c.args.at + n ≤ length (files_of c.self.inside.present c.args.file)) (sym size) within in
     let here : files_of c.overwrite.new.self c.args.file ≡ overwritten c.args.at c.in-Ok.copy.items (files_of c.self.inside.present c.args.file) = c.overwrite.ensures.here ∙ ap (λ (l : List ℕ). overwritten c.args.at l (files_of c.self.inside.present c.args.file)) (sym same) in
-    present-wrote (listed c.self.inside.first) c.args.file c.args.at c.in-Ok.copy _ c.self.inside.calls.items c.keep.new.calls.items (files_of c.self.inside.present) (files_of c.overwrite.new.self) c.in_ok-keep.ensures.ok.1 so c.self.invariant fits here c.overwrite.ensures.others
+    present-wrote (files_of_list c.self.inside.first) c.args.file c.args.at c.in-Ok.copy _ c.self.inside.calls.items c.keep.new.calls.items (files_of c.self.inside.present) (files_of c.overwrite.new.self) c.in_ok-keep.ensures.ok.1 so c.self.invariant fits here c.overwrite.ensures.others
 
 pub returns-clause-ok : goal.returns-clause-ok
 returns-clause-ok c =
@@ -49,7 +49,7 @@ returns-in_err-keep-clause-cause c =
     (within-not-past c.args.self.now c.self.inside.first c.self.inside.failing.items c.self.inside.calls.items c.self.inside.faults (files_of c.self.inside.present) c.args.file _ c.self.view_is c.self.invariant within)
 
 pub invariant_of-self : goal.invariant_of-self
-invariant_of-self c = present-quiet (listed c.self.inside.first) c.self.inside.calls.items c.refuse.new.calls.items (files_of c.self.inside.present) c.self.invariant c.refuse.ensures
+invariant_of-self c = present-quiet (files_of_list c.self.inside.first) c.self.inside.calls.items c.refuse.new.calls.items (files_of c.self.inside.present) c.self.invariant c.refuse.ensures
 
 pub returns-then-passes-clause-changed : goal.returns-then-passes-clause-changed
 returns-then-passes-clause-changed c =

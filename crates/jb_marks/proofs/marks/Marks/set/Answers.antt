@@ -1,9 +1,10 @@
 use Rattle.std.proofs.Common.{arith, sym, ◌∙◌}
 use Rattle.std.proofs.Math.ListN.{length-set}
-use Rattle.jb_marks.proofs.MarkLemmas.{room_for_new, with_mark-first, with_mark-none}
+use Rattle.jb_marks.proofs.MarkLemmas.{room_for_new}
 use Rattle.jb_marks.proofs.OrderLemmas.{ordered-set}
 use Rattle.jb_marks.proofs.SetLaws.{others-after_set, own-after_set}
 use Rattle.jb_marks.proofs.marks.Marks.set.Goals as goal
+use Rattle.jb_state.proofs.MarkLaws.{with_mark-first, with_mark-none}
 
 pub invariant_of-self : goal.invariant_of-self
 invariant_of-self c =

@@ -3,7 +3,7 @@ use Rattle.jb_publish.specs.Accounts.{account_of}
 use Rattle.jb_publish.specs.Publications.{publication_of}
 use Rattle.jb_turn.specs.Rows.{Begins}
 use Rattle.jb_turn.specs.Seats.{front, resting_row, row_of}
-use Rattle.jb_turn.specs.Steps.{seen as took_in}
+use Rattle.jb_turn.specs.Steps.{sighted as took_in}
 use Rattle.jb_shared.specs.InTurn.{SeatRow}
 use Rattle.jb_shared.proofs.CallLemmas.{is_informed, may_inform, same_pair, told_taking}
 use Rattle.jb_shared.proofs.shared.SharedArea.enter.Goals as goal

@@ -15,7 +15,7 @@ use Rattle.jb_shared.specs.Stepping.{HasTaken, LeavesAs, RunsStep}
 use Rattle.jb_shared.specs.declared.error.SharedError.{SharedError}
 use Rattle.jb_shared.specs.declared.opening.Opening.{Opening}
 use Rattle.jb_shared.specs.declared.refusal.Refusal.TheVariants.{Stepped}
-use Rattle.jb_shared.proofs.CallLemmas.{known_after, same_pair, still_told}
+use Rattle.jb_shared.proofs.CallLemmas.{given_none, known_after, same_pair, still_told}
 use Rattle.jb_shared.proofs.KeepingLemmas.{fits, out_settled}
 use Rattle.jb_shared.proofs.SettledLemmas.{begins_itself, begins_of}
 use Rattle.jb_shared.proofs.SteppingLemmas.{step_keeps, stepped_in, stopped_in}
@@ -29,8 +29,8 @@ may_step-requires g c =
 pub leave_stepped-requires-clause-told : goal.leave_stepped-requires-clause-told
 leave_stepped-requires-clause-told g c =
     let at = c.enter-seat in
-    let settled = settled_of (front at.result.seat) in
-    subst (λ (l : List Entry). Begins l settled) (sym at.ensures.told.1) (begins_itself settled)
+    let taken = row_of at.result.seat in
+    still_told taken taken (account_of at.result.reader) refl (begins_itself taken.front) at.ensures.told
 
 pub returns-then-not-may_step-clause-steps : goal.returns-then-not-may_step-clause-steps
 returns-then-not-may_step-clause-steps g c =
@@ -54,38 +54,26 @@ copy_part-held-requires g c =
       );
     }
 
-pub leave_stepped-requires-in-Ok-clause-mark : goal.leave_stepped-requires-in-Ok-clause-mark
-leave_stepped-requires-in-Ok-clause-mark g c =
-    let at = c.enter-seat in
-    let taken = row_of at.result.seat in
-    let new = row_of c.copy_part-held.new.seat in
-    (still_told taken new (account_of at.result.reader) (step_keeps taken new c.args.user.now c.args.moment c.copy_part-held.result.1 c.copy_part-held.ensures.steps) at.ensures.told).0
-
 pub leave_stepped-requires-in-Ok-clause-told : goal.leave_stepped-requires-in-Ok-clause-told
 leave_stepped-requires-in-Ok-clause-told g c =
     let at = c.enter-seat in
     let taken = row_of at.result.seat in
     let new = row_of c.copy_part-held.new.seat in
-    (still_told taken new (account_of at.result.reader) (step_keeps taken new c.args.user.now c.args.moment c.copy_part-held.result.1 c.copy_part-held.ensures.steps) at.ensures.told).1
+    let keeps = step_keeps taken new c.args.user.now c.args.moment c.copy_part-held.result.1 c.copy_part-held.ensures.steps in
+    still_told taken new (account_of at.result.reader) keeps.0 keeps.1 at.ensures.told
 
 pub leave_stepped-requires-in-Ok-clause-left : goal.leave_stepped-requires-in-Ok-clause-left
 leave_stepped-requires-in-Ok-clause-left g c =
     (subst (λ (r : Result (Option ℕ) SharedError). IfOk r (λ left. (list : List Entry) → LeavesAs g.D.Disk.device c.copy_part-held.result.0 list c.args.user.now left)) c.in-Ok.is c.copy_part-held.ensures.left)
     (account_of c.enter-seat.result.reader).shown
 
-pub leave-requires-clause-mark : goal.leave-requires-clause-mark
-leave-requires-clause-mark g c =
-    let at = c.enter-seat in
-    let taken = row_of at.result.seat in
-    let new = row_of c.copy_part-held.new.seat in
-    (still_told taken new (account_of at.result.reader) (step_keeps taken new c.args.user.now c.args.moment c.copy_part-held.result.1 c.copy_part-held.ensures.steps) at.ensures.told).0
-
 pub leave-requires-clause-told : goal.leave-requires-clause-told
 leave-requires-clause-told g c =
     let at = c.enter-seat in
     let taken = row_of at.result.seat in
     let new = row_of c.copy_part-held.new.seat in
-    (still_told taken new (account_of at.result.reader) (step_keeps taken new c.args.user.now c.args.moment c.copy_part-held.result.1 c.copy_part-held.ensures.steps) at.ensures.told).1
+    let keeps = step_keeps taken new c.args.user.now c.args.moment c.copy_part-held.result.1 c.copy_part-held.ensures.steps in
+    still_told taken new (account_of at.result.reader) keeps.0 keeps.1 at.ensures.told
 
 pub returns-in-Ok-clause-steps : goal.returns-in-Ok-clause-steps
 returns-in-Ok-clause-steps g c =
@@ -111,7 +99,7 @@ returns-in-Err-clause-steps g c =
     let fit = fits g.D.Disk.device taken.opening at.result.held.state list at.ensures.out.knows.stands_for in
     let may = c.if-not-may_step.ensures in
     subst (λ (k : Known). Asks (known_in c.args.parts) k c.args.user.now c.args.moment Pack (Err c.in-Err.error))
-    (sym (known_after new (resting_row c.leave.result.seat) account told (account_of c.leave.result.reader) at.ensures.account.0 c.leave.ensures.account.0 c.leave.ensures.row at.ensures.account.1 c.leave.ensures.account.1))
+    (sym (known_after new (resting_row c.leave.result.seat) account told (account_of c.leave.result.reader) at.ensures.account.0 c.leave.ensures.account.0 (c.leave.ensures.row ∙ given_none new) at.ensures.account.1 c.leave.ensures.account.1))
     (stopped_in g.D.Disk.device account (resting_row c.args.parts.seat) taken new list at.result.held.state c.copy_part-held.result.0.state c.args.user.now c.args.moment c.in-Err.error at.ensures.took
     at.ensures.grows at.ensures.out.knows.stands_for
     (subst (λ (r : Result (Option ℕ) SharedError). RunsStep taken new c.args.user.now c.args.moment r) c.in-Err.is c.copy_part-held.ensures.steps)

@@ -1,6 +1,6 @@
 use Rattle.std.proofs.Common.{◌≡◌, ℕ, ◌+◌, false, List, [], ◌∷◌, ◌++◌, Option, refl, sym, subst}
 use Rattle.jb_telnet.specs.declared.event.Event.{Event}
-use Rattle.jb_telnet.specs.Reading.{HasRead, given}
+use Rattle.jb_telnet.specs.Reading.{HasRead, events_given}
 use Rattle.jb_menu.specs.Awaits.{IsFor}
 use Rattle.jb_talk.specs.Conversations.{is_waiting}
 use Rattle.std.specs.Option.{option_to_list}
@@ -27,7 +27,7 @@ returns-in-On-clause-fits c =
     → HasTalked board c.turn.new.self (bytes ++ c.args.byte ∷ []) answers sent (asked ++ option_to_list request))
     (λ request turned is. λ bytes sent answers asked talked.
     let h : HasTalked board talk bytes answers sent asked = subst (λ (w : Talking). HasTalked board w bytes answers sent asked) (sym c.self.view_is) talked in
-    let read = subst (λ (w : Option Event). HasRead c.push.new.self (bytes ++ c.args.byte ∷ []) (h.events ++ given w)) c.in-Some.is (c.push.ensures.fits bytes h.events h.read) in
+    let read = subst (λ (w : Option Event). HasRead c.push.new.self (bytes ++ c.args.byte ∷ []) (h.events ++ events_given w)) c.in-Some.is (c.push.ensures.fits bytes h.events h.read) in
     rw (turned, is) (talked_event board talk c.push.new.self bytes sent c.args.byte (c.self.inside.taken + 1) c.in-Some.event answers asked h refl read c.in-On.is))
     c.turn.ensures.turn c.turn.ensures.request
 
@@ -44,7 +44,7 @@ returns-in_default-standing c =
     record {
       fits = λ bytes sent answers asked talked.
           let h : HasTalked board talk bytes answers sent asked = subst (λ (w : Talking). HasTalked board w bytes answers sent asked) (sym c.self.view_is) talked in
-          let read = subst (λ (w : Option Event). HasRead c.push.new.self (bytes ++ c.args.byte ∷ []) (h.events ++ given w)) c.in-Some.is (c.push.ensures.fits bytes h.events h.read) in
+          let read = subst (λ (w : Option Event). HasRead c.push.new.self (bytes ++ c.args.byte ∷ []) (h.events ++ events_given w)) c.in-Some.is (c.push.ensures.fits bytes h.events h.read) in
           talked_over board talk c.push.new.self bytes sent c.args.byte (c.self.inside.taken + 1) c.in-Some.event answers asked h refl read
           (not_on c.self.inside.standing c.in_default-standing.not-On) idle;
       hands = record { menu = subst (λ (w : Talking). IsFor board w.place.menu) (sym c.self.view_is) c.requires.of; waits = idle; of = tt };

@@ -1,13 +1,13 @@
 use Rattle.std.proofs.Common.{rules, ◌≡◌, ◌<◌, [], ◌∷◌, ◌++◌, map, reverse, length, Some, arith, sym, refl, ap, ◌∙◌, subst, append_assoc, length-append}
 use Rattle.std.specs.Prelude.{IsSome}
 use Rattle.std.proofs.lemmas.List.Elements.{All-pop}
-use Rattle.jb_turn.specs.Whole.{HasAll, IsLowestMissing, IsWhole}
+use Rattle.jb_turn.specs.Whole.{HasRows, IsLowestRowMissing, IsWhole}
 use Rattle.jb_turn.proofs.Places.{rows_joined, rows_left, same_some}
 use Rattle.jb_turn.proofs.TurnKeeps.{joins, ended}
 use Rattle.jb_turn.proofs.seat.Turn.close.Goals as goal
 
 pub returns-in-Some-clause-missing : goal.returns-in-Some-clause-missing
-returns-in-Some-clause-missing g c = subst (λ xs. IsLowestMissing (map g.P.Seated.knows xs) c.args.self.seats c.in-Some.number) c.as_slice.ensures.value c.in-Some.ensures
+returns-in-Some-clause-missing g c = subst (λ xs. IsLowestRowMissing (map g.P.Seated.knows xs) c.args.self.seats c.in-Some.number) c.as_slice.ensures.value c.in-Some.ensures
 
 pub loop-seat-init : goal.loop-seat-init
 loop-seat-init g c = let last = c.in-Some-pop.last in
@@ -53,19 +53,19 @@ loop-seat-preserved g c = let old = c.loop-seat.invariant in let rest = old.take
 
 pub unwrap-state-requires : goal.unwrap-state-requires
 unwrap-state-requires g c = let old = c.loop-seat.invariant in let rows = map g.P.Seated.knows c.args.seats.items in
-    let all : HasAll rows c.args.self.seats = subst (λ xs. HasAll (map g.P.Seated.knows xs) c.args.self.seats) c.as_slice.ensures.value c.in_default.ensures in
+    let all : HasRows rows c.args.self.seats = subst (λ xs. HasRows (map g.P.Seated.knows xs) c.args.self.seats) c.as_slice.ensures.value c.in_default.ensures in
     let none : length c.loop-seat.seats.items ≡ 0 = search rules in
     let is : c.loop-seat.place.me.0.rows ≡ reverse rows = rows_left g.P.Seated.knows c.args.seats.items c.loop-seat.seats.items old.taken.0 c.loop-seat.place.me.0.rows old.taken.1 none old.taken.2 in
-    let e = ended g.row.S.Denot g.row.O.Denot g.row.E.Denot g.row.Q.Denot g.S.Kept.stands g.S.Kept.caller _ _ _ c.loop-seat.place.me.0 _ _ rows c.take.result c.close_with-closed.ensures.values.2 old.stage is (subst (HasAll rows) (sym c.args.self.keyed) all) c.take.ensures.value in
+    let e = ended g.row.S.Denot g.row.O.Denot g.row.E.Denot g.row.Q.Denot g.S.Kept.stands g.S.Kept.caller _ _ _ c.loop-seat.place.me.0 _ _ rows c.take.result c.close_with-closed.ensures.values.2 old.stage is (subst (HasRows rows) (sym c.args.self.keyed) all) c.take.ensures.value in
     subst IsSome (sym e.1) refl
 
 pub returns-clause-all : goal.returns-clause-all
-returns-clause-all g c = subst (λ xs. HasAll (map g.P.Seated.knows xs) c.args.self.seats) c.as_slice.ensures.value c.in_default.ensures
+returns-clause-all g c = subst (λ xs. HasRows (map g.P.Seated.knows xs) c.args.self.seats) c.as_slice.ensures.value c.in_default.ensures
 
 pub returns-clause-whole : goal.returns-clause-whole
 returns-clause-whole g c = let old = c.loop-seat.invariant in let rows = map g.P.Seated.knows c.args.seats.items in
-    let all : HasAll rows c.args.self.seats = subst (λ xs. HasAll (map g.P.Seated.knows xs) c.args.self.seats) c.as_slice.ensures.value c.in_default.ensures in
+    let all : HasRows rows c.args.self.seats = subst (λ xs. HasRows (map g.P.Seated.knows xs) c.args.self.seats) c.as_slice.ensures.value c.in_default.ensures in
     let none : length c.loop-seat.seats.items ≡ 0 = search rules in
     let is : c.loop-seat.place.me.0.rows ≡ reverse rows = rows_left g.P.Seated.knows c.args.seats.items c.loop-seat.seats.items old.taken.0 c.loop-seat.place.me.0.rows old.taken.1 none old.taken.2 in
-    let e = ended g.row.S.Denot g.row.O.Denot g.row.E.Denot g.row.Q.Denot g.S.Kept.stands g.S.Kept.caller _ _ _ c.loop-seat.place.me.0 _ _ rows c.take.result c.close_with-closed.ensures.values.2 old.stage is (subst (HasAll rows) (sym c.args.self.keyed) all) c.take.ensures.value in
+    let e = ended g.row.S.Denot g.row.O.Denot g.row.E.Denot g.row.Q.Denot g.S.Kept.stands g.S.Kept.caller _ _ _ c.loop-seat.place.me.0 _ _ rows c.take.result c.close_with-closed.ensures.values.2 old.stage is (subst (HasRows rows) (sym c.args.self.keyed) all) c.take.ensures.value in
     subst (IsWhole g.S.Kept.stands g.S.Kept.caller rows) (same_some e.0 c.unwrap-state.result (sym e.1 ∙ c.unwrap-state.ensures)) e.2

@@ -1,6 +1,6 @@
 use Rattle.std.proofs.Common.{◌≡◌, ◌<◌, List, [], ◌++◌, map, reverse, length}
 use Rattle.std.specs.Prelude.{All}
-use Rattle.jb_turn.specs.declared.view.Stage.TheVariants.{Idle}
+use Rattle.jb_turn.specs.declared.view.TicketStage.TheVariants.{Idle}
 use Rattle.jb_turn.proofs.seat.Turn.close.Given as goal
 
 abbrev pub invariant-loop-seat : goal.invariant-loop-seat

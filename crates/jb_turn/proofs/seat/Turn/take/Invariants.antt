@@ -1,5 +1,5 @@
 use Rattle.std.proofs.Common.{◌≡◌, ◌%◌, ◌^◌, []}
-use Rattle.jb_turn.specs.declared.view.Stage.TheVariants.{Waits}
+use Rattle.jb_turn.specs.declared.view.TicketStage.TheVariants.{Waits}
 use Rattle.jb_turn.specs.Steps.{ticket}
 use Rattle.jb_turn.proofs.seat.Turn.take.Given as goal
 
