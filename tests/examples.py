@@ -193,6 +193,10 @@ def try_units(trial):
             text = file.read().replace("/usr/local/bin/board", trial.program).replace("/usr/local/bin/toss", "/bin/true")
         with open(f"{trial.folder}/units/{name}", "w") as file:
             file.write(text)
+    with open(f"{TOP}/examples/board.service") as file:
+        for line in re.findall(r"(?m)^#     (.*)$", file.read()):
+            is_there = all(os.path.exists(f"{TOP}/{path}") for path in re.findall(r"(?:built|examples)/\S+", line))
+            trial.holds(f"{line}: it stays in the top folder, and finds there what it names", is_there and not line.startswith("cd "))
     analyze = shutil.which("systemd-analyze")
     for name in names:
         trial.answers(f"{name} is parsed", (analyze, "verify", "--man=no", f"{trial.folder}/units/{name}"), 0, ())

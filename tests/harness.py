@@ -34,7 +34,9 @@ PIECE_BYTES = 4096
 NO_WORDS, SHORT_HEADER, ALREADY_THERE = (b"fault 1 Words\n", 1), (b"fault 3.1 ShortHeader\n", 3), (b"fault 3.17 AlreadyThere\n", 3)
 STORE_FAULT, HOST_FAULT, NO_MEMORY = (b"fault 4 StoreFault\n", 4), (b"fault 5 HostFault\n", 5), (b"fault 6 OutOfMemory\n", 6)
 # what the operator is told of callers and packs
-LOGGED = re.compile(rb"node \d+: |bell: ")
+LOGGED = re.compile(rb"node \d+: |bell: |board: \S+: a change that waited ")
+# what is told of a run behind one that was stopped
+RECOVERED = re.compile(rb"board: \S+: a change that waited in its journal is done\n")
 # what a caller is sent first, and where the disk has failed
 GREETING, IN_DOUBT = b"Test Board\r\nName: ", b"Store fault: the change is in doubt.\r\n"
 BOARD = """name = "Test Board"
@@ -123,12 +125,18 @@ def is_told(told, printed):
     return re.fullmatch(rf"board: (?:[^\n]+: )?{words}\n", told.decode(errors="replace")) is not None
 
 
-def with_limit(most):
-    """Before a program begins: no file grows beyond this, and the system answers so and does not end the program."""
+def with_limit(most, is_lasting=True):
+    """Before a program begins: no file grows beyond this, for good or until it is lifted, and the system answers so and does not end the program."""
     def before():
         signal.signal(signal.SIGXFSZ, signal.SIG_IGN)
-        resource.setrlimit(resource.RLIMIT_FSIZE, (most, most))
+        resource.setrlimit(resource.RLIMIT_FSIZE, (most, most if is_lasting else resource.getrlimit(resource.RLIMIT_FSIZE)[1]))
     return before
+
+
+def lifts(process):
+    """Lets the files of a program grow again."""
+    hard = resource.prlimit(process.pid, resource.RLIMIT_FSIZE)[1]
+    resource.prlimit(process.pid, resource.RLIMIT_FSIZE, (hard, hard))
 
 
 def with_files(most):
@@ -260,8 +268,9 @@ class Runs(Trial):
         return subprocess.Popen([*under, self.program, *words], **run)
 
     def done(self, *words, typed=None, limit=GUARD, **run):
-        """What a run prints to which this is typed, its status, and what the operator is told."""
-        return end_of(self.starts(*words, **(run if typed is None else {"stdin": subprocess.PIPE} | run)), typed, limit)
+        """What a run prints to which this is typed, its status, and what the operator is told but of changes that waited."""
+        printed, status, told = end_of(self.starts(*words, **(run if typed is None else {"stdin": subprocess.PIPE} | run)), typed, limit)
+        return printed, status, told and RECOVERED.sub(b"", told)
 
     def ended(self, *words, **run):
         """What a run prints and its status; the operator is told why it is refused, and nothing else."""

@@ -9,7 +9,8 @@ import re
 import time
 
 from caller import GUARD, PLAIN
-from harness import AREAS, IN_DOUBT, LOGGED, NAMES, SYSOP, TOP, Served, goes_through, has_version_6, password_of, resets, settings, users, with_limit
+from harness import AREAS, IN_DOUBT, LOGGED, NAMES, SYSOP, TOP, Served, goes_through, has_version_6, lifts, password_of, resets, settings, users, with_limit
+from jam import journal_of, write_files
 
 # what is typed as a name, and how it is shown
 TYPED = ((b"Nobody", b"Nobody"), (b"J\xc3\xb6rg \xff", b"J??rg ?"), (b"a\x07b\x1b[2Jc", b"ab[2Jc"), (b"x" * 60, b"x" * 36), (b"", b""),
@@ -110,7 +111,7 @@ def try_packs(trial):
     caller.quits()
     name = NAMES[SYSOP]
     trial.is_so("a pack by a sysop", lines_of(trial, side),
-                [b"connected", b"logged in as " + name, b"area 1: packed, live 0 dropped 1", b"ended after S s: left, " + name])
+                [b"connected", b"logged in as " + name, b"area 1: pack begins", b"area 1: packed, live 0 dropped 1", b"ended after S s: left, " + name])
     for _ in range(len(NAMES) - 1):
         trial.caller("who leaves").line.close()
     trial.ends("packs", 0)
@@ -123,15 +124,34 @@ def try_doubt(trial):
     """A disk that fails."""
     trial.has_bases()
     trial.has_settings(settings(AREAS, users(), port=trial.port, nodes=2, pack_minutes=0))
-    trial.begins(nodes=2, preexec_fn=with_limit(40))
+    trial.begins(nodes=2, preexec_fn=with_limit(40, is_lasting=False))
     caller = trial.guest(0, "letters")
     side = at(caller)
-    trial.is_so("a post into it", caller.writes(b"All", b"it fails", [b"a line"], prompt=b"[letters] "), IN_DOUBT)
+    for _ in range(2):
+        trial.is_so("a post into it", caller.writes(b"All", b"it fails", [b"a line"], prompt=b"[letters] "), IN_DOUBT)
+    lifts(trial.process)
+    caller.posts(b"All", b"it is well again", [b"a line"], prompt=b"[letters] ")
     caller.quits()
     trial.is_so("a disk that fails", lines_of(trial, side),
-                [b"connected", b"logged in as Ada", b"area 2: the device failed, in doubt", b"ended after S s: left, Ada"])
+                [b"connected", b"logged in as Ada", *[b"area 2: the device failed, in doubt"] * 2, b"area 2: settled", b"ended after S s: left, Ada"])
     trial.is_ended("a disk that fails")
 
 
+def try_opening(trial):
+    """A change that waits in the journal of one area."""
+    trial.has_bases()
+    write_files(trial.areas, AREAS[1], {"jnl": journal_of([(0, 8, b"\7\0\0\0")])}, spelled=str.upper)
+    trial.begins()
+    told = b"board: areas/%s: a change that waited in its journal is done\n" % AREAS[1].encode()
+    trial.user(0).quits()
+    trial.is_ended("a change that waits")
+    trial.is_so("how often it is told", trial.told.count(told), 1)
+    trial.is_so("what it has written", trial.files(AREAS[1])["jhr"][8:12], b"\7\0\0\0")
+    trial.begins()
+    trial.user(0).quits()
+    trial.is_ended("none that waits")
+    trial.holds("nothing is told of one", not any(b"journal" in line for line in trial.told))
+
+
 if __name__ == "__main__":
-    goes_through(Served, "lines of the log", (try_ends, try_refusals, try_packs, try_doubt), in_memory=False)
+    goes_through(Served, "lines of the log", (try_ends, try_refusals, try_packs, try_doubt, try_opening), in_memory=False)

@@ -3,11 +3,11 @@
 
 usage: real_base.py PROGRAM
 
-The base in tests/peer was written by another program as it tossed a packet. The copies have their headers and texts in a drawn
-order with dead bytes between, killed messages, holes in the index, marks, and another base number. Each tool is used on each of
-them; what it prints and what the files then hold is compared with the reading of jam.py, which knows the tables of the JAM proposal
-and nothing of the program. Then the tools are used where a change waits
-in the journal, where nothing may be written, and on damaged files.
+The messages in tests/peer were written by JamNNTPd 1.3 (Debian 12, i386) as they were posted to it, into an empty base. The
+copies have their headers and texts in a drawn order with dead bytes between, killed messages, holes in the index, marks, and
+another base number. Each tool is used on each of them; what it prints and what the files then hold is compared with the reading
+of jam.py, which knows the tables of the JAM proposal and nothing of the program. Then the tools are used where a change waits in
+the journal, where nothing may be written, and on damaged files.
 """
 import os
 import random
@@ -16,8 +16,8 @@ import struct
 import time
 
 from harness import ALREADY_THERE, BY_ANOTHER, SHORT_HEADER, STORE_FAULT, TOOLS, Runs, goes_through
-from jam import (DELETED, EMPTY, FIELDS, FILES, LINKS, figures, fixed_header, held_links, journal_of, links_of, listing, path_of, read, read_files,
-                 ulong, write, write_files)
+from jam import (DELETED, EMPTY, FIELDS, FILES, LINKS, crc, figures, fixed_header, held_links, journal_of, links_of, listing, path_of, read,
+                 read_files, ulong, write, write_files)
 
 PEER = os.path.join(os.path.dirname(os.path.abspath(__file__)), "peer")
 
@@ -115,9 +115,16 @@ def drawn_base(seed, draw):
     return base
 
 
+def crcs_of(message):
+    """The UserCRC, MSGIDcrc and REPLYcrc that a message has by its receiver, MSGID and REPLYID."""
+    return tuple(EMPTY if text is None else crc(text) for text in map(message.first, (3, 4, 5)))
+
+
 def try_whole(trial):
     """The base as it is, and the copies."""
-    trial.holds("the listing is the stored one", listing(read(PEER, "PLAIN")[0]) == open(f"{PEER}/PLAIN.list", "rb").read())
+    base, _, _ = read(PEER, "PLAIN")
+    trial.holds("each CRC is that of its text", all((m.owner, m.head["msgid_crc"], m.head["reply_crc"]) == crcs_of(m) for m in base.slots))
+    trial.holds("the listing is the stored one", listing(base) == open(f"{PEER}/PLAIN.list", "rb").read())
     copy(trial, "plain")
     try_tools(trial, "plain")
     for seed in range(24):
