@@ -27,6 +27,7 @@ FILES, OPENED = ("JHR", "JDT", "JDX", "JLR"), ("JHR", "JDX", "JLR")
 OFTEN = 200
 # what a caller types for one command; no message whose number ends in 0 is live
 COMMANDS = {"post": lambda n: POST, "reply": lambda n: ["7", "R", *["x" * 70] * TEXT_LINES, "."], "reading": lambda n: ["7"],
+            "edit": lambda n: [f"E {n // 9 * 10 + n % 9 + 1}", "A subject of the bench", *["x" * 70] * TEXT_LINES, "."],
             "kill": lambda n: [f"K {n // 9 * 10 + n % 9 + 1}"], "mark": lambda n: [f"M {n // 9 * 10 + n % 9 + 1}"]}
 
 

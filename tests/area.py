@@ -20,6 +20,10 @@ class Posted(NamedTuple):
     number: int
 
 
+class Edited(NamedTuple):
+    number: int
+
+
 class Killed(NamedTuple):
     number: int
 
@@ -56,9 +60,9 @@ class Denied(NamedTuple):
     rule: str
 
 
-SHOWN = {Posted: "Posted as {number}.", Killed: "Killed {number}.", Marked: "Mark is {last}, high {high}.", Relinked: "Relinked: {changed} changed.",
-         Packed: "Packed: base {base}, live {live}, dropped {dropped}.", Figures: "{visible} visible, {unread} unread.",
-         NoMessage: "No such message.", Denied: "Denied by rule {rule}."}
+SHOWN = {Posted: "Posted as {number}.", Edited: "Edited {number}.", Killed: "Killed {number}.", Marked: "Mark is {last}, high {high}.",
+         Relinked: "Relinked: {changed} changed.", Packed: "Packed: base {base}, live {live}, dropped {dropped}.",
+         Figures: "{visible} visible, {unread} unread.", NoMessage: "No such message.", Denied: "Denied by rule {rule}."}
 
 
 def shown(reply):
@@ -156,6 +160,15 @@ class Area:
             return Denied("A4")
         self.messages[number].is_killed = True
         return Killed(number)
+
+    def edit(self, user, number, subject, text):
+        if number not in self.seen(user):
+            return NoMessage(number)
+        message = self.messages[number]
+        if user.name != message.sender and user.level < SYSOP_LEVEL:
+            return Denied("A6")
+        message.subject, message.text = subject, text
+        return Edited(number)
 
     def mark(self, user, number):
         if number >= self.next:

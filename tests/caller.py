@@ -156,6 +156,16 @@ class Caller:
         self.enters(b"y" if is_private else b"n")
         return self.ends_text(text, prompt)
 
+    def edits(self, number, subject, text, prompt=b"[general] "):
+        """Gives a message another text and another subject, which an empty one keeps, and gives what comes upon the end."""
+        self.begins_edit(number, subject)
+        return self.ends_text(text, prompt)
+
+    def begins_edit(self, number, subject):
+        """Gives a message another subject, so that its text is asked for next."""
+        self.answers(b"e %d" % number, b"", b"Subject (empty keeps): ")
+        self.enters(subject)
+
     def ends_text(self, text, prompt):
         """Types the lines of a text and its end, and gives what comes upon it."""
         self.reads(b"Text, . ends, ! cancels\r\n")

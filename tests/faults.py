@@ -4,10 +4,10 @@
 usage: faults.py PROGRAM [--all]
 
 PROGRAM is that of crates/trial_shared, whose README tells the rows that it reads; one process answers all of them. On five messages a node
-posts, replies, reads, kills, marks, relinks or packs while the first call of the disk fails, or the second, and so on until none does. The node
-has to be told of a store fault. Until another node's call ends the doubt looks show the area as it was, and from then on all that is answered,
-and what the closed area holds when it is opened anew, is as if the node had asked nothing, or as if that had been done: the one up to some
-call of the disk, behind which the gate was open, and the other from there on. The same where the area is closed in doubt. What has to be
+posts, replies, reads, kills, edits, marks, relinks or packs while the first call of the disk fails, or the second, and so on until none does.
+The node has to be told of a store fault. Until another node's call ends the doubt looks show the area as it was, and from then on all that is
+answered, and what the closed area holds when it is opened anew, is as if the node had asked nothing, or as if that had been done: the one up to
+some call of the disk, behind which the gate was open, and the other from there on. The same where the area is closed in doubt. What has to be
 answered is told by the model of an area (area.py). With --all a call of the disk fails besides in what comes next.
 """
 import copy
@@ -29,6 +29,8 @@ ACTS = {
     "another reply": (THREAD, "call 1 Test 20 private 3"),
     "a reading": (FIVE, "call 1 Hello 20 read 2"),
     "a kill": (FIVE, "call 1 Test 20 kill 3"),
+    "an edit": (FIVE, "call 1 Test 20 edit 3"),
+    "an edit by the sysop": (THREAD, "call 1 Sysop 200 edit 3"),
     "a first mark": (FIVE, "call 1 Test 20 mark 3"),
     "another mark": (THREAD, "call 1 Test 20 mark 1"),
     "a relink": (THREAD, "call 1 Sysop 200 relink 0"),
@@ -39,10 +41,11 @@ PEEKS = ["call {} Sysop 200 peek %d" % number for number in range(9)]
 
 
 def letter(area, number):
-    """A message in the words of the program: all posts are about `abc`, have their sender's name as text, and are of one moment."""
+    """A message in the words of the program: a post is about `abc`, an edit makes it about `abcd`, the text is the name of who asked, and all
+    are of one moment."""
     message = area.messages[number]
     msgid, reply_id = (area.msgid(it).decode().replace(" ", "%20") if it else "-" for it in (number, message.answers))
-    return (f"Text {number} {message.sender} {message.receiver} abc {message.sender} {msgid} {reply_id} 1000000000 {message.attribute():x} "
+    return (f"Text {number} {message.sender} {message.receiver} {message.subject} {message.text[0]} {msgid} {reply_id} 1000000000 {message.attribute():x} "
             f"{'/'.join(map(str, message.links))}")
 
 
@@ -58,6 +61,8 @@ def called(area, user, word, number):
         return reply(area.post(user, message))
     if word in ("relink", "pack"):
         return reply(getattr(area, word)(user))
+    if word == "edit":
+        return reply(area.edit(user, number, "abcd", [user.name]))
     if word in ("kill", "mark"):
         return reply(getattr(area, word)(user, number))
     # a peek is a look at a copy, which is not counted

@@ -23,7 +23,7 @@ import sys
 import tempfile
 
 from harness import LIMIT, LOCAL, NO_MEMORY, TOP, Runs, memory_folder, one_by_one, settings
-from visits import ANSWERED, goes_as_far
+from visits import ANSWERED, EDITED, edit_goes_as_far, goes_as_far
 
 # that the digits of a word are no bytes is said too where there was no memory for them
 WANTING = re.compile(r"(Base\()?OutOfMemory\b|NoMemory\b|out of memory|no answer to '.*': (out of memory|word \d+ is no bytes)")
@@ -167,7 +167,7 @@ class Table:
         return None
 
 
-def looks_at_board(trial, words, typed):
+def looks_at_board(trial, words, typed, goes):
     """All numbers of one command of the board, each over a base with one message anew."""
     def look(number):
         trial.has_letters("general")
@@ -176,7 +176,7 @@ def looks_at_board(trial, words, typed):
         what = f"{' '.join(words)}, allocation {number}"
         trial.is_changed((found, status) != whole)
         if words == LOCAL:
-            goes_as_far(trial, what, found, status)
+            goes(trial, what, found, status)
         elif (found, status) != whole:
             trial.is_so(what, (found, status), NO_MEMORY)
             trial.holds(f"{what}: the base is as it was", all(map(trial.keeps, before, ("general", "other"))))
@@ -189,7 +189,9 @@ def looks_at_board(trial, words, typed):
 
 
 COMMANDS = (("help",), ("list", "areas", "general"), ("check", "areas", "general"), ("make", "areas", "other"), ("pack", "areas", "general"),
-            ("relink", "areas", "general"), ("load", "7", "40"), LOCAL)
+            ("relink", "areas", "general"), ("load", "7", "40"))
+# what is typed in a session, and how far it goes
+SESSIONS = ((ANSWERED, goes_as_far), (EDITED, edit_goes_as_far))
 
 
 def numbers_of(words):
@@ -207,7 +209,9 @@ def main(name, is_built, words):
         if name == "board":
             trial.has_settings(settings())
             for command in COMMANDS:
-                trial.goes_through(numbers_of(words), looks_at_board(trial, command, one_by_one(ANSWERED) if command == LOCAL else b""))
+                trial.goes_through(numbers_of(words), looks_at_board(trial, command, b"", None))
+            for typed, goes in SESSIONS:
+                trial.goes_through(numbers_of(words), looks_at_board(trial, LOCAL, one_by_one(typed), goes))
         else:
             trial.goes_through(numbers_of(words), Table(trial, name).looks)
     print(f"{name}: {trial.numbers} refused allocations were tried, of which {trial.changed} changed what is printed")

@@ -7,7 +7,7 @@ usage: system.py PROGRAM [--all]
 
 The calls are seen by strace; where that is not installed, or may not be used, a line says so, and the rest is tried. The order is that of
 calls.py, and the counts those of crates/jb_journal. Without --all a stop and a failure are tried at
-the calls of a post alone, and no base with 64 MB of texts is packed.
+the calls of a post and of an edit alone, and no base with 64 MB of texts is packed.
 """
 import collections
 import fcntl
@@ -26,6 +26,7 @@ DISK_CALLS = ("fsync", "ftruncate", "pwrite64")
 POST_CALLS = ("jnl len 1, jnl write 1, jnl sync 3, gate opened 1, gate closed 1, jhr len 1, jhr write 2, jhr sync 1, jdt len 1, jdt write 1, "
               "jdt sync 1, jdx len 1, jdx write 1, jdx sync 1")
 ANSWER_CALLS = POST_CALLS.replace("jhr write 2", "jhr write 3")
+EDIT_CALLS = POST_CALLS.replace("jdx len 1, ", "")
 PACK_CALLS = POST_CALLS.replace("jhr write 2", "jhr write 1")
 # what a pack copies before its commit, into a file that it makes
 COPIES = "ndt len, folder sync, ndt write, ndt sync, "
@@ -34,6 +35,7 @@ RECOVERY_CALLS = "jhr len 1, jhr write 2, jdt len 1, jdt write 1, jdx len 1, jdx
 LIST, PACK = ("list", "areas", "general"), ("pack", "areas", "general")
 POSTED = ("Test", "abc", "1", "p", "Hello", "more", "n", "a line")
 ANSWERED = ("Hello", "test", "1", "1", "r", "a line")
+EDITED = ("Test", "abc", "1", "e 1", "another", "a line")
 PROMPT, ASKED, FAULT = b"[general] ", b"Text, . ends, ! cancels\r\n", b"Store fault"
 MOST_TEXTS, MOST_TEXT = 67_108_864, 1_048_576
 # the least that a pipe holds
@@ -59,6 +61,10 @@ class Calls(Runs):
         """What a run prints and its status."""
         return self.done(*words, limit=LIMIT)[:2]
 
+    def listed(self):
+        """What a list prints and its status, and the texts then."""
+        return *self.plain(LIST), [message.text for message in self.base().live().values()]
+
     def session(self, words, typed=(), inject=()):
         """What is printed, the status, and the calls; a session gets its lines, and the end of a text when all before was answered."""
         caller = Piped(self.starts(*words, under=("strace", "-f", "-y", "-o", f"{self.folder}/trace", *TRACED, *inject), stdin=subprocess.PIPE))
@@ -80,12 +86,14 @@ class Calls(Runs):
 
 
 def try_calls(trial):
-    """A post, an answer, a list, a pack and a recovery make the calls that are told of them, and no others that write."""
-    for what, typed, counts in (("an answer", ANSWERED, ANSWER_CALLS), ("a post", POSTED, POST_CALLS)):
+    """An edit, a post, an answer, a list, a pack and a recovery make the calls that are told of them, and no others that write."""
+    for what, typed, counts, told in (("an edit", EDITED, EDIT_CALLS, b"\nEdited 1.\r\n"), ("an answer", ANSWERED, ANSWER_CALLS, b"\nPosted as 2.\r\n"),
+                                      ("a post", POSTED, POST_CALLS, b"\nPosted as 2.\r\n")):
         trial.has_base()
         before = trial.files()
         printed, status, trace = trial.session(LOCAL, typed)
-        trial.is_so(f"{what}: how it ends", (printed[-25:], status), (b"\nPosted as 2.\r\n" + PROMPT, 0))
+        trial.holds(f"{what}: how it ends: {printed[-40:]}", printed.endswith(told + PROMPT))
+        trial.is_so(f"{what}: the status", status, 0)
         trial.follows(what, words_of(trace).rsplit("printed, ", 2)[1], COMMIT, counts)
     printed, status, trace = trial.session(LIST)
     trial.is_so("a list", (printed.count(b"\n"), status, words_of(trace)), (2, 0, OPENING + "printed, "))
@@ -104,6 +112,7 @@ def try_calls(trial):
 
 def try_all_stops(trial):
     try_stops(trial, "a post", LOCAL, POSTED, b"Posted as 2.")
+    try_stops(trial, "an edit", LOCAL, EDITED, b"Edited 1.")
     if trial.option:
         try_stops(trial, "an answer", LOCAL, ANSWERED, b"Posted as 2.")
         try_stops(trial, "a pack", PACK, (), b"Packed: ")
@@ -112,10 +121,10 @@ def try_all_stops(trial):
 def try_stops(trial, what, words, typed, printed_after):
     """A run is killed before each of its calls of the disk, or this call fails: what was acknowledged is there, and nothing by half."""
     trial.has_base()
-    before, start = trial.plain(LIST)[0], trial.files()
+    before, start = trial.listed(), trial.files()
     printed, _, trace = trial.session(words, typed)
     trial.holds(f"{what}: it is done", printed_after in printed)
-    after, gates = trial.plain(LIST)[0], words_of(trace).count("gate opened, ")
+    after, gates = trial.listed(), words_of(trace).count("gate opened, ")
     for call in DISK_CALLS:
         for at in range(1, 1 + sum(call + "(" in line for line in trace)):
             for how in ("signal=KILL", "error=EIO"):
@@ -126,7 +135,7 @@ def try_stops(trial, what, words, typed, printed_after):
                 trial.holds(f"{where}: nothing is acknowledged", printed_after not in printed)
                 # a mark has a gate of its own, before that of the answer
                 wanted = after if words_of(calls).count("gate opened, ") == gates else before
-                trial.is_so(f"{where}: what is listed then", trial.plain(LIST), (wanted, 0))
+                trial.is_so(f"{where}: what is listed then", trial.listed(), wanted)
                 trial.is_so(f"{where}: a check", trial.plain(("check", *LIST[1:])), (jam.figures(trial.base()), 0))
 
 

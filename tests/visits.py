@@ -17,6 +17,10 @@ FIRST = START + (
     b"Password: Welcome, Hello.\r\nTop> 1 visible, 1 unread.\r\n[general] "
     b"Message 1\r\nFrom: Test\r\nTo: Hello\r\nSubject: abc\r\nDate: 2001-09-09 01:46:40\r\n\r\nGood\r\n\r\n[general] "
     b"Reply to Test, subject Re: abc\r\nText, . ends, ! cancels\r\nPosted as 2.\r\n[general] Goodbye.\r\n")
+# one who edits the letter, and what is sent then
+EDITED = ["Test", "abc", "1", "E 1", "abcd", "Bye", ".", "Q"]
+EDIT = START + (b"Password: Welcome, Test.\r\nTop> 1 visible, 1 unread.\r\n[general] Subject (empty keeps): Text, . ends, ! cancels\r\n"
+                b"Edited 1.\r\n[general] Goodbye.\r\n")
 WRONG = START + b"Password: Login incorrect.\r\nName: " * 2 + b"Password: Login incorrect.\r\nGoodbye.\r\n"
 LISTED, LISTED_ANSWER = b"       1  Test > Hello  abc\n", b"       2  Hello > Test  Re: abc\n"
 
@@ -36,6 +40,21 @@ def goes_as_far(trial, what, found, status):
     trial.is_so(f"{what}: the status of {found!r}", status, 0 if found == FIRST else 6)
     trial.holds(f"{what}: {found!r} is sent", FIRST.startswith(found))
     trial.holds(f"{what}: {found!r} is sent, and {done} done", done == [n < steps for n in range(3)] and least <= steps <= most)
+
+
+def edit_goes_as_far(trial, what, found, status):
+    """The same of an edit of that letter: it is done whole or not at all."""
+    message = trial.base().slots[0]
+    done = [message.first(6) == b"abcd", message.text == b"Bye\r"]
+    trial.holds(f"{what}: the letter is as it was, or edited: {message.first(6)}, {message.text}", done[0] == done[1]
+                and (done[0] or (message.first(6), message.text) == (b"abc", b"Good\r")))
+    if found == NO_MEMORY[0]:
+        trial.is_so(f"{what}: nothing is done", (done[0], status), (False, NO_MEMORY[1]))
+        return
+    edited_at = EDIT.index(b"Edited")
+    trial.is_so(f"{what}: the status of {found!r}", status, 0 if found == EDIT else 6)
+    trial.holds(f"{what}: {found!r} is sent", EDIT.startswith(found))
+    trial.holds(f"{what}: {found!r} is sent, and {done} done", done[0] if len(found) > edited_at else len(found) == edited_at or not done[0])
 
 
 class Hall:

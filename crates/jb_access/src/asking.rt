@@ -2,21 +2,22 @@
 ghost use Rattle.std.specs.Prelude.{◌≡◌, IsSome, option_map};
 ghost use Rattle.std.specs.Result.{result_err};
 ghost use Rattle.jb_base.specs.Access.{first_refusal};
-ghost use Rattle.jb_base.specs.declared.area.Action.TheVariants.{Kill as Killing};
+ghost use Rattle.jb_base.specs.declared.area.Action.TheVariants.{Edit as Editing, Kill as Killing};
 ghost use Rattle.jb_access.specs.Parties.{envelope};
 
 use crate::Parties;
 use jb_base::{Action, AreaRules, Rule, User};
 
-/// Whether the user may do this. `message` is the one that the act is about, and a kill has one. Without a message
-/// nothing is asked about messages; with one, A3 is asked whatever the act is, before A4 and A5.
+/// Whether the user may do this. `message` is the one that the act is about, and a kill and an edit have one. Without
+/// one nothing is asked about messages; with one, A3 is asked whatever the act is, before A4 to A6.
 pub fn allowed(
     user: &User,
     rules: &AreaRules,
     action: Action,
     message: Option<Parties<'_>>,
 ) -> Result<(), Rule>
-    requires { action ≡ Killing → IsSome message }
+    requires kill { action ≡ Killing → IsSome message }
+    requires edit { action ≡ Editing → IsSome message }
     ensures { result_err result ≡ first_refusal user.now rules.now action
         (option_map envelope message.entry) }
 {
@@ -33,6 +34,9 @@ pub fn allowed(
         }
         if action == Action::Kill && !is_sysop && !parties.include(user) {
             return Err(Rule::A4);
+        }
+        if action == Action::Edit && !is_sysop && !parties.are_from(user) {
+            return Err(Rule::A6);
         }
     }
     if action == Action::Tend && !is_sysop {

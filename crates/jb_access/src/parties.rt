@@ -1,6 +1,6 @@
 //! What the rules look at of a message.
 ghost use Rattle.std.specs.Prelude.{◌≡◌};
-ghost use Rattle.jb_base.specs.Access.{is_party, is_withheld};
+ghost use Rattle.jb_base.specs.Access.{is_party, is_sender, is_withheld};
 ghost use Rattle.jb_access.specs.Parties.{envelope};
 
 use jb_base::{NODISP, PRIVATE, User};
@@ -15,6 +15,13 @@ pub struct Parties<'a> {
 }
 
 impl Parties<'_> {
+    /// Whether the user is the sender.
+    pub(crate) fn are_from(&self, user: &User) -> bool
+        ensures { result ≡ is_sender user.now (envelope self.now) }
+    {
+        user.name.as_slice().eq_ignore_ascii_case(self.from)
+    }
+
     /// Whether the user is the sender or the receiver.
     pub(crate) fn include(&self, user: &User) -> bool
         ensures { result ≡ is_party user.now (envelope self.now) }

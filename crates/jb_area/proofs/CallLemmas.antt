@@ -9,7 +9,7 @@ use Rattle.jb_decide.specs.Decided.{IsAnsweredSomewhere, IsTold, made}
 use Rattle.jb_decide.specs.Errors.{is_area_fault}
 use Rattle.jb_decide.specs.Headers.{KeepsHeaders, PacksHeaders}
 use Rattle.jb_decide.specs.Holds.{Holds}
-use Rattle.jb_decide.specs.StepOf.{ChangesNothing, IsNoPack, posted_text}
+use Rattle.jb_decide.specs.StepOf.{ChangesNothing, IsNoPack, written_text}
 use Rattle.jb_decide.proofs.AgreeLemmas.{headers_agree, packs_agree}
 use Rattle.jb_decide.specs.declared.error.AreaError.{AreaError}
 use Rattle.jb_decide.specs.declared.error.AreaError.TheVariants.{OutOfMemory, StoreFault}
@@ -26,9 +26,9 @@ use Rattle.jb_state.specs.Change.{Fits}
 use Rattle.jb_state.specs.State.{state_of}
 use Rattle.jb_model.specs.Step.{Step}
 use Rattle.jb_state.specs.declared.change.Change.{Change}
-use Rattle.jb_state.specs.declared.change.Change.TheVariants.{Nothing, Posted, Headed, Killed, Relinked, Marked, Packed}
+use Rattle.jb_state.specs.declared.change.Change.TheVariants.{Nothing, Posted, Headed, Edited, Killed, Relinked, Marked, Packed}
 use Rattle.jb_model.specs.declared.command.Command.{Command}
-use Rattle.jb_model.specs.declared.command.Command.TheVariants.{Post}
+use Rattle.jb_model.specs.declared.command.Command.TheVariants.{Edit, Post}
 use Rattle.jb_state.specs.declared.loaded.Loaded.{Loaded}
 use Rattle.jb_model.specs.declared.reply.Reply.{Reply}
 use Rattle.jb_area.specs.Area.{done_in, files_after, redo_of, HasBegun, HasMade, HasNoChange, IsDoubtful, IsResting, RestsAt}
@@ -59,12 +59,17 @@ same_post to its_to subject its_subject text its_text reply_to private one two t
     ap (λ (t : List ℕ). Post t subject text reply_to private) one ∙ ap (λ (s : List ℕ). Post its_to s text reply_to private) two
     ∙ ap (λ (t : List ℕ). Post its_to its_subject t reply_to private) three
 
+-- the same edit
+pub same_edit : (number : ℕ) (subject its_subject text its_text : List ℕ) → subject ≡ its_subject → text ≡ its_text → Edit number subject text ≡ Edit number its_subject its_text
+same_edit number subject its_subject text its_text one two = ap (λ (s : List ℕ). Edit number s text) one ∙ ap (λ (t : List ℕ). Edit number its_subject t) two
+
 -- a kill leaves the file of the index in files that have it as those in which the change is done
 index_agrees : (change : Change) (redo : RedoView) (loaded : Loaded) (texts : List ℕ) (start was now : Files) → KeepsIndexOnKill redo loaded change → Holds loaded texts was
     → now Jdx ≡ made change redo was Jdx → was Jdx ≡ start Jdx → KeepsIndexFile change start now
 index_agrees Nothing redo loaded texts start was now keeps holds same before = tt
 index_agrees (Posted message neighbour) redo loaded texts start was now keeps holds same before = tt
 index_agrees (Headed at) redo loaded texts start was now keeps holds same before = tt
+index_agrees (Edited place message) redo loaded texts start was now keeps holds same before = tt
 index_agrees (Killed place) redo loaded texts start was now keeps holds same before = same ∙ keeps was holds.loads ∙ before
 index_agrees (Relinked plan) redo loaded texts start was now keeps holds same before = tt
 index_agrees (Marked place mark) redo loaded texts start was now keeps holds same before = tt
@@ -130,13 +135,17 @@ module _ {D : Type 0} (shown : D → Device) (old mid new : OpenArea D) (texts :
       only_then (OpensToEither old.held texts begun.coming) (shown old.disk) (shown mid.disk) (shown new.disk) first
       (subst (λ (l : Loaded). LeavesOnly (shown mid.disk) (shown new.disk) (OpensToEither l texts begun.coming)) loaded (crash mid_there.0 mid_there.1))
 
+  -- what it changes
+  abbrev change : Change
+  change = begun.begun.pending.change
+
   -- what becomes of the headers
   headers_then : HasMade shown mid new → IsNoPack command → ForSome (shown old.disk).contents (λ was. ForSome (shown new.disk).contents (λ now.
-      KeepsHeaders begun.reply old.held begun.coming.to was now))
+      KeepsHeaders change begun.reply old.held begun.coming.to was now))
   headers_then made in_place was there now here =
       let there_too = (reads_by command (shown old.disk) (shown mid.disk) in_place reads).contents ∙ there in
-      headers_agree begun.reply old.held begun.coming.to was now (files_after mid was) (made was there_too now here Jhr (λ is. let number = ap file_number is in omega (arith, number)))
-      (subst (λ (l : Loaded). KeepsHeaders begun.reply l begun.coming.to was (files_after mid was)) loaded (begun.headers in_place was (record { holds = (begun.begun.kept.settled.rests was there_too).holds; has = begun.begun.kept.copies was there_too })))
+      headers_agree change begun.reply old.held begun.coming.to was now (files_after mid was) (made was there_too now here Jhr (λ is. let number = ap file_number is in omega (arith, number)))
+      (subst (λ (l : Loaded). KeepsHeaders change begun.reply l begun.coming.to was (files_after mid was)) loaded (begun.headers in_place was (record { holds = (begun.begun.kept.settled.rests was there_too).holds; has = begun.begun.kept.copies was there_too })))
 
   -- and of those of a pack
   packs_then : HasMade shown mid new → ForSome (shown old.disk).contents (λ was. ForSome (shown new.disk).contents (λ now. PacksHeaders begun.reply begun.coming.to now))
@@ -149,18 +158,14 @@ module _ {D : Type 0} (shown : D → Device) (old mid new : OpenArea D) (texts :
       (agrees Jhr (λ is. let number = ap file_number is in omega (arith, number))) (agrees Jdt (λ is. let number = ap file_number is in omega (arith, number)))
       (begun.packs was (record { holds = (begun.begun.kept.settled.rests was there).holds; has = begun.begun.kept.copies was there }))
 
-  -- what it changes
-  abbrev change : Change
-  change = begun.begun.pending.change
-
-  -- fits the area, as it was before the call
+  -- what it changes fits the area, as it was before the call
   fits_before : Fits old.rules.slots change old.held
   fits_before =
       subst (λ (r : AreaRules). Fits r.slots change old.held) rules
       (subst (λ (l : Loaded). Fits mid.rules.slots change l) loaded (fits_is shown mid texts begun.reply begun.coming begun.begun begun.reply begun.begun.pending begun.begun.stage))
 
   -- and brings what is to come
-  becomes_before : begun.coming ≡ coming_of change old.held (posted_text command) texts
+  becomes_before : begun.coming ≡ coming_of change old.held (written_text command) texts
   becomes_before =
       becomes_is shown mid texts begun.reply begun.coming begun.begun begun.reply begun.begun.pending begun.begun.stage
       ∙ ap (λ (l : Loaded). coming_of change l begun.begun.posted texts) loaded
@@ -197,7 +202,7 @@ module _ {D : Type 0} (shown : D → Device) (old mid new : OpenArea D) (texts :
     somewhere = subst (λ (r : Reply). IsAnsweredSomewhere old.rules old.held user moment command r change) (sym done.0) somewhere_before;
     idle = λ nothing. idle_before left (subst (ChangesNothing command) done.0 nothing);
     headers = λ in_place was there now here.
-        subst (λ (r : Reply). KeepsHeaders r old.held begun.coming.to was now) (sym done.0) (headers_then made in_place was there now here);
+        subst (λ (r : Reply). KeepsHeaders change r old.held begun.coming.to was now) (sym done.0) (headers_then made in_place was there now here);
     index = index_then made;
     packs = λ was there now here. subst (λ (r : Reply). PacksHeaders r begun.coming.to now) (sym done.0) (packs_then made was there now here);
     crash = crash_before crash;

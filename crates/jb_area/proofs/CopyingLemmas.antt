@@ -16,9 +16,9 @@ use Rattle.jb_disk.proofs.FileLemmas.{leaves_both, leaves_map, only_told}
 use Rattle.jb_journal.specs.Commit.{AgreeButJournal}
 use Rattle.jb_redo.specs.Changes.{changed}
 use Rattle.jb_state.specs.declared.change.Change.{Change}
-use Rattle.jb_state.specs.declared.change.Change.TheVariants.{Nothing, Posted, Headed, Killed, Relinked, Marked, Packed}
+use Rattle.jb_state.specs.declared.change.Change.TheVariants.{Nothing, Posted, Headed, Edited, Killed, Relinked, Marked, Packed}
 use Rattle.jb_model.specs.declared.command.Command.{Command}
-use Rattle.jb_model.specs.declared.command.Command.TheVariants.{Post, Read, Peek, Kill, SetMark, Pack, Relink}
+use Rattle.jb_model.specs.declared.command.Command.TheVariants.{Post, Edit, Read, Peek, Kill, SetMark, Pack, Relink}
 use Rattle.jb_state.specs.declared.loaded.Loaded.{Loaded}
 use Rattle.jb_pack.proofs.CopiesLemmas.{stays_copied}
 use Rattle.jb_pack.proofs.TouchLemmas.{touches-read, touches-resize, touches-sync, touches-then, turns-alike}
@@ -139,6 +139,7 @@ synced_copies {T} {E} loaded texts old mid new (Ok value) before tells_mid tells
 -- what each command does to the device before its change, as what touches .NDT alone
 pub touches_by : (command : Command) (old new : Device) → OnlyReadsOrCopies command old new → TouchesShadow old new
 touches_by (Post to subject text reply_to private) old new reads = touches-read old new reads
+touches_by (Edit number subject text) old new reads = touches-read old new reads
 touches_by (Read number) old new reads = touches-read old new reads
 touches_by (Peek number) old new reads = touches-read old new reads
 touches_by (Kill number) old new reads = touches-read old new reads
@@ -149,6 +150,7 @@ touches_by Pack old new touches = touches
 -- each but a pack only reads
 pub reads_by : (command : Command) (old new : Device) → IsNoPack command → OnlyReadsOrCopies command old new → OnlyReads old new
 reads_by (Post to subject text reply_to private) old new none reads = reads
+reads_by (Edit number subject text) old new none reads = reads
 reads_by (Read number) old new none reads = reads
 reads_by (Peek number) old new none reads = reads
 reads_by (Kill number) old new none reads = reads
@@ -159,6 +161,7 @@ reads_by Pack old new none touches = absurd none
 -- what only reads does for each
 pub by_reads : (command : Command) (old new : Device) → OnlyReads old new → OnlyReadsOrCopies command old new
 by_reads (Post to subject text reply_to private) old new reads = reads
+by_reads (Edit number subject text) old new reads = reads
 by_reads (Read number) old new reads = reads
 by_reads (Peek number) old new reads = reads
 by_reads (Kill number) old new reads = reads
@@ -192,6 +195,7 @@ pub after_has : (change : Change) (redo : RedoView) (from : Loaded) (texts : Lis
 after_has Nothing redo from texts copies coming was now grows brings holds has after agree = stay_has redo from texts copies coming was now (grows (λ no. no)) brings holds has after agree
 after_has (Posted message neighbour) redo from texts copies coming was now grows brings holds has after agree = stay_has redo from texts copies coming was now (grows (λ no. no)) brings holds has after agree
 after_has (Headed at) redo from texts copies coming was now grows brings holds has after agree = stay_has redo from texts copies coming was now (grows (λ no. no)) brings holds has after agree
+after_has (Edited place message) redo from texts copies coming was now grows brings holds has after agree = stay_has redo from texts copies coming was now (grows (λ no. no)) brings holds has after agree
 after_has (Killed place) redo from texts copies coming was now grows brings holds has after agree = stay_has redo from texts copies coming was now (grows (λ no. no)) brings holds has after agree
 after_has (Relinked plan) redo from texts copies coming was now grows brings holds has after agree = stay_has redo from texts copies coming was now (grows (λ no. no)) brings holds has after agree
 after_has (Marked place mark) redo from texts copies coming was now grows brings holds has after agree = stay_has redo from texts copies coming was now (grows (λ no. no)) brings holds has after agree

@@ -3,6 +3,7 @@ pub mod CallLemmas
 mod CommitLemmas
 mod CopyingLemmas
 mod DoubtLemmas
+mod EditLemmas
 mod HoldLemmas
 mod MeasureLemmas
 mod Outcomes

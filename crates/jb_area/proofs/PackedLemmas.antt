@@ -2,7 +2,7 @@
 use Rattle.std.proofs.Common.{◌≡◌, ◌+◌, ◌*◌, ◌≤◌, length, Option, None, Result, Ok, Err, OnErr, OnOk, refl}
 use Rattle.jb_disk.specs.RedoView.{RedoView}
 use Rattle.jb_state.specs.declared.change.Change.{Change}
-use Rattle.jb_state.specs.declared.change.Change.TheVariants.{Nothing, Posted, Headed, Killed, Relinked, Marked, Packed}
+use Rattle.jb_state.specs.declared.change.Change.TheVariants.{Nothing, Posted, Headed, Edited, Killed, Relinked, Marked, Packed}
 use Rattle.jb_state.specs.declared.loaded.Loaded.{Loaded}
 use Rattle.jb_pack.specs.Shadow.{Shadow}
 use Rattle.jb_redo.specs.Record.{record_bytes}
@@ -14,6 +14,7 @@ pub copies_stay : (change : Change) (copies : Option Shadow) → (IsPacking chan
 copies_stay Nothing copies none = refl
 copies_stay (Posted message neighbour) copies none = refl
 copies_stay (Headed at) copies none = refl
+copies_stay (Edited place message) copies none = refl
 copies_stay (Killed place) copies none = refl
 copies_stay (Relinked plan) copies none = refl
 copies_stay (Marked place mark) copies none = refl
@@ -24,6 +25,7 @@ pub copies_drop : (change : Change) (copies : Option Shadow) → IsPacking chang
 copies_drop Nothing copies packing = absurd packing
 copies_drop (Posted message neighbour) copies packing = absurd packing
 copies_drop (Headed at) copies packing = absurd packing
+copies_drop (Edited place message) copies packing = absurd packing
 copies_drop (Killed place) copies packing = absurd packing
 copies_drop (Relinked plan) copies packing = absurd packing
 copies_drop (Marked place mark) copies packing = absurd packing
@@ -35,6 +37,7 @@ pub short_record : (change : Change) (redo : RedoView) (to : Loaded) → IsPacki
 short_record Nothing redo to packing short = absurd packing
 short_record (Posted message neighbour) redo to packing short = absurd packing
 short_record (Headed at) redo to packing short = absurd packing
+short_record (Edited place message) redo to packing short = absurd packing
 short_record (Killed place) redo to packing short = absurd packing
 short_record (Relinked plan) redo to packing short = absurd packing
 short_record (Marked place mark) redo to packing short = absurd packing

@@ -26,7 +26,7 @@ use Rattle.jb_held.specs.Pending.{HasReplies, MayApply}
 use Rattle.jb_held.specs.declared.pending.Pending.{Pending}
 use Rattle.jb_state.specs.Change.{Fits, after}
 use Rattle.jb_state.specs.declared.change.Change.{Change}
-use Rattle.jb_state.specs.declared.change.Change.TheVariants.{Nothing, Posted, Headed, Killed, Relinked, Marked, Packed}
+use Rattle.jb_state.specs.declared.change.Change.TheVariants.{Nothing, Posted, Headed, Edited, Killed, Relinked, Marked, Packed}
 use Rattle.jb_area.specs.declared.area.OpenArea.{OpenArea}
 use Rattle.jb_area.proofs.CommitLemmas.{some-same, told_before}
 use Rattle.jb_area.proofs.CopyingLemmas.{after_has}
@@ -99,6 +99,7 @@ some_made : (change : Change) (redo : RedoView) (files : Files) → change ≢ N
 some_made Nothing redo files some = absurd (some refl)
 some_made (Posted message neighbour) redo files some = refl
 some_made (Headed at) redo files some = refl
+some_made (Edited place message) redo files some = refl
 some_made (Killed place) redo files some = refl
 some_made (Relinked plan) redo files some = refl
 some_made (Marked place mark) redo files some = refl

@@ -15,7 +15,7 @@ use Rattle.jb_decide.specs.Coming.{Coming}
 use Rattle.jb_decide.specs.Decided.{IsDecided, IsNoChange, IsPending, IsTold}
 use Rattle.jb_decide.specs.Errors.{is_area_fault}
 use Rattle.jb_decide.specs.Holds.{AreTexts, Holds}
-use Rattle.jb_decide.specs.StepOf.{IsNoPack, posted_text}
+use Rattle.jb_decide.specs.StepOf.{IsNoPack, written_text}
 use Rattle.jb_decide.specs.declared.decided.Decided.{Decided}
 use Rattle.jb_decide.specs.declared.error.AreaError.{AreaError}
 use Rattle.jb_decide.specs.declared.error.AreaError.TheVariants.{StoreFault, OutOfMemory}
@@ -160,11 +160,11 @@ module _ {D : Type 0} (shown : D → Device) where
           reply = decided.reply;
           coming = decides.coming;
           begun = record {
-            posted = posted_text command;
+            posted = written_text command;
             pending = decided.pending;
             stage = refl;
             kept = kept_read given (Begun decided.reply decided.pending) texts resting.kept;
-            change = subst (Changes decided.pending.change (posted_text command) texts decides.coming) (sym reads.contents) decides.change;
+            change = subst (Changes decided.pending.change (written_text command) texts decides.coming) (sym reads.contents) decides.change;
             replies = decides.replies;
             packing = decides.packing;
           };

@@ -125,8 +125,8 @@ module _ {D : Type 0} (shown : D → Device) where
     pub small : area.large ≡ None
     pub kept : IsHeldByFiles area texts
 
-  -- a call is begun that will be answered so, and this is to come of it; a post has this text, and it packs the area where the
-  -- answer says so
+  -- a call is begun that will be answered so, and this is to come of it; a post or an edit has this text, and it packs the area where
+  -- the answer says so
   pub record IsBegun (area : OpenArea D) (texts : List ℕ) (reply : Reply) (coming : Coming) : Type 0 where
     pub posted : List ℕ
     pub pending : Pending

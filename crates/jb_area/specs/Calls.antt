@@ -9,7 +9,7 @@ use Rattle.jb_decide.specs.Errors.{is_area_fault}
 use Rattle.jb_decide.specs.Headers.{KeepsHeaders, PacksHeaders}
 use Rattle.jb_decide.specs.Holds.{HoldsWith}
 use Rattle.jb_decide.specs.Packs.{IsPacked}
-use Rattle.jb_decide.specs.StepOf.{ChangesNothing, IsNoPack, posted_text}
+use Rattle.jb_decide.specs.StepOf.{ChangesNothing, IsNoPack, written_text}
 use Rattle.jb_decide.specs.declared.decided.Decided.{Decided}
 use Rattle.jb_decide.specs.declared.error.AreaError.{AreaError}
 use Rattle.jb_decide.specs.declared.error.AreaError.TheVariants.{StoreFault, OutOfMemory}
@@ -20,12 +20,13 @@ use Rattle.jb_disk.specs.Runs.{LeavesOnly}
 use Rattle.jb_disk.specs.declared.file.FileId.TheVariants.{Jdx}
 use Rattle.jb_journal.specs.declared.stopped.Stopped.TheVariants.{Early}
 use Rattle.jb_state.specs.Change.{Fits}
+use Rattle.jb_state.specs.Edited.{EditsAlone}
 use Rattle.jb_state.specs.State.{state_of}
 use Rattle.jb_model.specs.Step.{Step}
 use Rattle.jb_state.specs.declared.change.Change.{Change}
 use Rattle.jb_state.specs.declared.change.Change.TheVariants.{Nothing, Killed}
 use Rattle.jb_model.specs.declared.command.Command.{Command}
-use Rattle.jb_model.specs.declared.command.Command.TheVariants.{Post, Read, Peek, Kill, SetMark, Pack, Relink}
+use Rattle.jb_model.specs.declared.command.Command.TheVariants.{Post, Edit, Read, Peek, Kill, SetMark, Pack, Relink}
 use Rattle.jb_model.specs.declared.reply.Reply.{Reply}
 use Rattle.jb_pack.specs.Touching.{TouchesShadow}
 use Rattle.jb_area.specs.Area.{copies_after, files_after, redo_of, small_redo_of, DoubtOpens, HasMade, HasNoChange, HasPacked, IsBegun, IsDoubtful, IsResting, RestsAt}
@@ -37,6 +38,7 @@ use Rattle.jb_area.specs.declared.stage.Stage.TheVariants.{Begun, Doubtful}
 -- a command only reads the device until its change is committed, but for a pack, which copies texts into .NDT first
 abbrev pub OnlyReadsOrCopies : Command → Device → Device → Type 0
 OnlyReadsOrCopies (Post to subject text reply_to private) old new = OnlyReads old new
+OnlyReadsOrCopies (Edit number subject text) old new = OnlyReads old new
 OnlyReadsOrCopies (Read number) old new = OnlyReads old new
 OnlyReadsOrCopies (Peek number) old new = OnlyReads old new
 OnlyReadsOrCopies (Kill number) old new = OnlyReads old new
@@ -61,7 +63,7 @@ module _ {D : Type 0} (shown : D → Device) where
     pub reply : Reply
     pub coming : Coming
     pub begun : IsBegun shown area texts reply coming
-    pub text : begun.posted ≡ posted_text command
+    pub text : begun.posted ≡ written_text command
     pub step : IsTold reply (shown area.disk).contents
         → Step area.rules (state_of texts area.held) user moment command reply (state_of coming.texts coming.to)
     -- a letter that is not told is that of some texts, with this change
@@ -70,9 +72,9 @@ module _ {D : Type 0} (shown : D → Device) where
     pub idle : ChangesNothing command reply → HasNoChange area × (coming ≡ record { to = area.held; texts = texts })
     -- a kill leaves the file of the index in whatever files hold the area
     pub index : KeepsIndexOnKill (redo_of area) area.held begun.pending.change
-    -- but for a pack, each header stays in its place in whatever files hold the area
+    -- but for a pack, each header stays in its place in whatever files hold the area, or is that of the edited message
     pub headers : IsNoPack command → (files : Files) → HoldsWith area.held texts area.packer files
-        → KeepsHeaders reply area.held coming.to files (files_after area files)
+        → KeepsHeaders begun.pending.change reply area.held coming.to files (files_after area files)
     -- and a pack that is done puts all of them one behind another
     pub packs : (files : Files) → HoldsWith area.held texts area.packer files → PacksHeaders reply coming.to (files_after area files)
 
@@ -85,13 +87,13 @@ module _ {D : Type 0} (shown : D → Device) where
     -- this is what it changed; a letter that was not told is that of some texts
     pub change : Change
     pub fits : Fits old.rules.slots change old.held
-    pub becomes : coming ≡ coming_of change old.held (posted_text command) texts
+    pub becomes : coming ≡ coming_of change old.held (written_text command) texts
     pub somewhere : IsAnsweredSomewhere old.rules old.held user moment command reply change
     -- for a refusal, a look, and a relink that found no wrong link, the device was only read
     pub idle : ChangesNothing command reply → OnlyReads (shown old.disk) (shown new.disk) × (coming ≡ record { to = old.held; texts = texts })
-    -- but for a pack, each header stayed in its place
+    -- but for a pack, each header stayed in its place, or is that of the edited message
     pub headers : IsNoPack command → ForSome (shown old.disk).contents (λ was. ForSome (shown new.disk).contents (λ now.
-        KeepsHeaders reply old.held coming.to was now))
+        KeepsHeaders change reply old.held coming.to was now))
     -- a kill left the file of the index as it was
     pub index : ForSome (shown old.disk).contents (λ was. ForSome (shown new.disk).contents (λ now. KeepsIndexFile change was now))
     -- and a pack that was done put all of them one behind another
@@ -99,12 +101,19 @@ module _ {D : Type 0} (shown : D → Device) where
     pub crash : ForSome (shown old.disk).contents (λ files.
         LeavesOnly (shown old.disk) (shown new.disk) (OpensToEither old.held texts coming))
 
+  -- the area that rested with these texts rests with some, and nothing but the subject and the text of the message of this number is
+  -- another in it
+  pub record HasEditedAlone (number : ℕ) (old new : OpenArea D) (texts : List ℕ) : Type 0 where
+    pub texts_now : List ℕ
+    pub rests : IsResting shown new texts_now
+    pub alone : EditsAlone number (state_of texts old.held) (state_of texts_now new.held)
+
   -- what the change of a call in doubt would come to, as it would have been answered; a call that changes nothing has none
   abbrev pub IsChangeOf : OpenArea D → List ℕ → User → ℕ → Command → Option Coming → Type 0
   IsChangeOf old texts user moment command None = Unit {0}
   IsChangeOf old texts user moment command (Some coming) =
       (reply : Reply) × (change : Change) × (ChangesNothing command reply → ⊥) × Fits old.rules.slots change old.held
-      × (coming ≡ coming_of change old.held (posted_text command) texts)
+      × (coming ≡ coming_of change old.held (written_text command) texts)
       × IsAnsweredSomewhere old.rules old.held user moment command reply change
       × (IsTold reply (shown old.disk).contents → Step old.rules (state_of texts old.held) user moment command reply (state_of coming.texts coming.to))
 

@@ -22,7 +22,7 @@ pub struct OpenArea<D: Disk> {
     pub(crate) held: HeldArea,
     /// The change of a reading, a kill or a mark.
     pub(crate) redo: Redo,
-    /// The change of the post, the relink or the pack that is begun or in doubt.
+    /// The change of the post, the edit, the relink or the pack that is begun or in doubt.
     pub(crate) large: Option<Redo>,
     /// What is copied of the texts for a pack.
     pub(crate) packer: Option<Packer>,

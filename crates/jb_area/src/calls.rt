@@ -7,8 +7,8 @@ use crate::places::{nothing_pending, put_redo, put_stage};
 use crate::stage::Stage;
 use jb_base::{OutOfMemory, User};
 use jb_decide::{
-    AreaError, Decided, LentDraft, decide_kill, decide_mark, decide_pack, decide_peek, decide_post,
-    decide_read, decide_relink, refuse_pack,
+    AreaError, Decided, LentDraft, LentEdit, decide_edit, decide_kill, decide_mark, decide_pack,
+    decide_peek, decide_post, decide_read, decide_relink, refuse_pack,
 };
 use jb_disk::{Disk, Redo};
 use jb_journal::Stopped;
@@ -20,14 +20,14 @@ impl<D: Disk> OpenArea<D> {
     ghost use Rattle.std.specs.Prelude.{List, IfOk, OnOk, true, false};
     ghost use Rattle.jb_limits.specs.declared.limits.TheConstants.{MOST_NAME_BYTES, TEXTS_CEILING};
     ghost use Rattle.jb_base.specs.declared.user.User.{User};
-    ghost use Rattle.jb_decide.specs.Draft.{draft_of, post_of};
+    ghost use Rattle.jb_decide.specs.Draft.{draft_of, edit_of, post_of};
     ghost use Rattle.jb_decide.specs.Errors.{is_area_fault};
     ghost use Rattle.jb_decide.specs.Packs.{MayPack, is_pack_refused};
     ghost use Rattle.jb_model.specs.declared.command.Command.TheVariants.{Kill, Pack, Peek, Read, Relink, SetMark};
     ghost use Rattle.jb_pack.specs.declared.run.TheConstants.{PACK_STEP_BYTES};
     ghost use Rattle.jb_state.specs.Packed.{texts_size};
     ghost use Rattle.jb_area.specs.Area.{HasBegun, HasNoChange, IsResting, copied_of, loaded_of, rules_of, small_redo_of};
-    ghost use Rattle.jb_area.specs.Calls.{AnswersAs, BeginsCall, BeginsReading, EndsCall, HasRest, MeetsCall, StartsAs, StepsPack, large_after};
+    ghost use Rattle.jb_area.specs.Calls.{AnswersAs, BeginsCall, BeginsReading, EndsCall, HasEditedAlone, HasRest, MeetsCall, StartsAs, StepsPack, large_after};
     ghost use Rattle.jb_area.specs.Copying.{AreAllCopied, HasCopiedSome};
 
     /// Begins a kill of the message with this number. It makes no device call, and takes no memory.
@@ -233,6 +233,48 @@ impl<D: Disk> OpenArea<D> {
         ensures room { small_redo_of self.new ≡ small_redo_of self.old }
     {
         match self.begin_post(alloc, user, moment, draft) {
+            Ok(()) => self.done(),
+            Err(error) => Err(error),
+        }
+    }
+
+    /// Begins an edit. It makes no device call.
+    pub(crate) fn begin_edit(
+        &mut self,
+        alloc: Global,
+        user: &User,
+        edit: LentEdit<'_>,
+    ) -> Result<(), AreaError>
+        requires rests { HasRest D.device self.old }
+        ensures begins { (moment : ℕ) → BeginsCall D.device self.old self.new user.now moment
+            (edit_of edit.entry) result }
+        ensures room { small_redo_of self.new ≡ small_redo_of self.old }
+    {
+        let mut large = Redo::new(alloc);
+        let decided = match decide_edit(alloc, &self.held, &self.rules, &mut large, user, edit) {
+            Ok(decided) => Ok(decided),
+            Err(OutOfMemory) => Err(AreaError::OutOfMemory),
+        };
+        self.start(decided, Some(large))
+    }
+
+    /// Puts this subject and this text in the place of those of the message with this number, which its sender and the sysop
+    /// may. Its header and its text then stand behind the others; the bytes of the old ones stay in the files until a pack.
+    /// The memory that it takes goes with it.
+    pub fn edit(
+        &mut self,
+        alloc: Global,
+        user: &User,
+        edit: LentEdit<'_>,
+    ) -> Result<Reply, AreaError>
+        requires rests { HasRest D.device self.old }
+        ensures meets { (moment : ℕ) → MeetsCall D.device self.old self.new user.now moment
+            (edit_of edit.entry) result }
+        ensures alone { OnOk result ((texts : List ℕ) → IsResting D.device self.old texts
+            → HasEditedAlone D.device edit.entry.number self.old self.new texts) }
+        ensures room { small_redo_of self.new ≡ small_redo_of self.old }
+    {
+        match self.begin_edit(alloc, user, edit) {
             Ok(()) => self.done(),
             Err(error) => Err(error),
         }

@@ -2,7 +2,7 @@
 
 use crate::{AreaError, OpenArea};
 use jb_base::User;
-use jb_decide::LentDraft;
+use jb_decide::{LentDraft, LentEdit};
 use jb_disk::Disk;
 use jb_model::{Command, Reply};
 use std::alloc::Global;
@@ -42,6 +42,18 @@ impl<D: Disk> OpenArea<D> {
                     private: *private,
                 };
                 self.begin_post(alloc, user, moment, draft)
+            }
+            Command::Edit {
+                number,
+                subject,
+                text,
+            } => {
+                let edit = LentEdit {
+                    number: *number,
+                    subject: subject.as_slice(),
+                    text: text.as_slice(),
+                };
+                self.begin_edit(alloc, user, edit)
             }
             Command::Read { number } => self.begin_read(alloc, user, moment, *number),
             Command::Peek { number } => self.begin_peek(alloc, user, *number),

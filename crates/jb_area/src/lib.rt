@@ -8,12 +8,12 @@
 //! [`OpenArea::finish`] commits and takes no memory, or [`OpenArea::abandon`] drops it. `jb_decide` says what each command
 //! comes to, and `jb_held` keeps what is in memory.
 //!
-//! The redo of a reading, a kill or a mark is made at opening and stays; that of a post, a relink or a pack is made for it and
-//! goes with it. So a kill and a mark take no memory, and a large change leaves none behind.
+//! The redo of a reading, a kill or a mark is made at opening and stays; that of a post, an edit, a relink or a pack is made for
+//! it and goes with it. So a kill and a mark take no memory, and a large change leaves none behind.
 //!
 //! No call writes more than what changed. A kill writes 12 bytes of .JHR, a mark 16 of .JLR, a reading 20 of .JHR after one
-//! read of .JDT; a post its header and subfields, its text, one index record and 20 bytes of .JHR at most beside; a relink
-//! 12 bytes for each message whose links are others. A pack writes all of .JHR, .JDX and .JDT as they are then, after it has
+//! read of .JDT; a post or an edit its header and subfields, its text, one index record and 20 bytes of .JHR at most beside; a
+//! relink 12 bytes for each message whose links are others. A pack writes all of .JHR, .JDX and .JDT as they are then, after it has
 //! copied the texts of the live messages into .NDT that are not there yet. None of them grows with the area but these two. Each is
 //! one commit of `jb_journal`. [`OpenArea::pack_some`] copies some of the texts before, between the calls of others, and commits
 //! nothing.

@@ -2,11 +2,11 @@
 use Rattle.std.proofs.Common.{◌≡◌, ℕ, ◌^◌, List, [], ◌∷◌, Option, Some, None, map, codes, refl}
 use Rattle.jb_base.specs.Access.{Envelope, first_refusal}
 use Rattle.jb_base.specs.declared.area.Action.{Action}
-use Rattle.jb_base.specs.declared.area.Action.TheVariants.{List as Listing, Post as Posting, Kill as Killing, Tend as Tending}
+use Rattle.jb_base.specs.declared.area.Action.TheVariants.{List as Listing, Post as Posting, Kill as Killing, Edit as Editing, Tend as Tending}
 use Rattle.jb_base.specs.declared.area.AreaRules.{AreaRules}
 use Rattle.jb_base.specs.declared.area.Kind.TheVariants.{Local}
 use Rattle.jb_base.specs.declared.area.Rule.{Rule}
-use Rattle.jb_base.specs.declared.area.Rule.TheVariants.{A1, A2, A3, A4, A5}
+use Rattle.jb_base.specs.declared.area.Rule.TheVariants.{A1, A2, A3, A4, A5, A6}
 use Rattle.jb_base.specs.declared.attribute.TheConstants.{LOCAL, PRIVATE, READ, TYPELOCAL, TYPEECHO, NODISP, DELETED}
 
 -- the bits of the attribute (JAM, "Attribute")
@@ -47,6 +47,15 @@ private_message : (refusals Listing (between (codes "Hello") (codes "All") 4) (9
     × (refusals Killing (between (codes "Hello") (codes "All") 4) (99 ∷ []) ≡ Some A3 ∷ []) × (refusals Listing (between (codes "test") (codes "Hello") 4) (99 ∷ []) ≡ None ∷ [])
     × (refusals Killing (between (codes "Hello") (codes "test") 4) (99 ∷ []) ≡ None ∷ [])
 private_message = (refl, refl, refl, refl)
+
+-- one is edited by its sender and the sysop, not by its receiver, and at the level that reads
+edited_message : (refusals Editing (between (codes "tEST") (codes "Hello") 1) (9 ∷ 10 ∷ 99 ∷ []) ≡ Some A1 ∷ None ∷ None ∷ [])
+    × (refusals Editing (between (codes "Hello") (codes "Test") 1) (9 ∷ 99 ∷ 100 ∷ []) ≡ Some A1 ∷ Some A6 ∷ None ∷ [])
+    × (refusals Editing (between [] (codes "Test") 0) (99 ∷ []) ≡ Some A6 ∷ [])
+    × (refusals Editing (between (codes "Hello") (codes "All") 4) (99 ∷ 100 ∷ []) ≡ Some A3 ∷ None ∷ [])
+    × (refusals Editing (between (codes "Test") (codes "Test") 0x20000000) (99 ∷ 100 ∷ []) ≡ Some A3 ∷ None ∷ [])
+    × (refusals Editing None (99 ∷ 100 ∷ []) ≡ Some A6 ∷ None ∷ [])
+edited_message = (refl, refl, refl, refl, refl, refl)
 
 -- one that is not to be shown is for the sysop, and the first rule that refuses is told
 unshown_message : (refusals Listing (between (codes "Test") (codes "Test") 0x20000000) (9 ∷ 19 ∷ 99 ∷ 100 ∷ []) ≡ Some A1 ∷ Some A3 ∷ Some A3 ∷ None ∷ [])

@@ -2,10 +2,10 @@
 use Rattle.std.specs.Prelude.{ℕ, Bool, false, not, ◌&&◌, ◌||◌, nat_lt, nat_le, ◌==◌, bit_and, List, [], ◌∷◌, find, Option, None, Some, is_none}
 use Rattle.jb_bytes.specs.Name.{same_name}
 use Rattle.jb_base.specs.declared.area.Action.{Action}
-use Rattle.jb_base.specs.declared.area.Action.TheVariants.{List as Listing, Post as Posting, Kill as Killing, Tend as Tending}
+use Rattle.jb_base.specs.declared.area.Action.TheVariants.{List as Listing, Post as Posting, Kill as Killing, Edit as Editing, Tend as Tending}
 use Rattle.jb_base.specs.declared.area.AreaRules.{AreaRules}
 use Rattle.jb_base.specs.declared.area.Rule.{Rule}
-use Rattle.jb_base.specs.declared.area.Rule.TheVariants.{A1, A2, A3, A4, A5}
+use Rattle.jb_base.specs.declared.area.Rule.TheVariants.{A1, A2, A3, A4, A5, A6}
 use Rattle.jb_base.specs.declared.attribute.TheConstants.{PRIVATE, NODISP}
 use Rattle.jb_base.specs.declared.user.User.{User}
 
@@ -18,6 +18,10 @@ pub record Envelope : Type 0 where
 -- the user is the sysop of the area
 abbrev pub is_sysop : User → AreaRules → Bool
 is_sysop user rules = nat_le rules.sysop user.level
+
+-- the user is the message's sender
+abbrev pub is_sender : User → Envelope → Bool
+is_sender user message = same_name user.name message.sender
 
 -- the user is the message's sender or its receiver
 abbrev pub is_party : User → Envelope → Bool
@@ -57,6 +61,12 @@ abbrev pub refuses_tending : User → AreaRules → Action → Bool
 refuses_tending user rules Tending = not (is_sysop user rules)
 refuses_tending user rules act = false
 
+-- an edit needs the message's sender or the sysop
+abbrev pub refuses_editing : User → AreaRules → Action → Option Envelope → Bool
+refuses_editing user rules Editing (Some message) = not (is_sysop user rules) && not (is_sender user message)
+refuses_editing user rules Editing None = not (is_sysop user rules)
+refuses_editing user rules act message = false
+
 -- this rule refuses the act
 abbrev pub refuses : User → AreaRules → Action → Option Envelope → Rule → Bool
 refuses user rules act message A1 = refuses_reading user rules act
@@ -64,10 +74,11 @@ refuses user rules act message A2 = refuses_posting user rules act
 refuses user rules act message A3 = refuses_showing user rules message
 refuses user rules act message A4 = refuses_killing user rules act message
 refuses user rules act message A5 = refuses_tending user rules act
+refuses user rules act message A6 = refuses_editing user rules act message
 
 -- the first rule that refuses the act, if one does
 abbrev pub first_refusal : User → AreaRules → Action → Option Envelope → Option Rule
-first_refusal user rules act message = find (refuses user rules act message) (A1 ∷ A2 ∷ A3 ∷ A4 ∷ A5 ∷ [])
+first_refusal user rules act message = find (refuses user rules act message) (A1 ∷ A2 ∷ A3 ∷ A4 ∷ A5 ∷ A6 ∷ [])
 
 -- the user may see the message listed
 abbrev pub is_visible : User → AreaRules → Envelope → Bool

@@ -20,6 +20,8 @@ pub enum Action {
     Post,
     /// A message is killed.
     Kill,
+    /// A message gets another subject and another text.
+    Edit,
     /// A pack or a relink.
     Tend,
 }
@@ -37,6 +39,8 @@ pub enum Rule {
     A4,
     /// Tending (a pack, a relink) needs the sysop.
     A5,
+    /// An edit needs the message's sender or the sysop.
+    A6,
 }
 
 /// The rules of an area. Its ordinal stands in the MSGIDs of what is posted there, behind its address of 1 to 24 bytes;

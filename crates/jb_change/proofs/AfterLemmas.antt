@@ -1,26 +1,23 @@
 -- What the area after a change is, by what is put into its files.
-use Rattle.std.proofs.Common.{◌≡◌, ℕ, zero, suc, ◌+◌, ◌<◌, ◌%◌, ◌^◌, List, [], ◌∷◌, ◌++◌, length, set, Option, None, Some, ap, sym, refl, ◌∙◌, subst, arith}
-use Rattle.std.specs.Prelude.{slice_set}
-use Rattle.std.proofs.lemmas.Bool.{cond-true, cond-false}
+use Rattle.std.proofs.Common.{◌≡◌, ℕ, ◌+◌, ◌*◌, ◌<◌, ◌%◌, ◌^◌, List, [], ◌∷◌, ◌++◌, length, Option, None, Some, ap, sym, refl, ◌∙◌, subst, arith}
+use Rattle.std.specs.Prelude.{bit_and}
 use Rattle.std.proofs.lemmas.List.{get_or_append_left, length-append, set-append_left}
 use Rattle.std.proofs.lemmas.List.Elements.{All-get_or}
 use Rattle.std.proofs.lemmas.Option.{get_or_from_slice_get, slice_get-get_or, slice_get_within}
+use Rattle.jb_base.specs.declared.attribute.TheConstants.{DELETED}
 use Rattle.jb_limits.specs.declared.limits.TheConstants.{MOST_SLOTS}
-use Rattle.jb_state.specs.Change.{FitsBehind, IsLinkOf, IsReadingOf, headed, headed_where, live_messages, loaded_counted}
-use Rattle.jb_state.specs.Loaded.{IsMessageAt, with_counts, with_head_at, with_marks, with_message_behind}
-use Rattle.jb_state.specs.Marks.{with_mark}
-use Rattle.jb_state.specs.Places.{HasNone, IsFirstOf, IsPlaceOf}
+use Rattle.jb_state.specs.Change.{FitsAnew, FitsBehind, IsLinkOf, IsReadingOf, headed, headed_where, live_messages, loaded_counted}
+use Rattle.jb_state.specs.Loaded.{IsMessageAt, with_counts, with_head_at, with_message_behind}
 use Rattle.jb_state.specs.Sound.{IsMessageWithin, IsSlotWithin, IsSound}
 use Rattle.jb_state.specs.declared.change.HeadAt.{HeadAt}
 use Rattle.jb_state.specs.declared.loaded.Loaded.{Loaded}
 use Rattle.jb_state.specs.declared.loaded.LoadedMessage.{LoadedMessage}
 use Rattle.jb_state.specs.declared.loaded.LoadedSlot.{LoadedSlot}
 use Rattle.jb_state.specs.declared.loaded.LoadedSlot.TheVariants.{Empty, Live}
-use Rattle.jb_state.specs.declared.mark.Mark.{Mark}
 use Rattle.jb_state.specs.declared.message.Head.{Head}
 use Rattle.jb_change.specs.Changing.{head_with_links, head_with_reading}
 use Rattle.jb_change.specs.Links.{HasNearHeaders}
-use Rattle.jb_change.specs.Post.{IsNext}
+use Rattle.jb_change.specs.Post.{IsAtEnds, IsNext}
 use Rattle.jb_state.proofs.PlaceLaws.{headed_is, slot_is}
 
 -- the counts of an area that is counted
@@ -97,14 +94,38 @@ next_is loaded message text fits sized =
     let number = fits.number in
     let short = fits.short in
     record {
+      ends = record {
+        header_at = fits.header_at;
+        text_at = fits.text_at;
+        text_len = sized;
+        live = fits.live;
+        few_bytes = fits.few_bytes;
+        short_text = omega (arith, short, sized);
+        headers_fit = fits.headers;
+        texts_fit = fits.texts;
+      };
+      numbers = omega (arith, number);
+      few_slots = fits.slot;
+    }
+
+-- and one that fits into the place of another stands at the ends of the files
+pub anew_is : (loaded : Loaded) (place : ℕ) (message : LoadedMessage) (text : List ℕ) → IsSound MOST_SLOTS loaded → FitsAnew place message loaded → message.text_len ≡ length text
+    → IsAtEnds loaded message text
+anew_is loaded place message text sound fits sized =
+    let short = fits.short in
+    record {
       header_at = fits.header_at;
       text_at = fits.text_at;
       text_len = sized;
-      live = fits.live;
+      live = subst (λ (h : Head). bit_and h.attribute DELETED ≡ 0) (sym fits.head) (within_is MOST_SLOTS place fits.was loaded fits.here sound).live;
       few_bytes = fits.few_bytes;
       short_text = omega (arith, short, sized);
       headers_fit = fits.headers;
       texts_fit = fits.texts;
-      numbers = omega (arith, number);
-      few_slots = fits.slot;
     }
+
+-- the index record of a live message can be written
+pub near_record : (loaded : Loaded) (place : ℕ) (message : LoadedMessage) → IsSound MOST_SLOTS loaded → IsMessageAt loaded place message → 8 * place < 2 ^ 32
+near_record loaded place message sound here =
+    let within : place < length loaded.slots = slice_get_within loaded.slots place (Live message) here in
+    omega (arith, within, sound.few_slots)

@@ -17,7 +17,7 @@ use Rattle.jb_state.proofs.PlaceLaws.{length_changed}
 use Rattle.jb_state.specs.Change.{after, killed_slot}
 use Rattle.jb_state.specs.Loaded.{IsMessageAt, slot_with_head}
 use Rattle.jb_state.specs.declared.change.Change.{Change}
-use Rattle.jb_state.specs.declared.change.Change.TheVariants.{Nothing, Posted, Headed, Killed, Relinked, Marked, Packed}
+use Rattle.jb_state.specs.declared.change.Change.TheVariants.{Nothing, Posted, Headed, Edited, Killed, Relinked, Marked, Packed}
 use Rattle.jb_state.specs.declared.loaded.Loaded.{Loaded}
 use Rattle.jb_state.specs.declared.loaded.LoadedMessage.{LoadedMessage}
 use Rattle.jb_change.specs.Behind.{AppendsOnly}
@@ -116,6 +116,7 @@ keeps_index redo from Nothing text makes leaves = index_kept redo from from text
 keeps_index redo from (Posted message neighbour) text makes leaves = tt
 keeps_index redo from (Headed at) text makes leaves =
     index_kept redo from (after (Headed at) from) text (MayWrite from (Headed at)) makes (length_changed at.place (slot_with_head at.head) from) (no_header from at.place 12 44) leaves
+keeps_index redo from (Edited place message) text makes leaves = tt
 keeps_index redo from (Killed place) text makes leaves =
     index_kept redo from (after (Killed place) from) text (MayWrite from (Killed place)) makes (length_changed place killed_slot from) (no_header from place 52 4) leaves
 keeps_index redo from (Relinked plan) text makes leaves =
@@ -140,6 +141,7 @@ pub index_on_kill : (redo : RedoView) (loaded : Loaded) (change : Change) → Ke
 index_on_kill redo loaded Nothing keeps = tt
 index_on_kill redo loaded (Posted message neighbour) keeps = tt
 index_on_kill redo loaded (Headed at) keeps = tt
+index_on_kill redo loaded (Edited place message) keeps = tt
 index_on_kill redo loaded (Killed place) keeps = keeps
 index_on_kill redo loaded (Relinked plan) keeps = tt
 index_on_kill redo loaded (Marked place mark) keeps = tt

@@ -3,6 +3,7 @@ mod AreaLemmas
 mod BaseLemmas
 mod ByteLemmas
 mod ChangeLemmas
+mod EditedLemmas
 pub mod EndLemmas
 mod HeaderLemmas
 mod KeptLemmas

@@ -1,6 +1,6 @@
 -- The area that longer files hold: one message more, or one mark more.
 use Rattle.std.proofs.Common.{◌≡◌, inl, inr, ℕ, ◌+◌, ◌*◌, ◌<◌, ◌≤◌, List, [], ◌∷◌, ◌++◌, All, length, refl, ap, sym, ◌∙◌, subst, arith, length-append, length-take}
-use Rattle.std.specs.Prelude.{AllPairs, slice_index_or}
+use Rattle.std.specs.Prelude.{slice_index_or}
 use Rattle.std.proofs.lemmas.Bool.{cases_lt}
 use Rattle.std.proofs.lemmas.List.{append-nil, get_or_append_left, get_or_push, length_push}
 use Rattle.std.proofs.lemmas.List.Quantifiers.{all_pairs_push}
@@ -23,7 +23,7 @@ use Rattle.jb_record.specs.declared.index.IndexRecord.{IndexRecord}
 use Rattle.jb_record.specs.declared.message.MessageHeader.{MessageHeader}
 use Rattle.jb_image.specs.Places.{bytes_at, entry_in, header_in, mark_record_at}
 use Rattle.jb_image.specs.Stands.{HasSlot, IsLiveHeader, IsLiveIn, Loads, head_of, mark_record}
-use Rattle.jb_change.specs.Post.{IsNext, number_behind}
+use Rattle.jb_change.specs.Post.{IsAtEnds, IsNext, number_behind}
 use Rattle.jb_image.specs.Records.{IsEntryReadAgain, IsHeaderReadAgain, IsMarkReadAgain, entry_for, message_bytes, numbered_header}
 use Rattle.jb_change.proofs.EndLemmas.{at_end, below_end, past_end}
 use Rattle.jb_change.proofs.KeptLemmas.{entry_kept, mark_kept, slot_kept}
@@ -59,42 +59,41 @@ read_again loaded message slots same header entry = record {
   entry = entry;
 }
 
-module _ (files after : Files) (loaded : Loaded) (message : LoadedMessage) (text : List ℕ)
-    (loads : Loads loaded files) (next : IsNext loaded message text) (back : AreReadAgain loaded message) (each : All IsSubfield message.subfields)
-    (jhr : after Jhr ≡ files Jhr ++ message_bytes (number_behind loaded) message)
-    (jdt : after Jdt ≡ files Jdt ++ text) (jdx : after Jdx ≡ files Jdx ++ index_record_bytes (entry_for (Live message))) (jlr : after Jlr ≡ files Jlr) where
+-- a message at the ends of longer files
+module _ (files after : Files) (loaded : Loaded) (message : LoadedMessage) (text : List ℕ) (number : ℕ)
+    (loads : Loads loaded files) (ends : IsAtEnds loaded message text) (back : IsHeaderReadAgain number message) (each : All IsSubfield message.subfields)
+    (jhr : after Jhr ≡ files Jhr ++ message_bytes number message) (jdt : after Jdt ≡ files Jdt ++ text) where
   -- the message stands where .JHR ended
   stands_at_end : message.header_at ≡ length (files Jhr)
-  stands_at_end = next.header_at ∙ loads.headers_len
+  stands_at_end = ends.header_at ∙ loads.headers_len
 
   -- how long .JHR is now
-  length-headers : length (after Jhr) ≡ length (files Jhr) + header_size message
-  length-headers =
-      omega (arith, ap length jhr, length-append (files Jhr) (message_bytes (number_behind loaded) message), length-message (number_behind loaded) message)
+  pub length-headers : length (after Jhr) ≡ length (files Jhr) + header_size message
+  length-headers = omega (arith, ap length jhr, length-append (files Jhr) (message_bytes number message), length-message number message)
 
   -- the bytes of its header
-  header_bytes_there : bytes_at message.header_at 76 (after Jhr) ≡ message_header_bytes (numbered_header (number_behind loaded) message)
+  header_bytes_there : bytes_at message.header_at 76 (after Jhr) ≡ message_header_bytes (numbered_header number message)
   header_bytes_there =
-      let shaped = shaped_header (numbered_header (number_behind loaded) message) in
-      at_end (files Jhr) (after Jhr) (message_header_bytes (numbered_header (number_behind loaded) message)) (subfield_bytes message.subfields) message.header_at 76 jhr stands_at_end (sym shaped.size)
+      let shaped = shaped_header (numbered_header number message) in
+      at_end (files Jhr) (after Jhr) (message_header_bytes (numbered_header number message)) (subfield_bytes message.subfields) message.header_at 76 jhr stands_at_end (sym shaped.size)
 
   -- its header
-  pub header_there : header_in after message.header_at ≡ numbered_header (number_behind loaded) message
-  header_there = ap message_header_of header_bytes_there ∙ back.header
+  pub header_there : header_in after message.header_at ≡ numbered_header number message
+  header_there = ap message_header_of header_bytes_there ∙ back
 
   -- the bytes of its subfields
   subfields_there : bytes_at (message.header_at + 76) (length (subfield_bytes message.subfields)) (after Jhr) ≡ subfield_bytes message.subfields
   subfields_there =
-      let shaped = shaped_header (numbered_header (number_behind loaded) message) in
+      let shaped = shaped_header (numbered_header number message) in
       let size = shaped.size in
-      past_end (files Jhr) (after Jhr) (message_header_bytes (numbered_header (number_behind loaded) message)) (subfield_bytes message.subfields) (message.header_at + 76) _ jhr
+      past_end (files Jhr) (after Jhr) (message_header_bytes (numbered_header number message)) (subfield_bytes message.subfields) (message.header_at + 76) _ jhr
       (omega (arith, stands_at_end)) refl
 
   -- the message is there
-  message_there : IsLiveIn after message
+  pub message_there : IsLiveIn after message
   message_there =
       let whole = fixed_whole files loaded loads in
-      let fits = next.headers_fit in
+      let fits = ends.headers_fit in
       let long = length-headers in
       let at_is = stands_at_end in
       let texts_long : length (after Jdt) ≡ length (files Jdt) + length text = ap length jdt ∙ length-append (files Jdt) text in
@@ -102,16 +101,16 @@ module _ (files after : Files) (loaded : Loaded) (message : LoadedMessage) (text
       ap (λ (h : MessageHeader). bytes_at (message.header_at + 76) h.subfields (after Jhr)) header_there ∙ subfields_there in
       record {
         header = record {
-          placed = record { after = omega arith; inside = omega arith; below = omega (arith, next.header_at) };
-          shaped = subst IsMessageHeader (sym header_bytes_there) (shaped_header (numbered_header (number_behind loaded) message));
+          placed = record { after = omega arith; inside = omega arith; below = omega (arith, ends.header_at) };
+          shaped = subst IsMessageHeader (sym header_bytes_there) (shaped_header (numbered_header number message));
         };
         live = subst (IsLiveHeader (length (after Jhr)) (length (after Jdt)) message.header_at) (sym header_there) (record {
-          live = next.live;
-          few_bytes = next.few_bytes;
-          placed = record { after = omega arith; inside = omega arith; below = omega (arith, next.header_at) };
+          live = ends.live;
+          few_bytes = ends.few_bytes;
+          placed = record { after = omega arith; inside = omega arith; below = omega (arith, ends.header_at) };
           text = record {
-            short = omega (arith, next.text_len, next.short_text);
-            placed = inr (omega (arith, next.text_at, next.text_len, loads.texts_len), omega (arith, next.text_at, next.texts_fit));
+            short = omega (arith, ends.text_len, ends.short_text);
+            placed = inr (omega (arith, ends.text_at, ends.text_len, loads.texts_len), omega (arith, ends.text_at, ends.texts_fit));
           };
         });
         subfields = record { each = each; spelled = sym bytes };
@@ -120,6 +119,30 @@ module _ (files after : Files) (loaded : Loaded) (message : LoadedMessage) (text
         text_len = sym (ap (λ (h : MessageHeader). h.text_len) header_there);
       }
 
+  -- it lies apart from each slot
+  pub apart_there : (k : ℕ) (d : LoadedSlot) → k < length loaded.slots → AreApart (slice_index_or loaded.slots k d) (Live message)
+  apart_there k d low i one other =
+      let below : i < length (files Jhr) = covers_below files (entry_in files k) (slice_index_or loaded.slots k d) i (loads.slots k d low) one in
+      let at_is = stands_at_end in
+      omega (arith, other.0)
+
+  -- the fixed header is as it was
+  pub fixed_there : bytes_at 0 1024 (after Jhr) ≡ bytes_at 0 1024 (files Jhr)
+  fixed_there =
+      let whole = fixed_whole files loaded loads in
+      below_end (files Jhr) (after Jhr) _ 0 1024 jhr (omega arith)
+
+  -- how long the files are now
+  pub headers_len_there : loaded.headers_len + header_size message ≡ length (after Jhr)
+  headers_len_there = ap (λ (n : ℕ). n + header_size message) loads.headers_len ∙ sym length-headers
+
+  pub texts_len_there : loaded.texts_len + message.text_len ≡ length (after Jdt)
+  texts_len_there = omega (arith, loads.texts_len, ends.text_len, ap length jdt, length-append (files Jdt) text)
+
+module _ (files after : Files) (loaded : Loaded) (message : LoadedMessage) (text : List ℕ)
+    (loads : Loads loaded files) (next : IsNext loaded message text) (back : AreReadAgain loaded message) (each : All IsSubfield message.subfields)
+    (jhr : after Jhr ≡ files Jhr ++ message_bytes (number_behind loaded) message)
+    (jdt : after Jdt ≡ files Jdt ++ text) (jdx : after Jdx ≡ files Jdx ++ index_record_bytes (entry_for (Live message))) (jlr : after Jlr ≡ files Jlr) where
   -- its index record
   entry_there : entry_in after (length loaded.slots) ≡ entry_for (Live message)
   entry_there =
@@ -139,23 +162,14 @@ module _ (files after : Files) (loaded : Loaded) (message : LoadedMessage) (text
         let last : length loaded.slots ≡ k = omega (arith, length_push loaded.slots (Live message)) in
         let slot : slice_index_or (loaded.slots ++ Live message ∷ []) k d ≡ Live message = get_or_push loaded.slots (Live message) d k last in
         let entry : entry_in after k ≡ entry_for (Live message) = ap (entry_in after) (sym last) ∙ entry_there in
-        subst (HasSlot after (entry_in after k)) (sym slot) (subst (λ (e : IndexRecord). HasSlot after e (Live message)) (sym entry) (refl, refl, message_there))
+        let there : IsLiveIn after message = message_there files after loaded message text (number_behind loaded) loads next.ends back.header each jhr jdt in
+        subst (HasSlot after (entry_in after k)) (sym slot) (subst (λ (e : IndexRecord). HasSlot after e (Live message)) (sym entry) (refl, refl, there))
   ]
-
-  -- the new message lies apart from the others
-  apart_there : AllPairs AreApart (loaded.slots ++ Live message ∷ [])
-  apart_there =
-      all_pairs_push AreApart loaded.slots (Live message) loads.apart
-      (λ k d low i one other.
-      let below : i < length (files Jhr) = covers_below files (entry_in files k) (slice_index_or loaded.slots k d) i (loads.slots k d low) one in
-      let at_is = stands_at_end in
-      omega (arith, other.0))
 
   -- the files hold the area with the message
   pub posted : Loads (with_message_behind message loaded) after
   posted =
-      let whole = fixed_whole files loaded loads in
-      let first : bytes_at 0 1024 (after Jhr) ≡ bytes_at 0 1024 (files Jhr) = below_end (files Jhr) (after Jhr) _ 0 1024 jhr (omega arith) in
+      let first : bytes_at 0 1024 (after Jhr) ≡ bytes_at 0 1024 (files Jhr) = fixed_there files after loaded message text (number_behind loaded) loads next.ends back.header each jhr jdt in
       record {
         header = subst IsFixedHeader (sym first) loads.header;
         fixed = loads.fixed ∙ sym (ap fixed_header_of first);
@@ -163,12 +177,12 @@ module _ (files after : Files) (loaded : Loaded) (message : LoadedMessage) (text
         numbers = omega (arith, next.numbers, length_push loaded.slots (Live message));
         index = omega (arith, ap length jdx, length-append (files Jdx) (index_record_bytes (entry_for (Live message))), length-entry (entry_for (Live message)), loads.index, length_push loaded.slots (Live message));
         slots = slots_there;
-        apart = apart_there;
+        apart = all_pairs_push AreApart loaded.slots (Live message) loads.apart (apart_there files after loaded message text (number_behind loaded) loads next.ends back.header each jhr jdt);
         lastread = ap length jlr ∙ loads.lastread;
         marks = λ k d low. loads.marks k d low ∙ sym (ap (λ (l : List ℕ). lastread_record_of (bytes_at (16 * k) 16 l)) jlr);
         few_marks = loads.few_marks;
-        headers_len = ap (λ (n : ℕ). n + header_size message) loads.headers_len ∙ sym length-headers;
-        texts_len = omega (arith, loads.texts_len, next.text_len, ap length jdt, length-append (files Jdt) text);
+        headers_len = headers_len_there files after loaded message text (number_behind loaded) loads next.ends back.header each jhr jdt;
+        texts_len = texts_len_there files after loaded message text (number_behind loaded) loads next.ends back.header each jhr jdt;
       }
 
 module _ (files after : Files) (loaded : Loaded) (mark : Mark) (loads : Loads loaded files) (back : IsMarkReadAgain mark) (few : length loaded.marks < MOST_SLOTS)

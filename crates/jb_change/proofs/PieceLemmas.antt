@@ -1,10 +1,9 @@
 -- A piece of bytes more in a change.
-use Rattle.std.proofs.Common.{◌≡◌, ◌≢◌, inl, inr, ℕ, ◌+◌, ◌<◌, ◌≤◌, List, [], ◌∷◌, ◌++◌, length, map, filter, ap, ◌∙◌, sym, refl, subst, arith, length-append, append-nil}
+use Rattle.std.proofs.Common.{◌≡◌, ◌≢◌, inl, inr, ℕ, ◌+◌, ◌<◌, ◌≤◌, List, [], ◌∷◌, ◌++◌, length, ap, ◌∙◌, sym, refl, subst, arith, length-append, append-nil}
 use Rattle.std.specs.Prelude.{◌^◌}
 use Rattle.std.specs.List.{flat_map}
 use Rattle.std.proofs.lemmas.Grind.{flat_map-append}
-use Rattle.std.proofs.lemmas.List.{map-append}
-use Rattle.std.proofs.lemmas.List.Elements.{All-push, filter-append}
+use Rattle.std.proofs.lemmas.List.Elements.{All-push}
 use Rattle.jb_disk.specs.RedoView.{RedoView}
 use Rattle.jb_disk.specs.declared.file.FileId.{FileId}
 use Rattle.jb_disk.specs.declared.file.FileId.TheVariants.{Jdt}
@@ -18,7 +17,7 @@ use Rattle.jb_disk.specs.Steps.{Span, Torn, IsCovered, AreWithin, patched}
 use Rattle.jb_image.specs.Stands.{Loads}
 use Rattle.jb_state.specs.declared.loaded.Loaded.{Loaded}
 use Rattle.jb_redo.specs.Record.{record_bytes, piece_bytes}
-use Rattle.jb_redo.specs.Replay.{applied, span_of, spans_in, writes, IsGrowthCovered}
+use Rattle.jb_redo.specs.Replay.{applied, span_of, spans_in, IsGrowthCovered}
 use Rattle.jb_redo.specs.Rules.{sizes_of, new_sizes, IsLegalRecord, IsLegalPiece}
 use Rattle.jb_redo.proofs.SpanLemmas.{spans_in-here, spans_in-other, spans_within, covered-first, spans-append}
 use Rattle.jb_change.specs.Makes.{Makes}
@@ -105,7 +104,7 @@ module _ (file : FileId) (at : ℕ) (bytes : List ℕ) where
         (λ i. length (record_bytes (puts.lengths i) (puts.pieces i))) ∙ omega (arith, more, before, after)
 
     -- it keeps the rules
-    legal_then : (files : Files) → file_number file < 4 → at < 2 ^ 32 → length bytes < 2 ^ 32 → at + length bytes ≤ length (changed old files file)
+    pub legal_then : (files : Files) → file_number file < 4 → at < 2 ^ 32 → length bytes < 2 ^ 32 → at + length bytes ≤ length (changed old files file)
         → IsLegalRecord (sizes_of files) old.lengths old.pieces → IsLegalRecord (sizes_of files) new.lengths new.pieces
     legal_then files of_base place short within legal =
         let few : length (old.pieces ++ piece ∷ []) < 2 ^ 32 = subst (λ (l : List Piece). length l < 2 ^ 32) puts.pieces puts.few in
@@ -113,7 +112,7 @@ module _ (file : FileId) (at : ℕ) (bytes : List ℕ) where
         (subst (IsLegalRecord (sizes_of files) old.lengths) (sym puts.pieces) (legal_more old.lengths old.pieces files of_base place short within few legal))
 
     -- what is covered stays so
-    grown_then : (files : Files) → IsGrowthCovered old.lengths old.pieces files → IsGrowthCovered new.lengths new.pieces files
+    pub grown_then : (files : Files) → IsGrowthCovered old.lengths old.pieces files → IsGrowthCovered new.lengths new.pieces files
     grown_then files grown other i past low =
         let low_too = subst (λ (l : List Length). i < new_sizes l (sizes_of files) other) puts.lengths low in
         subst (λ (l : List Piece). IsCovered (spans_in files l other) i) (sym puts.pieces)

@@ -47,8 +47,8 @@ legal_post_lengths loaded message text next =
     record {
       few = omega arith;
       each =
-          All-cons IsLegalLength headers (texts ∷ index ∷ []) (record { of_base = omega arith; ceiling = omega (arith, next.header_at, next.headers_fit) })
-          (All-cons IsLegalLength texts (index ∷ []) (record { of_base = omega arith; ceiling = omega (arith, next.text_at, next.texts_fit) })
+          All-cons IsLegalLength headers (texts ∷ index ∷ []) (record { of_base = omega arith; ceiling = omega (arith, next.ends.header_at, next.ends.headers_fit) })
+          (All-cons IsLegalLength texts (index ∷ []) (record { of_base = omega arith; ceiling = omega (arith, next.ends.text_at, next.ends.texts_fit) })
           (All-cons IsLegalLength index none (record { of_base = omega arith; ceiling = omega (arith, next.few_slots) }) (All-nil IsLegalLength)));
       rising =
           AllPairs-cons IsBefore headers (texts ∷ index ∷ [])
@@ -76,11 +76,11 @@ module _ (loaded : Loaded) (message : LoadedMessage) (text : List ℕ) (next : I
   module _ (files : Files) (loads : Loads loaded files) where
     -- where .JHR ended
     headers_end : message.header_at ≡ length (files Jhr)
-    headers_end = next.header_at ∙ loads.headers_len
+    headers_end = next.ends.header_at ∙ loads.headers_len
 
     -- where .JDT ended
     texts_end : message.text_at ≡ length (files Jdt)
-    texts_end = next.text_at ∙ loads.texts_len
+    texts_end = next.ends.text_at ∙ loads.texts_len
 
     -- its pieces are legal
     legal_post : IsLegalRecord (sizes_of files) (post_lengths loaded message) (post_pieces loaded message text)
@@ -90,13 +90,13 @@ module _ (loaded : Loaded) (message : LoadedMessage) (text : List ℕ) (next : I
         let words : Piece = Bytes Jdt message.text_at text in
         let entry : Piece = Bytes Jdx (8 * length loaded.slots) (index_record_bytes (entry_for (Live message))) in
         let none : List Piece = [] in
-        let fit = next.headers_fit in
-        let at = next.header_at in
+        let fit = next.ends.headers_fit in
+        let at = next.ends.header_at in
         let size = length-message (number_behind loaded) message in
         let entry_size = length-entry (entry_for (Live message)) in
-        let texts_fit = next.texts_fit in
-        let text_at = next.text_at in
-        let text_len = next.text_len in
+        let texts_fit = next.ends.texts_fit in
+        let text_at = next.ends.text_at in
+        let text_len = next.ends.text_len in
         let few = next.few_slots in
         record {
           lengths_are = legal_post_lengths loaded message text next;
@@ -112,7 +112,7 @@ module _ (loaded : Loaded) (message : LoadedMessage) (text : List ℕ) (next : I
     -- each byte past an old end is written
     covers_post : IsGrowthCovered (post_lengths loaded message) (post_pieces loaded message text) files
     covers_post Jhr i past low = inl (omega (arith, headers_end), omega (arith, length-message (number_behind loaded) message))
-    covers_post Jdt i past low = inl (omega (arith, texts_end), omega (arith, next.text_len))
+    covers_post Jdt i past low = inl (omega (arith, texts_end), omega (arith, next.ends.text_len))
     covers_post Jdx i past low = inl (omega (arith, loads.index), omega (arith, length-entry (entry_for (Live message))))
     covers_post Jlr i past low = absurd (omega arith)
     covers_post Jnl i past low = absurd (omega arith)
@@ -130,7 +130,7 @@ module _ (loaded : Loaded) (message : LoadedMessage) (text : List ℕ) (next : I
 
     -- .JDT has the text behind
     texts_behind : after Jdt ≡ files Jdt ++ text
-    texts_behind = one_behind (files Jdt) text message.text_at (message.text_at + message.text_len) texts_end (omega (arith, texts_end, next.text_len))
+    texts_behind = one_behind (files Jdt) text message.text_at (message.text_at + message.text_len) texts_end (omega (arith, texts_end, next.ends.text_len))
 
     -- .JDX has the index record behind
     index_behind : after Jdx ≡ files Jdx ++ index_record_bytes (entry_for (Live message))
@@ -184,5 +184,4 @@ module _ (loaded : Loaded) (message : LoadedMessage) (text : List ℕ) (next : I
     numbers_post files loads =
         ap (λ (now : Files). (header_in now message.header_at).number) (made files)
         ∙ ap (λ (header : MessageHeader). header.number)
-        (header_there files (after files loads) loaded message text loads next back each
-        (headers_behind files loads) (texts_behind files loads) (index_behind files loads) (marks_same files loads))
+        (header_there files (after files loads) loaded message text (number_behind loaded) loads next.ends back.header each (headers_behind files loads) (texts_behind files loads))

@@ -30,7 +30,7 @@ use Rattle.jb_record.specs.Message.{message_header_of}
 use Rattle.jb_record.specs.declared.index.IndexRecord.{IndexRecord}
 use Rattle.jb_record.specs.declared.message.MessageHeader.{MessageHeader}
 use Rattle.jb_redo.specs.Replay.{applied}
-use Rattle.jb_change.specs.Headers.{KeepsNumbers, Updates, header_place, header_place_at}
+use Rattle.jb_change.specs.Headers.{KeepsNumbers, Updates, UpdatesBut, header_place, header_place_at}
 use Rattle.jb_change.specs.Ready.{IsCleared, IsEmptied, IsReadyFor}
 use Rattle.jb_change.proofs.PieceLemmas.{only_wider}
 
@@ -248,6 +248,14 @@ updates_mark old new place mark makes only from to text was within = record {
 -- and one behind the others
 pub updates_new_mark : (change : RedoView) (from : Loaded) (marks : List Mark) → AppendsOnly change from → Makes change from (with_marks marks from) [] → Updates change from (with_marks marks from) []
 updates_new_mark change from marks appends makes = record { makes = makes; places = λ p at is. is; numbers = numbers_behind change from appends }
+
+-- what keeps each header keeps each but some
+pub updates_but : (moved : ℕ → Type 0) (change : RedoView) (from to : Loaded) (text : List ℕ) → Updates change from to text → UpdatesBut moved change from to text
+updates_but moved change from to text updates = record {
+  makes = updates.makes;
+  places = λ p at other is. updates.places p at is;
+  numbers = λ files loads p at other is. updates.numbers files loads p at is;
+}
 
 -- the last slot's header
 pub last_place : (slots : List LoadedSlot) (slot : LoadedSlot) → option_and_then header_place (slice_get (slots ++ slot ∷ []) (length slots)) ≡ header_place slot

@@ -33,3 +33,18 @@ pub record Updates (change : RedoView) (from to : Loaded) (text : List ℕ) : Ty
   pub makes : Makes change from to text
   pub places : KeepsPlaces from to
   pub numbers : (files : Files) → Loads from files → KeepsNumbers from files (changed change files)
+
+-- the same of each header but those of the slots at these places
+abbrev pub KeepsPlacesBut : (ℕ → Type 0) → Loaded → Loaded → Type 0
+KeepsPlacesBut moved from to = (place at : ℕ) → (moved place → ⊥) → header_place_at from place ≡ Some at → header_place_at to place ≡ Some at
+
+-- and of its MessageNumber
+abbrev pub KeepsNumbersBut : (ℕ → Type 0) → Loaded → Files → Files → Type 0
+KeepsNumbersBut moved loaded old new =
+    (place at : ℕ) → (moved place → ⊥) → header_place_at loaded place ≡ Some at → (header_in new at).number ≡ (header_in old at).number
+
+-- the same, where the headers of these slots may be put elsewhere
+pub record UpdatesBut (moved : ℕ → Type 0) (change : RedoView) (from to : Loaded) (text : List ℕ) : Type 0 where
+  pub makes : Makes change from to text
+  pub places : KeepsPlacesBut moved from to
+  pub numbers : (files : Files) → Loads from files → KeepsNumbersBut moved from files (changed change files)

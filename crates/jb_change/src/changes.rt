@@ -1,8 +1,8 @@
 //! A change of an area, as a redo.
 ghost use Rattle.std.specs.Prelude.{◌≡◌, ◌<◌, [], length, None, OnErr, OnOk};
-ghost use Rattle.jb_change.specs.Headers.{Updates};
+ghost use Rattle.jb_change.specs.Headers.{Updates, UpdatesBut};
 ghost use Rattle.jb_change.specs.Post.{HasNextNumber};
-ghost use Rattle.jb_change.specs.Put.{IsNoPacking, IsShort, IsTextOf, LeavesRest, NumbersPosted};
+ghost use Rattle.jb_change.specs.Put.{IsMoved, IsNoPacking, IsShort, IsTextOf, LeavesRest, NumbersPosted};
 ghost use Rattle.jb_change.specs.Ready.{HasRoomInAll, IsCleared};
 ghost use Rattle.jb_limits.specs.declared.limits.TheConstants.{MOST_MARKS, MOST_SLOTS};
 ghost use Rattle.jb_state.specs.Change.{Fits, FitsBehind, IsNeighbourOf, after, live_messages};
@@ -12,6 +12,7 @@ ghost use Rattle.jb_state.specs.declared.change.Change.TheVariants.{Marked, Post
 ghost use Rattle.jb_redo.specs.Changes.{IsWritable, KeepsRoom};
 
 use crate::area::{put_counts, put_mark};
+use crate::editing::put_edited;
 use crate::emptying::{clear, empty, make_small_room};
 use crate::heading::{put_headed, put_killed, put_neighbour};
 use crate::marking::put_new_mark;
@@ -63,7 +64,8 @@ pub fn put_short(redo: &mut Redo, loaded: &Loaded, change: &Change, active: u32)
         Change::Killed { place } => put_killed(redo, loaded, *place, active),
         Change::Marked { place, mark } => put_marked(redo, loaded, *place, mark),
         Change::Nothing => {}
-        Change::Posted { .. } | Change::Relinked { .. } | Change::Packed { .. } => unreachable!(),
+        Change::Posted { .. } | Change::Edited { .. } => unreachable!(),
+        Change::Relinked { .. } | Change::Packed { .. } => unreachable!(),
     }
 }
 
@@ -96,7 +98,7 @@ fn put_posted(
     Ok(())
 }
 
-/// Puts a change into a redo, in place of what it holds; `active` messages are live after it, and `text` is that of a post.
+/// Puts a change into a redo, in place of what it holds; `active` messages are live after it, and `text` is that of a post or an edit.
 pub fn put(
     alloc: Global,
     redo: &mut Redo,
@@ -113,7 +115,8 @@ pub fn put(
 
     // Of whatever files hold the area it makes files that hold the area after the change, and it writes no byte but those that
     // the change may write.
-    ensures makes { OnOk result (Updates redo.new loaded.now (after change.now loaded.now) text.now) }
+    ensures makes { OnOk result (UpdatesBut (IsMoved change.now) redo.new loaded.now
+        (after change.now loaded.now) text.now) }
     ensures leaves { OnOk result (LeavesRest redo.new loaded.now change.now) }
     ensures numbered { OnOk result (NumbersPosted redo.new loaded.now change.now) }
     ensures writable { OnOk result (IsWritable redo.new) }
@@ -129,6 +132,9 @@ pub fn put(
         }
         Change::Posted { message, neighbour } => {
             put_posted(alloc, redo, loaded, message, *neighbour, text, active)
+        }
+        Change::Edited { place, message } => {
+            put_edited(alloc, redo, loaded, *place, message, text, active)
         }
         Change::Relinked { plan } => put_relinked(redo, loaded, plan.as_slice(), active),
         Change::Packed { .. } => unreachable!(),

@@ -2,12 +2,13 @@
 //! "Header file", "Message header", "SubFields", "Index file", "Lastread file").
 //!
 //! The layer above may rely on this: of whatever files hold an area, the redo of a change ([`put`]) makes files that hold the
-//! area after it (`after` of `jb_state`), and keeps each header in its place, with its MessageNumber (`makes`). A message that
-//! is posted has the next number (`numbered`). Of the bytes that the files have it may write these alone (`leaves`): ModCounter
+//! area after it (`after` of `jb_state`), and keeps each header in its place, with its MessageNumber, but that of a message that
+//! is edited (`makes`). A message that is posted has the next number, and one that is edited, whose header comes behind all
+//! others, the number that it had (`numbered`). Of the bytes that the files have it may write these alone (`leaves`): ModCounter
 //! and ActiveMsgs, and of a header that is read TimesRead to Attribute, of one that is killed Attribute, at a post the links of
-//! the neighbour, at a relink those of live messages; or the record of a mark. All but a post leave the index as it is (`leaves`).
-//! The redo may be written into the journal (`writable`), and its room stays (`room`, `kept`). [`put_short`] says the same of the
-//! changes that take no memory.
+//! the neighbour, at an edit the index record of the message, at a relink the links of live messages; or the record of a mark.
+//! All but a post and an edit leave the index as it is (`leaves`). The redo may be written into the journal (`writable`), and its
+//! room stays (`room`, `kept`). [`put_short`] says the same of the changes that take no memory.
 //!
 //! It is made of small changes, which stand alone too: where the redo so far makes of files that hold one area files that hold
 //! another, a small change puts itself behind, and the redo then makes files that hold that other area with the small change
@@ -19,6 +20,7 @@
 mod area;
 mod base;
 mod changes;
+mod editing;
 mod emptying;
 mod header;
 mod heading;

@@ -1,6 +1,7 @@
 //! A message behind the others.
-ghost use Rattle.std.specs.Prelude.{◌≡◌, ◌<◌, ◌≤◌, ◌+◌, ◌*◌, [], OnOk, OnErr, length};
-ghost use Rattle.jb_limits.specs.declared.limits.TheConstants.{HEADERS_CEILING, MOST_SLOTS, TEXTS_CEILING};
+ghost use Rattle.std.specs.Prelude.{◌≡◌, ◌<◌, ◌≤◌, ◌+◌, ◌*◌, ◌++◌, ◌∷◌, [], All, OnOk, OnErr, length};
+ghost use Rattle.jb_bytes.specs.Subfields.{IsSubfield, subfield_bytes};
+ghost use Rattle.jb_limits.specs.declared.limits.TheConstants.{HEADERS_CEILING, MOST_SLOTS, MOST_SUBFIELD_BYTES, TEXTS_CEILING};
 ghost use Rattle.jb_redo.specs.Changes.{KeepsRoom};
 ghost use Rattle.jb_change.specs.Makes.{Makes};
 ghost use Rattle.jb_redo.specs.Changes.{record_size};
@@ -9,8 +10,8 @@ ghost use Rattle.jb_state.specs.Loaded.{header_size, with_message_behind};
 ghost use Rattle.jb_redo.specs.Rules.{AreLegalLengths};
 ghost use Rattle.jb_change.specs.declared.posting.TheConstants.{SPARE_BYTES, SPARE_PIECES};
 ghost use Rattle.jb_change.specs.Behind.{AppendsOnly};
-ghost use Rattle.jb_change.specs.Post.{HasNextNumber, IsNext, number_behind, post_lengths, post_pieces};
-ghost use Rattle.jb_image.specs.Records.{IsEntryReadAgain, entry_for, message_bytes};
+ghost use Rattle.jb_change.specs.Post.{HasNextNumber, IsNext, entry_piece, index_length, message_lengths, message_pieces};
+ghost use Rattle.jb_image.specs.Records.{IsEntryReadAgain, IsHeaderReadAgain, entry_for};
 ghost use Rattle.jb_state.specs.declared.loaded.LoadedSlot.TheVariants.{Live};
 
 use jb_base::OutOfMemory;
@@ -58,58 +59,73 @@ pub fn put_post(
     ensures err { OnErr result (SameLists redo.old redo.new) }
 {
     let number = loaded.base + loaded.slots.as_slice().len() as u32;
-    let header = message_bytes(alloc, message, &message.head, number, message.text_at)?;
-    let bytes = header.len() + text.len() + INDEX_RECORD_BYTES;
-    redo.reserve(3, 3 + SPARE_PIECES, bytes as u64 + SPARE_BYTES)?;
-    put_lengths(redo, loaded, message, header.len() as u32);
-    put_pieces(redo, loaded, message, header.as_slice(), text);
+    put_message(alloc, redo, message, number, text)?;
+    put_entry(redo, loaded, message);
     Ok(())
 }
 
-/// The lengths of .JHR, .JDT and .JDX with the message.
-fn put_lengths(redo: &mut Redo, loaded: &Loaded, message: &LoadedMessage, header_len: u32)
-    requires empty { redo.old.lengths ≡ [] }
-    requires room { 3 ≤ redo.old.spare_lengths }
-    requires size { header_len ≡ header_size message.now }
-    requires few { length loaded.now.slots < MOST_SLOTS }
+/// Puts a message at the ends of .JHR and .JDT: the new lengths of both, the header with this number and its subfields, and
+/// the text. It makes room for them, for the index record, and for some pieces more.
+pub(crate) fn put_message(
+    alloc: Global,
+    redo: &mut Redo,
+    message: &LoadedMessage,
+    number: u32,
+    text: &[u8],
+) -> Result<(), OutOfMemory>
+    requires no_lengths { redo.old.lengths ≡ [] }
+    requires no_pieces { redo.old.pieces ≡ [] }
+    requires few_bytes { length (subfield_bytes message.now.subfields) ≤ MOST_SUBFIELD_BYTES }
+    requires text { message.now.text_len ≡ length text.now }
     requires headers { message.now.header_at + header_size message.now ≤ HEADERS_CEILING }
     requires texts { message.now.text_at + message.now.text_len ≤ TEXTS_CEILING }
-    ensures lengths { redo.new.lengths ≡ post_lengths loaded.now message.now }
-    ensures pieces { redo.new.pieces ≡ redo.old.pieces }
-    ensures room { Spends 3 0 0 redo.old redo.new }
+
+    // What it puts, and that the header is read again.
+    ensures lengths { OnOk result (redo.new.lengths ≡ message_lengths message.now) }
+    ensures pieces { OnOk result (redo.new.pieces ≡ message_pieces number message.now text.now) }
+    ensures back { OnOk result (IsHeaderReadAgain number message.now) }
+    ensures fit { OnOk result (All IsSubfield message.now.subfields) }
+
+    // There is room for the index record and a few pieces more.
+    ensures room { OnOk result (HasRoom 1 (1 + SPARE_PIECES) (8 + SPARE_BYTES) redo.new) }
     ensures kept { KeepsRoom redo.old redo.new }
+
+    // For want of memory it stays empty.
+    ensures err { OnErr result (SameLists redo.old redo.new) }
 {
+    let header = message_bytes(alloc, message, &message.head, number, message.text_at)?;
+    let bytes = header.len() + text.len() + INDEX_RECORD_BYTES;
+    redo.reserve(3, 3 + SPARE_PIECES, bytes as u64 + SPARE_BYTES)?;
     redo.put_len(Length {
         file: FileId::Jhr,
-        len: message.header_at + header_len,
+        len: message.header_at + header.len() as u32,
     });
     redo.put_len(Length {
         file: FileId::Jdt,
         len: message.text_at + message.text_len,
     });
-    redo.put_len(Length {
-        file: FileId::Jdx,
-        len: index_end(loaded) + INDEX_RECORD_BYTES as u32,
-    });
+    redo.put_bytes(FileId::Jhr, message.header_at, header.as_slice());
+    redo.put_bytes(FileId::Jdt, message.text_at, text);
+    Ok(())
 }
 
-/// The header with its subfields, the text and the index record, each at the end of its file.
-fn put_pieces(redo: &mut Redo, loaded: &Loaded, message: &LoadedMessage, header: &[u8], text: &[u8])
-    requires empty { redo.old.pieces ≡ [] }
-    requires room { HasRoom 0 3 (8 + length header.now + length text.now) redo.old }
-    requires header { header.now ≡ message_bytes (number_behind loaded.now) message.now }
-    requires size { length header.now ≡ header_size message.now }
-    requires next { IsNext loaded.now message.now text.now }
-    ensures lengths { redo.new.lengths ≡ redo.old.lengths }
-    ensures pieces { redo.new.pieces ≡ post_pieces loaded.now message.now text.now }
+/// The new length of .JDX, and the index record of the message at its end.
+fn put_entry(redo: &mut Redo, loaded: &Loaded, message: &LoadedMessage)
+    requires room { HasRoom 1 1 8 redo.old }
+    requires few { length loaded.now.slots < MOST_SLOTS }
+    ensures lengths { redo.new.lengths ≡ redo.old.lengths ++ index_length loaded.now ∷ [] }
+    ensures pieces { redo.new.pieces ≡ redo.old.pieces ++ entry_piece (length loaded.now.slots) message.now ∷ [] }
     ensures back { IsEntryReadAgain (entry_for (Live message.now)) }
-    ensures room { Spends 0 3 (8 + length header.now + length text.now) redo.old redo.new }
+    ensures room { Spends 1 1 8 redo.old redo.new }
     ensures kept { KeepsRoom redo.old redo.new }
 {
+    let end = index_end(loaded);
+    redo.put_len(Length {
+        file: FileId::Jdx,
+        len: end + INDEX_RECORD_BYTES as u32,
+    });
     let entry = entry_bytes(message.owner, message.header_at);
-    redo.put_bytes(FileId::Jhr, message.header_at, header);
-    redo.put_bytes(FileId::Jdt, message.text_at, text);
-    redo.put_bytes(FileId::Jdx, index_end(loaded), &entry);
+    redo.put_bytes(FileId::Jdx, end, &entry);
 }
 
 /// The length of .JDX.

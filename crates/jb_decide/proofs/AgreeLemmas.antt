@@ -9,12 +9,12 @@ use Rattle.jb_image.specs.Places.{bytes_at, entry_in, header_in}
 use Rattle.jb_image.specs.Stands.{Loads, HasHeader, HasSlot, IsLiveIn, IsLiveHeader, head_of}
 use Rattle.jb_state.specs.Loaded.{header_size}
 use Rattle.jb_state.specs.Sound.{IsWithin}
+use Rattle.jb_state.specs.declared.change.Change.{Change}
 use Rattle.jb_state.specs.declared.loaded.Loaded.{Loaded}
 use Rattle.jb_state.specs.declared.loaded.LoadedMessage.{LoadedMessage}
 use Rattle.jb_state.specs.declared.loaded.LoadedSlot.{LoadedSlot}
 use Rattle.jb_state.specs.declared.loaded.LoadedSlot.TheVariants.{Empty, Killed, Live}
 use Rattle.jb_model.specs.declared.reply.Reply.{Reply}
-use Rattle.jb_model.specs.declared.reply.Reply.TheVariants.{Posted}
 use Rattle.jb_model.specs.declared.reply.Reply.TheVariants as replies
 use Rattle.jb_pack.specs.Standing.{StandTogether}
 use Rattle.jb_record.specs.declared.index.IndexRecord.{IndexRecord}
@@ -23,7 +23,7 @@ use Rattle.jb_record.specs.Fixed.{IsFixedHeader, fixed_header_of}
 use Rattle.jb_record.specs.Index.{index_record_of}
 use Rattle.jb_record.specs.Lastread.{lastread_record_of}
 use Rattle.jb_record.specs.Message.{IsMessageHeader, message_header_of}
-use Rattle.jb_decide.specs.Headers.{KeepsHeaders, PacksHeaders}
+use Rattle.jb_decide.specs.Headers.{KeepsHeaders, NamesWritten, PacksHeaders}
 
 -- files that hold the same in the four files of the base
 module _ (files other : Files) (jhr : files Jhr ≡ other Jhr) (jdt : files Jdt ≡ other Jdt) (jdx : files Jdx ≡ other Jdx) (jlr : files Jlr ≡ other Jlr) where
@@ -91,16 +91,17 @@ module _ (files other : Files) (jhr : files Jhr ≡ other Jhr) (jdt : files Jdt 
   }
 
 -- the headers of an area, in files with the same .JHR
-pub headers_agree : (reply : Reply) (from to : Loaded) (was now other : Files) → now Jhr ≡ other Jhr → KeepsHeaders reply from to was other → KeepsHeaders reply from to was now
-headers_agree reply from to was now other jhr keeps = record {
+pub headers_agree : (change : Change) (reply : Reply) (from to : Loaded) (was now other : Files) → now Jhr ≡ other Jhr → KeepsHeaders change reply from to was other
+    → KeepsHeaders change reply from to was now
+headers_agree change reply from to was now other jhr keeps = record {
   places = keeps.places;
-  numbers = λ place at is. ap (λ (b : List ℕ). (message_header_of (bytes_at at 76 b)).number) jhr ∙ keeps.numbers place at is;
-  behind = λ place message past here.
-      let stands = keeps.behind place message past here in
+  numbers = λ place at stays is. ap (λ (b : List ℕ). (message_header_of (bytes_at at 76 b)).number) jhr ∙ keeps.numbers place at stays is;
+  behind = λ place message there here.
+      let stands = keeps.behind place message there here in
       record {
         header_at = stands.header_at;
         text_at = stands.text_at;
-        numbered = stands.numbered ∙ ap (λ (b : List ℕ). Posted (message_header_of (bytes_at message.header_at 76 b)).number) (sym jhr);
+        numbered = subst (λ (b : List ℕ). NamesWritten reply (message_header_of (bytes_at message.header_at 76 b)).number) (sym jhr) stands.numbered;
       };
 }
 
@@ -123,6 +124,7 @@ stand_agree now other number header_at text_at (Live message ∷ slots) jhr jdt 
 pub packs_agree : (reply : Reply) (to : Loaded) (now other : Files) → now Jhr ≡ other Jhr → now Jdt ≡ other Jdt → PacksHeaders reply to other → PacksHeaders reply to now
 packs_agree (replies.Packed base live dropped) to now other jhr jdt packs = stand_agree now other to.base 1024 0 to.slots jhr jdt packs
 packs_agree (replies.Posted number) to now other jhr jdt packs = tt
+packs_agree (replies.Edited number) to now other jhr jdt packs = tt
 packs_agree (replies.Text letter) to now other jhr jdt packs = tt
 packs_agree (replies.Killed number) to now other jhr jdt packs = tt
 packs_agree (replies.Marked last high) to now other jhr jdt packs = tt
@@ -132,6 +134,7 @@ packs_agree (replies.NoMessage number) to now other jhr jdt packs = tt
 packs_agree (replies.TooLong field len) to now other jhr jdt packs = tt
 packs_agree (replies.EmptyName field) to now other jhr jdt packs = tt
 packs_agree (replies.SlotsFull slots) to now other jhr jdt packs = tt
+packs_agree (replies.SubfieldsFull len) to now other jhr jdt packs = tt
 packs_agree (replies.HeadersFull len) to now other jhr jdt packs = tt
 packs_agree (replies.TextFull len) to now other jhr jdt packs = tt
 packs_agree (replies.NumbersSpent next) to now other jhr jdt packs = tt

@@ -58,7 +58,7 @@ grown state message = record state {
 }
 
 -- the state with these slots and lengths of the files
-abbrev sized : AreaState → List SlotState → ℕ → ℕ → AreaState
+abbrev pub sized : AreaState → List SlotState → ℕ → ℕ → AreaState
 sized state slots headers_len texts_len = record state { slots = slots; headers_len = headers_len; texts_len = texts_len }
 
 -- a sound area with a message and its text at the ends has the state with that message at its end
@@ -80,7 +80,7 @@ state_behind limit texts more loaded message sound is at len =
     ∙ ap (λ n. sized (state_of texts loaded) (map (slot_state texts) loaded.slots ++ live_message (live more) ∷ []) headers_len (loaded.texts_len + n)) len
 
 -- a slot lies within longer files too
-within_longer : (headers_len texts_len headers texts : ℕ) → headers_len ≤ headers → texts_len ≤ texts → (slot : LoadedSlot) → IsSlotWithin headers_len texts_len slot
+pub within_longer : (headers_len texts_len headers texts : ℕ) → headers_len ≤ headers → texts_len ≤ texts → (slot : LoadedSlot) → IsSlotWithin headers_len texts_len slot
     → IsSlotWithin headers texts slot
 within_longer headers_len texts_len headers texts h t Empty within = tt
 within_longer headers_len texts_len headers texts h t (Killed header_at) within =
@@ -96,7 +96,7 @@ within_longer headers_len texts_len headers texts h t (Live message) within = re
 }
 
 -- what lies within the file lies apart from what stands behind it
-apart_behind : (headers_len texts_len : ℕ) (slot : LoadedSlot) (message : LoadedMessage) → IsSlotWithin headers_len texts_len slot → headers_len ≤ message.header_at
+pub apart_behind : (headers_len texts_len : ℕ) (slot : LoadedSlot) (message : LoadedMessage) → IsSlotWithin headers_len texts_len slot → headers_len ≤ message.header_at
     → AreApart slot (Live message)
 apart_behind headers_len texts_len Empty message within at i one other = one
 apart_behind headers_len texts_len (Killed header_at) message within at i one other = omega (arith, one.1, other.0, within.inside)

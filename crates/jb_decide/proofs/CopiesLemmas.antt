@@ -11,7 +11,7 @@ use Rattle.jb_decide.specs.Coming.{Coming}
 use Rattle.jb_decide.specs.Decided.{IsDecided, IsPending}
 use Rattle.jb_decide.specs.Holds.{HoldsWith}
 use Rattle.jb_decide.specs.declared.decided.Decided.{Decided}
-use Rattle.jb_decide.specs.StepOf.{posted_text}
+use Rattle.jb_decide.specs.StepOf.{written_text}
 use Rattle.jb_state.specs.declared.change.Change.{Change}
 
 -- files with copies of the texts hold the area without them
@@ -46,7 +46,7 @@ with_copies rules from texts contents copies redo user moment command decided is
   coming = is.coming;
   change = elim is.change [
     | inl none ↦ inl none
-    | inr pending ↦ inr (pending_with rules.slots contents copies redo decided.pending.change from (posted_text command) texts is.coming pending)
+    | inr pending ↦ inr (pending_with rules.slots contents copies redo decided.pending.change from (written_text command) texts is.coming pending)
   ];
   replies = is.replies;
   step = is.step;

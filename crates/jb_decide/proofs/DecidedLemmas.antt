@@ -3,10 +3,11 @@ use Rattle.std.proofs.Common.{◌≡◌, ◌≢◌, ◌⊎◌, inl, inr, ℕ, �
 use Rattle.std.proofs.lemmas.List.{append-nil, drop-append-le, drop_all, length-replicate, nil_from_length, take-append-le, take_all}
 use Rattle.std.specs.Option.{ForSome}
 use Rattle.std.specs.Prelude.{IsSome}
+use Rattle.std.proofs.lemmas.Option.{slice_get_within}
 use Rattle.jb_base.specs.declared.area.AreaRules.{AreaRules}
 use Rattle.jb_base.specs.declared.user.User.{User}
-use Rattle.jb_change.specs.Headers.{Updates}
-use Rattle.jb_change.specs.Put.{IsNoPacking, IsShort, IsTextOf, KeepsIndexOnKill, NumbersPosted}
+use Rattle.jb_change.specs.Headers.{UpdatesBut}
+use Rattle.jb_change.specs.Put.{IsMoved, IsNoPacking, IsShort, IsTextOf, KeepsIndexOnKill, NumbersPosted}
 use Rattle.jb_disk.specs.Files.{Files}
 use Rattle.jb_disk.specs.RedoView.{RedoView}
 use Rattle.jb_held.specs.Pending.{HasReplies}
@@ -21,8 +22,7 @@ use Rattle.jb_state.specs.Sound.{IsMessageWithin, IsSound, IsTextWithin}
 use Rattle.jb_state.specs.State.{state_of, text_of}
 use Rattle.jb_model.specs.Step.{Step}
 use Rattle.jb_state.specs.declared.change.Change.{Change}
-use Rattle.jb_state.specs.declared.change.Change.TheVariants.{Nothing, Posted, Headed, Killed, Relinked, Marked, Packed}
-use Rattle.jb_state.specs.declared.change.HeadAt.{HeadAt}
+use Rattle.jb_state.specs.declared.change.Change.TheVariants.{Nothing, Posted, Headed, Edited, Killed, Relinked, Marked, Packed}
 use Rattle.jb_model.specs.declared.command.Command.{Command}
 use Rattle.jb_state.specs.declared.links.Links.{Links}
 use Rattle.jb_state.specs.declared.loaded.Loaded.{Loaded}
@@ -36,14 +36,15 @@ use Rattle.jb_pack.specs.Shadow.{Shadow}
 use Rattle.jb_redo.specs.Changes.{IsWritable, changed}
 use Rattle.jb_decide.specs.Coming.{BringsComing, Coming, coming_of}
 use Rattle.jb_decide.specs.Decided.{HasShortRecord, IsAnswerBy, IsDecided, IsPacking, IsPending, IsTold, made}
-use Rattle.jb_decide.specs.Headers.{KeepsHeaders, PacksHeaders, StandsBehind}
+use Rattle.jb_decide.specs.Headers.{KeepsHeaders, NamesWritten, PacksHeaders}
+use Rattle.jb_decide.specs.Draft.{next_of}
 use Rattle.jb_decide.specs.Packs.{IsPacked}
 use Rattle.jb_decide.specs.Read.{letter_in}
 use Rattle.jb_decide.specs.Seen.{shown_message}
-use Rattle.jb_decide.specs.StepOf.{ChangesNothing, IsStepOf, NamesPosted, posted_text, text_behind}
+use Rattle.jb_decide.specs.StepOf.{ChangesNothing, IsStepOf, NamesNumber, written_text, text_behind}
 use Rattle.jb_decide.specs.declared.decided.Decided.{Decided}
 use Rattle.jb_decide.proofs.BringLemmas.{brings, keeps_more, keeps_same}
-use Rattle.jb_decide.proofs.HeaderLemmas.{keeps_all, keeps_headers, last_message}
+use Rattle.jb_decide.proofs.HeaderLemmas.{keeps_all, keeps_headers, last_message, message_set, stands_behind}
 use Rattle.jb_decide.proofs.SoundLemmas.{as_many, slot_within}
 use Rattle.jb_state.proofs.LinkedLaws.{length_of}
 
@@ -52,6 +53,7 @@ pub nothing_or : (change : Change) → (change ≡ Nothing) ⊎ (change ≢ Noth
 nothing_or Nothing = inl refl
 nothing_or (Posted message neighbour) = inr (λ is. cc)
 nothing_or (Headed at) = inr (λ is. cc)
+nothing_or (Edited place message) = inr (λ is. cc)
 nothing_or (Killed place) = inr (λ is. cc)
 nothing_or (Relinked plan) = inr (λ is. cc)
 nothing_or (Marked place mark) = inr (λ is. cc)
@@ -88,6 +90,7 @@ fits_under limit more (Posted message neighbour) loaded under fits = (
   fits.1,
 )
 fits_under limit more (Headed at) loaded under fits = fits
+fits_under limit more (Edited place message) loaded under fits = fits
 fits_under limit more (Killed place) loaded under fits = fits
 fits_under limit more (Relinked plan) loaded under fits = fits
 fits_under limit more (Marked place mark) loaded under fits = fits
@@ -98,6 +101,7 @@ pub short_is : (redo : RedoView) (loaded : Loaded) (change : Change) (text : Lis
 short_is redo loaded Nothing text short = (tt, refl)
 short_is redo loaded (Posted message neighbour) text short = absurd short
 short_is redo loaded (Headed at) text short = (tt, refl)
+short_is redo loaded (Edited place message) text short = absurd short
 short_is redo loaded (Killed place) text short = (tt, refl)
 short_is redo loaded (Relinked plan) text short = (tt, refl)
 short_is redo loaded (Marked place mark) text short = (tt, refl)
@@ -108,6 +112,7 @@ none_of_pack : (change : Change) (redo : RedoView) (from to : Loaded) → IsNoPa
 none_of_pack Nothing redo from to none = (λ packing. packing, refl, tt)
 none_of_pack (Posted message neighbour) redo from to none = (λ packing. packing, refl, tt)
 none_of_pack (Headed at) redo from to none = (λ packing. packing, refl, tt)
+none_of_pack (Edited place message) redo from to none = (λ packing. packing, refl, tt)
 none_of_pack (Killed place) redo from to none = (λ packing. packing, refl, tt)
 none_of_pack (Relinked plan) redo from to none = (λ packing. packing, refl, tt)
 none_of_pack (Marked place mark) redo from to none = (λ packing. packing, refl, tt)
@@ -118,6 +123,7 @@ texts_behind : (change : Change) (from : Loaded) (posted texts : List ℕ) → I
 texts_behind Nothing from posted texts none = sym (append-nil texts)
 texts_behind (Posted message neighbour) from posted texts none = refl
 texts_behind (Headed at) from posted texts none = sym (append-nil texts)
+texts_behind (Edited place message) from posted texts none = refl
 texts_behind (Killed place) from posted texts none = sym (append-nil texts)
 texts_behind (Relinked plan) from posted texts none = sym (append-nil texts)
 texts_behind (Marked place mark) from posted texts none = sym (append-nil texts)
@@ -141,6 +147,7 @@ longer Nothing from posted none is = omega arith
 longer (Posted message None) from posted none is = ap (λ (n : ℕ). from.texts_len + n) is
 longer (Posted message (Some one)) from posted none is = ap (λ (n : ℕ). from.texts_len + n) is
 longer (Headed at) from posted none is = omega arith
+longer (Edited place message) from posted none is = ap (λ (n : ℕ). from.texts_len + n) is
 longer (Killed place) from posted none is = omega arith
 longer (Relinked plan) from posted none is = let same = texts_of plan from in omega (arith, same)
 longer (Marked place mark) from posted none is = omega arith
@@ -148,40 +155,49 @@ longer (Packed plan base) from posted none is = absurd none
 
 -- what a redo does for a change with this text behind the others
 pub record IsPutIn (redo : RedoView) (from : Loaded) (change : Change) (text : List ℕ) : Type 0 where
-  pub updates : Updates redo from (after change from) text
+  pub updates : UpdatesBut (IsMoved change) redo from (after change from) text
   pub numbered : NumbersPosted redo from change
   pub index : KeepsIndexOnKill redo from change
   pub writable : IsWritable redo
 
--- a message that is posted stands behind the others
-stands : (answer : Reply) (from : Loaded) (limit : ℕ) (posted message : LoadedMessage) (neighbour : Option HeadAt) (redo : RedoView) (files : Files)
-    → Fits limit (Posted posted neighbour) from → NamesPosted (Posted posted neighbour) from answer → NumbersPosted redo from (Posted posted neighbour) → Loads from files
-    → message ≡ posted → StandsBehind answer message files (changed redo files)
-stands answer from limit posted message neighbour redo files fits named numbered loads same =
-    subst (λ (m : LoadedMessage). StandsBehind answer m files (changed redo files)) (sym same) (record {
-      header_at = fits.0.header_at ∙ loads.headers_len;
-      text_at = fits.0.text_at ∙ loads.texts_len;
-      numbered = named ∙ ap (λ (n : ℕ). reply.Posted n) (sym (numbered files loads));
-    })
-
--- each header stays where it was, with its number, and a new one stands behind the others
+-- each header stays where it was, with its number, but that of a message that is edited; this one, and a new one, stands behind the others
 headers_kept : (answer : Reply) (limit : ℕ) (redo : RedoView) (from : Loaded) (change : Change) (text : List ℕ) → IsNoPacking change → IsPutIn redo from change text
-    → Fits limit change from → NamesPosted change from answer → (files : Files) → Loads from files → KeepsHeaders answer from (after change from) files (changed redo files)
-headers_kept answer limit redo from Nothing text none put fits named files loads = keeps_headers answer redo from (after Nothing from) text put.updates refl files loads
-headers_kept answer limit redo from (Posted message neighbour) text none put fits named files loads = record {
-  places = put.updates.places;
-  numbers = put.updates.numbers files loads;
-  behind = λ place other past here. stands answer from limit message other neighbour redo files fits named put.numbered loads
-      (last_message (headed_where neighbour from).slots place message other (let same = as_many neighbour from in omega (arith, past, same)) here);
-}
+    → Fits limit change from → NamesNumber change from answer → (files : Files) → Loads from files → KeepsHeaders change answer from (after change from) files (changed redo files)
+headers_kept answer limit redo from Nothing text none put fits named files loads =
+    keeps_headers answer Nothing redo from (after Nothing from) text put.updates (λ place moved. moved) refl files loads
+headers_kept answer limit redo from (Posted message neighbour) text none put fits named files loads =
+    let names : NamesWritten answer (next_of from) = subst (λ (r : Reply). NamesWritten r (next_of from)) (sym named) refl in
+    record {
+      places = put.updates.places;
+      numbers = put.updates.numbers files loads;
+      behind = λ place other there here. elim there [
+        | inl moved ↦ absurd moved
+        | inr past ↦ stands_behind answer from message other (next_of from) redo files
+            (last_message (headed_where neighbour from).slots place message other (let same = as_many neighbour from in omega (arith, past, same)) here)
+            fits.0.header_at fits.0.text_at put.numbered names loads
+      ];
+    }
 headers_kept answer limit redo from (Headed at) text none put fits named files loads =
-    keeps_headers answer redo from (after (Headed at) from) text put.updates (length-set from.slots at.place _) files loads
+    keeps_headers answer (Headed at) redo from (after (Headed at) from) text put.updates (λ place moved. moved) (length-set from.slots at.place _) files loads
+headers_kept answer limit redo from (Edited place message) text none put fits named files loads =
+    let names : NamesWritten answer (from.base + place) = subst (λ (r : Reply). NamesWritten r (from.base + place)) (sym named) refl in
+    let as_many = length-set from.slots place (slot.Live message) in
+    record {
+      places = put.updates.places;
+      numbers = put.updates.numbers files loads;
+      behind = λ at other there here. elim there [
+        | inl moved ↦ stands_behind answer from message other (from.base + place) redo files
+            (message_set from.slots place message fits.was other fits.here (subst (λ (k : ℕ). IsMessageAt (after (Edited place message) from) k other) moved here))
+            fits.header_at fits.text_at put.numbered names loads
+        | inr past ↦ (let within = slice_get_within (after (Edited place message) from).slots at _ here in absurd (omega (arith, past, within, as_many)))
+      ];
+    }
 headers_kept answer limit redo from (Killed place) text none put fits named files loads =
-    keeps_headers answer redo from (after (Killed place) from) text put.updates (length-set from.slots place _) files loads
+    keeps_headers answer (Killed place) redo from (after (Killed place) from) text put.updates (λ other moved. moved) (length-set from.slots place _) files loads
 headers_kept answer limit redo from (Relinked plan) text none put fits named files loads =
-    keeps_headers answer redo from (after (Relinked plan) from) text put.updates (length_of plan from) files loads
+    keeps_headers answer (Relinked plan) redo from (after (Relinked plan) from) text put.updates (λ place moved. moved) (length_of plan from) files loads
 headers_kept answer limit redo from (Marked place mark) text none put fits named files loads =
-    keeps_headers answer redo from (after (Marked place mark) from) text put.updates refl files loads
+    keeps_headers answer (Marked place mark) redo from (after (Marked place mark) from) text put.updates (λ other moved. moved) refl files loads
 headers_kept answer limit redo from (Packed plan base) text none put fits named files loads = absurd none
 
 -- something that is pending is done by the redo
@@ -189,6 +205,7 @@ pub made_some : (change : Change) (redo : RedoView) (files : Files) → change �
 made_some Nothing redo files some = absurd (some refl)
 made_some (Posted message neighbour) redo files some = refl
 made_some (Headed at) redo files some = refl
+made_some (Edited place message) redo files some = refl
 made_some (Killed place) redo files some = refl
 made_some (Relinked plan) redo files some = refl
 made_some (Marked place mark) redo files some = refl
@@ -220,6 +237,7 @@ pending_of limit contents redo change from posted texts some kind is_text put fi
 none_packed : (answer : Reply) → (IsPacked answer → ⊥) → (to : Loaded) (files : Files) → PacksHeaders answer to files
 none_packed (reply.Packed base live dropped) other to files = absurd (other (record { base = base; live = live; dropped = dropped; is = refl }))
 none_packed (reply.Posted number) other to files = tt
+none_packed (reply.Edited number) other to files = tt
 none_packed (reply.Text letter) other to files = tt
 none_packed (reply.Killed number) other to files = tt
 none_packed (reply.Marked last high) other to files = tt
@@ -229,6 +247,7 @@ none_packed (reply.NoMessage number) other to files = tt
 none_packed (reply.TooLong field len) other to files = tt
 none_packed (reply.EmptyName field) other to files = tt
 none_packed (reply.SlotsFull slots) other to files = tt
+none_packed (reply.SubfieldsFull len) other to files = tt
 none_packed (reply.HeadersFull len) other to files = tt
 none_packed (reply.TextFull len) other to files = tt
 none_packed (reply.NumbersSpent next) other to files = tt
@@ -237,11 +256,11 @@ none_packed (reply.MarksFull marks) other to files = tt
 -- a step of which the redo does what it changes
 pub step_decided : (rules : AreaRules) (from : Loaded) (texts : List ℕ) (contents : Option Files) (redo : RedoView) (user : User) (moment : ℕ) (command : Command) (shows : List ℕ → Reply) (decided : Decided)
     → IsStepOf rules from user moment command shows decided.pending.change → IsAnswerBy shows from texts contents decided.reply
-    → (decided.pending.change ≢ Nothing → IsPutIn redo from decided.pending.change (text_behind decided.pending.change (posted_text command)))
+    → (decided.pending.change ≢ Nothing → IsPutIn redo from decided.pending.change (text_behind decided.pending.change (written_text command)))
     → decided.pending.replies ≡ None → length texts ≡ from.texts_len → IsDecided rules from texts contents None redo user moment command decided
 step_decided rules from texts contents redo user moment command shows decided is answer put bare sized =
     let change : Change = decided.pending.change in
-    let posted : List ℕ = posted_text command in
+    let posted : List ℕ = written_text command in
     let coming : Coming = coming_of change from posted texts in
     let unchanged : change ≡ Nothing → coming ≡ record { to = from; texts = texts } = λ none. ap (λ (c : Change). coming_of c from posted texts) none in
     record {
@@ -264,10 +283,10 @@ step_decided rules from texts contents redo user moment command shows decided is
       kind = λ no. (none_of_pack change redo from from is.kind).0;
       packing = λ packed. absurd (is.unpacked answer.others (subst IsPacked answer.answers packed));
       headers = λ same files has. elim (nothing_or change) [
-        | inl none ↦ subst (λ (c : Change). KeepsHeaders decided.reply from (after c from) files (made c redo files)) (sym none) (keeps_all decided.reply from files)
-        | inr some ↦ subst (KeepsHeaders decided.reply from (after change from) files) (sym (made_some change redo files some))
+        | inl none ↦ subst (λ (c : Change). KeepsHeaders c decided.reply from (after c from) files (made c redo files)) (sym none) (keeps_all decided.reply from files)
+        | inr some ↦ subst (KeepsHeaders change decided.reply from (after change from) files) (sym (made_some change redo files some))
             (headers_kept decided.reply rules.slots redo from change (text_behind change posted) is.kind (put some) is.fits
-            (subst (NamesPosted change from) (sym answer.answers) (is.named answer.others)) files has.holds.loads)
+            (subst (NamesNumber change from) (sym answer.answers) (is.named answer.others)) files has.holds.loads)
       ];
       index = elim (nothing_or change) [
         | inl none ↦ subst (KeepsIndexOnKill redo from) (sym none) tt
@@ -352,6 +371,7 @@ texts_kept : (change : Change) (from : Loaded) (posted texts : List ℕ) → (Is
 texts_kept Nothing from posted texts none = keeps_same texts
 texts_kept (Posted message neighbour) from posted texts none = keeps_more texts posted
 texts_kept (Headed at) from posted texts none = keeps_same texts
+texts_kept (Edited place message) from posted texts none = keeps_more texts posted
 texts_kept (Killed place) from posted texts none = keeps_same texts
 texts_kept (Relinked plan) from posted texts none = keeps_same texts
 texts_kept (Marked place mark) from posted texts none = keeps_same texts

@@ -1,9 +1,11 @@
 pub mod AgreeLemmas
+mod AnewLemmas
 mod BehindLemmas
 pub mod BringLemmas
 pub mod CopiesLemmas
 mod CountLemmas
 pub mod DecidedLemmas
+mod EditLemmas
 mod HeaderLemmas
 mod KillLemmas
 mod MarkLemmas

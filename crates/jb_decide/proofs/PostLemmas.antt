@@ -18,7 +18,7 @@ use Rattle.jb_model.specs.Answered.{Answered, unless_refused}
 use Rattle.jb_state.specs.Live.{counted}
 use Rattle.jb_state.specs.Loaded.{header_size, with_message_behind}
 use Rattle.jb_state.specs.Message.{header_length, replyid_of}
-use Rattle.jb_model.specs.Post.{Draft, answer_refusal, draft_refusal, post_done, post_step, posted_message, posted_msgid, room_refusal, told_length, fields_with, head_with}
+use Rattle.jb_model.specs.Post.{Draft, answer_refusal, draft_refusal, parts_refusal, post_done, post_step, posted_message, posted_msgid, room_refusal, told_length, fields_with, head_with}
 use Rattle.jb_state.specs.Posted.{posted_parent, posted_replyid}
 use Rattle.jb_state.specs.Sound.{IsSound}
 use Rattle.jb_model.specs.Standing.{is_refusal}
@@ -133,13 +133,13 @@ to_room texts rules loaded user moment draft allowed fit seen =
     (room_of_state texts rules loaded (new_live rules loaded user moment draft))
 
 -- one of two refusals, or another
-refuses_then : (b : Bool) (first : Reply) (rest : Option Reply) (reply : Reply) → is_refusal first ≡ true → (rest ≡ Some reply → is_refusal reply ≡ true)
+pub refuses_then : (b : Bool) (first : Reply) (rest : Option Reply) (reply : Reply) → is_refusal first ≡ true → (rest ≡ Some reply → is_refusal reply ≡ true)
     → cond b (Some first) rest ≡ Some reply → is_refusal reply ≡ true
 refuses_then true first rest reply one other is = let same : first ≡ reply = cc in sym (ap is_refusal same) ∙ one
 refuses_then false first rest reply one other is = other is
 
 -- none is no refusal
-refuses_none : (reply : Reply) → None ≡ Some reply → is_refusal reply ≡ true
+pub refuses_none : (reply : Reply) → None ≡ Some reply → is_refusal reply ≡ true
 refuses_none reply is = absurd (cc)
 
 -- the user may not post
@@ -152,13 +152,24 @@ post_denied rules loaded user draft rule denied = record {
       denied_way state (first_refusal user rules Posting None) rule (unless_refused state (draft_refusal draft) (answer_rest rules state user moment draft)) denied;
 }
 
+-- a part that is too long is refused
+pub refuses_parts : (subject text : List ℕ) (reply : Reply) → parts_refusal subject text ≡ Some reply → is_refusal reply ≡ true
+refuses_parts subject text reply =
+    refuses_then (nat_lt MOST_SUBJECT_BYTES (length subject)) (TooLong Subject (length subject)) _ reply refl
+    (refuses_then (nat_lt MOST_POSTED_TEXT_BYTES (length text)) (TooLong TextField (length text)) None reply refl (refuses_none reply))
+
+-- files without room are a refusal
+pub refuses_files : (loaded : Loaded) (header text : ℕ) (reply : Reply) → file_refusal loaded header text ≡ Some reply → is_refusal reply ≡ true
+refuses_files loaded header text reply =
+    refuses_then (nat_lt HEADERS_CEILING (loaded.headers_len + header)) (HeadersFull (told_length (loaded.headers_len + header))) _ reply refl
+    (refuses_then (nat_lt TEXTS_CEILING (loaded.texts_len + text)) (TextFull (told_length (loaded.texts_len + text))) None reply refl (refuses_none reply))
+
 -- each reason why a draft is not fit is a refusal
 refuses_unfit : (draft : Draft) (reply : Reply) → draft_refusal draft ≡ Some reply → is_refusal reply ≡ true
 refuses_unfit draft reply unfit =
     refuses_then (length draft.to == 0) (EmptyName To) _ reply refl
     (refuses_then (nat_lt MOST_NAME_BYTES (length draft.to)) (TooLong To (length draft.to)) _ reply refl
-    (refuses_then (nat_lt MOST_SUBJECT_BYTES (length draft.subject)) (TooLong Subject (length draft.subject)) _ reply refl
-    (refuses_then (nat_lt MOST_POSTED_TEXT_BYTES (length draft.text)) (TooLong TextField (length draft.text)) None reply refl (refuses_none reply)))) unfit
+    (refuses_parts draft.subject draft.text reply)) unfit
 
 -- the draft is not fit
 pub post_unfit : (rules : AreaRules) (loaded : Loaded) (user : User) (draft : Draft) (reply : Reply) → first_refusal user rules Posting None ≡ None
@@ -198,17 +209,13 @@ post_numberless rules loaded user draft reply allowed fit seen none = record {
 pub post_full : (rules : AreaRules) (loaded : Loaded) (user : User) (draft : Draft) (reply : Reply) → first_refusal user rules Posting None ≡ None
     → draft_refusal draft ≡ None → unseen_refusal rules loaded user draft ≡ None → number_refusal rules loaded ≡ None → new_refusal rules loaded user draft ≡ Some reply
     → IsRefusal rules loaded user (post_of draft) reply
-post_full rules loaded user draft reply allowed fit seen numbered full =
-    let header : ℕ = 76 + length (subfield_bytes (new_fields rules loaded user draft)) in
-    let text : ℕ = length draft.text in
-    record {
-      refusal = refuses_then (nat_lt HEADERS_CEILING (loaded.headers_len + header)) (HeadersFull (told_length (loaded.headers_len + header))) _ reply refl
-          (refuses_then (nat_lt TEXTS_CEILING (loaded.texts_len + text)) (TextFull (told_length (loaded.texts_len + text))) None reply refl (refuses_none reply)) full;
-      step = λ texts moment.
-          to_room texts rules loaded user moment draft allowed fit seen
-          ∙ refused_way (state_of texts loaded) (or_refusal (number_refusal rules loaded) (new_refusal rules loaded user draft)) reply
-          (post_done (state_of texts loaded) (new_live rules loaded user moment draft)) (ap (λ o. or_refusal o (new_refusal rules loaded user draft)) numbered ∙ full);
-    }
+post_full rules loaded user draft reply allowed fit seen numbered full = record {
+  refusal = refuses_files loaded (76 + length (subfield_bytes (new_fields rules loaded user draft))) (length draft.text) reply full;
+  step = λ texts moment.
+      to_room texts rules loaded user moment draft allowed fit seen
+      ∙ refused_way (state_of texts loaded) (or_refusal (number_refusal rules loaded) (new_refusal rules loaded user draft)) reply
+      (post_done (state_of texts loaded) (new_live rules loaded user moment draft)) (ap (λ o. or_refusal o (new_refusal rules loaded user draft)) numbered ∙ full);
+}
 
 -- nothing refuses the post
 pub record IsAccepted (rules : AreaRules) (loaded : Loaded) (user : User) (draft : Draft) : Type 0 where

@@ -24,7 +24,7 @@ use Rattle.jb_decide.specs.Coming.{Coming, IsChange}
 use Rattle.jb_decide.specs.Headers.{KeepsHeaders, PacksHeaders}
 use Rattle.jb_decide.specs.Holds.{HoldsWith}
 use Rattle.jb_decide.specs.Packs.{IsPacked}
-use Rattle.jb_decide.specs.StepOf.{ChangesNothing, IsNoPack, posted_text}
+use Rattle.jb_decide.specs.StepOf.{ChangesNothing, IsNoPack, written_text}
 use Rattle.jb_decide.specs.declared.decided.Decided.{Decided}
 
 -- an area that is kept by these rules is sound, and has no more slots than they allow
@@ -78,13 +78,13 @@ pub record IsAnswerBy (reply : List ℕ → Reply) (from : Loaded) (texts : List
 pub record IsAnsweredSomewhere (rules : AreaRules) (from : Loaded) (user : User) (moment : ℕ) (command : Command) (reply : Reply) (change : Change) : Type 0 where
   pub texts : List ℕ
   pub sized : length texts ≡ from.texts_len
-  pub step : Step rules (state_of texts from) user moment command reply (state_of (texts_after change from (posted_text command) texts) (after change from))
+  pub step : Step rules (state_of texts from) user moment command reply (state_of (texts_after change from (written_text command) texts) (after change from))
 
 -- the command is answered so, and what is pending, in this redo, is what it changes, of files that have these copies of the
 -- texts; a letter is that of these texts where they are told, and on each disk it is that of some texts
 pub record IsDecided (rules : AreaRules) (from : Loaded) (texts : List ℕ) (contents : Option Files) (copies : Option Shadow) (redo : RedoView) (user : User) (moment : ℕ) (command : Command) (decided : Decided) : Type 0 where
   pub coming : Coming
-  pub change : IsNoChange decided.pending.change from texts coming ⊎ IsPending rules.slots contents copies redo decided.pending.change from (posted_text command) texts coming
+  pub change : IsNoChange decided.pending.change from texts coming ⊎ IsPending rules.slots contents copies redo decided.pending.change from (written_text command) texts coming
   pub replies : HasReplies decided.pending.change decided.pending.replies from
   pub step : IsTold decided.reply contents → Step rules (state_of texts from) user moment command decided.reply (state_of coming.texts coming.to)
   pub somewhere : IsAnsweredSomewhere rules from user moment command decided.reply decided.pending.change
@@ -92,7 +92,7 @@ pub record IsDecided (rules : AreaRules) (from : Loaded) (texts : List ℕ) (con
   -- no command but a pack packs the area, and where a pack was done it does
   pub kind : IsNoPack command → IsPacking decided.pending.change → ⊥
   pub packing : IsPacked decided.reply → IsPacking decided.pending.change
-  pub headers : IsNoPack command → (files : Files) → HoldsWith from texts copies files → KeepsHeaders decided.reply from coming.to files (made decided.pending.change redo files)
+  pub headers : IsNoPack command → (files : Files) → HoldsWith from texts copies files → KeepsHeaders decided.pending.change decided.reply from coming.to files (made decided.pending.change redo files)
   -- a kill leaves the file of the index as it is
   pub index : KeepsIndexOnKill redo from decided.pending.change
   pub packs : (files : Files) → HoldsWith from texts copies files → PacksHeaders decided.reply coming.to (made decided.pending.change redo files)

@@ -1,5 +1,5 @@
--- What a user wrote, and what of it stands in the new message.
-use Rattle.std.specs.Prelude.{ℕ, ◌+◌, List, [], ◌∷◌, ◌++◌, Option, option_to_list, length, map}
+-- What a user wrote, and what of it stands in the new or the edited message.
+use Rattle.std.specs.Prelude.{ℕ, ◌+◌, Bool, if◌then◌else◌, List, [], ◌∷◌, ◌++◌, Option, option_to_list, length, map}
 use Rattle.jb_bytes.specs.Crc.{jam_crc_of}
 use Rattle.jb_base.specs.declared.area.AreaRules.{AreaRules}
 use Rattle.jb_bytes.specs.declared.subfield.Subfield.{Subfield}
@@ -8,11 +8,13 @@ use Rattle.jb_base.specs.declared.user.User.{User}
 use Rattle.jb_link.specs.Parents.{copied_msgid, parent_behind}
 use Rattle.jb_model.specs.Post.{Draft, id_crc, plain_field, posted_attribute, posted_msgid, fields_with, head_with}
 use Rattle.jb_model.specs.declared.command.Command.{Command}
-use Rattle.jb_model.specs.declared.command.Command.TheVariants.{Post}
+use Rattle.jb_model.specs.declared.command.Command.TheVariants.{Edit, Post}
+use Rattle.jb_state.specs.Edited.{with_subject}
 use Rattle.jb_state.specs.declared.loaded.Loaded.{Loaded}
 use Rattle.jb_state.specs.declared.loaded.LoadedMessage.{LoadedMessage}
 use Rattle.jb_state.specs.declared.message.Head.{Head}
 use Rattle.jb_decide.specs.declared.drafts.LentDraft.{LentDraft as LentDraft}
+use Rattle.jb_decide.specs.declared.drafts.LentEdit.{LentEdit as LentEdit}
 
 -- what a user wrote, as the definitions see it
 abbrev pub draft_of : LentDraft → Draft
@@ -21,6 +23,10 @@ draft_of draft = record { to = draft.to.now; subject = draft.subject.now; text =
 -- the command that posts it
 abbrev pub post_of : Draft → Command
 post_of draft = Post draft.to draft.subject draft.text draft.reply_to draft.private
+
+-- the command that edits so
+abbrev pub edit_of : LentEdit → Command
+edit_of edit = Edit edit.number edit.subject.now edit.text.now
 
 -- the number that the next message gets
 abbrev pub next_of : Loaded → ℕ
@@ -45,4 +51,19 @@ new_message rules loaded user moment draft = record {
   header_at = loaded.headers_len;
   text_at = loaded.texts_len;
   text_len = length draft.text;
+}
+
+-- the rest of a message's subfields, of which the first SUBJECT gets this subject where none before it did
+abbrev pub with_subject_in_rest : Bool → List ℕ → List Subfield → List Subfield
+with_subject_in_rest named subject fields = if named then fields else with_subject subject fields
+
+-- the message with this subject and this text, whose header and text stand at the ends of their files
+abbrev pub message_anew : Loaded → LoadedMessage → List ℕ → List ℕ → LoadedMessage
+message_anew loaded message subject text = record {
+  owner = message.owner;
+  head = message.head;
+  subfields = with_subject subject message.subfields;
+  header_at = loaded.headers_len;
+  text_at = loaded.texts_len;
+  text_len = length text;
 }

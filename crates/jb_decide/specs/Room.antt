@@ -1,13 +1,14 @@
--- Why a post has no room in a loaded area.
-use Rattle.std.specs.Prelude.{ℕ, ◌+◌, nat_le, nat_lt, not, ◌&&◌, ◌==◌, is_none, length, Option, Some, None, if◌then◌else◌}
+-- Why a post or an edit has no room in a loaded area.
+use Rattle.std.specs.Prelude.{ℕ, ◌+◌, nat_le, nat_lt, not, ◌&&◌, ◌==◌, is_none, List, length, Option, Some, None, if◌then◌else◌}
 use Rattle.jb_bytes.specs.Subfields.{subfield_bytes}
+use Rattle.jb_bytes.specs.declared.subfield.Subfield.{Subfield}
 use Rattle.jb_base.specs.declared.area.AreaRules.{AreaRules}
-use Rattle.jb_limits.specs.declared.limits.TheConstants.{HEADERS_CEILING, LAST_POSTED_NUMBER, TEXTS_CEILING}
+use Rattle.jb_limits.specs.declared.limits.TheConstants.{HEADERS_CEILING, LAST_POSTED_NUMBER, MOST_SUBFIELD_BYTES, TEXTS_CEILING}
 use Rattle.jb_base.specs.declared.user.User.{User}
 use Rattle.jb_model.specs.Post.{Draft, told_length}
 use Rattle.jb_state.specs.declared.loaded.Loaded.{Loaded}
 use Rattle.jb_model.specs.declared.reply.Reply.{Reply}
-use Rattle.jb_model.specs.declared.reply.Reply.TheVariants.{HeadersFull, NoMessage, NumbersSpent, SlotsFull, TextFull}
+use Rattle.jb_model.specs.declared.reply.Reply.TheVariants.{HeadersFull, NoMessage, NumbersSpent, SlotsFull, SubfieldsFull, TextFull}
 use Rattle.jb_decide.specs.Draft.{new_fields, next_of}
 use Rattle.jb_decide.specs.Seen.{seen_at}
 
@@ -39,3 +40,9 @@ file_refusal loaded header text =
 abbrev pub new_refusal : AreaRules → Loaded → User → Draft → Option Reply
 new_refusal rules loaded user draft =
     file_refusal loaded (76 + length (subfield_bytes (new_fields rules loaded user draft))) (length draft.text)
+
+-- a header may not have so many bytes of subfields, or the files have no room for them and for so many bytes of a text
+abbrev pub anew_refusal : Loaded → List Subfield → ℕ → Option Reply
+anew_refusal loaded subfields text =
+    if nat_lt MOST_SUBFIELD_BYTES (length (subfield_bytes subfields)) then Some (SubfieldsFull (length (subfield_bytes subfields)))
+    else file_refusal loaded (76 + length (subfield_bytes subfields)) text

@@ -14,7 +14,7 @@ ghost use Rattle.jb_model.specs.declared.reply.Reply.{Reply};
 ghost use Rattle.jb_redo.specs.Changes.{KeepsRoom};
 ghost use Rattle.jb_decide.specs.Decided.{IsAnswerBy, IsDecided, IsKeptFor};
 ghost use Rattle.jb_decide.specs.Holds.{AreTexts};
-ghost use Rattle.jb_decide.specs.StepOf.{IsStepOf, posted_text, text_behind};
+ghost use Rattle.jb_decide.specs.StepOf.{IsStepOf, written_text, text_behind};
 
 use crate::decided::Decided;
 use crate::kills::kill;
@@ -33,7 +33,7 @@ fn text_behind<'a>(change: &Change, text: &'a [u8]) -> &'a [u8]
     ensures { result.now ≡ text_behind change.now text.now }
 {
     match change {
-        Change::Posted { .. } => text,
+        Change::Posted { .. } | Change::Edited { .. } => text,
         _ => &[],
     }
 }
@@ -62,7 +62,7 @@ pub(crate) fn decide_short(held: &HeldArea, redo: &mut Redo, outcome: Outcome) -
     Decided { reply, pending }
 }
 
-/// Puts a change into the redo, with the text of its command where it posts that; it is pending then. The redo takes the memory
+/// Puts a change into the redo, with the text of its command where it writes that; it is pending then. The redo takes the memory
 /// that it needs.
 pub(crate) fn decide_long(
     alloc: Global,
@@ -79,7 +79,7 @@ pub(crate) fn decide_long(
         (command : Command) (reply : List ℕ → Reply) (texts : List ℕ) (contents : Option Files)
         → IsSound rules.slots held.now → AreTexts held.now texts contents
         → IsStepOf rules held.now user moment command reply outcome.change
-        → posted_text command ≡ text.now
+        → written_text command ≡ text.now
         → IsAnswerBy reply held.now texts contents outcome.reply
         → IsDecided rules held.now texts contents None redo.new user moment command decided) }
     ensures room { KeepsRoom redo.old redo.new }

@@ -3,7 +3,7 @@ ghost use Rattle.std.specs.Prelude.{◌≡◌, Some, None, unwrap_or, []};
 ghost use Rattle.jb_access.specs.Parties.{envelope};
 ghost use Rattle.jb_base.specs.Access.{first_refusal};
 ghost use Rattle.jb_bytes.specs.Subfields.{first_of};
-ghost use Rattle.jb_base.specs.declared.area.Action.TheVariants.{Kill as Killing};
+ghost use Rattle.jb_base.specs.declared.area.Action.TheVariants.{Edit as Editing, Kill as Killing};
 ghost use Rattle.jb_decide.specs.Seen.{loaded_envelope};
 
 use jb_access::{Action, Parties, allowed};
@@ -33,7 +33,8 @@ pub(crate) fn parties(message: &LoadedMessage) -> Parties<'_>
 
 /// The rule that refuses an act about no message, if one does.
 pub(crate) fn denied(user: &User, rules: &AreaRules, action: Action) -> Option<Rule>
-    requires { action ≡ Killing → ⊥ }
+    requires kill { action ≡ Killing → ⊥ }
+    requires edit { action ≡ Editing → ⊥ }
     ensures { result ≡ first_refusal user.now rules.now action None }
 {
     allowed(user, rules, action, None).err()
@@ -44,4 +45,11 @@ pub(crate) fn kill_denied(user: &User, rules: &AreaRules, message: &LoadedMessag
     ensures { result ≡ first_refusal user.now rules.now Killing (Some (loaded_envelope message.now)) }
 {
     allowed(user, rules, Action::Kill, Some(parties(message))).err()
+}
+
+/// The rule that refuses an edit of the message, if one does.
+pub(crate) fn edit_denied(user: &User, rules: &AreaRules, message: &LoadedMessage) -> Option<Rule>
+    ensures { result ≡ first_refusal user.now rules.now Editing (Some (loaded_envelope message.now)) }
+{
+    allowed(user, rules, Action::Edit, Some(parties(message))).err()
 }

@@ -1,6 +1,6 @@
-//! What a user writes to be posted.
+//! What a user writes, to be posted or in the place of a message's subject and text.
 ghost use Rattle.std.specs.Prelude.{◌≡◌, Some, length};
-ghost use Rattle.jb_model.specs.Post.{draft_refusal};
+ghost use Rattle.jb_model.specs.Post.{draft_refusal, parts_refusal};
 ghost use Rattle.jb_decide.specs.Draft.{draft_of};
 
 use jb_base::{MOST_NAME_BYTES, MOST_POSTED_TEXT_BYTES, MOST_SUBJECT_BYTES};
@@ -16,6 +16,14 @@ pub struct LentDraft<'a> {
     pub private: bool,
 }
 
+/// The message that is to be edited, and what a user wrote in the place of its subject and its text.
+#[derive(Clone, Copy)]
+pub struct LentEdit<'a> {
+    pub number: u32,
+    pub subject: &'a [u8],
+    pub text: &'a [u8],
+}
+
 /// The refusal of a part that is too long.
 fn too_long(field: Field, bytes: &[u8]) -> Option<Reply>
     ensures { result ≡ Some (Reply.TooLong field (length bytes.now)) }
@@ -26,6 +34,19 @@ fn too_long(field: Field, bytes: &[u8]) -> Option<Reply>
     })
 }
 
+/// Why a subject and a text are refused: one is too long.
+pub(crate) fn long_part(subject: &[u8], text: &[u8]) -> Option<Reply>
+    ensures { result ≡ parts_refusal subject.now text.now }
+{
+    if subject.len() > MOST_SUBJECT_BYTES {
+        too_long(Field::Subject, subject)
+    } else if text.len() > MOST_POSTED_TEXT_BYTES {
+        too_long(Field::Text, text)
+    } else {
+        None
+    }
+}
+
 /// Why a draft is refused: a part of it is empty or too long.
 pub(crate) fn unfit(draft: LentDraft<'_>) -> Option<Reply>
     ensures { result ≡ draft_refusal (draft_of draft.entry) }
@@ -34,11 +55,7 @@ pub(crate) fn unfit(draft: LentDraft<'_>) -> Option<Reply>
         Some(Reply::EmptyName { field: Field::To })
     } else if draft.to.len() > MOST_NAME_BYTES {
         too_long(Field::To, draft.to)
-    } else if draft.subject.len() > MOST_SUBJECT_BYTES {
-        too_long(Field::Subject, draft.subject)
-    } else if draft.text.len() > MOST_POSTED_TEXT_BYTES {
-        too_long(Field::Text, draft.text)
     } else {
-        None
+        long_part(draft.subject, draft.text)
     }
 }

@@ -11,6 +11,21 @@ use jb_base::{
 };
 use std::alloc::Global;
 
+/// Puts a subfield behind the others.
+pub(crate) fn put_copy(
+    alloc: Global,
+    subfields: &mut Subfields,
+    id: u16,
+    hi: u16,
+    bytes: &[u8],
+) -> Result<(), OutOfMemory>
+    ensures { OnOk result (subfields.new
+        ≡ subfields.old ++ record { id = id; hi = hi; bytes = bytes.now } ∷ []) }
+{
+    let bytes = Bytes::copy(alloc, bytes)?;
+    subfields.push(Subfield { id, hi, bytes })
+}
+
 /// Puts a subfield with HiID 0 behind the others.
 fn put_field(
     alloc: Global,
@@ -20,8 +35,7 @@ fn put_field(
 ) -> Result<(), OutOfMemory>
     ensures { OnOk result (subfields.new ≡ subfields.old ++ plain_field id bytes.now ∷ []) }
 {
-    let bytes = Bytes::copy(alloc, bytes)?;
-    subfields.push(Subfield { id, hi: 0, bytes })
+    put_copy(alloc, subfields, id, 0, bytes)
 }
 
 /// The subfields of the message that is posted.

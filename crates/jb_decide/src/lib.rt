@@ -7,7 +7,8 @@
 //! pack, of files that hold the packer's copies of the texts too. A letter is right where the disk tells its texts, and on each
 //! disk it is that of some texts of the area's length. A disk is at most read.
 //!
-//! But for a pack no header is moved or gets another number, and a post stands behind the others; a kill leaves .JDX as it is.
+//! But for a pack no header is moved or gets another number, save that of a message that is edited; this one, under its number, and
+//! a post stand behind the others. A kill leaves .JDX as it is.
 //! After a pack the live messages stand one behind another, each with its number in its header, and its record is short beside
 //! the headers and the index. Which bytes a change writes is said by `jb_change`.
 //!
@@ -19,6 +20,8 @@ mod decided;
 mod deciding;
 mod denial;
 mod drafts;
+mod editing;
+mod edits;
 mod error;
 mod fields;
 mod found;
@@ -35,11 +38,13 @@ mod reading;
 mod reads;
 mod relinking;
 mod relinks;
+mod subjects;
 mod texts;
 
 pub use decided::Decided;
 pub use deciding::{decide_kill, decide_mark};
-pub use drafts::LentDraft;
+pub use drafts::{LentDraft, LentEdit};
+pub use editing::decide_edit;
 pub use error::AreaError;
 pub use laws::posts_keep_links;
 pub use packing::{decide_pack, refuse_pack};

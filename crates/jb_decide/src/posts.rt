@@ -60,7 +60,7 @@ fn no_number(loaded: &Loaded, rules: &AreaRules) -> Option<Reply>
 }
 
 /// Why the files have no room for a message of these subfields and this text.
-fn no_room(loaded: &Loaded, subfields: &Subfields, text: &[u8]) -> Option<Reply>
+pub(crate) fn no_room(loaded: &Loaded, subfields: &Subfields, text: &[u8]) -> Option<Reply>
     ensures { result ≡ file_refusal loaded.now (76 + length (subfield_bytes subfields.now))
         (length text.now) }
 {

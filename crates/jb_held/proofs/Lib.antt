@@ -1,3 +1,4 @@
+mod EditLemmas
 pub mod IndexLaws
 mod KeptLemmas
 pub mod LiveLaws

@@ -2,13 +2,13 @@
 use Rattle.std.proofs.Common.{◌≡◌, ℕ, ◌+◌, cond, List, [], ◌∷◌, Option, Some, None, refl, sym, ◌∙◌, ap, arith}
 use Rattle.std.specs.Prelude.{sum_by}
 use Rattle.std.proofs.lemmas.List.Sums.{sum_by-cons}
-use Rattle.jb_state.specs.Change.{HasMessageAt, IsNeighbourOf, IsReadingOf, after, headed_where, live_messages}
+use Rattle.jb_state.specs.Change.{FitsAnew, HasMessageAt, IsNeighbourOf, IsReadingOf, after, headed_where, live_messages}
 use Rattle.jb_state.specs.Links.{Linkable}
 use Rattle.jb_state.specs.LiveSlots.{linkables_from, loaded_linkable}
 use Rattle.jb_state.specs.Loaded.{header_size}
 use Rattle.jb_state.specs.Packed.{is_live_slot, kept_slots, moved, new_base, packed, packed_from}
 use Rattle.jb_state.specs.Plan.{links_of}
-use Rattle.jb_state.specs.declared.change.Change.TheVariants.{Headed, Packed, Posted, Relinked, Killed as Kills}
+use Rattle.jb_state.specs.declared.change.Change.TheVariants.{Edited, Headed, Packed, Posted, Relinked, Killed as Kills}
 use Rattle.jb_state.specs.declared.change.HeadAt.{HeadAt}
 use Rattle.jb_state.specs.declared.links.Links.{Links}
 use Rattle.jb_state.specs.declared.loaded.Loaded.{Loaded}
@@ -16,7 +16,7 @@ use Rattle.jb_state.specs.declared.loaded.LoadedMessage.{LoadedMessage}
 use Rattle.jb_state.specs.declared.loaded.LoadedSlot.{LoadedSlot}
 use Rattle.jb_state.specs.declared.loaded.LoadedSlot.TheVariants.{Empty, Killed, Live}
 use Rattle.jb_pack.proofs.StateLemmas.{live_of_state, sum_of_kept}
-use Rattle.jb_state.proofs.CountLaws.{live_behind, live_read, live_without}
+use Rattle.jb_state.proofs.CountLaws.{live_after_set, live_behind, live_read, live_without}
 use Rattle.jb_state.proofs.PlaceLaws.{headed_is, killed_is}
 use Rattle.jb_state.proofs.LinkedLaws.{links_keep_live}
 
@@ -34,6 +34,14 @@ live_posted message neighbour loaded is =
 -- as many after a reading
 pub live_headed : (at : HeadAt) (loaded : Loaded) → IsReadingOf at loaded → live_messages (after (Headed at) loaded) ≡ live_messages loaded
 live_headed at loaded is = ap live_messages (headed_is at is.message loaded is.here) ∙ live_read loaded at.place at.head is.message is.here
+
+-- as many after an edit
+pub live_edited : (place : ℕ) (message : LoadedMessage) (loaded : Loaded) → FitsAnew place message loaded
+    → live_messages (after (Edited place message) loaded) ≡ live_messages loaded
+live_edited place message loaded fits =
+    let counts : live_messages (after (Edited place message) loaded) + 1 ≡ live_messages loaded + 1 =
+    live_after_set loaded place fits.was (Live message) fits.here in
+    omega arith
 
 -- one less after a kill
 pub live_killed : (place : ℕ) (loaded : Loaded) → HasMessageAt place loaded → live_messages (after (Kills place) loaded) + 1 ≡ live_messages loaded

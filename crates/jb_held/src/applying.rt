@@ -5,7 +5,7 @@ ghost use Rattle.jb_link.specs.Index.{IsIndexOf};
 ghost use Rattle.jb_marks.specs.Order.{IsOrdered};
 ghost use Rattle.jb_state.specs.Change.{Fits, FitsBehind, HasMessageAt, IsNeighbourOf, after, headed, headed_where, killed_slot, live_messages, loaded_counted, with_slot_changed};
 ghost use Rattle.jb_state.specs.Linked.{IsPlaced, with_links_in, with_links_of};
-ghost use Rattle.jb_state.specs.Loaded.{header_size, with_message_behind};
+ghost use Rattle.jb_state.specs.Loaded.{header_size, with_message_anew, with_message_behind};
 ghost use Rattle.jb_state.specs.Marks.{with_mark};
 ghost use Rattle.jb_state.specs.Plan.{loaded_at};
 ghost use Rattle.jb_state.specs.declared.change.Change.TheVariants.{Marked};
@@ -74,6 +74,18 @@ pub(crate) fn post_message(
     set_neighbour(loaded, neighbour);
     add_message(loaded, message);
     replies.posted(loaded);
+}
+
+/// Puts a message in the place of another one; its header and its text stand behind all others.
+pub(crate) fn replace_message(loaded: &mut Loaded, place: usize, message: LoadedMessage)
+    requires place { place < length loaded.old.slots }
+    requires headers { loaded.old.headers_len + header_size message ≤ HEADERS_CEILING }
+    requires texts { loaded.old.texts_len + message.text_len ≤ TEXTS_CEILING }
+    ensures { loaded.new ≡ with_message_anew place message loaded.old }
+{
+    loaded.headers_len += headed_length(&message.subfields);
+    loaded.texts_len += message.text_len as u64;
+    loaded.slots.set(place, LoadedSlot::Live(message));
 }
 
 /// Kills the message at a place, and takes it out of the index of the replies.

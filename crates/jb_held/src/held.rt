@@ -7,11 +7,11 @@ ghost use Rattle.jb_state.specs.Marks.{mark_of};
 ghost use Rattle.jb_state.specs.Packed.{new_base, packed};
 ghost use Rattle.jb_state.specs.Places.{IsPlaceOf};
 ghost use Rattle.jb_state.specs.Sound.{IsSound};
-ghost use Rattle.jb_state.specs.declared.change.Change.TheVariants.{Headed, Killed, Marked, Packed, Posted, Relinked};
+ghost use Rattle.jb_state.specs.declared.change.Change.TheVariants.{Edited, Headed, Killed, Marked, Packed, Posted, Relinked};
 ghost use Rattle.jb_held.specs.Pending.{HasReplies, MayApply};
 
 use crate::applying::{
-    count_change, kill_message, post_message, set_head, set_loaded_mark, set_plan,
+    count_change, kill_message, post_message, replace_message, set_head, set_loaded_mark, set_plan,
 };
 use crate::indexes::{count_live, mark_index_of, replies_of};
 use crate::pending::Pending;
@@ -101,6 +101,7 @@ impl HeldArea {
             Change::Nothing => self.live,
             Change::Posted { .. } => self.live + 1,
             Change::Headed { .. } => self.live,
+            Change::Edited { .. } => self.live,
             Change::Killed { .. } => self.live - 1,
             Change::Relinked { .. } => self.live,
             Change::Marked { .. } => self.live,
@@ -153,6 +154,7 @@ impl HeldArea {
             Change::Nothing => {}
             Change::Posted { message, neighbour } => self.post(message, neighbour),
             Change::Headed { at } => self.change_head(at),
+            Change::Edited { place, message } => self.edit(place, message),
             Change::Killed { place } => self.kill(place),
             Change::Relinked { plan } => self.relink(plan.as_slice()),
             Change::Marked { place, mark } => self.set_mark(place, mark),
@@ -176,6 +178,15 @@ impl HeldArea {
         ensures { self.new ≡ after (Headed at) self.old }
     {
         set_head(&mut self.loaded, at);
+        count_change(&mut self.loaded, self.live);
+    }
+
+    /// Puts an edited message in its place. The count of live messages and the index of the replies stay as they are.
+    fn edit(&mut self, place: usize, message: LoadedMessage)
+        requires fits { Fits MOST_SLOTS (Edited place message) self.old }
+        ensures { self.new ≡ after (Edited place message) self.old }
+    {
+        replace_message(&mut self.loaded, place, message);
         count_change(&mut self.loaded, self.live);
     }
 

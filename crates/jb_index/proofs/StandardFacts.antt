@@ -1,19 +1,22 @@
 -- Questions about small areas with the answers that the rules of access, the JAM proposal ("Reply linking", "Lastread file") and the
 -- words of the questions give, by hand.
-use Rattle.std.proofs.Common.{◌≡◌, ℕ, List, [], ◌∷◌, ◌++◌, Option, Some, None, map, codes, replicate, refl}
+use Rattle.std.proofs.Common.{◌≡◌, ℕ, List, [], ◌∷◌, ◌++◌, Option, Some, None, map, codes, replicate, take, refl}
 use Rattle.jb_base.specs.declared.area.AreaRules.{AreaRules}
 use Rattle.jb_base.specs.declared.area.Kind.TheVariants.{Local}
 use Rattle.jb_base.specs.declared.user.User.{User}
+use Rattle.jb_bytes.specs.declared.subfield.Subfield.{Subfield}
+use Rattle.jb_bytes.specs.declared.subfield.TheConstants.{RECEIVER_NAME, SENDER_NAME, SUBJECT}
 use Rattle.jb_index.specs.Answer.{answer_to, first_from, listed_to, received_by, thread_to, unread_to}
 use Rattle.jb_index.specs.Change.{edits_of_kill}
 use Rattle.jb_index.specs.Edit.{absorbed}
-use Rattle.jb_index.specs.Index.{AreaIndex}
-use Rattle.jb_index.specs.declared.op.OpEdit.TheVariants.{Drop, Parent}
+use Rattle.jb_index.specs.Index.{AreaIndex, summary_with}
+use Rattle.jb_index.specs.declared.op.OpEdit.TheVariants.{Drop, Parent, Put, Subject}
 use Rattle.jb_state.specs.Links.{Linkable}
 use Rattle.jb_state.specs.Short.{short_of}
 use Rattle.jb_state.specs.declared.look.Answer.TheVariants.{Figures as Counted}
 use Rattle.jb_state.specs.declared.look.Question.TheVariants.{Figures as Counting}
 use Rattle.jb_state.specs.declared.mark.Mark.{Mark}
+use Rattle.jb_state.specs.declared.message.Head.{Head}
 use Rattle.jb_state.specs.declared.summary.Summary.{Summary}
 
 -- an area that level 10 reads and level 90 tends
@@ -135,3 +138,37 @@ parties = refl
 kept : (short_of 36 longer ≡ record { first = longest; length = 37 }) × (short_of 72 (replicate 80 97) ≡ record { first = replicate 72 97; length = 80 })
     × (short_of 36 [] ≡ record { first = replicate 36 0; length = 0 })
 kept = (refl, refl, refl)
+
+-- the header of a public message of the same time
+abbrev head : Head
+head = record {
+  reserved = 0;
+  times_read = 0;
+  msgid_crc = 0xFFFFFFFF;
+  reply_crc = 0xFFFFFFFF;
+  reply_to = 0;
+  reply_first = 0;
+  reply_next = 0;
+  written = 1000000000;
+  received = 0;
+  processed = 0;
+  attribute = 1;
+  attribute2 = 0;
+  password = 0xFFFFFFFF;
+  cost = 0;
+}
+
+-- a letter to another with this subject
+abbrev letter : List ℕ → List ℕ → List ℕ → List Subfield
+letter from to subject =
+    record { id = SENDER_NAME; hi = 0; bytes = from } ∷ record { id = RECEIVER_NAME; hi = 0; bytes = to } ∷ record { id = SUBJECT; hi = 0; bytes = subject } ∷ []
+
+-- a subject that is replaced is another in its own summary alone; of one of 80 bytes the same is kept as of a letter that is posted with it
+replaced : (absorbed (index 5 10 five []) (Subject 9 (short_of 72 (codes "abcd")) ∷ [])
+    ≡ index 5 10 (take 4 five ++ record (one 9 (codes "Test") (codes "HELLO") 1 8) { subject = short_of 72 (codes "abcd") } ∷ []) [])
+    × (absorbed (index 5 10 five []) (Subject 4 (short_of 72 (codes "abcd")) ∷ []) ≡ index 5 10 five [])
+    × (absorbed (index 5 6 (one 5 (codes "Test") (codes "Hello") 1 0 ∷ []) []) (Subject 5 (short_of 72 (replicate 80 97)) ∷ [])
+    ≡ index 5 6 (record (one 5 (codes "Test") (codes "Hello") 1 0) { subject = record { first = replicate 72 97; length = 80 } } ∷ []) [])
+    × (absorbed (index 5 5 [] []) (Put (summary_with 5 head (letter (codes "Test") (codes "Hello") (replicate 80 97)) 0) ∷ [])
+    ≡ absorbed (index 5 6 (one 5 (codes "Test") (codes "Hello") 1 0 ∷ []) []) (Subject 5 (short_of 72 (replicate 80 97)) ∷ []))
+replaced = (refl, refl, refl, refl)

@@ -3,9 +3,10 @@ use Rattle.std.specs.Prelude.{ℕ, ◌+◌, ◌==◌, ◌||◌, max, min, nat_le
 use Rattle.jb_limits.specs.declared.limits.TheConstants.{MOST_MARKS}
 use Rattle.jb_index.specs.Index.{AreaIndex}
 use Rattle.jb_index.specs.declared.op.OpEdit.{OpEdit}
-use Rattle.jb_index.specs.declared.op.OpEdit.TheVariants.{Put, Drop, Parent, Attribute, Base, Mark as Marking, Reset}
+use Rattle.jb_index.specs.declared.op.OpEdit.TheVariants.{Put, Drop, Parent, Attribute, Subject, Base, Mark as Marking, Reset}
 use Rattle.jb_state.specs.Marks.{mark_of, with_mark}
 use Rattle.jb_state.specs.declared.mark.Mark.{Mark}
+use Rattle.jb_state.specs.declared.short.Short.{Short}
 use Rattle.jb_state.specs.declared.summary.Summary.{Summary}
 
 -- those of them with numbers below this one
@@ -36,6 +37,10 @@ with_parent parent one = record one { parent = parent }
 abbrev pub with_attribute : ℕ → Summary → Summary
 with_attribute attribute one = record one { attribute = attribute }
 
+-- a summary with another subject
+abbrev pub with_kept_subject : Short 72 → Summary → Summary
+with_kept_subject subject one = record one { subject = subject }
+
 -- one of them has this number, or so many have room for one more
 abbrev pub fits : ℕ → ℕ → List Summary → Bool
 fits room number summaries = is_some (find (λ one. one.number == number) summaries) || nat_lt (length summaries) room
@@ -57,6 +62,7 @@ edited index (Put one) =
 edited index (Drop number) = record index { summaries = without number index.summaries }
 edited index (Parent number parent) = record index { summaries = changed_at number (with_parent parent) index.summaries }
 edited index (Attribute number attribute) = record index { summaries = changed_at number (with_attribute attribute) index.summaries }
+edited index (Subject number subject) = record index { summaries = changed_at number (with_kept_subject subject) index.summaries }
 edited index (Base base) = record index { base = base }
 edited index (Marking mark) = if fits_mark mark index.marks then record index { marks = with_mark mark index.marks } else index
 edited index (Reset other) =

@@ -4,9 +4,11 @@ ghost use Rattle.jb_bytes.specs.Subfields.{subfield_bytes};
 ghost use Rattle.jb_limits.specs.declared.limits.TheConstants.{MOST_SLOTS, MOST_SUBFIELD_BYTES};
 ghost use Rattle.jb_index.specs.Change.{Follows};
 ghost use Rattle.jb_index.specs.Index.{summary_with};
-ghost use Rattle.jb_index.specs.declared.op.OpEdit.TheVariants.{Attribute, Put};
+ghost use Rattle.jb_index.specs.declared.op.OpEdit.TheVariants.{Attribute, Put, Subject};
 ghost use Rattle.jb_link.specs.Index.{IsIndexOf};
 ghost use Rattle.jb_state.specs.Change.{Fits};
+ghost use Rattle.jb_state.specs.Message.{subject_of};
+ghost use Rattle.jb_state.specs.Short.{short_of};
 ghost use Rattle.jb_state.specs.Sound.{IsSound};
 
 use crate::kills::killed;
@@ -48,6 +50,20 @@ fn headed(loaded: &Loaded, at: &HeadAt) -> OpEdit
     }
 }
 
+/// The edit of an edited message: of its subject is kept what a summary keeps.
+fn edited(loaded: &Loaded, place: usize, message: &LoadedMessage) -> OpEdit
+    requires number { loaded.now.base + place ≤ 4_294_967_295 }
+    requires few_bytes { length (subfield_bytes message.now.subfields) ≤ MOST_SUBFIELD_BYTES }
+    ensures { result ≡ Subject (loaded.now.base + place) (short_of 72 (subject_of message.now.subfields)) }
+{
+    let number = number_at(loaded, place);
+    let line = summary(number, message, message.head.reply_to);
+    OpEdit::Subject {
+        number,
+        subject: line.subject,
+    }
+}
+
 /// This edit alone.
 fn one(alloc: Global, edit: OpEdit) -> Result<Op, OutOfMemory>
     ensures { IfOk result (λ op. op ≡ edit ∷ []) }
@@ -59,8 +75,8 @@ fn one(alloc: Global, edit: OpEdit) -> Result<Op, OutOfMemory>
 
 impl Op {
     /// What a change makes of the index of its area, which is loaded as it was before it, with the index of its replies. A reading
-    /// changes the attributes of its message, a relink and a refusal nothing. A kill makes six searches among the replies and a step
-    /// for each answer to the message, any other change none.
+    /// changes the attributes of its message, an edit the subject, since the links stay as they are, a relink and a refusal nothing. A
+    /// kill makes six searches among the replies and a step for each answer to the message, any other change none.
     pub fn of(
         alloc: Global,
         loaded: &Loaded,
@@ -75,6 +91,7 @@ impl Op {
         match change {
             Change::Posted { message, .. } => one(alloc, posted(loaded, message)),
             Change::Headed { at } => one(alloc, headed(loaded, at)),
+            Change::Edited { place, message } => one(alloc, edited(loaded, *place, message)),
             Change::Killed { place } => killed(alloc, loaded, replies, number_at(loaded, *place)),
             Change::Marked { mark, .. } => one(alloc, OpEdit::Mark(*mark)),
             Change::Packed { base, .. } => one(alloc, OpEdit::Base { base: *base }),

@@ -1,11 +1,11 @@
 //! Edits of the summaries of an index, in the room that there is.
 ghost use Rattle.std.specs.Prelude.{◌≡◌, ◌+◌, ◌≤◌, [], length, if◌then◌else◌};
 ghost use Rattle.jb_index.specs.Cut.{NumbersRise};
-ghost use Rattle.jb_index.specs.Edit.{changed_at, fits, with_attribute, with_parent, with_summary, without};
+ghost use Rattle.jb_index.specs.Edit.{changed_at, fits, with_attribute, with_kept_subject, with_parent, with_summary, without};
 ghost use Rattle.jb_index.specs.Room.{HasPlaces};
 
 use crate::listing::{numbered_at, place_of};
-use jb_state::Summary;
+use jb_state::{Short, Summary};
 use jb_tiered::Tiered;
 
 /// Puts a summary in the place of the one with its number, or between the others, and says whether there is room for it;
@@ -65,6 +65,19 @@ pub(crate) fn set_attribute(summaries: &mut Tiered<Summary>, number: u32, attrib
     if let Some(at) = numbered_at(summaries, number) {
         let mut one = summaries[at];
         one.attribute = attribute;
+        summaries.set(at, one);
+    }
+}
+
+/// Gives the one with this number another subject.
+pub(crate) fn set_subject(summaries: &mut Tiered<Summary>, number: u32, subject: Short<72>)
+    requires { NumbersRise summaries.old.items }
+    ensures items { summaries.new.items ≡ changed_at number (with_kept_subject subject) summaries.old.items }
+    ensures room { summaries.new.room ≡ summaries.old.room }
+{
+    if let Some(at) = numbered_at(summaries, number) {
+        let mut one = summaries[at];
+        one.subject = subject;
         summaries.set(at, one);
     }
 }

@@ -4,11 +4,11 @@ ghost use Rattle.jb_limits.specs.declared.limits.TheConstants.{MOST_MARKS};
 ghost use Rattle.jb_index.specs.Answer.{answer_to, figures_to, first_from, last_of, high_of, listed_to, mark_in, received_by, thread_to, unread_to};
 ghost use Rattle.jb_index.specs.Edit.{absorbed, edited};
 ghost use Rattle.jb_index.specs.Index.{index_of, parents_in};
-ghost use Rattle.jb_index.specs.declared.op.OpEdit.TheVariants.{Put, Drop as Dropping, Parent, Attribute, Mark as Marking, Reset};
+ghost use Rattle.jb_index.specs.declared.op.OpEdit.TheVariants.{Put, Drop as Dropping, Parent, Attribute, Subject, Mark as Marking, Reset};
 ghost use Rattle.jb_state.specs.Sound.{IsSound};
 ghost use Rattle.jb_state.specs.State.{state_of};
 
-use crate::editing::{put, refill, remove, set_attribute, set_parent};
+use crate::editing::{put, refill, remove, set_attribute, set_parent, set_subject};
 use crate::listing::{count_wanted, first_wanted};
 use crate::making::summaries_of;
 use crate::shown::Wanted;
@@ -17,7 +17,7 @@ use crate::{Op, OpEdit};
 use jb_base::{AreaRules, MOST_MARKS, OutOfMemory, User};
 use jb_crc::jam_crc;
 use jb_marks::Marks;
-use jb_state::{Answer, Figures, Loaded, Mark, Question, Summaries, Summary};
+use jb_state::{Answer, Figures, Loaded, Mark, Question, Short, Summaries, Summary};
 use jb_tiered::Tiered;
 use std::alloc::Global;
 use std::marker::Model;
@@ -133,6 +133,7 @@ impl Index {
             OpEdit::Drop { number } => self.drop_number(*number),
             OpEdit::Parent { number, parent } => self.set_parent(*number, *parent),
             OpEdit::Attribute { number, attribute } => self.set_attribute(*number, *attribute),
+            OpEdit::Subject { number, subject } => self.set_subject(*number, *subject),
             OpEdit::Base { base } => self.base = *base,
             OpEdit::Mark(mark) => self.set_mark(mark),
             OpEdit::Reset(other) => self.reset(other),
@@ -167,6 +168,13 @@ impl Index {
         ensures { self.new ≡ edited self.old (Attribute number attribute) }
     {
         set_attribute(&mut self.summaries, number, attribute);
+    }
+
+    /// Gives the message with this number another subject.
+    fn set_subject(&mut self, number: u32, subject: Short<72>)
+        ensures { self.new ≡ edited self.old (Subject number subject) }
+    {
+        set_subject(&mut self.summaries, number, subject);
     }
 
     /// Sets a mark, where its pair has one or there is room.

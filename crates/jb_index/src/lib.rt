@@ -21,7 +21,7 @@
 //! message until they have enough; [`Index::figures`] and [`Index::unread_count`] look once at each. A thread is
 //! found by one walk from the lowest number to the highest, in which each parent is looked up by one search, and takes 4
 //! bytes a message while it lasts. [`Index::absorb`] makes one or two searches of log n steps for each edit: an op of a post,
-//! a reading, a mark or a pack has one edit, one of a kill has one and one more for each answer to the message. Only a kill
+//! a reading, an edit, a mark or a pack has one edit, one of a kill has one and one more for each answer to the message. Only a kill
 //! moves others, up to 256 within a piece and one for each 512 behind it, and a Reset copies all. Of a kill [`Op::of`]
 //! makes six searches in the index of the replies that an open area keeps, each of log n comparisons, and a step for each answer to
 //! the message; of any other change it takes the same time in each area.

@@ -3,7 +3,7 @@ ghost use Rattle.std.specs.Prelude.{◌≡◌, [], ◌∷◌, ◌++◌, OnOk, On
 
 use crate::Index;
 use jb_base::OutOfMemory;
-use jb_state::{Mark, Summary};
+use jb_state::{Mark, Short, Summary};
 use std::alloc::Global;
 use std::marker::Model;
 
@@ -19,6 +19,8 @@ pub enum OpEdit {
     Parent { number: u32, parent: u32 },
     /// The message with this number has these bits of its attribute.
     Attribute { number: u32, attribute: u32 },
+    /// The message with this number has a subject of which a summary keeps this.
+    Subject { number: u32, subject: Short<72> },
     /// The base number.
     Base { base: u32 },
     /// The mark takes the place of the first one of its pair, or goes last.
@@ -40,6 +42,10 @@ impl Drop for OpEdit {
             OpEdit::Attribute {
                 number: _number,
                 attribute: _attribute,
+            } => {}
+            OpEdit::Subject {
+                number: _number,
+                subject: _subject,
             } => {}
             OpEdit::Base { base: _base } => {}
             OpEdit::Mark(_held) => {}

@@ -13,17 +13,18 @@ use Rattle.jb_menu.specs.Areas.{area_command, area_row}
 use Rattle.jb_menu.specs.Awaits.{AsksHere, Awaits, IsFor, awaited_in, wanted_by}
 use Rattle.jb_menu.specs.Boards.{area_named, is_named_for, level_of, may_read, next_area}
 use Rattle.jb_menu.specs.CommandLines.{command_of}
+use Rattle.jb_menu.specs.Editing.{edit_subject_row, peeking_row}
 use Rattle.jb_menu.specs.LogIn.{login_row, name_row, password_row, refused_row}
 use Rattle.jb_menu.specs.Menu.{menu_turn, stage_turn}
 use Rattle.jb_menu.specs.Top.{count_row, counting_row, enter_row, entering_row, top_command, top_row}
 use Rattle.jb_menu.specs.Writing.{private_row, reply_row, subject_row, text_row, to_row}
-use Rattle.jb_menu.specs.declared.command_line.CommandLetter.TheVariants.{A, B, K, Q, R}
+use Rattle.jb_menu.specs.declared.command_line.CommandLetter.TheVariants.{A, B, E, K, Q, R}
 use Rattle.jb_menu.specs.declared.command_line.CommandLine.{CommandLine}
 use Rattle.jb_menu.specs.declared.command_line.CommandLine.TheVariants.{Empty, Letter, LetterNumber, Number}
 use Rattle.jb_menu.specs.declared.given.Given.{Given}
 use Rattle.jb_menu.specs.declared.given.Given.TheVariants.{Answer, Count, Fault, Line, Reply}
 use Rattle.jb_menu.specs.declared.moves.Moved.{Moved}
-use Rattle.jb_menu.specs.declared.state.DraftHead.{DraftHead}
+use Rattle.jb_menu.specs.declared.state.Composing.{Composing}
 use Rattle.jb_menu.specs.declared.state.Shown.{Shown}
 use Rattle.jb_menu.specs.declared.state.MenuStage.{MenuStage}
 use Rattle.jb_menu.specs.declared.state.MenuStage.TheVariants as stage
@@ -164,6 +165,7 @@ unfolding IsFor awaited_in
 fits_area on visit (Letter B) place = (place.0, refl, refl)
 fits_area on visit (Letter Q) place = (tt, refl, refl)
 fits_area on visit (Letter R) place = fits_reply on visit visit.shown place
+fits_area on visit (LetterNumber E number) place = (place, refl, refl)
 fits_area on visit (LetterNumber K number) place = (place, refl, refl)
 fits_area on visit _ place = (place, refl, refl)
 
@@ -216,6 +218,21 @@ holds_acting on visit (Reply answer) place = record { board = place; awaits = λ
 holds_acting on visit (Fault fault) place = record { board = place; awaits = λ _. refl; here = refl }
 holds_acting on visit _ place = record { board = place; awaits = λ asked. never asked; here = refl }
 
+-- a message that is edited
+holds_peeking : (on : Board) (visit : Visit) (given : Given) → IsPlace on visit
+    → Holds on (state.Area visit stage.Peeking) given (peeking_row on visit given)
+unfolding IsFor awaited_in
+holds_peeking on visit (Reply (reply.Text letter)) place = record { board = place; awaits = λ _. refl; here = refl }
+holds_peeking on visit (Reply other) place = record { board = place; awaits = λ _. refl; here = refl }
+holds_peeking on visit (Fault fault) place = record { board = place; awaits = λ _. refl; here = refl }
+holds_peeking on visit _ place = record { board = place; awaits = λ asked. never asked; here = refl }
+
+holds_edit_subject : (on : Board) (visit : Visit) (number : ℕ) (subject : List ℕ) (given : Given) → IsPlace on visit
+    → Holds on (state.Area visit (stage.EditSubject number subject)) given (edit_subject_row visit number subject given)
+unfolding IsFor awaited_in
+holds_edit_subject on visit number subject (Line typed) place = record { board = place; awaits = λ _. refl; here = refl }
+holds_edit_subject on visit number subject _ place = record { board = place; awaits = λ _. refl; here = refl }
+
 -- a message that is written
 holds_to : (on : Board) (visit : Visit) (given : Given) → IsPlace on visit → Holds on (state.Area visit stage.To) given (to_row on visit given)
 unfolding IsFor awaited_in
@@ -235,7 +252,7 @@ unfolding IsFor awaited_in
 holds_private on visit to subject (Line typed) place = record { board = place; awaits = λ _. refl; here = refl }
 holds_private on visit to subject _ place = record { board = place; awaits = λ _. refl; here = refl }
 
-fits_text : (on : Board) (visit : Visit) (draft : DraftHead) (text typed : List ℕ) → IsPlace on visit
+fits_text : (on : Board) (visit : Visit) (draft : Composing) (text typed : List ℕ) → IsPlace on visit
     → Fits on (text_row on visit draft text (Line typed))
 unfolding IsFor awaited_in
 fits_text on visit draft text typed place =
@@ -243,7 +260,7 @@ fits_text on visit draft text typed place =
     (either on (bytes_eq typed (codes "!")) _ _ (place, refl, refl)
     (either on (nat_lt MOST_POSTED_TEXT_BYTES (length text + length typed + 1)) _ _ (place, refl, refl) (place, refl, refl)))
 
-holds_text : (on : Board) (visit : Visit) (draft : DraftHead) (text : List ℕ) (given : Given) → IsPlace on visit
+holds_text : (on : Board) (visit : Visit) (draft : Composing) (text : List ℕ) (given : Given) → IsPlace on visit
     → Holds on (state.Area visit (stage.Text draft text)) given (text_row on visit draft text given)
 unfolding IsFor awaited_in
 holds_text on visit draft text (Line typed) place =
@@ -259,10 +276,12 @@ holds_stage on visit stage.Listing given place = holds_listing on visit given pl
 holds_stage on visit stage.Seeking given place = holds_seeking on visit given place
 holds_stage on visit (stage.Reading marks) given place = holds_reading on visit marks given place
 holds_stage on visit (stage.Marking letter) given place = holds_marking on visit letter given place
+holds_stage on visit stage.Peeking given place = holds_peeking on visit given place
 holds_stage on visit stage.Acting given place = holds_acting on visit given place
 holds_stage on visit stage.To given place = holds_to on visit given place
 holds_stage on visit (stage.Subject to) given place = holds_subject on visit to given place
 holds_stage on visit (stage.Private to subject) given place = holds_private on visit to subject given place
+holds_stage on visit (stage.EditSubject number subject) given place = holds_edit_subject on visit number subject given place
 holds_stage on visit (stage.Text draft text) given place = holds_text on visit draft text given place
 
 -- everywhere

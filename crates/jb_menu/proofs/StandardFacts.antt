@@ -7,7 +7,7 @@ use Rattle.std.proofs.lemmas.List.Elements.{All-cons, All-nil}
 use Rattle.std.proofs.lemmas.List.Kept.{AllPairs-cons}
 use Rattle.std.specs.Fmt.{digits}
 use Rattle.jb_base.specs.declared.area.Kind.TheVariants.{Local}
-use Rattle.jb_base.specs.declared.area.Rule.TheVariants.{A4}
+use Rattle.jb_base.specs.declared.area.Rule.TheVariants.{A1, A4, A6}
 use Rattle.jb_conf.specs.declared.board.Board.{Board}
 use Rattle.jb_conf.specs.InRange.{AreAreasInRange, AreUsersInRange, HasCount, IsAreaInRange, IsUserInRange}
 use Rattle.jb_conf.specs.Ranges.{is_printed}
@@ -34,6 +34,7 @@ use Rattle.jb_menu.specs.declared.moves.MenuEnd.TheVariants.{Quit, LoginRefused}
 use Rattle.jb_menu.specs.declared.moves.Move.{Move}
 use Rattle.jb_menu.specs.declared.moves.Move.TheVariants as move
 use Rattle.jb_menu.specs.declared.moves.Move.TheVariants.{Ask, Look}
+use Rattle.jb_menu.specs.declared.state.Composing.TheVariants.{Edit, New}
 use Rattle.jb_menu.specs.declared.state.MenuStage.TheVariants.{Text}
 use Rattle.jb_menu.specs.declared.state.State.{State}
 use Rattle.jb_menu.specs.declared.state.State.TheVariants.{Area, Ended, Name, Top}
@@ -238,7 +239,7 @@ area_commands =
     ((Line (codes "1"), Look 0 Figures) ∷ (counted 3 2, says (codes "3 visible, 2 unread.^[general] ")) ∷ (Line [], says (codes "[general] "))
     ∷ (Line (codes "  "), says (codes "[general] ")) ∷ (Count 1, says []) ∷ (Reply (reply.Killed 3), says []) ∷ [])
     ++ each (codes "ACDEFGHIJKMOSTUVWacdefghijkmostuvw!?.-+") [] (says (codes "Unknown command.^[general] "))
-    ++ each (codes "ABCDEFGHIJNOPQRSUVWXZabcdefghijnopqrsuvwxz!?.") (codes " 7") (says (codes "Unknown command.^[general] "))
+    ++ each (codes "ABCDFGHIJNOPQRSUVWXZabcdfghijnopqrsuvwxz!?.") (codes " 7") (says (codes "Unknown command.^[general] "))
     ++ ((Line (codes "LL"), says (codes "Unknown command.^[general] ")) ∷ (Line (codes "L7"), says (codes "Unknown command.^[general] "))
     ∷ (Line (codes "7L"), says (codes "Unknown command.^[general] ")) ∷ (Line (codes "L 7 8"), says (codes "Unknown command.^[general] "))
     ∷ (Line (codes "L -7"), says (codes "Unknown command.^[general] ")) ∷ (Line (codes "L +7"), says (codes "Unknown command.^[general] "))
@@ -346,6 +347,39 @@ writing_steps : Follows (Top 0) writing
 unfolding menu_turn stage_turn command_of digits heading_text date_text clock_of year_and_day month_and_day
 writing_steps = refl
 
+-- editing a message: its subject kept or typed, cancelled, refused; the message shown last stays the one that R answers
+abbrev editing : List (Given × Move)
+editing =
+    (Line (codes "1"), Look 0 Figures) ∷ (counted 3 2, says (codes "3 visible, 2 unread.^[general] "))
+    ∷ (Line (codes "E 1"), Ask 0 (command.Peek 1)) ∷ (Line (codes "E 1"), says []) ∷ (Count 1, says []) ∷ (listed (1 ∷ []), says [])
+    ∷ (read 1 0x00800001 (codes "abc"), says (codes "Subject (empty keeps): ")) ∷ (Reply (reply.Edited 1), says []) ∷ (Fault StoreFault, says [])
+    ∷ (Line [], says (codes "Text, . ends, ! cancels^")) ∷ (Count 1, says []) ∷ (Line (codes "Better"), says [])
+    ∷ (Line (codes "."), Ask 0 (command.Edit 1 (codes "abc") (codes "Better" ++ 13 ∷ []))) ∷ (Line (codes "x"), says [])
+    ∷ (Reply (reply.Edited 1), says (codes "Edited 1.^[general] ")) ∷ (Line (codes "R"), says (codes "No message shown.^[general] "))
+    ∷ (Line (codes " e  1 "), Ask 0 (command.Peek 1)) ∷ (read 1 0x00800001 (codes "abc"), says (codes "Subject (empty keeps): "))
+    ∷ (Line (codes " abcd "), says (codes "Text, . ends, ! cancels^")) ∷ (Line (codes "."), Ask 0 (command.Edit 1 (codes " abcd ") []))
+    ∷ (Reply (reply.Denied A6), says (codes "Denied by rule A6.^[general] ")) ∷ (Line (codes "E 1"), Ask 0 (command.Peek 1))
+    ∷ (read 1 0x00800001 (codes "abc"), says (codes "Subject (empty keeps): ")) ∷ (Line (codes "!"), says (codes "Text, . ends, ! cancels^"))
+    ∷ (Line (codes "x"), says []) ∷ (Line (codes "!"), says (codes "Cancelled.^[general] ")) ∷ (Line (codes "E 9"), Ask 0 (command.Peek 9))
+    ∷ (Reply (reply.NoMessage 9), says (codes "No such message.^[general] ")) ∷ (Line (codes "e 0"), Ask 0 (command.Peek 0))
+    ∷ (Reply (reply.Denied A1), says (codes "Denied by rule A1.^[general] ")) ∷ (Line (codes "E 4294967295"), Ask 0 (command.Peek 4294967295))
+    ∷ (Fault (Gap 9 7), says (codes "Gap: shown 9, held 7.^[general] ")) ∷ (Line (codes "E 1"), Ask 0 (command.Peek 1))
+    ∷ (read 1 0x00800001 (replicate 100 97), says (codes "Subject (empty keeps): ")) ∷ (Line [], says (codes "Text, . ends, ! cancels^"))
+    ∷ (Line (codes "."), Ask 0 (command.Edit 1 (replicate 100 97) [])) ∷ (Reply (reply.SubfieldsFull 262145), says (codes "Subfields full: 262145 bytes.^[general] "))
+    ∷ (Line (codes "E 1"), Ask 0 (command.Peek 1)) ∷ (read 1 0x00800001 [], says (codes "Subject (empty keeps): ")) ∷ (Line [], says (codes "Text, . ends, ! cancels^"))
+    ∷ (Line (codes "."), Ask 0 (command.Edit 1 [] [])) ∷ (Reply (reply.NoMessage 1), says (codes "No such message.^[general] "))
+    ∷ (Line (codes "2"), Ask 0 (command.Read 2))
+    ∷ (read 2 0x00800001 (codes "z"), says (codes "Message 2^From: Test^To: Hello^Subject: z^Date: 2001-09-09 01:46:40^^Good^^[general] "))
+    ∷ (Line (codes "E 1"), Ask 0 (command.Peek 1)) ∷ (read 1 0x00800001 (codes "abc"), says (codes "Subject (empty keeps): "))
+    ∷ (Line (codes "."), says (codes "Text, . ends, ! cancels^")) ∷ (Line (codes "."), Ask 0 (command.Edit 1 (codes ".") []))
+    ∷ (Fault StoreFault, says (codes "Store fault: the change is in doubt.^[general] "))
+    ∷ (Line (codes "R"), says (codes "Reply to Test, subject Re: z^Text, . ends, ! cancels^"))
+    ∷ (Line (codes "."), Ask 0 (command.Post (codes "Test") (codes "Re: z") [] 2 false)) ∷ []
+
+editing_steps : Follows (Top 0) editing
+unfolding menu_turn stage_turn command_of digits heading_text date_text clock_of year_and_day month_and_day
+editing_steps = refl
+
 -- a text of 207 lines of 79 bytes with their ends; 31 bytes more with their end make it 16,384
 abbrev long_text : List ℕ
 long_text = flat_map (λ (line : List ℕ). line ++ 13 ∷ []) (replicate 207 (replicate 78 120))
@@ -354,9 +388,17 @@ abbrev long : List (Given × Move)
 long = (Line (replicate 31 121), says (codes "Text full, line dropped.^")) ∷ (Line (replicate 30 121), says []) ∷ (Line [], says (codes "Text full, line dropped.^"))
     ∷ (Line (codes "."), Ask 0 (command.Post (codes "a") (codes "b") (long_text ++ replicate 30 121 ++ 13 ∷ []) 0 false)) ∷ []
 
-long_steps : Follows (Area (record { user = 0; area = 0; shown = None }) (Text (record { to = codes "a"; subject = codes "b"; reply_to = 0; private = false }) long_text)) long
+long_steps : Follows (Area (record { user = 0; area = 0; shown = None }) (Text (New (record { to = codes "a"; subject = codes "b"; reply_to = 0; private = false })) long_text)) long
 unfolding menu_turn stage_turn command_of digits heading_text date_text clock_of year_and_day month_and_day
 long_steps = refl
+
+-- an edit is held to the same length of text
+abbrev long_edit : List (Given × Move)
+long_edit = (Line (replicate 31 121), says (codes "Text full, line dropped.^")) ∷ (Line (codes "."), Ask 0 (command.Edit 1 (codes "b") long_text)) ∷ []
+
+long_edit_steps : Follows (Area (record { user = 0; area = 0; shown = None }) (Text (Edit 1 (codes "b")) long_text)) long_edit
+unfolding menu_turn stage_turn command_of digits heading_text date_text clock_of year_and_day month_and_day
+long_edit_steps = refl
 
 -- the user is told from the log-in to the end
 users : (user_in (Name 2) ≡ None) × (user_in (Top 0) ≡ Some 0)

@@ -74,7 +74,7 @@ marking_row board visit text (Reply reply) = to_area board visit (text ++ line (
 marking_row board visit text (Fault fault) = to_area board visit (text ++ line (fault_text fault))
 marking_row board visit text _ = passed_over (Area visit (Marking text))
 
--- a post, K, M, X, Z: the line of the reply
+-- a post, an edit, K, M, X, Z: the line of the reply
 abbrev pub acting_row : Board → Visit → Given → Moved
 acting_row board visit (Reply reply) = to_area board visit (line (reply_text reply))
 acting_row board visit (Fault fault) = to_area board visit (line (fault_text fault))

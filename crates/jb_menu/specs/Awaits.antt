@@ -9,7 +9,7 @@ use Rattle.jb_menu.specs.declared.given.Given.TheVariants as given
 use Rattle.jb_menu.specs.declared.moves.Move.{Move}
 use Rattle.jb_menu.specs.declared.moves.Move.TheVariants as move
 use Rattle.jb_menu.specs.declared.state.MenuStage.{MenuStage}
-use Rattle.jb_menu.specs.declared.state.MenuStage.TheVariants.{Acting, Listing, Marking, Private, Prompt, Reading, Seeking, Subject, Text, To}
+use Rattle.jb_menu.specs.declared.state.MenuStage.TheVariants.{Acting, EditSubject, Listing, Marking, Peeking, Private, Prompt, Reading, Seeking, Subject, Text, To}
 use Rattle.jb_menu.specs.declared.state.State.{State}
 use Rattle.jb_menu.specs.declared.state.State.TheVariants.{Area, Counting, Ended, Entering, Name, Password, Top}
 
@@ -42,10 +42,12 @@ awaited_at Listing = a_list
 awaited_at Seeking = a_list
 awaited_at (Reading marks) = a_reply
 awaited_at (Marking letter) = a_reply
+awaited_at Peeking = a_reply
 awaited_at Acting = a_reply
 awaited_at To = a_line
 awaited_at (Subject to) = a_line
 awaited_at (Private to subject) = a_line
+awaited_at (EditSubject number subject) = a_line
 awaited_at (Text draft text) = a_line
 
 -- what a menu waits for

@@ -3,6 +3,7 @@ pub mod Areas
 pub mod Awaits
 pub mod Boards
 pub mod CommandLines
+pub mod Editing
 pub mod LogIn
 pub mod Menu
 pub mod Says

@@ -3,6 +3,7 @@ use Rattle.std.specs.Prelude.{◌≡◌, ℕ, Option, Some, None}
 use Rattle.jb_conf.specs.declared.board.Board.{Board}
 use Rattle.jb_menu.specs.Answers.{acting_row, listing_row, marking_row, reading_row, seeking_row}
 use Rattle.jb_menu.specs.Areas.{area_row}
+use Rattle.jb_menu.specs.Editing.{edit_subject_row, peeking_row}
 use Rattle.jb_menu.specs.LogIn.{name_row, password_row}
 use Rattle.jb_menu.specs.Says.{passed_over}
 use Rattle.jb_menu.specs.Top.{counting_row, entering_row, top_row}
@@ -11,7 +12,7 @@ use Rattle.jb_menu.specs.declared.given.Given.{Given}
 use Rattle.jb_menu.specs.declared.moves.Move.{Move}
 use Rattle.jb_menu.specs.declared.moves.Moved.{Moved}
 use Rattle.jb_menu.specs.declared.state.MenuStage.{MenuStage}
-use Rattle.jb_menu.specs.declared.state.MenuStage.TheVariants.{Acting, Listing, Marking, Private, Prompt, Reading, Seeking, Subject, Text, To}
+use Rattle.jb_menu.specs.declared.state.MenuStage.TheVariants.{Acting, EditSubject, Listing, Marking, Peeking, Private, Prompt, Reading, Seeking, Subject, Text, To}
 use Rattle.jb_menu.specs.declared.state.State.{State}
 use Rattle.jb_menu.specs.declared.state.State.TheVariants.{Area, Counting, Ended, Entering, Name, Password, Top}
 use Rattle.jb_menu.specs.declared.state.Visit.{Visit}
@@ -23,10 +24,12 @@ stage_turn board visit Listing given = listing_row board visit given
 stage_turn board visit Seeking given = seeking_row board visit given
 stage_turn board visit (Reading marks) given = reading_row board visit marks given
 stage_turn board visit (Marking letter) given = marking_row board visit letter given
+stage_turn board visit Peeking given = peeking_row board visit given
 stage_turn board visit Acting given = acting_row board visit given
 stage_turn board visit To given = to_row board visit given
 stage_turn board visit (Subject to) given = subject_row visit to given
 stage_turn board visit (Private to subject) given = private_row visit to subject given
+stage_turn board visit (EditSubject number subject) given = edit_subject_row visit number subject given
 stage_turn board visit (Text draft text) given = text_row board visit draft text given
 
 -- everywhere

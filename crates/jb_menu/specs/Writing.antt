@@ -3,7 +3,8 @@ use Rattle.std.specs.Prelude.{ℕ, ◌+◌, ◌==◌, nat_lt, Bool, ◌||◌, Li
 use Rattle.std.specs.List.{starts_with}
 use Rattle.jb_limits.specs.declared.limits.TheConstants.{MOST_POSTED_TEXT_BYTES, MOST_SUBJECT_BYTES}
 use Rattle.jb_conf.specs.declared.board.Board.{Board}
-use Rattle.jb_model.specs.declared.command.Command.TheVariants.{Post}
+use Rattle.jb_model.specs.declared.command.Command.{Command}
+use Rattle.jb_model.specs.declared.command.Command.TheVariants as command
 use Rattle.jb_text.specs.declared.standing.Fixed.TheVariants.{AskPrivate, AskSubject, Cancelled, NoMessageShown, TextFull, TextLine}
 use Rattle.jb_text.specs.Fixed.{fixed_text}
 use Rattle.jb_text.specs.Letter.{line}
@@ -12,6 +13,8 @@ use Rattle.jb_menu.specs.Says.{ask, passed_over, say, to_area}
 use Rattle.jb_menu.specs.declared.given.Given.{Given}
 use Rattle.jb_menu.specs.declared.given.Given.TheVariants.{Line}
 use Rattle.jb_menu.specs.declared.moves.Moved.{Moved}
+use Rattle.jb_menu.specs.declared.state.Composing.{Composing}
+use Rattle.jb_menu.specs.declared.state.Composing.TheVariants.{Edit, New}
 use Rattle.jb_menu.specs.declared.state.DraftHead.{DraftHead}
 use Rattle.jb_menu.specs.declared.state.Shown.{Shown}
 use Rattle.jb_menu.specs.declared.state.MenuStage.TheVariants.{Acting, Private, Subject, Text, To}
@@ -43,7 +46,7 @@ answering_draft shown = record {
 abbrev pub reply_row : Board → Visit → Option Shown → Moved
 reply_row board visit None = to_area board visit (line (fixed_text NoMessageShown))
 reply_row board visit (Some shown) =
-    say (line (replying_text shown.from (answer_subject shown.subject)) ++ line (fixed_text TextLine)) (Area visit (Text (answering_draft shown) []))
+    say (line (replying_text shown.from (answer_subject shown.subject)) ++ line (fixed_text TextLine)) (Area visit (Text (New (answering_draft shown)) []))
 
 -- To: the receiver, as it is typed; an empty line cancels
 abbrev pub to_row : Board → Visit → Given → Moved
@@ -63,23 +66,28 @@ says_yes typed = bytes_eq typed (codes "Y") || bytes_eq typed (codes "y")
 -- Private: private where the line says yes
 abbrev pub private_row : Visit → List ℕ → List ℕ → Given → Moved
 private_row visit to subject (Line typed) =
-    say (line (fixed_text TextLine)) (Area visit (Text (record { to = to; subject = subject; reply_to = 0; private = says_yes typed }) []))
+    say (line (fixed_text TextLine)) (Area visit (Text (New (record { to = to; subject = subject; reply_to = 0; private = says_yes typed })) []))
 private_row visit to subject _ = passed_over (Area visit (Private to subject))
 
--- the message is posted
-abbrev pub post_row : Visit → DraftHead → List ℕ → Moved
-post_row visit draft text = ask visit (Post draft.to draft.subject text draft.reply_to draft.private) Acting
+-- the command that a draft is with this text
+abbrev pub drafted : Composing → List ℕ → Command
+drafted (New head) text = command.Post head.to head.subject text head.reply_to head.private
+drafted (Edit number subject) text = command.Edit number subject text
+
+-- the message is posted, or edited
+abbrev pub done_row : Visit → Composing → List ℕ → Moved
+done_row visit draft text = ask visit (drafted draft text) Acting
 
 -- the line is put behind the text with a carriage return, and nothing is said; where the text would be too long, it is dropped
-abbrev pub more_row : Visit → DraftHead → List ℕ → List ℕ → Moved
+abbrev pub more_row : Visit → Composing → List ℕ → List ℕ → Moved
 more_row visit draft text typed =
     if nat_lt MOST_POSTED_TEXT_BYTES (length text + length typed + 1) then say (line (fixed_text TextFull)) (Area visit (Text draft text))
     else say [] (Area visit (Text draft (text ++ typed ++ 13 ∷ [])))
 
--- Text: a stop alone posts, an exclamation mark alone cancels, and any other line belongs to the text
-abbrev pub text_row : Board → Visit → DraftHead → List ℕ → Given → Moved
+-- Text: a stop alone posts or edits, an exclamation mark alone cancels, and any other line belongs to the text
+abbrev pub text_row : Board → Visit → Composing → List ℕ → Given → Moved
 text_row board visit draft text (Line typed) =
-    if bytes_eq typed (codes ".") then post_row visit draft text
+    if bytes_eq typed (codes ".") then done_row visit draft text
     else if bytes_eq typed (codes "!") then to_area board visit (line (fixed_text Cancelled))
     else more_row visit draft text typed
 text_row board visit draft text _ = passed_over (Area visit (Text draft text))

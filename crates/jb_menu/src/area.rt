@@ -111,6 +111,7 @@ fn letter_and_number(
         ≡ area_command board.now visit (CommandLine.LetterNumber letter number)) }
 {
     match letter {
+        CommandLetter::E => Ok(ask(visit, Command::Peek { number }, MenuStage::Peeking)),
         CommandLetter::K => Ok(ask(visit, Command::Kill { number }, MenuStage::Acting)),
         CommandLetter::L => Ok(list(visit, number)),
         CommandLetter::M => Ok(ask(visit, Command::SetMark { number }, MenuStage::Acting)),

@@ -9,6 +9,7 @@ use jb_text::number_up_to;
 pub enum CommandLetter {
     A,
     B,
+    E,
     K,
     L,
     M,
@@ -39,6 +40,7 @@ fn letter_of(byte: u8) -> Option<CommandLetter>
     match byte.to_ascii_uppercase() {
         b'A' => Some(CommandLetter::A),
         b'B' => Some(CommandLetter::B),
+        b'E' => Some(CommandLetter::E),
         b'K' => Some(CommandLetter::K),
         b'L' => Some(CommandLetter::L),
         b'M' => Some(CommandLetter::M),

@@ -10,6 +10,7 @@ mod answers;
 mod area;
 mod board;
 mod command_line;
+mod editing;
 mod given;
 mod lines;
 mod login;

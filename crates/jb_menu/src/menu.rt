@@ -6,6 +6,7 @@ ghost use Rattle.jb_menu.specs.Menu.{MenuStep, menu_turn, stage_turn, user_in};
 
 use crate::answers::{acting, listing_messages, marking, reading, seeking};
 use crate::area::prompted;
+use crate::editing::{edit_subject, peeking};
 use crate::lines::passed_over;
 use crate::login::{name, password};
 use crate::moves::Moved;
@@ -132,6 +133,7 @@ fn stage_turn(
         MenuStage::Seeking => seeking(alloc, board, visit, given),
         MenuStage::Reading { marks } => reading(alloc, board, visit, marks, given),
         MenuStage::Marking { letter } => marking(alloc, board, visit, letter, given),
+        MenuStage::Peeking => peeking(alloc, board, visit, given),
         MenuStage::Acting => acting(alloc, board, visit, given),
         MenuStage::To => to(alloc, board, visit, given),
         MenuStage::Subject { to: receiver } => subject(alloc, visit, receiver, given),
@@ -139,6 +141,10 @@ fn stage_turn(
             to: receiver,
             subject: about,
         } => private(alloc, visit, receiver, about, given),
+        MenuStage::EditSubject {
+            number,
+            subject: about,
+        } => edit_subject(alloc, visit, number, about, given),
         MenuStage::Text {
             draft,
             text: so_far,

@@ -2,6 +2,7 @@
 
 ghost use Rattle.std.specs.Prelude.{◌≡◌};
 ghost use Rattle.jb_model.specs.declared.command.Command.TheVariants.{Post};
+ghost use Rattle.jb_menu.specs.Writing.{drafted};
 
 use jb_base::{Bytes, Name};
 use jb_model::Command;
@@ -44,7 +45,7 @@ impl Drop for Visit {
     }
 }
 
-/// A message that is written: all of it but its text. It answers no message where that number is 0.
+/// A new message: all of it but its text. It answers no message where that number is 0.
 pub struct DraftHead {
     pub to: Name,
     pub subject: Bytes,
@@ -85,6 +86,43 @@ impl DraftHead {
     }
 }
 
+/// A message that is written: all of it but its text.
+pub enum Composing {
+    /// A new message.
+    New(DraftHead),
+    /// Another subject, and another text to come, for the message with this number.
+    Edit { number: u32, subject: Bytes },
+}
+
+// Whoever lets go of one does so in one call.
+impl Drop for Composing {
+    fn drop(self) {
+        match self {
+            Composing::New(_held) => {}
+            Composing::Edit {
+                number: _number,
+                subject: _subject,
+            } => {}
+        }
+    }
+}
+
+impl Composing {
+    /// The command that posts or edits it with this text.
+    pub(crate) fn asked(self, text: Bytes) -> Command
+        ensures { result ≡ drafted self text }
+    {
+        match self {
+            Composing::New(head) => head.posted(text),
+            Composing::Edit { number, subject } => Command::Edit {
+                number,
+                subject,
+                text,
+            },
+        }
+    }
+}
+
 /// What a menu waits for in an area.
 #[derive(Drop)]
 pub enum MenuStage {
@@ -98,6 +136,8 @@ pub enum MenuStage {
     Reading { marks: bool },
     /// The user's mark, before this text of a message is said.
     Marking { letter: Bytes },
+    /// The message that is to be edited, of which nothing is shown.
+    Peeking,
     /// The reply to another command, which is said.
     Acting,
     /// The receiver of a new message.
@@ -106,8 +146,10 @@ pub enum MenuStage {
     Subject { to: Name },
     /// Whether it is private.
     Private { to: Name, subject: Bytes },
-    /// A line of its text, behind the text so far.
-    Text { draft: DraftHead, text: Bytes },
+    /// Another subject of the message with this number, which has this one.
+    EditSubject { number: u32, subject: Bytes },
+    /// A line of the text of a message, behind the text so far.
+    Text { draft: Composing, text: Bytes },
 }
 
 /// What a menu waits for.

@@ -3,13 +3,13 @@ ghost use Rattle.std.specs.Prelude.{◌≡◌, ◌<◌, ◌^◌, ◌++◌, [], �
 ghost use Rattle.jb_text.specs.Fixed.{fixed_text};
 ghost use Rattle.jb_text.specs.Letter.{line};
 ghost use Rattle.jb_text.specs.Lines.{replying_text};
-ghost use Rattle.jb_menu.specs.Writing.{answer_subject, answering_draft, has_re, marked_subject, more_row, post_row, private_row, reply_row, says_yes, subject_row, text_row, to_row};
+ghost use Rattle.jb_menu.specs.Writing.{answer_subject, answering_draft, done_row, has_re, marked_subject, more_row, private_row, reply_row, says_yes, subject_row, text_row, to_row};
 
 use crate::Given;
 use crate::area::ask;
 use crate::lines::{append_line, fixed_line, fixed_to_area, passed_over, say, whole};
 use crate::moves::Moved;
-use crate::state::{DraftHead, MenuStage, Shown, State, Visit};
+use crate::state::{Composing, DraftHead, MenuStage, Shown, State, Visit};
 use jb_base::{Bytes, MOST_POSTED_TEXT_BYTES, MOST_SUBJECT_BYTES, Name, OutOfMemory};
 use jb_conf::Board;
 use jb_text::{Fixed, fixed, replying};
@@ -69,10 +69,11 @@ fn replying_lines(alloc: Global, from: &[u8], subject: &[u8]) -> Result<Bytes, O
 fn answering(alloc: Global, shown: &Shown) -> Result<(Bytes, MenuStage), OutOfMemory>
     ensures { IfOk result (λ begun. (begun.0 ≡ line (replying_text shown.now.from
         (answer_subject shown.now.subject)) ++ line (fixed_text Fixed.TextLine))
-        × (begun.1 ≡ MenuStage.Text (answering_draft shown.now) [])) }
+        × (begun.1 ≡ MenuStage.Text (Composing.New (answering_draft shown.now)) [])) }
 {
-    let draft = answer_to(alloc, shown)?;
-    let said = replying_lines(alloc, shown.from.as_slice(), draft.subject.as_slice())?;
+    let head = answer_to(alloc, shown)?;
+    let said = replying_lines(alloc, shown.from.as_slice(), head.subject.as_slice())?;
+    let draft = Composing::New(head);
     let text = Bytes::new(alloc);
     Ok((said, MenuStage::Text { draft, text }))
 }
@@ -156,12 +157,12 @@ pub fn private(
     match given {
         Given::Line(line) => {
             let text = fixed_line(alloc, Fixed::TextLine)?;
-            let draft = DraftHead {
+            let draft = Composing::New(DraftHead {
                 to,
                 subject,
                 reply_to: 0,
                 private: says_yes(line.as_slice()),
-            };
+            });
             let stage = MenuStage::Text {
                 draft,
                 text: Bytes::new(alloc),
@@ -175,11 +176,11 @@ pub fn private(
     }
 }
 
-/// Posts a message.
-fn post(visit: Visit, draft: DraftHead, text: Bytes) -> Moved
-    ensures { result ≡ post_row visit draft text }
+/// Posts a message, or edits it.
+fn done(visit: Visit, draft: Composing, text: Bytes) -> Moved
+    ensures { result ≡ done_row visit draft text }
 {
-    ask(visit, draft.posted(text), MenuStage::Acting)
+    ask(visit, draft.asked(text), MenuStage::Acting)
 }
 
 /// A text with this line behind it.
@@ -196,7 +197,7 @@ fn with_line(text: Bytes, typed: &[u8]) -> Result<Bytes, OutOfMemory>
 fn more(
     alloc: Global,
     visit: Visit,
-    draft: DraftHead,
+    draft: Composing,
     text: Bytes,
     typed: &[u8],
 ) -> Result<Moved, OutOfMemory>
@@ -219,7 +220,7 @@ fn text_line(
     alloc: Global,
     board: &Board,
     visit: Visit,
-    draft: DraftHead,
+    draft: Composing,
     text: Bytes,
     typed: &[u8],
 ) -> Result<Moved, OutOfMemory>
@@ -228,7 +229,7 @@ fn text_line(
     ensures { IfOk result (λ moved. moved ≡ text_row board.now visit draft text (Given.Line typed.now)) }
 {
     match typed {
-        b"." => Ok(post(visit, draft, text)),
+        b"." => Ok(done(visit, draft, text)),
         b"!" => fixed_to_area(alloc, board, visit, Fixed::Cancelled),
         _ => more(alloc, visit, draft, text, typed),
     }
@@ -239,7 +240,7 @@ pub fn text(
     alloc: Global,
     board: &Board,
     visit: Visit,
-    draft: DraftHead,
+    draft: Composing,
     text: Bytes,
     given: &Given,
 ) -> Result<Moved, OutOfMemory>

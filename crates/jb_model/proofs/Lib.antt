@@ -1,3 +1,4 @@
+pub mod EditLaws
 pub mod HistoryLaws
 pub mod RangeLaws
 pub mod RelinkStepLaws

@@ -13,14 +13,16 @@ use Rattle.jb_base.specs.declared.area.AreaRules.{AreaRules}
 use Rattle.jb_base.specs.declared.area.Kind.{Kind}
 use Rattle.jb_base.specs.declared.area.Kind.TheVariants.{Local, Echo}
 use Rattle.jb_base.specs.declared.attribute.TheConstants.{DELETED, LOCAL, PRIVATE, READ}
-use Rattle.jb_limits.specs.declared.limits.TheConstants.{LAST_POSTED_NUMBER, MOST_ADDRESS_BYTES, MOST_COPIED_MSGID_BYTES, MOST_NAME_BYTES, MOST_POSTED_TEXT_BYTES, MOST_SUBFIELD_BYTES, MOST_SUBJECT_BYTES}
+use Rattle.jb_limits.specs.declared.limits.TheConstants.{HEADERS_CEILING, LAST_POSTED_NUMBER, MOST_ADDRESS_BYTES, MOST_COPIED_MSGID_BYTES, MOST_NAME_BYTES, MOST_POSTED_TEXT_BYTES, MOST_SUBFIELD_BYTES, MOST_SUBJECT_BYTES, TEXTS_CEILING}
 use Rattle.jb_bytes.specs.declared.subfield.Subfield.{Subfield}
 use Rattle.jb_bytes.specs.declared.subfield.TheConstants.{SENDER_NAME, RECEIVER_NAME, MSGID, REPLYID, SUBJECT}
 use Rattle.jb_base.specs.declared.user.User.{User}
 use Rattle.jb_state.specs.Live.{change_live_from, live_of, message_at}
-use Rattle.jb_state.specs.Message.{msgid_of}
-use Rattle.jb_model.specs.Post.{Draft, draft_refusal, hex_digits, kind_attribute, plain_field, posted_message, posted_msgid, room_refusal}
+use Rattle.jb_state.specs.Message.{header_length, msgid_of}
+use Rattle.jb_model.specs.Post.{Draft, draft_refusal, files_refusal, hex_digits, kind_attribute, parts_refusal, plain_field, posted_message, posted_msgid, room_refusal}
 use Rattle.jb_state.specs.Posted.{if_copied, posted_replyid}
+use Rattle.jb_model.specs.Edit.{edit_refusal}
+use Rattle.jb_state.specs.Edited.{edited}
 use Rattle.jb_model.specs.Read.{read_message, read_once_more, received_at}
 use Rattle.jb_state.specs.State.{AreaState, IsMessageInRange, IsSlotInRange, LiveMessage, SlotState, next_number, no_message, killed_message, live_message}
 use Rattle.jb_model.specs.declared.reply.Reply.{Reply}
@@ -77,6 +79,21 @@ pub none_of : (b : Bool) (reply : Reply) (later : Option Reply) → cond b (Some
 none_of true reply later none = absurd (cc)
 none_of false reply later none = (refl, none)
 
+-- a subject and a text that are not refused keep their limits
+pub record AreFit (subject text : List ℕ) : Type 0 where
+  pub subject_short : length subject ≤ MOST_SUBJECT_BYTES
+  pub text_short : length text ≤ MOST_POSTED_TEXT_BYTES
+
+-- so do those without a refusal
+pub fit_parts : (subject text : List ℕ) → parts_refusal subject text ≡ None → AreFit subject text
+fit_parts subject text none =
+    let long = none_of (nat_lt MOST_SUBJECT_BYTES (length subject)) _ _ none in
+    let more = none_of (nat_lt MOST_POSTED_TEXT_BYTES (length text)) _ _ long.1 in
+    record {
+      subject_short = ltb-false MOST_SUBJECT_BYTES (length subject) long.0;
+      text_short = ltb-false MOST_POSTED_TEXT_BYTES (length text) more.0;
+    }
+
 -- a draft of which no part is refused keeps the limits of its parts
 pub record IsFit (draft : Draft) : Type 0 where
   pub to : length draft.to ≤ MOST_NAME_BYTES
@@ -88,12 +105,11 @@ pub fit_draft : (draft : Draft) → draft_refusal draft ≡ None → IsFit draft
 fit_draft draft none =
     let empty = none_of (length draft.to == 0) _ _ none in
     let name = none_of (nat_lt MOST_NAME_BYTES (length draft.to)) _ _ empty.1 in
-    let subject = none_of (nat_lt MOST_SUBJECT_BYTES (length draft.subject)) _ _ name.1 in
-    let text = none_of (nat_lt MOST_POSTED_TEXT_BYTES (length draft.text)) _ _ subject.1 in
+    let parts = fit_parts draft.subject draft.text name.1 in
     record {
       to = ltb-false MOST_NAME_BYTES (length draft.to) name.0;
-      subject = ltb-false MOST_SUBJECT_BYTES (length draft.subject) subject.0;
-      text = ltb-false MOST_POSTED_TEXT_BYTES (length draft.text) text.0;
+      subject = parts.subject_short;
+      text = parts.text_short;
     }
 
 -- what there is room for
@@ -201,6 +217,41 @@ read_in_range user moment message range =
     IsMessageInRange
     (λ same. range_same message (record message { head = received_at moment (read_once_more message.head) }) refl refl (read_keeps_deleted message.head.attribute) range)
     (λ other. range_same message (record message { head = read_once_more message.head }) refl refl refl range)
+
+-- the files have room for a message
+pub record HasFilesFor (state : AreaState) (message : LiveMessage) : Type 0 where
+  pub headers : state.headers_len + header_length message ≤ HEADERS_CEILING
+  pub texts : state.texts_len + length message.text ≤ TEXTS_CEILING
+
+-- so have they for one without a refusal
+pub files_for : (state : AreaState) (message : LiveMessage) → files_refusal state message ≡ None → HasFilesFor state message
+files_for state message none =
+    let headers = none_of (nat_lt HEADERS_CEILING (state.headers_len + header_length message)) _ _ none in
+    let texts = none_of (nat_lt TEXTS_CEILING (state.texts_len + length message.text)) _ _ headers.1 in
+    record {
+      headers = ltb-false HEADERS_CEILING (state.headers_len + header_length message) headers.0;
+      texts = ltb-false TEXTS_CEILING (state.texts_len + length message.text) texts.0;
+    }
+
+-- an edited message without a refusal: a header may have its subfields, and the files have room
+pub record HasRoomAnew (state : AreaState) (message : LiveMessage) : Type 0 where
+  pub few_bytes : length (subfield_bytes message.subfields) ≤ MOST_SUBFIELD_BYTES
+  pub files : HasFilesFor state message
+
+-- so it is
+pub room_anew : (state : AreaState) (message : LiveMessage) → edit_refusal state message ≡ None → HasRoomAnew state message
+room_anew state message none =
+    let few = none_of (nat_lt MOST_SUBFIELD_BYTES (length (subfield_bytes message.subfields))) _ _ none in
+    record {
+      few_bytes = ltb-false MOST_SUBFIELD_BYTES (length (subfield_bytes message.subfields)) few.0;
+      files = files_for state message few.1;
+    }
+
+-- a message that is edited is in range
+pub edited_in_range : (state : AreaState) (subject text : List ℕ) (message : LiveMessage) → length text ≤ MOST_POSTED_TEXT_BYTES → HasRoomAnew state (edited subject text message)
+    → IsMessageInRange message → IsMessageInRange (edited subject text message)
+edited_in_range state subject text message short room range =
+    record { few_bytes = room.few_bytes; short_text = omega arith; live = range.live }
 
 -- the message at a place is in range
 range_at : (slots : List SlotState) (k : ℕ) (message : LiveMessage) → live_of (slice_get slots k) ≡ Some message → All IsSlotInRange slots → IsMessageInRange message

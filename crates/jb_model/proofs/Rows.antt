@@ -3,8 +3,10 @@ use Rattle.std.proofs.Common.{◌≡◌, ℕ, ◌+◌, List, [], ◌∷◌, ◌+
 use Rattle.jb_bytes.specs.Crc.{jam_crc_of}
 use Rattle.jb_base.specs.declared.area.AreaRules.{AreaRules}
 use Rattle.jb_base.specs.declared.area.Kind.TheVariants.{Local}
-use Rattle.jb_base.specs.declared.area.Rule.TheVariants.{A1, A2, A4, A5}
+use Rattle.jb_base.specs.declared.area.Rule.TheVariants.{A1, A2, A4, A5, A6}
 use Rattle.jb_base.specs.declared.user.User.{User}
+use Rattle.jb_bytes.specs.Subfields.{subfield_bytes}
+use Rattle.jb_state.specs.Edited.{with_subject}
 use Rattle.jb_state.specs.Links.{linkables_of, thread_root}
 use Rattle.jb_state.specs.Live.{Numbered, live_in}
 use Rattle.jb_state.specs.Marks.{mark_of, with_mark}
@@ -17,10 +19,11 @@ use Rattle.jb_state.specs.declared.area.Slot.TheVariants.{Live}
 use Rattle.jb_model.specs.declared.command.Field.TheVariants.{To, Subject, Text}
 use Rattle.jb_model.specs.declared.command.Asked.{Asked}
 use Rattle.jb_model.specs.declared.command.Command.{Command}
-use Rattle.jb_model.specs.declared.command.Command.TheVariants.{Post, Read, Peek, Kill, SetMark, Pack, Relink}
+use Rattle.jb_model.specs.declared.command.Command.TheVariants.{Post, Edit, Read, Peek, Kill, SetMark, Pack, Relink}
 use Rattle.jb_state.specs.declared.mark.Mark.{Mark}
+use Rattle.jb_state.specs.declared.message.Head.{Head}
 use Rattle.jb_model.specs.declared.reply.Reply.{Reply}
-use Rattle.jb_model.specs.declared.reply.Reply.TheVariants.{Posted, Text as Shown, Killed, Marked, Packed, Relinked, Denied, NoMessage, NumbersSpent, SlotsFull, HeadersFull, TextFull, EmptyName, TooLong}
+use Rattle.jb_model.specs.declared.reply.Reply.TheVariants.{Posted, Edited, Text as Shown, Killed, Marked, Packed, Relinked, Denied, NoMessage, NumbersSpent, SlotsFull, SubfieldsFull, HeadersFull, TextFull, EmptyName, TooLong}
 
 -- the rules of an area, and three users of it
 abbrev pub general : AreaRules
@@ -175,25 +178,29 @@ length_replies : (ran lengths).replies ≡
     (EmptyName To ∷ TooLong To 37 ∷ TooLong Subject 73 ∷ TooLong Text 16385 ∷ Posted 1 ∷ [])
 length_replies = refl
 
+-- a header's fields with this MSGIDcrc, all others 0
+abbrev pub head_of : ℕ → Head
+head_of msgid_crc = record {
+  reserved = 0;
+  times_read = 0;
+  msgid_crc = msgid_crc;
+  reply_crc = 0;
+  reply_to = 0;
+  reply_first = 0;
+  reply_next = 0;
+  written = 0;
+  received = 0;
+  processed = 0;
+  attribute = 0;
+  attribute2 = 0;
+  password = 0;
+  cost = 0;
+}
+
 -- a message with this MSGID, and with this REPLYID where there is one
 abbrev pub with_ids : List ℕ → Option (List ℕ) → Slot
 with_ids msgid replyid = Live (record {
-  head = record {
-    reserved = 0;
-    times_read = 0;
-    msgid_crc = jam_crc_of msgid;
-    reply_crc = 0;
-    reply_to = 0;
-    reply_first = 0;
-    reply_next = 0;
-    written = 0;
-    received = 0;
-    processed = 0;
-    attribute = 0;
-    attribute2 = 0;
-    password = 0;
-    cost = 0;
-  };
+  head = head_of (jam_crc_of msgid);
   subfields = record { id = 4; hi = 0; bytes = msgid } ∷ map (λ id. record { id = 5; hi = 0; bytes = id }) (option_to_list replyid);
   text = [];
 })
@@ -332,3 +339,59 @@ long_id_links : map links_of (live_in (run_of general (tight_state (record { bas
     by sysop_user (post_to (codes "Hello") 1) ∷ by sysop_user (post_to (codes "Hello") 2) ∷ by sysop_user (Kill 2) ∷ by sysop_user (post_to (codes "Hello") 1) ∷ [])).state) ≡
     (1 ∷ 0 ∷ 4 ∷ 0 ∷ []) ∷ (3 ∷ 2 ∷ 0 ∷ 0 ∷ []) ∷ (4 ∷ 1 ∷ 0 ∷ 0 ∷ []) ∷ []
 long_id_links = refl
+
+-- a post, and an edit of it by its sender
+abbrev pub edits : Ran
+edits = ran (by test_user post ∷ by test_user (Edit 1 (codes "abcd") (0x42 ∷ 0x79 ∷ 0x65 ∷ 0x0D ∷ [])) ∷ [])
+
+-- header and text come behind the old ones: 141 bytes behind 1,164, and 4 behind 5; a pack leaves 1,024 and 141, and 4
+edit_lengths : (edits.replies ≡ Posted 1 ∷ Edited 1 ∷ []) × (numbers_of edits.state ≡ 1305 ∷ 9 ∷ 2 ∷ 1 ∷ [])
+    × (numbers_of (run_of general edits.state (by sysop_user Pack ∷ [])).state ≡ 1165 ∷ 4 ∷ 3 ∷ 1 ∷ [])
+    × (map (λ (one : Numbered). length (subfield_bytes one.message.subfields)) (live_in edits.state) ≡ 65 ∷ [])
+edit_lengths = (refl, refl, refl, refl)
+
+-- only the sender and the sysop edit, each part is refused one byte above its greatest length, and the subject is measured first
+edit_refusals : (ran (by test_user post ∷ by (record { name = codes "Test"; id = 7; level = 9 }) (Edit 1 [] []) ∷ by test_user (Edit 2 (replicate 73 65) []) ∷ by hello_user (Edit 1 (replicate 73 65) [])
+    ∷ by test_user (Edit 1 (replicate 73 65) (replicate 16385 65)) ∷ by test_user (Edit 1 (replicate 72 65) (replicate 16385 65))
+    ∷ by test_user (Edit 1 (replicate 72 65) (replicate 16384 65)) ∷ by sysop_user (Edit 1 [] []) ∷ by test_user (Kill 1) ∷ by test_user (Edit 1 [] []) ∷ [])).replies ≡
+    (Posted 1 ∷ Denied A1 ∷ NoMessage 2 ∷ Denied A6 ∷ TooLong Subject 73 ∷ TooLong Text 16385 ∷ Edited 1 ∷ Edited 1 ∷ Killed 1 ∷ NoMessage 1 ∷ [])
+edit_refusals = refl
+
+-- the first subject is the new one and keeps its HiID; without one, it goes last
+subject_rows : (with_subject (codes "new") (record { id = 2; hi = 0; bytes = codes "A" } ∷ record { id = 6; hi = 7; bytes = codes "old" } ∷ record { id = 6; hi = 0; bytes = codes "second" } ∷ [])
+    ≡ record { id = 2; hi = 0; bytes = codes "A" } ∷ record { id = 6; hi = 7; bytes = codes "new" } ∷ record { id = 6; hi = 0; bytes = codes "second" } ∷ [])
+    × (with_subject [] (record { id = 2; hi = 3; bytes = codes "A" } ∷ []) ≡ record { id = 2; hi = 3; bytes = codes "A" } ∷ record { id = 6; hi = 0; bytes = [] } ∷ [])
+subject_rows = (refl, refl)
+
+-- the reply to an edit that keeps the lengths of the message's parts, in files of these lengths
+abbrev pub edit_in : ℕ → ℕ → List Reply
+edit_in headers_len texts_len =
+    (run_of general (record (ran (by test_user post ∷ [])).state { headers_len = headers_len; texts_len = texts_len }) (by test_user (Edit 1 (codes "xyz") (replicate 5 65)) ∷ [])).replies
+
+-- an edit that just fits the files, and one byte more
+edit_full : (edit_in 134217588 67108859 ≡ Edited 1 ∷ []) × (edit_in 134217589 67108860 ≡ HeadersFull 134217729 ∷ [])
+    × (edit_in 134217588 67108860 ≡ TextFull 67108865 ∷ [])
+edit_full = (refl, refl, refl)
+
+-- a message with a kludge of so many bytes and no subject
+abbrev pub with_kludge : ℕ → Slot
+with_kludge len = Live (record { head = head_of 0; subfields = record { id = 2000; hi = 0; bytes = replicate len 65 } ∷ []; text = [] })
+
+-- the reply to an edit of it with this subject
+abbrev pub edit_of_kludge : ℕ → List ℕ → List Reply
+edit_of_kludge len subject =
+    (run_of general (tight_state (record { base = 1; slots = with_kludge len ∷ []; marks = [] })) (by sysop_user (Edit 1 subject []) ∷ [])).replies
+
+-- 262,128 bytes, two heads of 8 and an empty subject are the 262,144 that a header may have; one byte more is refused
+kludge_rows : (edit_of_kludge 262128 [] ≡ Edited 1 ∷ []) × (edit_of_kludge 262128 (codes "a") ≡ SubfieldsFull 262145 ∷ [])
+kludge_rows = (refl, refl)
+
+-- a message whose subject has 100 bytes
+abbrev pub long_subject : Slot
+long_subject = Live (record { head = head_of 0; subfields = record { id = 6; hi = 0; bytes = replicate 100 65 } ∷ []; text = [] })
+
+-- a subject that a message has already is taken however long it is, and another one of 73 bytes is not
+kept_subject : (run_of general (tight_state (record { base = 1; slots = long_subject ∷ []; marks = [] }))
+    (by sysop_user (Edit 1 (replicate 100 65) (codes "x")) ∷ by sysop_user (Edit 1 (replicate 73 65) []) ∷ by sysop_user (Edit 1 (replicate 72 65) []) ∷ [])).replies
+    ≡ Edited 1 ∷ TooLong Subject 73 ∷ Edited 1 ∷ []
+kept_subject = refl

@@ -1,5 +1,5 @@
 -- A refusal keeps the state, and each command has exactly one answer.
-use Rattle.std.proofs.Common.{◌≡◌, ℕ, true, false, ◌==◌, Option, Some, None, refl, sym, ◌∙◌, ap}
+use Rattle.std.proofs.Common.{◌≡◌, ℕ, true, false, ◌==◌, List, Option, Some, None, refl, sym, ◌∙◌, ap}
 use Rattle.std.proofs.lemmas.Bool.{cond_both}
 use Rattle.jb_base.specs.Access.{first_refusal}
 use Rattle.jb_base.specs.declared.area.AreaRules.{AreaRules}
@@ -7,12 +7,14 @@ use Rattle.jb_base.specs.declared.area.Rule.{Rule}
 use Rattle.jb_base.specs.declared.user.User.{User}
 use Rattle.jb_model.specs.Answered.{Answered, unless_denied, unless_refused, with_message}
 use Rattle.jb_state.specs.Live.{counted}
-use Rattle.jb_base.specs.declared.area.Action.TheVariants.{List as Listing, Post as Posting, Kill as Killing, Tend as Tending}
+use Rattle.jb_base.specs.declared.area.Action.TheVariants.{List as Listing, Post as Posting, Edit as Editing, Kill as Killing, Tend as Tending}
+use Rattle.jb_model.specs.Edit.{edit_by, edit_done, edit_refusal, new_subject}
 use Rattle.jb_model.specs.Kill.{kill_done}
+use Rattle.jb_state.specs.Edited.{edited}
 use Rattle.jb_state.specs.Message.{envelope_of}
 use Rattle.jb_model.specs.Letter.{letter_of}
 use Rattle.jb_model.specs.Pack.{pack_done, pack_refusal, pack_step}
-use Rattle.jb_model.specs.Post.{Draft, answer_refusal, draft_refusal, post_done, post_step, posted_message, room_refusal}
+use Rattle.jb_model.specs.Post.{Draft, answer_refusal, draft_refusal, parts_refusal, post_done, post_step, posted_message, room_refusal}
 use Rattle.jb_model.specs.Read.{read_done, read_message}
 use Rattle.jb_model.specs.Relink.{relink_done, relink_step}
 use Rattle.jb_state.specs.Relinked.{relinked_slots, wrongly_linked}
@@ -23,7 +25,7 @@ use Rattle.jb_model.specs.Standing.{is_refusal}
 use Rattle.jb_state.specs.State.{AreaState, LiveMessage}
 use Rattle.jb_model.specs.Step.{Step, step}
 use Rattle.jb_model.specs.declared.command.Command.{Command}
-use Rattle.jb_model.specs.declared.command.Command.TheVariants.{Post, Read, Peek, Kill, SetMark, Pack, Relink}
+use Rattle.jb_model.specs.declared.command.Command.TheVariants.{Post, Edit, Read, Peek, Kill, SetMark, Pack, Relink}
 use Rattle.jb_model.specs.declared.reply.Reply.{Reply}
 use Rattle.jb_state.proofs.LinkLaws.{true_not_false}
 
@@ -73,6 +75,16 @@ on_message_keeps rules state user number act keeps =
     denied_keeps state (first_refusal user rules Listing None) (with_message state number (visible_at rules user state number) act)
     (message_keeps state number (visible_at rules user state number) act keeps)
 
+-- a refused edit
+edit_keeps : (rules : AreaRules) (state : AreaState) (user : User) (number : ℕ) (subject text : List ℕ) (message : LiveMessage) → KeepsRefused state (edit_by rules state user number subject text message)
+edit_keeps rules state user number subject text message =
+    let now : LiveMessage = edited subject text message in
+    let done : Answered = edit_done state number now in
+    let room : Answered = unless_refused state (edit_refusal state now) done in
+    denied_keeps state (first_refusal user rules Editing (Some (envelope_of message))) (unless_refused state (parts_refusal (new_subject subject message) text) room)
+    (refused_keeps state (parts_refusal (new_subject subject message) text) room
+    (refused_keeps state (edit_refusal state now) done (done_keeps state done refl)))
+
 -- a refused mark
 set_mark_keeps : (rules : AreaRules) (state : AreaState) (user : User) (number : ℕ) → KeepsRefused state (set_mark_step rules state user number)
 set_mark_keeps rules state user number =
@@ -98,6 +110,8 @@ relink_keeps rules state user =
 pub refusal_keeps : (rules : AreaRules) (state : AreaState) (user : User) (moment : ℕ) (command : Command) → KeepsRefused state (step rules state user moment command)
 refusal_keeps rules state user moment (Post to subject text reply_to private) =
     post_keeps rules state user moment (record { to = to; subject = subject; text = text; reply_to = reply_to; private = private })
+refusal_keeps rules state user moment (Edit number subject text) =
+    on_message_keeps rules state user number (edit_by rules state user number subject text) (edit_keeps rules state user number subject text)
 refusal_keeps rules state user moment (Read number) =
     on_message_keeps rules state user number (λ message. read_done state number (read_message user moment message))
     (λ message. done_keeps state (read_done state number (read_message user moment message)) refl)

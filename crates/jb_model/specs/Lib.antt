@@ -1,4 +1,5 @@
 pub mod Answered
+pub mod Edit
 pub mod History
 pub mod Kill
 pub mod Letter

@@ -30,14 +30,19 @@ pub record Draft : Type 0 where
   pub reply_to : ℕ
   pub private : Bool
 
+-- a subject or a text is too long
+abbrev pub parts_refusal : List ℕ → List ℕ → Option Reply
+parts_refusal subject text =
+    if nat_lt MOST_SUBJECT_BYTES (length subject) then Some (TooLong Subject (length subject))
+    else if nat_lt MOST_POSTED_TEXT_BYTES (length text) then Some (TooLong Text (length text))
+    else None
+
 -- a part of the draft is empty or too long
 abbrev pub draft_refusal : Draft → Option Reply
 draft_refusal draft =
     if length draft.to == 0 then Some (EmptyName To)
     else if nat_lt MOST_NAME_BYTES (length draft.to) then Some (TooLong To (length draft.to))
-    else if nat_lt MOST_SUBJECT_BYTES (length draft.subject) then Some (TooLong Subject (length draft.subject))
-    else if nat_lt MOST_POSTED_TEXT_BYTES (length draft.text) then Some (TooLong Text (length draft.text))
-    else None
+    else parts_refusal draft.subject draft.text
 
 -- the draft answers a message that the user does not see
 abbrev pub answer_refusal : AreaRules → AreaState → User → Draft → Option Reply
@@ -48,16 +53,21 @@ answer_refusal rules state user draft =
 abbrev pub told_length : ℕ → ℕ
 told_length len = min len (2 ^ 64 - 1)
 
+-- the files have no room for this message
+abbrev pub files_refusal : AreaState → LiveMessage → Option Reply
+files_refusal state message =
+    if nat_lt HEADERS_CEILING (state.headers_len + header_length message)
+    then Some (HeadersFull (told_length (state.headers_len + header_length message)))
+    else if nat_lt TEXTS_CEILING (state.texts_len + length message.text)
+    then Some (TextFull (told_length (state.texts_len + length message.text)))
+    else None
+
 -- the area has no further number, no slot, or no room in its files for this message
 abbrev pub room_refusal : AreaRules → AreaState → LiveMessage → Option Reply
 room_refusal rules state message =
     if nat_lt LAST_POSTED_NUMBER (next_number state) then Some (NumbersSpent (next_number state))
     else if nat_le rules.slots (length state.slots) then Some (SlotsFull rules.slots)
-    else if nat_lt HEADERS_CEILING (state.headers_len + header_length message)
-    then Some (HeadersFull (told_length (state.headers_len + header_length message)))
-    else if nat_lt TEXTS_CEILING (state.texts_len + length message.text)
-    then Some (TextFull (told_length (state.texts_len + length message.text)))
-    else None
+    else files_refusal state message
 
 -- so many digits of a number in base 16, in lower case, the lowest last
 abbrev pub hex_digits : ℕ → ℕ → List ℕ

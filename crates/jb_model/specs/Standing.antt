@@ -8,7 +8,7 @@ use Rattle.jb_model.specs.declared.entry.Entry.{Entry}
 use Rattle.jb_model.specs.declared.entry.Entry.TheVariants.{Called, Reopened}
 use Rattle.jb_model.specs.declared.entry.Outcome.TheVariants.{Replied, InDoubt as LeftInDoubt, NotBegun}
 use Rattle.jb_model.specs.declared.reply.Reply.{Reply}
-use Rattle.jb_model.specs.declared.reply.Reply.TheVariants.{Posted, Text, Killed, Marked, Packed, Relinked, Denied, NoMessage, TooLong, EmptyName, SlotsFull, HeadersFull, TextFull, NumbersSpent, MarksFull}
+use Rattle.jb_model.specs.declared.reply.Reply.TheVariants.{Posted, Edited, Text, Killed, Marked, Packed, Relinked, Denied, NoMessage, TooLong, EmptyName, SlotsFull, SubfieldsFull, HeadersFull, TextFull, NumbersSpent, MarksFull}
 
 -- at a state; or between the state before a change and, where there was a change, the one after it
 pub data Standing : Type 0 where
@@ -23,6 +23,7 @@ is_settled (InDoubt before after) = false
 -- the reply is a refusal
 abbrev pub is_refusal : Reply → Bool
 is_refusal (Posted number) = false
+is_refusal (Edited number) = false
 is_refusal (Text letter) = false
 is_refusal (Killed number) = false
 is_refusal (Marked last high) = false
@@ -33,6 +34,7 @@ is_refusal (NoMessage number) = true
 is_refusal (TooLong field len) = true
 is_refusal (EmptyName field) = true
 is_refusal (SlotsFull slots) = true
+is_refusal (SubfieldsFull len) = true
 is_refusal (HeadersFull len) = true
 is_refusal (TextFull len) = true
 is_refusal (NumbersSpent next) = true

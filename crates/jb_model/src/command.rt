@@ -13,6 +13,12 @@ pub enum Command {
         reply_to: u32,
         private: bool,
     },
+    /// The message gets another subject and another text; all else of it stays.
+    Edit {
+        number: u32,
+        subject: Bytes,
+        text: Bytes,
+    },
     /// The message is shown and counted as read.
     Read {
         number: u32,
@@ -46,6 +52,11 @@ impl Drop for Command {
                 reply_to: _reply_to,
                 private: _private,
             } => {}
+            Command::Edit {
+                number: _number,
+                subject: _subject,
+                text: _text,
+            } => {}
             Command::Read { number: _number } => {}
             Command::Peek { number: _number } => {}
             Command::Kill { number: _number } => {}
@@ -56,7 +67,7 @@ impl Drop for Command {
     }
 }
 
-/// A part of a message that is posted.
+/// A part of a message that is posted or edited.
 #[derive(Clone, Copy, Debug, PartialEq, Eq)]
 pub enum Field {
     To,

@@ -46,6 +46,8 @@ impl Drop for Letter {
 pub enum Reply {
     /// The new message has this number.
     Posted { number: u32 },
+    /// The message with this number is edited.
+    Edited { number: u32 },
     /// The message that was read or looked at.
     Text { letter: Letter },
     /// The message with this number is killed.
@@ -60,12 +62,14 @@ pub enum Reply {
     Denied { rule: Rule },
     /// The number names no message that the user may see; of a mark, no number below the next one.
     NoMessage { number: u32 },
-    /// This part of a post is too long, with its length in bytes.
+    /// This part of a post or of an edit is too long, with its length in bytes.
     TooLong { field: Field, length: u64 },
     /// This part of a post is empty and must not be.
     EmptyName { field: Field },
     /// The area has as many slots as its rules allow.
     SlotsFull { slots: u32 },
+    /// The edited message would have more bytes of subfields than a header may have, with how many.
+    SubfieldsFull { length: u64 },
     /// .JHR would exceed its ceiling, with the length that it would have, in bytes.
     HeadersFull { length: u64 },
     /// .JDT would exceed its ceiling, with the length that it would have, in bytes.
@@ -81,6 +85,7 @@ impl Drop for Reply {
     fn drop(self) {
         match self {
             Reply::Posted { number: _number } => {}
+            Reply::Edited { number: _number } => {}
             Reply::Text { letter: _letter } => {}
             Reply::Killed { number: _number } => {}
             Reply::Marked {
@@ -101,6 +106,7 @@ impl Drop for Reply {
             } => {}
             Reply::EmptyName { field: _field } => {}
             Reply::SlotsFull { slots: _slots } => {}
+            Reply::SubfieldsFull { length: _length } => {}
             Reply::HeadersFull { length: _length } => {}
             Reply::TextFull { length: _length } => {}
             Reply::NumbersSpent { next: _next } => {}

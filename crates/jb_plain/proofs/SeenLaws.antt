@@ -1,5 +1,5 @@
 -- What the plain program holds, and the ways through the commands.
-use Rattle.std.proofs.Common.{◌≡◌, ℕ, zero, suc, ◌+◌, ◌<◌, length, List, [], ◌∷◌, get_or, Some, None, ◌∙◌, ap}
+use Rattle.std.proofs.Common.{◌≡◌, ℕ, zero, suc, ◌<◌, length, List, [], ◌∷◌, get_or, Some, None, ◌∙◌, ap}
 use Rattle.std.specs.Prelude.{Option, nat_le, nat_lt, slice_get, unwrap_or, if◌then◌else◌}
 use Rattle.jb_base.specs.Access.{first_refusal}
 use Rattle.jb_base.specs.declared.area.Action.TheVariants.{List as Listing, Post as Posting, Kill as Killing, Tend as Tending}
@@ -7,12 +7,12 @@ use Rattle.jb_base.specs.declared.area.AreaRules.{AreaRules}
 use Rattle.jb_base.specs.declared.user.User.{User}
 use Rattle.jb_model.specs.Answered.{Answered, unless_denied, unless_refused, with_message}
 use Rattle.jb_model.specs.Kill.{kill_done, kill_step}
-use Rattle.jb_state.specs.Message.{envelope_of, header_length}
+use Rattle.jb_state.specs.Message.{envelope_of}
 use Rattle.jb_model.specs.Pack.{pack_done, pack_refusal, pack_step}
-use Rattle.jb_model.specs.Post.{Draft, answer_refusal, draft_refusal, post_done, post_step, posted_message, room_refusal, told_length}
+use Rattle.jb_model.specs.Post.{Draft, answer_refusal, draft_refusal, files_refusal, post_done, post_step, posted_message, room_refusal}
 use Rattle.jb_state.specs.Posted.{slots_with}
-use Rattle.jb_limits.specs.declared.limits.TheConstants.{HEADERS_CEILING, LAST_POSTED_NUMBER, TEXTS_CEILING}
-use Rattle.jb_model.specs.declared.reply.Reply.TheVariants.{HeadersFull, NumbersSpent, SlotsFull, TextFull}
+use Rattle.jb_limits.specs.declared.limits.TheConstants.{LAST_POSTED_NUMBER}
+use Rattle.jb_model.specs.declared.reply.Reply.TheVariants.{NumbersSpent, SlotsFull}
 use Rattle.std.proofs.lemmas.Bool.{cond-true, lt-ltb}
 use Rattle.jb_model.specs.Read.{read_done, read_message, read_step}
 use Rattle.jb_model.specs.SetMark.{mark_at, mark_done, mark_refusal, set_mark_step}
@@ -66,12 +66,7 @@ mark_way rules state user number listed none =
 -- the refusals for want of room behind the first
 abbrev pub later_refusal : AreaRules → AreaState → LiveMessage → Option Reply
 later_refusal rules state message =
-    if nat_le rules.slots (length state.slots) then Some (SlotsFull rules.slots)
-    else if nat_lt HEADERS_CEILING (state.headers_len + header_length message)
-    then Some (HeadersFull (told_length (state.headers_len + header_length message)))
-    else if nat_lt TEXTS_CEILING (state.texts_len + length message.text)
-    then Some (TextFull (told_length (state.texts_len + length message.text)))
-    else None
+    if nat_le rules.slots (length state.slots) then Some (SlotsFull rules.slots) else files_refusal state message
 
 -- the way to the end of the numbers
 pub spent_way : (rules : AreaRules) (state : AreaState) (user : User) (moment : ℕ) (draft : Draft) → first_refusal user rules Posting None ≡ None → draft_refusal draft ≡ None → answer_refusal rules state user draft ≡ None → LAST_POSTED_NUMBER < next_number state → post_step rules state user moment draft ≡ answer (NumbersSpent (next_number state)) state

@@ -1,26 +1,28 @@
 -- Messages stay small from command to command, so that their sums are numbers of eight bytes.
-use Rattle.std.proofs.Common.{◌≡◌, ℕ, zero, suc, ◌+◌, ◌-◌, ◌*◌, ◌^◌, ◌<◌, ◌≤◌, min, Bool, true, false, cond, ◌==◌, List, [], ◌∷◌, ◌++◌, length, drop, map, All, Some, None, refl, ap, subst, arith}
+use Rattle.std.proofs.Common.{◌≡◌, ℕ, zero, suc, ◌+◌, ◌-◌, ◌*◌, ◌^◌, ◌<◌, ◌≤◌, min, cond, ◌==◌, List, [], ◌∷◌, ◌++◌, length, drop, map, All, Some, None, refl, ap, subst, arith}
 use Rattle.std.specs.Prelude.{Option, nat_le, nat_lt, option_map, slice_get, slice_set, unwrap_or}
-use Rattle.std.proofs.lemmas.Bool.{cond_both, ltb-false}
+use Rattle.std.proofs.lemmas.Bool.{cond_both}
 use Rattle.std.proofs.lemmas.List.Sums.{sum_by-cons}
 use Rattle.std.proofs.lemmas.List.Elements.{All-head, All-tail}
 use Rattle.jb_base.specs.Access.{first_refusal}
 use Rattle.jb_bytes.specs.Name.{same_name}
 use Rattle.jb_bytes.specs.Subfields.{receiver_of}
-use Rattle.jb_base.specs.declared.area.Action.TheVariants.{List as Listing, Post as Posting, Kill as Killing, Tend as Tending}
+use Rattle.jb_base.specs.declared.area.Action.TheVariants.{List as Listing, Post as Posting, Edit as Editing, Kill as Killing, Tend as Tending}
 use Rattle.jb_base.specs.declared.area.AreaRules.{AreaRules}
 use Rattle.jb_base.specs.declared.area.Rule.{Rule}
-use Rattle.jb_limits.specs.declared.limits.TheConstants.{HEADERS_CEILING, LAST_POSTED_NUMBER, TEXTS_CEILING}
+use Rattle.jb_limits.specs.declared.limits.TheConstants.{LAST_POSTED_NUMBER}
 use Rattle.jb_base.specs.declared.user.User.{User}
 use Rattle.jb_model.specs.Answered.{Answered, unless_denied, unless_refused, with_message}
 use Rattle.jb_state.specs.Live.{counted, change_live_from, live_of, message_at}
+use Rattle.jb_model.specs.Edit.{edit_by, edit_done, edit_refusal, new_subject}
 use Rattle.jb_model.specs.Kill.{kill_done}
+use Rattle.jb_state.specs.Edited.{edited}
 use Rattle.jb_state.specs.Links.{last_reply_of, linkables_of}
 use Rattle.jb_state.specs.Message.{envelope_of, header_length}
 use Rattle.jb_model.specs.Letter.{letter_of}
 use Rattle.jb_state.specs.PackedState.{emptied, packed_base, packed_slots}
 use Rattle.jb_model.specs.Pack.{pack_done, pack_refusal}
-use Rattle.jb_model.specs.Post.{Draft, answer_refusal, draft_refusal, post_done, posted_message, room_refusal}
+use Rattle.jb_model.specs.Post.{Draft, answer_refusal, draft_refusal, parts_refusal, post_done, posted_message, room_refusal}
 use Rattle.jb_state.specs.Posted.{slots_with, spliced_slots, with_first_reply, with_next_reply}
 use Rattle.jb_model.specs.Read.{read_done, read_message, read_once_more, received_at}
 use Rattle.jb_model.specs.Relink.{relink_done}
@@ -31,11 +33,11 @@ use Rattle.jb_model.specs.Step.{step}
 use Rattle.jb_state.specs.Tight.{header_bytes, headers_together, text_bytes, texts_together}
 use Rattle.jb_state.specs.Visible.{if_shown, is_shown, visible_at}
 use Rattle.jb_model.specs.declared.command.Command.{Command}
-use Rattle.jb_model.specs.declared.command.Command.TheVariants.{Post, Read, Peek, Kill, SetMark, Pack, Relink}
+use Rattle.jb_model.specs.declared.command.Command.TheVariants.{Post, Edit, Read, Peek, Kill, SetMark, Pack, Relink}
 use Rattle.jb_model.specs.declared.reply.Reply.{Reply}
 use Rattle.jb_model.specs.declared.reply.Reply.TheVariants.{Relinked, Text}
 use Rattle.jb_plain.specs.Small.{AreSmall, IsSmall}
-use Rattle.jb_model.proofs.RangeLaws.{none_of}
+use Rattle.jb_model.proofs.RangeLaws.{HasFilesFor, files_for, none_of, room_anew}
 
 -- slots that a base may have are small
 small_slot : (slot : SlotState) → IsSlotInRange slot → IsSmall slot
@@ -196,16 +198,17 @@ small_spliced state parent number small =
     (λ e. small_renamed state parent (with_first_reply number) (message_at state parent) (λ m. record { header = refl; text = refl }) small (λ m is. small_live state parent m is small))
     (λ e. small_renamed state last (with_next_reply number) (message_at state last) (λ m. record { header = refl; text = refl }) small (λ m is. small_live state last m is small)))
 
+-- a message for which the files have room is small
+small_files : (state : AreaState) (message : LiveMessage) → HasFilesFor state message → IsSmall (live_message message)
+small_files state message files =
+    let low = files.headers in let short = files.texts in record { header = omega arith; text = omega arith }
+
 -- where there is room for a message, it is small
 small_room : (rules : AreaRules) (state : AreaState) (message : LiveMessage) → room_refusal rules state message ≡ None → IsSmall (live_message message)
 small_room rules state message none =
     let numbers = none_of (nat_lt LAST_POSTED_NUMBER (next_number state)) _ _ none in
     let slots = none_of (nat_le rules.slots (length state.slots)) _ _ numbers.1 in
-    let headers = none_of (nat_lt HEADERS_CEILING (state.headers_len + header_length message)) _ _ slots.1 in
-    let texts = none_of (nat_lt TEXTS_CEILING (state.texts_len + length message.text)) _ _ headers.1 in
-    let low : state.headers_len + header_length message ≤ HEADERS_CEILING = ltb-false HEADERS_CEILING (state.headers_len + header_length message) headers.0 in
-    let short : state.texts_len + length message.text ≤ TEXTS_CEILING = ltb-false TEXTS_CEILING (state.texts_len + length message.text) texts.0 in
-    record { header = omega arith; text = omega arith }
+    small_files state message (files_for state message slots.1)
 
 -- an answer of each command leaves small slots
 pub small_step : (rules : AreaRules) (state : AreaState) (user : User) (moment : ℕ) (command : Command) → AreSmall state.slots → LeavesSmall (step rules state user moment command)
@@ -219,6 +222,16 @@ small_step rules state user moment (Post to subject text reply_to private) small
     (refused_small state (draft_refusal draft) answered small (λ fit. refused_small state (answer_refusal rules state user draft) room small
     (λ seen. refused_small state (room_refusal rules state message) done small
     (λ none. small_push (spliced_slots state message.head.reply_to (next_number state)) (live_message message) (small_spliced state message.head.reply_to (next_number state) small) (small_room rules state message none)))))
+small_step rules state user moment (Edit number subject text) small =
+    let act : LiveMessage → Answered = edit_by rules state user number subject text in
+    denied_small state (first_refusal user rules Listing None) (with_message state number (visible_at rules user state number) act) small
+    (message_small rules state user number (message_at state number) act small
+    (λ message is. let now : LiveMessage = edited subject text message in
+    let done : Answered = edit_done state number now in
+    let room : Answered = unless_refused state (edit_refusal state now) done in
+    denied_small state (first_refusal user rules Editing (Some (envelope_of message))) (unless_refused state (parts_refusal (new_subject subject message) text) room) small
+    (refused_small state (parts_refusal (new_subject subject message) text) room small (λ fit. refused_small state (edit_refusal state now) done small
+    (λ none. small_set state.slots (number - state.base) (live_message now) small (small_files state now (room_anew state now none).files))))))
 small_step rules state user moment (Read number) small =
     let act : LiveMessage → Answered = λ message. read_done state number (read_message user moment message) in
     denied_small state (first_refusal user rules Listing None) (with_message state number (visible_at rules user state number) act) small

@@ -1,14 +1,12 @@
 -- The changes of a command, one after another.
-use Rattle.std.specs.Prelude.{ℕ, List, [], ◌∷◌, ◌++◌, ◌+◌, ◌-◌, drop, map, Option, option_map, option_to_list, min, ◌^◌}
+use Rattle.std.specs.Prelude.{ℕ, Bool, if◌then◌else◌, List, ◌+◌, ◌-◌, drop, map, option_map, min, ◌^◌}
+use Rattle.jb_state.specs.Edited.{with_subject}
 use Rattle.jb_state.specs.Live.{message_at}
 use Rattle.jb_state.specs.PackedState.{emptied}
 use Rattle.jb_state.specs.Tight.{headers_together, texts_together}
 use Rattle.jb_bytes.specs.declared.subfield.Subfield.{Subfield}
-use Rattle.jb_bytes.specs.declared.subfield.TheConstants.{SENDER_NAME, RECEIVER_NAME, MSGID, REPLYID, SUBJECT}
-use Rattle.jb_base.specs.declared.user.User.{User}
-use Rattle.jb_model.specs.Post.{Draft, plain_field}
+use Rattle.jb_model.specs.Post.{Draft}
 use Rattle.jb_state.specs.Posted.{slots_with, spliced_slots}
-use Rattle.jb_state.specs.Relinked.{relinked_slots}
 use Rattle.jb_state.specs.State.{AreaState, LiveMessage}
 use Rattle.jb_plain.specs.declared.post.PlainDraft.{PlainDraft as LentDraft}
 
@@ -34,3 +32,7 @@ tightened_area state = record state {
 -- what a user wrote, as the definitions see it
 abbrev pub draft_of : LentDraft → Draft
 draft_of draft = record { to = draft.to.now; subject = draft.subject.now; text = draft.text.now; reply_to = draft.reply_to; private = draft.private }
+
+-- the rest of a message's subfields, of which the first SUBJECT gets this subject where none before it did
+abbrev pub with_subject_in_rest : Bool → List ℕ → List Subfield → List Subfield
+with_subject_in_rest named subject fields = if named then fields else with_subject subject fields

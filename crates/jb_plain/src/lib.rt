@@ -5,6 +5,7 @@
 //! the links of an area of n messages cost n³ looks at messages.
 #![tactic(auto)]
 
+mod edit;
 mod fit;
 mod held;
 mod kill;

@@ -2,13 +2,14 @@
 ghost use Rattle.std.specs.Prelude.{◌≡◌, ◌+◌, ◌<◌, ◌≤◌, ◌++◌, ◌∷◌, [], IfOk, OnOk, Some, length, option_map};
 ghost use Rattle.std.specs.Borrow.{Bor};
 ghost use Rattle.jb_state.specs.Message.{header_length};
-ghost use Rattle.jb_model.specs.Post.{answer_refusal, draft_refusal, id_crc, plain_field, post_step, posted_message, room_refusal, fields_with};
+ghost use Rattle.jb_model.specs.Post.{answer_refusal, draft_refusal, files_refusal, id_crc, parts_refusal, plain_field, post_step, posted_message, room_refusal, fields_with};
 ghost use Rattle.jb_state.specs.Posted.{posted_replyid, posted_state, with_first_reply, with_next_reply};
 ghost use Rattle.jb_state.specs.State.{next_number};
 ghost use Rattle.jb_state.specs.Tight.{owned};
 ghost use Rattle.jb_plain.specs.Changes.{draft_of, renamed_area, spliced_area};
 ghost use Rattle.jb_plain.specs.Seen.{seen_state};
 
+use crate::edit::put_copy;
 use crate::held::PlainState;
 use crate::links::{last_reply, parent_with};
 use crate::message::{message_at, visible_at};
@@ -17,7 +18,7 @@ use jb_access::Action;
 use jb_base::{
     AreaRules, Bytes, HEADERS_CEILING, LAST_POSTED_NUMBER, MOST_COPIED_MSGID_BYTES,
     MOST_NAME_BYTES, MOST_POSTED_TEXT_BYTES, MOST_SUBJECT_BYTES, MSGID, OutOfMemory, RECEIVER_NAME,
-    REPLYID, SENDER_NAME, SUBJECT, Subfield, Subfields, TEXTS_CEILING, User,
+    REPLYID, SENDER_NAME, SUBJECT, Subfields, TEXTS_CEILING, User,
 };
 use jb_crc::jam_crc;
 use jb_model::{Field, Reply, posted_attribute, posted_msgid};
@@ -45,6 +46,19 @@ fn too_long(field: Field, bytes: &[u8]) -> Option<Reply>
     })
 }
 
+/// Why a subject and a text are refused: one is too long.
+pub(crate) fn long_part(subject: &[u8], text: &[u8]) -> Option<Reply>
+    ensures { result ≡ parts_refusal subject.now text.now }
+{
+    if subject.len() > MOST_SUBJECT_BYTES {
+        too_long(Field::Subject, subject)
+    } else if text.len() > MOST_POSTED_TEXT_BYTES {
+        too_long(Field::Text, text)
+    } else {
+        None
+    }
+}
+
 /// Why a draft is refused: a part of it is empty or too long.
 fn unfit(draft: PlainDraft<'_>) -> Option<Reply>
     ensures { result ≡ draft_refusal (draft_of draft.entry) }
@@ -53,12 +67,8 @@ fn unfit(draft: PlainDraft<'_>) -> Option<Reply>
         Some(Reply::EmptyName { field: Field::To })
     } else if draft.to.len() > MOST_NAME_BYTES {
         too_long(Field::To, draft.to)
-    } else if draft.subject.len() > MOST_SUBJECT_BYTES {
-        too_long(Field::Subject, draft.subject)
-    } else if draft.text.len() > MOST_POSTED_TEXT_BYTES {
-        too_long(Field::Text, draft.text)
     } else {
-        None
+        long_part(draft.subject, draft.text)
     }
 }
 
@@ -82,25 +92,34 @@ fn unanswered(
     None
 }
 
-/// Why there is no room for the message.
-fn no_room(rules: &AreaRules, state: &PlainState, message: &Message) -> Option<Reply>
-    ensures { result ≡ room_refusal rules.now (seen_state state.now) (owned message.now) }
+/// Why the files have no room for the message.
+pub(crate) fn files_full(state: &PlainState, message: &Message) -> Option<Reply>
+    ensures { result ≡ files_refusal (seen_state state.now) (owned message.now) }
 {
     let headers = state
         .headers_len
         .saturating_add(headed_length(&message.subfields));
     let texts = state.texts_len.saturating_add(message.text.len() as u64);
-    let next = state.next();
-    if next > LAST_POSTED_NUMBER {
-        Some(Reply::NumbersSpent { next })
-    } else if state.slots.len() >= rules.slots as usize {
-        Some(Reply::SlotsFull { slots: rules.slots })
-    } else if headers > HEADERS_CEILING {
+    if headers > HEADERS_CEILING {
         Some(Reply::HeadersFull { length: headers })
     } else if texts > TEXTS_CEILING {
         Some(Reply::TextFull { length: texts })
     } else {
         None
+    }
+}
+
+/// Why there is no room for the message.
+fn no_room(rules: &AreaRules, state: &PlainState, message: &Message) -> Option<Reply>
+    ensures { result ≡ room_refusal rules.now (seen_state state.now) (owned message.now) }
+{
+    let next = state.next();
+    if next > LAST_POSTED_NUMBER {
+        Some(Reply::NumbersSpent { next })
+    } else if state.slots.len() >= rules.slots as usize {
+        Some(Reply::SlotsFull { slots: rules.slots })
+    } else {
+        files_full(state, message)
     }
 }
 
@@ -126,8 +145,7 @@ fn put_field(
 ) -> Result<(), OutOfMemory>
     ensures { OnOk result (subfields.new ≡ subfields.old ++ plain_field id bytes.now ∷ []) }
 {
-    let bytes = Bytes::copy(alloc, bytes)?;
-    subfields.push(Subfield { id, hi: 0, bytes })
+    put_copy(alloc, subfields, id, 0, bytes)
 }
 
 /// The subfields of the message that is posted.

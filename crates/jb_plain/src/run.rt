@@ -7,6 +7,7 @@ ghost use Rattle.jb_state.specs.Tight.{tight_state};
 ghost use Rattle.jb_plain.specs.Seen.{seen_state};
 ghost use Rattle.jb_plain.specs.Small.{AreSmall};
 
+use crate::edit::{PlainEdit, edit};
 use crate::held::PlainState;
 use crate::kill::kill;
 use crate::mark::set_mark;
@@ -72,6 +73,18 @@ fn step(
                 private: *private,
             };
             post(alloc, rules, state, user, asked.moment, draft)
+        }
+        Command::Edit {
+            number,
+            subject,
+            text,
+        } => {
+            let written = PlainEdit {
+                number: *number,
+                subject: subject.as_slice(),
+                text: text.as_slice(),
+            };
+            edit(alloc, rules, state, user, written)
         }
         Command::Read { number } => read(alloc, rules, state, user, asked.moment, *number),
         Command::Peek { number } => peek(alloc, rules, state, user, *number),

@@ -13,7 +13,7 @@ use Rattle.jb_decide.specs.declared.error.AreaError.{AreaError}
 use Rattle.jb_decide.specs.declared.error.AreaError.TheVariants as failing
 use Rattle.jb_disk.specs.Device.{Device}
 use Rattle.jb_model.specs.declared.command.Command.{Command}
-use Rattle.jb_model.specs.declared.command.Command.TheVariants.{Post, Read, Peek, Kill, SetMark, Pack, Relink}
+use Rattle.jb_model.specs.declared.command.Command.TheVariants.{Post, Edit, Read, Peek, Kill, SetMark, Pack, Relink}
 use Rattle.jb_model.specs.declared.entry.Entry.{Entry}
 use Rattle.jb_model.specs.declared.reply.Reply.{Reply}
 use Rattle.jb_pack.specs.Shadow.{Shadow, left}
@@ -190,6 +190,7 @@ steps_behind old mid new user moment bytes most (Err error) is first (steps, lef
 -- a command that is no pack makes no step
 none_made : (command : Command) (result : Result Reply SharedError) → (command ≡ Pack → ⊥) → HasSteps command [] result
 none_made (Post to subject text reply_to private) result other = refl
+none_made (Edit number subject text) result other = refl
 none_made (Read number) result other = refl
 none_made (Peek number) result other = refl
 none_made (Kill number) result other = refl

@@ -1,4 +1,5 @@
 pub mod CountLaws
+pub mod EditLaws
 pub mod LinkLaws
 pub mod LinkedLaws
 pub mod MarkLaws

@@ -119,7 +119,7 @@ packed_is_linked state =
     subst P (sym (live_in-packed state)) (all_linked (linkables_of state) (live_in state) refl)
 
 -- what passes among changed elements, where the test is the same before the change
-filter-map : {X Y : Type 0} (test : Y → Bool) (other : X → Bool) (change : X → Y) → ((x : X) → test (change x) ≡ other x) → (xs : List X) → filter test (map change xs) ≡ map change (filter other xs)
+pub filter-map : {X Y : Type 0} (test : Y → Bool) (other : X → Bool) (change : X → Y) → ((x : X) → test (change x) ≡ other x) → (xs : List X) → filter test (map change xs) ≡ map change (filter other xs)
 filter-map test other change same [] = refl
 filter-map {X} {Y} test other change same (x ∷ xs) =
     let P : List X → Type 0 = λ kept. filter test (map change (x ∷ xs)) ≡ map change kept in

@@ -1,10 +1,10 @@
 -- The message that a number names, where a user sees it, is the one that the user sees under that number.
-use Rattle.std.proofs.Common.{◌≡◌, ℕ, zero, suc, ◌+◌, ◌-◌, ◌<◌, inl, inr, Bool, true, false, cond, ◌==◌, List, [], ◌∷◌, length, get_or, map, Option, Some, None, find, refl, sym, ◌∙◌, ap, subst, arith}
+use Rattle.std.proofs.Common.{◌≡◌, ℕ, zero, suc, ◌+◌, ◌-◌, ◌<◌, inl, inr, Bool, true, false, cond, ◌==◌, List, [], ◌∷◌, length, get_or, Option, Some, None, find, refl, sym, ◌∙◌, ap, subst, arith}
 use Rattle.std.specs.Prelude.{filter, option_map, slice_get, nat_lt, Contains, IsSome, is_some, ◌↔◌, if◌then◌else◌}
 use Rattle.std.proofs.lemmas.Bool.{cases_order, cond_both, cond-false, cond-true, eq-eqb, eqb-false, eqb-true, le-ltb, lt-ltb, ne_eqb}
 use Rattle.jb_base.specs.declared.area.AreaRules.{AreaRules}
 use Rattle.jb_base.specs.declared.user.User.{User}
-use Rattle.jb_state.specs.Live.{Numbered, live_from, live_in, live_of, message_at}
+use Rattle.jb_state.specs.Live.{Numbered, live_from, live_in, live_of, message_at, numbers_of}
 use Rattle.jb_state.specs.State.{AreaState, LiveMessage, SlotState, no_message, killed_message, live_message}
 use Rattle.jb_state.specs.Visible.{IsVisible, if_shown, is_shown, shown_to, unlinked, visible_at, visible_to}
 use Rattle.jb_state.proofs.LinkLaws.{contains_rest, true_not_false}
@@ -136,10 +136,6 @@ shown_of-number rules user number (live_message message ∷ slots) wanted =
 pub visible_at-shown : (rules : AreaRules) (user : User) (state : AreaState) (number : ℕ) → visible_at rules user state number ≡ message_of number (shown_to rules user state)
 visible_at-shown rules user state number =
     ap (if_shown rules user) (message_at-number state number) ∙ shown_of-number rules user state.base state.slots number
-
--- the numbers of these messages
-abbrev pub numbers_of : List Numbered → List ℕ
-numbers_of messages = map (λ (one : Numbered). one.number) messages
 
 -- a number is among those of these messages where one with that number is found
 found_among : (wanted : ℕ) (messages : List Numbered) → IsSome (message_of wanted messages) → Contains (numbers_of messages) wanted

@@ -3,18 +3,19 @@ use Rattle.std.specs.Prelude.{◌≡◌, ℕ, ◌+◌, ◌<◌, ◌≤◌, ◌%�
 use Rattle.jb_bytes.specs.Subfields.{subfield_bytes}
 use Rattle.jb_base.specs.declared.attribute.TheConstants.{DELETED}
 use Rattle.jb_limits.specs.declared.limits.TheConstants.{HEADERS_CEILING, LAST_POSTED_NUMBER, MOST_MARKS, MOST_SUBFIELD_BYTES, MOST_TEXT_BYTES, TEXTS_CEILING}
+use Rattle.jb_state.specs.Edited.{with_subject}
 use Rattle.jb_state.specs.Linked.{with_links_of}
 use Rattle.jb_state.specs.Links.{parent_of}
 use Rattle.jb_state.specs.Live.{live_count}
 use Rattle.jb_state.specs.LiveSlots.{linkables_from, loaded_linkable}
-use Rattle.jb_state.specs.Loaded.{IsMessageAt, header_size, slot_with_head, with_counts, with_marks, with_message_behind, with_slot_at}
+use Rattle.jb_state.specs.Loaded.{IsMessageAt, header_size, slot_with_head, with_counts, with_marks, with_message_anew, with_message_behind, with_slot_at}
 use Rattle.jb_state.specs.Marks.{with_mark}
 use Rattle.jb_state.specs.Packed.{kept_slots, new_base, packed, packed_texts, texts_size}
 use Rattle.jb_state.specs.Places.{IsPlaceOf}
 use Rattle.jb_state.specs.Plan.{plan_of}
 use Rattle.jb_state.specs.State.{slot_state}
 use Rattle.jb_state.specs.declared.change.Change.{Change}
-use Rattle.jb_state.specs.declared.change.Change.TheVariants.{Nothing, Posted, Headed, Killed, Relinked, Marked, Packed}
+use Rattle.jb_state.specs.declared.change.Change.TheVariants.{Nothing, Posted, Headed, Edited, Killed, Relinked, Marked, Packed}
 use Rattle.jb_state.specs.declared.change.HeadAt.{HeadAt}
 use Rattle.jb_state.specs.declared.loaded.Loaded.{Loaded}
 use Rattle.jb_state.specs.declared.loaded.LoadedMessage.{LoadedMessage}
@@ -53,21 +54,23 @@ abbrev pub after : Change → Loaded → Loaded
 after Nothing loaded = loaded
 after (Posted message neighbour) loaded = loaded_counted (with_message_behind message (headed_where neighbour loaded))
 after (Headed at) loaded = loaded_counted (headed at loaded)
+after (Edited place message) loaded = loaded_counted (with_message_anew place message loaded)
 after (Killed place) loaded = loaded_counted (with_slot_changed place killed_slot loaded)
 after (Relinked plan) loaded = loaded_counted (with_links_of plan loaded)
 after (Marked place mark) loaded = with_marks (with_mark mark loaded.marks) loaded
 after (Packed plan base) loaded = packed loaded
 
--- its texts then, of these before it: a text that was posted comes behind them, a pack leaves those of the live messages one behind
+-- its texts then, of these before it: a text that was written comes behind them, a pack leaves those of the live messages one behind
 -- another, and nothing else changes them
 abbrev pub texts_after : Change → Loaded → List ℕ → List ℕ → List ℕ
-texts_after Nothing loaded posted texts = texts
-texts_after (Posted message neighbour) loaded posted texts = texts ++ posted
-texts_after (Headed at) loaded posted texts = texts
-texts_after (Killed place) loaded posted texts = texts
-texts_after (Relinked plan) loaded posted texts = texts
-texts_after (Marked place mark) loaded posted texts = texts
-texts_after (Packed plan base) loaded posted texts = packed_texts texts loaded
+texts_after Nothing loaded written texts = texts
+texts_after (Posted message neighbour) loaded written texts = texts ++ written
+texts_after (Headed at) loaded written texts = texts
+texts_after (Edited place message) loaded written texts = texts ++ written
+texts_after (Killed place) loaded written texts = texts
+texts_after (Relinked plan) loaded written texts = texts
+texts_after (Marked place mark) loaded written texts = texts
+texts_after (Packed plan base) loaded written texts = packed_texts texts loaded
 
 -- a live message stands at this place, and the fields are those of its header but for the traces of a reading
 pub record IsReadingOf (at : HeadAt) (loaded : Loaded) : Type 0 where
@@ -101,6 +104,22 @@ pub record FitsBehind (limit : ℕ) (message : LoadedMessage) (loaded : Loaded) 
   pub live : bit_and message.head.attribute DELETED ≡ 0
   pub parent : message.head.reply_to ≡ parent_of (linkables_from loaded.base loaded.slots) (loaded_linkable (loaded.base + length loaded.slots) message)
 
+-- the message may take this place of one that differs in its subject and its text alone: its header and its text stand at the ends
+-- of their files, which have room
+pub record FitsAnew (place : ℕ) (message : LoadedMessage) (loaded : Loaded) : Type 0 where
+  pub was : LoadedMessage
+  pub here : IsMessageAt loaded place was
+  pub owner : message.owner ≡ was.owner
+  pub head : message.head ≡ was.head
+  pub subject : List ℕ
+  pub subfields : message.subfields ≡ with_subject subject was.subfields
+  pub header_at : message.header_at ≡ loaded.headers_len
+  pub text_at : message.text_at ≡ loaded.texts_len
+  pub headers : loaded.headers_len + header_size message ≤ HEADERS_CEILING
+  pub texts : loaded.texts_len + message.text_len ≤ TEXTS_CEILING
+  pub few_bytes : length (subfield_bytes message.subfields) ≤ MOST_SUBFIELD_BYTES
+  pub short : message.text_len ≤ MOST_TEXT_BYTES
+
 -- a live message stands at this place
 pub record HasMessageAt (place : ℕ) (loaded : Loaded) : Type 0 where
   pub message : LoadedMessage
@@ -111,6 +130,7 @@ abbrev pub Fits : ℕ → Change → Loaded → Type 0
 Fits limit Nothing loaded = Unit {0}
 Fits limit (Posted message neighbour) loaded = FitsBehind limit message loaded × IsNeighbourOf neighbour loaded
 Fits limit (Headed at) loaded = IsReadingOf at loaded
+Fits limit (Edited place message) loaded = FitsAnew place message loaded
 Fits limit (Killed place) loaded = HasMessageAt place loaded
 Fits limit (Relinked plan) loaded = plan ≡ plan_of (linkables_from loaded.base loaded.slots)
 Fits limit (Marked place mark) loaded = IsPlaceOf mark.user_crc mark.user_id loaded.marks place × (place ≡ None → length loaded.marks < MOST_MARKS)

@@ -1,4 +1,5 @@
 pub mod Change
+pub mod Edited
 pub mod Linked
 pub mod Links
 pub mod Live

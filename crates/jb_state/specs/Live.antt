@@ -1,11 +1,15 @@
 -- The live messages of an area, with their numbers.
-use Rattle.std.specs.Prelude.{ℕ, ◌+◌, ◌-◌, ◌%◌, ◌^◌, nat_lt, Bool, true, false, List, [], ◌∷◌, Option, Some, None, count_by, slice_get, slice_set, if◌then◌else◌}
+use Rattle.std.specs.Prelude.{ℕ, ◌+◌, ◌-◌, ◌%◌, ◌^◌, nat_lt, Bool, true, false, List, [], ◌∷◌, map, Option, Some, None, count_by, slice_get, slice_set, if◌then◌else◌}
 use Rattle.jb_state.specs.State.{AreaState, LiveMessage, SlotState, no_message, killed_message, live_message}
 
 -- a live message and the number that names it
 pub record Numbered : Type 0 where
   pub number : ℕ
   pub message : LiveMessage
+
+-- the numbers of these messages
+abbrev pub numbers_of : List Numbered → List ℕ
+numbers_of messages = map (λ one. one.number) messages
 
 -- the live messages of slots of which the first has this number, in rising order
 abbrev pub live_from : ℕ → List SlotState → List Numbered

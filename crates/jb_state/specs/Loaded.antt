@@ -53,6 +53,14 @@ with_message_behind message loaded = record loaded {
   texts_len = loaded.texts_len + message.text_len;
 }
 
+-- the area with this message at a place, whose header and text stand at the ends of their files
+abbrev pub with_message_anew : ℕ → LoadedMessage → Loaded → Loaded
+with_message_anew place message loaded = record loaded {
+  slots = slice_set loaded.slots place (Live message);
+  headers_len = loaded.headers_len + header_size message;
+  texts_len = loaded.texts_len + message.text_len;
+}
+
 -- the area with these marks
 abbrev pub with_marks : List Mark → Loaded → Loaded
 with_marks marks loaded = record loaded { marks = marks }

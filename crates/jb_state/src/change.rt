@@ -24,6 +24,11 @@ pub enum Change {
     Headed {
         at: HeadAt,
     },
+    /// The message at this place has another subject and another text; its header and its text come behind the others.
+    Edited {
+        place: usize,
+        message: LoadedMessage,
+    },
     /// The message at this place is killed.
     Killed {
         place: usize,

@@ -8,6 +8,7 @@ use Rattle.jb_model.specs.declared.reply.Reply.TheVariants as reply
 use Rattle.jb_menu.specs.Awaits.{IsFor}
 use Rattle.jb_menu.specs.Boards.{level_of, may_read}
 use Rattle.jb_menu.specs.Answers.{marking_row, reading_row}
+use Rattle.jb_menu.specs.Editing.{peeking_row}
 use Rattle.jb_menu.specs.Menu.{menu_turn, stage_turn}
 use Rattle.jb_menu.specs.Top.{count_row}
 use Rattle.jb_menu.specs.declared.given.Given.{Given}
@@ -46,6 +47,7 @@ reading_falls : (board : Board) (visit : Visit) (marks : Bool) (answer : Reply) 
 reading_falls board visit true (reply.Text the_letter) = λ _. omega arith
 reading_falls board visit false (reply.Text the_letter) = no
 reading_falls board visit true (reply.Posted the_number) = no
+reading_falls board visit true (reply.Edited the_number) = no
 reading_falls board visit true (reply.Killed the_number) = no
 reading_falls board visit true (reply.Marked the_last the_high) = no
 reading_falls board visit true (reply.Packed the_base the_live the_dropped) = no
@@ -55,11 +57,13 @@ reading_falls board visit true (reply.NoMessage the_number) = no
 reading_falls board visit true (reply.TooLong the_field the_length) = no
 reading_falls board visit true (reply.EmptyName the_field) = no
 reading_falls board visit true (reply.SlotsFull the_slots) = no
+reading_falls board visit true (reply.SubfieldsFull the_length) = no
 reading_falls board visit true (reply.HeadersFull the_length) = no
 reading_falls board visit true (reply.TextFull the_length) = no
 reading_falls board visit true (reply.NumbersSpent the_next) = no
 reading_falls board visit true (reply.MarksFull the_marks) = no
 reading_falls board visit false (reply.Posted the_number) = no
+reading_falls board visit false (reply.Edited the_number) = no
 reading_falls board visit false (reply.Killed the_number) = no
 reading_falls board visit false (reply.Marked the_last the_high) = no
 reading_falls board visit false (reply.Packed the_base the_live the_dropped) = no
@@ -69,6 +73,7 @@ reading_falls board visit false (reply.NoMessage the_number) = no
 reading_falls board visit false (reply.TooLong the_field the_length) = no
 reading_falls board visit false (reply.EmptyName the_field) = no
 reading_falls board visit false (reply.SlotsFull the_slots) = no
+reading_falls board visit false (reply.SubfieldsFull the_length) = no
 reading_falls board visit false (reply.HeadersFull the_length) = no
 reading_falls board visit false (reply.TextFull the_length) = no
 reading_falls board visit false (reply.NumbersSpent the_next) = no
@@ -76,6 +81,7 @@ reading_falls board visit false (reply.MarksFull the_marks) = no
 
 marking_falls : (board : Board) (visit : Visit) (text : List ℕ) (answer : Reply) → Falls board (state.Area visit (stage.Marking text)) (marking_row board visit text (given.Reply answer))
 marking_falls board visit text (reply.Posted the_number) = no
+marking_falls board visit text (reply.Edited the_number) = no
 marking_falls board visit text (reply.Text the_letter) = no
 marking_falls board visit text (reply.Killed the_number) = no
 marking_falls board visit text (reply.Marked the_last the_high) = no
@@ -86,10 +92,31 @@ marking_falls board visit text (reply.NoMessage the_number) = no
 marking_falls board visit text (reply.TooLong the_field the_length) = no
 marking_falls board visit text (reply.EmptyName the_field) = no
 marking_falls board visit text (reply.SlotsFull the_slots) = no
+marking_falls board visit text (reply.SubfieldsFull the_length) = no
 marking_falls board visit text (reply.HeadersFull the_length) = no
 marking_falls board visit text (reply.TextFull the_length) = no
 marking_falls board visit text (reply.NumbersSpent the_next) = no
 marking_falls board visit text (reply.MarksFull the_marks) = no
+
+-- E: nothing is asked behind the message
+peeking_falls : (board : Board) (visit : Visit) (answer : Reply) → Falls board (state.Area visit stage.Peeking) (peeking_row board visit (given.Reply answer))
+peeking_falls board visit (reply.Posted the_number) = no
+peeking_falls board visit (reply.Edited the_number) = no
+peeking_falls board visit (reply.Text the_letter) = no
+peeking_falls board visit (reply.Killed the_number) = no
+peeking_falls board visit (reply.Marked the_last the_high) = no
+peeking_falls board visit (reply.Packed the_base the_live the_dropped) = no
+peeking_falls board visit (reply.Relinked the_changed) = no
+peeking_falls board visit (reply.Denied the_rule) = no
+peeking_falls board visit (reply.NoMessage the_number) = no
+peeking_falls board visit (reply.TooLong the_field the_length) = no
+peeking_falls board visit (reply.EmptyName the_field) = no
+peeking_falls board visit (reply.SlotsFull the_slots) = no
+peeking_falls board visit (reply.SubfieldsFull the_length) = no
+peeking_falls board visit (reply.HeadersFull the_length) = no
+peeking_falls board visit (reply.TextFull the_length) = no
+peeking_falls board visit (reply.NumbersSpent the_next) = no
+peeking_falls board visit (reply.MarksFull the_marks) = no
 
 -- behind an area comes one further on
 count_falls : (board : Board) (user area : ℕ) (lines more : List ℕ) (place : Option ℕ) → area < length board.areas
@@ -112,6 +139,12 @@ stage_falls board visit stage.Listing (given.Answer (Summaries messages)) line =
 stage_falls board visit stage.Listing (given.Answer (Figures numbers)) line = no
 stage_falls board visit stage.Listing (given.Count unread) line = no
 stage_falls board visit stage.Listing (given.Fault why) line = no
+stage_falls board visit stage.Peeking (given.Line typed) line = on line
+stage_falls board visit stage.Peeking (given.Reply answer) line = peeking_falls board visit answer
+stage_falls board visit stage.Peeking (given.Answer (Summaries messages)) line = no
+stage_falls board visit stage.Peeking (given.Answer (Figures numbers)) line = no
+stage_falls board visit stage.Peeking (given.Count unread) line = no
+stage_falls board visit stage.Peeking (given.Fault why) line = no
 stage_falls board visit stage.Acting (given.Line typed) line = on line
 stage_falls board visit stage.Acting (given.Reply answer) line = no
 stage_falls board visit stage.Acting (given.Answer (Summaries messages)) line = no
@@ -136,6 +169,12 @@ stage_falls board visit (stage.Private to subject) (given.Answer (Summaries mess
 stage_falls board visit (stage.Private to subject) (given.Answer (Figures numbers)) line = no
 stage_falls board visit (stage.Private to subject) (given.Count unread) line = no
 stage_falls board visit (stage.Private to subject) (given.Fault why) line = no
+stage_falls board visit (stage.EditSubject number subject) (given.Line typed) line = on line
+stage_falls board visit (stage.EditSubject number subject) (given.Reply answer) line = no
+stage_falls board visit (stage.EditSubject number subject) (given.Answer (Summaries messages)) line = no
+stage_falls board visit (stage.EditSubject number subject) (given.Answer (Figures numbers)) line = no
+stage_falls board visit (stage.EditSubject number subject) (given.Count unread) line = no
+stage_falls board visit (stage.EditSubject number subject) (given.Fault why) line = no
 stage_falls board visit (stage.Text draft text) (given.Line typed) line = on line
 stage_falls board visit (stage.Text draft text) (given.Reply answer) line = no
 stage_falls board visit (stage.Text draft text) (given.Answer (Summaries messages)) line = no

@@ -3,7 +3,7 @@ use Rattle.std.proofs.Common.{◌≡◌, [], ◌∷◌, ◌++◌, length, refl, 
 use Rattle.std.specs.Fmt.{digits}
 use Rattle.std.specs.Prelude.{codes}
 use Rattle.jb_text.specs.Date.{clock_of, date_text, month_and_day, year_and_day}
-use Rattle.jb_base.specs.declared.area.Rule.TheVariants.{A5}
+use Rattle.jb_base.specs.declared.area.Rule.TheVariants.{A5, A6}
 use Rattle.jb_model.specs.declared.command.Field.TheVariants as field
 use Rattle.jb_model.specs.declared.reply.Reply.TheVariants as reply
 use Rattle.jb_state.specs.declared.look.SharedFault.TheVariants as fault
@@ -74,9 +74,11 @@ answer_lines : (reply_text (reply.Posted 2) ≡ codes "Posted as 2.") × (reply_
     × (reply_text (reply.Relinked 0) ≡ codes "Relinked: 0 changed.") × (reply_text (reply.Denied A5) ≡ codes "Denied by rule A5.")
     × (reply_text (reply.TooLong field.Subject 73) ≡ codes "Field Subject too long: 73 bytes.") × (reply_text (reply.EmptyName field.To) ≡ codes "Field To is empty.")
     × (reply_text (reply.SlotsFull 65000) ≡ codes "Area full: 65000 slots.") × (reply_text (reply.NumbersSpent 16777216) ≡ codes "Numbers spent at 16777216.")
+    × (reply_text (reply.Edited 1) ≡ codes "Edited 1.") × (reply_text (reply.Denied A6) ≡ codes "Denied by rule A6.")
+    × (reply_text (reply.SubfieldsFull 262145) ≡ codes "Subfields full: 262145 bytes.")
     × (fault_text (fault.Gap 9 7) ≡ codes "Gap: shown 9, held 7.") × (fault_text fault.Barred ≡ codes "Index not open, try again.")
 unfolding digits
-answer_lines = (refl, refl, refl, refl, refl, refl, refl, refl, refl, refl, refl, refl)
+answer_lines = (refl, refl, refl, refl, refl, refl, refl, refl, refl, refl, refl, refl, refl, refl, refl)
 
 -- line feeds are left out, each carriage return ends a line, and a text of 16,384 bytes without one is shown in 208 lines
 more_bodies : (body_text (codes "a" ++ 13 ∷ 10 ∷ codes "b" ++ 13 ∷ 10 ∷ []) ≡ codes "a" ++ line_end ++ codes "b" ++ line_end ++ line_end)

@@ -1,7 +1,7 @@
 -- The texts that are always the same.
 use Rattle.std.specs.Prelude.{ℕ, List, codes}
 use Rattle.jb_text.specs.declared.standing.Fixed.{Fixed}
-use Rattle.jb_text.specs.declared.standing.Fixed.TheVariants.{AskName, AskPassword, LoginIncorrect, Goodbye, NoSuchArea, NoUnread, NoMessageShown, AskTo, AskSubject, AskPrivate, Cancelled, TextFull, TextLine, Nothing, UnknownCommand, TopPrompt}
+use Rattle.jb_text.specs.declared.standing.Fixed.TheVariants.{AskName, AskPassword, LoginIncorrect, Goodbye, NoSuchArea, NoUnread, NoMessageShown, AskTo, AskSubject, AskEdit, AskPrivate, Cancelled, TextFull, TextLine, Nothing, UnknownCommand, TopPrompt}
 
 -- the bytes of each, without an end of line
 abbrev pub fixed_text : Fixed → List ℕ
@@ -14,6 +14,7 @@ fixed_text NoUnread = codes "No unread messages."
 fixed_text NoMessageShown = codes "No message shown."
 fixed_text AskTo = codes "To: "
 fixed_text AskSubject = codes "Subject: "
+fixed_text AskEdit = codes "Subject (empty keeps): "
 fixed_text AskPrivate = codes "Private (Y/N): "
 fixed_text Cancelled = codes "Cancelled."
 fixed_text TextFull = codes "Text full, line dropped."

@@ -19,6 +19,7 @@ fn name_of_rule(rule: Rule) -> &'static [u8]
         Rule::A3 => b"A3",
         Rule::A4 => b"A4",
         Rule::A5 => b"A5",
+        Rule::A6 => b"A6",
     }
 }
 
@@ -113,6 +114,7 @@ pub fn reply(alloc: Global, reply: &Reply) -> Result<Bytes, OutOfMemory>
 {
     match reply {
         Reply::Posted { number } => one_number(alloc, b"Posted as ", u64::from(*number), b"."),
+        Reply::Edited { number } => one_number(alloc, b"Edited ", u64::from(*number), b"."),
         Reply::Text { .. } => Ok(Bytes::new(alloc)),
         Reply::Killed { number } => one_number(alloc, b"Killed ", u64::from(*number), b"."),
         Reply::Marked { last, high } => {
@@ -142,6 +144,9 @@ pub fn reply(alloc: Global, reply: &Reply) -> Result<Bytes, OutOfMemory>
             u64::from(*slots),
             b" slots.",
         ),
+        Reply::SubfieldsFull { length } => {
+            one_number(alloc, b"Subfields full: ", *length, b" bytes.")
+        }
         Reply::HeadersFull { .. } => Bytes::copy(alloc, b"Headers full."),
         Reply::TextFull { .. } => Bytes::copy(alloc, b"Texts full."),
         Reply::NumbersSpent { next } => {

@@ -28,6 +28,7 @@ fn bytes_of(text: Fixed) -> &'static [u8]
         Fixed::NoMessageShown => b"No message shown.",
         Fixed::AskTo => b"To: ",
         Fixed::AskSubject => b"Subject: ",
+        Fixed::AskEdit => b"Subject (empty keeps): ",
         Fixed::AskPrivate => b"Private (Y/N): ",
         Fixed::Cancelled => b"Cancelled.",
         Fixed::TextFull => b"Text full, line dropped.",

@@ -21,6 +21,8 @@ pub enum Fixed {
     AskTo,
     /// Asks for its subject.
     AskSubject,
+    /// Asks for another subject of a message that is edited.
+    AskEdit,
     /// Asks whether it is private.
     AskPrivate,
     /// The message is not sent.

@@ -3,7 +3,7 @@
 use jb_base::{Name, OutOfMemory, User};
 use jb_model::{Asked, Command};
 use std::alloc::Global;
-use trial_rows::{MOMENT, Row, Words, act_of, command_of, post};
+use trial_rows::{Act, MOMENT, Row, Words, act_of, command_of, edit, post};
 
 /// What is asked of an area: a command, or a step of a pack, that copies so many bytes at most.
 #[derive(Drop)]
@@ -23,6 +23,9 @@ pub(crate) enum Way {
 
 /// The text of a post of five bytes.
 pub(crate) const TEXT: &[u8] = b"Good\r";
+
+/// The text of an edit, of four bytes.
+const OTHER_TEXT: &[u8] = b"Bye\r";
 
 // The user of this name: `Test` may post, `Hello` is one level below those who tend the area, `Sysop` and `Cosysop`, `Guest` is
 // one level below those who read, `Reader` one below those who post.
@@ -68,6 +71,20 @@ pub(crate) fn sized_post(
     post(alloc, to, subject, text, reply_to, false)
 }
 
+/// An edit of the message with this number, whose subject and text have so many bytes, each of them a letter `a`.
+pub(crate) fn sized_edit(
+    alloc: Global,
+    number: u32,
+    subject: u32,
+    text: u32,
+) -> Result<Command, OutOfMemory> {
+    let Ok(letters) = vec![in alloc; b'a'; subject.max(text) as usize] else {
+        return Err(OutOfMemory);
+    };
+    let all = letters.as_slice();
+    edit(alloc, number, first(all, subject), first(all, text))
+}
+
 // The command whose word stands at this place.
 fn command_in(row: &Row, place: usize, words: &mut Words) -> Result<Command, OutOfMemory> {
     let (one, two) = (place.saturating_add(1), place.saturating_add(2));
@@ -84,6 +101,11 @@ fn command_in(row: &Row, place: usize, words: &mut Words) -> Result<Command, Out
             let (text, reply_to) = (row.u32(three, words), row.u32(four, words));
             sized_post(words.alloc, to, subject, text, reply_to)
         }
+        "resized" => {
+            let (number, subject) = (row.u32(one, words), row.u32(two, words));
+            let text = row.u32(three, words);
+            sized_edit(words.alloc, number, subject, text)
+        }
         "pack" => Ok(Command::Pack),
         "relink" => Ok(Command::Relink),
         word => numbered(word, row.u32(one, words), words),
@@ -93,6 +115,7 @@ fn command_in(row: &Row, place: usize, words: &mut Words) -> Result<Command, Out
 // The command of this word about a number.
 fn numbered(word: &str, number: u32, words: &mut Words) -> Result<Command, OutOfMemory> {
     match act_of(word) {
+        Some(Act::Edit) => command_of(words.alloc, Act::Edit, number, OTHER_TEXT),
         Some(act) => command_of(words.alloc, act, number, TEXT),
         None => {
             words.unknown(1);

@@ -7,7 +7,7 @@ ghost use Rattle.trial_areas.specs.Leaves.{LeavesAtRest, LeavesBegun, LeavesEnde
 
 use jb_area::{AreaError, OpenArea};
 use jb_base::User;
-use jb_decide::LentDraft;
+use jb_decide::{LentDraft, LentEdit};
 use jb_disk::Disk;
 use jb_journal::Stopped;
 use jb_model::{Asked, Command, Reply};
@@ -43,6 +43,18 @@ pub(crate) fn ask<D: Disk>(
                 private: *private,
             };
             area.post(alloc, &asked.user, asked.moment, draft)
+        }
+        Command::Edit {
+            number,
+            subject,
+            text,
+        } => {
+            let edit = LentEdit {
+                number: *number,
+                subject: subject.as_slice(),
+                text: text.as_slice(),
+            };
+            area.edit(alloc, &asked.user, edit)
         }
         Command::Read { number } => area.read(alloc, &asked.user, asked.moment, *number),
         Command::Peek { number } => area.peek(alloc, &asked.user, *number),

@@ -1,6 +1,6 @@
 //! Commands that are drawn by lot, asked of one open area and of the plain, slow program beside it.
 
-use crate::asking::{TEXT, Way, asked_by, sized_post};
+use crate::asking::{TEXT, Way, asked_by, sized_edit, sized_post};
 use crate::base::Base;
 use crate::copied::Copied;
 use jb_area::PACK_STEP_BYTES;
@@ -63,6 +63,13 @@ impl Lot {
         sized_post(alloc, to, subject, text, number)
     }
 
+    // An edit of this number to any size.
+    fn resized(&mut self, alloc: Global, number: u32) -> Result<Command, OutOfMemory> {
+        let subject = self.draw(80);
+        let text = self.draw(20_000);
+        sized_edit(alloc, number, subject, text)
+    }
+
     // What is done, where the numbers go from this one to below that one.
     fn command(&mut self, alloc: Global, base: u32, next: u32) -> Result<Command, OutOfMemory> {
         let number = self.number(base, next);
@@ -71,9 +78,11 @@ impl Lot {
             4..=11 => (Act::Post, number),
             12 | 13 => (Act::Private, 0),
             14 | 15 => return self.sized(alloc, number),
-            16..=20 => (Act::Read, number),
-            21 | 22 => (Act::Peek, number),
-            23..=31 => (Act::Kill, number),
+            16..=19 => (Act::Read, number),
+            20 | 21 => (Act::Peek, number),
+            22 => return self.resized(alloc, number),
+            23..=25 => (Act::Edit, number),
+            26..=31 => (Act::Kill, number),
             32..=34 => (Act::Mark, number),
             35 | 36 => (Act::Relink, 0),
             _ => (Act::Pack, 0),

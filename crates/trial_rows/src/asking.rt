@@ -18,6 +18,8 @@ pub enum Act {
     Read,
     Peek,
     Kill,
+    /// The message gets the subject `abcd`.
+    Edit,
     Mark,
     Pack,
     Relink,
@@ -31,6 +33,7 @@ pub fn act_of(word: &str) -> Option<Act> {
         "read" => Some(Act::Read),
         "peek" => Some(Act::Peek),
         "kill" => Some(Act::Kill),
+        "edit" => Some(Act::Edit),
         "mark" => Some(Act::Mark),
         "pack" => Some(Act::Pack),
         "relink" => Some(Act::Relink),
@@ -65,7 +68,27 @@ pub fn post(
     })
 }
 
-/// The command of the act about this number, where a post has this text.
+/// An edit of the message with this number.
+pub fn edit(
+    alloc: Global,
+    number: u32,
+    subject: &[u8],
+    text: &[u8],
+) -> Result<Command, OutOfMemory> {
+    let Ok(subject) = Bytes::copy(alloc, subject) else {
+        return Err(OutOfMemory);
+    };
+    let Ok(text) = Bytes::copy(alloc, text) else {
+        return Err(OutOfMemory);
+    };
+    Ok(Command::Edit {
+        number,
+        subject,
+        text,
+    })
+}
+
+/// The command of the act about this number, where a post or an edit has this text.
 pub fn command_of(
     alloc: Global,
     act: Act,
@@ -78,6 +101,7 @@ pub fn command_of(
         Act::Read => Ok(Command::Read { number }),
         Act::Peek => Ok(Command::Peek { number }),
         Act::Kill => Ok(Command::Kill { number }),
+        Act::Edit => edit(alloc, number, b"abcd", text),
         Act::Mark => Ok(Command::SetMark { number }),
         Act::Pack => Ok(Command::Pack),
         Act::Relink => Ok(Command::Relink),

@@ -19,7 +19,7 @@ mod same;
 mod showing;
 mod words;
 
-pub use asking::{Act, MOMENT, act_of, command_of, plain_area, post, rules_of};
+pub use asking::{Act, MOMENT, act_of, command_of, edit, plain_area, post, rules_of};
 pub use error::RowError;
 pub use files::{Files, file_at, file_of, overwritten};
 pub use row::Row;

@@ -40,7 +40,7 @@ impl<'a> Agenda<'a> {
     pub(crate) fn deeds(&self) -> u32 {
         match self.plan {
             Plan::Drawn(_, deeds) => deeds.saturating_add(1),
-            Plan::Crowd(posts, _) => posts.saturating_mul(5).saturating_add(1),
+            Plan::Crowd(posts, _) => posts.saturating_mul(6).saturating_add(1),
             Plan::Watch(posts, _) if self.node == 1 => {
                 let calls = posts.saturating_add(posts / 4).saturating_add(posts / 16);
                 calls.saturating_mul(2)
@@ -71,11 +71,13 @@ impl<'a> Agenda<'a> {
         let number = self.draw(24);
         let reply_to = if number < 8 { number } else { 0 };
         match self.draw(22) {
-            0..=6 => Deed::Asked(Act::Post, reply_to),
-            7 => Deed::Asked(Act::Private, reply_to),
+            0..=5 => Deed::Asked(Act::Post, reply_to),
+            6 => Deed::Asked(Act::Private, reply_to),
+            7 => Deed::Asked(Act::Edit, number),
             8 | 9 => Deed::Asked(Act::Read, number),
             10 => Deed::Asked(Act::Peek, number),
-            11..=13 => Deed::Asked(Act::Kill, number),
+            11 | 12 => Deed::Asked(Act::Kill, number),
+            13 => Deed::Asked(Act::Edit, number),
             14 | 15 => Deed::Asked(Act::Mark, number),
             16 => Deed::Asked(Act::Relink, number),
             17 => Deed::Asked(Act::Pack, number),
@@ -83,13 +85,14 @@ impl<'a> Agenda<'a> {
         }
     }
 
-    // A post in reply to the last one, which is then read and marked; the one before it is shown, and killed where none packs.
+    // A post in reply to the last one, which is then edited, read and marked; the one before it is shown, and killed where none packs.
     fn crowded(&self, packs: bool) -> Deed {
-        match self.done % 5 {
+        match self.done % 6 {
             1 => Deed::Asked(Act::Post, self.last),
-            2 => Deed::Asked(Act::Read, self.last),
-            3 => Deed::Asked(Act::Mark, self.last),
-            4 => Deed::Asked(Act::Peek, self.before),
+            2 => Deed::Asked(Act::Edit, self.last),
+            3 => Deed::Asked(Act::Read, self.last),
+            4 => Deed::Asked(Act::Mark, self.last),
+            5 => Deed::Asked(Act::Peek, self.before),
             _ if packs => Deed::Asked(Act::Pack, 0),
             _ => Deed::Asked(Act::Kill, self.before),
         }

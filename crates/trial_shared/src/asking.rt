@@ -27,7 +27,7 @@ pub(crate) fn caller_named(alloc: Global, name: &[u8], level: u8) -> Result<Call
     }
 }
 
-/// The command of the act about this number. The text of a post is the name of who posts.
+/// The command of the act about this number. The text of a post or an edit is the name of who asks.
 pub(crate) fn command_by(
     alloc: Global,
     user: &User,

@@ -19,7 +19,7 @@ pub(crate) enum Plan<'a> {
     /// By this seed, so many: it sets its mark to 0, and then does so many deeds, drawn by lot from the seed. Each is made while the
     /// log is locked, so that the log has them in the order of the history.
     Drawn(u32, u32),
-    /// So many posts: it sets its mark to 0 while the log is locked, and then posts so often, with four calls behind each post: three
+    /// So many posts: it sets its mark to 0 while the log is locked, and then posts so often, with five calls behind each post: four
     /// about its own messages and a kill of one, or a pack in place of the kill. Nothing is locked while these are made.
     Crowd(u32, bool),
     /// So many posts and looks: the first node posts so often, kills and packs, the others look so often. Nothing is locked meanwhile.

@@ -1,11 +1,13 @@
 use Rattle.std.proofs.Common.{List, [], ℕ, refl, subst, sym}
 use Rattle.jb_change.proofs.LeavesLemmas.{index_on_kill}
 use Rattle.jb_change.specs.Headers.{Updates}
+use Rattle.jb_change.specs.Put.{IsMoved}
 use Rattle.jb_state.specs.Change.{after}
 use Rattle.jb_state.specs.declared.change.Change.{Change}
 use Rattle.jb_state.specs.declared.loaded.Loaded.{Loaded}
-use Rattle.jb_decide.specs.StepOf.{posted_text}
+use Rattle.jb_decide.specs.StepOf.{written_text}
 use Rattle.jb_decide.proofs.DecidedLemmas.{short_is, step_decided}
+use Rattle.jb_decide.proofs.HeaderLemmas.{moves_none}
 use Rattle.jb_decide.proofs.deciding.decide_short.Goals as goal
 
 pub returns-clause-decided : goal.returns-clause-decided
@@ -14,7 +16,8 @@ returns-clause-decided c = rw (← c.loaded.ensures) (λ rules user moment comma
     let change : Change = c.args.outcome.change in
     step_decided rules from texts contents c.put_short.new.redo user moment command shows _ step answer
     (λ some. record {
-      updates = subst (λ (t : List ℕ). Updates c.put_short.new.redo from (after change from) t) (sym (short_is c.put_short.new.redo from change (posted_text command) c.requires.kind).1) c.put_short.ensures.makes;
+      updates = moves_none (IsMoved change) c.put_short.new.redo from (after change from) _
+          (subst (λ (t : List ℕ). Updates c.put_short.new.redo from (after change from) t) (sym (short_is c.put_short.new.redo from change (written_text command) c.requires.kind).1) c.put_short.ensures.makes);
       numbered = (short_is c.put_short.new.redo from change [] c.requires.kind).0;
       index = index_on_kill c.put_short.new.redo from change c.put_short.ensures.leaves.index;
       writable = c.put_short.ensures.writable;

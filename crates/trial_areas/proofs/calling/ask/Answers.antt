@@ -4,6 +4,9 @@ use Rattle.trial_areas.proofs.calling.ask.Goals as goal
 pub returns-in-Post : goal.returns-in-Post
 returns-in-Post g c = leaves g.D.Disk.device c.args.area.now c.post.new.self _ _ _ c.post.result c.requires.rests c.post.ensures.meets
 
+pub returns-in-Edit : goal.returns-in-Edit
+returns-in-Edit g c = leaves g.D.Disk.device c.args.area.now c.edit.new.self _ _ _ c.edit.result c.requires.rests (c.edit.ensures.meets c.args.asked.now.moment)
+
 pub returns-in-Read : goal.returns-in-Read
 returns-in-Read g c = leaves g.D.Disk.device c.args.area.now c.read.new.self _ _ _ c.read.result c.requires.rests c.read.ensures.meets
 

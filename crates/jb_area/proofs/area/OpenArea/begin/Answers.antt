@@ -2,13 +2,19 @@ use Rattle.std.proofs.Common.{Ok, Result, ◌∙◌, subst, sym}
 use Rattle.jb_decide.specs.declared.error.AreaError.{AreaError}
 use Rattle.jb_model.specs.declared.command.Command.{Command}
 use Rattle.jb_area.specs.Calls.{BeginsCall}
-use Rattle.jb_area.proofs.CallLemmas.{same_post}
+use Rattle.jb_area.proofs.CallLemmas.{same_edit, same_post}
 use Rattle.jb_area.proofs.area.OpenArea.begin.Goals as goal
 
 pub returns-in-Post : goal.returns-in-Post
 returns-in-Post g c = record {
   begins = subst (λ (command : Command). BeginsCall g.D.Disk.device c.args.self.now c.begin_post.new.self c.args.user.now c.args.moment command c.begin_post.result)
       (same_post _ _ _ _ _ _ _ _ c.as_slice.ensures c.as_slice-in-Post.ensures c.as_slice-in-Post-2.ensures ∙ sym c.in-Post.is) c.begin_post.ensures.begins;
+}
+
+pub returns-in-Edit : goal.returns-in-Edit
+returns-in-Edit g c = record {
+  begins = subst (λ (command : Command). BeginsCall g.D.Disk.device c.args.self.now c.begin_edit.new.self c.args.user.now c.args.moment command c.begin_edit.result)
+      (same_edit _ _ _ _ _ c.as_slice-in-Edit.ensures c.as_slice-in-Edit-2.ensures ∙ sym c.in-Edit.is) (c.begin_edit.ensures.begins c.args.moment);
 }
 
 pub returns-in-Peek : goal.returns-in-Peek

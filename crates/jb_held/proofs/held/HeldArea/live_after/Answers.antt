@@ -2,7 +2,7 @@ use Rattle.std.proofs.Common.{◌≡◌, ℕ, ◌+◌, ◌-◌, sym, ◌∙◌, 
 use Rattle.jb_state.specs.Change.{after, live_messages}
 use Rattle.jb_state.specs.declared.change.Change.{Change}
 use Rattle.jb_state.specs.declared.change.Change.TheVariants.{Killed}
-use Rattle.jb_held.proofs.LiveLaws.{live_headed, live_killed, live_packed, live_posted, live_relinked}
+use Rattle.jb_held.proofs.LiveLaws.{live_edited, live_headed, live_killed, live_packed, live_posted, live_relinked}
 use Rattle.jb_held.proofs.held.HeldArea.live_after.Goals as goal
 
 pub overflow_sub-result : goal.overflow_sub-result
@@ -22,6 +22,12 @@ pub returns-in-Headed : goal.returns-in-Headed
 returns-in-Headed c =
     c.self.invariant.live ∙ ap live_messages c.self.view_is ∙ sym (live_headed c.in-Headed.at c.args.self.now (rw c.in-Headed.is at c.requires.fits))
     ∙ sym (ap (λ (change : Change). live_messages (after change c.args.self.now)) c.in-Headed.is)
+
+pub returns-in-Edited : goal.returns-in-Edited
+returns-in-Edited c =
+    c.self.invariant.live ∙ ap live_messages c.self.view_is
+    ∙ sym (live_edited c.in-Edited.place c.in-Edited.message c.args.self.now (rw c.in-Edited.is at c.requires.fits))
+    ∙ sym (ap (λ (change : Change). live_messages (after change c.args.self.now)) c.in-Edited.is)
 
 pub returns-in-Killed : goal.returns-in-Killed
 returns-in-Killed c =

@@ -4,7 +4,7 @@ use Rattle.jb_state.specs.LiveSlots.{linkables}
 use Rattle.jb_index.specs.Change.{Follows, edits_of_kill}
 use Rattle.jb_index.specs.declared.op.OpEdit.{OpEdit}
 use Rattle.jb_index.specs.declared.op.OpEdit.TheVariants.{Base, Mark as Marking}
-use Rattle.jb_index.proofs.ChangeLemmas.{follows_as, headed_follows, marked_follows, nothing_follows}
+use Rattle.jb_index.proofs.ChangeLemmas.{edited_follows, follows_as, headed_follows, marked_follows, nothing_follows}
 use Rattle.jb_index.proofs.KillLemmas.{killed_follows}
 use Rattle.jb_index.proofs.PostLemmas.{posted_follows}
 use Rattle.jb_index.proofs.RelinkLemmas.{packed_follows, relinked_follows}
@@ -23,6 +23,13 @@ returns-in-Headed c =
     (λ op is. follows_as _ _ c.args.loaded.now _ _ c.in-Headed.is (is ∙ ap (λ (edit : OpEdit). edit ∷ []) c.headed.ensures)
     (headed_follows c.in-Headed.at c.args.loaded.now))
     c.one-in-Headed.ensures
+
+pub returns-in-Edited : goal.returns-in-Edited
+returns-in-Edited c =
+    IfOk-weaker c.one-in-Edited.result (λ (op : List OpEdit). op ≡ c.edited.result ∷ []) (λ (op : List OpEdit). Follows c.args.change.now c.args.loaded.now op)
+    (λ op is. follows_as _ _ c.args.loaded.now _ _ c.in-Edited.is (is ∙ ap (λ (edit : OpEdit). edit ∷ []) c.edited.ensures)
+    (edited_follows c.in-Edited.place c.in-Edited.message c.args.loaded.now))
+    c.one-in-Edited.ensures
 
 pub returns-in-Killed : goal.returns-in-Killed
 returns-in-Killed c =
