@@ -117,12 +117,14 @@ def one_by_one(words):
     return b"".join(lines([word]).ljust(PIECE_BYTES, b"\0") for word in words)
 
 
-def is_told(told, printed):
-    """Whether this is what the operator is told of a refusal with this line: one line, on what is refused and why, in the words of words.txt."""
+def is_told(told, printed, place=None):
+    """Whether this is what the operator is told of a refusal with this line: one line, on what is refused and why, in the words of words.txt. Where a
+    place is given, the base is that of the area there."""
     name = re.match(r"fault ([\d.]+ \w+)", printed.decode())
     said = WORDS[name[1]] if name and name[1] in WORDS else "none"
     words = re.sub(r"\\{\w+\\}", "[^\n]+", re.escape(said))
-    return re.fullmatch(rf"board: (?:[^\n]+: )?{words}\n", told.decode(errors="replace")) is not None
+    refused = "(?:[^\n]+: )?" if place is None else rf"[^\n]+: the base of area {place}, looked for from the folder of this start: "
+    return re.fullmatch(rf"board: {refused}{words}\n", told.decode(errors="replace")) is not None
 
 
 def with_limit(most, is_lasting=True):

@@ -28,14 +28,14 @@ MOST_SETTINGS_BYTES = 1_048_576
 class Sessions(Runs):
     """Sessions in one folder, each with what it must send and its status."""
 
-    def run(self, what, text, status, typed=b"", words=LOCAL, **run):
+    def run(self, what, text, status, typed=b"", words=LOCAL, place=None, **run):
         run = run if "stdin" in run else {"typed": typed} | run
         sent, ended, told = self.done(*words, limit=LIMIT, **run)
         self.is_so(f"{what}: what is sent", sent, text)
         self.is_so(f"{what}: the status", ended, status)
         # a refusal is told in words too
         is_refused = text is not None and text.startswith(b"fault ")
-        self.holds(f"{what}: the error output: {told}", is_told(told, text) if is_refused else not told)
+        self.holds(f"{what}: the error output: {told}", is_told(told, text, place) if is_refused else not told)
 
 
 def try_transcripts(trial):
@@ -133,12 +133,12 @@ def try_areas(trial):
               lines(["Sysop", "hello", "2", "k 1", "x", "b", "a", "q"]))
     trial.is_so("what is left of them", [(trial.base(name).number, len(trial.base(name).slots)) for name in names], [(1, 1), (2, 0), (1, 1)])
 
-    damages = (("other", "jhr", lambda data: data[:1023], 3, b"fault 3.1 ShortHeader area.2\n"),
-               ("third", "jdx", lambda data: data + b"\0\0\0\0", 3, b"fault 3.4 IndexLength area.3\n"),
-               ("general", "jdt", lambda data: data[:-1], 3, b"fault 3.12 TextPlace 1 area.1\n"),
-               ("third", "jnl", lambda data: b"\1" + bytes(16), 3, b"fault 3.14 BadJournal 16 area.3\n"),
-               ("other", "jdx", None, 4, b"fault 4 StoreFault area.2\n"))
-    for name, extension, damage, status, line in damages:
+    damages = (("other", "jhr", lambda data: data[:1023], 3, b"fault 3.1 ShortHeader\n", 2),
+               ("third", "jdx", lambda data: data + b"\0\0\0\0", 3, b"fault 3.4 IndexLength\n", 3),
+               ("general", "jdt", lambda data: data[:-1], 3, b"fault 3.12 TextPlace 1\n", 1),
+               ("third", "jnl", lambda data: b"\1" + bytes(16), 3, b"fault 3.14 BadJournal 16\n", 3),
+               ("other", "jdx", None, 4, b"fault 4 StoreFault\n", 2))
+    for name, extension, damage, status, line, place in damages:
         trial.has_letters(*names)
         if damage is None:
             os.remove(f"{trial.areas}/{name}.{extension}")
@@ -146,10 +146,10 @@ def try_areas(trial):
         else:
             write_files(trial.areas, name, {extension: damage(trial.files(name)[extension])})
         before = {other: trial.files(other) for other in names if other != name}
-        trial.run(line.decode().strip(), line, status, lines(ANSWERED))
+        trial.run(line.decode().strip(), line, status, lines(ANSWERED), place=place)
         trial.holds(f"{line!r}: the other areas are as they were", all(trial.keeps(files, other) for other, files in before.items()))
     trial.has_letters("general", "other")
-    trial.run("an area that is not there", b"fault 3.1 ShortHeader area.3\n", 3, lines(ANSWERED))
+    trial.run("an area that is not there", b"fault 3.1 ShortHeader\n", 3, lines(ANSWERED), place=3)
 
 
 def try_settings(trial):
@@ -234,7 +234,7 @@ def try_faults(trial):
                      + (IN_DOUBT + b"[general] ") * 2 + b"Goodbye.\r\n")
     typed = lines(["Hello", "test", "1", "N", "1", "Q"])
     for what, most, again, times_read in (("a journal that does not grow", 40, doubt[:-len(b"Goodbye.\r\n")], 0),
-                                          ("a header that cannot be written", 700, b"fault 4 StoreFault area.1\n", 1)):
+                                          ("a header that cannot be written", 700, b"fault 4 StoreFault\n", 1)):
         trial.has_letters("general")
         trial.run(what, doubt, 4, typed, preexec_fn=with_limit(most))
         trial.run(f"{what}, again", again, 4, lines(["Hello", "test", "1", "N", "1"]), preexec_fn=with_limit(most))

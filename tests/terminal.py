@@ -153,7 +153,7 @@ def try_refusals(trial):
     trial.has_settings("x =")
     refuses(trial, "settings that are none", LOCAL, 2, b"fault 2.1 NotToml\n", b"board: board.toml: the settings are no TOML document: line 1, column ")
     trial.has_settings(settings(["general", "other"]))
-    refuses(trial, "an area that is not there", LOCAL, 3, b"fault 3.1 ShortHeader area.2\n", b"the base of area 2, looked for from the folder of this start: ",
+    refuses(trial, "an area that is not there", LOCAL, 3, b"fault 3.1 ShortHeader\n", b"the base of area 2, looked for from the folder of this start: ",
             b": there is no base here: its header file, .JHR or .jhr, is not there, or has fewer than 1,024 bytes\n")
 
 

@@ -82,14 +82,10 @@ tool_fault_line (Open error) = base_line error
 tool_fault_line AlreadyThere = codes "fault 3.17 AlreadyThere"
 tool_fault_line (TextFull length) = codes "fault 3.18 TextFull" ++ value_text length
 
--- the line of an area that is not opened, without its end and without the area
+-- the line of an area that is not opened, without its end
 abbrev pub opening_line : OpeningError → List ℕ
 opening_line (JournalRefused at) = codes "fault 3.14 BadJournal" ++ value_text at
 opening_line (Base error) = base_line error
-
--- the same with the area behind it, by its place
-abbrev pub area_fault_line : ℕ → OpeningError → List ℕ
-area_fault_line place error = opening_line error ++ codes " area." ++ decimal place
 
 -- the line of settings that are refused, without its end: the number and the name of the refusal, then its field or its user
 abbrev pub settings_line : ConfError → List ℕ
@@ -105,7 +101,7 @@ settings_line conf.OutOfMemory = codes "fault 6 OutOfMemory"
 abbrev pub fault_line : Fault → List ℕ
 fault_line Words = codes "fault 1 Words" ++ 10 ∷ []
 fault_line (Settings error) = settings_line error ++ 10 ∷ []
-fault_line (Area place error) = area_fault_line place error ++ 10 ∷ []
+fault_line (Area place error) = opening_line error ++ 10 ∷ []
 fault_line (Tool error) = tool_fault_line error ++ 10 ∷ []
 fault_line HostFault = codes "fault 5 HostFault" ++ 10 ∷ []
 fault_line OutOfMemory = codes "fault 6 OutOfMemory" ++ 10 ∷ []

@@ -1,7 +1,7 @@
 //! How a run that is refused ends: its status and its line on the console.
 ghost use Rattle.std.specs.Prelude.{◌≡◌, ◌≤◌, ◌+◌, ◌++◌, [], ◌∷◌, length};
 ghost use Rattle.jb_conf.specs.Names.{setting_name};
-ghost use Rattle.jb_board.specs.Faults.{area_fault_line, area_status, base_line, base_status, fault_of, fault_line, opening_line, settings_line, settings_status, status_of, tool_fault_line, tool_status, value_text};
+ghost use Rattle.jb_board.specs.Faults.{area_status, base_line, base_status, fault_of, fault_line, opening_line, settings_line, settings_status, status_of, tool_fault_line, tool_status, value_text};
 
 use arrayvec::ArrayString;
 use itoa::Buffer;
@@ -138,7 +138,7 @@ fn area_status(error: OpeningError) -> u8
     }
 }
 
-/// The line where an area of the board is not opened, without its end and without the area.
+/// The line where an area of the board is not opened, without its end.
 fn opening_line(error: OpeningError) -> Line
     ensures line { result.bytes ≡ opening_line error }
     ensures short { length result.bytes ≤ 70 }
@@ -147,18 +147,6 @@ fn opening_line(error: OpeningError) -> Line
         OpeningError::BadJournal { at } => and_place(named("fault 3.14 BadJournal"), at),
         OpeningError::Base(error) => base_line(error),
     }
-}
-
-/// The same with the area behind it.
-fn area_line(place: u32, error: OpeningError) -> Line
-    ensures line { result.bytes ≡ area_fault_line place error }
-    ensures short { length result.bytes ≤ 86 }
-{
-    let mut digits = Buffer::new();
-    let mut line = opening_line(error);
-    line.push_str(" area.");
-    line.push_str(digits.format(place));
-    line
 }
 
 /// The exit status where settings are refused.
@@ -233,7 +221,7 @@ impl Fault {
         let mut line = match self {
             Fault::Words => named("fault 1 Words"),
             Fault::Settings(error) => settings_line(error),
-            Fault::Area { place, error } => area_line(place, error),
+            Fault::Area { error, .. } => opening_line(error),
             Fault::Tool(error) => tool_line(error),
             Fault::HostFault => named("fault 5 HostFault"),
             Fault::OutOfMemory => named("fault 6 OutOfMemory"),
