@@ -246,23 +246,18 @@ def seconds(text):
 
 
 def try_waiting(trial):
-    """How long the board waits for a caller and between two packs, how it ends a connection, and that it looks at the clock for each post."""
+    """How long the board waits for a caller and between two packs, and how it ends a connection."""
     trial.has_bases()
     trial.has_settings(settings(AREAS, users(), port=trial.port, nodes=2, pack_minutes=PACK_MINUTES))
     calls = "accept,accept4,setsockopt,sendto,sendmsg,write,shutdown,close,nanosleep,clock_nanosleep"
     trial.begins(nodes=2, under=trial.tracer("-xx", "-s", "65536", "-e", f"trace={calls}"))
     # both are there at once, so that each connection has a number of its own
     callers = [trial.guest(n) for n in range(2)]
-    callers[0].posts(b"All", b"first", [b"a line"])
-    time.sleep(2)
-    callers[0].posts(b"All", b"second", [b"a line"])
     callers[0].quits()
     callers[1].types(b"q\n" + b"x\n" * 3000)
     callers[1].reads(b"Goodbye.\r\n")
     while not callers[1].is_over:
         callers[1].take()
-    written = [message.head["written"] for message in trial.base().slots]
-    trial.holds(f"two posts with two seconds between have two dates: {written}", len(written) == 2 and 1 <= written[1] - written[0] <= 60)
     trial.is_ended("a board that is traced")
     looks_at(trial, trial.trace())
 
@@ -288,17 +283,6 @@ def looks_at(trial, trace):
         last = re.search(r'"([^"]*)"', calls[sent[-1]][1])[1]
         trial.holds("the last that is sent is the farewell", last.endswith("".join(f"\\x{byte:02x}" for byte in b"Goodbye.\r\n")))
         trial.holds(f"behind the farewell the connection is ended: {names[sent[-1]:]}", {"shutdown", "close"} & set(names[sent[-1] + 1:]))
-
-
-def try_packed(trial):
-    """What was killed is packed away when a run over a given number of calls ends."""
-    trial.has_letters("general", attribute=jam.DELETED)
-    trial.has_settings(settings(port=trial.port, nodes=1))
-    trial.begins("--calls", "1", areas=("general",), nodes=1)
-    trial.caller("who leaves").line.close()
-    trial.ends("a run over one call", 0)
-    base = trial.base()
-    trial.is_so("a base with a killed message behind it", (base.number, base.slots), (2, []))
 
 
 def try_synch(trial):
@@ -390,6 +374,6 @@ def try_many(trial):
 
 
 if __name__ == "__main__":
-    goes_through(Edge, "what a board asks of the system", (try_read_only, try_no_files, try_ports, try_cut, try_put_back, try_packed, try_synch, try_many,
+    goes_through(Edge, "what a board asks of the system", (try_read_only, try_no_files, try_ports, try_cut, try_put_back, try_synch, try_many,
                                                              try_permissions),
                  (try_made, try_making, try_late_make, try_one_version, try_packs, try_waiting))

@@ -5,10 +5,10 @@ the files then hold.
 usage: serve.py PROGRAM [--kills N]
 
 The callers are sockets, each a Telnet client of one of three kinds (caller.py). Eight of them post, list, read, answer, mark and kill in
-three areas at once, while a ninth waits for a free node and the areas are packed. Then runs are killed at drawn moments while callers
-post, and callers who behave badly share a board with one who does not. What must be sent is made here from what was posted; the files
-are read by jam.py, which knows the tables of the JAM proposal and nothing of the program. Where N is given, as many runs are killed, at other
-moments, and nothing else is tried.
+three areas at once, while a ninth waits for a free node and the areas are packed. In a session of two seconds each message bears its own
+moment. Then runs are killed at drawn moments while callers post, and callers who behave badly share a board with one who does not. What
+must be sent is made here from what was posted; the files are read by jam.py, which knows the tables of the JAM proposal and nothing of
+the program. Where N is given, as many runs are killed, at other moments, and nothing else is tried.
 """
 import os
 import random
@@ -75,6 +75,26 @@ def try_ends(trial):
         caller.quits()
 
     together((wrong, reset, quit_at_once, quit_at_once, lambda: hung_up(b""), lambda: hung_up(b"Ad"), lambda: hung_up(b"Ada\n")))
+
+
+def try_clock(trial):
+    """In one session each post bears the moment in which it is made, and a reading by who is to receive it that of the reading."""
+    trial.has_bases()
+    trial.begins()
+    caller, moments = trial.guest(0), []
+    for does in [lambda: caller.posts(NAMES[0], b"a post", [b"a line"])] * 2 + [lambda: caller.enters(b"1", b"[general] ")]:
+        # so each has seconds of its own
+        time.sleep(1.1 if moments else 0)
+        since = int(time.time())
+        does()
+        moments.append((since, int(time.time())))
+    caller.quits()
+    trial.is_ended("a session that goes on")
+    first, second = (message.head for message in trial.base().slots)
+    found = [first["written"], second["written"], first["received"]]
+    trial.holds(f"two posts and a reading bear {found}, where {moments} are wanted", all(low <= it <= high for it, (low, high) in zip(found, moments)))
+    trial.holds(f"the moments {found} are later and later", found == sorted(set(found)))
+    trial.is_so("what nobody has read bears no moment of it", second["received"], 0)
 
 
 class Poster:
@@ -321,7 +341,7 @@ def try_example(trial):
     trial.ends("the same, of which one message is live", 0)
 
 
-TRIES = (try_callers, try_kills, try_rude, try_refusals, try_doubt, try_few_files, try_example)
+TRIES = (try_callers, try_clock, try_kills, try_rude, try_refusals, try_doubt, try_few_files, try_example)
 
 if __name__ == "__main__":
     goes_through(Served, "callers at a port", [try_kills] if sys.argv[2:] else TRIES, option=r"--kills \d+", in_memory=False)
