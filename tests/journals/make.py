@@ -74,7 +74,8 @@ CHANGES = (
     ("a second mark", (*HELLO, "M 5", "Q"), ("marks",)),
     ("a relink by a caller", (*SYSOP, "Z", "Q"), ("relink",)),
     ("a pack by a caller", (*SYSOP, "X", "Q"), ("pack",)),
-    ("a long post", (*TEST, *TO_ALL, *"\r".join(LINES)[:MOST_POSTED - 1].split("\r"), ".", "Q"), ("long",)))
+    ("a long post", (*TEST, *TO_ALL, *"\r".join(LINES)[:MOST_POSTED - 1].split("\r"), ".", "Q"), ("long",)),
+    ("an edit", (*TEST, "E 1", "A better question", "What is it, and why?", ".", "Q"), ("edited",)))
 # values by which the record of a post breaks a rule, each in a field that is found by its words, and the place in it
 BROKEN = (("the count of lengths", 0, b"\5"), ("length 2", 0, b"\0"), ("length 1", 3, b"\1"), ("piece 1", 0, b"\2"), ("piece 1", 1, b"\4"),
           ("piece 2", 2, b"\5"), ("piece 3", 3, b"\1"), ("piece 4", 7, b"\1"), ("piece 4", 0, b"\1"), ("the end", 3, b"1"))
