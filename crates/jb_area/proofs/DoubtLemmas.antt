@@ -8,7 +8,7 @@ use Rattle.jb_disk.specs.Runs.{LeavesOnly}
 use Rattle.jb_disk.proofs.RunLemmas.{runs-refl}
 use Rattle.jb_journal.specs.declared.stopped.Stopped.{Stopped}
 use Rattle.jb_journal.specs.declared.stopped.Stopped.TheVariants.{Early, Late}
-use Rattle.jb_held.specs.Pending.{HasReplies, MayApply}
+use Rattle.jb_held.specs.Pending.{HasRoom, MayApply, no_room}
 use Rattle.jb_held.specs.declared.pending.Pending.{Pending}
 use Rattle.jb_state.specs.Change.{after}
 use Rattle.jb_state.specs.Sound.{IsSound}
@@ -43,7 +43,7 @@ no_copying stopped pending is = cc
 -- an area in doubt is at that stage, or at a copying
 pub at_doubt : {D : Type 0} (shown : D → Device) (area : OpenArea D) (texts : List ℕ) (coming : Option Coming) → IsDoubtful shown area texts coming
     → ((stopped : Stopped) × (pending : Pending) × (area.stage ≡ Doubtful stopped pending)) ⊎ (area.stage ≡ Copying)
-at_doubt shown area texts None (inl unchanged) = inl (Early, record { change = Nothing; replies = None }, unchanged.stage)
+at_doubt shown area texts None (inl unchanged) = inl (Early, record { change = Nothing; room = no_room }, unchanged.stage)
 at_doubt shown area texts None (inr half) = inr half.stage
 at_doubt shown area texts (Some coming) doubt = inl (doubt.stopped, doubt.pending, doubt.stage)
 
@@ -67,7 +67,7 @@ early_late is = cc
 module _ {D : Type 0} (shown : D → Device) (area : OpenArea D) (is : area.stage ≡ Copying) where
   -- no change is in doubt
   pub half_copied : (texts : List ℕ) (coming : Option Coming) → IsDoubtful shown area texts coming → IsHalfCopied shown area texts × (coming ≡ None)
-  half_copied texts None (inl unchanged) = absurd (no_copying Early (record { change = Nothing; replies = None }) (sym is ∙ unchanged.stage))
+  half_copied texts None (inl unchanged) = absurd (no_copying Early (record { change = Nothing; room = no_room }) (sym is ∙ unchanged.stage))
   half_copied texts None (inr half) = (half, refl)
   half_copied texts (Some coming) doubt = absurd (no_copying doubt.stopped doubt.pending (sym is ∙ doubt.stage))
 
@@ -190,16 +190,16 @@ module _ {D : Type 0} (shown : D → Device) (area : OpenArea D) (stopped : Stop
         subst (λ (p : Pending). IsPending area.rules.slots (shown area.disk).contents area.packer (redo_of area) p.change area.held between.posted texts coming)
         (same_pending between.stopped stopped between.pending pending (sym between.stage ∙ is)) between.change
 
-    -- the index of the replies, where it is a pack
-    replies_is : (texts : List ℕ) (coming : Coming) (between : IsBetween shown area texts coming) → HasReplies pending.change pending.replies area.held
-    replies_is texts coming between =
-        subst (λ (p : Pending). HasReplies p.change p.replies area.held) (same_pending between.stopped stopped between.pending pending (sym between.stage ∙ is)) between.replies
+    -- the room that it brings
+    room_is : (texts : List ℕ) (coming : Coming) (between : IsBetween shown area texts coming) → HasRoom pending.change pending.room area.held
+    room_is texts coming between =
+        subst (λ (p : Pending). HasRoom p.change p.room area.held) (same_pending between.stopped stopped between.pending pending (sym between.stage ∙ is)) between.room
 
     -- it may be done in what is loaded
     pub may_apply : (texts : List ℕ) (coming : Option Coming) → IsDoubtful shown area texts coming → MayApply pending area.held
     may_apply texts None doubt = absurd (no_none texts doubt)
     may_apply texts (Some coming) doubt =
-        apply_may area.rules.slots pending area.held doubt.ruled.few_slots doubt.ruled.sound (change_is texts coming doubt).fits (replies_is texts coming doubt)
+        apply_may area.rules.slots pending area.held doubt.ruled.few_slots doubt.ruled.sound (change_is texts coming doubt).fits (room_is texts coming doubt)
 
     -- of the redo that is in use
     module _ (redo : RedoView) (used : redo ≡ redo_of area) where
@@ -289,7 +289,7 @@ module _ {D : Type 0} (shown : D → Device) (area : OpenArea D) (stopped : Stop
             ruled = record { few_slots = doubt.ruled.few_slots; address = doubt.ruled.address; sound = doubt.ruled.sound; sized = doubt.ruled.sized; room = doubt.ruled.room };
             change = subst (λ (r : RedoView). IsPending area.rules.slots (shown disk).contents area.packer r pending.change area.held doubt.posted texts coming) kept
                 (pending_later area.rules.slots (shown area.disk) (shown disk) area.packer redo pending.change area.held doubt.posted texts coming alike change);
-            replies = replies_is texts coming doubt;
+            room = room_is texts coming doubt;
             doubt = subst (λ (r : RedoView). IsStoppedAs again r area.held texts area.packer (shown disk)) kept (answer area.held texts area.packer coming (doubt_in texts coming doubt) change.change);
           }
 

@@ -22,7 +22,7 @@ use Rattle.jb_area.specs.Area.{copied_after, done_in, copies_kept, redo_in, redo
 use Rattle.jb_decide.specs.Coming.{coming_of}
 use Rattle.jb_area.specs.Commits.{HasRecordOf, IsSettledAs, IsSettledWith, IsStoppedAs, MayCommit}
 use Rattle.jb_area.specs.Holds.{HasShortJournal}
-use Rattle.jb_held.specs.Pending.{HasReplies, MayApply}
+use Rattle.jb_held.specs.Pending.{HasRoom, MayApply}
 use Rattle.jb_held.specs.declared.pending.Pending.{Pending}
 use Rattle.jb_state.specs.Change.{Fits, after}
 use Rattle.jb_state.specs.declared.change.Change.{Change}
@@ -107,11 +107,11 @@ some_made (Packed plan base) redo files some = refl
 
 -- what is pending in a sound area may be done in it
 pub apply_may : (limit : ℕ) (pending : Pending) (loaded : Loaded) → limit ≤ MOST_SLOTS → IsSound limit loaded → Fits limit pending.change loaded
-    → HasReplies pending.change pending.replies loaded → MayApply pending loaded
-apply_may limit pending loaded few sound fits replies = record {
+    → HasRoom pending.change pending.room loaded → MayApply pending loaded
+apply_may limit pending loaded few sound fits room = record {
   sound = sound_under limit MOST_SLOTS loaded few sound;
   fits = fits_under limit MOST_SLOTS pending.change loaded few fits;
-  replies = replies;
+  room = room;
 }
 
 module _ {D : Type 0} (shown : D → Device) (area : OpenArea D) (reply : Reply) (pending : Pending) (is : area.stage ≡ Begun reply pending) where
@@ -160,9 +160,9 @@ module _ {D : Type 0} (shown : D → Device) where
     some_in reply pending redo used is some =
         subst (λ (r : RedoView). IsPending area.rules.slots (shown area.disk).contents area.packer r pending.change area.held begun.posted texts coming) (sym used) (some_is reply pending is some)
 
-    -- the index of its replies, where it is a pack
-    replies_is : (reply : Reply) (pending : Pending) → area.stage ≡ Begun reply pending → HasReplies pending.change pending.replies area.held
-    replies_is reply pending is = subst (λ (p : Pending). HasReplies p.change p.replies area.held) (pending_is reply pending is) begun.replies
+    -- the room that it brings
+    room_is : (reply : Reply) (pending : Pending) → area.stage ≡ Begun reply pending → HasRoom pending.change pending.room area.held
+    room_is reply pending is = subst (λ (p : Pending). HasRoom p.change p.room area.held) (pending_is reply pending is) begun.room
 
     -- what is to come is what the change makes of the area
     pub becomes_is : (reply : Reply) (pending : Pending) → area.stage ≡ Begun reply pending → coming ≡ coming_of pending.change area.held begun.posted texts
@@ -254,7 +254,7 @@ module _ {D : Type 0} (shown : D → Device) where
           ruled = record { few_slots = begun.kept.ruled.few_slots; address = begun.kept.ruled.address; sound = begun.kept.ruled.sound; sized = begun.kept.ruled.sized; room = begun.kept.ruled.room };
           change = subst (λ (r : RedoView). IsPending area.rules.slots (shown disk).contents area.packer r pending.change area.held begun.posted texts coming) kept
               (pending_later area.rules.slots (shown area.disk) (shown disk) area.packer redo pending.change area.held begun.posted texts coming alike change);
-          replies = replies_is reply pending is;
+          room = room_is reply pending is;
           doubt = subst (λ (r : RedoView). IsStoppedAs stopped r area.held texts area.packer (shown disk)) kept (doubt area.held texts area.packer coming settled_with change.change);
         }
 
@@ -265,4 +265,4 @@ module _ {D : Type 0} (shown : D → Device) where
     -- it may be done in what is loaded
     pub may_apply : (reply : Reply) (pending : Pending) → area.stage ≡ Begun reply pending → MayApply pending area.held
     may_apply reply pending is =
-        apply_may area.rules.slots pending area.held begun.kept.ruled.few_slots begun.kept.ruled.sound (fits_is reply pending is) (replies_is reply pending is)
+        apply_may area.rules.slots pending area.held begun.kept.ruled.few_slots begun.kept.ruled.sound (fits_is reply pending is) (room_is reply pending is)

@@ -25,6 +25,7 @@ use Rattle.jb_disk.specs.Files.{Files}
 use Rattle.jb_disk.specs.Runs.{LeavesNow}
 use Rattle.jb_disk.specs.declared.file.FileId.TheVariants.{Jdt}
 use Rattle.jb_journal.specs.declared.stopped.Stopped.TheVariants.{Early}
+use Rattle.jb_held.specs.Pending.{no_room}
 use Rattle.jb_held.specs.declared.pending.Pending.{Pending}
 use Rattle.jb_state.specs.declared.change.Change.{Change}
 use Rattle.jb_state.specs.declared.change.Change.TheVariants.{Nothing}
@@ -165,7 +166,7 @@ module _ {D : Type 0} (shown : D → Device) where
             stage = refl;
             kept = kept_read given (Begun decided.reply decided.pending) texts resting.kept;
             change = subst (Changes decided.pending.change (written_text command) texts decides.coming) (sym reads.contents) decides.change;
-            replies = decides.replies;
+            room = decides.room;
             packing = decides.packing;
           };
           text = refl;
@@ -195,7 +196,7 @@ module _ {D : Type 0} (shown : D → Device) where
     starts_not decided (Ok done) stage is_large answer = tt
     starts_not (Ok decided) (Err error) stage is_large answer = let refused : Result (Unit {0}) AreaError = Err error in absurd (err_not_ok refused error refl answer)
     starts_not (Err StoreFault) (Err StoreFault) stage is_large answer = λ texts resting.
-        let pending : Pending = record { change = Nothing; replies = None } in
+        let pending : Pending = record { change = Nothing; room = no_room } in
         rebuilt (λ (a : OpenArea D). IsDoubtful shown a texts None) new disk area.rules area.held redo area.large area.packer (Doubtful Early pending) is_disk is_rules is_held is_redo is_large is_packer stage
         (inl (record { stage = refl; kept = kept_read area.large (Doubtful Early pending) texts resting.kept }))
     starts_not (Err OutOfMemory) (Err OutOfMemory) stage is_large answer = λ texts resting.

@@ -11,7 +11,7 @@ use Rattle.jb_decide.specs.Packs.{IsPacked}
 use Rattle.jb_disk.specs.RedoView.{RedoView}
 use Rattle.jb_disk.specs.Device.{Device}
 use Rattle.jb_disk.specs.Files.{Files}
-use Rattle.jb_held.specs.Pending.{HasReplies}
+use Rattle.jb_held.specs.Pending.{HasRoom, no_room}
 use Rattle.jb_held.specs.declared.pending.Pending.{Pending}
 use Rattle.jb_journal.specs.Commit.{AgreeButJournal}
 use Rattle.jb_journal.specs.declared.stopped.Stopped.{Stopped}
@@ -134,7 +134,7 @@ module _ {D : Type 0} (shown : D → Device) where
     pub kept : IsHeldByFiles area texts
     pub change : IsNoChange pending.change area.held texts coming
         ⊎ IsPending area.rules.slots (shown area.disk).contents area.packer (redo_of area) pending.change area.held posted texts coming
-    pub replies : HasReplies pending.change pending.replies area.held
+    pub room : HasRoom pending.change pending.room area.held
     pub packing : IsPacked reply → IsPacking pending.change
 
   -- the files are those that they were with what was begun done in them, but for the journal
@@ -154,12 +154,12 @@ module _ {D : Type 0} (shown : D → Device) where
     pub stage : area.stage ≡ Doubtful stopped pending
     pub ruled : IsSoundFor area texts
     pub change : IsPending area.rules.slots (shown area.disk).contents area.packer (redo_of area) pending.change area.held posted texts coming
-    pub replies : HasReplies pending.change pending.replies area.held
+    pub room : HasRoom pending.change pending.room area.held
     pub doubt : IsStoppedAs stopped (redo_of area) area.held texts area.packer (shown area.disk)
 
   -- a call was stopped that had changed nothing
   pub record IsUnchanged (area : OpenArea D) (texts : List ℕ) : Type 0 where
-    pub stage : area.stage ≡ Doubtful Early (record { change = Nothing; replies = None })
+    pub stage : area.stage ≡ Doubtful Early (record { change = Nothing; room = no_room })
     pub kept : IsHeldByFiles area texts
 
   -- a copying of texts was stopped: .NDT may hold anything, and a crash may leave anything of it; all else is as before

@@ -18,6 +18,7 @@ use Rattle.jb_disk.specs.Device.{CountsFaults, Device, OnlyReads, TellsAlike}
 use Rattle.jb_disk.specs.Files.{Files}
 use Rattle.jb_disk.specs.Runs.{LeavesOnly}
 use Rattle.jb_disk.specs.declared.file.FileId.TheVariants.{Jdx}
+use Rattle.jb_held.specs.Pending.{no_room}
 use Rattle.jb_journal.specs.declared.stopped.Stopped.TheVariants.{Early}
 use Rattle.jb_state.specs.Change.{Fits}
 use Rattle.jb_state.specs.Edited.{EditsAlone}
@@ -220,7 +221,7 @@ module _ {D : Type 0} (shown : D → Device) where
 -- the stage that a decision leads to
 abbrev pub StartsAs : Result Decided AreaError → Stage → Stage → Type 0
 StartsAs (Ok decided) old new = new ≡ Begun decided.reply decided.pending
-StartsAs (Err StoreFault) old new = new ≡ Doubtful Early (record { change = Nothing; replies = None })
+StartsAs (Err StoreFault) old new = new ≡ Doubtful Early (record { change = Nothing; room = no_room })
 StartsAs (Err OutOfMemory) old new = new ≡ old
 
 -- the redo of its own that the call then has

@@ -1,10 +1,11 @@
 //! Parts of an open area that are put in the place of others, which are dropped here alone.
 ghost use Rattle.std.specs.Prelude.{◌≡◌, None};
+ghost use Rattle.jb_held.specs.Pending.{no_room};
 ghost use Rattle.jb_state.specs.declared.change.Change.TheVariants.{Nothing};
 
 use crate::stage::Stage;
 use jb_disk::Redo;
-use jb_held::Pending;
+use jb_held::{Pending, Room};
 use jb_pack::Packer;
 use jb_state::Change;
 use std::mem;
@@ -34,11 +35,11 @@ pub(crate) fn drop_both(large: &mut Option<Redo>, packer: &mut Option<Packer>)
 
 /// What a call without a change has pending.
 pub(crate) fn nothing_pending() -> Pending
-    ensures { result ≡ record { change = Nothing; replies = None } }
+    ensures { result ≡ record { change = Nothing; room = no_room } }
 {
     Pending {
         change: Change::Nothing,
-        replies: None,
+        room: Room::none(),
     }
 }
 

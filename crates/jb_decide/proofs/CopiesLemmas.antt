@@ -48,7 +48,7 @@ with_copies rules from texts contents copies redo user moment command decided is
     | inl none ↦ inl none
     | inr pending ↦ inr (pending_with rules.slots contents copies redo decided.pending.change from (written_text command) texts is.coming pending)
   ];
-  replies = is.replies;
+  room = is.room;
   step = is.step;
   somewhere = is.somewhere;
   idle = is.idle;

@@ -10,9 +10,8 @@ use Rattle.jb_change.specs.Headers.{UpdatesBut}
 use Rattle.jb_change.specs.Put.{IsMoved, IsNoPacking, IsShort, IsTextOf, KeepsIndexOnKill, NumbersPosted}
 use Rattle.jb_disk.specs.Files.{Files}
 use Rattle.jb_disk.specs.RedoView.{RedoView}
-use Rattle.jb_held.specs.Pending.{HasReplies}
+use Rattle.jb_held.specs.Pending.{HasRoom, no_room}
 use Rattle.jb_image.specs.Stands.{Loads}
-use Rattle.jb_link.specs.Index.{ReplyIndex}
 use Rattle.jb_state.specs.Change.{Fits, after, headed_where, texts_after}
 use Rattle.jb_state.specs.Linked.{with_links_in, with_links_of}
 use Rattle.jb_state.specs.Loaded.{IsMessageAt}
@@ -107,15 +106,26 @@ short_is redo loaded (Relinked plan) text short = (tt, refl)
 short_is redo loaded (Marked place mark) text short = (tt, refl)
 short_is redo loaded (Packed plan base) text short = (tt, refl)
 
--- what is none of a pack packs nothing, no index of replies lies beside it, and nothing is said of its record
-none_of_pack : (change : Change) (redo : RedoView) (from to : Loaded) → IsNoPacking change → (IsPacking change → ⊥) × HasReplies change None from × HasShortRecord change redo to
-none_of_pack Nothing redo from to none = (λ packing. packing, refl, tt)
-none_of_pack (Posted message neighbour) redo from to none = (λ packing. packing, refl, tt)
-none_of_pack (Headed at) redo from to none = (λ packing. packing, refl, tt)
-none_of_pack (Edited place message) redo from to none = (λ packing. packing, refl, tt)
-none_of_pack (Killed place) redo from to none = (λ packing. packing, refl, tt)
-none_of_pack (Relinked plan) redo from to none = (λ packing. packing, refl, tt)
-none_of_pack (Marked place mark) redo from to none = (λ packing. packing, refl, tt)
+-- and it brings nothing
+pub short_room : (change : Change) (from : Loaded) → IsShort change → HasRoom change no_room from
+short_room Nothing from short = refl
+short_room (Posted message neighbour) from short = absurd short
+short_room (Headed at) from short = refl
+short_room (Edited place message) from short = absurd short
+short_room (Killed place) from short = refl
+short_room (Relinked plan) from short = absurd short
+short_room (Marked place mark) from short = refl
+short_room (Packed plan base) from short = absurd short
+
+-- what is none of a pack packs nothing, and nothing is said of its record
+none_of_pack : (change : Change) (redo : RedoView) (from to : Loaded) → IsNoPacking change → (IsPacking change → ⊥) × HasShortRecord change redo to
+none_of_pack Nothing redo from to none = (λ packing. packing, tt)
+none_of_pack (Posted message neighbour) redo from to none = (λ packing. packing, tt)
+none_of_pack (Headed at) redo from to none = (λ packing. packing, tt)
+none_of_pack (Edited place message) redo from to none = (λ packing. packing, tt)
+none_of_pack (Killed place) redo from to none = (λ packing. packing, tt)
+none_of_pack (Relinked plan) redo from to none = (λ packing. packing, tt)
+none_of_pack (Marked place mark) redo from to none = (λ packing. packing, tt)
 none_of_pack (Packed plan base) redo from to none = absurd none
 
 -- its text comes behind the others
@@ -230,7 +240,7 @@ pending_of limit contents redo change from posted texts some kind is_text put fi
       fits = fits;
       sound = sound;
       sized = ap length behind ∙ length-append texts text ∙ ap (λ (n : ℕ). n + length text) sized ∙ sym (longer change from posted kind is_text);
-      short = (none_of_pack change redo from (after change from) kind).2;
+      short = (none_of_pack change redo from (after change from) kind).1;
     }
 
 -- no other answer says how headers stand
@@ -257,8 +267,8 @@ none_packed (reply.MarksFull marks) other to files = tt
 pub step_decided : (rules : AreaRules) (from : Loaded) (texts : List ℕ) (contents : Option Files) (redo : RedoView) (user : User) (moment : ℕ) (command : Command) (shows : List ℕ → Reply) (decided : Decided)
     → IsStepOf rules from user moment command shows decided.pending.change → IsAnswerBy shows from texts contents decided.reply
     → (decided.pending.change ≢ Nothing → IsPutIn redo from decided.pending.change (text_behind decided.pending.change (written_text command)))
-    → decided.pending.replies ≡ None → length texts ≡ from.texts_len → IsDecided rules from texts contents None redo user moment command decided
-step_decided rules from texts contents redo user moment command shows decided is answer put bare sized =
+    → HasRoom decided.pending.change decided.pending.room from → length texts ≡ from.texts_len → IsDecided rules from texts contents None redo user moment command decided
+step_decided rules from texts contents redo user moment command shows decided is answer put room sized =
     let change : Change = decided.pending.change in
     let posted : List ℕ = written_text command in
     let coming : Coming = coming_of change from posted texts in
@@ -269,7 +279,7 @@ step_decided rules from texts contents redo user moment command shows decided is
         | inl none ↦ inl (record { none = none; same = unchanged none })
         | inr some ↦ inr (pending_of rules.slots contents redo change from posted texts some is.kind is.text (put some) is.fits is.sound sized)
       ];
-      replies = subst (λ (o : Option ReplyIndex). HasReplies change o from) (sym bare) (none_of_pack change redo from from is.kind).1;
+      room = room;
       step = λ told. subst (λ (r : Reply). Step rules (state_of texts from) user moment command r (state_of coming.texts coming.to)) (sym (answer.told told)) (is.step texts sized);
       somewhere = record {
         texts = answer.others;
@@ -297,13 +307,13 @@ step_decided rules from texts contents redo user moment command shows decided is
 
 -- a step that changes nothing
 pub unchanged_decided : (rules : AreaRules) (from : Loaded) (texts : List ℕ) (contents : Option Files) (redo : RedoView) (user : User) (moment : ℕ) (command : Command) (shows : List ℕ → Reply) (decided : Decided) (answer : Reply)
-    → decided.reply ≡ answer → decided.pending.change ≡ Nothing → decided.pending.replies ≡ None → IsStepOf rules from user moment command shows Nothing
+    → decided.reply ≡ answer → decided.pending.change ≡ Nothing → decided.pending.room ≡ no_room → IsStepOf rules from user moment command shows Nothing
     → IsAnswerBy shows from texts contents answer → length texts ≡ from.texts_len → IsDecided rules from texts contents None redo user moment command decided
 unchanged_decided rules from texts contents redo user moment command shows decided answer is none bare step by sized =
     step_decided rules from texts contents redo user moment command shows decided
     (subst (IsStepOf rules from user moment command shows) (sym none) step)
     (subst (IsAnswerBy shows from texts contents) (sym is) by)
-    (λ some. absurd (some none)) bare sized
+    (λ some. absurd (some none)) (subst (λ (change : Change). HasRoom change decided.pending.room from) (sym none) bare) sized
 
 -- a reply that is the same whatever the texts are
 pub same_answer : (from : Loaded) (texts : List ℕ) (contents : Option Files) (answer : Reply) → length texts ≡ from.texts_len → IsAnswerBy (λ texts. answer) from texts contents answer

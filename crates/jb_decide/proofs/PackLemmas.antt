@@ -1,12 +1,12 @@
 -- From what a pack comes to in the loaded area to what is pending.
-use Rattle.std.proofs.Common.{◌≡◌, ◌≢◌, Bool, true, false, cond, nat_lt, lt-ltb, le-ltb, inr, ℕ, ◌+◌, ◌≤◌, List, [], ◌∷◌, All, length, Option, None, Some, ap, sym, refl, ◌∙◌, arith, length-append}
+use Rattle.std.proofs.Common.{◌≡◌, ◌≢◌, Bool, true, false, cond, nat_lt, lt-ltb, le-ltb, inr, ℕ, ◌≤◌, List, [], ◌∷◌, All, length, Option, None, Some, ap, sym, refl, ◌∙◌, arith, length-append}
 use Rattle.std.proofs.lemmas.List.Elements.{All-head, All-tail}
 use Rattle.std.proofs.lemmas.List.Sums.{sum_by-cons}
 use Rattle.jb_base.specs.Access.{first_refusal}
 use Rattle.jb_base.specs.declared.area.Action.TheVariants.{Tend as Tending}
 use Rattle.jb_base.specs.declared.area.AreaRules.{AreaRules}
 use Rattle.jb_base.specs.declared.area.Rule.{Rule}
-use Rattle.jb_limits.specs.declared.limits.TheConstants.{MOST_SLOTS, TEXTS_CEILING}
+use Rattle.jb_limits.specs.declared.limits.TheConstants.{TEXTS_CEILING}
 use Rattle.jb_base.specs.declared.user.User.{User}
 use Rattle.jb_disk.specs.RedoView.{RedoView}
 use Rattle.jb_disk.specs.Files.{Files}
@@ -31,7 +31,8 @@ use Rattle.jb_pack.specs.Finish.{HoldsWithCopies, IsPackOfCopies}
 use Rattle.jb_pack.specs.Plan.{AnswersPack}
 use Rattle.jb_pack.specs.Shadow.{Shadow}
 use Rattle.jb_pack.specs.declared.packing.Packing.TheVariants.{Fits, TextFull}
-use Rattle.jb_link.specs.Index.{IsIndexOf, ReplyIndex}
+use Rattle.jb_held.specs.Pending.{BringsPacked}
+use Rattle.jb_held.specs.declared.pending.Room.{Room}
 use Rattle.jb_decide.specs.Decided.{IsDecided}
 use Rattle.jb_decide.specs.Holds.{HoldsWith}
 use Rattle.jb_decide.proofs.StepLemmas.{no_pack, something}
@@ -112,12 +113,12 @@ pack_refused rules from user moment answer refusal sound is = record {
 }
 
 -- a pack, out of the copies of all texts
-pub pack_decided : (rules : AreaRules) (from : Loaded) (texts : List ℕ) (contents : Option Files) (shadow : Shadow) (redo : RedoView) (user : User) (moment base live dropped : ℕ) (plan : List Links) (replies : ReplyIndex)
+pub pack_decided : (rules : AreaRules) (from : Loaded) (texts : List ℕ) (contents : Option Files) (shadow : Shadow) (redo : RedoView) (user : User) (moment base live dropped : ℕ) (plan : List Links) (room : Room)
     → first_refusal user rules Tending None ≡ None → IsSound rules.slots from → length texts ≡ from.texts_len
     → AnswersPack (state_of texts from) (Fits base live dropped) → IsPackOfCopies from shadow redo → plan ≡ plan_of (linkables_from from.base from.slots)
-    → IsIndexOf replies (packed from) → length (packed from).slots + replies.room ≡ MOST_SLOTS
-    → IsDecided rules from texts contents (Some shadow) redo user moment Pack (record { reply = reply.Packed base live dropped; pending = record { change = Packed plan base; replies = Some replies } })
-pack_decided rules from texts contents shadow redo user moment base live dropped plan replies allowed sound size answer is links index room =
+    → BringsPacked room from
+    → IsDecided rules from texts contents (Some shadow) redo user moment Pack (record { reply = reply.Packed base live dropped; pending = record { change = Packed plan base; room = room } })
+pack_decided rules from texts contents shadow redo user moment base live dropped plan room allowed sound size answer is links brought =
     let state : AreaState = state_of texts from in
     let fits : texts_size (kept_slots from) ≤ TEXTS_CEILING = fits_kept rules.slots from texts sound size answer.fits in
     let brings = is.brings in
@@ -148,7 +149,7 @@ pack_decided rules from texts contents shadow redo user moment base live dropped
         sized = length-texts from.headers_len from.texts_len texts (kept_slots from) size (kept_within rules.slots texts from sound size);
         short = is.short;
       });
-      replies = (replies, refl, index, room);
+      room = brought;
       step = λ told. done;
       somewhere = record { texts = texts; sized = size; step = done };
       idle = λ nothing. absurd (something Pack (reply.Packed base live dropped) refl (λ look. look) (λ links. cc) nothing);

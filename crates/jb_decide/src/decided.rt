@@ -1,8 +1,9 @@
 //! What a command comes to.
-ghost use Rattle.std.specs.Prelude.{◌≡◌, None};
+ghost use Rattle.std.specs.Prelude.{◌≡◌};
+ghost use Rattle.jb_held.specs.Pending.{no_room};
 ghost use Rattle.jb_state.specs.declared.change.Change.TheVariants.{Nothing};
 
-use jb_held::Pending;
+use jb_held::{Pending, Room};
 use jb_model::Reply;
 use jb_state::Change;
 
@@ -18,11 +19,11 @@ impl Decided {
     pub fn unchanged(reply: Reply) -> Decided
         ensures reply { result.reply ≡ reply }
         ensures change { result.pending.change ≡ Nothing }
-        ensures replies { result.pending.replies ≡ None }
+        ensures room { result.pending.room ≡ no_room }
     {
         let pending = Pending {
             change: Change::Nothing,
-            replies: None,
+            room: Room::none(),
         };
         Decided { reply, pending }
     }

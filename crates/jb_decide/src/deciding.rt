@@ -24,7 +24,7 @@ use jb_base::{AreaRules, OutOfMemory, User};
 use jb_change::{put, put_short};
 use jb_crc::jam_crc;
 use jb_disk::Redo;
-use jb_held::{HeldArea, Pending};
+use jb_held::{HeldArea, Pending, Room};
 use jb_state::Change;
 use std::alloc::Global;
 
@@ -55,15 +55,13 @@ pub(crate) fn decide_short(held: &HeldArea, redo: &mut Redo, outcome: Outcome) -
     let Outcome { reply, change } = outcome;
     let active = held.live_after(&change);
     put_short(redo, held.loaded(), &change, active);
-    let pending = Pending {
-        change,
-        replies: None,
-    };
+    let room = Room::none();
+    let pending = Pending { change, room };
     Decided { reply, pending }
 }
 
 /// Puts a change into the redo, with the text of its command where it writes that; it is pending then. The redo takes the memory
-/// that it needs.
+/// that it needs, and so does the room that a post brings.
 pub(crate) fn decide_long(
     alloc: Global,
     held: &HeldArea,
@@ -88,10 +86,8 @@ pub(crate) fn decide_long(
     let active = held.live_after(&change);
     let text = text_behind(&change, text);
     put(alloc, redo, held.loaded(), &change, text, active)?;
-    let pending = Pending {
-        change,
-        replies: None,
-    };
+    let room = held.room_for(alloc, &change)?;
+    let pending = Pending { change, room };
     Ok(Decided { reply, pending })
 }
 

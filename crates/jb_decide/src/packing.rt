@@ -9,6 +9,7 @@ ghost use Rattle.jb_base.specs.declared.user.User.{User};
 ghost use Rattle.jb_redo.specs.Changes.{KeepsRoom};
 ghost use Rattle.jb_disk.specs.RedoView.{RedoView};
 ghost use Rattle.jb_disk.specs.Files.{Files};
+ghost use Rattle.jb_held.specs.Pending.{no_room};
 ghost use Rattle.jb_image.specs.Stands.{Loads};
 ghost use Rattle.jb_state.specs.Sound.{IsSound};
 ghost use Rattle.jb_model.specs.declared.command.Command.TheVariants.{Pack};
@@ -53,7 +54,7 @@ pub fn refuse_pack(held: &HeldArea, rules: &AreaRules, user: &User) -> Option<Re
     ensures refused { ForSome result (λ reply. (moment : ℕ) (texts : List ℕ)
         (contents : Option Files) (redo : RedoView) → AreTexts held.now texts contents
         → IsDecided rules.now held.now texts contents None redo user.now moment Pack
-        (record { reply = reply; pending = record { change = Nothing; replies = None } })) }
+        (record { reply = reply; pending = record { change = Nothing; room = no_room } })) }
     ensures may { result ≡ None → MayPack rules.now held.now user.now }
     ensures says { (texts : List ℕ) → length texts ≡ held.now.texts_len
         → is_pack_refused rules.now texts held.now user.now ≡ is_some result }
@@ -99,10 +100,10 @@ pub fn decide_pack<D: Disk>(
             live,
             dropped,
         } => {
-            let replies = held.replies_after_pack(alloc, base)?;
+            let room = held.room_for_pack(alloc, base)?;
             let pending = Pending {
                 change: Change::Packed { plan: links, base },
-                replies: Some(replies),
+                room,
             };
             Ok(Decided {
                 reply: Reply::Packed {

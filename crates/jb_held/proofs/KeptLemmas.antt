@@ -1,6 +1,6 @@
 -- What is kept whole stays so through a change.
 use Rattle.std.proofs.Common.{◌≡◌, ℕ, ◌+◌, List, length, sym, ◌∙◌, ap, subst, Some}
-use Rattle.jb_limits.specs.declared.limits.TheConstants.{MOST_SLOTS}
+use Rattle.std.specs.Int.{IsPowerOfTwo}
 use Rattle.jb_link.specs.Index.{IsIndexOf, ReplyIndex}
 use Rattle.jb_marks.specs.Order.{IsOrdered}
 use Rattle.jb_state.specs.Change.{live_messages, loaded_counted}
@@ -16,12 +16,12 @@ one_index one other is = cc
 
 -- the marks of what was kept, beside an area with the same ones whose change was counted
 pub kept_counted : (old : Inside) (changed now : Loaded) (live : ℕ) (replies : ReplyIndex) → IsKeptWhole old → now ≡ loaded_counted changed
-    → live ≡ live_messages changed → changed.marks ≡ old.loaded.marks → IsIndexOf replies changed → length changed.slots + replies.room ≡ MOST_SLOTS
+    → live ≡ live_messages changed → changed.marks ≡ old.loaded.marks → IsIndexOf replies changed → IsPowerOfTwo (length changed.slots + replies.room)
     → IsKeptWhole (record { loaded = now; live = live; mark_index = old.mark_index; replies = replies })
 kept_counted old changed now live replies kept is count marks index room = record {
   live = count ∙ sym (ap live_messages is);
   marks = subst (λ (m : List Mark). IsOrdered m old.mark_index.order) (sym (ap (λ (l : Loaded). l.marks) is ∙ marks)) kept.marks;
   mark_room = kept.mark_room;
   replies = subst (IsIndexOf replies) (sym is) (counted_index replies changed index);
-  reply_room = ap (λ (l : Loaded). length l.slots + replies.room) is ∙ room;
+  reply_room = subst IsPowerOfTwo (sym (ap (λ (l : Loaded). length l.slots + replies.room) is)) room;
 }

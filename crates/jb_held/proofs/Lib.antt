@@ -4,3 +4,4 @@ mod KeptLemmas
 pub mod LiveLaws
 mod MarkLemmas
 mod PackIndexLemmas
+mod RoomLemmas

@@ -1,12 +1,9 @@
 -- The mark that is set, by its place.
-use Rattle.std.proofs.Common.{◌≡◌, ℕ, List, [], ◌∷◌, ◌++◌, None, Some, ap, sym, subst}
-use Rattle.std.specs.Prelude.{slice_set}
+use Rattle.std.proofs.Common.{ℕ, List, [], ◌∷◌, ◌++◌, None, Some, sym, subst}
 use Rattle.jb_marks.proofs.OrderLemmas.{ordered-set}
 use Rattle.jb_marks.specs.Order.{IsOrdered}
 use Rattle.jb_state.specs.Places.{IsPlaceOf}
-use Rattle.jb_state.specs.Loaded.{with_marks}
 use Rattle.jb_state.specs.Marks.{with_mark}
-use Rattle.jb_state.specs.declared.loaded.Loaded.{Loaded}
 use Rattle.jb_state.specs.declared.mark.Mark.{Mark}
 use Rattle.jb_state.proofs.MarkLaws.{with_mark-first, with_mark-none}
 

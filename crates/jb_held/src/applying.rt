@@ -8,11 +8,12 @@ ghost use Rattle.jb_state.specs.Linked.{IsPlaced, with_links_in, with_links_of};
 ghost use Rattle.jb_state.specs.Loaded.{header_size, with_message_anew, with_message_behind};
 ghost use Rattle.jb_state.specs.Marks.{with_mark};
 ghost use Rattle.jb_state.specs.Plan.{loaded_at};
+ghost use Rattle.jb_state.specs.Room.{HasPlaceBeside};
 ghost use Rattle.jb_state.specs.declared.change.Change.TheVariants.{Marked};
 
 use jb_link::Replies;
 use jb_marks::MarkIndex;
-use jb_state::{HeadAt, Links, Loaded, LoadedMessage, LoadedSlot, Mark};
+use jb_state::{HeadAt, Links, Loaded, LoadedMessage, LoadedSlot, Mark, SlotRoom};
 use jb_subfield::headed_length;
 
 /// Counts a change: modcounter is one more, and activemsgs is this number of live messages.
@@ -42,18 +43,16 @@ fn set_neighbour(loaded: &mut Loaded, neighbour: Option<HeadAt>)
     }
 }
 
-/// Puts a message behind the others.
-fn add_message(loaded: &mut Loaded, message: LoadedMessage)
-    requires slots { length loaded.old.slots < MOST_SLOTS }
+/// Puts a message behind the others, where no place is free among these.
+fn add_message(loaded: &mut Loaded, message: LoadedMessage, wider: Option<SlotRoom>)
+    requires place { HasPlaceBeside (length loaded.old.slots) wider }
     requires headers { loaded.old.headers_len + header_size message ≤ HEADERS_CEILING }
     requires texts { loaded.old.texts_len + message.text_len ≤ TEXTS_CEILING }
     ensures { loaded.new ≡ with_message_behind message loaded.old }
 {
     loaded.headers_len += headed_length(&message.subfields);
     loaded.texts_len += message.text_len as u64;
-    let Ok(()) = loaded.slots.push(LoadedSlot::Live(message)) else {
-        unreachable!()
-    };
+    loaded.slots.push_with(LoadedSlot::Live(message), wider);
 }
 
 /// Puts a message behind the others, writes the header of its neighbour, and takes the message into the index of the replies.
@@ -62,17 +61,19 @@ pub(crate) fn post_message(
     replies: &mut Replies,
     message: LoadedMessage,
     neighbour: Option<HeadAt>,
+    wider: Option<SlotRoom>,
 )
     requires fits { FitsBehind MOST_SLOTS message loaded.old }
     requires neighbour { IsNeighbourOf neighbour loaded.old }
     requires index { IsIndexOf replies.old loaded.old }
-    requires room { length loaded.old.slots + replies.old.room ≡ MOST_SLOTS }
+    requires room { 0 < replies.old.room }
+    requires place { HasPlaceBeside (length loaded.old.slots) wider }
     ensures loaded { loaded.new ≡ with_message_behind message (headed_where neighbour loaded.old) }
     ensures index { IsIndexOf replies.new loaded.new }
-    ensures room { length loaded.new.slots + replies.new.room ≡ MOST_SLOTS }
+    ensures room { replies.new.room + 1 ≡ replies.old.room }
 {
     set_neighbour(loaded, neighbour);
-    add_message(loaded, message);
+    add_message(loaded, message, wider);
     replies.posted(loaded);
 }
 

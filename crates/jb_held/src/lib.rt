@@ -10,4 +10,4 @@ mod indexes;
 mod pending;
 
 pub use held::HeldArea;
-pub use pending::Pending;
+pub use pending::{Pending, Room};

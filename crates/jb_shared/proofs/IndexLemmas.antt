@@ -8,6 +8,7 @@ use Rattle.jb_area.specs.declared.stage.Stage.TheVariants.{Doubtful, Resting}
 use Rattle.jb_base.specs.declared.area.AreaRules.{AreaRules}
 use Rattle.jb_base.specs.declared.user.User.{User}
 use Rattle.jb_decide.specs.Coming.{Coming}
+use Rattle.jb_held.specs.Pending.{no_room}
 use Rattle.jb_held.specs.declared.pending.Pending.{Pending}
 use Rattle.jb_state.specs.declared.change.Change.TheVariants.{Nothing}
 use Rattle.jb_disk.specs.Device.{Device}
@@ -62,7 +63,7 @@ module _ {D : Type 0} (shown : D → Device) where
   unchanged_no_change area texts (inr half) (texts', coming, doubt) =
       let is : None ≡ Some doubt.pending = ap pending_of (sym half.stage ∙ doubt.stage) in absurd (cc (is))
   unchanged_no_change area texts (inl none) (texts', coming, doubt) =
-      let nothing : Pending = record { change = Nothing; replies = None } in
+      let nothing : Pending = record { change = Nothing; room = no_room } in
       let is : Some nothing ≡ Some doubt.pending = ap pending_of (sym none.stage ∙ doubt.stage) in
       doubt.change.some (ap (λ (o : Option Pending). (unwrap_or o nothing).change) (sym is))
 

@@ -6,6 +6,7 @@ pub mod MarkLaws
 pub mod PackLaws
 pub mod PlaceLaws
 pub mod RelinkLaws
+pub mod RoomLaws
 pub mod SoundLaws
 pub mod ThreadLaws
 pub mod VisibleLaws

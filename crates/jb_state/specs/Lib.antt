@@ -13,6 +13,7 @@ pub mod Places
 pub mod Plan
 pub mod Posted
 pub mod Relinked
+pub mod Room
 pub mod Short
 pub mod Sound
 pub mod State

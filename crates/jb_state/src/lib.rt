@@ -13,6 +13,7 @@ mod loaded_marks;
 mod look;
 mod mark;
 mod message;
+mod room;
 mod short;
 mod summary;
 
@@ -24,5 +25,6 @@ pub use loaded_marks::LoadedMarks;
 pub use look::{Answer, Barred, LookError, Question, SharedFault};
 pub use mark::{Mark, Marks};
 pub use message::Head;
+pub use room::{SlotRoom, places_behind};
 pub use short::Short;
 pub use summary::{Figures, Summaries, Summary};

@@ -1,13 +1,17 @@
 //! An area as it is loaded: all of its state but the texts, with the places of headers and texts.
-ghost use Rattle.std.specs.Prelude.{◌≡◌, ◌<◌, ◌≤◌, [], ◌∷◌, ◌++◌, drop, length, slice_index_or, slice_set, IfOk, IsOk, OnOk, OnErr};
-ghost use Rattle.jb_limits.specs.declared.limits.TheConstants.{MOST_SLOTS};
+ghost use Rattle.std.specs.Prelude.{◌≡◌, ◌<◌, ◌≤◌, [], ◌∷◌, ◌++◌, drop, length, slice_index_or, slice_set, IfOk, OnOk, OnErr};
 ghost use Rattle.jb_state.specs.Loaded.{slot_moved_to, slot_with_head};
+ghost use Rattle.jb_state.specs.Room.{HasPlaceBeside};
 ghost use Rattle.jb_state.specs.declared.loaded.LoadedSlot.{LoadedSlot};
 
-use crate::{Head, LoadedMarks};
-use jb_base::{MOST_SLOTS, OutOfMemory, Subfields};
+use crate::room::{make_place, move_where_full};
+use crate::{Head, LoadedMarks, SlotRoom};
+use jb_base::{OutOfMemory, Subfields};
 use std::alloc::Global;
 use std::marker::Model;
+
+/// Places of an area that is not loaded yet.
+const FIRST_PLACES: usize = 512;
 
 /// A live message: the UserCRC of its index record, its header and subfields, the place of its header in .JHR, and the
 /// place and length of its text in .JDT, in bytes.
@@ -57,32 +61,32 @@ impl Drop for LoadedSlot {
     }
 }
 
-/// The slots of an area; the slot at place i has the number base plus i. Contracts see the list of them. There is always
-/// room for as many as an area may have, [`MOST_SLOTS`], so that a change of an open area takes no memory; room that was
-/// never used costs none.
+/// The slots of an area; the slot at place i has the number base plus i. Contracts see the list of them. There are places for as
+/// many as a power of two, so whether none may be free is known by their number, and who puts one more there brings more places
+/// then.
 #[derive(Drop)]
 pub struct LoadedSlots {
     items: Vec<LoadedSlot>,
 }
 
 impl Model for LoadedSlots {
-    ghost use Rattle.std.specs.Prelude.{List, ◌≤◌, vec_capacity};
-    ghost use Rattle.jb_limits.specs.declared.limits.TheConstants.{MOST_SLOTS};
+    ghost use Rattle.std.specs.Prelude.{List, length, vec_capacity};
+    ghost use Rattle.jb_state.specs.Room.{HasPlaces};
     ghost use Rattle.jb_state.specs.declared.loaded.LoadedSlot.{LoadedSlot};
 
     ghost Value = { List LoadedSlot };
 
     ghost view = { λ s. s.items.items };
 
-    ghost invariant = { λ s. MOST_SLOTS ≤ vec_capacity s.items };
+    ghost invariant = { λ s. HasPlaces (length s.items.items) (vec_capacity s.items) };
 }
 
 impl LoadedSlots {
-    /// None yet, and room for all.
+    /// None yet.
     pub fn new(alloc: Global) -> Result<LoadedSlots, OutOfMemory>
         ensures { IfOk result (λ slots. slots ≡ []) }
     {
-        let items = Vec::with_capacity(alloc, MOST_SLOTS as usize)?;
+        let items = Vec::with_capacity(alloc, FIRST_PLACES)?;
         Ok(LoadedSlots { items })
     }
 
@@ -93,14 +97,24 @@ impl LoadedSlots {
         self.items.as_slice()
     }
 
-    /// Puts one behind the others, or for want of memory leaves all as it was. Below [`MOST_SLOTS`] it takes no memory.
+    /// Puts one behind the others, or for want of memory leaves all as it was.
     pub fn push(&mut self, slot: LoadedSlot) -> Result<(), OutOfMemory>
         ensures ok { OnOk result (self.new ≡ self.old ++ slot ∷ []) }
         ensures err { OnErr result (self.new ≡ self.old) }
-        ensures roomy { length self.old < MOST_SLOTS → IsOk result }
     {
-        self.items.push(slot)?;
+        make_place(&mut self.items)?;
+        self.items.push_reserved(slot);
         Ok(())
+    }
+
+    /// Puts one behind the others. It takes no memory: where no place may be free, all move into this room,
+    /// which has more.
+    pub fn push_with(&mut self, slot: LoadedSlot, wider: Option<SlotRoom>)
+        requires { HasPlaceBeside (length self.old) wider }
+        ensures { self.new ≡ self.old ++ slot ∷ [] }
+    {
+        move_where_full(&mut self.items, wider);
+        self.items.push_reserved(slot);
     }
 
     /// Puts another slot in the place of one.

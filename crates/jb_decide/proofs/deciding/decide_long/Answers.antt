@@ -1,4 +1,4 @@
-use Rattle.std.proofs.Common.{List, ℕ, ap, refl, subst, sym, ◌∙◌}
+use Rattle.std.proofs.Common.{List, ℕ, ap, subst, sym, ◌∙◌}
 use Rattle.jb_change.proofs.LeavesLemmas.{index_on_kill}
 use Rattle.jb_change.specs.Headers.{UpdatesBut}
 use Rattle.jb_change.specs.Put.{IsMoved}
@@ -10,7 +10,9 @@ use Rattle.jb_decide.proofs.DecidedLemmas.{step_decided}
 use Rattle.jb_decide.proofs.deciding.decide_long.Goals as goal
 
 pub returns-clause-decided : goal.returns-clause-decided
-returns-clause-decided c = rw (← c.loaded.ensures) (λ rules user moment command shows texts contents sound are step posted answer.
+returns-clause-decided c =
+    let room = rw (← c.loaded.ensures) at c.in_ok-room.ensures in
+    rw (← c.loaded.ensures) (λ rules user moment command shows texts contents sound are step posted answer.
     let from : Loaded = c.loaded.result.now in
     let change : Change = c.args.outcome.change in
     step_decided rules from texts contents c.put.new.redo user moment command shows _ step answer
@@ -19,4 +21,4 @@ returns-clause-decided c = rw (← c.loaded.ensures) (λ rules user moment comma
       numbered = c.in_ok-put.ensures.numbered;
       index = index_on_kill c.put.new.redo from change c.in_ok-put.ensures.leaves.index;
       writable = c.in_ok-put.ensures.writable;
-    }) refl are.sized)
+    }) room are.sized)

@@ -1,12 +1,14 @@
-use Rattle.std.proofs.Common.{List, [], ℕ, refl, subst, sym}
+use Rattle.std.proofs.Common.{List, [], ℕ, subst, sym}
 use Rattle.jb_change.proofs.LeavesLemmas.{index_on_kill}
 use Rattle.jb_change.specs.Headers.{Updates}
 use Rattle.jb_change.specs.Put.{IsMoved}
+use Rattle.jb_held.specs.Pending.{HasRoom}
+use Rattle.jb_held.specs.declared.pending.Room.{Room}
 use Rattle.jb_state.specs.Change.{after}
 use Rattle.jb_state.specs.declared.change.Change.{Change}
 use Rattle.jb_state.specs.declared.loaded.Loaded.{Loaded}
 use Rattle.jb_decide.specs.StepOf.{written_text}
-use Rattle.jb_decide.proofs.DecidedLemmas.{short_is, step_decided}
+use Rattle.jb_decide.proofs.DecidedLemmas.{short_is, short_room, step_decided}
 use Rattle.jb_decide.proofs.HeaderLemmas.{moves_none}
 use Rattle.jb_decide.proofs.deciding.decide_short.Goals as goal
 
@@ -21,4 +23,4 @@ returns-clause-decided c = rw (← c.loaded.ensures) (λ rules user moment comma
       numbered = (short_is c.put_short.new.redo from change [] c.requires.kind).0;
       index = index_on_kill c.put_short.new.redo from change c.put_short.ensures.leaves.index;
       writable = c.put_short.ensures.writable;
-    }) refl are.sized)
+    }) (subst (λ (room : Room). HasRoom change room from) (sym c.none-room.ensures) (short_room change from c.requires.kind)) are.sized)

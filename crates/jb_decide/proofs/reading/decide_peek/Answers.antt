@@ -10,7 +10,7 @@ use Rattle.jb_decide.proofs.reading.decide_peek.Goals as goal
 pub returns-in-Err-clause-decided : goal.returns-in-Err-clause-decided
 returns-in-Err-clause-decided g c = rw (← c.loaded-loaded.ensures) (λ moment redo texts are.
     unchanged_decided c.args.rules.now c.loaded-loaded.result.now texts (g.D.Disk.device c.args.disk.now).contents redo c.args.user.now moment _ _ c.unchanged.result c.in-Err.reply
-    c.unchanged.ensures.reply c.unchanged.ensures.change c.unchanged.ensures.replies (c.in-Err.ensures.refused moment)
+    c.unchanged.ensures.reply c.unchanged.ensures.change c.unchanged.ensures.room (c.in-Err.ensures.refused moment)
     (same_answer c.loaded-loaded.result.now texts (g.D.Disk.device c.args.disk.now).contents c.in-Err.reply are.sized) are.sized)
 
 pub returns-in_ok-shown-in-Ok-clause-decided : goal.returns-in_ok-shown-in-Ok-clause-decided
@@ -24,7 +24,7 @@ returns-in_ok-shown-in-Ok-clause-decided g c =
     let inside = within_is c.args.rules.now.slots c.in-Ok.place message from c.message_at-message.ensures kept.sound in
     let contents = (g.D.Disk.device c.args.disk.now).contents in
     unchanged_decided c.args.rules.now from texts contents redo c.args.user.now moment _ _ c.unchanged-in-Ok.result (Text c.in_ok-shown-in-Ok.shown)
-    c.unchanged-in-Ok.ensures.reply c.unchanged-in-Ok.ensures.change c.unchanged-in-Ok.ensures.replies (is.step moment)
+    c.unchanged-in-Ok.ensures.reply c.unchanged-in-Ok.ensures.change c.unchanged-in-Ok.ensures.room (is.step moment)
     (subst (λ (m : LoadedMessage). IsAnswerBy (letter_in c.args.number m.head m) from texts contents (Text c.in_ok-shown-in-Ok.shown)) same
     (letter_answer from texts contents c.args.number message.head message c.in_ok-text-in-Ok.text c.in_ok-shown-in-Ok.shown inside.text c.in_ok-text-in-Ok.ensures.sized c.in_ok-shown-in-Ok.ensures
     (λ files there. c.in_ok-text-in-Ok.ensures.found files there ∙ ap (λ (t : List ℕ). text_of t message) (are.told files there))))

@@ -24,7 +24,7 @@ decide_short-requires-clause-fits g c =
 pub returns-in-Err-clause-decided : goal.returns-in-Err-clause-decided
 returns-in-Err-clause-decided g c = rw (← c.loaded-loaded.ensures) (λ texts are.
     unchanged_decided c.args.rules.now c.loaded-loaded.result.now texts (g.D.Disk.device c.args.disk.now).contents c.args.redo.now c.args.user.now c.args.moment _ _ c.unchanged.result c.in-Err.reply
-    c.unchanged.ensures.reply c.unchanged.ensures.change c.unchanged.ensures.replies c.in-Err.ensures.refused
+    c.unchanged.ensures.reply c.unchanged.ensures.change c.unchanged.ensures.room c.in-Err.ensures.refused
     (same_answer c.loaded-loaded.result.now texts (g.D.Disk.device c.args.disk.now).contents c.in-Err.reply are.sized) are.sized)
 
 pub returns-in_ok-shown-in-Ok-clause-decided : goal.returns-in_ok-shown-in-Ok-clause-decided

@@ -4,6 +4,7 @@ use Rattle.jb_state.specs.declared.loaded.Loaded.{Loaded}
 use Rattle.jb_state.specs.Packed.{texts_size}
 use Rattle.jb_decide.specs.Errors.{is_area_fault}
 use Rattle.jb_decide.specs.declared.decided.Decided.{Decided}
+use Rattle.jb_held.specs.Pending.{no_room}
 use Rattle.jb_held.specs.declared.pending.Pending.{Pending}
 use Rattle.jb_state.specs.declared.change.Change.TheVariants.{Nothing}
 use Rattle.jb_area.specs.declared.stage.Stage.TheVariants.{Begun}
@@ -16,7 +17,7 @@ pub returns-in-Some-clause-begins : goal.returns-in-Some-clause-begins
 returns-in-Some-clause-begins g c = λ moment.
     let has = c.requires.rests in
     let area = c.args.self.now in
-    let decided : Decided = record { reply = c.in-Some.reply; pending = record { change = Nothing; replies = None } } in
+    let decided : Decided = record { reply = c.in-Some.reply; pending = record { change = Nothing; room = no_room } } in
     begins g.D.Disk.device area (record area { stage = c.put_stage.new.place }) area.disk area.redo None refl refl refl refl refl
     (reads_itself (g.D.Disk.device area.disk)) has.rests.kept.ruled.room (Ok decided) (Ok tt) c.args.user.now moment _ (c.put_stage.ensures ∙ ap (λ (p : Pending). Begun c.in-Some.reply p) c.nothing_pending.ensures) has.rests.small refl
     (λ texts are. c.refuse_pack.ensures.refused c.in-Some.reply c.in-Some.is moment texts (g.D.Disk.device area.disk).contents area.redo are) (counts_none is_area_fault (g.D.Disk.device area.disk) (Ok decided) tt) has

@@ -1,4 +1,5 @@
 use Rattle.std.proofs.Common.{◌≡◌, ◌+◌, sym, ◌∙◌, ap, subst, length}
+use Rattle.std.specs.Int.{IsPowerOfTwo}
 use Rattle.jb_state.specs.Change.{live_messages}
 use Rattle.jb_state.specs.Loaded.{slot_with_head}
 use Rattle.jb_state.specs.declared.loaded.Loaded.{Loaded}
@@ -23,5 +24,5 @@ invariant_of-self c =
     kept_counted c.self.inside c.set_head.new.loaded c.count_change.new.loaded c.self.inside.live c.self.inside.replies c.self.invariant c.count_change.ensures count
     (ap (λ (l : Loaded). l.marks) c.set_head.ensures)
     (subst (IsIndexOf c.self.inside.replies) (sym c.set_head.ensures) (headed_index c.self.inside.replies c.args.at loaded fits c.self.invariant.replies))
-    (ap (λ (l : Loaded). length l.slots + c.self.inside.replies.room) c.set_head.ensures
-    ∙ ap (λ n. n + c.self.inside.replies.room) (length_changed c.args.at.place (slot_with_head c.args.at.head) loaded) ∙ c.self.invariant.reply_room)
+    (subst IsPowerOfTwo (sym (ap (λ (l : Loaded). length l.slots + c.self.inside.replies.room) c.set_head.ensures
+    ∙ ap (λ n. n + c.self.inside.replies.room) (length_changed c.args.at.place (slot_with_head c.args.at.head) loaded))) c.self.invariant.reply_room)

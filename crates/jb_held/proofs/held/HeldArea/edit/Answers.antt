@@ -1,4 +1,5 @@
 use Rattle.std.proofs.Common.{◌≡◌, ◌+◌, sym, ◌∙◌, ap, subst, length}
+use Rattle.std.specs.Int.{IsPowerOfTwo}
 use Rattle.std.proofs.lemmas.List.{length-set}
 use Rattle.std.proofs.lemmas.Option.{slice_get_within}
 use Rattle.jb_state.specs.Change.{live_messages}
@@ -29,5 +30,5 @@ invariant_of-self c =
     kept_counted c.self.inside c.replace_message.new.loaded c.count_change.new.loaded c.self.inside.live c.self.inside.replies c.self.invariant c.count_change.ensures count
     (ap (λ (l : Loaded). l.marks) c.replace_message.ensures)
     (subst (IsIndexOf c.self.inside.replies) (sym c.replace_message.ensures) (edited_index c.self.inside.replies c.args.place c.args.message loaded fits c.self.invariant.replies))
-    (ap (λ (l : Loaded). length l.slots + c.self.inside.replies.room) c.replace_message.ensures
-    ∙ ap (λ n. n + c.self.inside.replies.room) (length-set loaded.slots c.args.place (Live c.args.message)) ∙ c.self.invariant.reply_room)
+    (subst IsPowerOfTwo (sym (ap (λ (l : Loaded). length l.slots + c.self.inside.replies.room) c.replace_message.ensures
+    ∙ ap (λ n. n + c.self.inside.replies.room) (length-set loaded.slots c.args.place (Live c.args.message)))) c.self.invariant.reply_room)

@@ -1,5 +1,5 @@
-use Rattle.std.proofs.Common.{◌≡◌, ◌+◌, ◌-◌, ap, arith, length}
-use Rattle.jb_limits.specs.declared.limits.TheConstants.{MOST_SLOTS}
+use Rattle.std.proofs.Common.{◌≡◌, ◌+◌, ◌-◌, ap, arith, length, subst, sym}
+use Rattle.std.specs.Int.{IsPowerOfTwo}
 use Rattle.jb_state.specs.Change.{killed_slot, live_messages}
 use Rattle.jb_state.specs.declared.loaded.Loaded.{Loaded}
 use Rattle.jb_held.proofs.KeptLemmas.{kept_counted}
@@ -23,13 +23,12 @@ invariant_of-self c =
     let loaded : Loaded = c.self.inside.loaded in
     let count : c.self.inside.live - 1 ≡ live_messages c.kill_message.new.loaded =
     omega (arith, c.self.invariant.live, live_killed c.args.place loaded fits, ap live_messages c.kill_message.ensures.loaded) in
-    let room : length c.kill_message.new.loaded.slots + c.kill_message.new.replies.room ≡ MOST_SLOTS =
+    let room : length c.kill_message.new.loaded.slots + c.kill_message.new.replies.room ≡ length loaded.slots + c.self.inside.replies.room =
     omega (
       arith,
       ap (λ (l : Loaded). length l.slots) c.kill_message.ensures.loaded,
       length_changed c.args.place killed_slot loaded,
       c.kill_message.ensures.room,
-      c.self.invariant.reply_room,
     ) in
     kept_counted c.self.inside c.kill_message.new.loaded c.count_change.new.loaded (c.self.inside.live - 1) c.kill_message.new.replies c.self.invariant
-    c.count_change.ensures count (ap (λ (l : Loaded). l.marks) c.kill_message.ensures.loaded) c.kill_message.ensures.index room
+    c.count_change.ensures count (ap (λ (l : Loaded). l.marks) c.kill_message.ensures.loaded) c.kill_message.ensures.index (subst IsPowerOfTwo (sym room) c.self.invariant.reply_room)

@@ -1,4 +1,5 @@
 use Rattle.std.proofs.Common.{◌≡◌, ◌+◌, sym, ◌∙◌, ap, subst, length}
+use Rattle.std.specs.Int.{IsPowerOfTwo}
 use Rattle.jb_state.specs.Change.{live_messages}
 use Rattle.jb_state.specs.declared.loaded.Loaded.{Loaded}
 use Rattle.jb_link.specs.Index.{IsIndexOf}
@@ -26,5 +27,5 @@ invariant_of-self c =
     kept_counted c.self.inside c.set_plan.new.loaded c.count_change.new.loaded c.self.inside.live c.self.inside.replies c.self.invariant c.count_change.ensures count
     (ap (λ (l : Loaded). l.marks) c.set_plan.ensures ∙ marks_of c.args.plan.now loaded)
     (subst (IsIndexOf c.self.inside.replies) (sym c.set_plan.ensures) (linked_index c.self.inside.replies c.args.plan.now loaded sound.base fits c.self.invariant.replies))
-    (ap (λ (l : Loaded). length l.slots + c.self.inside.replies.room) c.set_plan.ensures
-    ∙ ap (λ n. n + c.self.inside.replies.room) (length_of c.args.plan.now loaded) ∙ c.self.invariant.reply_room)
+    (subst IsPowerOfTwo (sym (ap (λ (l : Loaded). length l.slots + c.self.inside.replies.room) c.set_plan.ensures
+    ∙ ap (λ n. n + c.self.inside.replies.room) (length_of c.args.plan.now loaded))) c.self.invariant.reply_room)

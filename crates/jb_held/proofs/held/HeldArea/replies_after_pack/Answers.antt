@@ -1,6 +1,7 @@
-use Rattle.std.proofs.Common.{◌≡◌, ◌+◌, ◌-◌, ap, arith, length, length-drop}
+use Rattle.std.proofs.Common.{◌≡◌, ◌+◌, ◌-◌, ap, arith, length, length-drop, subst}
 use Rattle.std.proofs.lemmas.Result.{IfOk-weaker}
-use Rattle.jb_limits.specs.declared.limits.TheConstants.{MOST_SLOTS}
+use Rattle.std.specs.Int.{IsPowerOfTwo}
+use Rattle.jb_state.specs.Room.{IsWider}
 use Rattle.jb_state.specs.LiveSlots.{linkables_from}
 use Rattle.jb_state.specs.Packed.{kept_slots, new_base, packed}
 use Rattle.jb_state.specs.declared.loaded.Loaded.{Loaded}
@@ -42,5 +43,15 @@ returns-clause-room c =
     let below = within.1 in
     let many = length-packed (linkables_from loaded.base loaded.slots) (new_base loaded) 1024 0 (kept_slots loaded) in
     let left = length-drop (new_base loaded - loaded.base) loaded.slots in
-    rw (← c.self.view_is) (IfOk-weaker c.copied.result (λ (copy : ReplyIndex). copy.room ≡ _) (λ (copy : ReplyIndex). length (packed loaded).slots + copy.room ≡ MOST_SLOTS)
-    (λ copy room. omega (arith, above, below, many, left, base, sound.few_slots, ap length c.as_slice.ensures, room)) c.copied.ensures.room)
+    rw (← c.self.view_is) (IfOk-weaker c.copied.result (λ (copy : ReplyIndex). copy.room ≡ c.room_behind.result)
+    (λ (copy : ReplyIndex). IsWider (length (packed loaded).slots) (length (packed loaded).slots + copy.room))
+    (λ copy room. record {
+      more = omega (arith, above, below, many, left, base, ap length c.as_slice.ensures, room, c.room_behind.ensures.more);
+      few = omega (arith, above, below, many, left, base, ap length c.as_slice.ensures, room, c.room_behind.ensures.few);
+      power = subst IsPowerOfTwo (omega (arith, above, below, many, left, base, ap length c.as_slice.ensures, room)) c.room_behind.ensures.power;
+    }) c.copied.ensures.room)
+
+pub room_behind-requires : goal.room_behind-requires
+room_behind-requires c =
+    let sound = rw (← c.self.view_is) at c.requires.sound in
+    omega (arith, sound.few_slots, ap length c.as_slice.ensures)

@@ -1,4 +1,5 @@
 use Rattle.std.proofs.Common.{◌≡◌, ap, length, refl, subst, sym, ◌+◌, ◌∙◌}
+use Rattle.std.specs.Int.{IsPowerOfTwo}
 use Rattle.jb_marks.specs.Order.{IsOrdered}
 use Rattle.jb_state.specs.declared.loaded.Loaded.{Loaded}
 use Rattle.jb_link.proofs.LawLemmas.{rests_on_slots}
@@ -21,7 +22,7 @@ invariant_of-self c =
       marks = subst (λ (l : Loaded). IsOrdered l.marks c.set_loaded_mark.new.index.order) (sym same) c.set_loaded_mark.ensures.index;
       mark_room = c.set_loaded_mark.ensures.room;
       replies = subst (IsIndexOf c.self.inside.replies) (sym same) (rests_on_slots c.self.inside.replies from to refl refl kept.replies);
-      reply_room = ap (λ (l : Loaded). length l.slots + c.self.inside.replies.room) same ∙ kept.reply_room;
+      reply_room = subst IsPowerOfTwo (sym (ap (λ (l : Loaded). length l.slots + c.self.inside.replies.room) same)) kept.reply_room;
     }
 
 pub returns : goal.returns
