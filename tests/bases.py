@@ -50,8 +50,9 @@ def whole_base(draw):
     return {"jhr": headers, "jdt": draw.randbytes(3107), "jdx": index, "jlr": marks, "jnl": bytes(16), "ndt": b""}, places
 
 
-def waiting_base(draw):
-    """The same with a change that waits in the journal: an answer is posted, a message killed, another linked, texts are moved."""
+def waiting_base(draw, change=None):
+    """The same with a change that waits in the journal: an answer is posted, a message killed, another linked, texts are moved. Where the change has a
+    number, the journal is of the second version."""
     files, places = whole_base(draw)
     answer = header(named(b"Sysop", b"Hedy", b"Re: first", msgid(21), (5, msgid(8)[1])), number=21, offset=3107, length=50, reply_to=8)
     entry = struct.pack("<II", crc(b"Hedy"), len(files["jhr"]))
@@ -61,7 +62,7 @@ def waiting_base(draw):
         (0, places[8] + 28, struct.pack("<I", 21)), (0, places[16] + 52, struct.pack("<I", DELETED)),
         (3, 16, bytes(16)), (0, 8, struct.pack("<II", 41, 8)),
     ]
-    return files | {"jnl": journal_of(pieces, list(lengths)) + b"old bytes", "ndt": draw.randbytes(70)}
+    return files | {"jnl": journal_of(pieces, list(lengths), change) + b"old bytes", "ndt": draw.randbytes(70)}
 
 
 def small_base():

@@ -7,8 +7,12 @@ import re
 # the bytes that are told of each call are enough to know it by
 TRACED = ("-s", "64", "-e", "trace=write,writev,pwrite64,pwritev,pwritev2,ftruncate,truncate,fallocate,fsync,fdatasync,"
           "sync_file_range,syncfs,sync,msync,rename,renameat,renameat2,unlink,unlinkat,link,linkat,copy_file_range,sendfile,splice")
+# what is written as the first byte of the journal, also by a program whose journal is of the first version
+GATES = {r'"\2"': "gate opened", r'"\1"': "first gate opened", r'"\0"': "gate closed"}
 CALL = re.compile(r"(?:\d+ +)?(\w+)\((?:\d+<([^>]*)>)?(?:, )?(.*)\) += (-?\d+)")
 OPENING = "jhr sync, folder sync, jdt sync, jdx sync, jlr sync, jnl sync, "
+# a journal of the first version, or of none, becomes one of the second
+CONVERSION = "jnl len, jnl sync, jnl write, jnl sync, "
 CHANGE = r"((?:\w+ (?:len|write), )+)((?:\w+ sync, )+)gate closed, jnl sync, "
 COMMIT = r"jnl len, (?:jnl write, )+jnl sync, gate opened, jnl sync, " + CHANGE
 
@@ -29,7 +33,7 @@ def told(line):
     if call == "ftruncate":
         return f"{extension} len"
     if call == "pwrite64" and extension == "jnl" and rest.endswith(", 1, 0"):
-        return {r'"\1"': "gate opened", r'"\0"': "gate closed"}.get(rest[:4], "gate otherwise")
+        return GATES.get(rest[:4], "gate otherwise")
     return f"{extension} write" if call == "pwrite64" and rest.split(", ")[-2] == answer else f"{extension} {call}"
 
 

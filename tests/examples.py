@@ -37,7 +37,7 @@ level = 50
 """
 DIGEST = 'digest = "ba7816bf8f01cfea414140de5dae2223b00361a396177a9cb410ff61f20015ad"'
 AREAS = (("general", "areas", "general"), ("Letters to all", "more/letters", "letters"), ("trade", "areas", "trade"))
-EMPTY = "base 1, next 1, live 0, killed 0, empty 0, msgids 0, linked yes"
+EMPTY = "base 1, next 1, live 0, killed 0, empty 0, msgids 0, linked yes, recovered closed"
 ASKED, ASKED_AGAIN = "Password: ", "The same again: "
 # the exposure of board.service that systemd-analyze may find, in tenths
 MOST_EXPOSED = 15

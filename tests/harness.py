@@ -396,8 +396,9 @@ class Served(Runs):
     def checks(self, what):
         """Looks whether a check of each base finds nothing wrong, and what is to be found; it does first what waits in the journal."""
         for area in AREAS:
+            waiting = jam.recovered(self.files(area)["jnl"])
             found = self.ended("check", "areas", area)
-            self.is_so(f"{what}: a check of {area}", found, (jam.figures(self.base(area)), 0))
+            self.is_so(f"{what}: a check of {area}", found, (jam.figures(self.base(area)) + waiting, 0))
             self.holds(f"{what}: the gate of {area} is closed", self.is_shut(area))
 
 

@@ -18,8 +18,13 @@ JHR, JDT, JDX, JLR = range(4)
 FIELDS = ("reserved subfields read msgid_crc reply_crc reply_to reply_first reply_next written received processed number "
           "attribute attribute2 offset length password cost").split()
 LINKS = ("reply_to", "reply_first", "reply_next")
-CEILINGS = (134_217_728, 67_108_864, 520_000, 1_040_000)
-MOST_SLOTS, MOST_SUBFIELD_BYTES, MOST_TEXT_BYTES = 65_000, 262_144, 1_048_576
+CEILINGS = (536_870_912, 1_073_741_824, 8_000_000, 1_040_000)
+MOST_SLOTS, MOST_SUBFIELD_BYTES, MOST_TEXT_BYTES = 1_000_000, 262_144, 1_048_576
+# how a check ends where nothing waits in the journal
+CLOSED = b"recovered closed\n"
+# the first and the last bytes of a record in each version of the journal, how many bytes a place or a length has, and how much a file may hold by it
+HEADS, ENDS, WIDTHS = {1: b"JBJ1", 2: b"JBJ2"}, {1: b"JBJE", 2: b"JBJF"}, {1: 4, 2: 8}
+RECORD_CEILINGS = {1: (134_217_728, 67_108_864, 520_000, 1_040_000), 2: CEILINGS}
 
 
 def crc(name):
@@ -233,6 +238,11 @@ def figures(base):
                slots.count(None), sum(has_id(m) for m in live.values()), is_linked))
 
 
+def checked(base):
+    """What a check prints of a base in whose journal nothing waits."""
+    return figures(base) + CLOSED
+
+
 class Refused(Exception):
     """The files fail a test: the line that names it, with its number and place."""
 
@@ -241,11 +251,16 @@ class Refused(Exception):
         return b"fault %s\n" % self.args[0].encode()
 
 
+def number_in(data):
+    return int.from_bytes(data, "little")
+
+
 class Record:
-    """The record of a change, read field by field from byte 16 of the journal on."""
+    """The record of a change, read field by field from byte 16 of the journal on, by the journal's version."""
 
     def __init__(self, files):
         self.files, self.journal, self.at = files, files["jnl"], 16
+        self.version = version_of(self.journal)
 
     def field(self, size):
         """The next field, of so many bytes."""
@@ -257,42 +272,71 @@ class Record:
         if is_broken:
             raise Refused(f"3.14 BadJournal {self.at}")
 
+    def counted(self, most=EMPTY):
+        """The next field, which is a count, and goes behind it."""
+        count = number_in(self.field(4))
+        self.breaks(count > most)
+        self.at += 4
+        return count
+
     def changes(self):
         """The new lengths by file, and the pieces as file, place and bytes."""
-        self.breaks(self.field(4) != b"JBJ1")
+        self.breaks(self.field(4) != HEADS[self.version])
         self.at += 4
-        count = ulong(self.field(4), 0)
-        self.breaks(count > 4)
-        self.at += 4
-        lengths, least = {}, 0
-        for _ in range(count):
-            file, a, b, c, length = struct.unpack("<4BI", self.field(8))
-            self.breaks(not least <= file < 4 or (a, b, c) != (0, 0, 0) or length > CEILINGS[file])
+        if self.version == 2:
+            # the number of the change, whatever it is
+            self.at += len(self.field(8))
+        lengths, least, size = {}, 0, 4 + WIDTHS[self.version]
+        for _ in range(self.counted(4)):
+            field = self.field(size)
+            file, length = field[0], number_in(field[4:])
+            self.breaks(not least <= file < 4 or field[1:4] != bytes(3) or length > RECORD_CEILINGS[self.version][file])
             lengths[FILES[file]], least = length, file + 1
-            self.at += 8
-        count = ulong(self.field(4), 0)
-        self.at += 4
-        pieces = [self.piece(lengths) for _ in range(count)]
-        self.breaks(self.field(4) != b"JBJE")
+            self.at += size
+        pieces = [self.piece(lengths) for _ in range(self.counted())]
+        self.breaks(self.field(4) != ENDS[self.version])
         return lengths, pieces
 
     def piece(self, lengths):
-        kind, file, source, last, place, size = struct.unpack("<4BII", self.field(12))
+        width = WIDTHS[self.version]
+        front = 4 + 2 * width
+        head = self.field(front)
+        kind, file, source, last = head[:4]
+        place, size = number_in(head[4:4 + width]), number_in(head[4 + width:])
         self.breaks(kind > 1 or file > 3 or last != 0 or (file, source) != (1, 5) and kind == 1 or source != 0 and kind == 0)
-        whole = self.field(12 + (size if kind == 0 else 4))
+        whole = self.field(front + (size if kind == 0 else width))
         self.breaks(place + size > lengths.get(FILES[file], len(self.files[FILES[file]])))
-        data = whole[12:]
+        data = whole[front:]
         if kind == 1:
-            start = ulong(whole, 12)
+            start = number_in(data)
             self.breaks(start + size > len(self.files["ndt"]))
             data = self.files["ndt"][start:start + size]
         self.at += len(whole)
         return FILES[file], place, data
 
 
+def version_of(journal):
+    """The version of a journal, which is the first where none was written."""
+    return 2 if journal[1:2] == b"\2" else 1
+
+
+def is_open(journal):
+    """Whether the gate is open, by the value that it has then in the journal's version."""
+    return len(journal) > 16 and journal[0] == version_of(journal)
+
+
+def recovered(journal):
+    """The line by which a check of a base that opens ends, where this is its journal: the version, and the number of the change, of which a record of the
+    first version has none."""
+    if not is_open(journal):
+        return CLOSED
+    version = version_of(journal)
+    return b"recovered %d %d\n" % (version, number_in(journal[20:28]) if version == 2 else 0)
+
+
 def replayed(files):
     """The files after what waits in the journal was done."""
-    if len(files["jnl"]) <= 16 or files["jnl"][0] != 1:
+    if not is_open(files["jnl"]):
         return files
     lengths, pieces = Record(files).changes()
     now = {extension: bytearray(data) for extension, data in files.items()}
@@ -304,16 +348,20 @@ def replayed(files):
     return {extension: bytes(data) for extension, data in now.items()}
 
 
-def journal_of(pieces, lengths=()):
-    """A journal whose gate is open. Its record gives these files, by their numbers, new lengths, and writes these pieces: the number of a file, a place
-    in it and the bytes, or for these the place in .NDT from which they are copied and their count."""
-    record = b"JBJ1" + struct.pack("<I", len(lengths)) + b"".join(struct.pack("<II", *it) for it in lengths) + struct.pack("<I", len(pieces))
+def journal_of(pieces, lengths=(), change=None):
+    """A journal whose gate is open: of the second version where its change has a number. Its record gives these files, by their numbers, new lengths,
+    and writes these pieces: the number of a file, a place in it and the bytes, or for these the place in .NDT from which they are copied and their
+    count."""
+    version = 1 if change is None else 2
+    wide = "<4BII" if version == 1 else "<4BQQ"
+    record = HEADS[version] + (b"" if version == 1 else struct.pack("<Q", change)) + struct.pack("<I", len(lengths))
+    record += b"".join(struct.pack(wide[:-1], file, 0, 0, 0, length) for file, length in lengths) + struct.pack("<I", len(pieces))
     for file, place, data in pieces:
         if isinstance(data, bytes):
-            record += struct.pack("<4BII", 0, file, 0, 0, place, len(data)) + data
+            record += struct.pack(wide, 0, file, 0, 0, place, len(data)) + data
         else:
-            record += struct.pack("<4BIII", 1, file, ALL_FILES.index("ndt"), 0, place, data[1], data[0])
-    return b"\1" + bytes(15) + record + b"JBJE"
+            record += struct.pack(wide + wide[-1], 1, file, ALL_FILES.index("ndt"), 0, place, data[1], data[0])
+    return bytes((version, 0 if version == 1 else 2)) + bytes(14) + record + ENDS[version]
 
 
 def test(files):

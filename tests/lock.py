@@ -143,7 +143,7 @@ def try_together(trial):
     trial.has_letters(*AREAS)
     trial.has_settings(settings(AREAS, users(), port=trial.port))
     words = ("list",) * 4 + ("check", "relink", "pack")
-    wanted = {"list": LISTED, "check": jam.figures(jam.one_message()), "relink": b"Relinked: 0 changed.\n",
+    wanted = {"list": LISTED, "check": jam.checked(jam.one_message()), "relink": b"Relinked: 0 changed.\n",
               "pack": b"Packed: base 1, live 1, dropped 0.\n"}
     had = {name: trial.has_for_a_while(name, call) for name, call in (("general", "lockf"), ("letters", "flock"))}
 
@@ -161,7 +161,7 @@ def try_together(trial):
     for n in range(3):
         made = together(lambda: trial.ended("make", "areas", f"made{n}") for _ in range(4))
         trial.is_so("four who make a base at once", sorted(made), [(b"", 0)] + [ALREADY_THERE] * 3)
-    trial.is_so("a base that four made at once", trial.ended("check", "areas", "made0"), (jam.figures(trial.base("made0")), 0))
+    trial.is_so("a base that four made at once", trial.ended("check", "areas", "made0"), (jam.checked(trial.base("made0")), 0))
     trial.checks("who waited")
 
 
@@ -174,7 +174,7 @@ def try_read_only(trial):
     for name in before:
         os.chmod(f"{trial.areas}/{name}", 0o444)
     os.chmod(trial.areas, 0o555)
-    wanted = [(LISTED, 0), (jam.figures(jam.one_message()), 0)]
+    wanted = [(LISTED, 0), (jam.checked(jam.one_message()), 0)]
     for name in ("general", "bare"):
         found = together(lambda word=word: trial.ended(word, "areas", name, **BY_ANOTHER) for word in ("list", "check") * 3)
         trial.is_so(f"a base that may only be read, {name}", found, wanted * 3)

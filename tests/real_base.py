@@ -9,6 +9,7 @@ another base number. Each tool is used on each of them; what it prints and what 
 of jam.py, which knows the tables of the JAM proposal and nothing of the program. Then the tools are used where a change waits in
 the journal, where nothing may be written, and on damaged files.
 """
+import itertools
 import os
 import random
 import shutil
@@ -16,8 +17,8 @@ import struct
 import time
 
 from harness import ALREADY_THERE, BY_ANOTHER, SHORT_HEADER, STORE_FAULT, TOOLS, Runs, goes_through
-from jam import (DELETED, EMPTY, FIELDS, FILES, LINKS, crc, figures, fixed_header, held_links, journal_of, links_of, listing, path_of, read,
-                 read_files, ulong, write, write_files)
+from jam import (DELETED, EMPTY, FIELDS, FILES, LINKS, MOST_SLOTS, checked, crc, figures, fixed_header, held_links, journal_of, links_of, listing, path_of,
+                 read, read_files, recovered, ulong, write, write_files)
 
 PEER = os.path.join(os.path.dirname(os.path.abspath(__file__)), "peer")
 
@@ -54,7 +55,7 @@ def try_tools(trial, name):
     base, _, _ = read(trial.folder, name)
     before = read_files(trial.folder, name)
     trial.uses("list", name, listing(base))
-    trial.uses("check", name, figures(base))
+    trial.uses("check", name, checked(base))
     trial.holds(f"{name}: list and check write nothing", read_files(trial.folder, name) == before)
 
     changed = sum(held_links(base)[n] != links for n, links in links_of(base).items())
@@ -87,7 +88,7 @@ def try_tools(trial, name):
     trial.holds(f"{name}: pack links", held_links(packed) == links_of(base))
     trial.holds(f"{name}: pack counts a change", count_grew(linked, packed, True))
     trial.uses("list", name, listing(base))
-    trial.uses("check", name, figures(packed))
+    trial.uses("check", name, checked(packed))
 
 
 def copy(trial, name):
@@ -134,27 +135,27 @@ def try_whole(trial):
 
 
 def try_journal(trial):
-    """A change that waits in the journal is done first, and a journal that holds none is refused."""
+    """A change that waits in the journal, of either version, is done first, and a journal that holds none is refused."""
     base, _, _ = read(PEER, "PLAIN")
     at = struct.unpack_from("<II", read_files(PEER, "PLAIN")["jdx"], 8 * 9)[1]
     killed = struct.pack("<I", base.slots[9].head["attribute"] | DELETED)
-    for word in TOOLS:
-        name = f"waiting_{word}"
+    for word, (change, place) in itertools.product(TOOLS, ((None, 28), (7, 36))):
+        journal = journal_of([(0, at + 52, killed)], change=change)
+        name = f"waiting_{word}_{change}"
         copy(trial, name)
-        write_files(trial.folder, name, {"jnl": journal_of([(0, at + 52, killed)])})
+        write_files(trial.folder, name, {"jnl": journal})
         base, _, _ = read(PEER, "PLAIN")
         base.slots[9].head["attribute"] |= DELETED
         changed = sum(held_links(base)[n] != links for n, links in links_of(base).items())
-        trial.uses(word, name, {"list": listing(base), "check": figures(base), "relink": b"Relinked: %d changed.\n" % changed,
+        trial.uses(word, name, {"list": listing(base), "check": figures(base) + recovered(journal), "relink": b"Relinked: %d changed.\n" % changed,
                                 "pack": b"Packed: base 1, live 59, dropped 1.\n", "make": ALREADY_THERE[0]}[word],
                    3 if word == "make" else 0)
         trial.holds(f"{name}: the gate is closed", read_files(trial.folder, name)["jnl"][0] == 0)
         trial.uses("list", name, listing(base))
-        name = f"refused_{word}"
+        name = f"refused_{word}_{change}"
         copy(trial, name)
-        write_files(trial.folder, name, {"jnl": journal_of([(0, at + 52, killed)])[:-5]})
+        write_files(trial.folder, name, {"jnl": journal[:-5]})
         before = read_files(trial.folder, name)
-        place = 16 + 12
         trial.uses(word, name, b"fault 3.14 BadJournal %d\n" % place, 3)
         trial.holds(f"{name}: the files are as they were", read_files(trial.folder, name) == before)
 
@@ -168,7 +169,7 @@ def try_kept(trial):
     os.chmod(f"{trial.folder}/shut.jhr", 0)
     os.chmod(trial.folder, 0o555)
     trial.uses("list", "kept", listing(base), **BY_ANOTHER)
-    trial.uses("check", "kept", figures(base), **BY_ANOTHER)
+    trial.uses("check", "kept", checked(base), **BY_ANOTHER)
     trial.uses("make", "kept", *ALREADY_THERE, **BY_ANOTHER)
     for word in ("relink", "pack"):
         trial.uses(word, "kept", *STORE_FAULT, **BY_ANOTHER)
@@ -191,7 +192,7 @@ def try_made(trial):
     trial.holds("make writes a fixed header", found["jhr"] == fixed_header(created=created) and since <= created <= time.time())
     trial.holds("make leaves three empty files", all(os.path.exists(path_of(trial.folder, "made", it)) and not found[it] for it in FILES[1:]))
     trial.uses("list", "made", b"")
-    trial.uses("check", "made", b"base 1\nnext 1\nlive 0\nkilled 0\nempty 0\nmsgids 0\nlinked yes\n")
+    trial.uses("check", "made", b"base 1\nnext 1\nlive 0\nkilled 0\nempty 0\nmsgids 0\nlinked yes\nrecovered closed\n")
     trial.uses("make", "made", *ALREADY_THERE)
     for extension in ("JHR", "JDT", "JDX", "JLR"):
         name = f"only_{extension}"
@@ -210,7 +211,7 @@ def try_damaged(trial):
         "3.3 BaseZero": ("jhr", lambda data: data[:20] + bytes(4) + data[24:]),
         "3.4 IndexLength": ("jdx", lambda data: data + bytes(4)),
         "3.5 LastreadLength": ("jlr", lambda data: data + bytes(15)),
-        "3.6 TooManySlots": ("jdx", lambda data: data + b"\xff" * (8 * 65_000)),
+        "3.6 TooManySlots": ("jdx", lambda data: data + b"\xff" * (8 * MOST_SLOTS)),
         "3.7 NumberRange": ("jhr", lambda data: data[:20] + b"\xff" * 4 + data[24:]),
         "3.8 HeaderPlace 7": ("jdx", lambda data: data[:52] + struct.pack("<I", 1023) + data[56:]),
         "3.9 HeaderSignature 8": ("jhr", lambda data: data[:places[7]] + b"X" + data[places[7] + 1:]),

@@ -7,7 +7,7 @@ usage: system.py PROGRAM [--all]
 
 The calls are seen by strace; where that is not installed, or may not be used, a line says so, and the rest is tried. The order is that of
 calls.py, and the counts those of crates/jb_journal. Without --all a stop and a failure are tried at
-the calls of a post and of an edit alone, and no base with 64 MB of texts is packed.
+the calls of a post and of an edit alone, and no base with as many texts as it may have is packed.
 """
 import collections
 import fcntl
@@ -19,7 +19,7 @@ import subprocess
 
 import jam
 from caller import Piped
-from calls import CHANGE, COMMIT, OPENING, TRACED, words_of
+from calls import CHANGE, COMMIT, CONVERSION, OPENING, TRACED, words_of
 from harness import LIMIT, LOCAL, Runs, goes_through, inject, lines, settings
 
 DISK_CALLS = ("fsync", "ftruncate", "pwrite64")
@@ -37,7 +37,7 @@ POSTED = ("Test", "abc", "1", "p", "Hello", "more", "n", "a line")
 ANSWERED = ("Hello", "test", "1", "1", "r", "a line")
 EDITED = ("Test", "abc", "1", "e 1", "another", "a line")
 PROMPT, ASKED, FAULT = b"[general] ", b"Text, . ends, ! cancels\r\n", b"Store fault"
-MOST_TEXTS, MOST_TEXT = 67_108_864, 1_048_576
+MOST_TEXTS, MOST_TEXT = jam.CEILINGS[jam.JDT], jam.MOST_TEXT_BYTES
 # the least that a pipe holds
 PIPE_BYTES = 4096
 
@@ -95,10 +95,11 @@ def try_calls(trial):
         trial.holds(f"{what}: how it ends: {printed[-40:]}", printed.endswith(told + PROMPT))
         trial.is_so(f"{what}: the status", status, 0)
         trial.follows(what, words_of(trace).rsplit("printed, ", 2)[1], COMMIT, counts)
+        trial.is_so(f"{what}: the calls of the opening", words_of(trace).split("printed, ")[0], OPENING + CONVERSION)
     printed, status, trace = trial.session(LIST)
     trial.is_so("a list", (printed.count(b"\n"), status, words_of(trace)), (2, 0, OPENING + "printed, "))
     done = trial.files()
-    trial.has_files(before | {"jnl": b"\1" + done["jnl"][1:]})
+    trial.has_files(before | {"jnl": b"\2" + done["jnl"][1:]})
     printed, status, trace = trial.session(LIST)
     trial.is_so("a recovery: how it ends", (printed.count(b"\n"), status), (2, 0))
     trial.follows("a recovery", words_of(trace).removeprefix(OPENING).removesuffix("printed, "), CHANGE, RECOVERY_CALLS, jam.FILES)
@@ -136,7 +137,7 @@ def try_stops(trial, what, words, typed, printed_after):
                 # a mark has a gate of its own, before that of the answer
                 wanted = after if words_of(calls).count("gate opened, ") == gates else before
                 trial.is_so(f"{where}: what is listed then", trial.listed(), wanted)
-                trial.is_so(f"{where}: a check", trial.plain(("check", *LIST[1:])), (jam.figures(trial.base()), 0))
+                trial.is_so(f"{where}: a check", trial.plain(("check", *LIST[1:])), (jam.checked(trial.base()), 0))
 
 
 def many(count, base=None):
@@ -181,15 +182,15 @@ def has_texts(trial, base, texts, length):
 
 def try_long_texts(trial):
     """A pack of texts that are too long together is refused with their length, and the files stay; one byte less is packed."""
-    whole = [(at * MOST_TEXT, MOST_TEXT) for at in range(64)]
+    whole = [(at * MOST_TEXT, MOST_TEXT) for at in range(MOST_TEXTS // MOST_TEXT)]
     for what, texts, length in (("one byte too many", whole + [(5, 1)], MOST_TEXTS), ("one text for many", [(0, MOST_TEXT)] * 5000, MOST_TEXT)):
         has_texts(trial, many(len(texts)), texts, length)
         before = trial.files()
         trial.is_so(f"a pack, {what}", trial.plain(PACK), (b"fault 3.18 TextFull %d\n" % sum(size for _, size in texts), 3))
-        trial.holds(f"a pack, {what}: the files stay", trial.files() == before)
+        trial.holds(f"a pack, {what}: the files stay", trial.keeps(before) and trial.is_shut())
     if trial.option:
-        has_texts(trial, many(64), whole, MOST_TEXTS)
-        trial.is_so("a pack of all that texts may have", trial.plain(PACK), (b"Packed: base 1, live 64, dropped 0.\n", 0))
+        has_texts(trial, many(len(whole)), whole, MOST_TEXTS)
+        trial.is_so("a pack of all that texts may have", trial.plain(PACK), (b"Packed: base 1, live %d, dropped 0.\n" % len(whole), 0))
         trial.is_so("the texts then", os.path.getsize(f"{trial.areas}/general.jdt"), MOST_TEXTS)
         trial.is_so("a check of them", trial.plain(("check", *LIST[1:]))[1], 0)
 

@@ -7,6 +7,7 @@ usage: tools.py PROGRAM
 The bytes are made by the tables of the JAM proposal, the lines written by hand from docs/FORMATS.md; the figures of `load` come from another program.
 A call of the system is made to fail by strace; where that is not installed, or may not be used, a line says so, and the rest is tried.
 """
+import itertools
 import os
 import re
 import shutil
@@ -17,15 +18,15 @@ from random import Random
 
 import jam
 from bases import small_base, waiting_base, whole_base
-from calls import COMMIT, OPENING, words_of
+from calls import COMMIT, CONVERSION, OPENING, words_of
 from caller import GUARD
-from harness import (ALREADY_THERE, GREETING, HOST_FAULT, LOCAL, NO_WORDS, OFFERS, SHORT_HEADER, STORE_FAULT, TOOLS, Served, goes_through, inject, lines,
-                     one_by_one, resets, settings)
+from harness import (ALREADY_THERE, GREETING, HOST_FAULT, LIMIT, LOCAL, NO_WORDS, OFFERS, SHORT_HEADER, STORE_FAULT, TOOLS, Served, goes_through, inject,
+                     lines, one_by_one, resets, settings)
 from jam import EMPTY, JDT, JDX, JHR, JLR, crc, fixed_header, header, journal_of, subfields
 from visits import ANSWERED, FIRST, LISTED, LISTED_ANSWER, START, WRONG
 
 WAYS = ("signal=KILL", "error=EIO")
-FIGURES = b"base %d\nnext %d\nlive %d\nkilled %d\nempty %d\nmsgids %d\nlinked %s\n"
+FIGURES = b"base %d\nnext %d\nlive %d\nkilled %d\nempty %d\nmsgids %d\nlinked %s\n" + jam.CLOSED
 # the seconds for which a door asks the system for a caller that it cannot let in
 SECONDS = 600
 HELP = b"".join(b"board %s\n" % form for form in (
@@ -50,12 +51,19 @@ LOADS = (
 # a place of the base of one message with what comes there, or None where the file is cut, and how the base is refused
 DAMAGES = (
     ("jhr", 1023, None, "3.1 ShortHeader"), ("jhr", 0, b"X", "3.2 BadSignature"), ("jhr", 20, b"\0", "3.3 BaseZero"),
-    ("jdx", 8, bytes(4), "3.4 IndexLength"), ("jlr", 0, b"\0", "3.5 LastreadLength"), ("jdx", 8, b"\xff" * 520_000, "3.6 TooManySlots"),
+    ("jdx", 8, bytes(4), "3.4 IndexLength"), ("jlr", 0, b"\0", "3.5 LastreadLength"), ("jdx", 8, b"\xff" * 8_000_000, "3.6 TooManySlots"),
     ("jhr", 20, b"\xff" * 4, "3.7 NumberRange"), ("jdx", 5, b"\3", "3.8 HeaderPlace 1"), ("jhr", 1024, b"X", "3.9 HeaderSignature 1"),
     ("jhr", 1028, b"\2", "3.10 HeaderRevision 1"), ("jhr", 1032, b"\x3f", "3.11 Subfields 1 53"), ("jhr", 1088, b"\6", "3.12 TextPlace 1"),
-    ("jdx", 8, b"yY\xef\xc9\0\4\0\0", "3.13 HeadersOverlap 1 2"), ("jnl", 0, b"\1" + bytes(16), "3.14 BadJournal 16"))
-NEW_SUBJECT, EMPTYING = journal_of([(JHR, 1161, b"xyz")]), journal_of([], [(JDT, 0)])
-FILLING, ODD_INDEX = journal_of([(JLR, 0, b"mark")], [(JLR, 4)]), journal_of([(JDX, 0, b"\xff" * 4)], [(JDX, 4)])
+    ("jdx", 8, b"yY\xef\xc9\0\4\0\0", "3.13 HeadersOverlap 1 2"), ("jnl", 0, b"\1" + bytes(16), "3.14 BadJournal 16"),
+    ("jnl", 0, b"\2\2" + bytes(15), "3.14 BadJournal 16"))
+NEW_SUBJECT, EMPTYING = [(JHR, 1161, b"xyz")], journal_of([], [(JDT, 0)])
+FILLING, ODD_INDEX = journal_of([(JLR, 0, b"mark")], [(JLR, 4)]), ([(JDX, 0, b"\xff" * 4)], [(JDX, 4)])
+# a change in the journal of each version: that of the first has no number
+CHANGES = (None, 1, 2**64 - 1)
+# the journal that puts 5 in place of the counter of changes, whose bytes stand here, in both versions, and that of the second where its change is the ninth
+ONE = b"\1" + bytes(15) + b"JBJ1" + bytes(4) + b"\1\0\0\0" + bytes(4) + b"\x08\0\0\0\4\0\0\0" + b"\5\0\0\0" + b"JBJE"
+TWO = (b"\2\2" + bytes(14) + b"JBJ2" + b"\x09" + bytes(7) + bytes(4) + b"\1\0\0\0" + bytes(4) + b"\x08" + bytes(7) + b"\4" + bytes(7) + b"\5\0\0\0"
+       + b"JBJF")
 
 
 def message(**values):
@@ -186,7 +194,10 @@ def try_tools(trial):
             ("a killed message", four_slots(), [("pack", b"Packed: base 5, live 1, dropped 1.\n"), ("check", FIGURES % (*four, 0, 3, 1, b"yes")),
                                                 ("list", LISTED.replace(b"1", b"5", 1))], dict(zip(("jhr", "jdx"), packed))),
             ("a gate that is closed", small_base() | {"jnl": b"\7" + bytes(16)}, [("list", LISTED)], {}),
-            ("a gate with nothing behind", small_base() | {"jnl": b"\1" * 16}, [("list", LISTED)], {})):
+            ("a gate with nothing behind", small_base() | {"jnl": b"\1" * 16}, [("list", LISTED)], {}),
+            ("a gate of the second version with nothing behind", small_base() | {"jnl": b"\2" * 16}, [("list", LISTED), ("check", one)], {}),
+            *((f"a gate of {gate}", small_base() | {"jnl": gate + bytes(15)}, [("list", LISTED), ("check", one)], {})
+              for gate in (b"\2\0", b"\2\1", b"\1\2", b"\0\2", b"\2\3"))):
         trial.has(files)
         for word, text in runs:
             trial.answers(what, word, text)
@@ -200,7 +211,16 @@ def try_refusals(trial):
     cases = [(f".{extension} at {place}", put(small_base(), extension, place, data), line) for extension, place, data, line in DAMAGES]
     cases += [("no header file", {"jdt": b"Good\r"}, "3.1 ShortHeader"), ("an empty header file", {"jlr": b"12345"}, "3.1 ShortHeader"),
               ("a journal alone", {"jnl": b"\1" * 17}, "3.14 BadJournal 16"),
-              ("a record that is cut off", {"jhr": fixed_header(), "jnl": ODD_INDEX[:-1]}, "3.14 BadJournal 52"),
+              ("a record that is cut off", {"jhr": fixed_header(), "jnl": journal_of(*ODD_INDEX)[:-1]}, "3.14 BadJournal 52"),
+              ("one of the second version", {"jhr": fixed_header(), "jnl": journal_of(*ODD_INDEX, change=9)[:-1]}, "3.14 BadJournal 72"),
+              *((f"a record cut to {size} bytes", {"jhr": fixed_header(), "jnl": journal[:size]}, f"3.14 BadJournal {place}")
+                for journal, size, place in ((ONE, 23, 20), (TWO, 19, 16), (TWO, 27, 20), (TWO, 31, 28), (TWO, 35, 32), (TWO, 59, 36), (TWO, 63, 60))),
+              ("a record of the first version behind a gate of the second", {"jhr": fixed_header(), "jnl": TWO[:16] + ONE[16:]}, "3.14 BadJournal 16"),
+              ("a record of the second version behind a gate of the first", {"jhr": fixed_header(), "jnl": ONE[:16] + TWO[16:]}, "3.14 BadJournal 16"),
+              *((f"a length of .{jam.FILES[file]}, {length}, in version {1 if change is None else 2}",
+                 {"jhr": fixed_header(), "jnl": journal_of([], [(file, length)], change)}, f"3.14 BadJournal {24 if change is None else 32}")
+                for change in (None, 1) for file, most in enumerate(jam.RECORD_CEILINGS[1 if change is None else 2])
+                for length in (most + 1, 2**32 - 1)),
               ("a cut of all files", {"jhr": fixed_header()[:20], "jdt": b"text", "jdx": b"index!!", "jlr": b"x"}, "3.1 ShortHeader")]
     for what, files, line in cases:
         for word in TOOLS:
@@ -211,17 +231,82 @@ def try_refusals(trial):
 
 
 def try_waiting(trial):
-    """Each tool does first what waits in the journal, and leaves the gate closed; also where the base is refused then."""
-    answers = {"list": LISTED.replace(b"abc", b"xyz"), "check": FIGURES % (1, 2, 1, 0, 0, 1, b"yes"), "make": ALREADY_THERE,
-               "pack": b"Packed: base 1, live 1, dropped 0.\n", "relink": b"Relinked: 0 changed.\n"}
-    for word, answer in answers.items():
-        trial.has(small_base() | {"jnl": NEW_SUBJECT})
-        trial.answers("a new subject waits", word, answer)
+    """Each tool does first what waits in a journal of either version, and leaves the gate closed; also where the base is refused then. A check tells of
+    what it has done, once."""
+    for word, change in itertools.product(TOOLS, CHANGES):
+        journal, what = journal_of(NEW_SUBJECT, change=change), f"a new subject waits, change {change}"
+        checked = FIGURES % (1, 2, 1, 0, 0, 1, b"yes")
+        answer = {"list": LISTED.replace(b"abc", b"xyz"), "check": checked.replace(jam.CLOSED, jam.recovered(journal)), "make": ALREADY_THERE,
+                  "pack": b"Packed: base 1, live 1, dropped 0.\n", "relink": b"Relinked: 0 changed.\n"}[word]
+        trial.has(small_base() | {"jnl": journal})
+        trial.answers(what, word, answer)
         then = trial.held()
-        trial.is_so(f"a new subject waits: what {word} leaves", (then["jhr"][1161:], then["jnl"][:1]), (b"xyz", b"\0"))
-        trial.has({"jhr": fixed_header(), "jnl": ODD_INDEX})
-        trial.answers("an odd index waits", word, ALREADY_THERE if word == "make" else (b"fault 3.4 IndexLength\n", 3))
+        # a tool that may change the base besides makes the journal one of the second version
+        head = b"\0\2" if change or word in ("pack", "relink") else b"\0\0"
+        trial.is_so(f"{what}: what {word} leaves", (then["jhr"][1161:], then["jnl"][:2]), (b"xyz", head))
+        trial.answers(f"{what}, {word} did it", "check", checked)
+        trial.has({"jhr": fixed_header(), "jnl": journal_of(*ODD_INDEX, change)})
+        trial.answers(f"an odd index waits, change {change}", word, ALREADY_THERE if word == "make" else (b"fault 3.4 IndexLength\n", 3))
         trial.is_so(f"an odd index waits: what {word} leaves", (trial.held()["jdx"], trial.held()["jnl"][:1]), (b"\xff" * 4, b"\0"))
+
+
+def try_versions(trial):
+    """A change in each version of the journal, and what is none: of the other version's gate, or cut by a byte. And an index of as many slots as may be."""
+    empty, none = {"jhr": fixed_header()}, FIGURES % (1, 1, 0, 0, 0, 0, b"yes")
+    for what, journal, last in (("the first version", ONE, b"recovered 1 0\n"), ("the second", TWO, b"recovered 2 9\n")):
+        trial.has(empty | {"jnl": journal})
+        trial.answers(what, "check", none.replace(jam.CLOSED, last))
+        trial.is_so(f"{what}: what it leaves", trial.held(), whole({"jhr": fixed_header(counter=5), "jnl": b"\0" + journal[1:]}))
+        trial.answers(f"{what}, once more", "check", none)
+    for what, journal, answer in (("the gate of the first in the second", b"\1" + TWO[1:], none), ("that of the second in the first", b"\2" + ONE[1:], none),
+                                  ("the second, cut", TWO[:63], (b"fault 3.14 BadJournal 60\n", 3))):
+        trial.has(empty | {"jnl": journal})
+        trial.answers(what, "check", answer)
+        trial.holds(f"{what}: the files stay", trial.held() == whole(empty | {"jnl": journal}))
+    for slots in (65_001, 1_000_000):
+        trial.has(empty | {"jdx": b"\xff" * 8 * slots})
+        found = trial.ended("check", "areas", "general", limit=LIMIT)
+        trial.is_so(f"{slots} empty slots", found, (FIGURES % (1, 1 + slots, 0, 0, slots, 0, b"yes"), 0))
+
+
+def try_far(trial):
+    """Changes at the ends of the longest files, which are holes: a text is copied from the end of .NDT to that of .JDT, and bytes go to that of .JHR."""
+    headers, texts, copies = jam.CEILINGS[JHR], jam.CEILINGS[JDT], 2_147_483_648
+    far = journal_of([(JDT, texts - 5, (copies - 5, 5)), (JHR, headers - 3, b"end"), (JHR, 1088, b"\5\0\0\0")], [(JHR, headers), (JDT, texts)], 3)
+    offset = struct.pack("<I", texts - 5)
+    trial.has(small_base() | {"jhr": put(small_base(), "jhr", 1084, offset)["jhr"], "jnl": far})
+    with open(trial.path("ndt"), "r+b") as file:
+        file.truncate(copies)
+        file.seek(copies - 5)
+        file.write(b"Ended")
+    trial.answers("the longest files", "check", (FIGURES % (1, 2, 1, 0, 0, 1, b"yes")).replace(b"closed", b"2 3"))
+    for extension, size, end in (("jhr", headers, b"end"), ("jdt", texts, b"Ended"), ("ndt", copies, b"Ended")):
+        with open(trial.path(extension), "rb") as file:
+            file.seek(-len(end), os.SEEK_END)
+            trial.is_so(f"the longest .{extension}: its length, and its end", (os.path.getsize(trial.path(extension)), file.read()), (size, end))
+    trial.answers("the longest files are packed", "pack", b"Packed: base 1, live 1, dropped 0.\n")
+    found = trial.held_base()
+    trial.is_so("the longest files: what is left", (len(found["jhr"]), found["jdt"]), (1164, b"Ended"))
+
+
+def placed_at(trial, extension, end):
+    """The small base, whose header, or whose text, ends here and not where it stood; what is between is a hole."""
+    data = message() if extension == "jhr" else b"Good\r"
+    start = struct.pack("<I", end - len(data))
+    trial.has(put(small_base(), "jdx", 4, start) if extension == "jhr" else put(small_base(), "jhr", 1084, start))
+    with open(trial.path(extension), "r+b") as file:
+        file.truncate(end)
+        file.seek(-len(data), os.SEEK_END)
+        file.write(data)
+
+
+def try_ends(trial):
+    """A header and a text may end where the longest files do, and no byte behind."""
+    one = FIGURES % (1, 2, 1, 0, 0, 1, b"yes")
+    for extension, most, line in (("jhr", jam.CEILINGS[JHR], b"fault 3.8 HeaderPlace 1\n"), ("jdt", jam.CEILINGS[JDT], b"fault 3.12 TextPlace 1\n")):
+        for end, answer in ((most, one), (most + 1, (line, 3))):
+            placed_at(trial, extension, end)
+            trial.answers(f"what ends at {end} in .{extension}", "check", answer)
 
 
 def is_new(trial, what, since):
@@ -268,7 +353,7 @@ def try_calls(trial):
         if wanted:
             trial.is_so(f"{what}: what is done then", calls[len(opening):], "")
             continue
-        found = re.fullmatch("jnl len, jnl write, jnl sync, " + COMMIT, calls[len(opening):])
+        found = re.fullmatch(CONVERSION + COMMIT, calls[len(opening):])
         if trial.holds(f"{what}: the calls in order: {calls}", found):
             trial.is_so(f"{what}: what is changed, and what is synced", found.groups(), (
                 "jhr len, jdt len, jdx len, jlr len, jhr write, ", "jhr sync, jdt sync, jdx sync, jlr sync, "))
@@ -308,7 +393,9 @@ def try_stopped(trial):
     """A tool that is killed before any of its calls, or of which any fails, leaves the base as it was or as it is to be; the calls of a recovery too."""
     texts = whole_base(Random(25))[0]
     relinked = put(four_slots(), "jhr", 8, b"\2")
-    for word, files, text, then in (("list", waiting_base(Random(25)), None, None), ("pack", texts, b"Packed: base 7, live 8, dropped 2.\n", None),
+    for word, files, text, then in (("list", waiting_base(Random(25)), None, None), ("list", waiting_base(Random(25), 9), None, None),
+                                    ("pack", texts, b"Packed: base 7, live 8, dropped 2.\n", None),
+                                    ("pack", texts | {"jnl": b"\0" + ONE[1:]}, b"Packed: base 7, live 8, dropped 2.\n", None),
                                     ("relink", four_slots(reply_to=9), b"Relinked: 1 changed.\n", relinked)):
         listed, _, _, now = jam.told(whole(files))
         trial.has(files)
@@ -325,6 +412,32 @@ def try_stopped(trial):
             if trial.held_base() == before:
                 trial.answers(what, word, text or listed)
             trial.holds(f"{what}: the files once it is done", trial.held_base() == after)
+
+
+def try_numbers(trial):
+    """The changes of one opening have the numbers 1, 2 and on, by which a check tells which of them waited; an opening behind it begins anew."""
+    trial.has_settings(settings())
+    typed = lines(["Test", "abc", "1", "P", "Hello", "abc", "N", "Good", ".", "M 1", "E 1", "abcd", "Well", ".", "Q"])
+    by = trial.upon("pwrite64", trial.path("jnl"))
+    start = {"jhr": fixed_header()}
+    trial.has(start)
+    trace = trial.traced(*LOCAL, by=by, typed=typed)[2]
+    closings = [at for at, line in enumerate((line for line in trace if "pwrite64(" in line), 1) if words_of([line]) == "gate closed, "]
+    trial.is_so("how many changes there are", len(closings), 3)
+    for n, at in enumerate(closings, 1):
+        trial.has(start)
+        trial.traced(*LOCAL, by=(*by, *inject("pwrite64", WAYS[0], at)), typed=typed)
+        told = b"recovered 2 %d\n" % n
+        trial.is_so(f"change {n} waits", jam.recovered(trial.held()["jnl"]), told)
+        printed, status = trial.tool("check")
+        trial.holds(f"change {n} waits: what a check tells: {printed}", status == 0 and printed.endswith(told))
+    for word, files in (("relink", four_slots(reply_to=9)), ("pack", four_slots())):
+        trial.has(files)
+        trace = trial.traced(word, "areas", "general", by=by)[2]
+        trial.has(files)
+        count = sum("pwrite64(" in line for line in trace)
+        trial.traced(word, "areas", "general", by=(*by, *inject("pwrite64", WAYS[0], count)))
+        trial.is_so(f"a {word} waits", jam.recovered(trial.held()["jnl"]), b"recovered 2 1\n")
 
 
 def try_console(trial):
@@ -427,7 +540,7 @@ def try_links(trial):
 def try_packers(trial):
     """A pack of the packer that fails leaves the area in doubt when the run ends: at its first call nothing is done, at its last, behind the change, all."""
     files = two_messages(False)
-    killed = files | {"jhr": put(files, "jhr", 1024 + 55, b"\x80")["jhr"], "jnl": bytes(17), "ndt": b""}
+    killed = files | {"jhr": put(files, "jhr", 1024 + 55, b"\x80")["jhr"], "jnl": b"\0\2" + bytes(15), "ndt": b""}
     second = b"       2  A?\xc3\xa9 > Bob  \n"
     for what, path, call, at, is_done in (("the first call", "ndt", "ftruncate", 1, False), ("the last call", "jnl", "fsync", 3, True)):
         trial.has(killed)
@@ -459,5 +572,6 @@ def try_door(trial):
 
 
 if __name__ == "__main__":
-    goes_through(Tools, "the tools of an operator", (try_words, try_tools, try_refusals, try_waiting, try_make, try_node, try_nodes),
-                 (try_calls, try_faults, try_stopped_makes, try_stopped, try_console, try_links, try_packers, try_door))
+    goes_through(Tools, "the tools of an operator", (try_words, try_tools, try_refusals, try_waiting, try_versions, try_far, try_ends, try_make, try_node,
+                                                     try_nodes),
+                 (try_calls, try_faults, try_stopped_makes, try_stopped, try_numbers, try_console, try_links, try_packers, try_door))

@@ -124,7 +124,7 @@ class Maker(Runs):
         """The calls of a run, as the name of each and what it does, and the status."""
         _, status, trace = self.traced(*words, by=("-E", f"LD_PRELOAD={self.folder}/clock.so", "-s", "64", "-e", f"trace={DISK_CALLS}", *by),
                                        typed=lines(typed) if typed else None)
-        made = [(re.match(r"\d+ +(\w+)\(", line)[1], words_of([line]).removesuffix(", ")) for line in trace if re.match(r"\d+ +\w+\(.* = \d", line)]
+        made = [(re.match(r"\d+ +(\w+)\(", line)[1], words_of([line]).removesuffix(", ").removeprefix("first ")) for line in trace if re.match(r"\d+ +\w+\(.* = \d", line)]
         return made, status
 
     def file(self, data):

@@ -1,5 +1,5 @@
 -- What a commit and a settling of a change mean for the area.
-use Rattle.std.proofs.Common.{◌≡◌, inl, inr, ℕ, List, [], ◌∷◌, Bool, true, false, Option, None, Some, Result, Ok, Err, IfErr, ap, sym, refl, ◌∙◌, subst}
+use Rattle.std.proofs.Common.{◌≡◌, inl, inr, ℕ, ◌^◌, ◌<◌, List, [], ◌∷◌, Bool, true, false, Option, None, Some, Result, Ok, Err, IfErr, ap, sym, refl, ◌∙◌, subst}
 use Rattle.std.specs.Option.{ForSome, option_map}
 use Rattle.jb_disk.specs.RedoView.{RedoView}
 use Rattle.jb_disk.specs.Device.{Device}
@@ -18,9 +18,9 @@ use Rattle.jb_state.specs.declared.loaded.Loaded.{Loaded}
 use Rattle.jb_pack.specs.Shadow.{Shadow}
 use Rattle.jb_decide.specs.Coming.{BringsComing, Coming, IsChange}
 use Rattle.jb_decide.specs.Holds.{HoldsCopies}
-use Rattle.jb_area.specs.Commits.{HasRecordOf, IsAnsweredAs, IsSettledAs, IsSettledWith, IsStopped, IsStoppedAs, StandsFirm, StandsLate, StaysShutEarly}
+use Rattle.jb_area.specs.Commits.{IsAnsweredAs, IsRecorded, IsSettledAs, IsSettledWith, IsStopped, IsStoppedAs, StandsFirm, StandsLate, StaysShutEarly}
 use Rattle.jb_area.specs.Holds.{IsAtRest, Opens, OpensToEither}
-use Rattle.jb_area.proofs.HoldLemmas.{committed-agrees, opens_either, opens_to, ready, rest_opens, rests_committed, rests_settled, size-committed}
+use Rattle.jb_area.proofs.HoldLemmas.{opens_either, opens_to, ready, recorded_by, rest_opens, rests_settled}
 
 -- a value is not none
 some-none : {A : Type 0} (a : A) → Some a ≡ None → ⊥
@@ -50,48 +50,46 @@ only_weaken P Q old new then only = record {
   run = runs-weaken P Q then old.moments new.moments only.run;
 }
 
-module _ (change : RedoView) where
+module _ (number : ℕ) (change : RedoView) where
   -- over files at rest the change may be committed
-  pub ready_as : (from : Loaded) (texts : List ℕ) (copies : Option Shadow) (coming : Coming) (device : Device) → IsSettledWith from texts copies device → IsChange device.contents change from texts copies coming
-      → ForSome device.contents (IsReady change)
-  ready_as from texts copies coming device settled is files there = ready change from texts copies coming files (is.brings files there) (settled.settled.rests files there) (settled.has files there)
-
-  -- a commit that is done leaves the area that was to come
-  pub done_as : (old new : Device) (from : Loaded) (texts : List ℕ) (copies : Option Shadow) (coming : Coming) → new.contents ≡ option_map (committed change) old.contents → IsAllSynced new
-      → IsSettledWith from texts copies old → IsChange old.contents change from texts copies coming → IsSettledAs coming.to coming.texts new
-  done_as old new from texts copies coming done synced settled is = record { rests = rests; synced = synced }
-    where
-      rests : ForSome new.contents (IsAtRest coming.to coming.texts)
-      rests files there = by_contents old.contents refl
-        where
-          by_contents : (o : Option Files) → old.contents ≡ o → IsAtRest coming.to coming.texts files
-          by_contents None none = absurd (some-none files (sym there ∙ done ∙ ap (option_map (committed change)) none))
-          by_contents (Some was) some =
-              subst (IsAtRest coming.to coming.texts) (some-same _ _ (sym (done ∙ ap (option_map (committed change)) some) ∙ there))
-              (rests_committed change from texts copies coming was (is.brings was some) (settled.settled.rests was some) (settled.has was some))
-
-  -- and the files with the change done, but for the journal
-  pub made_as : (old new : Device) → new.contents ≡ option_map (committed change) old.contents
-      → ForSome old.contents (λ was. ForSome new.contents (λ now. AgreeButJournal now (changed change was)))
-  made_as old new done was there now here =
-      subst (λ (f : Files). AgreeButJournal f (changed change was)) (some-same _ _ (sym (done ∙ ap (option_map (committed change)) there) ∙ here)) (committed-agrees change was)
+  pub ready_as : (from : Loaded) (texts : List ℕ) (copies : Option Shadow) (coming : Coming) (device : Device) → number < 2 ^ 64 → IsSettledWith from texts copies device → IsChange device.contents change from texts copies coming
+      → ForSome device.contents (IsReady number change)
+  ready_as from texts copies coming device numbered settled is files there =
+      ready number change from texts copies coming files numbered (is.brings files there) (settled.settled.rests files there) (settled.has files there)
 
   -- whose journal has its head and the record
-  pub size_as : (old new : Device) (from : Loaded) (texts : List ℕ) (copies : Option Shadow) → new.contents ≡ option_map (committed change) old.contents → IsSettledWith from texts copies old
-      → ForSome new.contents (HasRecordOf change)
-  size_as old new from texts copies done settled files there = by_contents old.contents refl
+  pub recorded_as : (old new : Device) (from : Loaded) (texts : List ℕ) (copies : Option Shadow) → new.contents ≡ option_map (committed number change) old.contents → IsSettledWith from texts copies old
+      → ForSome new.contents (IsRecorded number change)
+  recorded_as old new from texts copies done settled files there = by_contents old.contents refl
     where
-      by_contents : (o : Option Files) → old.contents ≡ o → HasRecordOf change files
-      by_contents None none = absurd (some-none files (sym there ∙ done ∙ ap (option_map (committed change)) none))
+      by_contents : (o : Option Files) → old.contents ≡ o → IsRecorded number change files
+      by_contents None none = absurd (some-none files (sym there ∙ done ∙ ap (option_map (committed number change)) none))
       by_contents (Some was) some =
-          subst (HasRecordOf change) (some-same _ _ (sym (done ∙ ap (option_map (committed change)) some) ∙ there))
-          (size-committed change was (settled.settled.rests was some).long)
+          subst (IsRecorded number change) (some-same _ _ (sym (done ∙ ap (option_map (committed number change)) some) ∙ there))
+          (recorded_by number change was (settled.settled.rests was some).plain.long)
 
   -- one that is stopped leaves it in doubt
-  pub stopped_as : (stopped : Stopped) (old new : Device) (from : Loaded) (texts : List ℕ) (copies : Option Shadow) → (old.contents ≡ None → new.contents ≡ None)
-      → ForSome old.contents (λ start. Shows (IsInDoubt stopped change start) new) → IsSettledWith from texts copies old → IsStoppedAs stopped change from texts copies new
-  stopped_as stopped old new from texts copies silent doubt settled =
-      told_before old new silent (IsStopped stopped change from texts copies new) (λ was some. record { start = was; rests = settled.settled.rests was some; has = settled.has was some; shows = doubt was some })
+  pub stopped_as : (stopped : Stopped) (old new : Device) (from : Loaded) (texts : List ℕ) (copies : Option Shadow) → number < 2 ^ 64 → (old.contents ≡ None → new.contents ≡ None)
+      → ForSome old.contents (λ start. Shows (IsInDoubt stopped number change start) new) → IsSettledWith from texts copies old → IsStoppedAs stopped change from texts copies new
+  stopped_as stopped old new from texts copies numbered silent doubt settled =
+      told_before old new silent (IsStopped stopped change from texts copies new)
+      (λ was some. record { number = number; numbered = numbered; start = was; rests = settled.settled.rests was some; has = settled.has was some; shows = doubt was some })
+
+module _ (change : RedoView) where
+  -- a commit that is done leaves the area that was to come
+  pub done_as : (old new : Device) (from : Loaded) (texts : List ℕ) (copies : Option Shadow) (coming : Coming) → (old.contents ≡ None → new.contents ≡ None) → ForSome old.contents (λ start. Shows (IsSettledAt (changed change start)) new) → IsAllSynced new
+      → IsSettledWith from texts copies old → IsChange old.contents change from texts copies coming → IsSettledAs coming.to coming.texts new
+  done_as old new from texts copies coming silent done synced settled is = record {
+    rests = λ files there. told_before old new silent (IsAtRest coming.to coming.texts files)
+        (λ was some. rests_settled (changed change was) files coming.to coming.texts
+        ((is.brings was some).made was (record { holds = (settled.settled.rests was some).holds; has = settled.has was some })) ((done was some).read files there)) files there;
+    synced = synced;
+  }
+
+  -- and the files with the change done, but for the journal
+  pub made_as : (old new : Device) → ForSome old.contents (λ start. Shows (IsSettledAt (changed change start)) new)
+      → ForSome old.contents (λ was. ForSome new.contents (λ now. AgreeButJournal now (changed change was)))
+  made_as old new done was there now here = ((done was there).read now here).same
 
   -- and after an early stop has left the gate shut
   pub shut_as : (result : Result (Unit {0}) Stopped) (old new : Device)
@@ -111,8 +109,9 @@ module _ (change : RedoView) where
   pub has_stopped : (stopped : Stopped) (device : Device) (from : Loaded) (texts : List ℕ) (copies : Option Shadow) (coming : Coming) → IsStopped stopped change from texts copies device → BringsComing change from texts copies coming
       → HasStopped stopped change device
   has_stopped stopped device from texts copies coming doubt is = record {
+    number = doubt.number;
     start = doubt.start;
-    ready = ready change from texts copies coming doubt.start is doubt.rests doubt.has;
+    ready = ready doubt.number change from texts copies coming doubt.start doubt.numbered is doubt.rests doubt.has;
     shows = doubt.shows;
   }
 
@@ -129,8 +128,8 @@ module _ (change : RedoView) where
   stopped_opens stopped device from texts copies coming doubt is files there =
       let in_doubt = doubt files there in
       let brings = is.brings files there in
-      let may = ready change from texts copies coming in_doubt.start brings in_doubt.rests in_doubt.has in
-      doubt_opens stopped from texts copies coming in_doubt.start files in_doubt.rests in_doubt.has brings (doubt_replays change in_doubt.start may stopped files (in_doubt.shows.read files there))
+      let may = ready in_doubt.number change from texts copies coming in_doubt.start in_doubt.numbered brings in_doubt.rests in_doubt.has in
+      doubt_opens stopped from texts copies coming in_doubt.start files in_doubt.rests in_doubt.has brings (doubt_replays in_doubt.number change in_doubt.start may stopped files (in_doubt.shows.read files there))
 
   -- and after a late stop what is read, and what a crash now leaves, opens to the one to come
   pub late_stands : (stopped : Stopped) (device : Device) (from : Loaded) (texts : List ℕ) (copies : Option Shadow) (coming : Coming) → IsStoppedAs stopped change from texts copies device → IsChange device.contents change from texts copies coming
@@ -139,21 +138,21 @@ module _ (change : RedoView) where
   late_stands Late device from texts copies coming doubt is = λ files there.
       let in_doubt = doubt files there in
       let brings = is.brings files there in
-      let may = ready change from texts copies coming in_doubt.start brings in_doubt.rests in_doubt.has in
-      let opens : (left : Files) → IsInDoubt Late change in_doubt.start left → Opens coming.to coming.texts left =
-      λ left late. opens_to (changed change in_doubt.start) left coming.to coming.texts (brings.made in_doubt.start (record { holds = in_doubt.rests.holds; has = in_doubt.has })) (doubt_replays change in_doubt.start may Late left late) in
+      let may = ready in_doubt.number change from texts copies coming in_doubt.start in_doubt.numbered brings in_doubt.rests in_doubt.has in
+      let opens : (left : Files) → IsInDoubt Late in_doubt.number change in_doubt.start left → Opens coming.to coming.texts left =
+      λ left late. opens_to (changed change in_doubt.start) left coming.to coming.texts (brings.made in_doubt.start (record { holds = in_doubt.rests.holds; has = in_doubt.has })) (doubt_replays in_doubt.number change in_doubt.start may Late left late) in
       record { read = λ left told. opens left (in_doubt.shows.read left told); left = leaves_weaken _ _ opens device.moments in_doubt.shows.left }
 
   -- and so does what a crash leaves while it is settled
   pub stands_firm : (stopped : Stopped) (old new : Device) (from : Loaded) (texts : List ℕ) (copies : Option Shadow) (coming : Coming) → IsStoppedAs stopped change from texts copies old → IsChange old.contents change from texts copies coming
-      → ((start : Files) → IsReady change start → Shows (IsInDoubt stopped change start) old → LeavesOnly old new (DoubtReplays stopped change start)) → StandsFirm stopped coming old new
+      → ((number : ℕ) (start : Files) → IsReady number change start → Shows (IsInDoubt stopped number change start) old → LeavesOnly old new (DoubtReplays stopped change start)) → StandsFirm stopped coming old new
   stands_firm Early old new from texts copies coming doubt is crash = tt
   stands_firm Late old new from texts copies coming doubt is crash = λ files there.
       let in_doubt = doubt files there in
       let brings = is.brings files there in
       only_weaken (ReplaysTo (changed change in_doubt.start)) (Opens coming.to coming.texts) old new
       (λ left replays. opens_to (changed change in_doubt.start) left coming.to coming.texts (brings.made in_doubt.start (record { holds = in_doubt.rests.holds; has = in_doubt.has })) replays)
-      (crash in_doubt.start (ready change from texts copies coming in_doubt.start brings in_doubt.rests in_doubt.has) in_doubt.shows)
+      (crash in_doubt.number in_doubt.start (ready in_doubt.number change from texts copies coming in_doubt.start in_doubt.numbered brings in_doubt.rests in_doubt.has) in_doubt.shows)
 
   -- settled as it is settled_files
   answered_rests : (stands : Bool) (from : Loaded) (texts : List ℕ) (copies : Option Shadow) (coming : Coming) (start : Files) (device : Device) → IsAtRest from texts start → HoldsCopies copies start → BringsComing change from texts copies coming
@@ -175,8 +174,8 @@ module _ (change : RedoView) where
 
   -- what a settling leaves
   pub answer_as : (stands : Bool) (stopped : Stopped) (old new : Device) (from : Loaded) (texts : List ℕ) (copies : Option Shadow) (coming : Coming) → (old.contents ≡ None → new.contents ≡ None)
-      → ((start : Files) → IsReady change start → Shows (IsInDoubt stopped change start) old → Shows (IsSettledAt (settled_files stands change start)) new)
-      → ((start : Files) → IsReady change start → Shows (IsInDoubt stopped change start) old → IsAllSynced new)
+      → ((number : ℕ) (start : Files) → IsReady number change start → Shows (IsInDoubt stopped number change start) old → Shows (IsSettledAt (settled_files stands change start)) new)
+      → ((number : ℕ) (start : Files) → IsReady number change start → Shows (IsInDoubt stopped number change start) old → IsAllSynced new)
       → IsStoppedAs stopped change from texts copies old → IsChange old.contents change from texts copies coming → IsAnsweredAs stands from texts coming new
   answer_as stands stopped old new from texts copies coming silent answer durable doubt is = by_contents old.contents refl
     where
@@ -184,27 +183,27 @@ module _ (change : RedoView) where
       by_contents None none = silent_answer stands from texts coming new (silent none)
       by_contents (Some was) some =
           let in_doubt = doubt was some in
-          let may = ready change from texts copies coming in_doubt.start (is.brings was some) in_doubt.rests in_doubt.has in
-          answered_rests stands from texts copies coming in_doubt.start new in_doubt.rests in_doubt.has (is.brings was some) (answer in_doubt.start may in_doubt.shows).read (durable in_doubt.start may in_doubt.shows)
+          let may = ready in_doubt.number change from texts copies coming in_doubt.start in_doubt.numbered (is.brings was some) in_doubt.rests in_doubt.has in
+          answered_rests stands from texts copies coming in_doubt.start new in_doubt.rests in_doubt.has (is.brings was some) (answer in_doubt.number in_doubt.start may in_doubt.shows).read (durable in_doubt.number in_doubt.start may in_doubt.shows)
 
   -- and a settling that is stopped
   pub again_as : (stopped again : Stopped) (old new : Device) (from : Loaded) (texts : List ℕ) (copies : Option Shadow) (coming : Coming) → (old.contents ≡ None → new.contents ≡ None)
-      → ((start : Files) → IsReady change start → Shows (IsInDoubt stopped change start) old → Shows (IsInDoubt again change start) new)
+      → ((number : ℕ) (start : Files) → IsReady number change start → Shows (IsInDoubt stopped number change start) old → Shows (IsInDoubt again number change start) new)
       → IsStoppedAs stopped change from texts copies old → IsChange old.contents change from texts copies coming → IsStoppedAs again change from texts copies new
   again_as stopped again old new from texts copies coming silent still doubt is =
       told_before old new silent (IsStopped again change from texts copies new) (λ was some.
       let in_doubt = doubt was some in
-      let may = ready change from texts copies coming in_doubt.start (is.brings was some) in_doubt.rests in_doubt.has in
-      record { start = in_doubt.start; rests = in_doubt.rests; has = in_doubt.has; shows = still in_doubt.start may in_doubt.shows })
+      let may = ready in_doubt.number change from texts copies coming in_doubt.start in_doubt.numbered (is.brings was some) in_doubt.rests in_doubt.has in
+      record { number = in_doubt.number; numbered = in_doubt.numbered; start = in_doubt.start; rests = in_doubt.rests; has = in_doubt.has; shows = still in_doubt.number in_doubt.start may in_doubt.shows })
 
   -- what a crash during a settling leaves
   pub settling_as : (stopped : Stopped) (old new : Device) (from : Loaded) (texts : List ℕ) (copies : Option Shadow) (coming : Coming) → IsStopped stopped change from texts copies old → BringsComing change from texts copies coming
-      → ((start : Files) → IsReady change start → Shows (IsInDoubt stopped change start) old → LeavesOnly old new (DoubtReplays stopped change start))
+      → ((number : ℕ) (start : Files) → IsReady number change start → Shows (IsInDoubt stopped number change start) old → LeavesOnly old new (DoubtReplays stopped change start))
       → LeavesOnly old new (OpensToEither from texts coming)
   settling_as stopped old new from texts copies coming doubt is crash =
       only_weaken (DoubtReplays stopped change doubt.start) (OpensToEither from texts coming) old new
       (λ files replays. doubt_opens stopped from texts copies coming doubt.start files doubt.rests doubt.has is replays)
-      (crash doubt.start (ready change from texts copies coming doubt.start is doubt.rests doubt.has) doubt.shows)
+      (crash doubt.number doubt.start (ready doubt.number change from texts copies coming doubt.start doubt.numbered is doubt.rests doubt.has) doubt.shows)
 
 -- a crash of a settled area leaves what opens to it
 pub settled_opens : (loaded : Loaded) (texts : List ℕ) (device : Device) (was : Files) → device.contents ≡ Some was → IsSettledAs loaded texts device

@@ -24,6 +24,9 @@ use Rattle.jb_pack.proofs.CopiesLemmas.{stays_copied}
 use Rattle.jb_pack.proofs.TouchLemmas.{touches-read, touches-resize, touches-sync, touches-then, turns-alike}
 use Rattle.jb_pack.specs.Shadow.{Shadow}
 use Rattle.jb_pack.specs.Touching.{AgreeButShadow, TouchesShadow}
+use Rattle.jb_disk.specs.Gate.{version_by, version_number, version_of}
+use Rattle.jb_disk.specs.declared.version.Version.TheVariants.{Two}
+use Rattle.jb_journal.specs.Commit.{IsPlain}
 use Rattle.jb_redo.proofs.ApplyLemmas.{turns_from}
 use Rattle.jb_redo.proofs.SizeLemmas.{not_given}
 use Rattle.jb_redo.proofs.SpanLemmas.{no_spans}
@@ -45,6 +48,16 @@ use Rattle.jb_area.proofs.HoldLemmas.{rest_opens}
 no_shadow : (file : FileId) → file_number file < 5 → file ≢ Ndt
 no_shadow file low is = let same : file_number file ≡ 5 = ap file_number is in omega (arith, same)
 
+-- a journal of the same bytes is plain too
+plain_as : (files other : Files) → other Jnl ≡ files Jnl → IsPlain files → IsPlain other
+plain_as files other same plain =
+    let version : version_of other ≡ version_of files = ap (λ (l : List ℕ). version_by (slice_index l 1)) same in
+    record {
+      long = subst (λ (l : List ℕ). 16 ≤ length l) (sym same) plain.long;
+      two = version ∙ plain.two;
+      shut = λ gate. plain.shut (sym (ap (λ (l : List ℕ). slice_index l 0) same) ∙ gate ∙ ap version_number version);
+    }
+
 -- the shadow of the texts bears on nothing that is at rest
 pub rest_agrees : (loaded : Loaded) (texts : List ℕ) (files other : Files) → AgreeButShadow files other → IsAtRest loaded texts files → IsAtRest loaded texts other
 rest_agrees loaded texts files other same rest =
@@ -55,8 +68,7 @@ rest_agrees loaded texts files other same rest =
         loads = loads_agree other files (same Jhr (no_shadow Jhr (omega arith))) jdt (same Jdx (no_shadow Jdx (omega arith))) (same Jlr (no_shadow Jlr (omega arith))) loaded rest.holds.loads;
         texts_are = jdt ∙ rest.holds.texts_are;
       };
-      long = subst (λ (l : List ℕ). 16 ≤ length l) (sym jnl) rest.long;
-      shut = subst (λ (l : List ℕ). slice_index l 0 ≢ 1) (sym jnl) rest.shut;
+      plain = plain_as files other jnl rest.plain;
     }
 
 -- what is settled is so but for .NDT
@@ -170,11 +182,11 @@ by_reads Relink old new reads = reads
 by_reads Pack old new reads = touches-read old new reads
 
 -- a change leaves .NDT
-pub kept_shadow : (change : RedoView) (files : Files) → IsLegalRecord (sizes_of files) change.lengths change.pieces → changed change files Ndt ≡ files Ndt
+pub kept_shadow : (change : RedoView) (files : Files) → IsLegalRecord Two (sizes_of files) change.lengths change.pieces → changed change files Ndt ≡ files Ndt
 kept_shadow change files legal =
     let ends : FileId → ℕ = new_sizes change.lengths (sizes_of files) in
     ap (λ (spans : List Span). patched spans (of_length (ends Ndt) (files Ndt)))
-    (no_spans (sizes_of files) ends files change.pieces Ndt legal.pieces_are.each (omega arith))
+    (no_spans Two (sizes_of files) ends files change.pieces Ndt legal.pieces_are.each (omega arith))
     ∙ resized_same (ends Ndt) (files Ndt) (of_length (ends Ndt) (files Ndt)) (not_given change.lengths (sizes_of files) Ndt legal.lengths_are.each (omega arith))
     (resized_with_zeros (ends Ndt) (files Ndt))
 

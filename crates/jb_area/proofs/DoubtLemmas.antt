@@ -8,7 +8,7 @@ use Rattle.jb_disk.specs.Runs.{LeavesOnly}
 use Rattle.jb_disk.proofs.RunLemmas.{runs-refl}
 use Rattle.jb_journal.specs.declared.stopped.Stopped.{Stopped}
 use Rattle.jb_journal.specs.declared.stopped.Stopped.TheVariants.{Early, Late}
-use Rattle.jb_held.specs.Pending.{HasRoom, MayApply, no_room}
+use Rattle.jb_held.specs.Pending.{BringsRoom, MayApply, no_room}
 use Rattle.jb_held.specs.declared.pending.Pending.{Pending}
 use Rattle.jb_state.specs.Change.{after}
 use Rattle.jb_state.specs.Sound.{IsSound}
@@ -76,7 +76,7 @@ module _ {D : Type 0} (shown : D → Device) (area : OpenArea D) (is : area.stag
   copying_again new again early texts coming doubt = record {
     late_stays = λ late. absurd (early_late (sym (ap stopped_in is) ∙ late));
     late_by = λ was late. absurd (early_late (sym early ∙ late));
-    early_by = λ here files there opened. absurd (((half_copied texts coming doubt).0.copying.rests files there).shut opened.gate);
+    early_by = λ here files there opened. absurd (((half_copied texts coming doubt).0.copying.rests files there).plain.shut opened.gate);
   }
 
   -- no change of it stands firm
@@ -191,9 +191,9 @@ module _ {D : Type 0} (shown : D → Device) (area : OpenArea D) (stopped : Stop
         (same_pending between.stopped stopped between.pending pending (sym between.stage ∙ is)) between.change
 
     -- the room that it brings
-    room_is : (texts : List ℕ) (coming : Coming) (between : IsBetween shown area texts coming) → HasRoom pending.change pending.room area.held
+    room_is : (texts : List ℕ) (coming : Coming) (between : IsBetween shown area texts coming) → BringsRoom pending.change pending.room area.held
     room_is texts coming between =
-        subst (λ (p : Pending). HasRoom p.change p.room area.held) (same_pending between.stopped stopped between.pending pending (sym between.stage ∙ is)) between.room
+        subst (λ (p : Pending). BringsRoom p.change p.room area.held) (same_pending between.stopped stopped between.pending pending (sym between.stage ∙ is)) between.room
 
     -- it may be done in what is loaded
     pub may_apply : (texts : List ℕ) (coming : Option Coming) → IsDoubtful shown area texts coming → MayApply pending area.held

@@ -4,7 +4,7 @@ mod CommitLemmas
 mod CopyingLemmas
 mod DoubtLemmas
 mod EditLemmas
-mod HoldLemmas
+pub mod HoldLemmas
 mod MeasureLemmas
 mod Outcomes
 mod PackedLemmas

@@ -5,7 +5,7 @@ use Rattle.jb_state.specs.declared.change.Change.{Change}
 use Rattle.jb_state.specs.declared.change.Change.TheVariants.{Nothing, Posted, Headed, Edited, Killed, Relinked, Marked, Packed}
 use Rattle.jb_state.specs.declared.loaded.Loaded.{Loaded}
 use Rattle.jb_pack.specs.Shadow.{Shadow}
-use Rattle.jb_redo.specs.Record.{record_bytes}
+use Rattle.jb_redo.specs.Changes.{record_size}
 use Rattle.jb_decide.specs.Decided.{HasShortRecord, IsPacking}
 use Rattle.jb_area.specs.Area.{copied_after}
 
@@ -33,7 +33,7 @@ copies_drop (Packed plan base) copies packing = refl
 
 -- and its record is short
 pub short_record : (change : Change) (redo : RedoView) (to : Loaded) → IsPacking change → HasShortRecord change redo to
-    → 16 + length (record_bytes redo.lengths redo.pieces) ≤ 4096 + 3 * (to.headers_len + 8 * length to.slots)
+    → 16 + record_size redo ≤ 4096 + 3 * (to.headers_len + 8 * length to.slots)
 short_record Nothing redo to packing short = absurd packing
 short_record (Posted message neighbour) redo to packing short = absurd packing
 short_record (Headed at) redo to packing short = absurd packing

@@ -18,11 +18,12 @@ use Rattle.jb_decide.proofs.DecidedLemmas.{fits_under, keeps_texts, sound_under}
 use Rattle.jb_decide.specs.Decided.{IsNoChange, IsPacking, IsPending, made}
 use Rattle.jb_decide.specs.Holds.{HoldsCopies}
 use Rattle.jb_decide.specs.Packs.{IsPacked}
-use Rattle.jb_area.specs.Area.{copied_after, done_in, copies_kept, redo_in, redo_of, HasMade, HasNoChange, IsBegun, IsBetween, RestsAt}
+use Rattle.jb_area.specs.Area.{IsCountedIn, copied_after, done_in, copies_kept, redo_in, redo_of, HasMade, HasNoChange, IsBegun, IsBetween, RestsAt}
 use Rattle.jb_decide.specs.Coming.{coming_of}
-use Rattle.jb_area.specs.Commits.{HasRecordOf, IsSettledAs, IsSettledWith, IsStoppedAs, MayCommit}
+use Rattle.jb_area.specs.Commits.{IsCounted, IsNumbered, IsRecorded, IsSettledAs, IsSettledWith, IsStoppedAs, MayCommit, next_commit}
+use Rattle.jb_area.proofs.HoldLemmas.{numbered_as, recorded_size}
 use Rattle.jb_area.specs.Holds.{HasShortJournal}
-use Rattle.jb_held.specs.Pending.{HasRoom, MayApply}
+use Rattle.jb_held.specs.Pending.{BringsRoom, MayApply}
 use Rattle.jb_held.specs.declared.pending.Pending.{Pending}
 use Rattle.jb_state.specs.Change.{Fits, after}
 use Rattle.jb_state.specs.declared.change.Change.{Change}
@@ -105,9 +106,20 @@ some_made (Relinked plan) redo files some = refl
 some_made (Marked place mark) redo files some = refl
 some_made (Packed plan base) redo files some = refl
 
+-- a change that is done is the next commit, whose record says so
+counted_by : (change : Change) (was now : ℕ) (contents : Option Files) → change ≢ Nothing → now ≡ next_commit was → ForSome contents (IsNumbered now) → IsCounted change was now contents
+counted_by Nothing was now contents some next numbered = absurd (some refl)
+counted_by (Posted message neighbour) was now contents some next numbered = (next, numbered)
+counted_by (Headed at) was now contents some next numbered = (next, numbered)
+counted_by (Edited place message) was now contents some next numbered = (next, numbered)
+counted_by (Killed place) was now contents some next numbered = (next, numbered)
+counted_by (Relinked plan) was now contents some next numbered = (next, numbered)
+counted_by (Marked place mark) was now contents some next numbered = (next, numbered)
+counted_by (Packed plan base) was now contents some next numbered = (next, numbered)
+
 -- what is pending in a sound area may be done in it
 pub apply_may : (limit : ℕ) (pending : Pending) (loaded : Loaded) → limit ≤ MOST_SLOTS → IsSound limit loaded → Fits limit pending.change loaded
-    → HasRoom pending.change pending.room loaded → MayApply pending loaded
+    → BringsRoom pending.change pending.room loaded → MayApply pending loaded
 apply_may limit pending loaded few sound fits room = record {
   sound = sound_under limit MOST_SLOTS loaded few sound;
   fits = fits_under limit MOST_SLOTS pending.change loaded few fits;
@@ -121,11 +133,22 @@ module _ {D : Type 0} (shown : D → Device) (area : OpenArea D) (reply : Reply)
       ap (λ (f : Files). f file) (some-same _ _ (sym here ∙ ap (λ (d : D). (shown d).contents) same ∙ there))
       ∙ sym (ap (λ (s : Stage). done_in s (redo_of area) was file) is ∙ ap (λ (c : Change). made c (redo_of area) was file) none)
 
+  -- and takes no number
+  pub counted_nothing : (contents : Option Files) → pending.change ≡ Nothing → IsCountedIn area.stage area.commits area.commits contents
+  counted_nothing contents none = subst (λ (s : Stage). IsCountedIn s area.commits area.commits contents) (sym is)
+      (subst (λ (c : Change). IsCounted c area.commits area.commits contents) (sym none) refl)
+
+  -- while one with a change takes the next
+  pub counted_change : (now : ℕ) (redo : RedoView) (contents : Option Files) → pending.change ≢ Nothing → now ≡ next_commit area.commits → ForSome contents (IsRecorded now redo)
+      → IsCountedIn area.stage area.commits now contents
+  counted_change now redo contents some next recorded = subst (λ (s : Stage). IsCountedIn s area.commits now contents) (sym is)
+      (counted_by pending.change area.commits now contents some next (λ files there. numbered_as now redo files (recorded files there)))
+
   -- and one with a change does it
-  pub made_change : (disk : D) (held : Loaded) (large : Option RedoView) (packer : Option Shadow) (stage : Stage) (redo : RedoView) → redo ≡ redo_of area → pending.change ≢ Nothing
+  pub made_change : (disk : D) (commits : ℕ) (held : Loaded) (large : Option RedoView) (packer : Option Shadow) (stage : Stage) (redo : RedoView) → redo ≡ redo_of area → pending.change ≢ Nothing
       → ForSome (shown area.disk).contents (λ was. ForSome (shown disk).contents (λ now. AgreeButJournal now (changed redo was)))
-      → HasMade shown area (record area { disk = disk; held = held; large = large; packer = packer; stage = stage })
-  made_change disk held large packer stage redo used some agree was there now here = λ file ne.
+      → HasMade shown area (record area { disk = disk; commits = commits; held = held; large = large; packer = packer; stage = stage })
+  made_change disk commits held large packer stage redo used some agree was there now here = λ file ne.
       agree was there now here file ne ∙ ap (λ (r : RedoView). changed r was file) used
       ∙ sym (ap (λ (s : Stage). done_in s (redo_of area) was file) is ∙ ap (λ (f : Files). f file) (some_made pending.change (redo_of area) was some))
 
@@ -161,8 +184,8 @@ module _ {D : Type 0} (shown : D → Device) where
         subst (λ (r : RedoView). IsPending area.rules.slots (shown area.disk).contents area.packer r pending.change area.held begun.posted texts coming) (sym used) (some_is reply pending is some)
 
     -- the room that it brings
-    room_is : (reply : Reply) (pending : Pending) → area.stage ≡ Begun reply pending → HasRoom pending.change pending.room area.held
-    room_is reply pending is = subst (λ (p : Pending). HasRoom p.change p.room area.held) (pending_is reply pending is) begun.room
+    room_is : (reply : Reply) (pending : Pending) → area.stage ≡ Begun reply pending → BringsRoom pending.change pending.room area.held
+    room_is reply pending is = subst (λ (p : Pending). BringsRoom p.change p.room area.held) (pending_is reply pending is) begun.room
 
     -- what is to come is what the change makes of the area
     pub becomes_is : (reply : Reply) (pending : Pending) → area.stage ≡ Begun reply pending → coming ≡ coming_of pending.change area.held begun.posted texts
@@ -195,13 +218,13 @@ module _ {D : Type 0} (shown : D → Device) where
     settled_with = record { settled = begun.kept.settled; has = begun.kept.copies }
 
     -- and a call with one
-    pub rests_changed : (reply : Reply) (pending : Pending) (disk : D) (held : Loaded) (large : Option RedoView) (packer : Option Shadow) (stage : Stage) (redo : RedoView) → redo ≡ redo_of area → area.stage ≡ Begun reply pending → pending.change ≢ Nothing
+    pub rests_changed : (reply : Reply) (pending : Pending) (disk : D) (commits : ℕ) (held : Loaded) (large : Option RedoView) (packer : Option Shadow) (stage : Stage) (redo : RedoView) → redo ≡ redo_of area → area.stage ≡ Begun reply pending → pending.change ≢ Nothing
         → large ≡ None → packer ≡ copied_after pending.change area.packer → stage ≡ Resting
         → held ≡ after pending.change area.held → TellsAlike (shown area.disk) (shown disk)
         → ForSome (shown area.disk).contents (λ was. ForSome (shown disk).contents (λ now. AgreeButJournal now (changed redo was)))
         → ((from : Loaded) (texts : List ℕ) (copies : Option Shadow) (coming : Coming) → IsSettledWith from texts copies (shown area.disk) → IsChange (shown area.disk).contents redo from texts copies coming → IsSettledAs coming.to coming.texts (shown disk))
-        → (reply ≡ decided) × RestsAt shown (record area { disk = disk; held = held; large = large; packer = packer; stage = stage }) coming.texts coming.to
-    rests_changed reply pending disk held large packer stage redo used is some small copied resting applied alike made done =
+        → (reply ≡ decided) × RestsAt shown (record area { disk = disk; commits = commits; held = held; large = large; packer = packer; stage = stage }) coming.texts coming.to
+    rests_changed reply pending disk commits held large packer stage redo used is some small copied resting applied alike made done =
         let change = some_in reply pending redo used is some in
         let to : coming.to ≡ held = change.becomes ∙ sym applied in
         let settled : IsSettledAs coming.to coming.texts (shown disk) = done area.held texts area.packer coming settled_with change.change in (
@@ -226,25 +249,25 @@ module _ {D : Type 0} (shown : D → Device) where
         )
 
     -- after a pack the journal is short
-    pub short_after : (reply : Reply) (pending : Pending) (disk : D) (redo : RedoView) → redo ≡ redo_of area → area.stage ≡ Begun reply pending → pending.change ≢ Nothing → IsPacking pending.change
+    pub short_after : (reply : Reply) (pending : Pending) (disk : D) (number : ℕ) (redo : RedoView) → redo ≡ redo_of area → area.stage ≡ Begun reply pending → pending.change ≢ Nothing → IsPacking pending.change
         → ((from : Loaded) (texts : List ℕ) (copies : Option Shadow) (coming : Coming) → IsSettledWith from texts copies (shown area.disk) → IsChange (shown area.disk).contents redo from texts copies coming → IsSettledAs coming.to coming.texts (shown disk))
-        → ForSome (shown disk).contents (HasRecordOf redo) → ForSome (shown disk).contents HasShortJournal
-    short_after reply pending disk redo used is some packing done size files there =
+        → ForSome (shown disk).contents (IsRecorded number redo) → ForSome (shown disk).contents HasShortJournal
+    short_after reply pending disk number redo used is some packing done recorded files there =
         let change = some_in reply pending redo used is some in
         let settled : IsSettledAs coming.to coming.texts (shown disk) = done area.held texts area.packer coming settled_with change.change in
         let loads = (settled.rests files there).holds.loads in
         let record_is = short_record pending.change redo coming.to packing change.short in
-        let journal = size files there in
+        let journal = recorded_size number redo files (settled.rests files there).plain.long (recorded files there) in
         let headers = loads.headers_len in
         let index = loads.index in
         omega (arith, record_is, journal, headers, index)
 
     -- a call that was stopped is in doubt
-    pub between : (reply : Reply) (pending : Pending) (disk : D) (large : Option RedoView) (stage : Stage) (redo : RedoView) (stopped : Stopped) → stage ≡ Doubtful stopped pending → redo ≡ redo_of area → redo ≡ redo_in large area.redo → area.stage ≡ Begun reply pending
+    pub between : (reply : Reply) (pending : Pending) (disk : D) (commits : ℕ) (large : Option RedoView) (stage : Stage) (redo : RedoView) (stopped : Stopped) → stage ≡ Doubtful stopped pending → redo ≡ redo_of area → redo ≡ redo_in large area.redo → area.stage ≡ Begun reply pending
         → pending.change ≢ Nothing → TellsAlike (shown area.disk) (shown disk)
         → ((from : Loaded) (texts : List ℕ) (copies : Option Shadow) (coming : Coming) → IsSettledWith from texts copies (shown area.disk) → IsChange (shown area.disk).contents redo from texts copies coming → IsStoppedAs stopped redo from texts copies (shown disk))
-        → IsBetween shown (record area { disk = disk; large = large; stage = stage }) texts coming
-    between reply pending disk large stage redo stopped doubtful used kept is some alike doubt =
+        → IsBetween shown (record area { disk = disk; commits = commits; large = large; stage = stage }) texts coming
+    between reply pending disk commits large stage redo stopped doubtful used kept is some alike doubt =
         let change = some_in reply pending redo used is some in
         record {
           stopped = stopped;

@@ -115,30 +115,32 @@ module _ {D : Type 0} (shown : D → Device) where
         (settled_copying old.held texts (shown old.disk) resting.kept.settled);
     alike = reads_alike (shown old.disk) (shown new.disk) begins.reads;
     loaded = begins.loaded;
+    commits = begins.commits;
     rules = begins.rules;
     copies = λ in_place. begins.copies;
     kind = begins.kind;
   }
 
   -- an area, from its parts
-  rebuilt : (P : OpenArea D → Type 0) (new : OpenArea D) (disk : D) (rules : AreaRules) (held : Loaded) (redo : RedoView) (large : Option RedoView) (packer : Option Shadow) (stage : Stage) → new.disk ≡ disk → new.rules ≡ rules
-      → new.held ≡ held → new.redo ≡ redo → new.large ≡ large → new.packer ≡ packer → new.stage ≡ stage
-      → P (record { disk = disk; rules = rules; held = held; redo = redo; large = large; packer = packer; stage = stage }) → P new
-  rebuilt P new disk rules held redo large packer stage is_disk is_rules is_held is_redo is_large is_packer is_stage p =
-      subst (λ (s : Stage). P (record { disk = new.disk; rules = new.rules; held = new.held; redo = new.redo; large = new.large; packer = new.packer; stage = s })) (sym is_stage)
-      (subst (λ (k : Option Shadow). P (record { disk = new.disk; rules = new.rules; held = new.held; redo = new.redo; large = new.large; packer = k; stage = stage })) (sym is_packer)
-      (subst (λ (l : Option RedoView). P (record { disk = new.disk; rules = new.rules; held = new.held; redo = new.redo; large = l; packer = packer; stage = stage })) (sym is_large)
-      (subst (λ (r : RedoView). P (record { disk = new.disk; rules = new.rules; held = new.held; redo = r; large = large; packer = packer; stage = stage })) (sym is_redo)
-      (subst (λ (h : Loaded). P (record { disk = new.disk; rules = new.rules; held = h; redo = redo; large = large; packer = packer; stage = stage })) (sym is_held)
-      (subst (λ (u : AreaRules). P (record { disk = new.disk; rules = u; held = held; redo = redo; large = large; packer = packer; stage = stage })) (sym is_rules)
-      (subst (λ (d : D). P (record { disk = d; rules = rules; held = held; redo = redo; large = large; packer = packer; stage = stage })) (sym is_disk) p))))))
+  rebuilt : (P : OpenArea D → Type 0) (new : OpenArea D) (disk : D) (rules : AreaRules) (held : Loaded) (redo : RedoView) (commits : ℕ) (large : Option RedoView) (packer : Option Shadow) (stage : Stage) → new.disk ≡ disk → new.rules ≡ rules
+      → new.held ≡ held → new.redo ≡ redo → new.commits ≡ commits → new.large ≡ large → new.packer ≡ packer → new.stage ≡ stage
+      → P (record { disk = disk; rules = rules; held = held; redo = redo; commits = commits; large = large; packer = packer; stage = stage }) → P new
+  rebuilt P new disk rules held redo commits large packer stage is_disk is_rules is_held is_redo is_commits is_large is_packer is_stage p =
+      subst (λ (s : Stage). P (record { disk = new.disk; rules = new.rules; held = new.held; redo = new.redo; commits = new.commits; large = new.large; packer = new.packer; stage = s })) (sym is_stage)
+      (subst (λ (k : Option Shadow). P (record { disk = new.disk; rules = new.rules; held = new.held; redo = new.redo; commits = new.commits; large = new.large; packer = k; stage = stage })) (sym is_packer)
+      (subst (λ (l : Option RedoView). P (record { disk = new.disk; rules = new.rules; held = new.held; redo = new.redo; commits = new.commits; large = l; packer = packer; stage = stage })) (sym is_large)
+      (subst (λ (n : ℕ). P (record { disk = new.disk; rules = new.rules; held = new.held; redo = new.redo; commits = n; large = large; packer = packer; stage = stage })) (sym is_commits)
+      (subst (λ (r : RedoView). P (record { disk = new.disk; rules = new.rules; held = new.held; redo = r; commits = commits; large = large; packer = packer; stage = stage })) (sym is_redo)
+      (subst (λ (h : Loaded). P (record { disk = new.disk; rules = new.rules; held = h; redo = redo; commits = commits; large = large; packer = packer; stage = stage })) (sym is_held)
+      (subst (λ (u : AreaRules). P (record { disk = new.disk; rules = u; held = held; redo = redo; commits = commits; large = large; packer = packer; stage = stage })) (sym is_rules)
+      (subst (λ (d : D). P (record { disk = d; rules = rules; held = held; redo = redo; commits = commits; large = large; packer = packer; stage = stage })) (sym is_disk) p)))))))
 
   module _ (area new : OpenArea D) (disk : D) (redo : RedoView) (given : Option RedoView) (is_disk : new.disk ≡ disk) (is_rules : new.rules ≡ area.rules) (is_held : new.held ≡ area.held) (is_redo : new.redo ≡ redo)
-      (is_packer : new.packer ≡ area.packer)
+      (is_packer : new.packer ≡ area.packer) (is_commits : new.commits ≡ area.commits)
       (reads : OnlyReads (shown area.disk) (shown disk)) (room : HasRoomInAll redo) where
     -- what is kept stays so
     kept_read : (large : Option RedoView) (stage : Stage) (texts : List ℕ) → IsHeldByFiles shown area texts
-        → IsHeldByFiles shown (record { disk = disk; rules = area.rules; held = area.held; redo = redo; large = large; packer = area.packer; stage = stage }) texts
+        → IsHeldByFiles shown (record { disk = disk; rules = area.rules; held = area.held; redo = redo; commits = area.commits; large = large; packer = area.packer; stage = stage }) texts
     kept_read large stage texts kept = record {
       ruled = record { few_slots = kept.ruled.few_slots; address = kept.ruled.address; sound = kept.ruled.sound; sized = kept.ruled.sized; room = room };
       settled = settled_read area.held texts (shown area.disk) (shown disk) reads kept.settled;
@@ -156,7 +158,7 @@ module _ {D : Type 0} (shown : D → Device) where
         → OnOk result ((texts : List ℕ) → IsResting shown area texts → IsBegunFor shown new texts user moment command)
     starts (Ok decided) (Ok done) user moment command stage is_large answer is = λ texts resting.
         let decides = is texts (texts_own area texts resting) in
-        rebuilt (λ (a : OpenArea D). IsBegunFor shown a texts user moment command) new disk area.rules area.held redo given area.packer (Begun decided.reply decided.pending) is_disk is_rules is_held is_redo is_large is_packer stage
+        rebuilt (λ (a : OpenArea D). IsBegunFor shown a texts user moment command) new disk area.rules area.held redo area.commits given area.packer (Begun decided.reply decided.pending) is_disk is_rules is_held is_redo is_commits is_large is_packer stage
         (record {
           reply = decided.reply;
           coming = decides.coming;
@@ -197,10 +199,10 @@ module _ {D : Type 0} (shown : D → Device) where
     starts_not (Ok decided) (Err error) stage is_large answer = let refused : Result (Unit {0}) AreaError = Err error in absurd (err_not_ok refused error refl answer)
     starts_not (Err StoreFault) (Err StoreFault) stage is_large answer = λ texts resting.
         let pending : Pending = record { change = Nothing; room = no_room } in
-        rebuilt (λ (a : OpenArea D). IsDoubtful shown a texts None) new disk area.rules area.held redo area.large area.packer (Doubtful Early pending) is_disk is_rules is_held is_redo is_large is_packer stage
+        rebuilt (λ (a : OpenArea D). IsDoubtful shown a texts None) new disk area.rules area.held redo area.commits area.large area.packer (Doubtful Early pending) is_disk is_rules is_held is_redo is_commits is_large is_packer stage
         (inl (record { stage = refl; kept = kept_read area.large (Doubtful Early pending) texts resting.kept }))
     starts_not (Err OutOfMemory) (Err OutOfMemory) stage is_large answer = λ texts resting.
-        rebuilt (λ (a : OpenArea D). RestsAt shown a texts area.held) new disk area.rules area.held redo area.large area.packer Resting is_disk is_rules is_held is_redo is_large is_packer (stage ∙ resting.stage)
+        rebuilt (λ (a : OpenArea D). RestsAt shown a texts area.held) new disk area.rules area.held redo area.commits area.large area.packer Resting is_disk is_rules is_held is_redo is_commits is_large is_packer (stage ∙ resting.stage)
         (record { rests = record { stage = refl; small = resting.small; kept = kept_read area.large Resting texts resting.kept }; is = refl })
     starts_not (Err StoreFault) (Err OutOfMemory) stage is_large answer = absurd (two_causes (sym (same_error (Err OutOfMemory) OutOfMemory StoreFault refl answer)))
     starts_not (Err OutOfMemory) (Err StoreFault) stage is_large answer = absurd (two_causes (same_error (Err StoreFault) StoreFault OutOfMemory refl answer))
@@ -228,6 +230,7 @@ module _ {D : Type 0} (shown : D → Device) where
       faults = subst (λ (d : D). CountsFaults is_area_fault (shown area.disk) (shown d) result) (sym is_disk) (same_counts decided result answer counts);
       reads = subst (λ (d : D). OnlyReads (shown area.disk) (shown d)) (sym is_disk) reads;
       loaded = is_held;
+      commits = is_commits;
       rules = is_rules;
       copies = is_packer;
       kind = stays decided result user moment command stage answer is has;
@@ -243,20 +246,21 @@ module _ {D : Type 0} (shown : D → Device) where
         (if_ok_then decided _ _ is (λ one is texts are. with_copies area.rules area.held texts (shown area.disk).contents area.packer (redo_in given redo) user moment command one (is texts are))) counts has)
 
   -- a call that changed nothing was stopped
-  pub stopped_unchanged : (old new : OpenArea D) (texts : List ℕ) (user : User) (moment : ℕ) (command : Command) → TouchesShadow (shown old.disk) (shown new.disk) → new.held ≡ old.held → IsResting shown old texts
+  pub stopped_unchanged : (old new : OpenArea D) (texts : List ℕ) (user : User) (moment : ℕ) (command : Command) → TouchesShadow (shown old.disk) (shown new.disk) → new.held ≡ old.held → new.commits ≡ old.commits → IsResting shown old texts
       → IsDoubtful shown new texts None → HasStoppedIn shown old new texts user moment command
-  stopped_unchanged old new texts user moment command touches loaded resting doubt = record {
+  stopped_unchanged old new texts user moment command touches loaded commits resting doubt = record {
     coming = None;
     change = tt;
     doubt = doubt;
     opens = λ files there. subst (λ (l : Loaded). Opens l texts files) loaded (doubt_reads shown new texts None doubt files there);
     loaded = loaded;
+    commits = commits;
     crash = crash_by old.held texts (shown old.disk) (shown new.disk) touches (settled_copying old.held texts (shown old.disk) resting.kept.settled);
   }
 
   -- why a call was not begun, as what it leaves
-  pub fails_with : (error : AreaError) (old new : OpenArea D) (texts : List ℕ) (user : User) (moment : ℕ) (command : Command) → OnlyReadsOrCopies command (shown old.disk) (shown new.disk) → new.held ≡ old.held → IsResting shown old texts
+  pub fails_with : (error : AreaError) (old new : OpenArea D) (texts : List ℕ) (user : User) (moment : ℕ) (command : Command) → OnlyReadsOrCopies command (shown old.disk) (shown new.disk) → new.held ≡ old.held → new.commits ≡ old.commits → IsResting shown old texts
       → IsNotBegun shown error old new texts → FailsWith shown error old new texts user moment command
-  fails_with StoreFault old new texts user moment command reads loaded resting not =
-      stopped_unchanged old new texts user moment command (touches_by command (shown old.disk) (shown new.disk) reads) loaded resting not
-  fails_with OutOfMemory old new texts user moment command reads loaded resting not = (not, reads)
+  fails_with StoreFault old new texts user moment command reads loaded commits resting not =
+      stopped_unchanged old new texts user moment command (touches_by command (shown old.disk) (shown new.disk) reads) loaded commits resting not
+  fails_with OutOfMemory old new texts user moment command reads loaded commits resting not = (not, reads)

@@ -104,6 +104,7 @@ module _ {D : Type 0} (shown : D → Device) where
       faults = faults;
       alike = alike_by (shown old.disk) (shown disk) touches;
       loaded = refl;
+      commits = refl;
       rules = refl;
       room = refl;
     }
@@ -133,6 +134,7 @@ module _ {D : Type 0} (shown : D → Device) where
     faults = counts_none is_area_fault (shown area.disk) (Ok more) tt;
     alike = refl;
     loaded = refl;
+    commits = refl;
     rules = refl;
     room = refl;
   }
@@ -166,6 +168,7 @@ module _ {D : Type 0} (shown : D → Device) where
         faults = counts_behind is_area_fault (shown old.disk) (shown mid.disk) (shown new.disk) second (ok_gives first more _ is one.faults.quiet) two.faults;
         alike = two.alike ∙ one.alike;
         loaded = two.loaded ∙ one.loaded;
+        commits = two.commits ∙ one.commits;
         rules = two.rules ∙ one.rules;
         room = two.room ∙ one.room;
       }
@@ -194,6 +197,7 @@ module _ {D : Type 0} (shown : D → Device) where
             (settled_copying old.held texts (shown old.disk) resting.kept.settled);
         alike = reads_alike (shown mid.disk) (shown new.disk) begins.reads ∙ steps.alike;
         loaded = begins.loaded ∙ steps.loaded;
+        commits = begins.commits ∙ steps.commits;
         rules = begins.rules ∙ steps.rules;
         copies = λ in_place. absurd in_place;
         kind = on_ok_then result _ _ some (λ change in_place. absurd in_place);
@@ -218,6 +222,7 @@ module _ {D : Type 0} (shown : D → Device) where
     crash = steps.crash;
     alike = steps.alike;
     loaded = steps.loaded;
+    commits = steps.commits;
     rules = steps.rules;
     copies = λ in_place. absurd in_place;
     kind = tt;

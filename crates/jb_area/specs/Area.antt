@@ -11,7 +11,7 @@ use Rattle.jb_decide.specs.Packs.{IsPacked}
 use Rattle.jb_disk.specs.RedoView.{RedoView}
 use Rattle.jb_disk.specs.Device.{Device}
 use Rattle.jb_disk.specs.Files.{Files}
-use Rattle.jb_held.specs.Pending.{HasRoom, no_room}
+use Rattle.jb_held.specs.Pending.{BringsRoom, no_room}
 use Rattle.jb_held.specs.declared.pending.Pending.{Pending}
 use Rattle.jb_journal.specs.Commit.{AgreeButJournal}
 use Rattle.jb_journal.specs.declared.stopped.Stopped.{Stopped}
@@ -22,7 +22,7 @@ use Rattle.jb_state.specs.declared.change.Change.TheVariants.{Nothing, Packed}
 use Rattle.jb_state.specs.declared.loaded.Loaded.{Loaded}
 use Rattle.jb_model.specs.declared.reply.Reply.{Reply}
 use Rattle.jb_pack.specs.Shadow.{Shadow}
-use Rattle.jb_area.specs.Commits.{IsCopyingAs, IsSettledAs, IsStoppedAs}
+use Rattle.jb_area.specs.Commits.{IsCopyingAs, IsCounted, IsSettledAs, IsStoppedAs, next_commit}
 use Rattle.jb_area.specs.Holds.{HasShortJournal, Opens, OpensToEither}
 use Rattle.jb_area.specs.declared.area.OpenArea.{OpenArea}
 use Rattle.jb_area.specs.declared.stage.Stage.{Stage}
@@ -52,6 +52,18 @@ copies_kept (Begun reply pending) copies = copied_after pending.change copies
 copies_kept (Doubtful stopped pending) copies = copies
 copies_kept Copying copies = copies
 
+-- the call is done that was begun: its change is the next commit, or it has none
+abbrev pub IsCountedIn : Stage → ℕ → ℕ → Option Files → Type 0
+IsCountedIn Resting was now contents = now ≡ was
+IsCountedIn (Begun reply pending) was now contents = IsCounted pending.change was now contents
+IsCountedIn (Doubtful stopped pending) was now contents = now ≡ was
+IsCountedIn Copying was now contents = now ≡ was
+
+-- a call was stopped: with a change, which took the next number then, or without one
+abbrev pub commits_with : Option Coming → ℕ → ℕ
+commits_with None commits = commits
+commits_with (Some coming) commits = next_commit commits
+
 -- where the call was stopped that is in doubt; a copying of texts is stopped early
 abbrev pub stopped_in : Stage → Stopped
 stopped_in Resting = Early
@@ -71,6 +83,10 @@ module _ {D : Type 0} where
   -- the redo that stays with the area, for small changes: what it holds, and its room
   abbrev pub small_redo_of : OpenArea D → RedoView
   small_redo_of area = area.redo
+
+  -- the number of its last commit, also where that was stopped; 0 before the first
+  abbrev pub commits_of : OpenArea D → ℕ
+  commits_of area = area.commits
 
   -- the redo of the call that is begun or in doubt
   abbrev pub redo_of : OpenArea D → RedoView
@@ -134,7 +150,7 @@ module _ {D : Type 0} (shown : D → Device) where
     pub kept : IsHeldByFiles area texts
     pub change : IsNoChange pending.change area.held texts coming
         ⊎ IsPending area.rules.slots (shown area.disk).contents area.packer (redo_of area) pending.change area.held posted texts coming
-    pub room : HasRoom pending.change pending.room area.held
+    pub room : BringsRoom pending.change pending.room area.held
     pub packing : IsPacked reply → IsPacking pending.change
 
   -- the files are those that they were with what was begun done in them, but for the journal
@@ -154,7 +170,7 @@ module _ {D : Type 0} (shown : D → Device) where
     pub stage : area.stage ≡ Doubtful stopped pending
     pub ruled : IsSoundFor area texts
     pub change : IsPending area.rules.slots (shown area.disk).contents area.packer (redo_of area) pending.change area.held posted texts coming
-    pub room : HasRoom pending.change pending.room area.held
+    pub room : BringsRoom pending.change pending.room area.held
     pub doubt : IsStoppedAs stopped (redo_of area) area.held texts area.packer (shown area.disk)
 
   -- a call was stopped that had changed nothing

@@ -30,7 +30,8 @@ use Rattle.jb_model.specs.declared.command.Command.{Command}
 use Rattle.jb_model.specs.declared.command.Command.TheVariants.{Post, Edit, Read, Peek, Kill, SetMark, Pack, Relink}
 use Rattle.jb_model.specs.declared.reply.Reply.{Reply}
 use Rattle.jb_pack.specs.Touching.{TouchesShadow}
-use Rattle.jb_area.specs.Area.{copies_after, files_after, redo_of, small_redo_of, DoubtOpens, HasMade, HasNoChange, HasPacked, IsBegun, IsDoubtful, IsResting, RestsAt}
+use Rattle.jb_area.specs.Area.{copies_after, files_after, redo_of, small_redo_of, commits_with, DoubtOpens, HasMade, HasNoChange, HasPacked, IsBegun, IsCountedIn, IsDoubtful, IsResting, RestsAt}
+use Rattle.jb_area.specs.Commits.{IsCounted, next_commit}
 use Rattle.jb_area.specs.Holds.{Opens, OpensToEither}
 use Rattle.jb_area.specs.declared.area.OpenArea.{OpenArea}
 use Rattle.jb_area.specs.declared.stage.Stage.{Stage}
@@ -90,6 +91,8 @@ module _ {D : Type 0} (shown : D → Device) where
     pub fits : Fits old.rules.slots change old.held
     pub becomes : coming ≡ coming_of change old.held (written_text command) texts
     pub somewhere : IsAnsweredSomewhere old.rules old.held user moment command reply change
+    -- it was the next commit of the area, and its record says so
+    pub counted : IsCounted change old.commits new.commits (shown new.disk).contents
     -- for a refusal, a look, and a relink that found no wrong link, the device was only read
     pub idle : ChangesNothing command reply → OnlyReads (shown old.disk) (shown new.disk) × (coming ≡ record { to = old.held; texts = texts })
     -- but for a pack, each header stayed in its place, or is that of the edited message
@@ -125,6 +128,7 @@ module _ {D : Type 0} (shown : D → Device) where
     pub doubt : IsDoubtful shown new texts coming
     pub opens : ForSome (shown new.disk).contents (DoubtOpens old.held texts coming)
     pub loaded : new.held ≡ old.held
+    pub commits : new.commits ≡ commits_with coming old.commits
     pub crash : ForSome (shown old.disk).contents (λ files.
         LeavesOnly (shown old.disk) (shown new.disk) (DoubtOpens old.held texts coming))
 
@@ -149,6 +153,8 @@ module _ {D : Type 0} (shown : D → Device) where
     -- whatever is answered, each command but a pack keeps what is copied of the texts, and a pack that was done drops it
     pub copies : IsNoPack command → new.packer ≡ old.packer
     pub packed : IfOk result (λ reply. IsPacked reply → HasPacked shown new)
+    -- for want of memory nothing is committed
+    pub unspent : result ≡ Err OutOfMemory → new.commits ≡ old.commits
 
   -- a call at rest is begun, or not; its files are only read, and the area is loaded as before, with what is copied of its texts
   pub record BeginsReading (old new : OpenArea D) (user : User) (moment : ℕ) (command : Command) (result : Result (Unit {0}) AreaError) : Type 0 where
@@ -157,6 +163,7 @@ module _ {D : Type 0} (shown : D → Device) where
     pub faults : CountsFaults is_area_fault (shown old.disk) (shown new.disk) result
     pub reads : OnlyReads (shown old.disk) (shown new.disk)
     pub loaded : new.held ≡ old.held
+    pub commits : new.commits ≡ old.commits
     pub rules : new.rules ≡ old.rules
     pub copies : new.packer ≡ old.packer
     -- and but for a pack they stay when it is done
@@ -175,6 +182,7 @@ module _ {D : Type 0} (shown : D → Device) where
         → ForSome (shown old.disk).contents (λ files. LeavesOnly (shown old.disk) (shown new.disk) (Opens old.held texts))
     pub alike : TellsAlike (shown old.disk) (shown new.disk)
     pub loaded : new.held ≡ old.held
+    pub commits : new.commits ≡ old.commits
     pub rules : new.rules ≡ old.rules
     -- each command but a pack keeps what is copied of the texts, also when it is done
     pub copies : IsNoPack command → new.packer ≡ old.packer
@@ -191,6 +199,7 @@ module _ {D : Type 0} (shown : D → Device) where
     pub faults : CountsFaults is_area_fault (shown old.disk) (shown new.disk) result
     pub alike : TellsAlike (shown old.disk) (shown new.disk)
     pub loaded : new.held ≡ old.held
+    pub commits : new.commits ≡ old.commits
     pub rules : new.rules ≡ old.rules
     pub room : small_redo_of new ≡ small_redo_of old
 
@@ -207,6 +216,9 @@ module _ {D : Type 0} (shown : D → Device) where
     pub opens : OnErr result ((texts : List ℕ) (decided : Reply) (coming : Coming) → IsBegun shown old texts decided coming
         → ForSome (shown new.disk).contents (OpensToEither old.held texts coming))
     pub loaded : OnErr result (new.held ≡ old.held)
+    -- its change takes the next number; where it is done, its record says so
+    pub counted : OnOk result (IsCountedIn old.stage old.commits new.commits (shown new.disk).contents)
+    pub spent : OnErr result (new.commits ≡ next_commit old.commits)
     pub faults : CountsFaults is_fault (shown old.disk) (shown new.disk) result
     pub alike : TellsAlike (shown old.disk) (shown new.disk)
     pub crash : (texts : List ℕ) (decided : Reply) (coming : Coming) → IsBegun shown old texts decided coming

@@ -1,5 +1,5 @@
 -- A change that is committed over the files of an area, and one that was stopped; and a copying of its texts that was stopped.
-use Rattle.std.specs.Prelude.{◌≡◌, ℕ, ◌+◌, Bool, true, false, List, Option, length}
+use Rattle.std.specs.Prelude.{◌≡◌, ℕ, ◌+◌, ◌^◌, ◌<◌, Bool, true, false, List, Option, min}
 use Rattle.std.specs.Option.{ForSome}
 use Rattle.jb_decide.specs.Coming.{Coming, IsChange}
 use Rattle.jb_decide.specs.Holds.{HoldsCopies}
@@ -8,7 +8,7 @@ use Rattle.jb_disk.specs.Device.{Device}
 use Rattle.jb_disk.specs.Files.{Files}
 use Rattle.jb_disk.specs.Gate.{IsGateOpen}
 use Rattle.jb_disk.specs.Runs.{IsAllSynced, LeavesNow, LeavesOnly, Shows}
-use Rattle.jb_disk.specs.declared.file.FileId.TheVariants.{Jnl}
+use Rattle.jb_disk.specs.declared.version.Version.TheVariants.{Two}
 use Rattle.jb_journal.specs.Doubt.{HasTriedToSync, IsInDoubt}
 use Rattle.jb_journal.specs.Opening.{StaysShut, WhereTold}
 use Rattle.jb_journal.specs.declared.stopped.Stopped.{Stopped}
@@ -16,7 +16,10 @@ use Rattle.jb_journal.specs.declared.stopped.Stopped.TheVariants.{Early, Late}
 use Rattle.jb_state.specs.declared.loaded.Loaded.{Loaded}
 use Rattle.jb_pack.specs.Shadow.{Shadow}
 use Rattle.jb_pack.specs.Touching.{AgreeButShadow}
-use Rattle.jb_redo.specs.Record.{record_bytes}
+use Rattle.jb_redo.specs.Reading.{BeginsWith, record_part}
+use Rattle.jb_redo.specs.Record.{record_bytes, record_head}
+use Rattle.jb_state.specs.declared.change.Change.{Change}
+use Rattle.jb_state.specs.declared.change.Change.TheVariants.{Nothing}
 use Rattle.jb_area.specs.Holds.{IsAtRest, Opens}
 
 -- the files hold this area and these texts, nothing is on its way, and a crash now leaves them so
@@ -29,16 +32,31 @@ pub record IsSettledWith (loaded : Loaded) (texts : List ℕ) (copies : Option S
   pub settled : IsSettledAs loaded texts device
   pub has : ForSome device.contents (HoldsCopies copies)
 
--- the journal is its head and the record of this redo, and no longer
-abbrev pub HasRecordOf : RedoView → Files → Type 0
-HasRecordOf redo files = length (files Jnl) ≡ 16 + length (record_bytes redo.lengths redo.pieces)
+-- behind its head the journal is the record of this redo with this number, and no more
+abbrev pub IsRecorded : ℕ → RedoView → Files → Type 0
+IsRecorded number redo files = record_part files ≡ record_bytes Two number redo.lengths redo.pieces
 
--- a commit of this redo over files that held this area, and these copies of its texts, was stopped here
+-- the record in the journal says this number
+abbrev pub IsNumbered : ℕ → Files → Type 0
+IsNumbered number files = BeginsWith (record_part files) (record_head Two number)
+
+-- the number of the commit behind that of this number: the next one, but the greatest stays
+abbrev pub next_commit : ℕ → ℕ
+next_commit number = min (number + 1) 18446744073709551615
+
+-- a change that is done is the next commit, and its record says so; where there is none, nothing is committed
+abbrev pub IsCounted : Change → ℕ → ℕ → Option Files → Type 0
+IsCounted Nothing was now contents = now ≡ was
+IsCounted _ was now contents = (now ≡ next_commit was) × ForSome contents (IsNumbered now)
+
+-- a commit of this redo, with some number, over files that held this area, and these copies of its texts, was stopped here
 pub record IsStopped (stopped : Stopped) (redo : RedoView) (from : Loaded) (texts : List ℕ) (copies : Option Shadow) (device : Device) : Type 0 where
+  pub number : ℕ
+  pub numbered : number < 2 ^ 64
   pub start : Files
   pub rests : IsAtRest from texts start
   pub has : HoldsCopies copies start
-  pub shows : Shows (IsInDoubt stopped redo start) device
+  pub shows : Shows (IsInDoubt stopped number redo start) device
 
 -- the same, where the disk tells
 abbrev pub IsStoppedAs : Stopped → RedoView → Loaded → List ℕ → Option Shadow → Device → Type 0

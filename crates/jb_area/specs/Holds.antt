@@ -1,17 +1,17 @@
 -- What the files of an open area are at rest, and to what they open after a crash.
-use Rattle.std.specs.Prelude.{◌≢◌, ◌⊎◌, ℕ, ◌+◌, ◌*◌, ◌≤◌, List, length, slice_index}
+use Rattle.std.specs.Prelude.{◌⊎◌, ℕ, ◌+◌, ◌*◌, ◌≤◌, List, length}
 use Rattle.jb_decide.specs.Coming.{Coming}
 use Rattle.jb_decide.specs.Holds.{Holds}
 use Rattle.jb_disk.specs.Files.{Files}
 use Rattle.jb_disk.specs.declared.file.FileId.TheVariants.{Jhr, Jdx, Jlr, Jnl}
+use Rattle.jb_journal.specs.Commit.{IsPlain}
 use Rattle.jb_state.specs.declared.loaded.Loaded.{Loaded}
 use Rattle.jb_redo.specs.Replay.{Replays}
 
--- the files hold this area with these texts, and their journal is ready for the next change: it has its head, with the gate closed
+-- the files hold this area with these texts, and their journal is ready for the next change: it has the head of the second version, with the gate closed
 pub record IsAtRest (loaded : Loaded) (texts : List ℕ) (files : Files) : Type 0 where
   pub holds : Holds loaded texts files
-  pub long : 16 ≤ length (files Jnl)
-  pub shut : slice_index (files Jnl) 0 ≢ 1
+  pub plain : IsPlain files
 
 -- however long the texts are, the journal is short beside the headers, the index and the marks
 abbrev pub HasShortJournal : Files → Type 0

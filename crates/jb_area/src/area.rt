@@ -22,6 +22,8 @@ pub struct OpenArea<D: Disk> {
     pub(crate) held: HeldArea,
     /// The change of a reading, a kill or a mark.
     pub(crate) redo: Redo,
+    /// The number of the last commit, 0 before the first.
+    pub(crate) commits: u64,
     /// The change of the post, the edit, the relink or the pack that is begun or in doubt.
     pub(crate) large: Option<Redo>,
     /// What is copied of the texts for a pack.
@@ -42,7 +44,7 @@ impl<D: Disk> OpenArea<D> {
     ghost use Rattle.jb_area.specs.Commits.{StandsFirm, StandsLate, StaysShutEarly, StopsAgain};
     ghost use Rattle.jb_journal.specs.declared.stopped.Stopped.TheVariants.{Late};
     ghost use Rattle.jb_decide.specs.Coming.{Coming};
-    ghost use Rattle.jb_area.specs.Area.{copied_of, device_of, loaded_of, rules_of, small_redo_of, DoubtOpens, HasBegun, HasDoubt, IsBegun, IsDoubtful, IsHalfCopied, IsResting, RestsAt, SettlesAt, stopped_of};
+    ghost use Rattle.jb_area.specs.Area.{commits_of, copied_of, device_of, loaded_of, rules_of, small_redo_of, DoubtOpens, HasBegun, HasDoubt, IsBegun, IsDoubtful, IsHalfCopied, IsResting, RestsAt, SettlesAt, stopped_of};
 
     /// The area without its texts; while a call is begun or in doubt, as it was before that call.
     pub fn loaded(&self) -> &Loaded
@@ -65,9 +67,10 @@ impl<D: Disk> OpenArea<D> {
         &self.rules
     }
 
-    /// Commits the change of the call that is begun, and answers the reply that [`coming`](OpenArea::coming) lends. Takes
-    /// no memory, and gives back what the call took for its change, and after a pack the copies of the texts. Where it is
-    /// stopped by a fault of the device, the area is in doubt, and keeps the change until that is settled.
+    /// Commits the change of the call that is begun, and answers the reply that [`coming`](OpenArea::coming) lends. The commit
+    /// has the next number, also where it is stopped; at 2^64 - 1 the number stays. Takes no memory, and gives back what the
+    /// call took for its change, and after a pack the copies of the texts. Where it is stopped by a fault of the device, the
+    /// area is in doubt, and keeps the change until that is settled.
     pub fn finish(&mut self) -> Result<Reply, Stopped>
         requires begun { HasBegun D.device self.old }
 
@@ -93,7 +96,12 @@ impl<D: Disk> OpenArea<D> {
             put_redo(&mut self.large, None);
             return Ok(reply);
         }
-        match commit_change(&mut self.disk, in_use(&self.large, &self.redo)) {
+        self.commits = self.commits.saturating_add(1);
+        match commit_change(
+            &mut self.disk,
+            in_use(&self.large, &self.redo),
+            self.commits,
+        ) {
             Ok(()) => {
                 put_redo(&mut self.large, None);
                 keep_after(&pending.change, &mut self.packer);
@@ -142,6 +150,7 @@ impl<D: Disk> OpenArea<D> {
         ensures device { device_of D.device self.new ≡ device_of D.device self.old }
         ensures copies { copied_of self.new ≡ copied_of self.old }
         ensures rules { rules_of self.new ≡ rules_of self.old }
+        ensures commits { commits_of self.new ≡ commits_of self.old }
         ensures room { small_redo_of self.new ≡ small_redo_of self.old }
     {
         put_redo(&mut self.large, None);
@@ -206,6 +215,7 @@ impl<D: Disk> OpenArea<D> {
             → StandsFirm (stopped_of self.old) coming (device_of D.device self.old)
             (device_of D.device self.new) }
         ensures rules { rules_of self.new ≡ rules_of self.old }
+        ensures commits { commits_of self.new ≡ commits_of self.old }
         ensures room { small_redo_of self.new ≡ small_redo_of self.old }
     {
         if let Stage::Copying = self.stage {
@@ -262,6 +272,7 @@ impl<D: Disk> OpenArea<D> {
             rules: _,
             held: _,
             redo: _,
+            commits: _,
             large: _,
             packer: _,
             stage,

@@ -97,6 +97,7 @@ impl<D: Disk> OpenArea<D> {
         ensures held { self.new.held ≡ self.old.held }
         ensures packer { self.new.packer ≡ self.old.packer }
         ensures redo { self.new.redo ≡ self.old.redo }
+        ensures commits { self.new.commits ≡ self.old.commits }
         ensures large { self.new.large ≡ large_after decided large self.old.large }
     {
         match decided {

@@ -10,7 +10,7 @@ ghost use Rattle.jb_state.specs.declared.loaded.Loaded.{Loaded};
 ghost use Rattle.jb_pack.specs.Shadow.{Shadow};
 ghost use Rattle.jb_decide.specs.Coming.{Coming, IsChange};
 ghost use Rattle.jb_area.specs.Area.{redo_in};
-ghost use Rattle.jb_area.specs.Commits.{HasRecordOf, IsAnsweredAs, IsSettledAs, IsSettledWith, IsStoppedAs, MayCommit, MaySettle, StandsFirm, StaysShutEarly, StopsAgain};
+ghost use Rattle.jb_area.specs.Commits.{IsAnsweredAs, IsRecorded, IsSettledAs, IsSettledWith, IsStoppedAs, MayCommit, MaySettle, StandsFirm, StaysShutEarly, StopsAgain};
 ghost use Rattle.jb_area.specs.Holds.{OpensToEither};
 
 use jb_disk::{Disk, Redo};
@@ -26,8 +26,8 @@ pub(crate) fn in_use<'a>(large: &'a Option<Redo>, small: &'a Redo) -> &'a Redo
     }
 }
 
-/// Commits a change of the area that the files hold.
-pub(crate) fn commit_change<D: Disk>(disk: &mut D, redo: &Redo) -> Result<(), Stopped>
+/// Commits a change of the area that the files hold, with this number.
+pub(crate) fn commit_change<D: Disk>(disk: &mut D, redo: &Redo, number: u64) -> Result<(), Stopped>
     requires may { MayCommit redo.now (D.device disk.old) }
     ensures done { OnOk result ((from : Loaded) (texts : List ℕ) (copies : Option Shadow)
         (coming : Coming) → IsSettledWith from texts copies (D.device disk.old)
@@ -36,7 +36,7 @@ pub(crate) fn commit_change<D: Disk>(disk: &mut D, redo: &Redo) -> Result<(), St
     ensures made { OnOk result (ForSome (D.device disk.old).contents (λ was.
         ForSome (D.device disk.new).contents (λ now.
         AgreeButJournal now (changed redo.now was)))) }
-    ensures size { OnOk result (ForSome (D.device disk.new).contents (HasRecordOf redo.now)) }
+    ensures recorded { OnOk result (ForSome (D.device disk.new).contents (IsRecorded number redo.now)) }
     ensures doubt { IfErr result (λ stopped.
         (from : Loaded) (texts : List ℕ) (copies : Option Shadow) (coming : Coming)
         → IsSettledWith from texts copies (D.device disk.old)
@@ -52,7 +52,7 @@ pub(crate) fn commit_change<D: Disk>(disk: &mut D, redo: &Redo) -> Result<(), St
         LeavesOnly (D.device disk.old) (D.device disk.new) (OpensToEither from texts coming)) }
     ensures alike { TellsAlike (D.device disk.old) (D.device disk.new) }
 {
-    commit(disk, redo)
+    commit(disk, redo, number)
 }
 
 /// Settles whether a change stands whose commit was stopped.

@@ -15,8 +15,8 @@
 //! read of .JDT; a post or an edit its header and subfields, its text, one index record and 20 bytes of .JHR at most beside; a
 //! relink 12 bytes for each message whose links are others. A pack writes all of .JHR, .JDX and .JDT as they are then, after it has
 //! copied the texts of the live messages into .NDT that are not there yet. None of them grows with the area but these two. Each is
-//! one commit of `jb_journal`. [`OpenArea::pack_some`] copies some of the texts before, between the calls of others, and commits
-//! nothing.
+//! one commit of `jb_journal`, and these are numbered from 1. [`OpenArea::pack_some`] copies some of the texts before, between
+//! the calls of others, and commits nothing.
 #![tactic(auto)]
 
 mod area;

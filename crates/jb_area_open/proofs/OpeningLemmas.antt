@@ -1,5 +1,5 @@
 -- Files that are recovered, read and prepared: what they hold, and what a crash meanwhile opens to.
-use Rattle.std.proofs.Common.{◌≡◌, inl, inr, ℕ, ◌<◌, ◌≤◌, List, [], ◌∷◌, length, ap, refl, sym, ◌∙◌, subst, arith, Option, Some, None}
+use Rattle.std.proofs.Common.{◌≡◌, ◌⊎◌, inl, inr, ℕ, ◌<◌, ◌≤◌, List, [], ◌∷◌, length, ap, refl, sym, ◌∙◌, subst, arith, Option, Some}
 use Rattle.std.specs.Prelude.{slice_index, IsSome}
 use Rattle.std.specs.Option.{ForSome}
 use Rattle.std.proofs.lemmas.Bool.{cases_lt}
@@ -12,15 +12,18 @@ use Rattle.jb_disk.proofs.RunLemmas.{runs-then, runs-weaken}
 use Rattle.jb_disk.specs.Device.{Device, OnlyReads, TellsAnImage, Turns}
 use Rattle.jb_disk.specs.FileLaws.{same_file, same_files, with_file-here, with_file-other}
 use Rattle.jb_disk.specs.Files.{Files, with_file}
-use Rattle.jb_disk.specs.Gate.{IsGateOpen}
+use Rattle.jb_disk.specs.Gate.{IsGateOpen, version_by, version_number, version_of}
+use Rattle.jb_disk.specs.declared.version.Version.{Version}
+use Rattle.jb_disk.specs.declared.version.Version.TheVariants.{One, Two}
 use Rattle.jb_disk.specs.Images.{Images}
 use Rattle.jb_disk.specs.Runs.{IsAllSynced, LeavesNow, LeavesOnly, Runs}
 use Rattle.jb_disk.specs.declared.file.FileId.{FileId}
 use Rattle.jb_disk.specs.declared.file.FileId.TheVariants.{Jdt, Jnl}
 use Rattle.jb_image.specs.Stands.{HasHeader, HasSlot, IsLiveIn, Loads}
-use Rattle.jb_journal.specs.Commit.{AgreeButJournal, ReplaysTo}
-use Rattle.jb_journal.specs.Prepare.{IsPrepared, IsPreparing}
+use Rattle.jb_journal.specs.Commit.{AgreeButJournal, IsPlain, ReplaysTo}
+use Rattle.jb_journal.specs.Prepare.{IsPrepared, IsPreparing, WantsHead}
 use Rattle.jb_journal.proofs.FirmLemmas.{firm_same, firm_then, firm_weaken}
+use Rattle.jb_journal.proofs.PrepareLemmas.{preparing_shut}
 use Rattle.jb_journal.specs.Recover.{FirmSince, IsFound, IsGrowthSafe, MightBe, ReplaysAs, ReplaysAsAtStart}
 use Rattle.jb_journal.specs.declared.error.Recovered.{Recovered}
 use Rattle.jb_journal.specs.declared.error.Recovered.TheVariants.{Closed, Replayed}
@@ -122,14 +125,16 @@ replayed_as was start replays shut base = (
   λ to. record { after = start; replays = replays; same = stands_so base start shut to },
 )
 
--- while the journal is prepared the gate stays closed
-pub preparing_shut : (start files : Files) → (IsGateOpen start → ⊥) → IsPreparing start files → IsGateOpen files → ⊥
-preparing_shut start files shut preparing is_open = elim preparing.journal [
-  | inl same ↦ shut (record {
-    longer = subst (λ (l : List ℕ). 16 < length l) same is_open.longer;
-    gate = ap (λ (l : List ℕ). slice_index l 0) (sym same) ∙ is_open.gate;
-  })
-  | inr short ↦ let longer = is_open.longer in let few = short.1 in omega arith
+-- a journal has one version or the other
+one_or_two : (version : Version) → (version ≡ One) ⊎ (version ≡ Two)
+one_or_two One = inl refl
+one_or_two Two = inr refl
+
+-- so it wants its head, or is longer than one of the second version
+wants_or_has : (files : Files) → WantsHead files ⊎ (16 < length (files Jnl)) × (version_of files ≡ Two)
+wants_or_has files = elim (cases_lt 16 (length (files Jnl))) [
+  | inl longer ↦ elim (one_or_two (version_of files)) [ inl one ↦ inl (inl one) | inr two ↦ inr (longer, two) ]
+  | inr short ↦ inl (inr short)
 ]
 
 -- and then files replay as they did before
@@ -140,24 +145,33 @@ preparing_as start files shut preparing base =
       λ to. shut_to base start shut (λ file ne. sym (preparing.same file ne) ∙ stands_so base files still to file ne),
     )
 
--- a prepared journal is ready for a change
-prepared_rests : (loaded : Loaded) (before now : Files) → (IsGateOpen before → ⊥) → Loads loaded before → IsPrepared before now → IsAtRest loaded (now Jdt) now
-prepared_rests loaded before now shut loads prepared = elim (cases_lt 16 (length (before Jnl))) [
-  | inl longer ↦
-      let kept = prepared.kept longer in
+-- a prepared journal is plain
+pub prepared_plain : (before now : Files) → (IsGateOpen before → ⊥) → IsPrepared before now → IsPlain now
+prepared_plain before now shut prepared = elim (wants_or_has before) [
+  | inl wants ↦
+      let made = prepared.made wants in
+      let two : version_of now ≡ Two = ap (λ (l : List ℕ). version_by (slice_index l 1)) made in
       record {
-        holds = held;
-        long = let size = ap length kept in omega (arith, longer, size);
-        shut = λ one. shut (record { longer = longer; gate = ap (λ (l : List ℕ). slice_index l 0) (sym kept) ∙ one });
-      }
-  | inr short ↦
-      let made = prepared.made short in
-      record {
-        holds = held;
         long = subst (λ (l : List ℕ). 16 ≤ length l) (sym made) (omega arith);
-        shut = λ one. let zero : slice_index (now Jnl) 0 ≡ 0 = ap (λ (l : List ℕ). slice_index l 0) made in omega (arith, zero, one);
+        two = two;
+        shut = λ gate.
+            let zero : slice_index (now Jnl) 0 ≡ 0 = ap (λ (l : List ℕ). slice_index l 0) made in
+            let number : version_number (version_of now) ≡ 2 = ap version_number two in
+            omega (arith, zero, number, gate);
+      }
+  | inr has ↦
+      let kept = prepared.kept has.1 has.0 in
+      let version : version_of now ≡ version_of before = ap (λ (l : List ℕ). version_by (slice_index l 1)) kept in
+      record {
+        long = let size = ap length kept in let longer = has.0 in omega (arith, longer, size);
+        two = version ∙ has.1;
+        shut = λ gate. shut (record { longer = has.0; gate = ap (λ (l : List ℕ). slice_index l 0) (sym kept) ∙ gate ∙ ap version_number version });
       }
 ]
+
+-- and ready for a change
+prepared_rests : (loaded : Loaded) (before now : Files) → (IsGateOpen before → ⊥) → Loads loaded before → IsPrepared before now → IsAtRest loaded (now Jdt) now
+prepared_rests loaded before now shut loads prepared = record { holds = held; plain = prepared_plain before now shut prepared }
   where
     held : Holds loaded (now Jdt) now
     held = holds_beside now before loaded (now Jdt) prepared.same (record { loads = loads; texts_are = sym (prepared.same Jdt (λ is. cc)) })
@@ -172,7 +186,7 @@ rests_prepared loaded read made shut loads prepared = λ now there.
 -- behind an open gate a record was found
 pub record_of : (found : Recovered) (was : Files) → IsFound found was → IsGateOpen was → HasRecord was
 record_of Closed was shut opened = absurd (shut opened)
-record_of Replayed was is opened = is.1
+record_of (Replayed version change) was is opened = is.2.0
 
 -- what recovery says
 pub recovered_so : (before after : Device) (found : Recovered) → ForSome before.contents (IsFound found) → ForSome before.contents (λ was. IsGrowthSafe was → ForSome after.contents (Replays was))
@@ -218,9 +232,10 @@ recovered_prepared before mid after prepared synced recovered = λ was there.
     }
   where
     prepared_shut : (start now : Files) → (IsGateOpen start → ⊥) → IsPrepared start now → IsGateOpen now → ⊥
-    prepared_shut start now shut is is_open = elim (cases_lt 16 (length (start Jnl))) [
-      | inl longer ↦ preparing_shut start now shut (record { same = is.same; journal = inl (is.kept longer) }) is_open
-      | inr short ↦ preparing_shut start now shut (record { same = is.same; journal = inr (short, subst (λ (l : List ℕ). length l ≤ 16) (sym (is.made short)) (omega arith)) }) is_open
+    prepared_shut start now shut is is_open = elim (wants_or_has start) [
+      | inl wants ↦
+          preparing_shut start now shut (record { same = is.same; journal = inr (wants, inl (subst (λ (l : List ℕ). length l ≤ 16) (sym (is.made wants)) (omega arith))) }) is_open
+      | inr has ↦ preparing_shut start now shut (record { same = is.same; journal = inl (is.kept has.1 has.0) }) is_open
     ]
 
 -- files that replay to others open to what those hold

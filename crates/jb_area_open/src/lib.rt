@@ -5,9 +5,9 @@
 //! a crash leaves files that open to just what they might have opened to before, so it may be begun again.
 //!
 //! It makes the device calls of `recover`, `decode` and `prepare` and no others: six syncs and at most two calls for the gate,
-//! four questions for a length, the reads of `decode`, one a window where headers stand in order, and one call for the
-//! journal's length. Behind an open gate the record is done besides; a journal of at most 16 bytes is given its head by
-//! three calls. No text is read.
+//! four questions for a length, the reads of `decode`, one a window where headers stand in order, and at most two calls for
+//! the journal's length and version. Behind an open gate the record is done besides; a journal of version 1, or of at most 16
+//! bytes, is given its head by four calls. No text is read.
 #![tactic(auto)]
 
 mod error;

@@ -1,7 +1,7 @@
 //! The opening of an area.
 ghost use Rattle.std.specs.Prelude.{◌≡◌, ◌≤◌, IfErr, IfOk, List, ℕ, length};
 ghost use Rattle.std.specs.Option.{ForSome};
-ghost use Rattle.jb_area.specs.Area.{IsResting, device_of, loaded_of, rules_of};
+ghost use Rattle.jb_area.specs.Area.{IsResting, commits_of, device_of, loaded_of, rules_of};
 ghost use Rattle.jb_area.specs.Calls.{HasRest};
 ghost use Rattle.jb_area_open.specs.Opening.{IsOpenAt, IsRecovered, KeepsOpening, OpensFirmly, Refuses, opened_device, is_opening_fault};
 ghost use Rattle.jb_limits.specs.declared.limits.TheConstants.{MOST_ADDRESS_BYTES, MOST_SLOTS};
@@ -17,8 +17,9 @@ use jb_disk::Disk;
 use jb_image::OpenError;
 use std::alloc::Global;
 
-/// Opens an area over its six files: makes good what a crash has left, reads the files, gives a short journal its head, and
-/// takes the room that a kill and a mark need. A refusal hands the disk back.
+/// Opens an area over its six files: makes good what a crash has left, reads the files, gives a journal of version 1, or a
+/// short one, the head of version 2, and takes the room that a kill and a mark need. Its commits are numbered from 1. A
+/// refusal hands the disk back.
 ///
 /// `BadJournal` comes before all others, and exactly where the gate is open and the journal holds no record. The others are
 /// those of `decode` in its order, over the files as they are once they are recovered; of an area with more slots than the
@@ -42,6 +43,7 @@ pub fn open_area<D: Disk>(
         → IsResting D.device area texts) }
     ensures rest { IfOk result (HasRest D.device) }
     ensures rules { IfOk result (λ area. rules_of area ≡ rules) }
+    ensures commits { IfOk result (λ area. commits_of area ≡ 0) }
 
     // Refused: for the first thing that is wrong, or for a fault that the disk counted; nothing else hides one.
     ensures refused { IfErr result (λ back. Refuses rules.slots (D.device disk) (D.device back.0) back.1) }

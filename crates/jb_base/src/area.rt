@@ -44,7 +44,7 @@ pub enum Rule {
 }
 
 /// The rules of an area. Its ordinal stands in the MSGIDs of what is posted there, behind its address of 1 to 24 bytes;
-/// `read`, `post` and `sysop` are the least levels for these; `slots` is the most that it holds, 1 to 65,000.
+/// `read`, `post` and `sysop` are the least levels for these; `slots` is the most that it holds, 1 to 1,000,000.
 #[derive(Drop)]
 pub struct AreaRules {
     pub ordinal: u8,

@@ -17,7 +17,7 @@ fn of_tool(error: ToolError) -> &'static str {
         ToolError::BadJournal { at } => meaning(OpeningError::BadJournal { at }),
         ToolError::AlreadyThere => "there is a base already: one of its files holds something",
         ToolError::TextFull { .. } => {
-            "the texts of its live messages have so many bytes together; 67,108,864 are the most"
+            "the texts of its live messages have so many bytes together; 1,073,741,824 are the most"
         }
     }
 }

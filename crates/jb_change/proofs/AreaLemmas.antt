@@ -1,5 +1,6 @@
 -- What other counts, another mark and nothing at all make of the area that a change makes.
 use Rattle.std.proofs.Common.{◌≡◌, ◌≢◌, ◌⊎◌, inl, inr, ℕ, ◌+◌, ◌*◌, ◌<◌, ◌≤◌, List, [], ◌++◌, length, ap, ◌∙◌, sym, refl, subst, arith, length-set, length-take, append-nil}
+use Rattle.jb_disk.specs.declared.version.Version.TheVariants.{Two}
 use Rattle.std.specs.Prelude.{◌^◌, slice_index, slice_index_or, slice_set}
 use Rattle.std.proofs.lemmas.Bool.{cases_eq, cases_lt}
 use Rattle.std.proofs.lemmas.Grind.{same_number_lists}
@@ -223,7 +224,7 @@ makes_nothing change loaded no_lengths no_pieces =
     let nothing : (files : Files) → changed change files ≡ files = λ files.
     (λ i. applied (no_lengths i) (no_pieces i) files) ∙ same_files (applied [] [] files) files (λ file. same_length (files file)) in
     record {
-      legal = λ files held. subst (λ (l : List Length). IsLegalRecord (sizes_of files) l change.pieces) (sym no_lengths) (subst (IsLegalRecord (sizes_of files) []) (sym no_pieces) (empty_legal files));
+      legal = λ files held. subst (λ (l : List Length). IsLegalRecord Two (sizes_of files) l change.pieces) (sym no_lengths) (subst (IsLegalRecord Two (sizes_of files) []) (sym no_pieces) (empty_legal files));
       grown = λ files held. subst (λ (l : List Length). IsGrowthCovered l change.pieces files) (sym no_lengths) (λ file i past low. absurd (omega (arith, past, low)));
       made = λ files held. record {
         loads = subst (λ (f : Files). Loads loaded f) (sym (nothing files)) held;
@@ -232,7 +233,7 @@ makes_nothing change loaded no_lengths no_pieces =
     }
   where
     -- no length and no piece keep the rules
-    empty_legal : (files : Files) → IsLegalRecord (sizes_of files) [] []
+    empty_legal : (files : Files) → IsLegalRecord Two (sizes_of files) [] []
     empty_legal files = record {
       lengths_are = record { few = omega arith; each = λ k d low. absurd (omega (arith, low)); rising = λ i j d low high. absurd (omega (arith, high)) };
       pieces_are = record { many = omega arith; each = λ k d low. absurd (omega (arith, low)) };

@@ -1,5 +1,6 @@
 -- The change that makes a base, and the files with it.
 use Rattle.std.proofs.Common.{◌≡◌, ◌≢◌, inl, ℕ, ◌<◌, List, [], ◌∷◌, length, take, refl, ap, sym, ◌∙◌, subst, arith}
+use Rattle.jb_disk.specs.declared.version.Version.TheVariants.{Two}
 use Rattle.std.proofs.lemmas.List.{take_all}
 use Rattle.std.proofs.lemmas.List.Elements.{All-nil, All-cons}
 use Rattle.std.proofs.lemmas.List.Kept.{AllPairs-cons}
@@ -41,7 +42,7 @@ unfolding fixed_header_bytes
 signed_header moment = refl
 
 -- the lengths are legal
-legal_lengths : AreLegalLengths base_lengths
+legal_lengths : AreLegalLengths Two base_lengths
 legal_lengths =
     let headers : Length = record { file = Jhr; len = 1024 } in
     let texts : Length = record { file = Jdt; len = 0 } in
@@ -49,10 +50,10 @@ legal_lengths =
     let marks : Length = record { file = Jlr; len = 0 } in
     record {
       few = omega arith;
-      each = All-cons IsLegalLength headers (texts ∷ index ∷ marks ∷ []) (record { of_base = omega arith; ceiling = omega arith })
-          (All-cons IsLegalLength texts (index ∷ marks ∷ []) (record { of_base = omega arith; ceiling = omega arith })
-          (All-cons IsLegalLength index (marks ∷ []) (record { of_base = omega arith; ceiling = omega arith })
-          (All-cons IsLegalLength marks [] (record { of_base = omega arith; ceiling = omega arith }) (All-nil IsLegalLength))));
+      each = All-cons (IsLegalLength Two) headers (texts ∷ index ∷ marks ∷ []) (record { of_base = omega arith; ceiling = omega arith })
+          (All-cons (IsLegalLength Two) texts (index ∷ marks ∷ []) (record { of_base = omega arith; ceiling = omega arith })
+          (All-cons (IsLegalLength Two) index (marks ∷ []) (record { of_base = omega arith; ceiling = omega arith })
+          (All-cons (IsLegalLength Two) marks [] (record { of_base = omega arith; ceiling = omega arith }) (All-nil (IsLegalLength Two)))));
       rising = AllPairs-cons IsBefore headers (texts ∷ index ∷ marks ∷ [])
           (All-cons (IsBefore headers) texts (index ∷ marks ∷ []) (omega arith)
           (All-cons (IsBefore headers) index (marks ∷ []) (omega arith) (All-cons (IsBefore headers) marks [] (omega arith) (All-nil (IsBefore headers)))))
@@ -99,9 +100,9 @@ module _ (moment : ℕ) (change : RedoView) (lengths_are : change.lengths ≡ ba
     no_headers = empty Jhr (omega arith)
 
     -- its piece is legal
-    legal_base : IsLegalRecord (sizes_of files) base_lengths (base_pieces moment)
+    legal_base : IsLegalRecord Two (sizes_of files) base_lengths (base_pieces moment)
     legal_base =
-        let Legal : Piece → Type 0 = IsLegalPiece (sizes_of files) (new_sizes base_lengths (sizes_of files)) in
+        let Legal : Piece → Type 0 = IsLegalPiece Two (sizes_of files) (new_sizes base_lengths (sizes_of files)) in
         record {
           lengths_are = legal_lengths;
           pieces_are = record {
@@ -142,12 +143,12 @@ module _ (moment : ℕ) (change : RedoView) (lengths_are : change.lengths ≡ ba
   -- of empty files it makes those of the base
   pub makes_base : IsFixedReadAgain (new_loaded moment) → MakesBase moment change
   makes_base back =
-      let size : record_size change ≡ length (record_bytes base_lengths (base_pieces moment)) = λ i. length (record_bytes (lengths_are i) (pieces_are i)) in
+      let size : record_size change ≡ length (record_bytes Two 0 base_lengths (base_pieces moment)) = λ i. length (record_bytes Two 0 (lengths_are i) (pieces_are i)) in
       record {
         brings = record {
           legal = λ files empty.
-              subst (λ (l : List Length). IsLegalRecord (sizes_of files) l change.pieces) (sym lengths_are)
-              (subst (λ (p : List Piece). IsLegalRecord (sizes_of files) base_lengths p) (sym pieces_are) (legal_base files empty));
+              subst (λ (l : List Length). IsLegalRecord Two (sizes_of files) l change.pieces) (sym lengths_are)
+              (subst (λ (p : List Piece). IsLegalRecord Two (sizes_of files) base_lengths p) (sym pieces_are) (legal_base files empty));
           grown = λ files empty.
               subst (λ (l : List Length). IsGrowthCovered l change.pieces files) (sym lengths_are)
               (subst (λ (p : List Piece). IsGrowthCovered base_lengths p files) (sym pieces_are) (covers_base files empty));
@@ -155,6 +156,6 @@ module _ (moment : ℕ) (change : RedoView) (lengths_are : change.lengths ≡ ba
               let made : changed change files ≡ after files empty = λ i. applied (lengths_are i) (pieces_are i) files in
               subst (AreNew moment) (sym made) (new_holds moment (after files empty) back (headers_after files empty) (others_after files empty));
         };
-        lengths = subst AreLegalLengths (sym lengths_are) legal_lengths;
-        size = omega (arith, size, length-record base_lengths (base_pieces moment), length-pieces Jhr 0 (header moment) [], length-header moment);
+        lengths = subst (AreLegalLengths Two) (sym lengths_are) legal_lengths;
+        size = omega (arith, size, length-record 0 base_lengths (base_pieces moment), length-pieces Jhr 0 (header moment) [], length-header moment);
       }

@@ -1,5 +1,6 @@
 -- A message in the place of another, behind all others, as a change of the files.
 use Rattle.std.proofs.Common.{◌≡◌, ◌≢◌, ◌⊎◌, inl, inr, ℕ, ◌+◌, ◌*◌, ◌<◌, ◌≤◌, List, [], ◌∷◌, ◌++◌, All, length, Some, ap, sym, refl, ◌∙◌, subst, arith, length-set}
+use Rattle.jb_disk.specs.declared.version.Version.TheVariants.{Two}
 use Rattle.std.specs.List.{flat_map}
 use Rattle.std.specs.Prelude.{◌^◌, AllPairs, option_and_then, slice_index_or, slice_set}
 use Rattle.std.proofs.lemmas.Bool.{cases_eq, cases_lt}
@@ -142,7 +143,7 @@ module _ (files now : Files) (loaded : Loaded) (message : LoadedMessage) (text :
       }
 
 -- its lengths are legal
-pub legal_message_lengths : (loaded : Loaded) (message : LoadedMessage) (text : List ℕ) → IsAtEnds loaded message text → AreLegalLengths (message_lengths message)
+pub legal_message_lengths : (loaded : Loaded) (message : LoadedMessage) (text : List ℕ) → IsAtEnds loaded message text → AreLegalLengths Two (message_lengths message)
 legal_message_lengths loaded message text ends =
     let headers : Length = record { file = Jhr; len = message.header_at + header_size message } in
     let texts : Length = record { file = Jdt; len = message.text_at + message.text_len } in
@@ -150,8 +151,8 @@ legal_message_lengths loaded message text ends =
     record {
       few = omega arith;
       each =
-          All-cons IsLegalLength headers (texts ∷ []) (record { of_base = omega arith; ceiling = omega (arith, ends.header_at, ends.headers_fit) })
-          (All-cons IsLegalLength texts none (record { of_base = omega arith; ceiling = omega (arith, ends.text_at, ends.texts_fit) }) (All-nil IsLegalLength));
+          All-cons (IsLegalLength Two) headers (texts ∷ []) (record { of_base = omega arith; ceiling = omega (arith, ends.header_at, ends.headers_fit) })
+          (All-cons (IsLegalLength Two) texts none (record { of_base = omega arith; ceiling = omega (arith, ends.text_at, ends.texts_fit) }) (All-nil (IsLegalLength Two)));
       rising =
           AllPairs-cons IsBefore headers (texts ∷ []) (All-cons (IsBefore headers) texts none (omega arith) (All-nil (IsBefore headers)))
           (AllPairs-cons IsBefore texts none (All-nil (IsBefore texts)) no_pairs);
@@ -161,16 +162,16 @@ legal_message_lengths loaded message text ends =
 module _ (loaded : Loaded) (message : LoadedMessage) (text : List ℕ) (number : ℕ) (ends : IsAtEnds loaded message text) (change : RedoView)
     (lengths_are : change.lengths ≡ message_lengths message) (pieces_are : change.pieces ≡ message_pieces number message text) where
   -- how long the record is
-  pub size_of_message : record_size change ≡ 56 + header_size message + length text
+  pub size_of_message : record_size change ≡ 88 + header_size message + length text
   size_of_message =
       let header : Piece = Bytes Jhr message.header_at (message_bytes number message) in
       let words : Piece = Bytes Jdt message.text_at text in
       let lengths_size : length change.lengths ≡ 2 = ap length lengths_are in
-      let pieces_size : length (flat_map piece_bytes change.pieces) ≡ length (flat_map piece_bytes (header ∷ words ∷ [])) =
-      ap (λ (pieces : List Piece). length (flat_map piece_bytes pieces)) pieces_are in
+      let pieces_size : length (flat_map (piece_bytes Two) change.pieces) ≡ length (flat_map (piece_bytes Two) (header ∷ words ∷ [])) =
+      ap (λ (pieces : List Piece). length (flat_map (piece_bytes Two) pieces)) pieces_are in
       let first = length-pieces Jhr message.header_at (message_bytes number message) (words ∷ []) in
       let second = length-pieces Jdt message.text_at text [] in
-      omega (arith, length-record change.lengths change.pieces, length-message number message)
+      omega (arith, length-record 0 change.lengths change.pieces, length-message number message)
 
   module _ (files : Files) (loads : Loads loaded files) where
     -- where .JHR ended
@@ -182,9 +183,9 @@ module _ (loaded : Loaded) (message : LoadedMessage) (text : List ℕ) (number :
     texts_end = ends.text_at ∙ loads.texts_len
 
     -- its pieces are legal
-    legal_pieces : IsLegalRecord (sizes_of files) (message_lengths message) (message_pieces number message text)
+    legal_pieces : IsLegalRecord Two (sizes_of files) (message_lengths message) (message_pieces number message text)
     legal_pieces =
-        let Legal : Piece → Type 0 = IsLegalPiece (sizes_of files) (new_sizes (message_lengths message) (sizes_of files)) in
+        let Legal : Piece → Type 0 = IsLegalPiece Two (sizes_of files) (new_sizes (message_lengths message) (sizes_of files)) in
         let header : Piece = Bytes Jhr message.header_at (message_bytes number message) in
         let words : Piece = Bytes Jdt message.text_at text in
         let none : List Piece = [] in
@@ -205,10 +206,10 @@ module _ (loaded : Loaded) (message : LoadedMessage) (text : List ℕ) (number :
         }
 
     -- and so it is
-    legal_message : IsLegalRecord (sizes_of files) change.lengths change.pieces
+    legal_message : IsLegalRecord Two (sizes_of files) change.lengths change.pieces
     legal_message =
-        subst (λ (lengths : List Length). IsLegalRecord (sizes_of files) lengths change.pieces) (sym lengths_are)
-        (subst (λ (pieces : List Piece). IsLegalRecord (sizes_of files) (message_lengths message) pieces) (sym pieces_are) legal_pieces)
+        subst (λ (lengths : List Length). IsLegalRecord Two (sizes_of files) lengths change.pieces) (sym lengths_are)
+        (subst (λ (pieces : List Piece). IsLegalRecord Two (sizes_of files) (message_lengths message) pieces) (sym pieces_are) legal_pieces)
 
     -- each byte past an old end is written
     covers_message : IsGrowthCovered (message_lengths message) (message_pieces number message text) files

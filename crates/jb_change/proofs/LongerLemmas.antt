@@ -4,7 +4,7 @@ use Rattle.std.specs.Prelude.{slice_index_or}
 use Rattle.std.proofs.lemmas.Bool.{cases_lt}
 use Rattle.std.proofs.lemmas.List.{append-nil, get_or_append_left, get_or_push, length_push}
 use Rattle.std.proofs.lemmas.List.Quantifiers.{all_pairs_push}
-use Rattle.jb_limits.specs.declared.limits.TheConstants.{MOST_SLOTS}
+use Rattle.jb_limits.specs.declared.limits.TheConstants.{MOST_MARKS}
 use Rattle.jb_bytes.specs.Subfields.{IsSubfield, subfield_bytes}
 use Rattle.jb_disk.specs.Files.{Files}
 use Rattle.jb_disk.specs.declared.file.FileId.TheVariants.{Jhr, Jdt, Jdx, Jlr}
@@ -185,7 +185,7 @@ module _ (files after : Files) (loaded : Loaded) (message : LoadedMessage) (text
         texts_len = texts_len_there files after loaded message text (number_behind loaded) loads next.ends back.header each jhr jdt;
       }
 
-module _ (files after : Files) (loaded : Loaded) (mark : Mark) (loads : Loads loaded files) (back : IsMarkReadAgain mark) (few : length loaded.marks < MOST_SLOTS)
+module _ (files after : Files) (loaded : Loaded) (mark : Mark) (loads : Loads loaded files) (back : IsMarkReadAgain mark) (few : length loaded.marks < MOST_MARKS)
     (jhr : after Jhr ≡ files Jhr) (jdt : after Jdt ≡ files Jdt) (jdx : after Jdx ≡ files Jdx)
     (jlr : after Jlr ≡ files Jlr ++ lastread_record_bytes (mark_record mark)) where
   -- each mark is there

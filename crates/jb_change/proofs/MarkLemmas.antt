@@ -1,10 +1,11 @@
 -- A mark behind the others, as a change of the files.
 use Rattle.std.proofs.Common.{◌≡◌, inl, ℕ, ◌+◌, ◌*◌, ◌<◌, List, [], ◌∷◌, ◌++◌, length, take, ap, sym, ◌∙◌, subst, arith}
+use Rattle.jb_disk.specs.declared.version.Version.TheVariants.{Two}
 use Rattle.std.specs.List.{flat_map}
 use Rattle.std.proofs.lemmas.List.{append-nil}
 use Rattle.std.proofs.lemmas.List.Elements.{All-nil, All-cons}
 use Rattle.std.proofs.lemmas.List.Kept.{AllPairs-cons}
-use Rattle.jb_limits.specs.declared.limits.TheConstants.{MOST_SLOTS}
+use Rattle.jb_limits.specs.declared.limits.TheConstants.{MOST_MARKS}
 use Rattle.jb_redo.specs.Changes.{changed, record_size}
 use Rattle.jb_disk.specs.RedoView.{RedoView}
 use Rattle.jb_disk.specs.Files.{Files}
@@ -31,24 +32,24 @@ use Rattle.jb_image.proofs.RecordLemmas.{length-mark}
 use Rattle.jb_redo.proofs.LengthLemmas.{length-pieces, length-record}
 
 -- its length is legal
-pub legal_mark_lengths : (count : ℕ) → count < MOST_SLOTS → AreLegalLengths (mark_lengths count)
+pub legal_mark_lengths : (count : ℕ) → count < MOST_MARKS → AreLegalLengths Two (mark_lengths count)
 legal_mark_lengths count few =
     let marks : Length = record { file = Jlr; len = 16 * count + 16 } in
     record {
       few = omega arith;
-      each = All-cons IsLegalLength marks [] (record { of_base = omega arith; ceiling = omega arith }) (All-nil IsLegalLength);
+      each = All-cons (IsLegalLength Two) marks [] (record { of_base = omega arith; ceiling = omega arith }) (All-nil (IsLegalLength Two));
       rising = AllPairs-cons IsBefore marks [] (All-nil (IsBefore marks)) no_pairs;
     }
 
-module _ (count : ℕ) (mark : Mark) (few : count < MOST_SLOTS) where
+module _ (count : ℕ) (mark : Mark) (few : count < MOST_MARKS) where
   -- how long its record is
-  pub size_of_mark : (change : RedoView) → change.lengths ≡ mark_lengths count → change.pieces ≡ mark_pieces count mark → record_size change ≡ 52
+  pub size_of_mark : (change : RedoView) → change.lengths ≡ mark_lengths count → change.pieces ≡ mark_pieces count mark → record_size change ≡ 72
   size_of_mark change lengths_are pieces_are =
       let lengths_size : length change.lengths ≡ 1 = ap length lengths_are in
-      let pieces_size : length (flat_map piece_bytes change.pieces) ≡ length (flat_map piece_bytes (mark_pieces count mark)) =
-      ap (λ (pieces : List Piece). length (flat_map piece_bytes pieces)) pieces_are in
+      let pieces_size : length (flat_map (piece_bytes Two) change.pieces) ≡ length (flat_map (piece_bytes Two) (mark_pieces count mark)) =
+      ap (λ (pieces : List Piece). length (flat_map (piece_bytes Two) pieces)) pieces_are in
       let piece = length-pieces Jlr (16 * count) (lastread_record_bytes (mark_record mark)) [] in
-      omega (arith, length-record change.lengths change.pieces, length-mark (mark_record mark))
+      omega (arith, length-record 0 change.lengths change.pieces, length-mark (mark_record mark))
 
   module _ (loaded : Loaded) (counted : length loaded.marks ≡ count) (files : Files) (loads : Loads loaded files) where
     -- where .JLR ended
@@ -56,9 +57,9 @@ module _ (count : ℕ) (mark : Mark) (few : count < MOST_SLOTS) where
     marks_end = omega (arith, loads.lastread)
 
     -- its piece is legal
-    legal_mark : IsLegalRecord (sizes_of files) (mark_lengths count) (mark_pieces count mark)
+    legal_mark : IsLegalRecord Two (sizes_of files) (mark_lengths count) (mark_pieces count mark)
     legal_mark =
-        let Legal : Piece → Type 0 = IsLegalPiece (sizes_of files) (new_sizes (mark_lengths count) (sizes_of files)) in
+        let Legal : Piece → Type 0 = IsLegalPiece Two (sizes_of files) (new_sizes (mark_lengths count) (sizes_of files)) in
         let piece : Piece = Bytes Jlr (16 * count) (lastread_record_bytes (mark_record mark)) in
         let size = length-mark (mark_record mark) in
         record {
@@ -111,8 +112,8 @@ module _ (count : ℕ) (mark : Mark) (few : count < MOST_SLOTS) where
       let made : (files : Files) → changed change files ≡ applied (mark_lengths count) (mark_pieces count mark) files = λ files i. applied (lengths_are i) (pieces_are i) files in
       record {
         legal = λ files loads.
-            subst (λ (lengths : List Length). IsLegalRecord (sizes_of files) lengths change.pieces) (sym lengths_are)
-            (subst (λ (pieces : List Piece). IsLegalRecord (sizes_of files) (mark_lengths count) pieces) (sym pieces_are) (legal_mark loaded counted files loads));
+            subst (λ (lengths : List Length). IsLegalRecord Two (sizes_of files) lengths change.pieces) (sym lengths_are)
+            (subst (λ (pieces : List Piece). IsLegalRecord Two (sizes_of files) (mark_lengths count) pieces) (sym pieces_are) (legal_mark loaded counted files loads));
         grown = λ files loads.
             subst (λ (lengths : List Length). IsGrowthCovered lengths change.pieces files) (sym lengths_are)
             (subst (λ (pieces : List Piece). IsGrowthCovered (mark_lengths count) pieces files) (sym pieces_are) (covers_mark loaded counted files loads));

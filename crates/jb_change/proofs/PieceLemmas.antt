@@ -1,5 +1,6 @@
 -- A piece of bytes more in a change.
 use Rattle.std.proofs.Common.{◌≡◌, ◌≢◌, inl, inr, ℕ, ◌+◌, ◌<◌, ◌≤◌, List, [], ◌∷◌, ◌++◌, length, ap, ◌∙◌, sym, refl, subst, arith, length-append, append-nil}
+use Rattle.jb_disk.specs.declared.version.Version.TheVariants.{Two}
 use Rattle.std.specs.Prelude.{◌^◌}
 use Rattle.std.specs.List.{flat_map}
 use Rattle.std.proofs.lemmas.Grind.{flat_map-append}
@@ -28,13 +29,13 @@ use Rattle.jb_redo.proofs.ApplyLemmas.{length-patched, patched-push}
 use Rattle.jb_redo.proofs.LengthLemmas.{length-record}
 
 -- the length of the files that a record makes
-length-applied : (files : Files) (lengths : List Length) (pieces : List Piece) (file : FileId) → IsLegalRecord (sizes_of files) lengths pieces
+length-applied : (files : Files) (lengths : List Length) (pieces : List Piece) (file : FileId) → IsLegalRecord Two (sizes_of files) lengths pieces
     → length (applied lengths pieces files file) ≡ new_sizes lengths (sizes_of files) file
 length-applied files lengths pieces file legal =
     let ends = new_sizes lengths (sizes_of files) in
     let size = length-of_length (ends file) (files file) in
     length-patched (spans_in files pieces file) (of_length (ends file) (files file))
-    (subst (AreWithin (spans_in files pieces file)) (sym size) (spans_within files ends pieces file legal.pieces_are.each))
+    (subst (AreWithin (spans_in files pieces file)) (sym size) (spans_within Two files ends pieces file legal.pieces_are.each))
     ∙ size
 
 module _ (file : FileId) (at : ℕ) (bytes : List ℕ) where
@@ -71,13 +72,13 @@ module _ (file : FileId) (at : ℕ) (bytes : List ℕ) where
   -- it may stand behind the others, where it lies within what they make
   legal_more : (lengths : List Length) (pieces : List Piece) (files : Files) → file_number file < 4 → at < 2 ^ 32 → length bytes < 2 ^ 32
       → at + length bytes ≤ length (applied lengths pieces files file) → length (pieces ++ piece ∷ []) < 2 ^ 32
-      → IsLegalRecord (sizes_of files) lengths pieces → IsLegalRecord (sizes_of files) lengths (pieces ++ piece ∷ [])
+      → IsLegalRecord Two (sizes_of files) lengths pieces → IsLegalRecord Two (sizes_of files) lengths (pieces ++ piece ∷ [])
   legal_more lengths pieces files of_base place short within few legal = record {
     lengths_are = legal.lengths_are;
     pieces_are = record {
       many = few;
-      each = All-push (IsLegalPiece (sizes_of files) (new_sizes lengths (sizes_of files))) pieces piece legal.pieces_are.each
-          (record { of_base = of_base; place = place; size = short; within = subst (λ (n : ℕ). at + length bytes ≤ n) (length-applied files lengths pieces file legal) within });
+      each = All-push (IsLegalPiece Two (sizes_of files) (new_sizes lengths (sizes_of files))) pieces piece legal.pieces_are.each
+          (record { of_base = of_base; place = omega (arith, place); size = omega (arith, short); within = subst (λ (n : ℕ). at + length bytes ≤ n) (length-applied files lengths pieces file legal) within });
     };
   }
 
@@ -94,22 +95,22 @@ module _ (file : FileId) (at : ℕ) (bytes : List ℕ) where
         (torn-wider at (length bytes) from len (changed old files file) now low high (torn-overwritten at bytes (changed old files file) (omega arith))))
 
     -- the journal's record of it
-    pub put_size : record_size new ≡ record_size old + 12 + length bytes
+    pub put_size : record_size new ≡ record_size old + 20 + length bytes
     put_size =
-        let one : length (flat_map piece_bytes (piece ∷ [])) ≡ 12 + length bytes = omega (arith, ap length (append-nil bytes)) in
-        let more : length (flat_map piece_bytes (old.pieces ++ piece ∷ [])) ≡ length (flat_map piece_bytes old.pieces) + (12 + length bytes) =
-        ap length (flat_map-append piece_bytes old.pieces (piece ∷ [])) ∙ length-append (flat_map piece_bytes old.pieces) (flat_map piece_bytes (piece ∷ [])) ∙ ap (λ (n : ℕ). length (flat_map piece_bytes old.pieces) + n) one in
-        let before = length-record old.lengths old.pieces in
-        let after = length-record old.lengths (old.pieces ++ piece ∷ []) in
-        (λ i. length (record_bytes (puts.lengths i) (puts.pieces i))) ∙ omega (arith, more, before, after)
+        let one : length (flat_map (piece_bytes Two) (piece ∷ [])) ≡ 20 + length bytes = omega (arith, ap length (append-nil bytes)) in
+        let more : length (flat_map (piece_bytes Two) (old.pieces ++ piece ∷ [])) ≡ length (flat_map (piece_bytes Two) old.pieces) + (20 + length bytes) =
+        ap length (flat_map-append (piece_bytes Two) old.pieces (piece ∷ [])) ∙ length-append (flat_map (piece_bytes Two) old.pieces) (flat_map (piece_bytes Two) (piece ∷ [])) ∙ ap (λ (n : ℕ). length (flat_map (piece_bytes Two) old.pieces) + n) one in
+        let before = length-record 0 old.lengths old.pieces in
+        let after = length-record 0 old.lengths (old.pieces ++ piece ∷ []) in
+        (λ i. length (record_bytes Two 0 (puts.lengths i) (puts.pieces i))) ∙ omega (arith, more, before, after)
 
     -- it keeps the rules
     pub legal_then : (files : Files) → file_number file < 4 → at < 2 ^ 32 → length bytes < 2 ^ 32 → at + length bytes ≤ length (changed old files file)
-        → IsLegalRecord (sizes_of files) old.lengths old.pieces → IsLegalRecord (sizes_of files) new.lengths new.pieces
+        → IsLegalRecord Two (sizes_of files) old.lengths old.pieces → IsLegalRecord Two (sizes_of files) new.lengths new.pieces
     legal_then files of_base place short within legal =
         let few : length (old.pieces ++ piece ∷ []) < 2 ^ 32 = subst (λ (l : List Piece). length l < 2 ^ 32) puts.pieces puts.few in
-        subst (λ (l : List Length). IsLegalRecord (sizes_of files) l new.pieces) (sym puts.lengths)
-        (subst (IsLegalRecord (sizes_of files) old.lengths) (sym puts.pieces) (legal_more old.lengths old.pieces files of_base place short within few legal))
+        subst (λ (l : List Length). IsLegalRecord Two (sizes_of files) l new.pieces) (sym puts.lengths)
+        (subst (IsLegalRecord Two (sizes_of files) old.lengths) (sym puts.pieces) (legal_more old.lengths old.pieces files of_base place short within few legal))
 
     -- what is covered stays so
     pub grown_then : (files : Files) → IsGrowthCovered old.lengths old.pieces files → IsGrowthCovered new.lengths new.pieces files

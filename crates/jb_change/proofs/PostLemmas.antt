@@ -1,5 +1,6 @@
 -- A message behind the others, as a change of the files.
 use Rattle.std.proofs.Common.{◌≡◌, inl, ℕ, ◌+◌, ◌*◌, List, [], ◌∷◌, ◌++◌, All, length, take, ap, sym, ◌∙◌, subst, arith}
+use Rattle.jb_disk.specs.declared.version.Version.TheVariants.{Two}
 use Rattle.std.specs.List.{flat_map}
 use Rattle.std.specs.Prelude.{AllPairs}
 use Rattle.std.proofs.lemmas.List.Elements.{All-nil, All-cons}
@@ -38,7 +39,7 @@ pub no_pairs : AllPairs IsBefore []
 no_pairs i j d order low = absurd (omega (arith, low))
 
 -- its lengths are legal
-pub legal_post_lengths : (loaded : Loaded) (message : LoadedMessage) (text : List ℕ) → IsNext loaded message text → AreLegalLengths (post_lengths loaded message)
+pub legal_post_lengths : (loaded : Loaded) (message : LoadedMessage) (text : List ℕ) → IsNext loaded message text → AreLegalLengths Two (post_lengths loaded message)
 legal_post_lengths loaded message text next =
     let headers : Length = record { file = Jhr; len = message.header_at + header_size message } in
     let texts : Length = record { file = Jdt; len = message.text_at + message.text_len } in
@@ -47,9 +48,9 @@ legal_post_lengths loaded message text next =
     record {
       few = omega arith;
       each =
-          All-cons IsLegalLength headers (texts ∷ index ∷ []) (record { of_base = omega arith; ceiling = omega (arith, next.ends.header_at, next.ends.headers_fit) })
-          (All-cons IsLegalLength texts (index ∷ []) (record { of_base = omega arith; ceiling = omega (arith, next.ends.text_at, next.ends.texts_fit) })
-          (All-cons IsLegalLength index none (record { of_base = omega arith; ceiling = omega (arith, next.few_slots) }) (All-nil IsLegalLength)));
+          All-cons (IsLegalLength Two) headers (texts ∷ index ∷ []) (record { of_base = omega arith; ceiling = omega (arith, next.ends.header_at, next.ends.headers_fit) })
+          (All-cons (IsLegalLength Two) texts (index ∷ []) (record { of_base = omega arith; ceiling = omega (arith, next.ends.text_at, next.ends.texts_fit) })
+          (All-cons (IsLegalLength Two) index none (record { of_base = omega arith; ceiling = omega (arith, next.few_slots) }) (All-nil (IsLegalLength Two))));
       rising =
           AllPairs-cons IsBefore headers (texts ∷ index ∷ [])
           (All-cons (IsBefore headers) texts (index ∷ []) (omega arith) (All-cons (IsBefore headers) index none (omega arith) (All-nil (IsBefore headers))))
@@ -60,18 +61,18 @@ legal_post_lengths loaded message text next =
 module _ (loaded : Loaded) (message : LoadedMessage) (text : List ℕ) (next : IsNext loaded message text) where
   -- how long its record is
   pub size_of_post : (change : RedoView) → change.lengths ≡ post_lengths loaded message → change.pieces ≡ post_pieces loaded message text
-      → record_size change ≡ 84 + header_size message + length text
+      → record_size change ≡ 128 + header_size message + length text
   size_of_post change lengths_are pieces_are =
       let header : Piece = Bytes Jhr message.header_at (message_bytes (number_behind loaded) message) in
       let words : Piece = Bytes Jdt message.text_at text in
       let entry : Piece = Bytes Jdx (8 * length loaded.slots) (index_record_bytes (entry_for (Live message))) in
       let lengths_size : length change.lengths ≡ 3 = ap length lengths_are in
-      let pieces_size : length (flat_map piece_bytes change.pieces) ≡ length (flat_map piece_bytes (header ∷ words ∷ entry ∷ [])) =
-      ap (λ (pieces : List Piece). length (flat_map piece_bytes pieces)) pieces_are in
+      let pieces_size : length (flat_map (piece_bytes Two) change.pieces) ≡ length (flat_map (piece_bytes Two) (header ∷ words ∷ entry ∷ [])) =
+      ap (λ (pieces : List Piece). length (flat_map (piece_bytes Two) pieces)) pieces_are in
       let first = length-pieces Jhr message.header_at (message_bytes (number_behind loaded) message) (words ∷ entry ∷ []) in
       let second = length-pieces Jdt message.text_at text (entry ∷ []) in
       let third = length-pieces Jdx (8 * length loaded.slots) (index_record_bytes (entry_for (Live message))) [] in
-      omega (arith, length-record change.lengths change.pieces, length-message (number_behind loaded) message, length-entry (entry_for (Live message)))
+      omega (arith, length-record 0 change.lengths change.pieces, length-message (number_behind loaded) message, length-entry (entry_for (Live message)))
 
   module _ (files : Files) (loads : Loads loaded files) where
     -- where .JHR ended
@@ -83,9 +84,9 @@ module _ (loaded : Loaded) (message : LoadedMessage) (text : List ℕ) (next : I
     texts_end = next.ends.text_at ∙ loads.texts_len
 
     -- its pieces are legal
-    legal_post : IsLegalRecord (sizes_of files) (post_lengths loaded message) (post_pieces loaded message text)
+    legal_post : IsLegalRecord Two (sizes_of files) (post_lengths loaded message) (post_pieces loaded message text)
     legal_post =
-        let Legal : Piece → Type 0 = IsLegalPiece (sizes_of files) (new_sizes (post_lengths loaded message) (sizes_of files)) in
+        let Legal : Piece → Type 0 = IsLegalPiece Two (sizes_of files) (new_sizes (post_lengths loaded message) (sizes_of files)) in
         let header : Piece = Bytes Jhr message.header_at (message_bytes (number_behind loaded) message) in
         let words : Piece = Bytes Jdt message.text_at text in
         let entry : Piece = Bytes Jdx (8 * length loaded.slots) (index_record_bytes (entry_for (Live message))) in
@@ -165,8 +166,8 @@ module _ (loaded : Loaded) (message : LoadedMessage) (text : List ℕ) (next : I
     pub makes_post : Makes change loaded (with_message_behind message loaded) text
     makes_post = record {
       legal = λ files loads.
-          subst (λ (lengths : List Length). IsLegalRecord (sizes_of files) lengths change.pieces) (sym lengths_are)
-          (subst (λ (pieces : List Piece). IsLegalRecord (sizes_of files) (post_lengths loaded message) pieces) (sym pieces_are) (legal_post files loads));
+          subst (λ (lengths : List Length). IsLegalRecord Two (sizes_of files) lengths change.pieces) (sym lengths_are)
+          (subst (λ (pieces : List Piece). IsLegalRecord Two (sizes_of files) (post_lengths loaded message) pieces) (sym pieces_are) (legal_post files loads));
       grown = λ files loads.
           subst (λ (lengths : List Length). IsGrowthCovered lengths change.pieces files) (sym lengths_are)
           (subst (λ (pieces : List Piece). IsGrowthCovered (post_lengths loaded message) pieces files) (sym pieces_are) (covers_post files loads));

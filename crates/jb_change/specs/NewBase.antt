@@ -1,5 +1,6 @@
 -- Files that hold no base, and those of a base that was just made.
 use Rattle.std.specs.Prelude.{◌≡◌, ◌≢◌, ℕ, ◌<◌, List, [], ◌∷◌, replicate}
+use Rattle.jb_disk.specs.declared.version.Version.TheVariants.{Two}
 use Rattle.jb_redo.specs.Changes.{Brings, record_size}
 use Rattle.jb_disk.specs.RedoView.{RedoView}
 use Rattle.jb_disk.specs.Files.{Files, file_number}
@@ -48,8 +49,8 @@ pub record AreNew (moment : ℕ) (files : Files) : Type 0 where
 -- of empty files the change makes those of a base, and its record is legal and short
 pub record MakesBase (moment : ℕ) (change : RedoView) : Type 0 where
   pub brings : Brings change AreEmpty (λ _. AreNew moment)
-  pub lengths : AreLegalLengths change.lengths
-  pub size : record_size change ≡ 1084
+  pub lengths : AreLegalLengths Two change.lengths
+  pub size : record_size change ≡ 1116
 
 -- a length for each file of a new base, so that each is there then
 abbrev pub base_lengths : List Length

@@ -16,7 +16,7 @@ pub record IsEmptied (redo : RedoView) : Type 0 where
   pub no_lengths : redo.lengths ≡ []
   pub no_pieces : redo.pieces ≡ []
   pub makes : (loaded : Loaded) → Makes redo loaded loaded []
-  pub size : record_size redo ≡ 16
+  pub size : record_size redo ≡ 24
 
 -- a redo that holds nothing, with room for each change that takes no memory
 pub record IsCleared (redo : RedoView) : Type 0 where
@@ -24,7 +24,7 @@ pub record IsCleared (redo : RedoView) : Type 0 where
   pub no_pieces : redo.pieces ≡ []
   pub room : HasRoom 1 4 32 redo
   pub makes : (loaded : Loaded) → Makes redo loaded loaded []
-  pub size : record_size redo ≡ 16
+  pub size : record_size redo ≡ 24
 
 -- a redo that holds nothing, with room for the links of so many messages and for the counts
 pub record IsReadyFor (count : ℕ) (redo : RedoView) : Type 0 where
@@ -32,4 +32,4 @@ pub record IsReadyFor (count : ℕ) (redo : RedoView) : Type 0 where
   pub no_pieces : redo.pieces ≡ []
   pub room : HasRoom 0 (count + 1) (12 * count + 8) redo
   pub makes : (loaded : Loaded) → Makes redo loaded loaded []
-  pub size : record_size redo ≡ 16
+  pub size : record_size redo ≡ 24

@@ -27,7 +27,7 @@ pub fn put_counts(redo: &mut Redo, counter: u32, active: u32)
     ensures lengths { redo.new.lengths ≡ redo.old.lengths }
     ensures room { Spends 0 1 8 redo.old redo.new }
     ensures kept { KeepsRoom redo.old redo.new }
-    ensures size { record_size redo.new ≡ record_size redo.old + 20 }
+    ensures size { record_size redo.new ≡ record_size redo.old + 28 }
 {
     put_piece(redo, FileId::Jhr, COUNTS_AT, &two_numbers(counter, active));
 }
@@ -43,7 +43,7 @@ pub fn put_mark(redo: &mut Redo, place: u32, mark: &Mark)
     ensures lengths { redo.new.lengths ≡ redo.old.lengths }
     ensures room { Spends 0 1 16 redo.old redo.new }
     ensures kept { KeepsRoom redo.old redo.new }
-    ensures size { record_size redo.new ≡ record_size redo.old + 28 }
+    ensures size { record_size redo.new ≡ record_size redo.old + 36 }
 {
     put_piece(
         redo,

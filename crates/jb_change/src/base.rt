@@ -74,7 +74,7 @@ fn put(redo: &mut Redo, moment: u32)
     let header = encode_fixed(&new_header(moment));
     redo.put_len(Length {
         file: FileId::Jhr,
-        len: FIXED_HEADER_BYTES as u32,
+        len: FIXED_HEADER_BYTES as u64,
     });
     redo.put_len(Length {
         file: FileId::Jdt,

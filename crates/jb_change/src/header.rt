@@ -36,7 +36,7 @@ pub fn put_links(redo: &mut Redo, at: u32, reply_to: u32, first: u32, next: u32)
     ensures lengths { redo.new.lengths ≡ redo.old.lengths }
     ensures room { Spends 0 1 12 redo.old redo.new }
     ensures kept { KeepsRoom redo.old redo.new }
-    ensures size { record_size redo.new ≡ record_size redo.old + 24 }
+    ensures size { record_size redo.new ≡ record_size redo.old + 32 }
 {
     put_piece(
         redo,
@@ -62,7 +62,7 @@ pub fn put_reading(redo: &mut Redo, at: u32, reading: &Head)
     ensures lengths { redo.new.lengths ≡ redo.old.lengths }
     ensures room { Spends 0 3 12 redo.old redo.new }
     ensures kept { KeepsRoom redo.old redo.new }
-    ensures size { record_size redo.new ≡ record_size redo.old + 48 }
+    ensures size { record_size redo.new ≡ record_size redo.old + 72 }
 {
     put_piece(
         redo,
@@ -98,7 +98,7 @@ pub fn put_kill(redo: &mut Redo, at: u32, attribute: u32)
     ensures lengths { redo.new.lengths ≡ redo.old.lengths }
     ensures room { Spends 0 1 4 redo.old redo.new }
     ensures kept { KeepsRoom redo.old redo.new }
-    ensures size { record_size redo.new ≡ record_size redo.old + 16 }
+    ensures size { record_size redo.new ≡ record_size redo.old + 24 }
 {
     let killed = attribute | DELETED;
     put_piece(redo, FileId::Jhr, at + ATTRIBUTE_AT, &one_number(killed));

@@ -84,7 +84,7 @@ pub(crate) fn put_neighbour(redo: &mut Redo, loaded: &Loaded, neighbour: Option<
     ensures lengths { redo.new.lengths ≡ redo.old.lengths }
     ensures room { Spends 0 1 12 redo.old redo.new }
     ensures kept { KeepsRoom redo.old redo.new }
-    ensures size { record_size redo.new ≤ record_size redo.old + 24 }
+    ensures size { record_size redo.new ≤ record_size redo.old + 32 }
 {
     if let Some(one) = neighbour {
         let header_at = message_at(loaded, one.place).header_at;

@@ -1,5 +1,6 @@
 //! A mark behind the others.
 ghost use Rattle.std.specs.Prelude.{◌≡◌, ◌<◌, [], length};
+ghost use Rattle.jb_disk.specs.declared.version.Version.TheVariants.{Two};
 ghost use Rattle.jb_limits.specs.declared.limits.TheConstants.{MOST_MARKS};
 ghost use Rattle.jb_redo.specs.Changes.{KeepsRoom};
 ghost use Rattle.jb_redo.specs.Changes.{record_size};
@@ -28,8 +29,8 @@ pub fn put_new_mark(redo: &mut Redo, count: u32, mark: &Mark)
     ensures appends { (loaded : Loaded) → length loaded.marks ≡ count → AppendsOnly redo.new loaded }
 
     // As a record it has lengths that are legal over any files, and this size.
-    ensures lengths { AreLegalLengths redo.new.lengths }
-    ensures size { record_size redo.new ≡ 52 }
+    ensures lengths { AreLegalLengths Two redo.new.lengths }
+    ensures size { record_size redo.new ≡ 72 }
 
     // It spends no more room than its own, and would give it back.
     ensures room { Spends 1 1 16 redo.old redo.new }
@@ -52,7 +53,7 @@ fn put(redo: &mut Redo, count: u32, mark: &Mark)
     let end = count * MARK_RECORD_BYTES as u32;
     redo.put_len(Length {
         file: FileId::Jlr,
-        len: end + MARK_RECORD_BYTES as u32,
+        len: end as u64 + MARK_RECORD_BYTES as u64,
     });
-    redo.put_bytes(FileId::Jlr, end, &mark_bytes(mark));
+    redo.put_bytes(FileId::Jlr, end as u64, &mark_bytes(mark));
 }

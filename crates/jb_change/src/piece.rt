@@ -17,9 +17,9 @@ pub(crate) fn put_piece(redo: &mut Redo, file: FileId, at: u32, bytes: &[u8]) ->
     ensures puts { Puts file at bytes.now redo.old redo.new }
     ensures room { Spends 0 1 (length bytes.now) redo.old redo.new }
     ensures kept { KeepsRoom redo.old redo.new }
-    ensures size { record_size redo.new ≡ record_size redo.old + 12 + length bytes.now }
+    ensures size { record_size redo.new ≡ record_size redo.old + 20 + length bytes.now }
 {
-    redo.put_bytes(file, at, bytes);
+    redo.put_bytes(file, at as u64, bytes);
     redo.pieces()
 }
 

@@ -1,5 +1,6 @@
 //! A message behind the others.
 ghost use Rattle.std.specs.Prelude.{◌≡◌, ◌<◌, ◌≤◌, ◌+◌, ◌*◌, ◌++◌, ◌∷◌, [], All, OnOk, OnErr, length};
+ghost use Rattle.jb_disk.specs.declared.version.Version.TheVariants.{Two};
 ghost use Rattle.jb_bytes.specs.Subfields.{IsSubfield, subfield_bytes};
 ghost use Rattle.jb_limits.specs.declared.limits.TheConstants.{HEADERS_CEILING, MOST_SLOTS, MOST_SUBFIELD_BYTES, TEXTS_CEILING};
 ghost use Rattle.jb_redo.specs.Changes.{KeepsRoom};
@@ -48,8 +49,8 @@ pub fn put_post(
     ensures numbered { OnOk result (HasNextNumber redo.new loaded.now message.now) }
 
     // As a record it has lengths that are legal over any files, and this size.
-    ensures lengths { OnOk result (AreLegalLengths redo.new.lengths) }
-    ensures size { OnOk result (record_size redo.new ≡ 84 + header_size message.now + length text.now) }
+    ensures lengths { OnOk result (AreLegalLengths Two redo.new.lengths) }
+    ensures size { OnOk result (record_size redo.new ≡ 128 + header_size message.now + length text.now) }
 
     // There is room for a few pieces more.
     ensures room { OnOk result (HasRoom 0 SPARE_PIECES SPARE_BYTES redo.new) }
@@ -98,14 +99,14 @@ pub(crate) fn put_message(
     redo.reserve(3, 3 + SPARE_PIECES, bytes as u64 + SPARE_BYTES)?;
     redo.put_len(Length {
         file: FileId::Jhr,
-        len: message.header_at + header.len() as u32,
+        len: message.header_at as u64 + header.len() as u64,
     });
     redo.put_len(Length {
         file: FileId::Jdt,
-        len: message.text_at + message.text_len,
+        len: message.text_at as u64 + message.text_len as u64,
     });
-    redo.put_bytes(FileId::Jhr, message.header_at, header.as_slice());
-    redo.put_bytes(FileId::Jdt, message.text_at, text);
+    redo.put_bytes(FileId::Jhr, message.header_at as u64, header.as_slice());
+    redo.put_bytes(FileId::Jdt, message.text_at as u64, text);
     Ok(())
 }
 
@@ -122,10 +123,10 @@ fn put_entry(redo: &mut Redo, loaded: &Loaded, message: &LoadedMessage)
     let end = index_end(loaded);
     redo.put_len(Length {
         file: FileId::Jdx,
-        len: end + INDEX_RECORD_BYTES as u32,
+        len: end as u64 + INDEX_RECORD_BYTES as u64,
     });
     let entry = entry_bytes(message.owner, message.header_at);
-    redo.put_bytes(FileId::Jdx, end, &entry);
+    redo.put_bytes(FileId::Jdx, end as u64, &entry);
 }
 
 /// The length of .JDX.

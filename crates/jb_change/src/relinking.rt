@@ -38,7 +38,7 @@ fn put_links_in(redo: &mut Redo, loaded: &Loaded, links: &Links)
     ensures lengths { redo.new.lengths ≡ redo.old.lengths }
     ensures room { Spends 0 1 12 redo.old redo.new }
     ensures kept { KeepsRoom redo.old redo.new }
-    ensures size { record_size redo.new ≤ record_size redo.old + 24 }
+    ensures size { record_size redo.new ≤ record_size redo.old + 32 }
 {
     let place = (links.number - loaded.base) as usize;
     if let LoadedSlot::Live(message) = &loaded.slots.as_slice()[place] {
@@ -92,7 +92,7 @@ fn put_other_links(redo: &mut Redo, loaded: &Loaded, links: &Links, last: u32)
     ensures lengths { redo.new.lengths ≡ redo.old.lengths }
     ensures room { Spends 0 1 12 redo.old redo.new }
     ensures kept { KeepsRoom redo.old redo.new }
-    ensures size { record_size redo.new ≤ record_size redo.old + 24 }
+    ensures size { record_size redo.new ≤ record_size redo.old + 32 }
 {
     if links.number <= last || is_changed(loaded, links) {
         put_links_in(redo, loaded, links);
@@ -113,7 +113,7 @@ fn put_plan(redo: &mut Redo, loaded: &Loaded, plan: &[Links])
     ensures lengths { redo.new.lengths ≡ redo.old.lengths }
     ensures room { Spends 0 (length plan.now) (12 * length plan.now) redo.old redo.new }
     ensures kept { KeepsRoom redo.old redo.new }
-    ensures size { record_size redo.new ≤ record_size redo.old + 24 * length plan.now }
+    ensures size { record_size redo.new ≤ record_size redo.old + 32 * length plan.now }
 {
     let mut last = 0;
     for links in plan {

@@ -40,7 +40,7 @@ fits_room n e = grind (arith, nat_tests)
 
 -- rules that are not refused
 rules_pass : (together place : ℕ) (entries : Members) → rules_fault together place entries ≡ None
-    → (1 ≤ number_at (Area place area_key.Slots) (Some 16000) entries) × (number_at (Area place area_key.Slots) (Some 16000) entries ≤ 65000)
+    → (1 ≤ number_at (Area place area_key.Slots) (Some 16000) entries) × (number_at (Area place area_key.Slots) (Some 16000) entries ≤ 1000000)
     × (together + number_at (Area place area_key.Slots) (Some 16000) entries ≤ 4200000)
 unfolding rules_fault
 rules_pass together place entries e =
@@ -48,10 +48,10 @@ rules_pass together place entries e =
     let read = none_each (number_fault (Area place area_key.Read) (Some 0) 0 255 entries) _ kind.1 in
     let post = none_each (number_fault (Area place area_key.Post) (Some 0) 0 255 entries) _ read.1 in
     let sysop = none_each (number_fault (Area place area_key.Sysop) (Some 255) 0 255 entries) _ post.1 in
-    let slots = none_each (number_fault (Area place area_key.Slots) (Some 16000) 1 65000 entries) _ sysop.1 in
+    let slots = none_each (number_fault (Area place area_key.Slots) (Some 16000) 1 1000000 entries) _ sysop.1 in
     let sum = together + number_at (Area place area_key.Slots) (Some 16000) entries in
     let room : nat_le sum 4200000 ≡ true = from_not (nat_le sum 4200000) (none_if (not (nat_le sum 4200000)) (OutOfRange (Area place area_key.Slots)) (none_each (fault_if (not (nat_le sum 4200000)) (OutOfRange (Area place area_key.Slots))) None slots.1).0) in
-    let many = number_bounds (Area place area_key.Slots) (Some 16000) 1 65000 entries slots.0 in
+    let many = number_bounds (Area place area_key.Slots) (Some 16000) 1 1000000 entries slots.0 in
     (many.0, many.1, fits_room sum room)
 
 -- an area that is not refused

@@ -23,7 +23,7 @@ fn range_of(field: Field) -> &'static str {
         Field::Area(_, AreaKey::Kind) => "local or echo, in these letters",
         Field::Area(_, AreaKey::Read | AreaKey::Post | AreaKey::Sysop) => "0 to 255",
         Field::Area(_, AreaKey::Slots) => {
-            "1 to 65,000; with those of the areas before at most 4,200,000"
+            "1 to 1,000,000; with those of the areas before at most 4,200,000"
         }
         Field::User(_, UserKey::Id) => "1 to 65,535",
         Field::User(_, UserKey::Level) => "0 to 255",

@@ -10,7 +10,7 @@ use Rattle.jb_change.specs.Headers.{UpdatesBut}
 use Rattle.jb_change.specs.Put.{IsMoved, IsNoPacking, IsShort, IsTextOf, KeepsIndexOnKill, NumbersPosted}
 use Rattle.jb_disk.specs.Files.{Files}
 use Rattle.jb_disk.specs.RedoView.{RedoView}
-use Rattle.jb_held.specs.Pending.{HasRoom, no_room}
+use Rattle.jb_held.specs.Pending.{BringsRoom, no_room}
 use Rattle.jb_image.specs.Stands.{Loads}
 use Rattle.jb_state.specs.Change.{Fits, after, headed_where, texts_after}
 use Rattle.jb_state.specs.Linked.{with_links_in, with_links_of}
@@ -107,7 +107,7 @@ short_is redo loaded (Marked place mark) text short = (tt, refl)
 short_is redo loaded (Packed plan base) text short = (tt, refl)
 
 -- and it brings nothing
-pub short_room : (change : Change) (from : Loaded) → IsShort change → HasRoom change no_room from
+pub short_room : (change : Change) (from : Loaded) → IsShort change → BringsRoom change no_room from
 short_room Nothing from short = refl
 short_room (Posted message neighbour) from short = absurd short
 short_room (Headed at) from short = refl
@@ -267,7 +267,7 @@ none_packed (reply.MarksFull marks) other to files = tt
 pub step_decided : (rules : AreaRules) (from : Loaded) (texts : List ℕ) (contents : Option Files) (redo : RedoView) (user : User) (moment : ℕ) (command : Command) (shows : List ℕ → Reply) (decided : Decided)
     → IsStepOf rules from user moment command shows decided.pending.change → IsAnswerBy shows from texts contents decided.reply
     → (decided.pending.change ≢ Nothing → IsPutIn redo from decided.pending.change (text_behind decided.pending.change (written_text command)))
-    → HasRoom decided.pending.change decided.pending.room from → length texts ≡ from.texts_len → IsDecided rules from texts contents None redo user moment command decided
+    → BringsRoom decided.pending.change decided.pending.room from → length texts ≡ from.texts_len → IsDecided rules from texts contents None redo user moment command decided
 step_decided rules from texts contents redo user moment command shows decided is answer put room sized =
     let change : Change = decided.pending.change in
     let posted : List ℕ = written_text command in
@@ -313,7 +313,7 @@ unchanged_decided rules from texts contents redo user moment command shows decid
     step_decided rules from texts contents redo user moment command shows decided
     (subst (IsStepOf rules from user moment command shows) (sym none) step)
     (subst (IsAnswerBy shows from texts contents) (sym is) by)
-    (λ some. absurd (some none)) (subst (λ (change : Change). HasRoom change decided.pending.room from) (sym none) bare) sized
+    (λ some. absurd (some none)) (subst (λ (change : Change). BringsRoom change decided.pending.room from) (sym none) bare) sized
 
 -- a reply that is the same whatever the texts are
 pub same_answer : (from : Loaded) (texts : List ℕ) (contents : Option Files) (answer : Reply) → length texts ≡ from.texts_len → IsAnswerBy (λ texts. answer) from texts contents answer

@@ -5,7 +5,7 @@ use Rattle.jb_base.specs.declared.user.User.{User}
 use Rattle.jb_change.specs.Put.{KeepsIndexOnKill}
 use Rattle.jb_disk.specs.Files.{Files}
 use Rattle.jb_disk.specs.RedoView.{RedoView}
-use Rattle.jb_held.specs.Pending.{HasRoom}
+use Rattle.jb_held.specs.Pending.{BringsRoom}
 use Rattle.jb_limits.specs.declared.limits.TheConstants.{MOST_SLOTS}
 use Rattle.jb_state.specs.Change.{Fits, after, texts_after}
 use Rattle.jb_state.specs.Sound.{IsSound}
@@ -85,7 +85,7 @@ pub record IsAnsweredSomewhere (rules : AreaRules) (from : Loaded) (user : User)
 pub record IsDecided (rules : AreaRules) (from : Loaded) (texts : List ℕ) (contents : Option Files) (copies : Option Shadow) (redo : RedoView) (user : User) (moment : ℕ) (command : Command) (decided : Decided) : Type 0 where
   pub coming : Coming
   pub change : IsNoChange decided.pending.change from texts coming ⊎ IsPending rules.slots contents copies redo decided.pending.change from (written_text command) texts coming
-  pub room : HasRoom decided.pending.change decided.pending.room from
+  pub room : BringsRoom decided.pending.change decided.pending.room from
   pub step : IsTold decided.reply contents → Step rules (state_of texts from) user moment command decided.reply (state_of coming.texts coming.to)
   pub somewhere : IsAnsweredSomewhere rules from user moment command decided.reply decided.pending.change
   pub idle : ChangesNothing command decided.reply → IsNoChange decided.pending.change from texts coming

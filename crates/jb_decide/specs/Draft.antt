@@ -1,12 +1,12 @@
 -- What a user wrote, and what of it stands in the new or the edited message.
-use Rattle.std.specs.Prelude.{ℕ, ◌+◌, Bool, if◌then◌else◌, List, [], ◌∷◌, ◌++◌, Option, option_to_list, length, map}
+use Rattle.std.specs.Prelude.{ℕ, ◌+◌, Bool, if◌then◌else◌, List, length}
 use Rattle.jb_bytes.specs.Crc.{jam_crc_of}
 use Rattle.jb_base.specs.declared.area.AreaRules.{AreaRules}
 use Rattle.jb_bytes.specs.declared.subfield.Subfield.{Subfield}
-use Rattle.jb_bytes.specs.declared.subfield.TheConstants.{SENDER_NAME, RECEIVER_NAME, MSGID, REPLYID, SUBJECT}
+use Rattle.jb_bytes.specs.declared.subfield.TheConstants.{SUBJECT}
 use Rattle.jb_base.specs.declared.user.User.{User}
 use Rattle.jb_link.specs.Parents.{copied_msgid, parent_behind}
-use Rattle.jb_model.specs.Post.{Draft, id_crc, plain_field, posted_attribute, posted_msgid, fields_with, head_with}
+use Rattle.jb_model.specs.Post.{Draft, posted_msgid, fields_with, head_with}
 use Rattle.jb_model.specs.declared.command.Command.{Command}
 use Rattle.jb_model.specs.declared.command.Command.TheVariants.{Edit, Post}
 use Rattle.jb_state.specs.Edited.{with_subject}

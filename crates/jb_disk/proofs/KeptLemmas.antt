@@ -1,5 +1,5 @@
 -- What stands in the buffer stays as more is put behind it.
-use Rattle.std.proofs.Common.{◌≡◌, ℕ, ◌+◌, ◌≤◌, List, [], ◌∷◌, ◌++◌, length, map, refl, ◌∙◌, ap, arith, true, false, Bool, length-append}
+use Rattle.std.proofs.Common.{◌≡◌, ℕ, ◌+◌, ◌^◌, ◌<◌, ◌≤◌, List, [], ◌∷◌, ◌++◌, length, map, refl, ◌∙◌, ap, arith, true, false, Bool, length-append}
 use Rattle.std.specs.Prelude.{All, slice_range, sum_by, if◌then◌else◌}
 use Rattle.std.proofs.lemmas.List.{places, same_lists, map-append}
 use Rattle.std.proofs.lemmas.List.Sums.{sum_by-cons, sum_by_push}
@@ -46,7 +46,7 @@ pub fits-append : (buffer more : List ℕ) (kept : List Kept) → All (KeptFits 
 fits-append buffer more kept fits = λ k d low.
     let was = fits k d low in
     let within = was.within in
-    record { within = grind (arith, places); plain = was.plain }
+    record { within = grind (arith, places); placed = was.placed; plain = was.plain }
 
 -- the bytes of a piece in the buffer
 size_at : (b : Bool) (from to : FileId) (from_at to_at len start : ℕ) (xs : List ℕ) → start + (if b then 0 else len) ≤ length xs
@@ -74,9 +74,13 @@ module _ (buffer bytes : List ℕ) (kept : List Kept) (file : FileId) (at len st
   new = written_kept file at len start
 
   -- it fits with the others
-  pub put-fits : All (KeptFits (buffer ++ bytes)) (kept ++ new ∷ [])
-  put-fits =
-      let last : KeptFits (buffer ++ bytes) new = record { within = omega (arith, starts, long, length-append buffer bytes); plain = λ _. (refl, refl) } in
+  pub put-fits : at + length bytes < 2 ^ 63 → All (KeptFits (buffer ++ bytes)) (kept ++ new ∷ [])
+  put-fits low =
+      let last : KeptFits (buffer ++ bytes) new = record {
+        within = omega (arith, starts, long, length-append buffer bytes);
+        placed = record { source = omega (arith, long); target = omega (arith, long) };
+        plain = λ _. (refl, refl);
+      } in
       All-append (KeptFits (buffer ++ bytes)) kept (new ∷ []) (fits-append buffer bytes kept fits) (All-cons (KeptFits (buffer ++ bytes)) new [] last (All-nil (KeptFits (buffer ++ bytes))))
 
   -- the pieces are the others and it
@@ -104,9 +108,9 @@ module _ (buffer : List ℕ) (kept : List Kept) (from : FileId) (from_at : ℕ) 
   copied = copied_kept from from_at to to_at len start
 
   -- it fits with the others
-  pub copy-fits : All (KeptFits buffer) (kept ++ copied ∷ [])
-  copy-fits =
-      let last : KeptFits buffer copied = record { within = omega (arith, starts); plain = λ is. absurd (not_false is) } in
+  pub copy-fits : from_at + len < 2 ^ 63 → to_at + len < 2 ^ 63 → All (KeptFits buffer) (kept ++ copied ∷ [])
+  copy-fits source target =
+      let last : KeptFits buffer copied = record { within = omega (arith, starts); placed = record { source = source; target = target }; plain = λ is. absurd (not_false is) } in
       All-append (KeptFits buffer) kept (copied ∷ []) fits (All-cons (KeptFits buffer) copied [] last (All-nil (KeptFits buffer)))
 
   -- the pieces are the others and it

@@ -1,6 +1,6 @@
 -- The six files of an area as lists of bytes.
 use Rattle.std.specs.Prelude.{◌≡◌, ◌≢◌, ℕ, ◌+◌, ◌<◌, ◌==◌, List, ◌++◌, length, take, drop, slice_index, if◌then◌else◌}
-use Rattle.jb_limits.specs.declared.limits.TheConstants.{HEADERS_CEILING, TEXTS_CEILING, INDEX_CEILING, LASTREAD_CEILING, JOURNAL_CEILING, SHADOW_CEILING}
+use Rattle.jb_limits.specs.declared.limits.TheConstants.{HEADERS_CEILING, TEXTS_CEILING, INDEX_CEILING, LASTREAD_CEILING, JOURNAL_CEILING, SHADOW_CEILING, FIRST_HEADERS_CEILING, FIRST_TEXTS_CEILING, FIRST_INDEX_CEILING}
 use Rattle.jb_disk.specs.declared.file.FileId.{FileId}
 use Rattle.jb_disk.specs.declared.file.FileId.TheVariants.{Jhr, Jdt, Jdx, Jlr, Jnl, Ndt}
 
@@ -25,6 +25,15 @@ ceiling_of Jdx = INDEX_CEILING
 ceiling_of Jlr = LASTREAD_CEILING
 ceiling_of Jnl = JOURNAL_CEILING
 ceiling_of Ndt = SHADOW_CEILING
+
+-- the greatest length that it had under the first version of the journal, which gives one to the first four alone
+abbrev pub first_ceiling_of : FileId → ℕ
+first_ceiling_of Jhr = FIRST_HEADERS_CEILING
+first_ceiling_of Jdt = FIRST_TEXTS_CEILING
+first_ceiling_of Jdx = FIRST_INDEX_CEILING
+first_ceiling_of Jlr = LASTREAD_CEILING
+first_ceiling_of Jnl = JOURNAL_CEILING
+first_ceiling_of Ndt = SHADOW_CEILING
 
 -- these files, with other bytes in one of them
 abbrev pub with_file : FileId → List ℕ → Files → Files

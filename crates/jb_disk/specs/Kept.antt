@@ -4,7 +4,7 @@ use Rattle.jb_disk.specs.declared.piece.Piece.{Piece}
 use Rattle.jb_disk.specs.declared.piece.Piece.TheVariants.{Bytes, Copy}
 use Rattle.jb_disk.specs.declared.redo.Kept.{Kept}
 use Rattle.jb_disk.specs.declared.redo.Redo.TheInside.{Inside}
-use Rattle.jb_disk.specs.RedoView.{RedoView}
+use Rattle.jb_disk.specs.RedoView.{RedoView, IsPlaced}
 
 -- the piece that is kept so
 abbrev pub piece_of : List ℕ → Kept → Piece
@@ -16,9 +16,10 @@ piece_of buffer kept =
 abbrev pub kept_size : Kept → ℕ
 kept_size kept = if kept.head.copy then 0 else kept.head.len
 
--- its bytes stand within the buffer, and a piece that is no copy is copied from nowhere
+-- its bytes stand within the buffer, its ends are low, and a piece that is no copy is copied from nowhere
 pub record KeptFits (buffer : List ℕ) (kept : Kept) : Type 0 where
   pub within : kept.start + kept_size kept ≤ length buffer
+  pub placed : IsPlaced kept.head
   pub plain : kept.head.copy ≡ false → (kept.head.from ≡ kept.head.to) × (kept.head.from_at ≡ 0)
 
 -- the change that stands so

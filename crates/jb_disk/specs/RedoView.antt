@@ -1,5 +1,5 @@
 -- A change of files, as callers see it: the lengths, the pieces, and the room that is spare.
-use Rattle.std.specs.Prelude.{◌≡◌, ℕ, ◌+◌, ◌≤◌, List, [], length, true, false, sum_by}
+use Rattle.std.specs.Prelude.{◌≡◌, ℕ, ◌+◌, ◌^◌, ◌<◌, ◌≤◌, List, [], length, true, false, sum_by}
 use Rattle.jb_disk.specs.declared.piece.Length.{Length}
 use Rattle.jb_disk.specs.declared.piece.Piece.{Piece}
 use Rattle.jb_disk.specs.declared.piece.Piece.TheVariants.{Bytes, Copy}
@@ -17,6 +17,11 @@ pub record RedoView : Type 0 where
 abbrev pub piece_head : Piece → PieceHead
 piece_head (Bytes file at bytes) = record { copy = false; from = file; from_at = 0; to = file; to_at = at; len = length bytes }
 piece_head (Copy from from_at to to_at len) = record { copy = true; from = from; from_at = from_at; to = to; to_at = to_at; len = len }
+
+-- both ends of a piece, in the file it is copied from and in the file it goes into, are below this, so that no place wraps
+pub record IsPlaced (head : PieceHead) : Type 0 where
+  pub source : head.from_at + head.len < 2 ^ 63
+  pub target : head.to_at + head.len < 2 ^ 63
 
 -- the bytes that a piece brings with it
 abbrev pub bytes_of : Piece → List ℕ

@@ -15,6 +15,7 @@ mod silent;
 mod six;
 mod steady;
 mod trace;
+mod version;
 
 pub use call::Call;
 pub use disk::{Disk, DiskFailed};
@@ -24,3 +25,4 @@ pub use piece::{Length, Piece, PieceHead};
 pub use redo::Redo;
 pub use silent::{SilentDisk, counted};
 pub use steady::SteadyDisk;
+pub use version::Version;

@@ -7,22 +7,22 @@ use jb_bytes::Bytes;
 #[derive(Clone, Copy)]
 pub struct Length {
     pub file: FileId,
-    pub len: u32,
+    pub len: u64,
 }
 
 /// Bytes that are written into a file: given ones, or some that another file holds.
 pub enum Piece {
     Bytes {
         file: FileId,
-        at: u32,
+        at: u64,
         bytes: Bytes,
     },
     Copy {
         from: FileId,
-        from_at: u32,
+        from_at: u64,
         to: FileId,
-        to_at: u32,
-        len: u32,
+        to_at: u64,
+        len: u64,
     },
 }
 
@@ -51,8 +51,8 @@ impl Drop for Piece {
 pub struct PieceHead {
     pub copy: bool,
     pub from: FileId,
-    pub from_at: u32,
+    pub from_at: u64,
     pub to: FileId,
-    pub to_at: u32,
-    pub len: u32,
+    pub to_at: u64,
+    pub len: u64,
 }

@@ -2,7 +2,7 @@
 ghost use Rattle.std.specs.Prelude.{◌≡◌, ◌+◌, ◌<◌, ◌≤◌, ◌^◌, [], ◌∷◌, ◌++◌, Some, length, sum_by, slice_get, OnOk};
 ghost use Rattle.std.specs.Option.{option_map};
 ghost use Rattle.jb_disk.specs.declared.piece.Piece.TheVariants.{Bytes, Copy};
-ghost use Rattle.jb_disk.specs.RedoView.{piece_head, bytes_of, held_by, HasRoom, Spends, SameLists};
+ghost use Rattle.jb_disk.specs.RedoView.{piece_head, bytes_of, held_by, IsPlaced, HasRoom, Spends, SameLists};
 
 use crate::{FileId, Length, PieceHead};
 use jb_bytes::OutOfMemory;
@@ -10,7 +10,7 @@ use std::alloc::Global;
 use std::marker::Model;
 
 /// New lengths and pieces, with spare room for more. The bytes of all pieces stand in one buffer, one after another, so
-/// that a change made anew in the same room takes no memory.
+/// that a change made anew in the same room takes no memory. Each piece ends below 2^63 in each of its files.
 pub struct Redo {
     lengths: Vec<Length>,
     kept: Vec<Kept>,
@@ -104,10 +104,10 @@ impl Redo {
     }
 
     /// A piece with its bytes behind the others.
-    pub fn put_bytes(&mut self, file: FileId, at: u32, bytes: &[u8])
+    pub fn put_bytes(&mut self, file: FileId, at: u64, bytes: &[u8])
         requires some { 0 < self.old.spare_pieces }
         requires fits { length bytes.now ≤ self.old.spare_bytes }
-        requires short { length bytes.now < 2 ^ 32 }
+        requires low { at + length bytes.now < 2 ^ 63 }
 
         // The piece is the last one, and costs no more room than its own.
         ensures lengths { self.new.lengths ≡ self.old.lengths }
@@ -120,7 +120,7 @@ impl Redo {
             from_at: 0,
             to: file,
             to_at: at,
-            len: bytes.len() as u32,
+            len: bytes.len() as u64,
         };
         let start = self.buffer.len();
         let Ok(()) = self.buffer.extend_from_slice(bytes) else {
@@ -132,8 +132,10 @@ impl Redo {
     }
 
     /// A piece that is copied from a file, behind the others.
-    pub fn put_copy(&mut self, from: FileId, from_at: u32, to: FileId, to_at: u32, len: u32)
-        requires { 0 < self.old.spare_pieces }
+    pub fn put_copy(&mut self, from: FileId, from_at: u64, to: FileId, to_at: u64, len: u64)
+        requires some { 0 < self.old.spare_pieces }
+        requires source { from_at + len < 2 ^ 63 }
+        requires target { to_at + len < 2 ^ 63 }
         ensures lengths { self.new.lengths ≡ self.old.lengths }
         ensures pieces { self.new.pieces ≡ self.old.pieces ++ Copy from from_at to to_at len ∷ [] }
         ensures room { Spends 0 1 0 self.old self.new }
@@ -169,7 +171,8 @@ impl Redo {
     /// A piece without its bytes, by its number from 0.
     pub fn head(&self, k: u32) -> PieceHead
         requires { k < length self.now.pieces }
-        ensures { Some result ≡ option_map piece_head (slice_get self.now.pieces k) }
+        ensures found { Some result ≡ option_map piece_head (slice_get self.now.pieces k) }
+        ensures placed { IsPlaced result }
     {
         self.kept[k as usize].head
     }

@@ -33,19 +33,19 @@ pub record BringsWider (room : Room) (loaded : Loaded) : Type 0 where
   pub index_room : IsWider (length loaded.slots) (length loaded.slots + index.room)
   pub slot_room : IsWider (length loaded.slots) places
 
--- that, where no room may be left
+-- that, where there are as many slots as a power of two
 abbrev pub BringsWhere : Bool → Room → Loaded → Type 0
 BringsWhere false room loaded = room ≡ no_room
 BringsWhere true room loaded = BringsWider room loaded
 
 -- a pack brings its index; a post brings more room where there are as many slots as a power of two; any other change brings nothing
-abbrev pub HasRoom : Change → Room → Loaded → Type 0
-HasRoom (Packed plan base) room loaded = BringsPacked room loaded
-HasRoom (Posted message neighbour) room loaded = BringsWhere (is_power_of_two (length loaded.slots)) room loaded
-HasRoom _ room loaded = room ≡ no_room
+abbrev pub BringsRoom : Change → Room → Loaded → Type 0
+BringsRoom (Packed plan base) room loaded = BringsPacked room loaded
+BringsRoom (Posted message neighbour) room loaded = BringsWhere (is_power_of_two (length loaded.slots)) room loaded
+BringsRoom _ room loaded = room ≡ no_room
 
 -- what is pending may be done in the area
 pub record MayApply (pending : Pending) (loaded : Loaded) : Type 0 where
   pub sound : IsSound MOST_SLOTS loaded
   pub fits : Fits MOST_SLOTS pending.change loaded
-  pub room : HasRoom pending.change pending.room loaded
+  pub room : BringsRoom pending.change pending.room loaded

@@ -43,7 +43,7 @@ fn set_neighbour(loaded: &mut Loaded, neighbour: Option<HeadAt>)
     }
 }
 
-/// Puts a message behind the others, where no place is free among these.
+/// Puts a message behind the others, into more places where these have none left.
 fn add_message(loaded: &mut Loaded, message: LoadedMessage, wider: Option<SlotRoom>)
     requires place { HasPlaceBeside (length loaded.old.slots) wider }
     requires headers { loaded.old.headers_len + header_size message ≤ HEADERS_CEILING }

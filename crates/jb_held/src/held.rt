@@ -10,7 +10,7 @@ ghost use Rattle.jb_state.specs.Places.{IsPlaceOf};
 ghost use Rattle.jb_state.specs.Room.{IsWider};
 ghost use Rattle.jb_state.specs.Sound.{IsSound};
 ghost use Rattle.jb_state.specs.declared.change.Change.TheVariants.{Edited, Headed, Killed, Marked, Packed, Posted, Relinked};
-ghost use Rattle.jb_held.specs.Pending.{BringsPacked, BringsWhere, BringsWider, HasRoom, MayApply};
+ghost use Rattle.jb_held.specs.Pending.{BringsPacked, BringsWhere, BringsWider, BringsRoom, MayApply};
 
 use crate::applying::{
     count_change, kill_message, post_message, replace_message, set_head, set_loaded_mark, set_plan,
@@ -140,7 +140,7 @@ impl HeldArea {
     pub fn room_for(&self, alloc: Global, change: &Change) -> Result<Room, OutOfMemory>
         requires sound { IsSound MOST_SLOTS self.now }
         requires fits { Fits MOST_SLOTS change.now self.now }
-        ensures { IfOk result (λ room. HasRoom change.now room self.now) }
+        ensures { IfOk result (λ room. BringsRoom change.now room self.now) }
     {
         match change {
             Change::Nothing => Ok(Room::none()),
@@ -154,7 +154,8 @@ impl HeldArea {
         }
     }
 
-    /// What a post brings: nothing, or where no room may be left the index of the replies, with more room, and more places for slots.
+    /// What a post brings: nothing, or where there are as many slots as a power of two the index of the replies, with more room, and
+    /// more places for slots.
     fn room_for_post(&self, alloc: Global) -> Result<Room, OutOfMemory>
         requires sound { IsSound MOST_SLOTS self.now }
         ensures { IfOk result (λ room. BringsWhere (is_power_of_two (length self.now.slots)) room self.now) }
@@ -229,7 +230,7 @@ impl HeldArea {
     /// Puts a message behind the others, in the room that it brings where there is none.
     fn post(&mut self, message: LoadedMessage, neighbour: Option<HeadAt>, room: Room)
         requires fits { Fits MOST_SLOTS (Posted message neighbour) self.old }
-        requires room { HasRoom (Posted message neighbour) room self.old }
+        requires room { BringsRoom (Posted message neighbour) room self.old }
         ensures { self.new ≡ after (Posted message neighbour) self.old }
     {
         let Room { replies, slots } = room;
@@ -297,7 +298,7 @@ impl HeldArea {
     fn pack(&mut self, plan: &[Links], base: u32, room: Room)
         requires sound { IsSound MOST_SLOTS self.old }
         requires fits { Fits MOST_SLOTS (Packed plan.now base) self.old }
-        requires room { HasRoom (Packed plan.now base) room self.old }
+        requires room { BringsRoom (Packed plan.now base) room self.old }
         ensures { self.new ≡ after (Packed plan.now base) self.old }
     {
         let Room {

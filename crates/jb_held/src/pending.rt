@@ -6,7 +6,7 @@ use jb_link::Replies;
 use jb_state::{Change, SlotRoom};
 
 /// The memory that a change brings with it, so that it takes none when it is done: a pack the index of the area's replies then; a
-/// post, where no room may be left, the index with more room, and more places for slots; any other change nothing.
+/// post, where there are as many slots as a power of two, the index with more room, and more places for slots; any other change nothing.
 #[derive(Drop)]
 pub struct Room {
     pub replies: Option<Replies>,

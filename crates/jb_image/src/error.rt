@@ -28,7 +28,7 @@ pub enum OpenError {
     TooManySlots,
     /// Basemsgnum and the number of index records together are above 4,294,967,295.
     NumberRange,
-    /// The header of this number begins before byte 1,024 or ends past the end of .JHR or past 134,217,728 bytes, with
+    /// The header of this number begins before byte 1,024 or ends past the end of .JHR or past 536,870,912 bytes, with
     /// its subfields where it is live; or a live message's SubfieldLen is above 262,144.
     HeaderPlace { number: u32 },
     /// The header of this number does not begin with `JAM` and a zero byte (JAM, "Message header").
@@ -39,7 +39,7 @@ pub enum OpenError {
     /// beginning of the first (JAM, "SubFields").
     Subfields { number: u32, at: u32 },
     /// The text of this live message has more than 1,048,576 bytes, or it has some and ends past the end of .JDT or
-    /// past 67,108,864 bytes.
+    /// past 1,073,741,824 bytes.
     TextPlace { number: u32 },
     /// The headers of these numbers share a byte: `b` is the lowest number that shares one with a lower number, and `a`
     /// the lowest that shares one with `b`.

@@ -1,4 +1,4 @@
--- Moments that come one call moments_after another.
+-- Moments that come one call after another.
 use Rattle.std.proofs.Common.{◌≡◌, ℕ, List, [], ◌∷◌, ◌++◌, Option, Some, None, Result, Ok, Err, OnOk, refl, sym, ◌∙◌, ap, subst, append-nil}
 use Rattle.jb_disk.specs.declared.file.FileId.{FileId}
 use Rattle.jb_disk.specs.declared.piece.Length.{Length}
@@ -9,7 +9,7 @@ use Rattle.jb_disk.specs.declared.piece.Piece.{Piece}
 use Rattle.jb_disk.specs.declared.file.FileId.TheVariants.{Jhr, Jdt, Jdx, Jlr, Jnl}
 use Rattle.jb_journal.specs.Coming.{Done, Wrote, Resized, Synced, ComeBy, SyncsIfChanged, SyncsChanged, made_by, moments_after, lengths_of, syncs_of}
 
--- one run of calls moments_after another
+-- one run of calls after another
 after-append : (calls more : List Done) (moments : List Images) → moments_after (calls ++ more) moments ≡ moments_after more (moments_after calls moments)
 after-append [] more moments = refl
 after-append (call ∷ calls) more moments = after-append calls more (and_then (made_by call) moments)

@@ -1,4 +1,4 @@
--- Bytes copied_over part by part from one file into another.
+-- Bytes copied part by part from one file into another.
 use Rattle.std.proofs.Common.{◌≡◌, ◌≢◌, ℕ, ◌+◌, ◌-◌, ◌≤◌, List, [], ◌++◌, length, take, drop, refl, ap, sym, ◌∙◌, subst, arith, Some, Result, OnOk, length-take, length-drop}
 use Rattle.std.specs.Option.{ForSome, option_map}
 use Rattle.std.proofs.lemmas.List.{same_lists, places}
@@ -37,11 +37,11 @@ part_keeps lengths pieces start file at len bytes old mid new result reads tells
 take-parts : (xs : List ℕ) (n m : ℕ) → take n xs ++ take m (drop n xs) ≡ take (n + m) xs
 take-parts xs n m = same_lists _ _ (grind (arith, places)) (λ k d h. grind (arith, places))
 
--- the rest of what is to be copied_over
+-- the rest of what is to be copied
 abbrev pub rest_of : FileId → ℕ → FileId → ℕ → ℕ → ℕ → Files → Files
 rest_of from from_at to to_at len moved files = copied_over from (from_at + moved) to (to_at + moved) (len - moved) files
 
--- a part copied_over, and then the rest
+-- a part copied, and then the rest
 copied-more : (from to : FileId) (from_at to_at len moved count : ℕ) (files : Files) → from ≢ to → moved + count ≤ len → from_at + len ≤ length (files from) → to_at + len ≤ length (files to)
     → rest_of from from_at to to_at len (moved + count) (copied_over from (from_at + moved) to (to_at + moved) count files) ≡ rest_of from from_at to to_at len moved files
 copied-more from to from_at to_at len moved count files apart within source target =
@@ -61,7 +61,7 @@ copied-more from to from_at to_at len moved count files apart within source targ
     parts : (xs : List ℕ) → take count (drop (from_at + moved) xs) ++ take (len - (moved + count)) (drop (from_at + (moved + count)) xs) ≡ take (len - moved) (drop (from_at + moved) xs)
     parts xs = same_lists _ _ (grind (arith, places)) (λ k d h. grind (arith, places))
 
--- the rest is still to be copied_over
+-- the rest is still to be copied
 pub record Moving (initial now : Device) (from : FileId) (from_at : ℕ) (to : FileId) (to_at len moved : ℕ) : Type 0 where
   pub within : moved ≤ len
   pub told : option_map (rest_of from from_at to to_at len moved) now.contents ≡ option_map (copied_over from from_at to to_at len) initial.contents
@@ -73,7 +73,7 @@ pub record Moving (initial now : Device) (from : FileId) (from_at : ℕ) (to : F
   pub alike : TellsAlike initial now
   pub keeps : (lengths : List Length) (pieces : List Piece) (start : Files) → IsWrittenBy start pieces to to_at len → Keeps (IsOnTheWay lengths pieces start) initial now
 
--- nothing is copied_over yet
+-- nothing is copied yet
 pub moving_start : (device : Device) (from : FileId) (from_at : ℕ) (to : FileId) (to_at len : ℕ) → ForSome device.contents (λ files. from ≢ to) → Reaches device.contents from (from_at + len) → Reaches device.contents to (to_at + len)
     → Moving device device from from_at to to_at len 0
 moving_start device from from_at to to_at len apart source target = record {
@@ -152,7 +152,7 @@ moving_failed initial now next from from_at to to_at len moved count part moving
     keeps-then (IsOnTheWay lengths pieces start) initial now next (moving.keeps lengths pieces start covers)
     (keeps lengths pieces start (λ i over under. covers i (omega (arith, over)) (omega (arith, under, size))))
 
--- all is copied_over
+-- all is copied
 pub moving_end : (initial now : Device) (from : FileId) (from_at : ℕ) (to : FileId) (to_at len moved : ℕ) → Moving initial now from from_at to to_at len moved → len ≤ moved
     → now.contents ≡ option_map (copied_over from from_at to to_at len) initial.contents
 moving_end initial now from from_at to to_at len moved moving all =

@@ -1,5 +1,6 @@
 -- What the third stage comes to.
 use Rattle.std.proofs.Common.{◌≡◌, ◌≢◌, inl, inr, ℕ, ◌≤◌, List, [], ◌∷◌, All, length, refl, ap, sym, ◌∙◌, subst, arith, Option, Some, None, get_or}
+use Rattle.jb_disk.specs.declared.version.Version.TheVariants.{Two}
 use Rattle.std.specs.Option.{ForSome, option_map}
 use Rattle.std.proofs.lemmas.Bool.{cases_lt}
 use Rattle.std.proofs.lemmas.List.Elements.{All-head, All-tail}
@@ -45,7 +46,7 @@ unmentioned_same lengths pieces file start now none way =
     })
 
 -- pieces of a legal change have their place once the lengths are set
-pub pieces_place : (lengths : List Length) (pieces : List Piece) (now mid : Option Files) → Turns (HaveNewLengths lengths) now mid → ForSome now (λ files. IsLegalRecord (sizes_of files) lengths pieces) → ForSome mid (λ files. All (HasPlace files) pieces)
+pub pieces_place : (lengths : List Length) (pieces : List Piece) (now mid : Option Files) → Turns (HaveNewLengths lengths) now mid → ForSome now (λ files. IsLegalRecord Two (sizes_of files) lengths pieces) → ForSome mid (λ files. All (HasPlace files) pieces)
 pieces_place lengths pieces None None turns legal = λ files there. absurd (cc)
 pieces_place lengths pieces None (Some m) turns legal = absurd turns
 pieces_place lengths pieces (Some a) None turns legal = absurd turns
@@ -55,7 +56,7 @@ pieces_place lengths pieces (Some a) (Some m) turns legal = λ files there k d l
     let sizes : (file : FileId) → new_sizes lengths (sizes_of a) file ≡ length (m file) = λ file. sym (turns file).size in
     subst (λ (x : Files). HasPlace x (get_or pieces k d)) same (by_piece (get_or pieces k d) is sizes (is.pieces_are.each k d low))
   where
-    by_piece : (piece : Piece) → IsLegalRecord (sizes_of a) lengths pieces → ((file : FileId) → new_sizes lengths (sizes_of a) file ≡ length (m file)) → IsLegalPiece (sizes_of a) (new_sizes lengths (sizes_of a)) piece → HasPlace m piece
+    by_piece : (piece : Piece) → IsLegalRecord Two (sizes_of a) lengths pieces → ((file : FileId) → new_sizes lengths (sizes_of a) file ≡ length (m file)) → IsLegalPiece Two (sizes_of a) (new_sizes lengths (sizes_of a)) piece → HasPlace m piece
     by_piece (Bytes file at bytes) is sizes legal =
         let within = legal.within in
         record { of_base = legal.of_base; place = legal.place; size = legal.size; within = omega (arith, sizes file) }
@@ -74,7 +75,7 @@ pieces_place lengths pieces (Some a) (Some m) turns legal = λ files there k d l
         }
 
 -- files on their way, with the lengths set and then the pieces written
-applied_from : (lengths : List Length) (pieces : List Piece) (start now mid : Files) → IsLegalRecord (sizes_of start) lengths pieces → IsGrowthCovered lengths pieces start → IsOnTheWay lengths pieces start now → HaveNewLengths lengths now mid
+applied_from : (lengths : List Length) (pieces : List Piece) (start now mid : Files) → IsLegalRecord Two (sizes_of start) lengths pieces → IsGrowthCovered lengths pieces start → IsOnTheWay lengths pieces start now → HaveNewLengths lengths now mid
     → with_pieces pieces mid ≡ applied lengths pieces start
 applied_from lengths pieces start now mid legal grown way resized = same_files _ _ (λ file.
     let ends = new_sizes lengths (sizes_of start) in
@@ -82,23 +83,23 @@ applied_from lengths pieces start now mid legal grown way resized = same_files _
     let high : 4 ≤ file_number Ndt = omega arith in
     let shadow_now : now Ndt ≡ start Ndt = way_kept lengths pieces start legal now way Ndt high in
     let shadow_mid : mid Ndt ≡ now Ndt = resized_same _ (now Ndt) (mid Ndt) (not_given lengths (sizes_of now) Ndt legal.lengths_are.each high) (resized Ndt) in
-    let spans : spans_in mid pieces file ≡ spans_in start pieces file = spans_same (sizes_of start) ends mid start pieces file each (shadow_mid ∙ shadow_now) in
+    let spans : spans_in mid pieces file ≡ spans_in start pieces file = spans_same Two (sizes_of start) ends mid start pieces file each (shadow_mid ∙ shadow_now) in
     let here : IsResized (ends file) (now file) (mid file) = subst (λ (n : ℕ). IsResized n (now file) (mid file)) (way_ends lengths pieces start legal now way file) (resized file) in
     pieces-patched pieces (sizes_of start) ends mid file each
     ∙ ap (λ (l : List Span). patched l (mid file)) spans
     ∙ between_patched (ends file) (spans_in start pieces file) (start file) (now file) (mid file) (of_length (ends file) (start file))
-    (spans_within start ends pieces file each) (way file) here (resized_with_zeros (ends file) (start file)) (grown file))
+    (spans_within Two start ends pieces file each) (way file) here (resized_with_zeros (ends file) (start file)) (grown file))
 
 -- what is told at the end
 pub told_applied : (lengths : List Length) (pieces : List Piece) (start : Files) (o mid after : Option Files) → Turns (HaveNewLengths lengths) o mid → after ≡ option_map (with_pieces pieces) mid
-    → IsLegalRecord (sizes_of start) lengths pieces → IsGrowthCovered lengths pieces start → ForSome o (IsOnTheWay lengths pieces start) → after ≡ option_map (λ files. applied lengths pieces start) o
+    → IsLegalRecord Two (sizes_of start) lengths pieces → IsGrowthCovered lengths pieces start → ForSome o (IsOnTheWay lengths pieces start) → after ≡ option_map (λ files. applied lengths pieces start) o
 told_applied lengths pieces start None None after turns told legal grown way = told
 told_applied lengths pieces start None (Some m) after turns told legal grown way = absurd turns
 told_applied lengths pieces start (Some a) None after turns told legal grown way = absurd turns
 told_applied lengths pieces start (Some a) (Some m) after turns told legal grown way = told ∙ ap Some (applied_from lengths pieces start a m legal grown (way a refl) turns)
 
 -- files on their way that agree in the files of the base are the same
-pub same_on_way : (lengths : List Length) (pieces : List Piece) (start final left : Files) → IsLegalRecord (sizes_of start) lengths pieces → IsOnTheWay lengths pieces start final → IsOnTheWay lengths pieces start left → AgreeBelow 4 final left → left ≡ final
+pub same_on_way : (lengths : List Length) (pieces : List Piece) (start final left : Files) → IsLegalRecord Two (sizes_of start) lengths pieces → IsOnTheWay lengths pieces start final → IsOnTheWay lengths pieces start left → AgreeBelow 4 final left → left ≡ final
 same_on_way lengths pieces start final left legal way_final way_left agree = same_files left final (λ file. elim (cases_lt (file_number file) 4) [
   | inl low ↦ agree file low
   | inr high ↦ way_kept lengths pieces start legal left way_left file high ∙ sym (way_kept lengths pieces start legal final way_final file high)

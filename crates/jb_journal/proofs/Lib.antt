@@ -8,7 +8,7 @@ mod OpenedLemmas
 mod OpeningLemmas
 mod Patching
 mod PieceLemmas
-mod PrepareLemmas
+pub mod PrepareLemmas
 mod PutsLemmas
 mod ReadyLemmas
 mod RecordAndOpen

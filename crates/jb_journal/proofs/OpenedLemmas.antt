@@ -1,5 +1,6 @@
 -- Files with the gate open before a change's record, and files on their way from them.
-use Rattle.std.proofs.Common.{◌≡◌, ◌≢◌, inl, inr, zero, suc, ℕ, ◌≤◌, List, [], ◌∷◌, length, refl, ap, sym, ◌∙◌, subst, arith}
+use Rattle.std.proofs.Common.{◌≡◌, inl, inr, zero, suc, ℕ, ◌≤◌, List, [], ◌∷◌, length, refl, ap, sym, ◌∙◌, subst, arith}
+use Rattle.jb_disk.specs.declared.version.Version.TheVariants.{Two}
 use Rattle.std.specs.Prelude.{slice_index}
 use Rattle.std.proofs.lemmas.Bool.{cases_eq}
 use Rattle.std.proofs.lemmas.List.{same_lists, get_or_default}
@@ -9,7 +10,8 @@ use Rattle.jb_disk.specs.RedoView.{RedoView}
 use Rattle.jb_disk.specs.Files.{Files, file_number, overwritten, written}
 use Rattle.jb_disk.specs.FileLaws.{same_file, same_files, with_file-here, with_file-other, length-overwritten}
 use Rattle.jb_disk.specs.ImageLaws.{get-behind}
-use Rattle.jb_disk.specs.Gate.{IsGateOpen}
+use Rattle.jb_disk.specs.declared.version.Version.{Version}
+use Rattle.jb_disk.specs.Gate.{IsGateOpen, IsShut, version_by, version_of, version_number}
 use Rattle.jb_redo.specs.Replay.{spans_in}
 use Rattle.jb_redo.specs.Rules.{sizes_of, new_sizes, IsLegalRecord}
 use Rattle.jb_redo.proofs.SpanLemmas.{spans_within}
@@ -27,8 +29,8 @@ journal_high = omega arith
 pub shut_replays : (base files : Files) → (IsGateOpen files → ⊥) → AgreeButJournal files base → ReplaysTo base files
 shut_replays base files shut same = record { after = files; replays = inl (shut, refl); same = same }
 
--- a gate byte that is not 1
-pub not_one : (files : Files) → slice_index (files Jnl) 0 ≢ 1 → IsGateOpen files → ⊥
+-- a gate byte that is not that of the version
+pub not_one : (files : Files) → IsShut files → IsGateOpen files → ⊥
 not_one files other is_open = other is_open.gate
 
 -- two journals that agree behind the gate, and at it
@@ -58,10 +60,6 @@ module _ (change : RedoView) (from : Files) (is : IsOpened change from) where
   pub going_journal : (files : Files) → IsGoing change from files → files Jnl ≡ from Jnl
   going_journal files way = way_kept change.lengths change.pieces from is.has.legal files way Jnl journal_high
 
-  -- the record keeps its rules
-  pub going_legal : (files : Files) → IsGoing change from files → IsLegalRecord (sizes_of files) change.lengths change.pieces
-  going_legal files way = way_legal change.lengths change.pieces from is.has.legal files way
-
   -- files on their way replay to the change
   pub going_replays : (files : Files) → IsGoing change from files → ReplaysTo (changed change from) files
   going_replays files way = record {
@@ -73,7 +71,7 @@ module _ (change : RedoView) (from : Files) (is : IsOpened change from) where
   -- the change done is on the way
   pub way_done : IsGoing change from (changed change from)
   way_done file = between_patched_end (new_sizes change.lengths (sizes_of from) file) (spans_in from change.pieces file) (from file)
-      (spans_within from (new_sizes change.lengths (sizes_of from)) change.pieces file is.has.legal.pieces_are.each)
+      (spans_within (version_of from) from (new_sizes change.lengths (sizes_of from)) change.pieces file is.has.legal.pieces_are.each)
 
   -- so the journal is as it was
   pub done_journal : changed change from Jnl ≡ from Jnl
@@ -83,17 +81,21 @@ module _ (change : RedoView) (from : Files) (is : IsOpened change from) where
   pub done_some : 1 ≤ length (changed change from Jnl)
   done_some = let longer = is.gate.longer in omega (arith, ap length done_journal)
 
+  -- its gate is still the one of its version
+  done_gate : slice_index (changed change from Jnl) 0 ≡ version_number (version_of (changed change from))
+  done_gate = subst (λ (l : List ℕ). slice_index l 0 ≡ version_number (version_by (slice_index l 1))) (sym done_journal) is.gate.gate
+
   -- the gate that is being closed, still open
-  pub gate_still_open : (files : Files) → IsAtGate (changed change from) files → slice_index (files Jnl) 0 ≡ 1 → files ≡ changed change from
+  pub gate_still_open : (files : Files) → IsAtGate (changed change from) files → slice_index (files Jnl) 0 ≡ version_number (version_of files) → files ≡ changed change from
   gate_still_open files at one = same_files files (changed change from) (λ file. elim (same_file file Jnl) [
     | inl same ↦ subst (λ (f : FileId). files f ≡ changed change from f) (sym same)
-        (same_journal (files Jnl) (changed change from Jnl) at.size (one ∙ sym (ap (λ (l : List ℕ). slice_index l 0) done_journal ∙ is.gate.gate)) at.behind)
+        (same_journal (files Jnl) (changed change from Jnl) at.size (one ∙ ap (λ b. version_number (version_by b)) (at.behind 1 (omega arith)) ∙ sym done_gate) at.behind)
     | inr other ↦ at.same file other
   ])
 
   -- in either case they replay to the change
   pub closing_gate_replays : (files : Files) → IsAtGate (changed change from) files → ReplaysTo (changed change from) files
-  closing_gate_replays files at = elim (cases_eq (slice_index (files Jnl) 0) 1) [
+  closing_gate_replays files at = elim (cases_eq (slice_index (files Jnl) 0) (version_number (version_of files))) [
     | inl one ↦ subst (ReplaysTo (changed change from)) (sym (gate_still_open files at one)) (going_replays (changed change from) way_done)
     | inr other ↦ shut_replays (changed change from) files (not_one files other) at.same
   ]
@@ -115,7 +117,7 @@ module _ (change : RedoView) (from : Files) (is : IsOpened change from) where
   closing_replays files (inr at) = closing_gate_replays files (at_gate_back files at)
 
   -- with the gate open they are still on the way
-  pub closing_going : (files : Files) → IsClosing change from files → slice_index (files Jnl) 0 ≡ 1 → IsGoing change from files
+  pub closing_going : (files : Files) → IsClosing change from files → slice_index (files Jnl) 0 ≡ version_number (version_of files) → IsGoing change from files
   closing_going files (inl way) one = way
   closing_going files (inr at) one = subst (IsGoing change from) (sym (gate_still_open files (at_gate_back files at) one)) way_done
 
@@ -141,3 +143,22 @@ module _ (change : RedoView) (from : Files) (is : IsOpened change from) where
     | inl same ↦ subst (λ (f : FileId). files f ≡ closed change from f) (sym same) jnl
     | inr other ↦ at.same file other ∙ sym (closed-agrees file other)
   ])
+
+-- in a journal of the second version
+module _ (change : RedoView) (from : Files) (is : IsOpened change from) (two : version_of from ≡ Two) where
+  -- the record keeps the rules of the second version
+  pub legal_two : IsLegalRecord Two (sizes_of from) change.lengths change.pieces
+  legal_two = subst (λ (v : Version). IsLegalRecord v (sizes_of from) change.lengths change.pieces) two is.has.legal
+
+  -- so it does over files on their way
+  pub going_legal : (files : Files) → IsGoing change from files → IsLegalRecord Two (sizes_of files) change.lengths change.pieces
+  going_legal files way = way_legal change.lengths change.pieces from legal_two files way
+
+  -- the end has this version too
+  pub version-closed : version_of (closed change from) ≡ Two
+  version-closed =
+      ap version_by (
+      ap (λ (l : List ℕ). slice_index l 1) (with_file-here Jnl (overwritten 0 (0 ∷ []) (changed change from Jnl)) (changed change from))
+      ∙ get-behind 0 (0 ∷ []) (changed change from Jnl) (done_some change from is) 1 (omega arith)
+      ∙ ap (λ (l : List ℕ). slice_index l 1) (done_journal change from is)
+      ) ∙ two

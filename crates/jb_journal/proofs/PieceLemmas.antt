@@ -1,5 +1,6 @@
 -- Pieces written one after another.
 use Rattle.std.proofs.Common.{◌≡◌, ◌≢◌, inl, inr, zero, suc, ℕ, ◌+◌, ◌<◌, ◌≤◌, List, [], ◌∷◌, All, length, take, drop, get_or, refl, ap, sym, ◌∙◌, subst, arith, Option, Some, None, true, false, length-drop, Result, OnOk}
+use Rattle.jb_disk.specs.declared.version.Version.TheVariants.{Two}
 use Rattle.std.specs.Prelude.{slice_get}
 use Rattle.std.specs.Option.{ForSome, option_map}
 use Rattle.std.proofs.lemmas.Bool.{cases_eq}
@@ -86,7 +87,7 @@ pub bytes-room : (piece : Piece) (head : PieceHead) (bytes : List ℕ) (files : 
 bytes-room (Bytes file at given) head bytes files is copy same place = subst (λ (h : PieceHead). h.to_at + length bytes ≤ length (files h.to)) (sym is) (subst (λ (l : List ℕ). at + length l ≤ length (files file)) (sym same) place.within)
 bytes-room (Copy from from_at to to_at len) head bytes files is copy same place = absurd (not-false (sym (ap (λ (h : PieceHead). h.copy) is) ∙ copy))
 
--- what is copied_over has its length
+-- what is copied has its length
 copy-length : (len from_at : ℕ) (bytes : List ℕ) → from_at + len ≤ length bytes → length (take len (drop from_at bytes)) ≡ len
 copy-length len from_at bytes inside = length-take-le len (drop from_at bytes) (omega (arith, length-drop from_at bytes))
 
@@ -110,13 +111,13 @@ covered-at start (piece ∷ pieces) (suc k) d low i over under =
     ]
 
 -- so it is of a legal one, by its head
-pub covered-head : (start : Files) (lengths : List Length) (pieces : List Piece) (k : ℕ) (head : PieceHead) → IsLegalRecord (sizes_of start) lengths pieces → k < length pieces → head ≡ piece_head (nth_piece pieces k)
+pub covered-head : (start : Files) (lengths : List Length) (pieces : List Piece) (k : ℕ) (head : PieceHead) → IsLegalRecord Two (sizes_of start) lengths pieces → k < length pieces → head ≡ piece_head (nth_piece pieces k)
     → IsWrittenBy start pieces head.to head.to_at head.len
 covered-head start lengths pieces k head legal low is =
     subst (λ (h : PieceHead). IsWrittenBy start pieces h.to h.to_at h.len) (sym is)
     (by_piece (nth_piece pieces k) (legal.pieces_are.each k (Bytes Jhr 0 []) low) (covered-at start pieces k (Bytes Jhr 0 []) low))
   where
-    by_piece : (piece : Piece) → IsLegalPiece (sizes_of start) (new_sizes lengths (sizes_of start)) piece → IsWrittenBy start pieces (target_of piece) (span_of start piece).at (length (span_of start piece).bytes)
+    by_piece : (piece : Piece) → IsLegalPiece Two (sizes_of start) (new_sizes lengths (sizes_of start)) piece → IsWrittenBy start pieces (target_of piece) (span_of start piece).at (length (span_of start piece).bytes)
         → IsWrittenBy start pieces (piece_head piece).to (piece_head piece).to_at (piece_head piece).len
     by_piece (Bytes file at bytes) legal covers = covers
     by_piece (Copy from from_at to to_at len) legal covers = subst (λ (n : ℕ). IsWrittenBy start pieces to to_at n) (copy-length len from_at (start from) legal.inside) covers
@@ -146,7 +147,7 @@ pub record Putting (initial now : Device) (pending : Pending) (pieces rest : Lis
   pub come : ComeBy [] [] initial.moments now.moments
   pub counted : now.faults ≡ initial.faults
   pub alike : TellsAlike initial now
-  pub keeps : (lengths : List Length) (start : Files) → IsLegalRecord (sizes_of start) lengths pieces → IsFrom start pieces pending × Keeps (IsOnTheWay lengths pieces start) initial now
+  pub keeps : (lengths : List Length) (start : Files) → IsLegalRecord Two (sizes_of start) lengths pieces → IsFrom start pieces pending × Keeps (IsOnTheWay lengths pieces start) initial now
 
 -- none is put yet, and nothing is on its way to the beginning of a file
 pub putting_start : (device : Device) (pending : Pending) (pieces : List Piece) → pending ≡ record { file = Jhr; at = 0; bytes = [] } → ForSome device.contents (λ files. All (HasPlace files) pieces) → Putting device device pending pieces pieces
@@ -167,7 +168,7 @@ putting_place initial now pending pieces rest k putting low = λ files there. pu
 -- one piece more
 pub putting_on : (initial now next : Device) (pending coming : Pending) (pieces : List Piece) (k : ℕ) → Putting initial now pending pieces (drop k pieces) → k < length pieces
     → told_with coming next.contents ≡ option_map (with_piece (nth_piece pieces k)) (told_with pending now.contents) → StandsInFile coming next.contents → ComeBy [] [] now.moments next.moments → next.faults ≡ now.faults → TellsAlike now next
-    → ((lengths : List Length) (start : Files) → IsLegalRecord (sizes_of start) lengths pieces → IsFrom start pieces pending → IsFrom start pieces coming × Keeps (IsOnTheWay lengths pieces start) now next)
+    → ((lengths : List Length) (start : Files) → IsLegalRecord Two (sizes_of start) lengths pieces → IsFrom start pieces pending → IsFrom start pieces coming × Keeps (IsOnTheWay lengths pieces start) now next)
     → Putting initial next coming pieces (drop (k + 1) pieces)
 putting_on initial now next pending coming pieces k putting low told held come kept alike keeps =
     let piece = nth_piece pieces k in
@@ -184,7 +185,7 @@ putting_on initial now next pending coming pieces k putting low told held come k
           let back = told_back (told_with pending now.contents) (told_with coming next.contents) (with_piece piece) files told there in
           let was = putting.place back.0 back.1 in
           let same : sizes_of files ≡ sizes_of back.0 = ap sizes_of back.2 ∙ sizes-with piece back.0 (was k (Bytes Jhr 0 []) low) in
-          subst (λ (sizes : FileId → ℕ). All (IsLegalPiece sizes sizes) pieces) (sym same) was;
+          subst (λ (sizes : FileId → ℕ). All (IsLegalPiece Two sizes sizes) pieces) (sym same) was;
       counted = kept ∙ putting.counted;
       alike = alike ∙ putting.alike;
       keeps = λ lengths start legal.
@@ -204,17 +205,17 @@ putting_end initial now next pending coming pieces rest result putting none flus
     same (Some files) = refl
 
 -- what the pieces make of one file
-pub pieces-patched : (pieces : List Piece) (sizes ends : FileId → ℕ) (files : Files) (file : FileId) → All (IsLegalPiece sizes ends) pieces → with_pieces pieces files file ≡ patched (spans_in files pieces file) (files file)
+pub pieces-patched : (pieces : List Piece) (sizes ends : FileId → ℕ) (files : Files) (file : FileId) → All (IsLegalPiece Two sizes ends) pieces → with_pieces pieces files file ≡ patched (spans_in files pieces file) (files file)
 pieces-patched [] sizes ends files file legal = refl
 pieces-patched (piece ∷ pieces) sizes ends files file legal =
-    let rest_legal = All-tail (IsLegalPiece sizes ends) piece pieces legal in
-    let low = legal_target sizes ends piece (All-head (IsLegalPiece sizes ends) piece pieces legal) in
+    let rest_legal = All-tail (IsLegalPiece Two sizes ends) piece pieces legal in
+    let low = legal_target Two sizes ends piece (All-head (IsLegalPiece Two sizes ends) piece pieces legal) in
     let target = target_of piece in
     let span = span_of files piece in
     let next = with_piece piece files in
     let shadow : next Ndt ≡ files Ndt = with_file-other target Ndt _ files (λ is. let five : 5 ≡ file_number target = ap file_number is in omega (arith, low, five)) in
     let rest : with_pieces pieces next file ≡ patched (spans_in files pieces file) (next file) =
-    pieces-patched pieces sizes ends next file rest_legal ∙ ap (λ (l : List Span). patched l (next file)) (spans_same sizes ends next files pieces file rest_legal shadow) in
+    pieces-patched pieces sizes ends next file rest_legal ∙ ap (λ (l : List Span). patched l (next file)) (spans_same Two sizes ends next files pieces file rest_legal shadow) in
     elim (cases_eq (file_number target) (file_number file)) [
       | inl here ↦
           let is : next file ≡ overwritten span.at span.bytes (files file) =

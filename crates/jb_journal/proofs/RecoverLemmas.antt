@@ -12,7 +12,9 @@ use Rattle.jb_disk.specs.FileLaws.{same_file, same_files, with_file-here, with_f
 use Rattle.jb_disk.specs.Images.{Images}
 use Rattle.jb_disk.specs.Device.{Device, TellsAnImage}
 use Rattle.jb_disk.specs.Runs.{LeavesNow, Shows, Keeps, IsAllSynced}
-use Rattle.jb_disk.specs.Gate.{IsGateOpen, with_gate_closed}
+use Rattle.jb_disk.specs.declared.version.Version.{Version}
+use Rattle.jb_disk.specs.declared.version.Version.TheVariants.{One, Two}
+use Rattle.jb_disk.specs.Gate.{IsGateOpen, version_by, version_of, version_number, with_gate_closed}
 use Rattle.jb_redo.specs.OnTheWay.{IsOnTheWay}
 use Rattle.jb_redo.specs.Reading.{IsRecordOf}
 use Rattle.jb_redo.proofs.WayLemmas.{way_start, way_kept, way_replays, replays_to_applied, one_replay}
@@ -94,8 +96,11 @@ pub gate_shut : (files : Files) → IsGateOpen files → IsGateOpen (with_gate_c
 gate_shut files gate is_open =
     let zero : slice_index (with_gate_closed files Jnl) 0 ≡ 0 =
     ap (λ (l : List ℕ). slice_index l 0) (with_file-here Jnl (overwritten 0 (0 ∷ []) (files Jnl)) files) ∙ first_written 0 (files Jnl) (open_some files gate) in
-    let one : slice_index (with_gate_closed files Jnl) 0 ≡ 1 = is_open.gate in
-    omega (arith, zero, one)
+    not_zero (version_of (with_gate_closed files)) (sym zero ∙ is_open.gate)
+  where
+    not_zero : (version : Version) → 0 ≡ version_number version → ⊥
+    not_zero One is = omega (arith, is)
+    not_zero Two is = omega (arith, is)
 
 -- once the closed gate is synced, all is
 pub gate_synced : (device : Device) (files : Files) → device.contents ≡ Some (with_gate_closed files) → Shows (IsAtGate files) device → LeavesNow (λ left. left Jnl ≡ with_gate_closed files Jnl) device.moments → IsAllSynced device
@@ -126,7 +131,7 @@ module _ (was : Files) (lengths : List Length) (pieces : List Piece) (has : IsRe
   pub way_open : (files : Files) → IsOnTheWay lengths pieces was files → IsGateOpen files
   way_open files way =
       let same = way_high files way Jnl (omega arith) in
-      record { longer = subst (λ (l : List ℕ). 16 < length l) (sym same) gate.longer; gate = ap (λ (l : List ℕ). slice_index l 0) same ∙ gate.gate }
+      record { longer = subst (λ (l : List ℕ). 16 < length l) (sym same) gate.longer; gate = subst (λ (l : List ℕ). slice_index l 0 ≡ version_number (version_by (slice_index l 1))) (sym same) gate.gate }
 
   -- the files of the base are synced, and the others were: a crash leaves what is read
   pub shows_now : (device : Device) (now : Files) → device.contents ≡ Some now → Shows (IsOnTheWay lengths pieces was) device → LeavesNow (AgreeBelow 4 now) device.moments → Shows (λ files. files ≡ now) device

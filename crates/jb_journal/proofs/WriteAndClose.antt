@@ -3,7 +3,9 @@ use Rattle.std.proofs.Common.{◌≡◌, inr, ◌≤◌, [], ◌∷◌, length, 
 use Rattle.std.specs.Option.{ForSome, option_map}
 use Rattle.jb_disk.specs.declared.file.FileId.TheVariants.{Jnl}
 use Rattle.jb_disk.specs.RedoView.{RedoView}
+use Rattle.jb_disk.specs.declared.version.Version.TheVariants.{Two}
 use Rattle.jb_disk.specs.Files.{Files, written}
+use Rattle.jb_disk.specs.Gate.{version_of}
 use Rattle.jb_disk.specs.Device.{Device, TellsAnImage}
 use Rattle.jb_disk.specs.Runs.{LeavesNow, Runs, Shows, Keeps, IsAllSynced}
 use Rattle.jb_disk.proofs.RunLemmas.{runs-weaken}
@@ -66,7 +68,7 @@ module _ (change : RedoView) (from : Files) (is : IsOpened change from) (mid new
       (keeps.shows at_gate).left (durable back.0 back.1)
 
 -- there is a first byte in the journal once the change is done
-pub gate_room : (change : RedoView) (o after : Option Files) → (o ≡ None → after ≡ None) → ForSome o (IsUnderWay change) → ((from : Files) → IsOpened change from → ForSome o (IsGoing change from) → after ≡ option_map (λ files. changed change from) o)
+pub gate_room : (change : RedoView) (o after : Option Files) → (o ≡ None → after ≡ None) → ForSome o (IsUnderWay change) → ((from : Files) → IsOpened change from → version_of from ≡ Two → ForSome o (IsGoing change from) → after ≡ option_map (λ files. changed change from) o)
     → ForSome after (λ files. 1 ≤ length (files Jnl))
 gate_room change None after silent going told = λ files there. absurd (never files (sym (silent refl) ∙ there))
   where
@@ -74,5 +76,5 @@ gate_room change None after silent going told = λ files there. absurd (never fi
     never files is = cc
 gate_room change (Some now) after silent going told = λ files there.
     let under = going now refl in
-    let is = told_is (Some now) after (changed change under.from) (told under.from under.is (only_told (Some now) now (IsGoing change under.from) refl under.way)) files there in
+    let is = told_is (Some now) after (changed change under.from) (told under.from under.is under.two (only_told (Some now) now (IsGoing change under.from) refl under.way)) files there in
     subst (λ (x : Files). 1 ≤ length (x Jnl)) (sym is) (done_some change under.from under.is)

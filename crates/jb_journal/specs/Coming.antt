@@ -1,5 +1,5 @@
 -- The calls by which moments come.
-use Rattle.std.specs.Prelude.{◌≡◌, ◌⊎◌, ℕ, ◌+◌, List, [], ◌∷◌, ◌++◌, length}
+use Rattle.std.specs.Prelude.{◌≡◌, ◌⊎◌, ℕ, ◌+◌, List, [], ◌∷◌, ◌++◌}
 use Rattle.jb_disk.specs.declared.file.FileId.{FileId}
 use Rattle.jb_disk.specs.declared.file.FileId.TheVariants.{Jhr, Jdt, Jdx, Jlr, Jnl}
 use Rattle.jb_disk.specs.declared.piece.Length.{Length}
@@ -7,7 +7,7 @@ use Rattle.jb_disk.specs.declared.piece.Piece.{Piece}
 use Rattle.jb_disk.specs.RedoView.{RedoView}
 use Rattle.jb_disk.specs.Device.{and_then}
 use Rattle.jb_disk.specs.Images.{Images, just_synced, torn, cut, with_image}
-use Rattle.jb_redo.specs.Record.{record_bytes}
+use Rattle.jb_redo.specs.Changes.{record_size}
 use Rattle.jb_journal.specs.Filing.{IsUnmentioned}
 
 -- a call that was done, by what it makes of what a crash may leave
@@ -22,7 +22,7 @@ made_by (Wrote file at len) = with_image file (torn at len)
 made_by (Resized entry) = with_image entry.file (cut entry.len)
 made_by (Synced file bytes) = with_image file (λ _. just_synced bytes)
 
--- the moments moments_after these calls, in order
+-- the moments after these calls, in order
 abbrev pub moments_after : List Done → List Images → List Images
 moments_after [] moments = moments
 moments_after (call ∷ calls) moments = moments_after calls (and_then (made_by call) moments)
@@ -78,7 +78,7 @@ pub record SyncsChanged (front back : List FileId) (set lengths : List Length) (
 
 -- the journal's length with the record of a change
 abbrev pub journal_length : RedoView → Length
-journal_length change = record { file = Jnl; len = 16 + length (record_bytes change.lengths change.pieces) }
+journal_length change = record { file = Jnl; len = 16 + record_size change }
 
 -- the journal was synced with the record and with the gate open, then each file of which the change speaks, then the journal with the gate closed, and no other file
 abbrev pub HasSynced : RedoView → List Images → List Images → Type 0

@@ -1,5 +1,5 @@
 -- What a commit that was stopped leaves, and what settling makes of it.
-use Rattle.std.specs.Prelude.{◌≡◌, ◌≢◌, ◌⊎◌, ◌≤◌, Bool, length, slice_index, if◌then◌else◌}
+use Rattle.std.specs.Prelude.{◌≡◌, ◌⊎◌, ℕ, Bool, if◌then◌else◌}
 use Rattle.std.specs.Option.{ForSome}
 use Rattle.jb_disk.specs.declared.file.FileId.TheVariants.{Jnl}
 use Rattle.jb_disk.specs.RedoView.{RedoView}
@@ -10,29 +10,30 @@ use Rattle.jb_disk.specs.Runs.{Shows}
 use Rattle.jb_disk.specs.Gate.{IsGateOpen}
 use Rattle.jb_journal.specs.declared.stopped.Stopped.{Stopped}
 use Rattle.jb_journal.specs.declared.stopped.Stopped.TheVariants.{Early, Late}
-use Rattle.jb_journal.specs.Commit.{AgreeButJournal, IsReady, ReplaysTo, IsBeforeOrAfter, committed}
+use Rattle.jb_journal.specs.Commit.{AgreeButJournal, IsPlain, IsReady, ReplaysTo, IsBeforeOrAfter, committed}
 use Rattle.jb_redo.specs.Changes.{changed}
 use Rattle.jb_journal.specs.Stages.{IsAtGate, IsGoing, opened}
 
 -- stopped early: the other files are as before the change, and behind an open gate stands its whole record
-pub record IsEarly (change : RedoView) (start files : Files) : Type 0 where
+pub record IsEarly (number : ℕ) (change : RedoView) (start files : Files) : Type 0 where
   pub same : AgreeButJournal files start
-  pub gate : IsGateOpen files → files Jnl ≡ opened change start Jnl
+  pub gate : IsGateOpen files → files Jnl ≡ opened number change start Jnl
 
 -- stopped late: the gate stands open and the change is on its way, or it is done and the gate is being closed
-abbrev pub IsLate : RedoView → Files → Files → Type 0
-IsLate change start files = IsGoing change (opened change start) files ⊎ IsAtGate (committed change start) files
+abbrev pub IsLate : ℕ → RedoView → Files → Files → Type 0
+IsLate number change start files = IsGoing change (opened number change start) files ⊎ IsAtGate (committed number change start) files
 
--- what is left of a commit of this change over the files at the start, by where it was stopped
-abbrev pub IsInDoubt : Stopped → RedoView → Files → Files → Type 0
-IsInDoubt Early change start files = IsEarly change start files
-IsInDoubt Late change start files = IsLate change start files
+-- what is left of a commit of this change, with this number, over the files at the start, by where it was stopped
+abbrev pub IsInDoubt : Stopped → ℕ → RedoView → Files → Files → Type 0
+IsInDoubt Early number change start files = IsEarly number change start files
+IsInDoubt Late number change start files = IsLate number change start files
 
 -- the device holds what a commit of this change leaves that was stopped here, for some files at its start
 pub record HasStopped (stopped : Stopped) (change : RedoView) (device : Device) : Type 0 where
+  pub number : ℕ
   pub start : Files
-  pub ready : IsReady change start
-  pub shows : Shows (IsInDoubt stopped change start) device
+  pub ready : IsReady number change start
+  pub shows : Shows (IsInDoubt stopped number change start) device
 
 -- what a crash then leaves replays to the files before the change or after it, and after a late stop to those after it
 abbrev pub DoubtReplays : Stopped → RedoView → Files → Files → Type 0
@@ -48,8 +49,7 @@ HasTriedToSync old new = ForSome old.contents (λ files. IsGateOpen files
 abbrev pub settled_files : Bool → RedoView → Files → Files
 settled_files stands change start = if stands then changed change start else start
 
--- but for the journal these are the files, and the journal has its head with the gate closed
+-- but for the journal these are the files, and the journal is plain
 pub record IsSettledAt (base files : Files) : Type 0 where
   pub same : AgreeButJournal files base
-  pub long : 16 ≤ length (files Jnl)
-  pub shut : slice_index (files Jnl) 0 ≢ 1
+  pub plain : IsPlain files

@@ -3,6 +3,7 @@ use Rattle.std.specs.Prelude.{◌≡◌, ◌≢◌, ℕ, ◌+◌, ◌<◌, ◌�
 use Rattle.jb_disk.specs.declared.file.FileId.{FileId}
 use Rattle.jb_disk.specs.declared.piece.Length.{Length}
 use Rattle.jb_disk.specs.declared.piece.Piece.{Piece}
+use Rattle.jb_disk.specs.declared.version.Version.TheVariants.{Two}
 use Rattle.jb_disk.specs.Files.{Files, file_number, written, IsResized}
 use Rattle.jb_disk.specs.Steps.{IsCovered}
 use Rattle.jb_redo.specs.Replay.{target_of, span_of, spans_in}
@@ -23,7 +24,7 @@ with_pieces (piece ∷ pieces) files = with_pieces pieces (with_piece piece file
 
 -- the piece has room in the files as they are
 abbrev pub HasPlace : Files → Piece → Type 0
-HasPlace files piece = IsLegalPiece (sizes_of files) (sizes_of files) piece
+HasPlace files piece = IsLegalPiece Two (sizes_of files) (sizes_of files) piece
 
 -- the change does not speak of this file
 pub record IsUnmentioned (lengths : List Length) (pieces : List Piece) (file : FileId) : Type 0 where

@@ -8,7 +8,7 @@ use Rattle.jb_disk.specs.Images.{Images, IsImage}
 use Rattle.jb_disk.specs.Runs.{LeavesNow, LeavesAlways}
 use Rattle.jb_redo.specs.declared.error.RecordError.{RecordError}
 use Rattle.jb_redo.specs.declared.error.RecordError.TheVariants.{Bad, StoreFault as record_fault}
-use Rattle.jb_disk.specs.Gate.{IsGateOpen}
+use Rattle.jb_disk.specs.Gate.{IsGateOpen, version_number, version_of}
 use Rattle.jb_redo.specs.Reading.{IsRecordOf, HasRecord, IsBadAt}
 use Rattle.jb_redo.specs.Replay.{IsGrowthCovered}
 use Rattle.jb_journal.specs.declared.error.JournalError.{JournalError}
@@ -22,10 +22,10 @@ abbrev pub error_of : RecordError → JournalError
 error_of (Bad at) = BadRecord at
 error_of record_fault = StoreFault
 
--- the answer says how the gate was, and behind an open one stood a record
+-- the answer says how the gate was, and behind an open one of which version the journal was and which number its record had
 abbrev pub IsFound : Recovered → Files → Type 0
 IsFound Closed files = IsGateOpen files → ⊥
-IsFound Replayed files = IsGateOpen files × HasRecord files
+IsFound (Replayed version change) files = IsGateOpen files × (version ≡ version_number (version_of files)) × ((has : HasRecord files) × (has.is.change ≡ change))
 
 -- behind an open gate, the record writes each byte past an old end, as a commit's does
 abbrev pub IsGrowthSafe : Files → Type 0

@@ -3,7 +3,8 @@ use Rattle.std.specs.Prelude.{◌≡◌, ◌⊎◌, ℕ, ◌<◌, ◌≤◌, [],
 use Rattle.jb_disk.specs.declared.file.FileId.TheVariants.{Jnl}
 use Rattle.jb_disk.specs.RedoView.{RedoView}
 use Rattle.jb_disk.specs.Files.{Files, with_file, written}
-use Rattle.jb_disk.specs.Gate.{IsGateOpen, with_gate_closed}
+use Rattle.jb_disk.specs.declared.version.Version.TheVariants.{Two}
+use Rattle.jb_disk.specs.Gate.{IsGateOpen, version_of, with_gate_closed}
 use Rattle.jb_redo.specs.OnTheWay.{IsOnTheWay}
 use Rattle.jb_redo.specs.Reading.{IsRecordOf}
 use Rattle.jb_redo.specs.Replay.{IsGrowthCovered}
@@ -17,12 +18,12 @@ pub record KeepsHead (start files : Files) : Type 0 where
   pub head : (i : ℕ) → i < 16 → slice_index (files Jnl) i ≡ slice_index (start Jnl) i
 
 -- the record stands behind the head
-abbrev pub with_record : RedoView → Files → Files
-with_record change files = with_file Jnl (journal_of change files) files
+abbrev pub with_record : ℕ → RedoView → Files → Files
+with_record number change files = with_file Jnl (journal_of number change files) files
 
 -- and the gate is open
-abbrev pub opened : RedoView → Files → Files
-opened change files = written Jnl 0 (1 ∷ []) (with_record change files)
+abbrev pub opened : ℕ → RedoView → Files → Files
+opened number change files = written Jnl 0 (2 ∷ []) (with_record number change files)
 
 -- while the gate is written: all but the journal's first byte is as in these files
 pub record IsAtGate (base files : Files) : Type 0 where
@@ -48,8 +49,9 @@ closed change from = with_gate_closed (changed change from)
 abbrev pub IsClosing : RedoView → Files → Files → Type 0
 IsClosing change from files = IsGoing change from files ⊎ IsAtGate (closed change from) files
 
--- the change is under way in these files, from some with an open gate
+-- the change is under way in these files, from some with an open gate and a journal of the second version
 pub record IsUnderWay (change : RedoView) (files : Files) : Type 0 where
   pub from : Files
   pub is : IsOpened change from
+  pub two : version_of from ≡ Two
   pub way : IsGoing change from files

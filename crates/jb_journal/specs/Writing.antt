@@ -16,7 +16,7 @@ pub record Widens (old new : List Images) : Type 0 where
   pub all : new ≡ until ++ old
   pub wide : (files : Files) → AtNewest (λ now. IsImage now files) old → AtEach (λ now. IsImage now files) until
 
--- a part of a file copied_over over another's bytes
+-- a part of a file copied over another's bytes
 abbrev pub copied_over : FileId → ℕ → FileId → ℕ → ℕ → Files → Files
 copied_over from from_at to to_at len files = written to to_at (take len (drop from_at (files from))) files
 

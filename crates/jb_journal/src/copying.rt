@@ -46,12 +46,12 @@ fn copy_part<D: Disk>(disk: &mut D, part: Copying, bytes: &mut [u8]) -> Result<(
 pub(crate) fn copy<D: Disk>(
     disk: &mut D,
     whole: Copying,
-    len: u32,
+    len: u64,
     buffer: &mut [u8; MOST_BYTES],
 ) -> Result<(), DiskFailed>
     requires apart { ForSome (D.device disk.old).contents (λ files. whole.from ≢ whole.to) }
-    requires from_fits { whole.from_at < 2 ^ 32 }
-    requires to_fits { whole.to_at < 2 ^ 32 }
+    requires from_fits { whole.from_at + len < 2 ^ 63 }
+    requires to_fits { whole.to_at + len < 2 ^ 63 }
     requires source { Reaches (D.device disk.old).contents whole.from (whole.from_at + len) }
     requires target { Reaches (D.device disk.old).contents whole.to (whole.to_at + len) }
     ensures told { OnOk result ((D.device disk.new).contents ≡ option_map (copied_over whole.from
@@ -64,10 +64,10 @@ pub(crate) fn copy<D: Disk>(
 {
     let mut moved = 0;
     while moved < len {
-        let count = (len - moved).min(MOST_BYTES as u32);
+        let count = (len - moved).min(MOST_BYTES as u64);
         let part = Copying {
-            from_at: whole.from_at + moved as u64,
-            to_at: whole.to_at + moved as u64,
+            from_at: whole.from_at + moved,
+            to_at: whole.to_at + moved,
             ..whole
         };
         copy_part(disk, part, &mut buffer[..count as usize])?;

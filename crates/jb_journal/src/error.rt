@@ -7,11 +7,12 @@ use jb_disk::DiskFailed;
 use jb_redo::RecordError;
 use thiserror::Error;
 
-/// What [`recover`](crate::recover) found: a closed gate, or an open one, whose record it has done.
+/// What [`recover`](crate::recover) found: a closed gate, or an open one, whose record it has done: the version of the
+/// journal, and the number of the change, which is 0 in version 1.
 #[derive(Clone, Copy, Debug, PartialEq, Eq)]
 pub enum Recovered {
     Closed,
-    Replayed,
+    Replayed { version: u32, change: u64 },
 }
 
 /// Why [`recover`](crate::recover) is refused. It takes no memory, so that there is no want of it.

@@ -4,6 +4,7 @@ ghost use Rattle.std.specs.Option.{option_map, ForSome};
 ghost use Rattle.jb_disk.specs.declared.file.FileId.{FileId};
 ghost use Rattle.jb_disk.specs.declared.piece.Length.{Length};
 ghost use Rattle.jb_disk.specs.declared.piece.Piece.{Piece};
+ghost use Rattle.jb_disk.specs.declared.version.Version.TheVariants.{Two};
 ghost use Rattle.jb_disk.specs.Device.{FailsBy, Turns};
 ghost use Rattle.jb_disk.specs.Files.{Files, file_number};
 ghost use Rattle.jb_disk.specs.Runs.{LeavesNow, Shows, Keeps};
@@ -21,7 +22,7 @@ use jb_disk::{Disk, DiskFailed, FileId, Length, Redo};
 
 // Sets the new lengths in order.
 fn set_lengths<D: Disk>(disk: &mut D, lengths: &[Length]) -> Result<(), DiskFailed>
-    requires { AreLegalLengths lengths.now }
+    requires { AreLegalLengths Two lengths.now }
     ensures told { OnOk result (Turns (HaveNewLengths lengths.now) (D.device disk.old).contents
         (D.device disk.new).contents) }
     ensures keeps { (pieces : List Piece) (start : Files)
@@ -31,7 +32,7 @@ fn set_lengths<D: Disk>(disk: &mut D, lengths: &[Length]) -> Result<(), DiskFail
     ensures cause { FailsBy ⊥ (D.device disk.old) (D.device disk.new) result }
 {
     for entry in lengths {
-        disk.set_len(entry.file, entry.len as u64)?;
+        disk.set_len(entry.file, entry.len)?;
     }
     Ok(())
 }
@@ -51,7 +52,7 @@ fn put_piece<D: Disk>(
         (with_piece (nth_piece redo.now.pieces k)) (told_with gathering.old (D.device disk.old).contents)) }
     ensures held { OnOk result (StandsInFile gathering.new (D.device disk.new).contents) }
     ensures keeps { (lengths : List Length) (start : Files)
-        → IsLegalRecord (sizes_of start) lengths redo.now.pieces → IsFrom start redo.now.pieces gathering.old
+        → IsLegalRecord Two (sizes_of start) lengths redo.now.pieces → IsFrom start redo.now.pieces gathering.old
         → IsFrom start redo.now.pieces gathering.new
         × Keeps (IsOnTheWay lengths redo.now.pieces start) (D.device disk.old) (D.device disk.new) }
     ensures come { OnOk result (ComeBy [] [] (D.device disk.old).moments (D.device disk.new).moments) }
@@ -62,13 +63,13 @@ fn put_piece<D: Disk>(
         gathering.flush(disk)?;
         let whole = Copying {
             from: head.from,
-            from_at: head.from_at as u64,
+            from_at: head.from_at,
             to: head.to,
-            to_at: head.to_at as u64,
+            to_at: head.to_at,
         };
         gathering.copy(disk, whole, head.len)
     } else {
-        gathering.put(disk, head.to, head.to_at as u64, redo.bytes(k))
+        gathering.put(disk, head.to, head.to_at, redo.bytes(k))
     }
 }
 
@@ -79,7 +80,7 @@ fn put_pieces<D: Disk>(disk: &mut D, redo: &Redo) -> Result<(), DiskFailed>
     ensures told { OnOk result ((D.device disk.new).contents ≡ option_map (with_pieces
         redo.now.pieces) (D.device disk.old).contents) }
     ensures keeps { (lengths : List Length) (start : Files)
-        → IsLegalRecord (sizes_of start) lengths redo.now.pieces
+        → IsLegalRecord Two (sizes_of start) lengths redo.now.pieces
         → Keeps (IsOnTheWay lengths redo.now.pieces start) (D.device disk.old) (D.device disk.new) }
     ensures come { OnOk result (ComeBy [] [] (D.device disk.old).moments (D.device disk.new).moments) }
     ensures cause { FailsBy ⊥ (D.device disk.old) (D.device disk.new) result }
@@ -167,21 +168,21 @@ fn sync_changed<D: Disk>(disk: &mut D, redo: &Redo) -> Result<(), DiskFailed>
 
 /// Does the change in the files of the base, and syncs those of which it speaks.
 pub(crate) fn write_files<D: Disk>(disk: &mut D, redo: &Redo) -> Result<(), DiskFailed>
-    requires lengths { AreLegalLengths redo.now.lengths }
+    requires lengths { AreLegalLengths Two redo.now.lengths }
     requires room { ForSome (D.device disk.old).contents (λ files.
-        IsLegalRecord (sizes_of files) redo.now.lengths redo.now.pieces) }
+        IsLegalRecord Two (sizes_of files) redo.now.lengths redo.now.pieces) }
     ensures told { OnOk result ((start : Files)
-        → IsLegalRecord (sizes_of start) redo.now.lengths redo.now.pieces
+        → IsLegalRecord Two (sizes_of start) redo.now.lengths redo.now.pieces
         → IsGrowthCovered redo.now.lengths redo.now.pieces start
         → ForSome (D.device disk.old).contents (IsOnTheWay redo.now.lengths redo.now.pieces start)
         → (D.device disk.new).contents ≡ option_map (λ _.
         applied redo.now.lengths redo.now.pieces start) (D.device disk.old).contents) }
     ensures durable { OnOk result ((start : Files)
-        → IsLegalRecord (sizes_of start) redo.now.lengths redo.now.pieces
+        → IsLegalRecord Two (sizes_of start) redo.now.lengths redo.now.pieces
         → Shows (IsOnTheWay redo.now.lengths redo.now.pieces start) (D.device disk.old)
         → ForSome (D.device disk.new).contents (λ final. LeavesNow (λ left.
         left ≡ final) (D.device disk.new).moments)) }
-    ensures keeps { (start : Files) → IsLegalRecord (sizes_of start) redo.now.lengths redo.now.pieces
+    ensures keeps { (start : Files) → IsLegalRecord Two (sizes_of start) redo.now.lengths redo.now.pieces
         → Keeps (IsOnTheWay redo.now.lengths redo.now.pieces start) (D.device disk.old)
         (D.device disk.new) }
     ensures come { OnOk result (SyncsChanged [] [] redo.now.lengths redo.now.lengths redo.now.pieces

@@ -1,4 +1,4 @@
-//! The journal's first byte.
+//! The journal's first two bytes: the gate, and the version.
 ghost use Rattle.std.specs.Prelude.{◌≡◌, ◌↔◌, IsTrue, ◌∷◌, [], IfOk, OnOk};
 ghost use Rattle.std.specs.Option.{ForSome, option_map};
 ghost use Rattle.jb_disk.specs.declared.file.FileId.TheVariants.{Jnl};
@@ -11,7 +11,7 @@ ghost use Rattle.jb_journal.specs.Coming.{ComeBy};
 ghost use Rattle.jb_journal.specs.Opening.{WhereTold};
 ghost use Rattle.jb_journal.specs.Writing.{Reaches, WidensFor};
 
-use jb_disk::{Disk, DiskFailed, FileId};
+use jb_disk::{Disk, DiskFailed, FileId, Version};
 
 /// Writes the gate byte and syncs it.
 pub(crate) fn set_gate<D: Disk>(disk: &mut D, gate: u8) -> Result<(), DiskFailed>
@@ -42,7 +42,7 @@ pub fn is_gate_open<D: Disk>(disk: &mut D) -> Result<bool, DiskFailed>
     if disk.len(FileId::Jnl)? <= 16 {
         return Ok(false);
     }
-    let mut gate = [0];
-    disk.read_at(FileId::Jnl, 0, &mut gate)?;
-    Ok(gate[0] == 1)
+    let mut head = [0; 2];
+    disk.read_at(FileId::Jnl, 0, &mut head)?;
+    Ok(head[0] == Version::told_by(head[1]).number())
 }

@@ -122,12 +122,12 @@ impl Gathering {
         &mut self,
         disk: &mut D,
         whole: Copying,
-        len: u32,
+        len: u64,
     ) -> Result<(), DiskFailed>
         requires free { self.old.bytes ≡ [] }
         requires apart { ForSome (D.device disk.old).contents (λ files. whole.from ≢ whole.to) }
-        requires from_fits { whole.from_at < 2 ^ 32 }
-        requires to_fits { whole.to_at < 2 ^ 32 }
+        requires from_fits { whole.from_at + len < 2 ^ 63 }
+        requires to_fits { whole.to_at + len < 2 ^ 63 }
         requires source { Reaches (D.device disk.old).contents whole.from (whole.from_at + len) }
         requires target { Reaches (D.device disk.old).contents whole.to (whole.to_at + len) }
         ensures same { self.new ≡ self.old }

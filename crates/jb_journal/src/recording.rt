@@ -6,16 +6,19 @@ ghost use Rattle.jb_disk.specs.declared.file.FileId.TheVariants.{Jnl};
 ghost use Rattle.jb_disk.specs.Device.{FailsBy};
 ghost use Rattle.jb_disk.specs.Files.{Files, written};
 ghost use Rattle.jb_disk.specs.Runs.{LeavesNow, Keeps};
+ghost use Rattle.jb_disk.specs.declared.version.Version.TheVariants.{Two};
 ghost use Rattle.jb_redo.specs.Record.{length_bytes, piece_bytes, record_bytes};
 ghost use Rattle.jb_journal.specs.Coming.{ComeBy, journal_length};
-ghost use Rattle.jb_redo.specs.Changes.{IsWritable};
+ghost use Rattle.jb_redo.specs.Changes.{IsWritable, record_size as spelled_record};
 ghost use Rattle.jb_journal.specs.Spelling.{nth_piece, tail_bytes, record_front, back_bytes};
 ghost use Rattle.jb_journal.specs.Stages.{KeepsHead, with_record};
 ghost use Rattle.jb_journal.specs.Pending.{told_with, IsBound, PutsBytes};
 ghost use Rattle.jb_journal.specs.Writing.{Reaches};
 
 use crate::gathering::Gathering;
-use crate::spelling::{head_code, length_code, number_code, piece_size, record_size, start_code};
+use crate::spelling::{
+    head_code, length_code, number_code, piece_size, place_code, record_size, start_code,
+};
 use jb_disk::{Disk, DiskFailed, FileId, Length, Redo};
 
 // Bytes behind the head of the journal.
@@ -42,17 +45,17 @@ fn put_lengths<D: Disk>(
     lengths: &[Length],
 ) -> Result<(), DiskFailed>
     requires place { 16 ≤ at }
-    requires fits { at + 8 * length lengths.now < 2 ^ 63 }
+    requires fits { at + 12 * length lengths.now < 2 ^ 63 }
     requires bound { IsBound gathering.old (D.device disk.old).contents }
     requires room { Reaches (told_with gathering.old (D.device disk.old).contents) Jnl
-        (at + 8 * length lengths.now) }
-    ensures { PutsBytes at (flat_map length_bytes lengths.now) gathering.old (D.device disk.old)
+        (at + 12 * length lengths.now) }
+    ensures { PutsBytes at (flat_map (length_bytes Two) lengths.now) gathering.old (D.device disk.old)
         gathering.new (D.device disk.new) result }
 {
     let mut place = at;
     for entry in lengths {
         put(disk, gathering, place, &length_code(*entry))?;
-        place += 8;
+        place += 12;
     }
     Ok(())
 }
@@ -76,7 +79,7 @@ fn put_tail<D: Disk>(
 {
     let head = redo.head(k);
     if head.copy {
-        put(disk, gathering, at, &number_code(head.from_at))
+        put(disk, gathering, at, &place_code(head.from_at))
     } else {
         put(disk, gathering, at, redo.bytes(k))
     }
@@ -92,15 +95,15 @@ fn put_piece<D: Disk>(
 ) -> Result<(), DiskFailed>
     requires place { 16 ≤ at }
     requires within { k < length redo.now.pieces }
-    requires fits { at + length (piece_bytes (nth_piece redo.now.pieces k)) < 2 ^ 63 }
+    requires fits { at + length (piece_bytes Two (nth_piece redo.now.pieces k)) < 2 ^ 63 }
     requires bound { IsBound gathering.old (D.device disk.old).contents }
     requires room { Reaches (told_with gathering.old (D.device disk.old).contents) Jnl
-        (at + length (piece_bytes (nth_piece redo.now.pieces k))) }
-    ensures { PutsBytes at (piece_bytes (nth_piece redo.now.pieces k)) gathering.old (D.device disk.old)
+        (at + length (piece_bytes Two (nth_piece redo.now.pieces k))) }
+    ensures { PutsBytes at (piece_bytes Two (nth_piece redo.now.pieces k)) gathering.old (D.device disk.old)
         gathering.new (D.device disk.new) result }
 {
     put(disk, gathering, at, &head_code(redo.head(k)))?;
-    put_tail(disk, gathering, at + 12, redo, k)
+    put_tail(disk, gathering, at + 20, redo, k)
 }
 
 // The pieces, one behind another.
@@ -111,11 +114,11 @@ fn put_pieces<D: Disk>(
     redo: &Redo,
 ) -> Result<(), DiskFailed>
     requires place { 16 ≤ at }
-    requires fits { at + length (flat_map piece_bytes redo.now.pieces) < 2 ^ 63 }
+    requires fits { at + length (flat_map (piece_bytes Two) redo.now.pieces) < 2 ^ 63 }
     requires bound { IsBound gathering.old (D.device disk.old).contents }
     requires room { Reaches (told_with gathering.old (D.device disk.old).contents) Jnl
-        (at + length (flat_map piece_bytes redo.now.pieces)) }
-    ensures { PutsBytes at (flat_map piece_bytes redo.now.pieces) gathering.old (D.device disk.old)
+        (at + length (flat_map (piece_bytes Two) redo.now.pieces)) }
+    ensures { PutsBytes at (flat_map (piece_bytes Two) redo.now.pieces) gathering.old (D.device disk.old)
         gathering.new (D.device disk.new) result }
 {
     let mut place = at;
@@ -130,22 +133,28 @@ fn put_pieces<D: Disk>(
 fn put_front<D: Disk>(
     disk: &mut D,
     gathering: &mut Gathering,
+    change: u64,
     lengths: &[Length],
     pieces: u32,
 ) -> Result<(), DiskFailed>
     requires few { length lengths.now ≤ 4 }
     requires bound { IsBound gathering.old (D.device disk.old).contents }
     requires room { Reaches (told_with gathering.old (D.device disk.old).contents) Jnl
-        (28 + 8 * length lengths.now) }
-    ensures { PutsBytes 16 (record_front lengths.now pieces) gathering.old (D.device disk.old)
+        (36 + 12 * length lengths.now) }
+    ensures { PutsBytes 16 (record_front change lengths.now pieces) gathering.old (D.device disk.old)
         gathering.new (D.device disk.new) result }
 {
-    put(disk, gathering, 16, &start_code(lengths.len() as u32))?;
-    put_lengths(disk, gathering, 24, lengths)?;
     put(
         disk,
         gathering,
-        24 + 8 * lengths.len() as u64,
+        16,
+        &start_code(change, lengths.len() as u32),
+    )?;
+    put_lengths(disk, gathering, 32, lengths)?;
+    put(
+        disk,
+        gathering,
+        32 + 12 * lengths.len() as u64,
         &number_code(pieces),
     )
 }
@@ -159,7 +168,7 @@ fn put_back<D: Disk>(
     end: u64,
 ) -> Result<(), DiskFailed>
     requires place { 16 ≤ at }
-    requires end { end ≡ at + length (flat_map piece_bytes redo.now.pieces) }
+    requires end { end ≡ at + length (flat_map (piece_bytes Two) redo.now.pieces) }
     requires fits { end + 4 < 2 ^ 63 }
     requires bound { IsBound gathering.old (D.device disk.old).contents }
     requires room { Reaches (told_with gathering.old (D.device disk.old).contents) Jnl (end + 4) }
@@ -167,7 +176,7 @@ fn put_back<D: Disk>(
         gathering.new (D.device disk.new) result }
 {
     put_pieces(disk, gathering, at, redo)?;
-    put(disk, gathering, end, b"JBJE")
+    put(disk, gathering, end, b"JBJF")
 }
 
 // The whole record, of this size, from its parts.
@@ -175,45 +184,55 @@ fn put_record<D: Disk>(
     disk: &mut D,
     gathering: &mut Gathering,
     redo: &Redo,
+    change: u64,
     size: u64,
 ) -> Result<(), DiskFailed>
     requires writable { IsWritable redo.now }
-    requires size { size ≡ length (record_bytes redo.now.lengths redo.now.pieces) }
+    requires size { size ≡ spelled_record redo.now }
     requires bound { IsBound gathering.old (D.device disk.old).contents }
     requires room { Reaches (told_with gathering.old (D.device disk.old).contents) Jnl (16 + size) }
-    ensures { PutsBytes 16 (record_bytes redo.now.lengths redo.now.pieces) gathering.old (D.device disk.old)
+    ensures { PutsBytes 16 (record_bytes Two change redo.now.lengths redo.now.pieces) gathering.old (D.device disk.old)
         gathering.new (D.device disk.new) result }
 {
-    put_front(disk, gathering, redo.lengths(), redo.pieces())?;
-    let at = 28 + 8 * redo.lengths().len() as u64;
+    put_front(disk, gathering, change, redo.lengths(), redo.pieces())?;
+    let at = 36 + 12 * redo.lengths().len() as u64;
     put_back(disk, gathering, at, redo, 12 + size)
 }
 
 // The whole record, of this size, in as few writes as are gathered.
-fn put_gathered<D: Disk>(disk: &mut D, redo: &Redo, size: u64) -> Result<(), DiskFailed>
+fn put_gathered<D: Disk>(
+    disk: &mut D,
+    redo: &Redo,
+    change: u64,
+    size: u64,
+) -> Result<(), DiskFailed>
     requires writable { IsWritable redo.now }
-    requires size { size ≡ length (record_bytes redo.now.lengths redo.now.pieces) }
+    requires size { size ≡ spelled_record redo.now }
     requires room { Reaches (D.device disk.old).contents Jnl (16 + size) }
     ensures told { OnOk result ((D.device disk.new).contents ≡ option_map (written Jnl 16
-        (record_bytes redo.now.lengths redo.now.pieces)) (D.device disk.old).contents) }
+        (record_bytes Two change redo.now.lengths redo.now.pieces)) (D.device disk.old).contents) }
     ensures keeps { (start : Files) → Keeps (KeepsHead start) (D.device disk.old)
         (D.device disk.new) }
     ensures come { OnOk result (ComeBy [] [] (D.device disk.old).moments (D.device disk.new).moments) }
     ensures cause { FailsBy ⊥ (D.device disk.old) (D.device disk.new) result }
 {
     let mut gathering = Gathering::new(FileId::Jnl, 16);
-    put_record(disk, &mut gathering, redo, size)?;
+    put_record(disk, &mut gathering, redo, change, size)?;
     gathering.flush(disk)
 }
 
 /// Writes the record behind the head of the journal, ends the journal with it, and syncs it.
-pub(crate) fn write_record<D: Disk>(disk: &mut D, redo: &Redo) -> Result<(), DiskFailed>
+pub(crate) fn write_record<D: Disk>(
+    disk: &mut D,
+    redo: &Redo,
+    change: u64,
+) -> Result<(), DiskFailed>
     requires writable { IsWritable redo.now }
     requires room { Reaches (D.device disk.old).contents Jnl 16 }
-    ensures told { OnOk result ((D.device disk.new).contents ≡ option_map (with_record redo.now)
+    ensures told { OnOk result ((D.device disk.new).contents ≡ option_map (with_record change redo.now)
         (D.device disk.old).contents) }
     ensures durable { OnOk result (ForSome (D.device disk.old).contents (λ files. LeavesNow (λ left.
-        left Jnl ≡ with_record redo.now files Jnl) (D.device disk.new).moments)) }
+        left Jnl ≡ with_record change redo.now files Jnl) (D.device disk.new).moments)) }
     ensures keeps { (start : Files) → Keeps (KeepsHead start) (D.device disk.old)
         (D.device disk.new) }
     ensures come { OnOk result (ComeBy (journal_length redo.now ∷ []) (Jnl ∷ [])
@@ -222,6 +241,6 @@ pub(crate) fn write_record<D: Disk>(disk: &mut D, redo: &Redo) -> Result<(), Dis
 {
     let size = record_size(redo);
     disk.set_len(FileId::Jnl, 16 + size)?;
-    put_gathered(disk, redo, size)?;
+    put_gathered(disk, redo, change, size)?;
     disk.sync(FileId::Jnl)
 }

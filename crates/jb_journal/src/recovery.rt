@@ -136,7 +136,10 @@ pub fn recover<D: Disk>(disk: &mut D) -> Result<Recovered, JournalError>
     if !is_gate_open(disk)? {
         return Ok(Recovered::Closed);
     }
-    test_record(disk)?;
+    let head = test_record(disk)?;
     redo_record(disk)?;
-    Ok(Recovered::Replayed)
+    Ok(Recovered::Replayed {
+        version: head.version.number() as u32,
+        change: head.change,
+    })
 }

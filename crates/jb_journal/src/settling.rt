@@ -1,7 +1,8 @@
 //! Whether a change that was stopped stands.
-ghost use Rattle.std.specs.Prelude.{◌≡◌, ◌↔◌, IsTrue, IfOk, IfErr, OnOk};
+ghost use Rattle.std.specs.Prelude.{◌≡◌, ℕ, ◌↔◌, IsTrue, IfOk, IfErr, OnOk};
 ghost use Rattle.std.specs.Option.{ForSome};
 ghost use Rattle.jb_disk.specs.declared.file.FileId.TheVariants.{Jnl};
+ghost use Rattle.jb_disk.specs.declared.version.Version.TheVariants.{Two};
 ghost use Rattle.jb_disk.specs.RedoView.{RedoView};
 ghost use Rattle.jb_disk.specs.Device.{FailsBy, MayChange, TellsAlike, CountsFaults, is_disk_fault};
 ghost use Rattle.jb_disk.specs.Files.{Files};
@@ -30,8 +31,8 @@ fn sync_gate<D: Disk>(disk: &mut D) -> Result<bool, DiskFailed>
     ensures asks { ForSome (D.device disk.old).contents (λ files.
         MayChange (with_image Jnl (λ _. just_synced (files Jnl))) (D.device disk.old).moments
         (D.device disk.new).moments) }
-    ensures keeps { (stopped : Stopped) (change : RedoView) (start : Files)
-        → Keeps (IsInDoubt stopped change start) (D.device disk.old) (D.device disk.new) }
+    ensures keeps { (stopped : Stopped) (number : ℕ) (change : RedoView) (start : Files)
+        → Keeps (IsInDoubt stopped number change start) (D.device disk.old) (D.device disk.new) }
     ensures cause { FailsBy ⊥ (D.device disk.old) (D.device disk.new) result }
 {
     disk.sync(FileId::Jnl)?;
@@ -44,16 +45,16 @@ fn sync_gate<D: Disk>(disk: &mut D) -> Result<bool, DiskFailed>
 /// It begins with a sync of the journal and a read of the gate. An open gate means stages 3 and 4 once more. A closed one
 /// means after a late stop that the change is there, and after an early one that it is not.
 pub fn settle<D: Disk>(disk: &mut D, redo: &Redo, stopped: Stopped) -> Result<bool, Stopped>
-    requires lengths { AreLegalLengths redo.now.lengths }
+    requires lengths { AreLegalLengths Two redo.now.lengths }
     requires in_doubt { ForSome (D.device disk.old).contents (λ files.
         HasStopped stopped redo.now (D.device disk.old)) }
 
     // Settled: the files with the change or without it, as it answers, the gate closed, and nothing unsynced.
-    ensures answer { IfOk result (λ stands. (start : Files) → IsReady redo.now start
-        → Shows (IsInDoubt stopped redo.now start) (D.device disk.old)
+    ensures answer { IfOk result (λ stands. (number : ℕ) (start : Files) → IsReady number redo.now start
+        → Shows (IsInDoubt stopped number redo.now start) (D.device disk.old)
         → Shows (IsSettledAt (settled_files stands redo.now start)) (D.device disk.new)) }
-    ensures durable { OnOk result ((start : Files) → IsReady redo.now start
-        → Shows (IsInDoubt stopped redo.now start) (D.device disk.old)
+    ensures durable { OnOk result ((number : ℕ) (start : Files) → IsReady number redo.now start
+        → Shows (IsInDoubt stopped number redo.now start) (D.device disk.old)
         → IsAllSynced (D.device disk.new)) }
 
     // After an early stop the change stands exactly where the gate was open, and after a late one always.
@@ -64,9 +65,9 @@ pub fn settle<D: Disk>(disk: &mut D, redo: &Redo, stopped: Stopped) -> Result<bo
     // Stopped again: only by a fault, with the doubt that it says. Late stays late, and early becomes late by an open gate
     // alone; by one it does, but for a stop that comes before the gate is read.
     ensures faults { CountsFaults is_disk_fault (D.device disk.old) (D.device disk.new) result }
-    ensures still { IfErr result (λ again. (start : Files) → IsReady redo.now start
-        → Shows (IsInDoubt stopped redo.now start) (D.device disk.old)
-        → Shows (IsInDoubt again redo.now start) (D.device disk.new)) }
+    ensures still { IfErr result (λ again. (number : ℕ) (start : Files) → IsReady number redo.now start
+        → Shows (IsInDoubt stopped number redo.now start) (D.device disk.old)
+        → Shows (IsInDoubt again number redo.now start) (D.device disk.new)) }
     ensures late_stays { IfErr result (λ again. stopped ≡ Late → again ≡ Late) }
     ensures late_by { IfErr result (λ again. stopped ≡ Early → again ≡ Late
         → ForSome (D.device disk.old).contents IsGateOpen) }
@@ -74,8 +75,8 @@ pub fn settle<D: Disk>(disk: &mut D, redo: &Redo, stopped: Stopped) -> Result<bo
         → HasTriedToSync (D.device disk.old) (D.device disk.new)) }
 
     // A crash at any moment leaves what the doubt allows.
-    ensures crash { (start : Files) → IsReady redo.now start
-        → Shows (IsInDoubt stopped redo.now start) (D.device disk.old)
+    ensures crash { (number : ℕ) (start : Files) → IsReady number redo.now start
+        → Shows (IsInDoubt stopped number redo.now start) (D.device disk.old)
         → LeavesOnly (D.device disk.old) (D.device disk.new) (DoubtReplays stopped redo.now start) }
 
     // A disk that tells its files goes on telling them, and one that tells nothing goes on so, whatever is answered.

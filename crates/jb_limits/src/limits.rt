@@ -1,24 +1,31 @@
 //! The limits of a base, of a posted message and of a board.
 
 /// Slots in an area, killed and empty ones among them.
-pub const MOST_SLOTS: u32 = 65_000;
+pub const MOST_SLOTS: u32 = 1_000_000;
 /// Slots of all areas of a board together.
 pub const MOST_SLOTS_TOGETHER: u32 = 4_200_000;
 /// Lastread records in an area.
 pub const MOST_MARKS: u32 = 65_000;
 
 /// Bytes of .JHR, the file of headers.
-pub const HEADERS_CEILING: u64 = 134_217_728;
+pub const HEADERS_CEILING: u64 = 536_870_912;
 /// Bytes of .JDT, the file of texts.
-pub const TEXTS_CEILING: u64 = 67_108_864;
-/// Bytes of .JDX, the index: 65,000 records of 8 bytes.
-pub const INDEX_CEILING: u64 = 520_000;
+pub const TEXTS_CEILING: u64 = 1_073_741_824;
+/// Bytes of .JDX, the index: 1,000,000 records of 8 bytes.
+pub const INDEX_CEILING: u64 = 8_000_000;
 /// Bytes of .JLR, the lastread file: 65,000 records of 16 bytes.
 pub const LASTREAD_CEILING: u64 = 1_040_000;
 /// Bytes of .JNL, the journal.
-pub const JOURNAL_CEILING: u64 = 268_435_456;
+pub const JOURNAL_CEILING: u64 = 1_073_741_824;
 /// Bytes of .NDT, the packer's shadow of the texts.
-pub const SHADOW_CEILING: u64 = 134_217_728;
+pub const SHADOW_CEILING: u64 = 2_147_483_648;
+
+/// Bytes of .JHR that a journal of version 1 may set.
+pub const FIRST_HEADERS_CEILING: u64 = 134_217_728;
+/// Bytes of .JDT that a journal of version 1 may set.
+pub const FIRST_TEXTS_CEILING: u64 = 67_108_864;
+/// Bytes of .JDX that a journal of version 1 may set: 65,000 records of 8 bytes.
+pub const FIRST_INDEX_CEILING: u64 = 520_000;
 
 /// Bytes of the subfields of one message, SubfieldLen (JAM, "Message header").
 pub const MOST_SUBFIELD_BYTES: u32 = 262_144;

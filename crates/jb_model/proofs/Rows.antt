@@ -315,8 +315,8 @@ greatest_post_in base headers_len texts_len =
     (run_of general (almost_full base headers_len texts_len) (by test_user (Post (replicate 36 97) (replicate 72 97) (replicate 16384 97) 0 true) ∷ [])).replies
 
 -- a post that just fits the files and the numbers, and one number or byte more
-full_replies : (greatest_post_in 16777215 134217488 67092480 ≡ Posted 16777215 ∷ []) × (greatest_post_in 16777216 134217728 67092480 ≡ NumbersSpent 16777216 ∷ [])
-    × (greatest_post_in 16777215 134217489 67108864 ≡ HeadersFull 134217729 ∷ []) × (greatest_post_in 16777215 134217488 67092481 ≡ TextFull 67108865 ∷ [])
+full_replies : (greatest_post_in 16777215 536870672 1073725440 ≡ Posted 16777215 ∷ []) × (greatest_post_in 16777216 536870912 1073725440 ≡ NumbersSpent 16777216 ∷ [])
+    × (greatest_post_in 16777215 536870673 1073741824 ≡ HeadersFull 536870913 ∷ []) × (greatest_post_in 16777215 536870672 1073725441 ≡ TextFull 1073741825 ∷ [])
 full_replies = (refl, refl, refl, refl)
 
 -- an area with one slot, where 10 reads, 20 posts and 200 is the sysop
@@ -369,8 +369,8 @@ edit_in headers_len texts_len =
     (run_of general (record (ran (by test_user post ∷ [])).state { headers_len = headers_len; texts_len = texts_len }) (by test_user (Edit 1 (codes "xyz") (replicate 5 65)) ∷ [])).replies
 
 -- an edit that just fits the files, and one byte more
-edit_full : (edit_in 134217588 67108859 ≡ Edited 1 ∷ []) × (edit_in 134217589 67108860 ≡ HeadersFull 134217729 ∷ [])
-    × (edit_in 134217588 67108860 ≡ TextFull 67108865 ∷ [])
+edit_full : (edit_in 536870772 1073741819 ≡ Edited 1 ∷ []) × (edit_in 536870773 1073741820 ≡ HeadersFull 536870913 ∷ [])
+    × (edit_in 536870772 1073741820 ≡ TextFull 1073741825 ∷ [])
 edit_full = (refl, refl, refl)
 
 -- a message with a kludge of so many bytes and no subject

@@ -1,5 +1,5 @@
 -- The texts of an area as they are copied, part by part.
-use Rattle.std.proofs.Common.{◌≡◌, ◌≢◌, inl, inr, ℕ, zero, suc, ◌+◌, ◌≤◌, List, [], ◌∷◌, ◌++◌, Option, length, min, take, drop, All, refl, sym, ◌∙◌, ap, subst, arith, append_assoc, length-append}
+use Rattle.std.proofs.Common.{◌≡◌, ◌≢◌, inl, inr, ℕ, cond, zero, suc, ◌+◌, ◌≤◌, List, [], ◌∷◌, ◌++◌, Option, length, min, take, drop, All, refl, sym, ◌∙◌, ap, subst, arith, append_assoc, length-append}
 use Rattle.std.specs.Option.{ForSome}
 use Rattle.std.proofs.lemmas.List.{append-nil, drop-drop}
 use Rattle.std.proofs.Math.Seq.{drop-length}
@@ -19,7 +19,7 @@ use Rattle.jb_state.specs.declared.loaded.LoadedSlot.{LoadedSlot}
 use Rattle.jb_state.specs.declared.loaded.LoadedSlot.TheVariants.{Empty, Killed, Live}
 use Rattle.jb_pack.specs.Copying.{PutsRun, PutsTexts}
 use Rattle.jb_pack.specs.Laid.{Lays, laid}
-use Rattle.jb_state.specs.Packed.{slot_text_size, texts_in, texts_size}
+use Rattle.jb_state.specs.Packed.{is_live_slot, live_slots, slot_text_size, texts_in, texts_size}
 use Rattle.jb_pack.specs.Runs.{IsJoined, IsRunPlaced, IsRun}
 use Rattle.jb_pack.specs.declared.run.Run.{Run}
 use Rattle.jb_pack.proofs.SlotLemmas.{keeps_then, lays_fewer, lays_none, lays_then}
@@ -65,9 +65,11 @@ text_run end run some placed = record {
 
 module _ (loaded : Loaded) (contents : Option Files) (slots : List LoadedSlot) (start : RedoView) where
   -- some texts are put, a part is to follow, and these slots are left
-  pub record IsCopied (redo : RedoView) (run : Run) (end count : ℕ) (rest : List LoadedSlot) : Type 0 where
+  pub record IsCopied (redo : RedoView) (run : Run) (end : ℕ) (rest : List LoadedSlot) : Type 0 where
     pub done : List ℕ
-    pub lays : Lays Jdt count done start redo
+    pub parts : ℕ
+    pub lays : Lays Jdt parts done start redo
+    pub few : parts + live_slots rest ≤ live_slots slots
     pub told : ForSome contents (λ files. done ++ bytes_at run.at run.len (files Jdt) ++ texts_in (files Jdt) rest ≡ texts_in (files Jdt) slots)
     pub size : length done + run.len + texts_size rest ≡ texts_size slots
     pub end_is : end ≡ length (laid redo.pieces Jdt)
@@ -78,10 +80,12 @@ module _ (loaded : Loaded) (contents : Option Files) (slots : List LoadedSlot) (
 
   -- at first nothing is put
   pub copied_none : All (IsSlotWithin loaded.headers_len loaded.texts_len) slots → length (laid start.pieces Jdt) ≡ 0
-      → IsCopied start (record { at = 0; len = 0 }) 0 0 slots
+      → IsCopied start (record { at = 0; len = 0 }) 0 slots
   copied_none within begin = record {
     done = [];
+    parts = 0;
     lays = lays_none Jdt start;
+    few = omega arith;
     told = λ files is. refl;
     size = omega arith;
     end_is = sym begin;
@@ -92,11 +96,13 @@ module _ (loaded : Loaded) (contents : Option Files) (slots : List LoadedSlot) (
   }
 
   -- a slot without a live message adds nothing
-  pub copied_no_message : (redo : RedoView) (run : Run) (end count : ℕ) (slot : LoadedSlot) (rest : List LoadedSlot)
-      → ((message : LoadedMessage) → slot ≡ Live message → ⊥) → IsCopied redo run end count (slot ∷ rest) → IsCopied redo run end (count + 1) rest
-  copied_no_message redo run end count Empty rest other copied = record {
+  pub copied_no_message : (redo : RedoView) (run : Run) (end : ℕ) (slot : LoadedSlot) (rest : List LoadedSlot)
+      → ((message : LoadedMessage) → slot ≡ Live message → ⊥) → IsCopied redo run end (slot ∷ rest) → IsCopied redo run end rest
+  copied_no_message redo run end Empty rest other copied = record {
     done = copied.done;
-    lays = lays_fewer Jdt count (count + 1) copied.done start redo (omega arith) copied.lays;
+    parts = copied.parts;
+    lays = copied.lays;
+    few = omega (arith, copied.few, sum_by-cons (λ (s : LoadedSlot). cond (is_live_slot s) 1 0) Empty rest);
     told = copied.told;
     size = omega (arith, copied.size, sum_by-cons slot_text_size Empty rest);
     end_is = copied.end_is;
@@ -105,9 +111,11 @@ module _ (loaded : Loaded) (contents : Option Files) (slots : List LoadedSlot) (
     within = All-tail (IsSlotWithin loaded.headers_len loaded.texts_len) Empty rest copied.within;
     room = copied.room;
   }
-  copied_no_message redo run end count (Killed at) rest other copied = record {
+  copied_no_message redo run end (Killed at) rest other copied = record {
     done = copied.done;
-    lays = lays_fewer Jdt count (count + 1) copied.done start redo (omega arith) copied.lays;
+    parts = copied.parts;
+    lays = copied.lays;
+    few = omega (arith, copied.few, sum_by-cons (λ (s : LoadedSlot). cond (is_live_slot s) 1 0) (Killed at) rest);
     told = copied.told;
     size = omega (arith, copied.size, sum_by-cons slot_text_size (Killed at) rest);
     end_is = copied.end_is;
@@ -116,14 +124,16 @@ module _ (loaded : Loaded) (contents : Option Files) (slots : List LoadedSlot) (
     within = All-tail (IsSlotWithin loaded.headers_len loaded.texts_len) (Killed at) rest copied.within;
     room = copied.room;
   }
-  copied_no_message redo run end count (Live message) rest other copied = absurd (other message refl)
+  copied_no_message redo run end (Live message) rest other copied = absurd (other message refl)
 
   -- a text that stands right behind the part makes it longer
-  pub copied_joined : (redo : RedoView) (run more : Run) (end count : ℕ) (message : LoadedMessage) (rest : List LoadedSlot)
-      → IsJoined run (record { at = message.text_at; len = message.text_len }) more → IsRun (min loaded.texts_len TEXTS_CEILING) more → IsCopied redo run end count (Live message ∷ rest) → IsCopied redo more end (count + 1) rest
-  copied_joined redo run more end count message rest joined run_is copied = record {
+  pub copied_joined : (redo : RedoView) (run more : Run) (end : ℕ) (message : LoadedMessage) (rest : List LoadedSlot)
+      → IsJoined run (record { at = message.text_at; len = message.text_len }) more → IsRun (min loaded.texts_len TEXTS_CEILING) more → IsCopied redo run end (Live message ∷ rest) → IsCopied redo more end rest
+  copied_joined redo run more end message rest joined run_is copied = record {
     done = copied.done;
-    lays = lays_fewer Jdt count (count + 1) copied.done start redo (omega arith) copied.lays;
+    parts = copied.parts;
+    lays = copied.lays;
+    few = omega (arith, copied.few, sum_by-cons (λ (s : LoadedSlot). cond (is_live_slot s) 1 0) (Live message) rest);
     told = λ files is.
         ap (λ (l : List ℕ). copied.done ++ l ++ texts_in (files Jdt) rest) (joined.bytes (files Jdt))
         ∙ ap (λ (l : List ℕ). l ++ texts_in (files Jdt) rest) (sym (append_assoc copied.done (bytes_at run.at run.len (files Jdt)) (text_of (files Jdt) message)))
@@ -138,12 +148,14 @@ module _ (loaded : Loaded) (contents : Option Files) (slots : List LoadedSlot) (
   }
 
   -- another text begins a part of its own, once the part before it is put
-  pub copied_next : (redo redo' : RedoView) (run : Run) (end next count : ℕ) (message : LoadedMessage) (rest : List LoadedSlot)
+  pub copied_next : (redo redo' : RedoView) (run : Run) (end next : ℕ) (message : LoadedMessage) (rest : List LoadedSlot)
       → PutsRun contents run redo redo' → next ≡ end + run.len → KeepsRoom redo redo' → IsRun (min loaded.texts_len TEXTS_CEILING) (record { at = message.text_at; len = message.text_len })
-      → IsCopied redo run end count (Live message ∷ rest) → IsCopied redo' (record { at = message.text_at; len = message.text_len }) next (count + 1) rest
-  copied_next redo redo' run end next count message rest puts next_is keeps run_is copied = record {
+      → IsCopied redo run end (Live message ∷ rest) → IsCopied redo' (record { at = message.text_at; len = message.text_len }) next rest
+  copied_next redo redo' run end next message rest puts next_is keeps run_is copied = record {
     done = copied.done ++ puts.bytes;
-    lays = lays_then Jdt count 1 copied.done puts.bytes start redo redo' copied.lays puts.lays;
+    parts = copied.parts + 1;
+    lays = lays_then Jdt copied.parts 1 copied.done puts.bytes start redo redo' copied.lays puts.lays;
+    few = omega (arith, copied.few, sum_by-cons (λ (s : LoadedSlot). cond (is_live_slot s) 1 0) (Live message) rest);
     told = λ files is.
         ap (λ (l : List ℕ). copied.done ++ l ++ text_of (files Jdt) message ++ texts_in (files Jdt) rest) (puts.told files is)
         ∙ append_assoc (copied.done ++ bytes_at run.at run.len (files Jdt)) (text_of (files Jdt) message) (texts_in (files Jdt) rest)
@@ -157,23 +169,24 @@ module _ (loaded : Loaded) (contents : Option Files) (slots : List LoadedSlot) (
   }
 
   -- what is left to put fits
-  pub run_fits : (redo : RedoView) (run : Run) (end count : ℕ) (rest : List LoadedSlot) → texts_size slots ≤ TEXTS_CEILING → IsCopied redo run end count rest
+  pub run_fits : (redo : RedoView) (run : Run) (end : ℕ) (rest : List LoadedSlot) → texts_size slots ≤ TEXTS_CEILING → IsCopied redo run end rest
       → end + run.len ≤ TEXTS_CEILING
-  run_fits redo run end count rest fits copied = omega (arith, copied.size, copied.done_is)
+  run_fits redo run end rest fits copied = omega (arith, copied.size, copied.done_is)
 
   -- where the end is reached none is left
-  pub copied_end : (redo : RedoView) (run : Run) (end count : ℕ) → length slots ≤ count → count ≤ length slots → IsCopied redo run end count (drop count slots)
-      → IsCopied redo run end (length slots) []
+  pub copied_end : (redo : RedoView) (run : Run) (end count : ℕ) → length slots ≤ count → count ≤ length slots → IsCopied redo run end (drop count slots)
+      → IsCopied redo run end []
   copied_end redo run end count reached within copied =
       let even : count ≡ length slots = omega (arith, reached, within) in
-      subst (λ (n : ℕ). IsCopied redo run end n []) even (subst (IsCopied redo run end count) (ap (λ (n : ℕ). drop n slots) even ∙ drop-length slots) copied)
+      subst (IsCopied redo run end) (ap (λ (n : ℕ). drop n slots) even ∙ drop-length slots) copied
 
   -- once the last part is put, all texts are
-  pub copied_all : (redo redo' : RedoView) (run : Run) (end : ℕ) → PutsRun contents run redo redo' → IsCopied redo run end (length slots) [] → PutsTexts contents slots start redo'
+  pub copied_all : (redo redo' : RedoView) (run : Run) (end : ℕ) → PutsRun contents run redo redo' → IsCopied redo run end [] → PutsTexts contents slots start redo'
   copied_all redo redo' run end puts copied = record {
     bytes = copied.done ++ puts.bytes;
     size = omega (arith, copied.size, puts.size, length-append copied.done puts.bytes);
-    lays = lays_then Jdt (length slots) 1 copied.done puts.bytes start redo redo' copied.lays puts.lays;
+    lays = lays_fewer Jdt (copied.parts + 1) (live_slots slots + 1) (copied.done ++ puts.bytes) start redo' (omega (arith, copied.few))
+        (lays_then Jdt copied.parts 1 copied.done puts.bytes start redo redo' copied.lays puts.lays);
     told = λ files is.
         ap (λ (l : List ℕ). copied.done ++ l) (puts.told files is) ∙ sym (append-nil (copied.done ++ bytes_at run.at run.len (files Jdt)))
         ∙ copied.told files is;

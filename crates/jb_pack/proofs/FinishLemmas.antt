@@ -10,6 +10,7 @@ use Rattle.std.proofs.lemmas.List.Sums.{count_by-le-length, sum_by-cons}
 use Rattle.std.proofs.Math.Seq.{drop-append-add, take-append_seam}
 use Rattle.jb_limits.specs.declared.limits.TheConstants.{HEADERS_CEILING, SHADOW_CEILING, TEXTS_CEILING, MOST_SLOTS}
 use Rattle.jb_redo.specs.Changes.{changed, record_size}
+use Rattle.jb_disk.specs.declared.version.Version.TheVariants.{Two}
 use Rattle.jb_disk.specs.RedoView.{RedoView, bytes_of}
 use Rattle.jb_disk.specs.Files.{Files, file_number, overwritten}
 use Rattle.jb_disk.specs.Steps.{IsCovered, Span, patched}
@@ -22,8 +23,6 @@ use Rattle.jb_image.specs.Places.{bytes_at}
 use Rattle.jb_state.specs.LiveSlots.{linkables_from}
 use Rattle.jb_state.specs.Sound.{IsSound}
 use Rattle.jb_state.specs.declared.loaded.Loaded.{Loaded}
-use Rattle.jb_state.specs.declared.loaded.LoadedSlot.{LoadedSlot}
-use Rattle.jb_state.specs.declared.loaded.LoadedSlot.TheVariants.{Empty, Killed, Live}
 use Rattle.jb_redo.specs.Record.{piece_bytes}
 use Rattle.jb_redo.specs.Replay.{span_of, spans_in, writes}
 use Rattle.jb_redo.specs.Rules.{AreLegalLengths, IsLegalPiece, sizes_of}
@@ -31,13 +30,13 @@ use Rattle.jb_redo.proofs.SpanLemmas.{spans_in-here, spans_in-other, spans-appen
 use Rattle.jb_pack.specs.Bytes.{index_file}
 use Rattle.jb_pack.specs.Finish.{BringsNoText, HoldsWithCopies, IsPackOfCopies, PutsCopies}
 use Rattle.jb_pack.specs.Laid.{IsLaidOut, laid, pieces_into}
-use Rattle.jb_state.specs.Packed.{headers_size, is_live_slot, kept_slots, live_slots, new_base, packed, slot_header_size, slot_text_size, texts_size}
+use Rattle.jb_state.specs.Packed.{headers_size, is_live_slot, kept_slots, live_slots, new_base, packed, slot_text_size, texts_size}
 use Rattle.jb_pack.specs.Plan.{PutsBase, StandPacked, lengths_with}
 use Rattle.jb_pack.specs.Runs.{IsRun, bytes_in, copies_of, runs_size}
 use Rattle.jb_pack.specs.Shadow.{Shadow}
 use Rattle.jb_pack.specs.declared.run.Run.{Run}
 use Rattle.jb_image.proofs.FileBytes.{length-bytes_at}
-use Rattle.jb_pack.proofs.FitLemmas.{headers_fit_kept}
+use Rattle.jb_pack.proofs.FitLemmas.{headers_fit_kept, headers_long}
 use Rattle.jb_pack.proofs.HeldLemmas.{length-index, length-packed}
 use Rattle.jb_pack.proofs.PlanLemmas.{marks_apart, texts_apart}
 use Rattle.jb_pack.proofs.StateLemmas.{sum_of_kept, texts_of_kept}
@@ -123,15 +122,15 @@ module _ (files : Files) where
 
   -- they are legal where .JDT is long enough
   pub copies_legal : (at : ℕ) (runs : List Run) (ends : FileId → ℕ) → All (IsRun (length (files Ndt))) runs → All (IsRun SHADOW_CEILING) runs → at + runs_size runs ≤ ends Jdt → at + runs_size runs < 2 ^ 32
-      → All (IsLegalPiece (sizes_of files) ends) (copies_of at runs)
-  copies_legal at [] ends inside below fits few = All-nil (IsLegalPiece (sizes_of files) ends)
+      → All (IsLegalPiece Two (sizes_of files) ends) (copies_of at runs)
+  copies_legal at [] ends inside below fits few = All-nil (IsLegalPiece Two (sizes_of files) ends)
   copies_legal at (run ∷ runs) ends inside below fits few =
       let here = All-head (IsRun (length (files Ndt))) run runs inside in
       let rest = All-tail (IsRun (length (files Ndt))) run runs inside in
       let more = sum_by-cons (λ (r : Run). r.len) run runs in
       let within = here.inside in
       let low = (All-head (IsRun SHADOW_CEILING) run runs below).inside in
-      All-cons (IsLegalPiece (sizes_of files) ends) (Copy Ndt run.at Jdt at run.len) (copies_of (at + run.len) runs)
+      All-cons (IsLegalPiece Two (sizes_of files) ends) (Copy Ndt run.at Jdt at run.len) (copies_of (at + run.len) runs)
       (record {
         shadow = refl;
         texts = refl;
@@ -143,13 +142,13 @@ module _ (files : Files) where
       })
       (copies_legal (at + run.len) runs ends rest (All-tail (IsRun SHADOW_CEILING) run runs below) (omega arith) (omega arith))
 
--- each copy takes sixteen bytes of the record
-pub copies_size : (at : ℕ) (runs : List Run) → length (flat_map piece_bytes (copies_of at runs)) ≡ 16 * length runs
+-- each copy takes twenty-eight bytes of the record
+pub copies_size : (at : ℕ) (runs : List Run) → length (flat_map (piece_bytes Two) (copies_of at runs)) ≡ 28 * length runs
 copies_size at [] = refl
 copies_size at (run ∷ runs) =
     omega (
       arith,
-      length-append (piece_bytes (Copy Ndt run.at Jdt at run.len)) (flat_map piece_bytes (copies_of (at + run.len) runs)),
+      length-append (piece_bytes Two (Copy Ndt run.at Jdt at run.len)) (flat_map (piece_bytes Two) (copies_of (at + run.len) runs)),
       copies_size (at + run.len) runs,
     )
 
@@ -229,7 +228,7 @@ module _ (files : Files) (pieces : List Piece) (runs : List Run) (out : IsLaidOu
     fronts = fronts;
     covers = covers;
     each = λ ends longer.
-        All-append (IsLegalPiece (sizes_of files) ends) pieces (copies_of 0 runs)
+        All-append (IsLegalPiece Two (sizes_of files) ends) pieces (copies_of 0 runs)
         (λ k d low. bytes_legal (sizes_of files) (λ file. length (laid pieces file)) ends (slice_index_or pieces k d) (long_enough ends longer) (out.each k d low))
         (copies_legal files 0 runs ends inside below (omega (arith, longer Jdt (omega arith), length-in (files Ndt) runs inside)) (omega (arith, small)));
     few = many;
@@ -257,26 +256,16 @@ module _ (files : Files) (pieces : List Piece) (runs : List Run) (out : IsLaidOu
       covers Jnl i low = cover_else Jnl i (λ same. absurd (omega (arith, same))) low
       covers Ndt i low = cover_else Ndt i (λ same. absurd (omega (arith, same))) low
 
--- a header takes 76 bytes at least
-headers_long : (slots : List LoadedSlot) → 76 * live_slots slots ≤ headers_size slots
-headers_long [] = omega arith
-headers_long (Empty ∷ slots) =
-    omega (arith, headers_long slots, sum_by-cons slot_header_size Empty slots, sum_by-cons (λ (slot : LoadedSlot). cond (is_live_slot slot) 1 0) Empty slots)
-headers_long (Killed at ∷ slots) =
-    omega (arith, headers_long slots, sum_by-cons slot_header_size (Killed at) slots, sum_by-cons (λ (slot : LoadedSlot). cond (is_live_slot slot) 1 0) (Killed at) slots)
-headers_long (Live message ∷ slots) =
-    omega (arith, headers_long slots, sum_by-cons slot_header_size (Live message) slots, sum_by-cons (λ (slot : LoadedSlot). cond (is_live_slot slot) 1 0) (Live message) slots)
-
 -- the record with the copies
 copies_record : (two new : RedoView) (runs : List Run) → new.lengths ≡ two.lengths → new.pieces ≡ two.pieces ++ copies_of 0 runs
-    → record_size new ≡ record_size two + 16 * length runs
+    → record_size new ≡ record_size two + 28 * length runs
 copies_record two new runs lengths_are pieces_are =
-    let all : length (flat_map piece_bytes new.pieces) ≡ length (flat_map piece_bytes two.pieces) + 16 * length runs =
-    ap (λ (l : List Piece). length (flat_map piece_bytes l)) pieces_are
-    ∙ ap length (flat_map-append piece_bytes two.pieces (copies_of 0 runs))
-    ∙ length-append (flat_map piece_bytes two.pieces) (flat_map piece_bytes (copies_of 0 runs))
-    ∙ ap (λ n. length (flat_map piece_bytes two.pieces) + n) (copies_size 0 runs) in
-    omega (arith, length-record new.lengths new.pieces, length-record two.lengths two.pieces, ap (λ (l : List Length). length l) lengths_are)
+    let all : length (flat_map (piece_bytes Two) new.pieces) ≡ length (flat_map (piece_bytes Two) two.pieces) + 28 * length runs =
+    ap (λ (l : List Piece). length (flat_map (piece_bytes Two) l)) pieces_are
+    ∙ ap length (flat_map-append (piece_bytes Two) two.pieces (copies_of 0 runs))
+    ∙ length-append (flat_map (piece_bytes Two) two.pieces) (flat_map (piece_bytes Two) (copies_of 0 runs))
+    ∙ ap (λ n. length (flat_map (piece_bytes Two) two.pieces) + n) (copies_size 0 runs) in
+    omega (arith, length-record 0 new.lengths new.pieces, length-record 0 two.lengths two.pieces, ap (λ (l : List Length). length l) lengths_are)
 
 -- all parts of a pack by copies, put one after another
 pub copied_pack_of : (limit : ℕ) (loaded : Loaded) (shadow : Shadow) (two new : RedoView) → IsSound limit loaded → limit ≤ MOST_SLOTS
@@ -320,7 +309,7 @@ copied_pack_of limit loaded shadow two new sound limited fits base copies =
       short = omega arith;
       writable = record {
         lengths_are =
-            subst AreLegalLengths (sym lengths_are)
+            subst (AreLegalLengths Two) (sym lengths_are)
             (legal_lengths (headers_size (kept_slots loaded)) (texts_size (kept_slots loaded)) (length (kept_slots loaded)) headers_fit fits_kept kept);
         short = omega (arith, count_by-le-length is_live_slot (kept_slots loaded));
       };

@@ -1,5 +1,5 @@
 -- The headers of a sound area lie apart below their ceiling, so that together they are no longer than it.
-use Rattle.std.proofs.Common.{◌≡◌, ◌⊎◌, inl, inr, ℕ, zero, suc, ◌+◌, ◌-◌, ◌≤◌, min, List, [], ◌∷◌, All, refl, ap, arith}
+use Rattle.std.proofs.Common.{◌≡◌, ◌⊎◌, inl, inr, ℕ, cond, zero, suc, ◌+◌, ◌-◌, ◌*◌, ◌≤◌, min, List, [], ◌∷◌, All, refl, ap, arith}
 use Rattle.std.specs.Prelude.{AllPairs, sum_by}
 use Rattle.std.proofs.lemmas.Bool.{cases_lt}
 use Rattle.std.proofs.lemmas.List.Sums.{sum_by-cons}
@@ -10,7 +10,7 @@ use Rattle.jb_state.specs.Sound.{AreApart, Covers, IsSlotWithin, IsSound}
 use Rattle.jb_state.specs.declared.loaded.Loaded.{Loaded}
 use Rattle.jb_state.specs.declared.loaded.LoadedSlot.{LoadedSlot}
 use Rattle.jb_state.specs.declared.loaded.LoadedSlot.TheVariants.{Empty, Killed, Live}
-use Rattle.jb_state.specs.Packed.{headers_size, kept_slots, slot_header_size}
+use Rattle.jb_state.specs.Packed.{headers_size, is_live_slot, kept_slots, live_slots, slot_header_size}
 use Rattle.jb_pack.proofs.StateLemmas.{sum_of_kept}
 
 -- how many bytes of a live message's header lie below this place
@@ -104,9 +104,19 @@ all_below headers_len texts_len (Live message ∷ slots) within =
 -- the headers of a sound area fit behind the fixed header below the ceiling of .JHR
 pub headers_fit : (limit : ℕ) (loaded : Loaded) → IsSound limit loaded → 1024 + headers_size loaded.slots ≤ HEADERS_CEILING
 headers_fit limit loaded sound =
-    let few = few_below loaded.headers_len loaded.texts_len 134216704 loaded.slots sound.within sound.apart in
+    let few = few_below loaded.headers_len loaded.texts_len 536869888 loaded.slots sound.within sound.apart in
     omega (arith, few, all_below loaded.headers_len loaded.texts_len loaded.slots sound.within)
 
 -- and so do those that a pack keeps
 pub headers_fit_kept : (limit : ℕ) (loaded : Loaded) → IsSound limit loaded → 1024 + headers_size (kept_slots loaded) ≤ HEADERS_CEILING
 headers_fit_kept limit loaded sound = omega (arith, headers_fit limit loaded sound, sum_of_kept slot_header_size refl (λ at. refl) loaded)
+
+-- a header takes 76 bytes at least
+pub headers_long : (slots : List LoadedSlot) → 76 * live_slots slots ≤ headers_size slots
+headers_long [] = omega arith
+headers_long (Empty ∷ slots) =
+    omega (arith, headers_long slots, sum_by-cons slot_header_size Empty slots, sum_by-cons (λ (slot : LoadedSlot). cond (is_live_slot slot) 1 0) Empty slots)
+headers_long (Killed at ∷ slots) =
+    omega (arith, headers_long slots, sum_by-cons slot_header_size (Killed at) slots, sum_by-cons (λ (slot : LoadedSlot). cond (is_live_slot slot) 1 0) (Killed at) slots)
+headers_long (Live message ∷ slots) =
+    omega (arith, headers_long slots, sum_by-cons slot_header_size (Live message) slots, sum_by-cons (λ (slot : LoadedSlot). cond (is_live_slot slot) 1 0) (Live message) slots)

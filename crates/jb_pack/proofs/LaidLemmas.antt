@@ -1,13 +1,14 @@
 -- One piece more behind those of its file.
-use Rattle.std.proofs.Common.{◌≡◌, ◌≢◌, inl, inr, ℕ, ◌+◌, ◌*◌, ◌≤◌, ◌<◌, List, [], ◌∷◌, ◌++◌, length, take, drop, map, refl, sym, ◌∙◌, ap, subst, arith, length-append}
+use Rattle.std.proofs.Common.{◌≡◌, ◌≢◌, inl, inr, ℕ, ◌+◌, ◌≤◌, ◌<◌, List, [], ◌∷◌, ◌++◌, length, take, drop, refl, sym, ◌∙◌, ap, subst, arith, length-append}
 use Rattle.std.specs.Prelude.{◌^◌, filter, slice_index_or}
 use Rattle.std.specs.List.{flat_map}
 use Rattle.std.proofs.lemmas.Bool.{cases_eq, cases_lt}
 use Rattle.std.proofs.lemmas.Bool.Decides.{nat_tests}
 use Rattle.std.proofs.lemmas.Grind.{flat_map-append}
-use Rattle.std.proofs.lemmas.List.{append-nil, map-append, drop-drop}
+use Rattle.std.proofs.lemmas.List.{append-nil, drop-drop}
 use Rattle.std.proofs.lemmas.List.Elements.{All-append, All-cons, All-nil, filter-append}
 use Rattle.std.proofs.Math.Seq.{drop-append-add, take-append_seam}
+use Rattle.jb_disk.specs.declared.version.Version.TheVariants.{Two}
 use Rattle.jb_disk.specs.RedoView.{RedoView, bytes_of}
 use Rattle.jb_disk.specs.Files.{Files, file_number, overwritten}
 use Rattle.jb_disk.specs.FileLaws.{number-injective}
@@ -15,14 +16,13 @@ use Rattle.jb_disk.specs.Steps.{IsCovered, Span, patched}
 use Rattle.jb_disk.specs.declared.file.FileId.{FileId}
 use Rattle.jb_disk.specs.declared.piece.Piece.{Piece}
 use Rattle.jb_disk.specs.declared.piece.Piece.TheVariants.{Bytes, Copy}
-use Rattle.jb_redo.specs.Replay.{span_of, spans_in, writes}
-use Rattle.jb_redo.specs.Record.{length_bytes, piece_bytes, record_bytes, record_end, record_head}
+use Rattle.jb_redo.specs.Replay.{spans_in, writes}
+use Rattle.jb_redo.specs.Record.{piece_bytes}
 use Rattle.jb_redo.proofs.SpanLemmas.{spans_in-here, spans_in-other, covered-first, spans-append}
 use Rattle.jb_pack.specs.Laid.{IsLaidOut, IsLegalIn, Lays, laid, pieces_into}
 use Rattle.jb_redo.specs.Changes.{record_size}
 use Rattle.jb_bytes.specs.Number.{number_bytes}
 use Rattle.jb_disk.specs.declared.piece.Length.{Length}
-use Rattle.jb_redo.proofs.RecordLemmas.{length-lengths}
 use Rattle.jb_redo.proofs.LengthLemmas.{length-record}
 
 -- spans behind others are written last
@@ -150,23 +150,23 @@ module _ (pieces : List Piece) (file : FileId) (at : ℕ) (bytes : List ℕ) whe
           All-append (IsLegalIn (λ f. length (laid more f))) pieces (Bytes file at bytes ∷ [])
           (λ k d low. legal_longer (λ f. length (laid pieces f)) (λ f. length (laid more f)) (slice_index_or pieces k d) laid-longer (was.each k d low))
           (All-cons (IsLegalIn (λ f. length (laid more f))) (Bytes file at bytes) []
-          (record { of_base = base; place = place; size = short; within = omega (arith, ap length laid-here, length-append (laid pieces file) bytes) })
+          (record { of_base = base; place = omega (arith, place); size = omega (arith, short); within = omega (arith, ap length laid-here, length-append (laid pieces file) bytes) })
           (All-nil (IsLegalIn (λ f. length (laid more f)))));
       few = few;
     }
 
 -- a record with one piece more
 pub size_more : (old new : RedoView) (file : FileId) (at : ℕ) (bytes : List ℕ) → new.lengths ≡ old.lengths → new.pieces ≡ old.pieces ++ Bytes file at bytes ∷ []
-    → record_size new ≡ record_size old + 12 + length bytes
+    → record_size new ≡ record_size old + 20 + length bytes
 size_more old new file at bytes lengths_are pieces_are =
-    let piece : length (piece_bytes (Bytes file at bytes)) ≡ 12 + length bytes =
-    length-append (0 ∷ file_number file ∷ 0 ∷ 0 ∷ number_bytes 4 at ++ number_bytes 4 (length bytes)) bytes in
-    let all : length (flat_map piece_bytes new.pieces) ≡ length (flat_map piece_bytes old.pieces) + (12 + length bytes) =
-    ap (λ (l : List Piece). length (flat_map piece_bytes l)) pieces_are
-    ∙ ap length (flat_map-append piece_bytes old.pieces (Bytes file at bytes ∷ []))
-    ∙ length-append (flat_map piece_bytes old.pieces) (piece_bytes (Bytes file at bytes) ++ [])
-    ∙ ap (λ n. length (flat_map piece_bytes old.pieces) + n) (ap length (append-nil (piece_bytes (Bytes file at bytes))) ∙ piece) in
-    omega (arith, length-record new.lengths new.pieces, length-record old.lengths old.pieces, ap (λ (l : List Length). length l) lengths_are)
+    let piece : length (piece_bytes Two (Bytes file at bytes)) ≡ 20 + length bytes =
+    length-append (0 ∷ file_number file ∷ 0 ∷ 0 ∷ number_bytes 8 at ++ number_bytes 8 (length bytes)) bytes in
+    let all : length (flat_map (piece_bytes Two) new.pieces) ≡ length (flat_map (piece_bytes Two) old.pieces) + (20 + length bytes) =
+    ap (λ (l : List Piece). length (flat_map (piece_bytes Two) l)) pieces_are
+    ∙ ap length (flat_map-append (piece_bytes Two) old.pieces (Bytes file at bytes ∷ []))
+    ∙ length-append (flat_map (piece_bytes Two) old.pieces) (piece_bytes Two (Bytes file at bytes) ++ [])
+    ∙ ap (λ n. length (flat_map (piece_bytes Two) old.pieces) + n) (ap length (append-nil (piece_bytes Two (Bytes file at bytes))) ∙ piece) in
+    omega (arith, length-record 0 new.lengths new.pieces, length-record 0 old.lengths old.pieces, ap (λ (l : List Length). length l) lengths_are)
 
 -- what one piece more lays
 pub lays_one : (old new : RedoView) (file : FileId) (at : ℕ) (bytes : List ℕ) → new.lengths ≡ old.lengths → new.pieces ≡ old.pieces ++ Bytes file at bytes ∷ []

@@ -1,5 +1,5 @@
 -- The pieces of a pack make of files that hold an area files that hold the packed one.
-use Rattle.std.proofs.Common.{◌≡◌, ◌≢◌, ℕ, ◌+◌, ◌-◌, ◌≤◌, ◌<◌, List, [], ◌∷◌, ◌++◌, Option, length, map, refl, sym, ◌∙◌, ap, subst, arith, length-append, length-drop}
+use Rattle.std.proofs.Common.{◌≡◌, ◌≢◌, ℕ, ◌+◌, ◌-◌, ◌*◌, ◌≤◌, ◌<◌, List, [], ◌∷◌, ◌++◌, Option, length, map, refl, sym, ◌∙◌, ap, subst, arith, length-append, length-drop}
 use Rattle.std.specs.Prelude.{slice_index_or, ◌^◌}
 use Rattle.std.specs.List.{flat_map, position_or_len}
 use Rattle.std.proofs.lemmas.List.Sums.{sum_by-le}
@@ -8,6 +8,7 @@ use Rattle.std.proofs.lemmas.List.{length-map}
 use Rattle.std.proofs.lemmas.List.Elements.{All-nil}
 use Rattle.jb_limits.specs.declared.limits.TheConstants.{HEADERS_CEILING, TEXTS_CEILING, MOST_SLOTS, MOST_TEXT_BYTES}
 use Rattle.jb_redo.specs.Changes.{changed}
+use Rattle.jb_disk.specs.declared.version.Version.TheVariants.{Two}
 use Rattle.jb_disk.specs.RedoView.{RedoView, bytes_of}
 use Rattle.jb_disk.specs.Files.{Files, file_number}
 use Rattle.jb_disk.specs.declared.file.FileId.TheVariants.{Jhr, Jdt, Jdx, Jlr}
@@ -27,9 +28,9 @@ use Rattle.jb_redo.specs.Rules.{AreLegalLengths}
 use Rattle.jb_pack.specs.Bytes.{IsReadAgain, headers_bytes, headers_file, index_file}
 use Rattle.jb_pack.specs.Copying.{PutsTexts}
 use Rattle.jb_pack.specs.Laid.{IsLaidOut, IsLegalIn, Lays, laid, pieces_into}
-use Rattle.jb_state.specs.Packed.{headers_size, is_live_slot, kept_slots, new_base, packed, slot_text_size, texts_size}
+use Rattle.jb_state.specs.Packed.{headers_size, is_live_slot, kept_slots, live_slots, new_base, packed, slot_text_size, texts_size}
 use Rattle.jb_pack.specs.Plan.{IsPackOf, PutsArea, PutsBase, StandPacked, lengths_with}
-use Rattle.jb_pack.proofs.FitLemmas.{headers_fit_kept}
+use Rattle.jb_pack.proofs.FitLemmas.{headers_fit_kept, headers_long}
 use Rattle.jb_pack.proofs.HeldLemmas.{length-headers, length-index, length-packed}
 use Rattle.jb_pack.proofs.WholeLemmas.{grown_there, laid_in_any, legal_lengths, legal_there, stand_there}
 use Rattle.jb_redo.proofs.LengthLemmas.{length-record}
@@ -59,7 +60,7 @@ jdx_not_jhr same = absurd (omega (arith, ap file_number same))
 -- all of .JHR and .JDX is put
 pub area_put : (loaded : Loaded) (old one two new : RedoView) (count : ℕ) → length (laid old.pieces Jhr) ≡ 0
     → Lays Jhr 1 (fixed_header_bytes (fixed_of (packed loaded))) old one → Lays Jhr count (headers_bytes (new_base loaded) (packed loaded).slots) one two
-    → Lays Jdx 1 (index_file (packed loaded)) two new → length (laid old.pieces Jdx) ≡ 0 → count ≡ length (kept_slots loaded)
+    → Lays Jdx 1 (index_file (packed loaded)) two new → length (laid old.pieces Jdx) ≡ 0 → count ≡ live_slots (kept_slots loaded)
     → length (fixed_header_bytes (fixed_of (packed loaded))) ≡ 1024 → IsReadAgain (packed loaded) → PutsArea loaded old new
 area_put loaded old one two new count begin fixed slots index begin_index count_is fixed_size back =
     let fixed_bytes : List ℕ = fixed_header_bytes (fixed_of (packed loaded)) in
@@ -98,7 +99,7 @@ new_base_at loaded =
     first_at loaded.base (loaded.base + length (map (slot_state []) loaded.slots)) loaded.slots (omega (arith, length-map loaded.slots (slot_state [])))
 
 -- the index is short
-pub index_short : (limit : ℕ) (loaded : Loaded) → IsSound limit loaded → limit ≤ MOST_SLOTS → length (index_file (packed loaded)) ≤ 520000
+pub index_short : (limit : ℕ) (loaded : Loaded) → IsSound limit loaded → limit ≤ MOST_SLOTS → length (index_file (packed loaded)) ≤ 8000000
 index_short limit loaded sound limited =
     omega (
       arith,
@@ -114,14 +115,14 @@ pub base_put : (loaded : Loaded) (one two : RedoView)
     → PutsArea loaded one two → PutsBase loaded two
 base_put loaded one two lengths_are none area =
     let lengths_count : length one.lengths ≡ 3 = ap length lengths_are in
-    let no_pieces : length (flat_map piece_bytes one.pieces) ≡ 0 = ap (λ (l : List Piece). length (flat_map piece_bytes l)) none in
+    let no_pieces : length (flat_map (piece_bytes Two) one.pieces) ≡ 0 = ap (λ (l : List Piece). length (flat_map (piece_bytes Two) l)) none in
     record {
       lengths = area.lengths ∙ lengths_are;
       headers = area.headers;
       index = area.index;
       others = λ other not_headers not_index. area.others other not_headers not_index ∙ ap (λ (l : List Piece). pieces_into l other) none;
       laid_out = area.kept (subst IsLaidOut (sym none) laid_out_none);
-      size = omega (arith, area.size, length-record one.lengths one.pieces);
+      size = omega (arith, area.size, length-record 0 one.lengths one.pieces);
       long = area.long;
       back = area.back;
     }
@@ -154,6 +155,10 @@ pack_of limit loaded two new contents sound limited fits base texts =
     let texts_record = lays.size in
     let base_record = base.size in
     let base_long = base.long in
+    let slots_are : length (packed loaded).slots ≡ length (kept_slots loaded) =
+    length-packed (linkables_from loaded.base loaded.slots) (new_base loaded) 1024 0 (kept_slots loaded) in
+    let index_is : length (index_file (packed loaded)) ≡ 8 * length (kept_slots loaded) = length-index (packed loaded).slots ∙ ap (λ n. 8 * n) slots_are in
+    let live_few = headers_long (kept_slots loaded) in
     record {
       texts = texts.bytes;
       brings = record {
@@ -165,12 +170,9 @@ pack_of limit loaded two new contents sound limited fits base texts =
             (stand_there limit loaded new sound limited fits all_lengths base.back files loads (laid new.pieces) (laid_in_any files new.pieces out)
             headers base.long index (ap length all_texts ∙ texts.size) no_marks);
       };
-      writable = record {
-        lengths_are =
-            subst AreLegalLengths (sym all_lengths)
-            (legal_lengths (headers_size (kept_slots loaded)) (texts_size (kept_slots loaded)) (length (kept_slots loaded)) headers_fit fits many);
-        short = omega (arith, index_short limit loaded sound limited);
-      };
+      short = omega arith;
+      lengths = subst (AreLegalLengths Two) (sym all_lengths)
+          (legal_lengths (headers_size (kept_slots loaded)) (texts_size (kept_slots loaded)) (length (kept_slots loaded)) headers_fit fits many);
       told = texts.told;
     }
 

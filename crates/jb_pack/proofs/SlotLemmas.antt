@@ -1,5 +1,6 @@
 -- The slots of an area as they are put into the files, one after another.
-use Rattle.std.proofs.Common.{◌≡◌, ℕ, suc, ◌+◌, ◌-◌, ◌≤◌, ◌<◌, List, [], ◌∷◌, ◌++◌, length, drop, get_or, map, All, refl, sym, ◌∙◌, ap, subst, arith, append_assoc, length-append, length-drop}
+use Rattle.std.proofs.Common.{◌≡◌, ℕ, cond, suc, ◌+◌, ◌-◌, ◌≤◌, ◌<◌, List, [], ◌∷◌, ◌++◌, length, drop, get_or, map, All, refl, sym, ◌∙◌, ap, subst, arith, append_assoc, length-append, length-drop}
+use Rattle.std.specs.Prelude.{Bool, false}
 use Rattle.std.proofs.lemmas.List.{append-nil, drop-drop, drop-map, get_or-drop, length-map}
 use Rattle.std.proofs.Math.Seq.{drop-cons, drop-length}
 use Rattle.std.proofs.lemmas.List.Sums.{sum_by-cons}
@@ -27,7 +28,7 @@ use Rattle.jb_record.specs.Index.{index_record_bytes}
 use Rattle.jb_image.specs.Records.{IsEntryReadAgain, IsHeaderReadAgain, entry_for, message_bytes}
 use Rattle.jb_pack.specs.Bytes.{AreEntriesReadAgain, AreHeadersReadAgain, headers_bytes, index_bytes, index_file}
 use Rattle.jb_pack.specs.Laid.{Lays, laid}
-use Rattle.jb_state.specs.Packed.{headers_size, kept_slots, moved, new_base, packed, packed_from, slot_header_size, slot_text_size, texts_size}
+use Rattle.jb_state.specs.Packed.{headers_size, is_live_slot, kept_slots, live_slots, moved, new_base, packed, packed_from, slot_header_size, slot_text_size, texts_size}
 use Rattle.jb_pack.specs.Places.{IsBehind}
 use Rattle.jb_pack.specs.declared.place.Place.{Place}
 use Rattle.jb_pack.proofs.FitLemmas.{headers_fit_kept}
@@ -90,7 +91,7 @@ module _ (loaded : Loaded) (links : List Links) (start : RedoView) where
   -- so many slots are put, and these are left
   pub record IsPut (redo : RedoView) (index : List ℕ) (place : Place) (count : ℕ) (rest : List LoadedSlot) : Type 0 where
     pub done : List ℕ
-    pub lays : Lays Jhr count done start redo
+    pub lays : Lays Jhr place.live done start redo
     pub whole : done ++ headers_bytes place.number (left place rest) ≡ headers_bytes (new_base loaded) (packed loaded).slots
     pub indexed : index ++ index_bytes (left place rest) ≡ index_file (packed loaded)
     pub headers_back : AreHeadersReadAgain place.number (left place rest) → AreHeadersReadAgain (new_base loaded) (packed loaded).slots
@@ -98,6 +99,7 @@ module _ (loaded : Loaded) (links : List Links) (start : RedoView) where
     pub linked : drop place.live links ≡ map (links_of live) (linkables_from place.number rest)
     pub number : place.number + length rest ≡ loaded.base + length loaded.slots
     pub few : place.live ≤ count
+    pub live_are : place.live + live_slots rest ≡ live_slots (kept_slots loaded)
     pub at : place.header_at ≡ length (laid redo.pieces Jhr)
     pub headers : place.header_at + headers_size rest ≤ HEADERS_CEILING
     pub texts : place.text_at + texts_size rest ≤ TEXTS_CEILING
@@ -129,6 +131,7 @@ module _ (loaded : Loaded) (links : List Links) (start : RedoView) where
         linked = links_are ∙ ap (map (links_of live)) (sym (linkables_kept loaded));
         number = omega (arith, length-drop (new_base loaded - loaded.base) loaded.slots, length-map loaded.slots (slot_state []));
         few = omega arith;
+        live_are = omega arith;
         at = sym fixed;
         headers = headers_fit_kept limit loaded sound;
         texts = omega (arith, fits);
@@ -140,16 +143,18 @@ module _ (loaded : Loaded) (links : List Links) (start : RedoView) where
   put_empty : (redo : RedoView) (index index' : List ℕ) (place : Place) (count : ℕ) (slot : LoadedSlot) (rest : List LoadedSlot)
       → left place (slot ∷ rest) ≡ Empty ∷ left (record place { number = place.number + 1 }) rest
       → linkables_from place.number (slot ∷ rest) ≡ linkables_from (place.number + 1) rest
-      → slot_header_size slot ≡ 0 → slot_text_size slot ≡ 0
+      → slot_header_size slot ≡ 0 → slot_text_size slot ≡ 0 → is_live_slot slot ≡ false
       → index' ≡ index ++ index_record_bytes (entry_for Empty) → IsEntryReadAgain (entry_for Empty)
       → IsPut redo index place count (slot ∷ rest) → IsPut redo index' (record place { number = place.number + 1 }) (count + 1) rest
-  put_empty redo index index' place count slot rest is same no_header no_text index_is back put =
+  put_empty redo index index' place count slot rest is same no_header no_text no_live index_is back put =
       let headers_is = sum_by-cons slot_header_size slot rest in
       let texts_is = sum_by-cons slot_text_size slot rest in
+      let live_is = sum_by-cons (λ (s : LoadedSlot). cond (is_live_slot s) 1 0) slot rest in
+      let none : cond {A = ℕ} (is_live_slot slot) 1 0 ≡ 0 = ap (λ (b : Bool). cond {A = ℕ} b 1 0) no_live in
       let next : List LoadedSlot = left (record place { number = place.number + 1 }) rest in
       record {
         done = put.done;
-        lays = lays_fewer Jhr count (count + 1) put.done start redo (omega arith) put.lays;
+        lays = put.lays;
         whole = ap (λ (l : List LoadedSlot). put.done ++ headers_bytes place.number l) (sym is) ∙ put.whole;
         indexed =
             ap (λ (l : List ℕ). l ++ index_bytes next) index_is ∙ append_assoc index (index_record_bytes (entry_for Empty)) (index_bytes next)
@@ -159,6 +164,7 @@ module _ (loaded : Loaded) (links : List Links) (start : RedoView) where
         linked = put.linked ∙ ap (map (links_of live)) same;
         number = omega (arith, put.number);
         few = omega (arith, put.few);
+        live_are = omega (arith, put.live_are, none, live_is);
         at = put.at;
         headers = omega (arith, put.headers);
         texts = omega (arith, put.texts);
@@ -172,9 +178,9 @@ module _ (loaded : Loaded) (links : List Links) (start : RedoView) where
       → index' ≡ index ++ index_record_bytes (entry_for Empty) → IsEntryReadAgain (entry_for Empty)
       → IsPut redo index place count (slot ∷ rest) → IsPut redo index' (record place { number = place.number + 1 }) (count + 1) rest
   put_no_message redo index index' place count Empty rest other index_is back put =
-      put_empty redo index index' place count Empty rest refl refl refl refl index_is back put
+      put_empty redo index index' place count Empty rest refl refl refl refl refl index_is back put
   put_no_message redo index index' place count (Killed killed_at) rest other index_is back put =
-      put_empty redo index index' place count (Killed killed_at) rest refl refl refl refl index_is back put
+      put_empty redo index index' place count (Killed killed_at) rest refl refl refl refl refl index_is back put
   put_no_message redo index index' place count (Live message) rest other index_is back put = absurd (other message refl)
 
   -- there are links for a live message
@@ -226,10 +232,11 @@ module _ (loaded : Loaded) (links : List Links) (start : RedoView) where
       let same : left next rest ≡ after = λ i. packed_from live (behind.number i) (behind.header_at i) (behind.text_at i) rest in
       let headers_is = sum_by-cons slot_header_size (Live message) rest in
       let texts_is = sum_by-cons slot_text_size (Live message) rest in
+      let live_is = sum_by-cons (λ (s : LoadedSlot). cond (is_live_slot s) 1 0) (Live message) rest in
       let bytes : List ℕ = message_bytes place.number there in
       record {
         done = put.done ++ bytes;
-        lays = lays_then Jhr count 1 put.done bytes start redo redo' put.lays more;
+        lays = subst (λ (n : ℕ). Lays Jhr n (put.done ++ bytes) start redo') (sym behind.live) (lays_then Jhr place.live 1 put.done bytes start redo redo' put.lays more);
         whole =
             (λ i. (put.done ++ bytes) ++ headers_bytes (behind.number i) (same i))
             ∙ append_assoc put.done bytes (headers_bytes (place.number + 1) after) ∙ put.whole;
@@ -243,6 +250,7 @@ module _ (loaded : Loaded) (links : List Links) (start : RedoView) where
             ∙ ap (drop 1) put.linked ∙ ap (λ n. map (links_of live) (linkables_from n rest)) (sym behind.number);
         number = omega (arith, put.number, behind.number);
         few = omega (arith, put.few, behind.live);
+        live_are = omega (arith, put.live_are, behind.live, live_is);
         at = omega (arith, put.at, behind.header_at, ap length more.here, length-append (laid redo.pieces Jhr) bytes, length-message place.number there);
         headers = omega (arith, put.headers, behind.header_at);
         texts = omega (arith, put.texts, behind.text_at);
@@ -257,20 +265,23 @@ module _ (loaded : Loaded) (links : List Links) (start : RedoView) where
       one_more = omega arith
 
   -- all are put
-  pub record IsAllPut (redo : RedoView) (index : List ℕ) (count : ℕ) : Type 0 where
-    pub lays : Lays Jhr count (headers_bytes (new_base loaded) (packed loaded).slots) start redo
+  pub record IsAllPut (redo : RedoView) (index : List ℕ) : Type 0 where
+    pub lays : Lays Jhr (live_slots (kept_slots loaded)) (headers_bytes (new_base loaded) (packed loaded).slots) start redo
     pub indexed : index ≡ index_file (packed loaded)
     pub headers_back : AreHeadersReadAgain (new_base loaded) (packed loaded).slots
     pub entries_back : AreEntriesReadAgain (packed loaded).slots
 
   -- where none is left, all are put
-  pub put_all : (redo : RedoView) (index : List ℕ) (place : Place) (count : ℕ) → IsPut redo index place count [] → IsAllPut redo index count
-  put_all redo index place count put = record {
-    lays = subst (λ (l : List ℕ). Lays Jhr count l start redo) (sym (append-nil put.done) ∙ put.whole) put.lays;
-    indexed = sym (append-nil index) ∙ put.indexed;
-    headers_back = put.headers_back tt;
-    entries_back = put.entries_back tt;
-  }
+  pub put_all : (redo : RedoView) (index : List ℕ) (place : Place) (count : ℕ) → IsPut redo index place count [] → IsAllPut redo index
+  put_all redo index place count put =
+      let live_is : place.live ≡ live_slots (kept_slots loaded) = omega (arith, put.live_are) in
+      record {
+        lays = subst (λ (n : ℕ). Lays Jhr n (headers_bytes (new_base loaded) (packed loaded).slots) start redo) live_is
+            (subst (λ (l : List ℕ). Lays Jhr place.live l start redo) (sym (append-nil put.done) ∙ put.whole) put.lays);
+        indexed = sym (append-nil index) ∙ put.indexed;
+        headers_back = put.headers_back tt;
+        entries_back = put.entries_back tt;
+      }
 
 -- the slots from a place on: the one there, and those behind it
 pub from_place : (slots : List LoadedSlot) (k : ℕ) (slot : LoadedSlot) → k < length slots → slot ≡ get_or slots k slot → drop k slots ≡ slot ∷ drop (k + 1) slots

@@ -11,7 +11,7 @@ use Rattle.jb_state.specs.Links.{Linkable}
 use Rattle.jb_state.specs.Live.{change_live_from, is_killed, is_live, killed_count, live_count, live_from}
 use Rattle.jb_state.specs.Loaded.{header_size}
 use Rattle.jb_state.specs.PackedState.{emptied, first_number_or, packed_base, packed_slots, packed_state}
-use Rattle.jb_state.specs.Relinked.{relinked, relink_by}
+use Rattle.jb_state.specs.Relinked.{relink_by}
 use Rattle.jb_state.specs.Sound.{IsSlotWithin, IsSound, IsTextWithin}
 use Rattle.jb_state.specs.State.{LiveMessage, SlotState, live_message, next_number, no_message, slot_state, state_of, text_of, with_text}
 use Rattle.jb_state.specs.Tight.{header_bytes, headers_together, text_bytes, texts_together}

@@ -6,6 +6,7 @@ use Rattle.std.proofs.lemmas.List.Elements.{All-nil, All-cons}
 use Rattle.std.proofs.lemmas.List.Kept.{AllPairs-cons}
 use Rattle.jb_limits.specs.declared.limits.TheConstants.{HEADERS_CEILING, TEXTS_CEILING, MOST_SLOTS}
 use Rattle.jb_redo.specs.Changes.{changed}
+use Rattle.jb_disk.specs.declared.version.Version.TheVariants.{Two}
 use Rattle.jb_disk.specs.RedoView.{RedoView}
 use Rattle.jb_disk.specs.Files.{Files, file_number}
 use Rattle.jb_disk.specs.FileLaws.{length-of_length}
@@ -35,11 +36,11 @@ use Rattle.jb_pack.proofs.StandLemmas.{packed_together}
 pub record IsLaidIn (files : Files) (pieces : List Piece) (bytes : FileId → List ℕ) : Type 0 where
   pub fronts : (file : FileId) (old : List ℕ) → length (bytes file) ≤ length old → patched (spans_in files pieces file) old ≡ bytes file ++ drop (length (bytes file)) old
   pub covers : (file : FileId) (i : ℕ) → i < length (bytes file) → IsCovered (spans_in files pieces file) i
-  pub each : (ends : FileId → ℕ) → ((file : FileId) → file_number file < 4 → length (bytes file) ≤ ends file) → All (IsLegalPiece (sizes_of files) ends) pieces
+  pub each : (ends : FileId → ℕ) → ((file : FileId) → file_number file < 4 → length (bytes file) ≤ ends file) → All (IsLegalPiece Two (sizes_of files) ends) pieces
   pub few : length pieces < 2 ^ 32
 
 -- a piece with its bytes is legal over any files
-pub bytes_legal : (sizes ends now : FileId → ℕ) (piece : Piece) → ((file : FileId) → file_number file < 4 → ends file ≤ now file) → IsLegalIn ends piece → IsLegalPiece sizes now piece
+pub bytes_legal : (sizes ends now : FileId → ℕ) (piece : Piece) → ((file : FileId) → file_number file < 4 → ends file ≤ now file) → IsLegalIn ends piece → IsLegalPiece Two sizes now piece
 bytes_legal sizes ends now (Bytes file at bytes) longer legal =
     let above = longer file legal.of_base in
     record { of_base = legal.of_base; place = legal.place; size = legal.size; within = omega (arith, legal.within) }
@@ -81,7 +82,7 @@ module _ (change : RedoView) (files : Files) (bytes : FileId → List ℕ) (laid
       ∙ ap (λ n. of_length n (files file)) size ∙ same_length (files file)
 
 -- a pack's lengths are legal
-pub legal_lengths : (headers texts slots : ℕ) → 1024 + headers ≤ HEADERS_CEILING → texts ≤ TEXTS_CEILING → slots ≤ MOST_SLOTS → AreLegalLengths (lengths_with headers texts slots)
+pub legal_lengths : (headers texts slots : ℕ) → 1024 + headers ≤ HEADERS_CEILING → texts ≤ TEXTS_CEILING → slots ≤ MOST_SLOTS → AreLegalLengths Two (lengths_with headers texts slots)
 legal_lengths headers texts slots headers_fit texts_fit few =
     let one : Length = record { file = Jhr; len = 1024 + headers } in
     let two : Length = record { file = Jdt; len = texts } in
@@ -90,9 +91,9 @@ legal_lengths headers texts slots headers_fit texts_fit few =
     record {
       few = omega arith;
       each =
-          All-cons IsLegalLength one (two ∷ three ∷ []) (record { of_base = omega arith; ceiling = omega arith })
-          (All-cons IsLegalLength two (three ∷ []) (record { of_base = omega arith; ceiling = omega arith })
-          (All-cons IsLegalLength three none (record { of_base = omega arith; ceiling = omega arith }) (All-nil IsLegalLength)));
+          All-cons (IsLegalLength Two) one (two ∷ three ∷ []) (record { of_base = omega arith; ceiling = omega arith })
+          (All-cons (IsLegalLength Two) two (three ∷ []) (record { of_base = omega arith; ceiling = omega arith })
+          (All-cons (IsLegalLength Two) three none (record { of_base = omega arith; ceiling = omega arith }) (All-nil (IsLegalLength Two))));
       rising =
           AllPairs-cons IsBefore one (two ∷ three ∷ [])
           (All-cons (IsBefore one) two (three ∷ []) (omega arith) (All-cons (IsBefore one) three none (omega arith) (All-nil (IsBefore one))))
@@ -141,9 +142,9 @@ module _ (limit : ℕ) (loaded : Loaded) (change : RedoView) (sound : IsSound li
   long_enough Ndt low = absurd (omega (arith, low))
 
   -- the change makes a record
-  pub legal_there : IsLegalRecord (sizes_of files) change.lengths change.pieces
+  pub legal_there : IsLegalRecord Two (sizes_of files) change.lengths change.pieces
   legal_there = record {
-    lengths_are = subst AreLegalLengths (sym lengths_are)
+    lengths_are = subst (AreLegalLengths Two) (sym lengths_are)
         (legal_lengths (headers_size (kept_slots loaded)) (texts_size (kept_slots loaded)) (length (kept_slots loaded)) (headers_fit_kept limit loaded sound) fits few_kept);
     pieces_are = record { many = laid_in.few; each = laid_in.each (new_sizes change.lengths (sizes_of files)) long_enough };
   }

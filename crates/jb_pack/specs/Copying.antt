@@ -7,7 +7,7 @@ use Rattle.jb_disk.specs.declared.file.FileId.TheVariants.{Jdt}
 use Rattle.jb_image.specs.Places.{bytes_at}
 use Rattle.jb_state.specs.declared.loaded.LoadedSlot.{LoadedSlot}
 use Rattle.jb_pack.specs.Laid.{Lays}
-use Rattle.jb_state.specs.Packed.{texts_in, texts_size}
+use Rattle.jb_state.specs.Packed.{live_slots, texts_in, texts_size}
 use Rattle.jb_pack.specs.declared.error.PackError.{PackError}
 use Rattle.jb_pack.specs.declared.error.PackError.TheVariants.{OutOfMemory, StoreFault}
 use Rattle.jb_pack.specs.declared.run.Run.{Run}
@@ -23,7 +23,7 @@ pub record PutsRun (contents : Option Files) (run : Run) (old new : RedoView) : 
 pub record PutsTexts (contents : Option Files) (slots : List LoadedSlot) (old new : RedoView) : Type 0 where
   pub bytes : List ℕ
   pub size : length bytes ≡ texts_size slots
-  pub lays : Lays Jdt (length slots + 1) bytes old new
+  pub lays : Lays Jdt (live_slots slots + 1) bytes old new
   pub told : ForSome contents (λ files. bytes ≡ texts_in (files Jdt) slots)
 
 -- which refusals are faults of the disk

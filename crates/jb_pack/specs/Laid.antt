@@ -1,6 +1,7 @@
 -- A change that writes files anew: its pieces stand in each file one behind another, from the beginning on.
 use Rattle.std.specs.Prelude.{◌≡◌, ◌≢◌, ℕ, ◌+◌, ◌*◌, ◌^◌, ◌<◌, ◌≤◌, List, ◌++◌, All, drop, filter, length}
 use Rattle.std.specs.List.{flat_map}
+use Rattle.jb_disk.specs.declared.version.Version.TheVariants.{Two}
 use Rattle.jb_disk.specs.RedoView.{RedoView, bytes_of}
 use Rattle.jb_disk.specs.Files.{Files}
 use Rattle.jb_disk.specs.Steps.{IsCovered, patched}
@@ -21,7 +22,7 @@ laid pieces file = flat_map bytes_of (pieces_into pieces file)
 
 -- a piece with its bytes, which may stand in a record where the files have these lengths
 abbrev pub IsLegalIn : (FileId → ℕ) → Piece → Type 0
-IsLegalIn ends (Bytes file at bytes) = AreLegalBytes ends file at bytes
+IsLegalIn ends (Bytes file at bytes) = AreLegalBytes Two ends file at bytes
 IsLegalIn ends (Copy from from_at to to_at len) = ⊥
 
 -- whatever a file held that has no fewer bytes than the pieces, with them it begins with their bytes and goes on as it was
@@ -38,4 +39,4 @@ pub record Lays (file : FileId) (count : ℕ) (bytes : List ℕ) (old new : Redo
   pub here : laid new.pieces file ≡ laid old.pieces file ++ bytes
   pub others : (other : FileId) → other ≢ file → pieces_into new.pieces other ≡ pieces_into old.pieces other
   pub kept : IsLaidOut old.pieces → IsLaidOut new.pieces
-  pub size : record_size new ≤ record_size old + 12 * count + length bytes
+  pub size : record_size new ≤ record_size old + 20 * count + length bytes

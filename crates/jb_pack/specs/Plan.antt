@@ -2,12 +2,14 @@
 use Rattle.std.specs.Prelude.{◌≡◌, ◌≢◌, ℕ, ◌+◌, ◌*◌, ◌<◌, ◌≤◌, List, [], ◌∷◌, length, Option}
 use Rattle.std.specs.Option.{ForSome}
 use Rattle.jb_limits.specs.declared.limits.TheConstants.{TEXTS_CEILING}
-use Rattle.jb_redo.specs.Changes.{Brings, record_size, IsWritable}
+use Rattle.jb_redo.specs.Changes.{Brings, record_size}
+use Rattle.jb_redo.specs.Rules.{AreLegalLengths}
 use Rattle.jb_disk.specs.RedoView.{RedoView, SameLists}
 use Rattle.jb_disk.specs.Files.{Files}
 use Rattle.jb_disk.specs.declared.file.FileId.{FileId}
 use Rattle.jb_disk.specs.declared.file.FileId.TheVariants.{Jhr, Jdt, Jdx}
 use Rattle.jb_disk.specs.declared.piece.Length.{Length}
+use Rattle.jb_disk.specs.declared.version.Version.TheVariants.{Two}
 use Rattle.jb_image.specs.Stands.{Loads}
 use Rattle.jb_state.specs.Live.{killed_count, live_count}
 use Rattle.jb_state.specs.PackedState.{packed_base}
@@ -35,7 +37,7 @@ pub record PutsArea (loaded : Loaded) (old new : RedoView) : Type 0 where
   pub index : laid new.pieces Jdx ≡ index_file (packed loaded)
   pub others : (other : FileId) → other ≢ Jhr → other ≢ Jdx → pieces_into new.pieces other ≡ pieces_into old.pieces other
   pub kept : IsLaidOut old.pieces → IsLaidOut new.pieces
-  pub size : record_size new ≤ record_size old + 12 * (length (kept_slots loaded) + 2) + length (headers_file (packed loaded)) + length (index_file (packed loaded))
+  pub size : record_size new ≤ record_size old + 20 * (live_slots (kept_slots loaded) + 2) + length (headers_file (packed loaded)) + length (index_file (packed loaded))
   pub long : length (headers_file (packed loaded)) ≡ (packed loaded).headers_len
   pub back : IsReadAgain (packed loaded)
 
@@ -53,7 +55,7 @@ pub record PutsBase (loaded : Loaded) (new : RedoView) : Type 0 where
   pub index : laid new.pieces Jdx ≡ index_file (packed loaded)
   pub others : (other : FileId) → other ≢ Jhr → other ≢ Jdx → pieces_into new.pieces other ≡ []
   pub laid_out : IsLaidOut new.pieces
-  pub size : record_size new ≤ 40 + 12 * (length (kept_slots loaded) + 2) + length (headers_file (packed loaded)) + length (index_file (packed loaded))
+  pub size : record_size new ≤ 60 + 20 * (live_slots (kept_slots loaded) + 2) + length (headers_file (packed loaded)) + length (index_file (packed loaded))
   pub long : length (headers_file (packed loaded)) ≡ (packed loaded).headers_len
   pub back : IsReadAgain (packed loaded)
 
@@ -66,11 +68,14 @@ pub record StandPacked (loaded : Loaded) (texts : List ℕ) (files : Files) : Ty
   pub texts_are : files Jdt ≡ texts
   pub together : StandTogether files (packed loaded).base 1024 0 (packed loaded).slots
 
--- the change packs the area, and may be committed; its texts are the packed ones, where the disk tells which there were
+-- the change packs the area; its record is short beside the files that it makes, with lengths as a record may have them; its texts are
+-- the packed ones, where the disk tells which there were
 pub record IsPackOf (contents : Option Files) (loaded : Loaded) (change : RedoView) : Type 0 where
   pub texts : List ℕ
   pub brings : Brings change (Loads loaded) (λ _. StandPacked loaded texts)
-  pub writable : IsWritable change
+  pub short : 16 + record_size change
+      ≤ 4096 + 3 * ((packed loaded).headers_len + 8 * length (packed loaded).slots) + (packed loaded).texts_len
+  pub lengths : AreLegalLengths Two change.lengths
   pub told : ForSome contents (λ files. texts ≡ packed_texts (files Jdt) loaded)
 
 -- the live texts fit, and a pack gives this base, with so many messages live and so many dropped

@@ -32,7 +32,8 @@ fn put_copy(redo: &mut Redo, run: Run, end: u32) -> Result<u32, OutOfMemory>
     ensures room { KeepsRoom redo.old redo.new }
 {
     redo.reserve(0, 1, 0)?;
-    redo.put_copy(FileId::Ndt, run.at, FileId::Jdt, end, run.len);
+    let len = run.len as u64;
+    redo.put_copy(FileId::Ndt, run.at as u64, FileId::Jdt, end as u64, len);
     let _pieces = redo.pieces();
     Ok(end + run.len)
 }

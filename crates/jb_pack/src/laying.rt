@@ -17,6 +17,6 @@ pub(crate) fn put(redo: &mut Redo, file: FileId, at: u32, bytes: &[u8]) -> Resul
     ensures kept { KeepsRoom redo.old redo.new }
 {
     redo.reserve(0, 1, bytes.len() as u64)?;
-    redo.put_bytes(file, at, bytes);
+    redo.put_bytes(file, at as u64, bytes);
     Ok(redo.pieces())
 }

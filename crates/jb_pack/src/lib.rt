@@ -4,7 +4,8 @@
 //! The layer above may rely on this: [`plan`] puts into an empty `Redo` a change that makes of any files that hold the area
 //! files that hold the packed one (`Brings`, `StandPacked`), with the texts of the live messages in the order of their numbers; the
 //! packed area, as it is loaded, is `packed`, and it stands for the state that the definition of a pack gives
-//! ([`packs_as_defined`]). The change may be committed as it is; [`pack_loaded`] then packs the area in memory, and takes none.
+//! ([`packs_as_defined`]). Where the journal may be as long as its record the change may be committed as it is; [`pack_loaded`]
+//! then packs the area in memory, and takes none.
 //! A [`Packer`] comes to the same files by a short record: it copies the texts into .NDT first, part by part, while the area
 //! goes on, and its change names them there. The records are those of the JAM message base proposal (revision 1, "Header
 //! file", "Message header", "SubFields", "Index file").

@@ -41,15 +41,15 @@ fn put_lengths(redo: &mut Redo, sizes: Sizes, slots: usize, held: u64) -> Result
     redo.reserve(3, 2 * slots as u32 + 3, headers + held + index)?;
     redo.put_len(Length {
         file: FileId::Jhr,
-        len: headers as u32,
+        len: headers,
     });
     redo.put_len(Length {
         file: FileId::Jdt,
-        len: sizes.texts as u32,
+        len: sizes.texts,
     });
     redo.put_len(Length {
         file: FileId::Jdx,
-        len: index as u32,
+        len: index,
     });
     Ok(())
 }
@@ -156,6 +156,9 @@ fn put_pack<D: Disk>(
 /// messages become empty slots, those below the lowest live number are cut off, and each live message has its number, its
 /// subfields and its text as before and the links of the plan, which is that of `relink_plan`. Where the texts together are
 /// longer than .JDT may be, nothing is put.
+///
+/// The record holds all texts, so that it may be longer than the journal may be: such an area is packed by a
+/// [`Packer`](crate::Packer).
 ///
 /// Its time is linear in the bytes of the live messages. It takes the memory of the new files once, and of one part of the
 /// texts, at most `PACK_STEP_BYTES`, and makes at most one device read a live message. After an error the redo is no change.

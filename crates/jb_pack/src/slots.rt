@@ -10,7 +10,7 @@ ghost use Rattle.jb_state.specs.Sound.{IsSound};
 ghost use Rattle.jb_record.specs.Index.{index_record_bytes};
 ghost use Rattle.jb_pack.specs.Bytes.{AreEntriesReadAgain, AreHeadersReadAgain, headers_bytes, index_file};
 ghost use Rattle.jb_pack.specs.Laid.{Lays, laid};
-ghost use Rattle.jb_state.specs.Packed.{kept_slots, new_base, packed, texts_size};
+ghost use Rattle.jb_state.specs.Packed.{kept_slots, live_slots, new_base, packed, texts_size};
 
 use crate::headers::put_message;
 use crate::place::Place;
@@ -51,7 +51,7 @@ pub(crate) fn put_slots(
     requires index { index.old ≡ [] }
 
     // The headers and the index of the packed area.
-    ensures lays { OnOk result (Lays Jhr (length slots.now)
+    ensures lays { OnOk result (Lays Jhr (live_slots slots.now)
         (headers_bytes base (packed loaded.now).slots) redo.old redo.new) }
     ensures index { OnOk result (index.new ≡ index_file (packed loaded.now)) }
     ensures headers_back { OnOk result (AreHeadersReadAgain base (packed loaded.now).slots) }

@@ -53,14 +53,14 @@ small_range (slot ∷ slots) each =
     (small_slot slot (All-head IsSlotInRange slot slots each), small_range slots (All-tail IsSlotInRange slot slots each))
 
 -- small slots take so much of .JHR together
-headers_bound : (slots : List SlotState) → AreSmall slots → headers_together slots ≤ length slots * 134217728
+headers_bound : (slots : List SlotState) → AreSmall slots → headers_together slots ≤ length slots * 536870912
 headers_bound [] small = omega arith
 headers_bound (slot ∷ slots) small =
     let one = small.0.header in
     omega (arith, sum_by-cons header_bytes slot slots, headers_bound slots small.1)
 
 -- small slots take so much of .JDT together
-texts_bound : (slots : List SlotState) → AreSmall slots → texts_together slots ≤ length slots * 67108864
+texts_bound : (slots : List SlotState) → AreSmall slots → texts_together slots ≤ length slots * 1073741824
 texts_bound [] small = omega arith
 texts_bound (slot ∷ slots) small =
     let one = small.0.text in

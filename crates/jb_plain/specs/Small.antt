@@ -5,8 +5,8 @@ use Rattle.jb_state.specs.Tight.{header_bytes, text_bytes}
 
 -- the slot's message takes no more of a file than the file may have
 pub record IsSmall (slot : SlotState) : Type 0 where
-  pub header : header_bytes slot ≤ 134217728
-  pub text : text_bytes slot ≤ 67108864
+  pub header : header_bytes slot ≤ 536870912
+  pub text : text_bytes slot ≤ 1073741824
 
 -- so does each
 abbrev pub AreSmall : List SlotState → Type 0

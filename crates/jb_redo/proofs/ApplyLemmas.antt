@@ -20,13 +20,13 @@ use Rattle.jb_redo.specs.declared.sizes.Sizes.{Sizes}
 use Rattle.jb_redo.specs.Applying.{IsSoundPart, LiesWithin, copied, pieced, HasAppliedTo, HasPieced, KeepsInRange, KeepsWay}
 use Rattle.jb_redo.specs.OnTheWay.{IsOnTheWay}
 use Rattle.jb_redo.specs.Reading.{BeginsWith, IsRecordOf, HasRecord}
-use Rattle.jb_redo.specs.Record.{record_end, piece_bytes}
+use Rattle.jb_redo.specs.Record.{piece_bytes}
 use Rattle.jb_redo.specs.Replay.{target_of, span_of, spans_in}
 use Rattle.jb_redo.specs.Rules.{sizes_of, IsLegalPiece}
 use Rattle.jb_redo.specs.Walk.{size_in, journal_from, AreSizes, AreFixedSizes, HasLengths, HasPiecesTo, IsPartAt, HasNoPieceAt}
-use Rattle.jb_redo.proofs.OneReading.{record_or_bad_place, pieces_of_record, record_begun, whole_legal}
+use Rattle.jb_redo.proofs.OneReading.{record_or_bad_place}
 use Rattle.jb_redo.proofs.SpanLemmas.{spans_in-here, spans_in-other, no_spans, span_same, spans_within, span_within}
-use Rattle.jb_redo.proofs.WalkLemmas.{pieces_start, pieces_start_none, next_piece, next_piece_is, bad_piece}
+use Rattle.jb_redo.proofs.WalkLemmas.{pieces_start, pieces_start_none, next_piece, next_piece_is, bad_piece, record_pieces}
 use Rattle.jb_redo.proofs.WayLemmas.{way_record, way_spans}
 
 -- what is told after a change, where it is told before
@@ -119,8 +119,8 @@ covered_in files (first ∷ pieces) piece others i low high =
 -- the files while pieces are written over them
 module _ (files : Files) (count read at : ℕ) (ends : Sizes) (now : Files) (sized : AreSizes ends files) (done : HasAppliedTo files count read at ends now) where
   -- the pieces that are written keep the rules
-  legal_so_far : All (IsLegalPiece (sizes_of files) (size_in ends)) done.has.pieces
-  legal_so_far = subst (λ (e : FileId → ℕ). All (IsLegalPiece (sizes_of files) e) done.has.pieces) (sym done.has.ends_are) done.has.read_to.legal.each
+  legal_so_far : All (IsLegalPiece ends.version (sizes_of files) (size_in ends)) done.has.pieces
+  legal_so_far = subst (λ (e : FileId → ℕ). All (IsLegalPiece ends.version (sizes_of files) e) done.has.pieces) (sym done.has.ends_are) done.has.read_to.legal.each
 
   -- the bytes of a file now
   now_is : (file : FileId) → now file ≡ patched (spans_in files done.has.pieces file) (files file)
@@ -128,13 +128,13 @@ module _ (files : Files) (count read at : ℕ) (ends : Sizes) (now : Files) (siz
 
   -- the journal and the shadow of the texts are as they were
   pub applied_kept : (file : FileId) → 4 ≤ file_number file → now file ≡ files file
-  applied_kept file high = now_is file ∙ ap (λ (l : List Span). patched l (files file)) (no_spans (sizes_of files) (size_in ends) files done.has.pieces file legal_so_far high)
+  applied_kept file high = now_is file ∙ ap (λ (l : List Span). patched l (files file)) (no_spans ends.version (sizes_of files) (size_in ends) files done.has.pieces file legal_so_far high)
 
   -- the files keep their lengths
   pub applied_size : (file : FileId) → length (now file) ≡ size_in ends file
   applied_size file =
       ap length (now_is file)
-      ∙ length-patched (spans_in files done.has.pieces file) (files file) (subst (AreWithin (spans_in files done.has.pieces file)) (sized file) (spans_within files (size_in ends) done.has.pieces file legal_so_far))
+      ∙ length-patched (spans_in files done.has.pieces file) (files file) (subst (AreWithin (spans_in files done.has.pieces file)) (sized file) (spans_within ends.version files (size_in ends) done.has.pieces file legal_so_far))
       ∙ sym (sized file)
 
   -- so the lengths that are kept are those of these files too
@@ -142,7 +142,7 @@ module _ (files : Files) (count read at : ℕ) (ends : Sizes) (now : Files) (siz
   applied_fixed = record { journal = sym (applied_size Jnl); shadow = sym (applied_size Ndt) }
 
   -- a piece that is legal over the files now was so at first
-  legal_back : (piece : Piece) → IsLegalPiece (sizes_of now) (size_in ends) piece → IsLegalPiece (sizes_of files) (size_in ends) piece
+  legal_back : (piece : Piece) → IsLegalPiece ends.version (sizes_of now) (size_in ends) piece → IsLegalPiece ends.version (sizes_of files) (size_in ends) piece
   legal_back (Bytes file at' bytes) legal = legal
   legal_back (Copy from from_at to to_at len) legal =
       let inside = legal.inside in
@@ -157,7 +157,7 @@ module _ (files : Files) (count read at : ℕ) (ends : Sizes) (now : Files) (siz
       }
 
   -- and the other way round
-  legal_on : (piece : Piece) → IsLegalPiece (sizes_of files) (size_in ends) piece → IsLegalPiece (sizes_of now) (size_in ends) piece
+  legal_on : (piece : Piece) → IsLegalPiece ends.version (sizes_of files) (size_in ends) piece → IsLegalPiece ends.version (sizes_of now) (size_in ends) piece
   legal_on (Bytes file at' bytes) legal = legal
   legal_on (Copy from from_at to to_at len) legal =
       let inside = legal.inside in
@@ -177,19 +177,19 @@ module _ (files : Files) (count read at : ℕ) (ends : Sizes) (now : Files) (siz
 
   -- no piece stands there now, so none did
   pub none_back : (place : ℕ) → HasNoPieceAt now ends place → HasNoPieceAt files ends place
-  none_back place none piece legal begins = none piece (legal_on piece legal) (subst (λ (l : List ℕ). BeginsWith l (piece_bytes piece)) (sym (same_journal place)) begins)
+  none_back place none piece legal begins = none piece (legal_on piece legal) (subst (λ (l : List ℕ). BeginsWith l (piece_bytes ends.version piece)) (sym (same_journal place)) begins)
 
   module _ (part : Part) (sound : IsSoundPart part) (there : IsPartAt now ends at part) where
     -- what the piece writes is the same over the files as they were
     same_span : span_of files there.piece ≡ span_of now there.piece
-    same_span = span_same (sizes_of files) (size_in ends) files now there.piece (legal_back there.piece there.legal) (sym (applied_kept Ndt (omega arith)))
+    same_span = span_same ends.version (sizes_of files) (size_in ends) files now there.piece (legal_back there.piece there.legal) (sym (applied_kept Ndt (omega arith)))
 
     -- the piece that stands there stood there
     part_back : IsPartAt files ends at part
     part_back = record {
       piece = there.piece;
       legal = legal_back there.piece there.legal;
-      begins = subst (λ (l : List ℕ). BeginsWith l (piece_bytes there.piece)) (same_journal at) there.begins;
+      begins = subst (λ (l : List ℕ). BeginsWith l (piece_bytes ends.version there.piece)) (same_journal at) there.begins;
       behind = there.behind;
       target = there.target;
       span = same_span ∙ there.span ∙ ap (λ (l : List ℕ). record { at = part.to_at; bytes = take part.len (drop part.from_at l) }) (applied_kept part.from sound.source);
@@ -214,7 +214,7 @@ module _ (files : Files) (count read at : ℕ) (ends : Sizes) (now : Files) (siz
     -- there is room for it
     pub part_room : LiesWithin part now
     part_room =
-        let within = span_within files (size_in ends) there.piece (legal_back there.piece there.legal) in
+        let within = span_within ends.version files (size_in ends) there.piece (legal_back there.piece there.legal) in
         let place : (span_of files there.piece).at ≡ part.to_at = ap (λ s. s.at) span_is in
         record {
           inside = there.inside;
@@ -257,8 +257,7 @@ module _ (files : Files) (count read at : ℕ) (ends : Sizes) (now : Files) (siz
       -- where the piece goes, the record's pieces are written
       pub applied_covers : (lengths : List Length) (pieces : List Piece) → IsRecordOf files lengths pieces → (i : ℕ) → part.to_at ≤ i → i < part.to_at + part.len → IsCovered (spans_in files pieces part.to) i
       applied_covers lengths pieces has i low high =
-          let first = pieces_of_record (sizes_of files) next_has.lengths lengths count next_has.pieces pieces (journal_from files part.behind) (record_end ++ has.begins.behind)
-          next_has.read_to.legal (whole_legal (sizes_of files) lengths pieces has.legal) (sym next_has.read_to.spelled ∙ has.begins.is ∙ record_begun lengths pieces has.begins.behind) in
+          let first = record_pieces files ends.version part.behind next_has.change lengths pieces has next_has.lengths count next_has.pieces next_has.read_to in
           let is : pieces ≡ done.has.pieces ++ there.piece ∷ first.0 =
           first.1 ∙ ap (λ (l : List Piece). l ++ first.0) next_pieces ∙ append_assoc done.has.pieces (there.piece ∷ []) first.0 in
           let place : (span_of files there.piece).at ≡ part.to_at = ap (λ s. s.at) span_is in

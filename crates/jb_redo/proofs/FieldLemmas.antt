@@ -1,8 +1,7 @@
 -- Bytes that were read, as the beginning of those that stand there.
-use Rattle.std.proofs.Common.{◌≡◌, ◌⊎◌, inl, inr, ℕ, ◌-◌, ◌/◌, ◌%◌, ◌<◌, ◌≤◌, List, [], ◌∷◌, ◌++◌, length, take, drop, get_or, ap, sym, ◌∙◌, arith}
-use Rattle.std.proofs.lemmas.List.{take-append-drop, length-append, length-drop}
-use Rattle.std.specs.Prelude.{Option, Some, None, IfNone, IfSome}
-use Rattle.jb_bytes.specs.Number.{number_at, number_bytes}
+use Rattle.std.proofs.Common.{◌≡◌, ◌⊎◌, inl, inr, ℕ, ◌-◌, ◌<◌, ◌≤◌, List, ◌++◌, length, take, drop, get_or, ap, sym, ◌∙◌, arith}
+use Rattle.std.proofs.lemmas.List.{take-append-drop, length-append, length-drop, places}
+use Rattle.std.specs.Prelude.{Option, Some, None, IfNone, IfSome, slice_index}
 use Rattle.jb_redo.specs.Reading.{BeginsWith}
 use Rattle.jb_redo.proofs.Spelling.{same_front}
 
@@ -26,19 +25,17 @@ pub cut_short : (bytes : List ℕ) (end at n : ℕ) → 0 < n → end ≡ length
 cut_short bytes end at n some is (inl past) = omega (arith, length-drop at bytes)
 cut_short bytes end at n some is (inr few) = omega (arith, length-drop at bytes)
 
--- four bytes, from the number that they make
-pub four_bytes : (bytes : List ℕ) (n : ℕ) → length bytes ≡ 4 → ((k : ℕ) → get_or bytes k 0 < 256) → n ≡ number_at 4 0 bytes → number_bytes 4 n ≡ bytes
-four_bytes (a ∷ b ∷ c ∷ d ∷ []) n size each is =
-    let sa : a < 256 = each 0 in
-    let sb : b < 256 = each 1 in
-    let sc : c < 256 = each 2 in
-    let sd : d < 256 = each 3 in
-    let first : n % 256 ≡ a = omega arith in
-    let second : n / 256 % 256 ≡ b = omega arith in
-    let third : n / 256 / 256 % 256 ≡ c = omega arith in
-    let fourth : n / 256 / 256 / 256 % 256 ≡ d = omega arith in
-    λ i. first i ∷ second i ∷ third i ∷ fourth i ∷ []
-four_bytes bytes n size each is = absurd (omega arith)
+-- the second byte, where what was read begins there
+pub second_read : (bytes into : List ℕ) → 0 < length into → BeginsWith (drop 1 bytes) into → slice_index into 0 ≡ slice_index bytes 1
+second_read bytes into some begins =
+    let is : get_or (drop 1 bytes) 0 0 ≡ get_or (into ++ begins.behind) 0 0 = ap (λ (l : List ℕ). get_or l 0 0) begins.is in
+    let first : get_or (into ++ begins.behind) 0 0 ≡ get_or into 0 0 = grind (arith, places) in
+    let second : get_or (drop 1 bytes) 0 0 ≡ get_or bytes 1 0 = grind (arith, places) in
+    sym first ∙ sym is ∙ second
+
+-- and where there is none
+pub second_none : (bytes : List ℕ) → length (drop 1 bytes) < 1 → slice_index bytes 1 ≡ 0
+second_none bytes few = grind (arith, places)
 
 -- nothing was found, so what follows from that holds
 pub on_none : {X : Type 0} (found : Option X) (P Q : Type 0) → IfNone found P → (P → Q) → IfNone found Q

@@ -1,5 +1,6 @@
 pub mod ApplyLemmas
 pub mod CopyLemmas
+mod DecodeLemmas
 pub mod FieldLemmas
 pub mod LengthLemmas
 pub mod OneReading

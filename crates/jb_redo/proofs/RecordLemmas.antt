@@ -1,6 +1,6 @@
 -- A record's lengths set, and its pieces written: what it makes of the files.
-use Rattle.std.proofs.Common.{◌≡◌, inl, inr, ℕ, List, [], ◌∷◌, ◌++◌, length, drop, refl, ap, sym, ◌∙◌, subst, arith, length-append, ◌*◌}
-use Rattle.std.specs.Prelude.{Option, Some, None, IsSome, Result, Ok, Err, OnOk}
+use Rattle.std.proofs.Common.{◌≡◌, inl, inr, ℕ, List, ◌++◌, length, drop, refl, ap, sym, ◌∙◌, subst, arith}
+use Rattle.std.specs.Prelude.{slice_index, Option, Some, None, IsSome, Result, Ok, Err, OnOk}
 use Rattle.std.specs.Option.{ForSome}
 use Rattle.jb_disk.specs.declared.file.FileId.{FileId}
 use Rattle.jb_disk.specs.declared.file.FileId.TheVariants.{Jnl}
@@ -9,6 +9,7 @@ use Rattle.jb_disk.specs.declared.piece.Piece.{Piece}
 use Rattle.jb_disk.specs.Device.{Device, OnlyReads, Turns}
 use Rattle.jb_disk.specs.Files.{Files, IsResized}
 use Rattle.jb_disk.specs.FileLaws.{same_files}
+use Rattle.jb_disk.specs.Gate.{version_by}
 use Rattle.jb_disk.specs.Memory.{of_length}
 use Rattle.jb_disk.specs.Runs.{Keeps}
 use Rattle.jb_disk.specs.Steps.{Span, patched}
@@ -20,16 +21,15 @@ use Rattle.jb_redo.specs.Answers.{RefusesFor}
 use Rattle.jb_redo.specs.Applying.{AreResized, pieced, HasPieced, ArePieced, KeepsWay, IsFault}
 use Rattle.jb_redo.specs.OnTheWay.{IsOnTheWay}
 use Rattle.jb_redo.specs.Reading.{BeginsWith, Lengths, beginning_bytes, IsRecordOf, HasRecord}
-use Rattle.jb_redo.specs.Record.{record_end, length_bytes}
+use Rattle.jb_redo.specs.Record.{record_end}
 use Rattle.jb_redo.specs.Replay.{spans_in, applied, IsGrowthCovered}
 use Rattle.jb_redo.specs.Rules.{sizes_of, new_sizes}
 use Rattle.jb_redo.specs.Walk.{size_in, journal_from, AreSizes, HasLengths}
 use Rattle.jb_redo.proofs.ApplyLemmas.{turns_on, applied_kept, applied_size}
-use Rattle.jb_redo.proofs.OneReading.{one_record, record_or_bad_place, lengths_of_record, record_begun, whole_legal}
+use Rattle.jb_redo.proofs.OneReading.{one_record, record_or_bad_place}
 use Rattle.jb_redo.proofs.SpanLemmas.{spans_within}
-use Rattle.jb_redo.proofs.WalkLemmas.{whole_record, bad_end}
+use Rattle.jb_redo.proofs.WalkLemmas.{whole_record, bad_end, record_lengths}
 use Rattle.jb_redo.proofs.WayLemmas.{resized_with_zeros, between_start, between_patched, way_start, way_record, way_spans, way_ends, way_kept}
-use Rattle.std.specs.List.{flat_map}
 
 -- a refusal of files that hold a record is a fault
 pub fault_alone : (files : Files) (error : RecordError) → RefusesFor files error → HasRecord files → IsFault error
@@ -56,8 +56,7 @@ way_resized lengths pieces start before after way resized file =
 module _ (files : Files) (at : ℕ) (ends : Sizes) (read : HasLengths files at ends) (lengths : List Length) (pieces : List Piece) (has : IsRecordOf files lengths pieces) where
   -- the lengths that were read are those of the record
   same_lengths : read.lengths ≡ lengths
-  same_lengths = lengths_of_record (sizes_of files) read.lengths lengths pieces (journal_from files at) (record_end ++ has.begins.behind) read.read_to.legal
-      (whole_legal (sizes_of files) lengths pieces has.legal) (sym read.read_to.spelled ∙ has.begins.is ∙ record_begun lengths pieces has.begins.behind)
+  same_lengths = record_lengths files ends.version at read.change lengths pieces has read.lengths read.read_to
 
   -- so the files end where the record says
   pub same_ends : size_in ends ≡ new_sizes lengths (sizes_of files)
@@ -79,10 +78,12 @@ module _ (files : Files) (at : ℕ) (ends : Sizes) (read : HasLengths files at e
     -- the lengths are read there too
     pub mid_lengths : HasLengths mid at ends
     mid_lengths = record {
+      change = read.change;
       lengths = read.lengths;
       read_to = record {
+        version_is = read.read_to.version_is ∙ ap (λ (l : List ℕ). version_by (slice_index l 1)) (sym journal);
         legal = read.read_to.legal;
-        spelled = ap (drop 16) journal ∙ read.read_to.spelled ∙ ap (λ (l : List ℕ). beginning_bytes (Lengths (length read.lengths) read.lengths) ++ drop at l) (sym journal);
+        spelled = ap (drop 16) journal ∙ read.read_to.spelled ∙ ap (λ (l : List ℕ). beginning_bytes ends.version (Lengths read.change (length read.lengths) read.lengths) ++ drop at l) (sym journal);
         place = read.read_to.place;
       };
       ends_are = same_ends ∙ (λ i. λ file. sym (way_ends lengths pieces files has.legal mid mid_way file) i) ∙ ap (λ (l : List Length). new_sizes l (sizes_of mid)) (sym same_lengths);
@@ -101,7 +102,7 @@ module _ (files : Files) (at : ℕ) (ends : Sizes) (read : HasLengths files at e
             let spans = spans_in files pieces file in
             ap (λ (l : List Span). patched l (mid file)) (way_spans lengths pieces files has.legal mid mid_way file)
             ∙ between_patched len spans (files file) (files file) (mid file) (of_length len (files file))
-            (spans_within files (new_sizes lengths (sizes_of files)) pieces file has.legal.pieces_are.each)
+            (spans_within _ files (new_sizes lengths (sizes_of files)) pieces file has.legal.pieces_are.each)
             (between_start len spans (files file)) (resized_so file) (resized_with_zeros len (files file)) (grown file)
 
 module _ (files : Files) (at : ℕ) (ends : Sizes) (now : Files) (sized : AreSizes ends files) (done : HasPieced files at ends now) where
@@ -114,17 +115,17 @@ module _ (files : Files) (at : ℕ) (ends : Sizes) (now : Files) (sized : AreSiz
   same_end_back P = subst (λ (l : List ℕ). P (drop at l)) (sym (applied_kept files done.count done.count at ends now sized done.all Jnl (omega arith)))
 
   -- the end behind the pieces, so these were the record's
-  pub pieced_whole : BeginsWith (journal_from now at) record_end → ArePieced files now
+  pub pieced_whole : BeginsWith (journal_from now at) (record_end ends.version) → ArePieced files now
   pieced_whole begins lengths pieces has =
       let walked = done.all.has in
-      let whole = whole_record files done.count done.count at ends walked refl (same_end (λ (l : List ℕ). BeginsWith l record_end) begins) in
+      let whole = whole_record files done.count done.count at ends walked refl (same_end (λ (l : List ℕ). BeginsWith l (record_end ends.version)) begins) in
       let one = one_record files walked.lengths lengths walked.pieces pieces whole has in
       done.all.is ∙ ap (λ (l : List Piece). pieced l files) one.1
 
   -- no end behind the pieces, so there was no record
-  pub pieced_no_end : (BeginsWith (journal_from now at) record_end → ⊥) → HasRecord files → ⊥
+  pub pieced_no_end : (BeginsWith (journal_from now at) (record_end ends.version) → ⊥) → HasRecord files → ⊥
   pieced_no_end none has =
-      record_or_bad_place files at (bad_end files done.count done.count at ends done.all.has refl (λ begins. none (same_end_back (λ (l : List ℕ). BeginsWith l record_end) begins))) has
+      record_or_bad_place files at (bad_end files done.count done.count at ends done.all.has refl (λ begins. none (same_end_back (λ (l : List ℕ). BeginsWith l (record_end ends.version)) begins))) has
 
   -- the journal's length is the one that is kept
   pub pieced_journal : size_in ends Jnl ≡ length (now Jnl)
@@ -169,8 +170,3 @@ told_still (Ok value) None (Some half) new ends resized written = absurd resized
 told_still (Ok value) (Some was) None new ends resized written = absurd resized
 told_still (Ok value) (Some was) (Some half) None ends resized written = absurd written
 told_still (Ok value) (Some was) (Some half) (Some now) ends resized written = λ some. refl
-
--- each length takes eight bytes
-pub length-lengths : (lengths : List Length) → length (flat_map length_bytes lengths) ≡ 8 * length lengths
-length-lengths [] = refl
-length-lengths (entry ∷ lengths) = omega (arith, length-append (length_bytes entry) (flat_map length_bytes lengths), length-lengths lengths)

@@ -5,6 +5,7 @@ use Rattle.std.proofs.lemmas.Bool.Decides.{nat_tests}
 use Rattle.std.proofs.lemmas.List.Elements.{All-head, All-tail}
 use Rattle.jb_disk.specs.declared.file.FileId.{FileId}
 use Rattle.jb_disk.specs.declared.piece.Length.{Length}
+use Rattle.jb_disk.specs.declared.version.Version.{Version}
 use Rattle.jb_disk.specs.Files.{file_number}
 use Rattle.jb_redo.specs.Rules.{with_size, new_sizes, IsLegalLength}
 
@@ -34,8 +35,8 @@ given_or_not (entry ∷ lengths) file = elim (given_or_not lengths file) [
 ]
 
 -- the journal and the shadow of the texts are given none
-pub not_given : (lengths : List Length) (sizes : FileId → ℕ) (file : FileId) → All IsLegalLength lengths → 4 ≤ file_number file → new_sizes lengths sizes file ≡ sizes file
+pub not_given : {version : Version} (lengths : List Length) (sizes : FileId → ℕ) (file : FileId) → All (IsLegalLength version) lengths → 4 ≤ file_number file → new_sizes lengths sizes file ≡ sizes file
 not_given [] sizes file legal high = refl
-not_given (entry ∷ lengths) sizes file legal high =
-    let of_base = (All-head IsLegalLength entry lengths legal).of_base in
-    not_given lengths (with_size entry sizes) file (All-tail IsLegalLength entry lengths legal) high ∙ with_size-other entry sizes file (λ same. omega (arith, same, of_base))
+not_given {version} (entry ∷ lengths) sizes file legal high =
+    let of_base = (All-head (IsLegalLength version) entry lengths legal).of_base in
+    not_given lengths (with_size entry sizes) file (All-tail (IsLegalLength version) entry lengths legal) high ∙ with_size-other entry sizes file (λ same. omega (arith, same, of_base))

@@ -4,46 +4,23 @@ use Rattle.std.specs.Prelude.{◌^◌}
 use Rattle.std.specs.List.{flat_map}
 use Rattle.std.proofs.lemmas.List.{take_at, drop_at}
 use Rattle.std.proofs.lemmas.List.Elements.{All-head, All-tail}
-use Rattle.jb_bytes.specs.Number.{number_at, number_bytes}
+use Rattle.jb_bytes.specs.Number.{little_endian, number_at, number_bytes}
+use Rattle.jb_bytes.proofs.Numbers.{little_endian-back, length-number_bytes}
 use Rattle.jb_disk.specs.declared.file.FileId.{FileId}
 use Rattle.jb_disk.specs.declared.file.FileId.TheVariants.{Jhr, Jdt, Jdx, Jlr, Jnl, Ndt}
 use Rattle.jb_disk.specs.declared.piece.Length.{Length}
 use Rattle.jb_disk.specs.declared.piece.Piece.{Piece}
 use Rattle.jb_disk.specs.declared.piece.Piece.TheVariants.{Bytes, Copy}
-use Rattle.jb_disk.specs.Files.{ceiling_of}
+use Rattle.jb_disk.specs.declared.version.Version.{Version}
+use Rattle.jb_disk.specs.declared.version.Version.TheVariants.{One, Two}
 use Rattle.jb_disk.specs.FileLaws.{number-injective}
 use Rattle.jb_redo.specs.Reading.{BeginsWith}
-use Rattle.jb_redo.specs.Record.{length_bytes, piece_bytes}
-use Rattle.jb_redo.specs.Rules.{IsLegalLength, IsLegalPiece}
+use Rattle.jb_redo.specs.Record.{width_of, record_head, length_bytes, piece_bytes}
+use Rattle.jb_redo.specs.Rules.{bound_of, most_of, IsChangeNumber, IsLegalLength, IsLegalPiece}
 
--- four bytes hold one number
-pub same_number : (a b : ℕ) (r s : List ℕ) → a < 2 ^ 32 → b < 2 ^ 32 → number_bytes 4 a ++ r ≡ number_bytes 4 b ++ s → (a ≡ b) × (r ≡ s)
-same_number a b r s low low' same =
-    let numbers = ap (number_at 4 0) same in
-    (omega (arith, numbers, low, low'), ap (drop 4) same)
-
--- every ceiling fits four bytes
-ceiling_short : (file : FileId) → ceiling_of file < 2 ^ 32
-ceiling_short Jhr = omega arith
-ceiling_short Jdt = omega arith
-ceiling_short Jdx = omega arith
-ceiling_short Jlr = omega arith
-ceiling_short Jnl = omega arith
-ceiling_short Ndt = omega arith
-
--- and so does a legal length
-pub legal_short : (entry : Length) → IsLegalLength entry → entry.len < 2 ^ 32
-legal_short entry legal =
-    let ceiling = legal.ceiling in
-    omega (arith, ceiling_short entry.file)
-
--- bytes begin with one length at most
-pub same_length : (one other : Length) (r s : List ℕ) → IsLegalLength one → IsLegalLength other → length_bytes one ++ r ≡ length_bytes other ++ s → (one ≡ other) × (r ≡ s)
-same_length one other r s legal legal' same =
-    let numbers = ap (number_at 1 0) same in
-    let file = number-injective one.file other.file (omega (arith, numbers)) in
-    let lens = same_number one.len other.len r s (legal_short one legal) (legal_short other legal') (ap (drop 4) same) in
-    ((λ i. record { file = file i; len = lens.0 i }), lens.1)
+-- four strings behind one another
+pub nested : (a b c d : List ℕ) → a ++ b ++ c ++ d ≡ a ++ (b ++ (c ++ d))
+nested a b c d = append_assoc (a ++ b) c d ∙ append_assoc a b (c ++ d)
 
 -- lists of one length before the same bytes
 pub same_front : (xs ys r s : List ℕ) → length xs ≡ length ys → xs ++ r ≡ ys ++ s → (xs ≡ ys) × (r ≡ s)
@@ -52,30 +29,90 @@ same_front xs ys r s size same = (
   sym (drop_at xs r (length xs) refl) ∙ ap (drop (length xs)) same ∙ drop_at ys s (length xs) (sym size),
 )
 
+-- so many bytes hold one number
+pub same_number : (width a b : ℕ) (r s : List ℕ) → a < 256 ^ width → b < 256 ^ width → number_bytes width a ++ r ≡ number_bytes width b ++ s → (a ≡ b) × (r ≡ s)
+same_number width a b r s low low' same =
+    let front = same_front (number_bytes width a) (number_bytes width b) r s (length-number_bytes width a ∙ sym (length-number_bytes width b)) same in
+    (sym (little_endian-back width a low) ∙ ap little_endian front.0 ∙ little_endian-back width b low', front.1)
+
+-- a place or a length fits its bytes
+pub in_width : (version : Version) (n : ℕ) → n < bound_of version → n < 256 ^ width_of version
+in_width One n low = low
+in_width Two n low = low
+
+-- and what fits them is one
+pub from_width : (version : Version) (n : ℕ) → n < 256 ^ width_of version → n < bound_of version
+from_width One n low = low
+from_width Two n low = low
+
+-- bytes begin with one place or length at most
+pub same_value : (version : Version) (a b : ℕ) (r s : List ℕ) → a < bound_of version → b < bound_of version
+    → number_bytes (width_of version) a ++ r ≡ number_bytes (width_of version) b ++ s → (a ≡ b) × (r ≡ s)
+same_value version a b r s low low' same = same_number (width_of version) a b r s (in_width version a low) (in_width version b low') same
+
+-- and with one head
+pub same_head : (version : Version) (a b : ℕ) (r s : List ℕ) → IsChangeNumber version a → IsChangeNumber version b → record_head version a ++ r ≡ record_head version b ++ s → (a ≡ b) × (r ≡ s)
+same_head One a b r s none none' same = (none ∙ sym none', ap (drop 4) same)
+same_head Two a b r s low low' same = same_number 8 a b r s low low' (ap (drop 4) same)
+
+-- the greatest length of each file fits its bytes
+most_short : (version : Version) (file : FileId) → most_of version file < bound_of version
+most_short One Jhr = omega arith
+most_short One Jdt = omega arith
+most_short One Jdx = omega arith
+most_short One Jlr = omega arith
+most_short One Jnl = omega arith
+most_short One Ndt = omega arith
+most_short Two Jhr = omega arith
+most_short Two Jdt = omega arith
+most_short Two Jdx = omega arith
+most_short Two Jlr = omega arith
+most_short Two Jnl = omega arith
+most_short Two Ndt = omega arith
+
+-- and so does a legal length
+pub legal_short : (version : Version) (entry : Length) → IsLegalLength version entry → entry.len < bound_of version
+legal_short version entry legal =
+    let ceiling = legal.ceiling in
+    omega (arith, most_short version entry.file)
+
+-- bytes begin with one length at most
+pub same_length : (version : Version) (one other : Length) (r s : List ℕ) → IsLegalLength version one → IsLegalLength version other → length_bytes version one ++ r ≡ length_bytes version other ++ s
+    → (one ≡ other) × (r ≡ s)
+same_length version one other r s legal legal' same =
+    let numbers = ap (number_at 1 0) same in
+    let file = number-injective one.file other.file (omega (arith, numbers)) in
+    let lens = same_value version one.len other.len r s (legal_short version one legal) (legal_short version other legal') (ap (drop 4) same) in
+    ((λ i. record { file = file i; len = lens.0 i }), lens.1)
+
 -- bytes begin with one piece at most
-pub same_piece : (sizes ends : FileId → ℕ) (one other : Piece) (r s : List ℕ) → IsLegalPiece sizes ends one → IsLegalPiece sizes ends other
-    → piece_bytes one ++ r ≡ piece_bytes other ++ s → (one ≡ other) × (r ≡ s)
-same_piece sizes ends (Bytes file at bytes) (Bytes file' at' bytes') r s legal legal' same =
+pub same_piece : (version : Version) (sizes ends : FileId → ℕ) (one other : Piece) (r s : List ℕ) → IsLegalPiece version sizes ends one → IsLegalPiece version sizes ends other
+    → piece_bytes version one ++ r ≡ piece_bytes version other ++ s → (one ≡ other) × (r ≡ s)
+same_piece version sizes ends (Bytes file at bytes) (Bytes file' at' bytes') r s legal legal' same =
+    let width = width_of version in
     let numbers = ap (number_at 1 1) same in
     let f = number-injective file file' (omega (arith, numbers)) in
-    let a = same_number at at' _ _ legal.place legal'.place (ap (drop 4) same) in
-    let n = same_number (length bytes) (length bytes') _ _ legal.size legal'.size a.1 in
+    let a = same_value version at at' _ _ legal.place legal'.place
+    (sym (nested (number_bytes width at) (number_bytes width (length bytes)) bytes r) ∙ ap (drop 4) same ∙ nested (number_bytes width at') (number_bytes width (length bytes')) bytes' s) in
+    let n = same_value version (length bytes) (length bytes') _ _ legal.size legal'.size a.1 in
     let b = same_front bytes bytes' r s n.0 n.1 in
     ((λ i. Bytes (f i) (a.0 i) (b.0 i)), b.1)
-same_piece sizes ends (Bytes file at bytes) (Copy from from_at to to_at len) r s legal legal' same =
+same_piece version sizes ends (Bytes file at bytes) (Copy from from_at to to_at len) r s legal legal' same =
     let numbers = ap (number_at 1 0) same in
     absurd (omega (arith, numbers))
-same_piece sizes ends (Copy from from_at to to_at len) (Bytes file at bytes) r s legal legal' same =
+same_piece version sizes ends (Copy from from_at to to_at len) (Bytes file at bytes) r s legal legal' same =
     let numbers = ap (number_at 1 0) same in
     absurd (omega (arith, numbers))
-same_piece sizes ends (Copy from from_at to to_at len) (Copy from' from_at' to' to_at' len') r s legal legal' same =
+same_piece version sizes ends (Copy from from_at to to_at len) (Copy from' from_at' to' to_at' len') r s legal legal' same =
+    let width = width_of version in
     let targets = ap (number_at 1 1) same in
     let sources = ap (number_at 1 2) same in
     let t = number-injective to to' (omega (arith, targets)) in
     let f = number-injective from from' (omega (arith, sources)) in
-    let a = same_number to_at to_at' _ _ legal.place legal'.place (ap (drop 4) same) in
-    let n = same_number len len' _ _ legal.size legal'.size a.1 in
-    let g = same_number from_at from_at' _ _ legal.source legal'.source n.1 in
+    let a = same_value version to_at to_at' _ _ legal.place legal'.place
+    (sym (nested (number_bytes width to_at) (number_bytes width len) (number_bytes width from_at) r) ∙ ap (drop 4) same ∙ nested (number_bytes width to_at') (number_bytes width len') (number_bytes width from_at') s) in
+    let n = same_value version len len' _ _ legal.size legal'.size a.1 in
+    let g = same_value version from_at from_at' _ _ legal.source legal'.source n.1 in
     ((λ i. Copy (f i) (g.0 i) (t i) (a.0 i) (n.0 i)), g.1)
 
 -- items that are spelled so that bytes begin with one at most

@@ -14,13 +14,14 @@ use Rattle.jb_disk.specs.ImageLaws.{get-of_length}
 use Rattle.jb_disk.specs.Memory.{of_length}
 use Rattle.jb_disk.specs.Steps.{Span, IsCovered, AreWithin, AgreesBut, Torn, Cut, patched}
 use Rattle.jb_disk.proofs.StepLemmas.{patched-same}
-use Rattle.jb_disk.specs.Gate.{IsGateOpen, with_gate_closed}
+use Rattle.jb_disk.specs.declared.version.Version.{Version}
+use Rattle.jb_disk.specs.Gate.{IsGateOpen, version_by, version_of, version_number, with_gate_closed}
 use Rattle.jb_redo.specs.Laws.{HasOneReplayAtMost}
 use Rattle.jb_redo.specs.OnTheWay.{IsFileBetween, IsOnTheWay}
 use Rattle.jb_redo.specs.Reading.{IsRecordOf, BeginsWith}
 use Rattle.jb_redo.specs.Record.{record_bytes}
 use Rattle.jb_redo.specs.Replay.{spans_in, applied, IsGrowthCovered, Replays}
-use Rattle.jb_redo.specs.Rules.{sizes_of, new_sizes, IsLegalPiece, IsLegalRecord}
+use Rattle.jb_redo.specs.Rules.{sizes_of, new_sizes, IsChangeNumber, IsLegalPiece, IsLegalRecord}
 use Rattle.jb_redo.proofs.OneReading.{one_record}
 use Rattle.jb_redo.proofs.SizeLemmas.{given_or_not, not_given}
 use Rattle.jb_redo.proofs.SpanLemmas.{no_spans, spans_same, spans_within}
@@ -135,13 +136,13 @@ module _ (lengths : List Length) (pieces : List Piece) (start : Files) where
           }
 
   -- where the record is one over the files at the start
-  module _ (legal : IsLegalRecord (sizes_of start) lengths pieces) (now : Files) (way : IsOnTheWay lengths pieces start now) where
+  module _ {version : Version} (legal : IsLegalRecord version (sizes_of start) lengths pieces) (now : Files) (way : IsOnTheWay lengths pieces start now) where
     -- the journal and the shadow of the texts are as they were
     pub way_kept : (file : FileId) → 4 ≤ file_number file → now file ≡ start file
     way_kept file high =
         between_kept (new_sizes lengths (sizes_of start) file) (start file) (now file) (not_given lengths (sizes_of start) file legal.lengths_are.each high)
         (subst (λ (l : List Span). IsFileBetween (new_sizes lengths (sizes_of start) file) l (start file) (now file))
-        (no_spans (sizes_of start) (new_sizes lengths (sizes_of start)) start pieces file legal.pieces_are.each high) (way file))
+        (no_spans version (sizes_of start) (new_sizes lengths (sizes_of start)) start pieces file legal.pieces_are.each high) (way file))
 
     -- the files are to have the same lengths
     pub way_ends : (file : FileId) → new_sizes lengths (sizes_of now) file ≡ new_sizes lengths (sizes_of start) file
@@ -157,10 +158,10 @@ module _ (lengths : List Length) (pieces : List Piece) (start : Files) where
 
     -- the same is written into each
     pub way_spans : (file : FileId) → spans_in now pieces file ≡ spans_in start pieces file
-    way_spans file = spans_same (sizes_of start) (new_sizes lengths (sizes_of start)) now start pieces file legal.pieces_are.each (way_kept Ndt (omega arith))
+    way_spans file = spans_same version (sizes_of start) (new_sizes lengths (sizes_of start)) now start pieces file legal.pieces_are.each (way_kept Ndt (omega arith))
 
     -- a piece keeps the rules over them
-    way_piece : (piece : Piece) → IsLegalPiece (sizes_of start) (new_sizes lengths (sizes_of start)) piece → IsLegalPiece (sizes_of now) (new_sizes lengths (sizes_of now)) piece
+    way_piece : (piece : Piece) → IsLegalPiece version (sizes_of start) (new_sizes lengths (sizes_of start)) piece → IsLegalPiece version (sizes_of now) (new_sizes lengths (sizes_of now)) piece
     way_piece (Bytes file at bytes) is =
         let within = is.within in
         record { of_base = is.of_base; place = is.place; size = is.size; within = omega (arith, way_ends file) }
@@ -179,7 +180,7 @@ module _ (lengths : List Length) (pieces : List Piece) (start : Files) where
         }
 
     -- so the record is one over the files on the way
-    pub way_legal : IsLegalRecord (sizes_of now) lengths pieces
+    pub way_legal : IsLegalRecord version (sizes_of now) lengths pieces
     way_legal = record {
       lengths_are = legal.lengths_are;
       pieces_are = record { many = legal.pieces_are.many; each = λ k d low. way_piece _ (legal.pieces_are.each k d low) };
@@ -195,7 +196,7 @@ module _ (lengths : List Length) (pieces : List Piece) (start : Files) where
             let spans = spans_in start pieces file in
             (λ i. patched (way_spans file i) (of_length (way_ends file i) (now file)))
             ∙ between_patched len spans (start file) (now file) (of_length len (now file)) (of_length len (start file))
-            (spans_within start (new_sizes lengths (sizes_of start)) pieces file legal.pieces_are.each) (way file) (resized_with_zeros len (now file)) (resized_with_zeros len (start file)) (grown file)
+            (spans_within version start (new_sizes lengths (sizes_of start)) pieces file legal.pieces_are.each) (way file) (resized_with_zeros len (now file)) (resized_with_zeros len (start file)) (grown file)
 
     -- which they then are too
     pub way_grown : IsGrowthCovered lengths pieces start → IsGrowthCovered lengths pieces now
@@ -206,10 +207,15 @@ module _ (lengths : List Length) (pieces : List Piece) (start : Files) where
 
   -- files on the way hold the record that the files at the start hold
   pub way_record : IsRecordOf start lengths pieces → (now : Files) → IsOnTheWay lengths pieces start now → IsRecordOf now lengths pieces
-  way_record is now way = record {
-    legal = way_legal is.legal now way;
-    begins = subst (λ (l : List ℕ). BeginsWith (drop 16 l) (record_bytes lengths pieces)) (sym (way_kept is.legal now way Jnl (omega arith))) is.begins;
-  }
+  way_record is now way =
+      let journal = way_kept is.legal now way Jnl (omega arith) in
+      let version : version_of start ≡ version_of now = ap (λ (l : List ℕ). version_by (slice_index l 1)) (sym journal) in
+      record {
+        change = is.change;
+        numbered = subst (λ (v : Version). IsChangeNumber v is.change) version is.numbered;
+        legal = subst (λ (v : Version). IsLegalRecord v (sizes_of now) lengths pieces) version (way_legal is.legal now way);
+        begins = subst (λ (l : List ℕ). BeginsWith (drop 16 l) (record_bytes (version_by (slice_index l 1)) is.change lengths pieces)) (sym journal) is.begins;
+      }
 
 -- with an open gate, files replay to what the record makes of them
 pub replays_to_applied : (lengths : List Length) (pieces : List Piece) (files : Files) → IsGateOpen files → IsRecordOf files lengths pieces → Replays files (with_gate_closed (applied lengths pieces files))
@@ -225,7 +231,7 @@ way_replays lengths pieces start now after opened has grown way (inr redone) =
     inr (record {
       opened = record {
         longer = subst (λ (l : List ℕ). 16 < length l) (sym journal) opened.longer;
-        gate = ap (λ (l : List ℕ). slice_index l 0) journal ∙ opened.gate;
+        gate = ap (λ (l : List ℕ). slice_index l 0) journal ∙ opened.gate ∙ ap (λ (l : List ℕ). version_number (version_by (slice_index l 1))) (sym journal);
       };
       lengths = lengths;
       pieces = pieces;

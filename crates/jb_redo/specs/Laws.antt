@@ -11,7 +11,8 @@ use Rattle.jb_redo.specs.Replay.{Replays, IsGrowthCovered}
 -- a journal holds one record at most
 abbrev pub HasOneRecordAtMost : Type 0
 HasOneRecordAtMost = (files : Files) (lengths lengths' : List Length) (pieces pieces' : List Piece)
-    → IsRecordOf files lengths pieces → IsRecordOf files lengths' pieces' → (lengths ≡ lengths') × (pieces ≡ pieces')
+    (one : IsRecordOf files lengths pieces) (other : IsRecordOf files lengths' pieces')
+    → (lengths ≡ lengths') × (pieces ≡ pieces') × (one.change ≡ other.change)
 
 -- where it holds none, one place is to blame
 abbrev pub HasOneBadPlaceAtMost : Type 0

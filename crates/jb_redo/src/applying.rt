@@ -18,11 +18,11 @@ ghost use Rattle.jb_redo.specs.Walk.{size_in, AreSizes, AreWithin, HasLengths};
 
 use crate::RecordError;
 use crate::field::{has_mark, read_number};
+use crate::layout::end_mark;
 use crate::lengths::{NewLengths, read_lengths};
 use crate::part::Part;
 use crate::piece::read_part;
 use crate::sizes::Sizes;
-use crate::testing::END;
 use jb_disk::{Disk, DiskFailed, FileId};
 
 /// Bytes that go from file to file at once, at most.
@@ -151,7 +151,7 @@ fn apply_pieces<D: Disk>(disk: &mut D, lengths: &NewLengths) -> Result<u64, Reco
 {
     let end = lengths.ends.get(FileId::Jnl);
     let mut at = lengths.at;
-    let Some(count) = read_number(disk, end, at)? else {
+    let Some(count) = read_number(disk, end, at, 4)? else {
         return Err(RecordError::Bad { at });
     };
     at += 4;
@@ -183,7 +183,8 @@ fn write_pieces<D: Disk>(disk: &mut D, lengths: &NewLengths) -> Result<(), Recor
     ensures faults { CountsFaults is_record_fault (D.device disk.old) (D.device disk.new) result }
 {
     let at = apply_pieces(disk, lengths)?;
-    if !has_mark(disk, lengths.ends.get(FileId::Jnl), at, &END)? {
+    let end = end_mark(lengths.ends.version);
+    if !has_mark(disk, lengths.ends.get(FileId::Jnl), at, &end)? {
         return Err(RecordError::Bad { at });
     }
     Ok(())
@@ -216,8 +217,8 @@ fn apply<D: Disk>(disk: &mut D) -> Result<(), RecordError>
 /// Where the disk tells its files they are to hold a record, as [`test_record`](crate::test_record) answers.
 /// `StoreFault` may come at any point. After it, and after a crash at any moment, the journal still holds the record,
 /// and applying it again comes to the same files, where each byte past an old end is written by some piece. `Bad` comes
-/// only from a disk that tells nothing, when it reads otherwise than before. Six questions for a length; a read for each
-/// field and two for a copy; a change of each new length; a read and a write for each 16,384 bytes of a piece.
+/// only from a disk that tells nothing, when it reads otherwise than before. Six questions for a length and a read of the version; a
+/// read for each field and two for a copy; a change of each new length; a read and a write for each 16,384 bytes of a piece.
 pub fn apply_record<D: Disk>(disk: &mut D) -> Result<(), RecordError>
     requires { ForSome (D.device disk.old).contents HasRecord }
 

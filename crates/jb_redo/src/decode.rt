@@ -1,19 +1,31 @@
 //! The fields of a record, from their bytes.
-ghost use Rattle.std.specs.Prelude.{◌≡◌, ◌<◌, ◌≤◌, IfSome, IfNone, IsTrue, ◌↔◌};
+ghost use Rattle.std.specs.Prelude.{◌≡◌, ◌+◌, ◌^◌, ◌<◌, ◌≤◌, IfSome, IfNone, IsTrue, ◌↔◌, length, slice_index, ℕ};
 ghost use Rattle.jb_bytes.specs.Number.{number_bytes};
 ghost use Rattle.jb_disk.specs.declared.piece.Length.{Length};
-ghost use Rattle.jb_disk.specs.Files.{file_number, ceiling_of};
-ghost use Rattle.jb_redo.specs.Record.{length_bytes};
+ghost use Rattle.jb_disk.specs.Files.{file_number};
+ghost use Rattle.jb_redo.specs.Record.{width_of, length_bytes};
 ghost use Rattle.jb_redo.specs.Rules.{IsLegalLength};
 
-use jb_disk::{FileId, Length};
-use jb_limits::{HEADERS_CEILING, INDEX_CEILING, LASTREAD_CEILING, TEXTS_CEILING};
+use crate::layout::most;
+use jb_disk::{FileId, Length, Version};
 
-/// The number of four bytes.
-pub(crate) fn decode_number(bytes: &[u8; 4]) -> u32
-    ensures { bytes.now ≡ number_bytes 4 result }
+// Eight bytes that begin with these, and then are zero.
+fn padded(bytes: &[u8]) -> [u8; 8]
+    requires { length bytes.now ≤ 8 }
+    ensures { (k : ℕ) → k < 8 → slice_index result k ≡ slice_index bytes.now k }
 {
-    u32::from_le_bytes(*bytes)
+    let mut eight = [0; 8];
+    eight[..bytes.len()].copy_from_slice(bytes);
+    eight
+}
+
+/// The number that these bytes make, at most eight of them, the lowest first.
+pub(crate) fn decode_number(bytes: &[u8]) -> u64
+    requires { length bytes.now ≤ 8 }
+    ensures spelled { bytes.now ≡ number_bytes (length bytes.now) result }
+    ensures fits { result < 256 ^ length bytes.now }
+{
+    u64::from_le_bytes(padded(bytes))
 }
 
 /// Whether two marks are the same four bytes.
@@ -37,33 +49,20 @@ pub(crate) fn base_file(number: u8) -> Option<FileId>
     }
 }
 
-/// The greatest length that a file of the base is given.
-fn base_ceiling(file: FileId) -> u64
-    requires { file_number file < 4 }
-    ensures { result ≡ ceiling_of file }
-{
-    match file {
-        FileId::Jhr => HEADERS_CEILING,
-        FileId::Jdt => TEXTS_CEILING,
-        FileId::Jdx => INDEX_CEILING,
-        FileId::Jlr => LASTREAD_CEILING,
-        FileId::Jnl | FileId::Ndt => unreachable!(),
-    }
-}
-
 /// The new length that has these bytes, if there is one for a file whose number is at least `least`.
-pub(crate) fn decode_length(bytes: &[u8; 8], least: u8) -> Option<Length>
-    ensures found { IfSome result (λ entry.
-        (bytes.now ≡ length_bytes entry) × IsLegalLength entry × (least ≤ file_number entry.file)) }
-    ensures none { IfNone result ((entry : Length)
-        → IsLegalLength entry → least ≤ file_number entry.file → bytes.now ≡ length_bytes entry → ⊥) }
+pub(crate) fn decode_length(version: Version, bytes: &[u8], least: u8) -> Option<Length>
+    requires { length bytes.now ≡ 4 + width_of version }
+    ensures found { IfSome result (λ entry. (bytes.now ≡ length_bytes version entry)
+        × IsLegalLength version entry × (least ≤ file_number entry.file)) }
+    ensures none { IfNone result ((entry : Length) → IsLegalLength version entry
+        → least ≤ file_number entry.file → bytes.now ≡ length_bytes version entry → ⊥) }
 {
-    let [number, 0, 0, 0, a, b, c, d] = *bytes else {
+    let [number, 0, 0, 0, len @ ..] = bytes else {
         return None;
     };
-    let file = base_file(number)?;
-    let len = u32::from_le_bytes([a, b, c, d]);
-    if number < least || len as u64 > base_ceiling(file) {
+    let file = base_file(*number)?;
+    let len = decode_number(len);
+    if *number < least || len > most(version, file) {
         return None;
     }
     Some(Length { file, len })

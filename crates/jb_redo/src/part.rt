@@ -1,23 +1,24 @@
 //! A piece as it stands in the journal: where its bytes are, and where they go.
-ghost use Rattle.std.specs.Prelude.{◌≡◌, ◌+◌, ◌<◌, ◌≤◌, IfSome, IfNone};
+ghost use Rattle.std.specs.Prelude.{◌≡◌, ◌+◌, ◌<◌, ◌≤◌, ◌↔◌, IsTrue, IfSome, IfNone, length};
 ghost use Rattle.jb_disk.specs.declared.file.FileId.TheVariants.{Jdt as texts, Ndt as shadow};
 ghost use Rattle.jb_disk.specs.Files.{file_number};
 ghost use Rattle.jb_redo.specs.Applying.{IsSoundPart};
 ghost use Rattle.jb_redo.specs.declared.part.Front.{Front};
-ghost use Rattle.jb_redo.specs.Walk.{size_in, front_bytes, IsLegalFront, given_part_of, copied_part_of};
+ghost use Rattle.jb_redo.specs.Walk.{size_in, front_bytes, front_size, IsLegalFront, given_part_of, copied_part_of};
 
-use crate::decode::base_file;
+use crate::decode::{base_file, decode_number};
+use crate::layout::width;
 use crate::sizes::Sizes;
-use jb_disk::FileId;
+use jb_disk::{FileId, Version};
 
-/// Bytes before what a piece brings with it.
-pub(crate) const FRONT_BYTES: usize = 12;
+/// The most bytes that stand before what a piece brings with it.
+pub(crate) const MOST_FRONT_BYTES: usize = 20;
 
 /// The front of a piece: what stands before its bytes, or before the place copied from.
 #[derive(Clone, Copy)]
 pub(crate) enum Front {
-    Bytes { to: FileId, at: u32, len: u32 },
-    Copy { at: u32, len: u32 },
+    Bytes { to: FileId, at: u64, len: u64 },
+    Copy { at: u64, len: u64 },
 }
 
 /// So many bytes of a file that go to a place of another, and where in the journal the piece ends that says so.
@@ -32,16 +33,20 @@ pub(crate) struct Part {
 }
 
 /// The front that has these bytes, if there is one.
-pub(crate) fn decode_front(bytes: &[u8; FRONT_BYTES]) -> Option<Front>
-    ensures found { IfSome result (λ front. (bytes.now ≡ front_bytes front) × IsLegalFront front) }
-    ensures none { IfNone result ((front : Front) → IsLegalFront front → bytes.now ≡ front_bytes front → ⊥) }
+pub(crate) fn decode_front(version: Version, bytes: &[u8]) -> Option<Front>
+    requires { length bytes.now ≡ front_size version }
+    ensures found { IfSome result (λ front.
+        (bytes.now ≡ front_bytes version front) × IsLegalFront version front) }
+    ensures none { IfNone result ((front : Front)
+        → IsLegalFront version front → bytes.now ≡ front_bytes version front → ⊥) }
 {
-    let [kind, to, from, 0, a, b, c, d, e, f, g, h] = *bytes else {
+    let [kind, to, from, 0, numbers @ ..] = bytes else {
         return None;
     };
-    let at = u32::from_le_bytes([a, b, c, d]);
-    let len = u32::from_le_bytes([e, f, g, h]);
-    match (kind, to, from) {
+    let (at, len) = numbers.split_at(width(version));
+    let at = decode_number(at);
+    let len = decode_number(len);
+    match (*kind, *to, *from) {
         (0, to, 0) => Some(Front::Bytes {
             to: base_file(to)?,
             at,
@@ -52,25 +57,29 @@ pub(crate) fn decode_front(bytes: &[u8; FRONT_BYTES]) -> Option<Front>
     }
 }
 
-/// The piece at a place of the journal, which ends at `end`, if its bytes are whole and end within the file.
+// Whether so many bytes at a place pass the end.
+fn passes(end: u64, at: u64, len: u64) -> bool
+    ensures { IsTrue result ↔ (end < at + len) }
+{
+    at > end || end - at < len
+}
+
+/// The piece whose bytes stand at a place of the journal, which ends at `end`, if they are whole and end within the file.
 pub(crate) fn given_part(
     end: u64,
     ends: &Sizes,
-    at: u64,
+    from_at: u64,
     to: FileId,
-    to_at: u32,
-    len: u32,
+    to_at: u64,
+    len: u64,
 ) -> Option<Part>
-    requires { at + 12 ≤ end }
-    ensures found { IfSome result (λ part. (part ≡ given_part_of at to to_at len)
-        × (at + 12 + len ≤ end) × (to_at + len ≤ size_in ends.now to)) }
+    requires { from_at ≤ end }
+    ensures found { IfSome result (λ part. (part ≡ given_part_of from_at to to_at len)
+        × (from_at + len ≤ end) × (to_at + len ≤ size_in ends.now to)) }
     ensures sound { file_number to < 4 → IfSome result IsSoundPart }
-    ensures none { IfNone result (at + 12 + len ≤ end → to_at + len ≤ size_in ends.now to → ⊥) }
+    ensures none { IfNone result (from_at + len ≤ end → to_at + len ≤ size_in ends.now to → ⊥) }
 {
-    let from_at = at + FRONT_BYTES as u64;
-    let len = len as u64;
-    let to_at = to_at as u64;
-    if end - from_at < len || to_at + len > ends.get(to) {
+    if end - from_at < len || passes(ends.get(to), to_at, len) {
         return None;
     }
     Some(Part {
@@ -83,26 +92,22 @@ pub(crate) fn given_part(
     })
 }
 
-/// The copy at a place of the journal, if it stays within the files.
+/// The copy that ends before a place of the journal, if it stays within the files.
 pub(crate) fn copied_part(
     sizes: &Sizes,
     ends: &Sizes,
-    at: u64,
-    from_at: u32,
-    to_at: u32,
-    len: u32,
+    behind: u64,
+    from_at: u64,
+    to_at: u64,
+    len: u64,
 ) -> Option<Part>
-    requires { at + 16 ≤ 18446744073709551615 }
-    ensures found { IfSome result (λ part. (part ≡ copied_part_of at from_at to_at len)
+    ensures found { IfSome result (λ part. (part ≡ copied_part_of behind from_at to_at len)
         × (from_at + len ≤ size_in sizes.now shadow) × (to_at + len ≤ size_in ends.now texts)) }
     ensures sound { IfSome result IsSoundPart }
     ensures none { IfNone result
         (from_at + len ≤ size_in sizes.now shadow → to_at + len ≤ size_in ends.now texts → ⊥) }
 {
-    let from_at = from_at as u64;
-    let to_at = to_at as u64;
-    let len = len as u64;
-    if from_at + len > sizes.get(FileId::Ndt) || to_at + len > ends.get(FileId::Jdt) {
+    if passes(sizes.get(FileId::Ndt), from_at, len) || passes(ends.get(FileId::Jdt), to_at, len) {
         return None;
     }
     Some(Part {
@@ -111,6 +116,6 @@ pub(crate) fn copied_part(
         to: FileId::Jdt,
         to_at,
         len,
-        behind: at + FRONT_BYTES as u64 + 4,
+        behind,
     })
 }

@@ -5,11 +5,13 @@ ghost use Rattle.jb_disk.specs.Device.{OnlyReads, CountsFaults, is_disk_fault};
 ghost use Rattle.jb_disk.specs.declared.file.FileId.TheVariants.{Jnl as journal};
 ghost use Rattle.jb_redo.specs.Applying.{IsSoundPart};
 ghost use Rattle.jb_redo.specs.Reading.{BeginsWith};
+ghost use Rattle.jb_redo.specs.Rules.{bound_of};
 ghost use Rattle.jb_redo.specs.declared.part.Front.TheVariants.{Copy as copy};
-ghost use Rattle.jb_redo.specs.Walk.{size_in, journal_from, front_bytes, AreFixedSizes, IsPartAt, HasNoPieceAt};
+ghost use Rattle.jb_redo.specs.Walk.{size_in, journal_from, front_bytes as front_spelled, front_size, AreFixedSizes, IsPartAt, HasNoPieceAt};
 
 use crate::field::{read_bytes, read_number};
-use crate::part::{FRONT_BYTES, Front, Part, copied_part, decode_front, given_part};
+use crate::layout::{front_bytes, width};
+use crate::part::{Front, MOST_FRONT_BYTES, Part, copied_part, decode_front, given_part};
 use crate::sizes::Sizes;
 use jb_disk::{Disk, DiskFailed, FileId};
 
@@ -19,13 +21,15 @@ fn read_copy<D: Disk>(
     sizes: &Sizes,
     ends: &Sizes,
     at: u64,
-    to_at: u32,
-    len: u32,
+    to_at: u64,
+    len: u64,
 ) -> Result<Option<Part>, DiskFailed>
-    requires front { at + 12 ≤ size_in sizes.now journal }
+    requires front { at + front_size ends.now.version ≤ size_in sizes.now journal }
+    requires place { to_at < bound_of ends.now.version }
+    requires size { len < bound_of ends.now.version }
     requires sizes { ForSome (D.device disk.old).contents (AreFixedSizes sizes.now) }
     requires begins { ForSome (D.device disk.old).contents (λ files.
-        BeginsWith (journal_from files at) (front_bytes (copy to_at len))) }
+        BeginsWith (journal_from files at) (front_spelled ends.now.version (copy to_at len))) }
 
     // The copy, where one stands there.
     ensures within { IfOk result (λ some. IfSome some (λ part. part.behind ≤ size_in sizes.now journal)) }
@@ -40,10 +44,12 @@ fn read_copy<D: Disk>(
     ensures faults { CountsFaults is_disk_fault (D.device disk.old) (D.device disk.new) result }
 {
     let end = sizes.get(FileId::Jnl);
-    let Some(from_at) = read_number(disk, end, at + FRONT_BYTES as u64)? else {
+    let place = at + front_bytes(ends.version) as u64;
+    let width = width(ends.version);
+    let Some(from_at) = read_number(disk, end, place, width)? else {
         return Ok(None);
     };
-    Ok(copied_part(sizes, ends, at, from_at, to_at, len))
+    Ok(copied_part(sizes, ends, place + width as u64, from_at, to_at, len))
 }
 
 /// The piece at a place of the journal, if one stands there that is whole and keeps the rules: over files that end now
@@ -69,12 +75,16 @@ pub(crate) fn read_part<D: Disk>(
     ensures faults { CountsFaults is_disk_fault (D.device disk.old) (D.device disk.new) result }
 {
     let end = sizes.get(FileId::Jnl);
-    let mut bytes = [0; FRONT_BYTES];
-    if !read_bytes(disk, end, at, &mut bytes)? {
+    let size = front_bytes(ends.version);
+    let mut buffer = [0; MOST_FRONT_BYTES];
+    let bytes = &mut buffer[..size];
+    if !read_bytes(disk, end, at, bytes)? {
         return Ok(None);
     }
-    match decode_front(&bytes) {
-        Some(Front::Bytes { to, at: to_at, len }) => Ok(given_part(end, ends, at, to, to_at, len)),
+    match decode_front(ends.version, bytes) {
+        Some(Front::Bytes { to, at: to_at, len }) => {
+            Ok(given_part(end, ends, at + size as u64, to, to_at, len))
+        }
         Some(Front::Copy { at: to_at, len }) => read_copy(disk, sizes, ends, at, to_at, len),
         None => Ok(None),
     }

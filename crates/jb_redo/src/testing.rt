@@ -6,15 +6,13 @@ ghost use Rattle.jb_redo.specs.Answers.{AnswersRecord, is_record_fault, RefusesF
 ghost use Rattle.jb_redo.specs.Laws.{HasOneBadPlaceAtMost, HasOneRecordAtMost, HasRecordOrBadPlace};
 ghost use Rattle.jb_redo.specs.Walk.{AreSizes, HasLengths, HasPieces};
 
-use crate::RecordError;
 use crate::field::{has_mark, read_number};
+use crate::layout::end_mark;
 use crate::lengths::{NewLengths, read_lengths};
 use crate::piece::read_part;
 use crate::sizes::Sizes;
+use crate::{RecordError, RecordHead};
 use jb_disk::{Disk, FileId};
-
-/// The bytes with which a record ends.
-pub(crate) const END: [u8; 4] = *b"JBJE";
 
 /// The place behind the record's pieces, if all of them keep the rules.
 fn test_pieces<D: Disk>(
@@ -37,7 +35,7 @@ fn test_pieces<D: Disk>(
     ensures faults { CountsFaults is_record_fault (D.device disk.old) (D.device disk.new) result }
 {
     let mut at = lengths.at;
-    let Some(count) = read_number(disk, sizes.get(FileId::Jnl), at)? else {
+    let Some(count) = read_number(disk, sizes.get(FileId::Jnl), at, 4)? else {
         return Err(RecordError::Bad { at });
     };
     at += 4;
@@ -51,7 +49,7 @@ fn test_pieces<D: Disk>(
 }
 
 /// The journal's record, walked through.
-fn walk_record<D: Disk>(disk: &mut D) -> Result<(), RecordError>
+fn walk_record<D: Disk>(disk: &mut D) -> Result<RecordHead, RecordError>
     ensures answer { ForSome (D.device disk.old).contents (λ files. AnswersRecord files result) }
     ensures kept { OnlyReads (D.device disk.old) (D.device disk.new) }
     ensures faults { CountsFaults is_record_fault (D.device disk.old) (D.device disk.new) result }
@@ -59,19 +57,21 @@ fn walk_record<D: Disk>(disk: &mut D) -> Result<(), RecordError>
     let sizes = Sizes::of(disk)?;
     let lengths = read_lengths(disk, &sizes)?;
     let at = test_pieces(disk, &sizes, &lengths)?;
-    if !has_mark(disk, sizes.get(FileId::Jnl), at, &END)? {
+    let end = end_mark(sizes.version);
+    if !has_mark(disk, sizes.get(FileId::Jnl), at, &end)? {
         return Err(RecordError::Bad { at });
     }
-    Ok(())
+    Ok(lengths.head)
 }
 
-/// Whether .JNL holds, from byte 16 on, a record over the files as they are.
+/// Whether .JNL holds, from byte 16 on, a record of the journal's version over the files as they are, and what its head
+/// says.
 ///
 /// `Bad` names the place in .JNL of the first field that is cut off by the file's end or breaks a rule of the record; a
 /// piece with its bytes is one field. Bytes behind the record's end are not looked at, and neither is the gate. Six
-/// questions for a length; then a read for each field and two for a copy, none of them longer than 12 bytes. It takes no
-/// memory.
-pub fn test_record<D: Disk>(disk: &mut D) -> Result<(), RecordError>
+/// questions for a length and a read of the version; then a read for each field and two for a copy, none of them longer
+/// than 20 bytes. It takes no memory.
+pub fn test_record<D: Disk>(disk: &mut D) -> Result<RecordHead, RecordError>
     // What the files say, where the disk tells them: they hold one record, or there is one place where it stops.
     ensures answer { ForSome (D.device disk.old).contents (λ files. AnswersRecord files result) }
     ensures one { HasOneRecordAtMost × HasOneBadPlaceAtMost × HasRecordOrBadPlace }

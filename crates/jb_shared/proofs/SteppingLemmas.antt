@@ -25,9 +25,9 @@ use Rattle.jb_state.specs.declared.loaded.Loaded.{Loaded}
 use Rattle.jb_turn.specs.Rows.{Begins, StandsFrom}
 use Rattle.jb_turn.specs.Steps.{given, sighted as took_in}
 use Rattle.jb_turn.specs.declared.seat.Held.{Held}
-use Rattle.jb_shared.specs.Calls.{AreLast, AreLeft, AreSteps, Asks, Calls, HasSteps, Runs, call_of}
+use Rattle.jb_shared.specs.Calls.{AreLast, AreLeft, AreSteps, Asks, Calls, HasSteps, Runs}
 use Rattle.jb_shared.specs.Histories.{settled_of}
-use Rattle.jb_shared.specs.InTurn.{Leads, SeatRow}
+use Rattle.jb_shared.specs.InTurn.{SeatRow}
 use Rattle.jb_shared.specs.Inside.{known_by_both}
 use Rattle.jb_shared.specs.Keeping.{HasChange, IsKept, IsKeptSettled}
 use Rattle.jb_shared.specs.Passes.{Known, refusing, seen, stepping}
@@ -46,7 +46,7 @@ module _ {D : Type 0} (shown : D → Device) where
   -- what a step leaves that failed, a pack leaves that failed as it copied
   fails_as : (old new : OpenArea D) (user : User) (moment : ℕ) (error : AreaError) → StepsPack shown old new (Err error) → (texts : List ℕ) → IsResting shown old texts → FailsWith shown error old new texts user moment Pack
   fails_as old new user moment failing.StoreFault steps texts resting =
-      record { coming = None; change = tt; doubt = steps.failed texts resting; opens = steps.opens texts resting; loaded = steps.loaded; crash = steps.crash texts resting }
+      record { coming = None; change = tt; doubt = steps.failed texts resting; opens = steps.opens texts resting; loaded = steps.loaded; commits = steps.commits; crash = steps.crash texts resting }
   fails_as old new user moment failing.OutOfMemory steps texts resting = (steps.failed texts resting, steps.touches)
 
   -- so to the history it is such a pack
@@ -59,6 +59,7 @@ module _ {D : Type 0} (shown : D → Device) where
     rules = steps.rules;
     copies = λ none. absurd none;
     packed = tt;
+    unspent = λ wanting. steps.commits;
   }
 
   -- a step that was done leaves what one leaves that wanted memory
@@ -72,6 +73,7 @@ module _ {D : Type 0} (shown : D → Device) where
     faults = record { quiet = tt; later = steps.faults.later; cause = steps.faults.quiet };
     alike = steps.alike;
     loaded = steps.loaded;
+    commits = steps.commits;
     rules = steps.rules;
     room = steps.room;
   }

@@ -105,10 +105,10 @@ impl<D: Disk> SharedArea<D> {
     /// call that wants memory leaves no entry of its own, and one of a history that is spent none at all. What was done is seen by
     /// the looks that come later, whoever looks, and by those of this pass in any case.
     ///
-    /// A pack goes by steps. Each takes the turn, copies texts of at most 1,048,576 bytes into .NDT and gives the turn back, so that the
-    /// calls of others go in between. It takes memory for these bytes, which it gives back, and 12 bytes a slot, which go with the
-    /// pack. The turn behind the steps packs the area as it is then, and copies what is left; those who pack an area at once share
-    /// the copies. An area in doubt has no steps: one turn ends the doubt and packs.
+    /// A pack goes by steps. Each takes the turn, copies texts of at most `PACK_STEP_BYTES` of `jb_area` into .NDT and gives the
+    /// turn back, so that the calls of others go in between. It takes memory for these bytes, which it gives back, and 12 bytes a
+    /// slot, which go with the pack. The turn behind the steps packs the area as it is then, and copies what is left; those who
+    /// pack an area at once share the copies. An area in doubt has no steps: one turn ends the doubt and packs.
     ///
     /// A step that the device stops ends the call, which is recorded as stopped, in doubt without a change: .NDT may hold anything
     /// then, nothing else is other than before, and the next call reopens the area, which empties .NDT. A step that wants memory

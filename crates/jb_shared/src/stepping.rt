@@ -71,7 +71,7 @@ fn bytes_where_left<D: Disk>(area: &OpenArea<D>, more: bool) -> Option<u64>
 }
 
 /// In how many turns behind the first one texts of so many bytes are copied where nobody posts meanwhile. Two turns copy more than
-/// 1,048,576 bytes together, since the second begins with the text that had no place in the first.
+/// `PACK_STEP_BYTES` together, since the second begins with the text that had no place in the first.
 fn turns_behind(bytes: u64) -> u64
     ensures { result ≡ 2 * (bytes / PACK_STEP_BYTES) + 1 }
 {
@@ -101,7 +101,7 @@ fn may_step<D: Disk>(held: &Held<ShownArea<D>>, reader: &IndexReader) -> bool
     held.state.shower.covers(reader)
 }
 
-/// Copies a part of the texts of the area at rest, 1,048,576 bytes at most, and answers whether one is left, with the bytes of all.
+/// Copies a part of the texts of the area at rest, `PACK_STEP_BYTES` at most, and answers whether one is left, with the bytes of all.
 /// Where the device fails, the pack is recorded as stopped; want of memory leaves no entry.
 fn copy_part<D: Disk>(
     alloc: Global,

@@ -1,5 +1,5 @@
 -- An area at rest and a command of a tool: what the files open to meanwhile.
-use Rattle.std.proofs.Common.{◌≡◌, inl, inr, ℕ, ◌≤◌, List, [], ◌∷◌, length, ap, refl, sym, subst, arith}
+use Rattle.std.proofs.Common.{◌≡◌, inl, inr, ℕ, ◌≤◌, List, length, ap, refl, sym, subst, arith}
 use Rattle.jb_area.specs.Area.{IsBegun, IsResting}
 use Rattle.jb_area.specs.Holds.{IsAtRest, Opens, OpensToEither}
 use Rattle.jb_area.specs.declared.area.OpenArea.{OpenArea}
@@ -9,8 +9,7 @@ use Rattle.jb_decide.specs.Holds.{Holds}
 use Rattle.jb_disk.proofs.RunLemmas.{runs-weaken}
 use Rattle.jb_disk.specs.Device.{Device}
 use Rattle.jb_disk.specs.Files.{Files}
-use Rattle.jb_disk.specs.Images.{Images}
-use Rattle.jb_disk.specs.Runs.{LeavesNow, LeavesOnly}
+use Rattle.jb_disk.specs.Runs.{LeavesOnly}
 use Rattle.jb_image.specs.Stands.{StandsFor}
 use Rattle.jb_state.specs.State.{AreaState, state_of}
 use Rattle.jb_model.specs.declared.command.Command.{Command}
@@ -31,7 +30,7 @@ opens_area loaded texts files few opens = record { after = opens.after; replays 
 -- so do files at rest
 pub rest_opens : (loaded : Loaded) (texts : List ℕ) (files : Files) → length loaded.slots ≤ MOST_SLOTS → IsAtRest loaded texts files → OpensFor (state_of texts loaded) files
 rest_opens loaded texts files few rests =
-    record { after = files; replays = inl (λ is_open. rests.shut is_open.gate, refl); stands = holds_stands loaded texts files few rests.holds }
+    record { after = files; replays = inl (λ is_open. rests.plain.shut is_open.gate, refl); stands = holds_stands loaded texts files few rests.holds }
 
 -- and of what one leaves at any moment
 pub leaves_only_weaken : (P Q : Files → Type 0) (old new : Device) → ((files : Files) → P files → Q files) → LeavesOnly old new P → LeavesOnly old new Q

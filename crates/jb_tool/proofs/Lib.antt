@@ -10,3 +10,4 @@ mod LoadBaseLemmas
 mod LoadEndLemmas
 mod LoadRunLemmas
 mod LoadUnreadLemmas
+mod StandardFacts

@@ -1,8 +1,8 @@
 -- The files of an empty base are made, and hold the empty area.
-use Rattle.std.proofs.Common.{◌≡◌, ◌≢◌, inl, inr, ℕ, List, [], ◌∷◌, length, take, drop, ap, refl, sym, ◌∙◌, subst, arith, Option, Some, None, Result, Ok, Err}
+use Rattle.std.proofs.Common.{◌≡◌, ◌≢◌, inl, inr, ℕ, List, [], ◌∷◌, length, take, drop, ap, refl, sym, ◌∙◌, subst, arith, Option, Some, None}
 use Rattle.std.proofs.lemmas.List.{places, same_lists}
 use Rattle.std.specs.Option.{ForSome, option_map}
-use Rattle.std.specs.Prelude.{OnOk, slice_index}
+use Rattle.std.specs.Prelude.{slice_index}
 use Rattle.jb_area.specs.Holds.{IsAtRest}
 use Rattle.jb_change.specs.NewBase.{new_loaded}
 use Rattle.jb_decide.specs.Holds.{AreTexts}
@@ -17,6 +17,8 @@ use Rattle.jb_disk.specs.declared.file.FileId.TheVariants.{Jhr, Jdt, Jdx, Jlr, J
 use Rattle.jb_image.specs.Places.{bytes_at}
 use Rattle.jb_image.specs.Stands.{Loads}
 use Rattle.jb_journal.specs.Prepare.{IsPrepared}
+use Rattle.jb_disk.specs.Gate.{IsGateOpen, version_by, version_number, version_of}
+use Rattle.jb_disk.specs.declared.version.Version.TheVariants.{Two}
 use Rattle.jb_record.proofs.ReadAgain.{fixed_header_of-back}
 use Rattle.jb_record.specs.Fields.{signature}
 use Rattle.jb_record.specs.Fixed.{FitsFixedHeader, fixed_header_bytes, fixed_header_of}
@@ -77,9 +79,18 @@ module _ (files : Files) (is : IsEmptyBase files) where
   pub empty_rests : IsAtRest (new_loaded 0) (files Jdt) files
   empty_rests = record {
     holds = record { loads = empty_loads; texts_are = refl };
-    long = let size = ap (λ (l : List ℕ). length l) is.journal in omega (arith, size);
-    shut = λ gate. (let first : slice_index (files Jnl) 0 ≡ 0 = ap (λ (l : List ℕ). slice_index l 0) is.journal in omega (arith, first, gate));
+    plain = record {
+      long = let size = ap (λ (l : List ℕ). length l) is.journal in omega (arith, size);
+      two = two;
+      shut = λ gate.
+          let first : slice_index (files Jnl) 0 ≡ 0 = ap (λ (l : List ℕ). slice_index l 0) is.journal in
+          let number : version_number (version_of files) ≡ 2 = ap version_number two in
+          omega (arith, first, number, gate);
+    };
   }
+    where
+      two : version_of files ≡ Two
+      two = ap (λ (l : List ℕ). version_by (slice_index l 1)) is.journal
 
 -- it has no texts
 pub empty_texts : (contents : Option Files) → ForSome contents IsEmptyBase → AreTexts (new_loaded 0) [] contents
@@ -131,6 +142,15 @@ synced_header bytes old last new told kept done keeps synced = λ final there.
     leaves_both P Q R [] both p q = tt
     leaves_both P Q R (now ∷ earlier) both p q = λ files image. both files (p files image) (q files image)
 
+-- behind the header that was written the gate is closed
+pub header_shut : (o mid : Option Files) → ForSome o HaveNoByte → mid ≡ option_map (with_file Jhr (fixed_header_bytes empty_header)) o → ForSome mid (λ files. IsGateOpen files → ⊥)
+header_shut o mid empty told = λ files there is_open.
+    let back = told_back o mid (with_file Jhr (fixed_header_bytes empty_header)) files told there in
+    let none : files Jnl ≡ [] = ap (λ (x : Files). x Jnl) back.2 ∙ with_file-other Jhr Jnl (fixed_header_bytes empty_header) back.0 (λ is. cc) ∙ empty back.0 back.1 Jnl in
+    let size : length (files Jnl) ≡ 0 = ap (λ (l : List ℕ). length l) none in
+    let longer = is_open.longer in
+    omega (arith, size, longer)
+
 -- the base is made
 pub base_made : (o mid after : Option Files) → ForSome o HaveNoByte → mid ≡ option_map (with_file Jhr (fixed_header_bytes empty_header)) o → Turns IsPrepared mid after → ForSome after IsEmptyBase
 base_made o None None empty told turns = λ files there. absurd (cc)
@@ -148,5 +168,5 @@ base_made o (Some was) (Some now) empty told turns = λ files there.
       texts = turns.same Jdt (λ is. cc) ∙ other Jdt (λ is. cc);
       index = turns.same Jdx (λ is. cc) ∙ other Jdx (λ is. cc);
       marks = turns.same Jlr (λ is. cc) ∙ other Jlr (λ is. cc);
-      journal = turns.made (omega (arith, short));
+      journal = turns.made (inr (omega (arith, short)));
     })

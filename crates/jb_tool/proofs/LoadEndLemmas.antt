@@ -1,16 +1,13 @@
 -- The area at the end of a run.
-use Rattle.std.proofs.Common.{◌≡◌, ℕ, ◌≤◌, List, length, ap, sym, ◌∙◌, subst, arith}
+use Rattle.std.proofs.Common.{◌≡◌, ℕ, List, ap, ◌∙◌, subst, arith}
 use Rattle.std.specs.Prelude.{Result, Ok, Err, IfOk, IsSome}
 use Rattle.jb_area.specs.declared.area.OpenArea.{OpenArea}
 use Rattle.jb_base.specs.declared.area.AreaRules.{AreaRules}
 use Rattle.jb_limits.specs.declared.limits.TheConstants.{MOST_SLOTS}
-use Rattle.jb_decide.specs.Holds.{Holds}
 use Rattle.jb_decide.specs.declared.error.AreaError.{AreaError}
 use Rattle.jb_disk.specs.Device.{Device, TellsAlike}
-use Rattle.jb_disk.specs.Files.{Files}
 use Rattle.jb_image.specs.Stands.{StandsFor}
 use Rattle.jb_state.specs.State.{AreaState, state_of}
-use Rattle.jb_state.specs.declared.loaded.Loaded.{Loaded}
 use Rattle.jb_tool.specs.LoadRuns.{IsRunAt, IsFilled, IsLoaded, RestsAs, run_at}
 use Rattle.jb_tool.specs.LoadSummary.{run_summary}
 use Rattle.jb_tool.specs.Workload.{LoadRun, empty_area}

@@ -1,15 +1,14 @@
 -- A base that is made: recovered and found empty, prepared, and written by one change.
-use Rattle.std.proofs.Common.{◌≡◌, ◌≢◌, inl, inr, ℕ, ◌≤◌, List, [], ◌∷◌, length, ap, refl, sym, ◌∙◌, subst, arith, Option, Some}
-use Rattle.std.specs.Prelude.{IsSome, Bool, true, false, ◌&&◌, ◌==◌, ◌⊎◌, Result, Ok, Err, OnOk, slice_index}
+use Rattle.std.proofs.Common.{◌≡◌, ◌≢◌, inl, inr, ℕ, List, [], ◌∷◌, length, ap, refl, sym, ◌∙◌, subst, arith, Option, Some}
+use Rattle.std.specs.Prelude.{IsSome, Bool, true, false, ◌&&◌, ◌==◌, ◌⊎◌, Result, Ok, Err, OnOk}
 use Rattle.std.specs.Option.{ForSome, option_map}
-use Rattle.std.proofs.lemmas.Bool.{cases_eq, cases_lt}
+use Rattle.std.proofs.lemmas.Bool.{cases_eq}
 use Rattle.std.proofs.lemmas.Bool.Decides.{nat_tests}
 use Rattle.jb_change.specs.NewBase.{AreEmpty, MakesBase}
 use Rattle.jb_disk.proofs.RunLemmas.{runs-refl, runs-then, runs-weaken}
 use Rattle.jb_disk.specs.RedoView.{RedoView}
 use Rattle.jb_disk.specs.Device.{Device, Turns}
 use Rattle.jb_disk.specs.Files.{Files}
-use Rattle.jb_disk.specs.Gate.{IsGateOpen}
 use Rattle.jb_disk.specs.Images.{Images}
 use Rattle.jb_disk.specs.Runs.{IsAllSynced, LeavesNow, LeavesOnly, Shows}
 use Rattle.jb_disk.specs.declared.file.FileId.TheVariants.{Jhr, Jdt, Jdx, Jlr, Jnl, Ndt}
@@ -25,7 +24,9 @@ use Rattle.jb_tool.proofs.NewBaseLemmas.{base_ready, empty_beside, new_beside}
 use Rattle.jb_tool.specs.Making.{AreNoneOrNew, AreShutAndEmpty, HasNewBase, IsFoundEmpty, IsMade, KeepsOrMakes, RefusesMaking, ReplayInto}
 use Rattle.jb_tool.specs.Recovered.{IsRecoveredTo, KeepsReplay, tool_of_journal}
 use Rattle.jb_tool.proofs.Recovering.{is_told}
-use Rattle.jb_area_open.proofs.OpeningLemmas.{preparing_shut}
+use Rattle.jb_area.proofs.HoldLemmas.{numbered_as, recorded_by}
+use Rattle.jb_area_open.proofs.OpeningLemmas.{prepared_plain}
+use Rattle.jb_journal.proofs.PrepareLemmas.{preparing_shut}
 use Rattle.jb_disk.proofs.FileLemmas.{leaves_map}
 
 -- a file without a length is empty
@@ -88,25 +89,12 @@ preparing_none moment start files none preparing = inl (record {
   has = empty_beside start files none.empty preparing.same;
 })
 
--- a prepared journal has its head, with the gate closed
-prepared_long : (start files : Files) → IsPrepared start files → 16 ≤ length (files Jnl)
-prepared_long start files prepared = elim (cases_lt 16 (length (start Jnl))) [
-  | inl longer ↦ let size = ap length (prepared.kept longer) in omega (arith, longer, size)
-  | inr short ↦ subst (λ (l : List ℕ). 16 ≤ length l) (sym (prepared.made short)) (omega arith)
-]
-
-prepared_shut : (start files : Files) → (IsGateOpen start → ⊥) → IsPrepared start files → slice_index (files Jnl) 0 ≢ 1
-prepared_shut start files shut prepared one = elim (cases_lt 16 (length (start Jnl))) [
-  | inl longer ↦ shut (record { longer = longer; gate = ap (λ (l : List ℕ). slice_index l 0) (sym (prepared.kept longer)) ∙ one })
-  | inr short ↦ let zero : slice_index (files Jnl) 0 ≡ 0 = ap (λ (l : List ℕ). slice_index l 0) (prepared.made short) in omega (arith, zero, one)
-]
-
 -- prepared files are ready for the change
-pub ready_prepared : (moment : ℕ) (change : RedoView) (before after : Option Files) → MakesBase moment change → ForSome before AreShutAndEmpty → Turns IsPrepared before after → ForSome after (IsReady change)
+pub ready_prepared : (moment : ℕ) (change : RedoView) (before after : Option Files) → MakesBase moment change → ForSome before AreShutAndEmpty → Turns IsPrepared before after → ForSome after (IsReady 1 change)
 ready_prepared moment change before after makes none prepared = λ files is.
     let from = turns_from IsPrepared before after files prepared is in
     let was = none from.0 from.1 in
-    base_ready moment change makes files (empty_beside from.0 files was.empty from.2.same) (prepared_long from.0 files from.2) (prepared_shut from.0 files was.shut from.2)
+    base_ready moment change makes files (empty_beside from.0 files was.empty from.2.same) (prepared_plain from.0 files was.shut from.2)
 
 -- files before the change or after it
 before_or_after : (moment : ℕ) (change : RedoView) (start files : Files) → MakesBase moment change → AreEmpty start → IsBeforeOrAfter change start files → AreNoneOrNew moment files
@@ -146,19 +134,20 @@ module _ (moment : ℕ) (change : RedoView) (makes : MakesBase moment change) (b
       }
 
   -- the base is there
-  pub base_there : Turns IsPrepared before.contents mid.contents → after.contents ≡ option_map (committed change) mid.contents → IsAllSynced after
+  pub base_there : Turns IsPrepared before.contents mid.contents → after.contents ≡ option_map (committed 1 change) mid.contents → IsAllSynced after
       → ForSome mid.contents (λ start. Shows (IsSettledAt (changed change start)) after) → ForSome before.contents (λ _. HasNewBase moment after)
   base_there prepared done synced settled = λ start there.
       let on = turns_on IsPrepared before.contents mid.contents start prepared there in
       let empty = empty_beside start on.0 (none start there).empty on.2.same in
-      let files = committed change on.0 in
-      let told : after.contents ≡ Some files = done ∙ ap (option_map (committed change)) on.1 in
+      let files = committed 1 change on.0 in
+      let told : after.contents ≡ Some files = done ∙ ap (option_map (committed 1 change)) on.1 in
       let at = (settled on.0 on.1).read files told in
       record {
         files = files;
         told = told;
         new = new_beside moment (changed change on.0) files (makes.brings.made on.0 empty) at.same;
-        shut = λ is_open. at.shut is_open.gate;
+        numbered = numbered_as 1 change files (recorded_by 1 change on.0 (prepared_plain start on.0 (none start there).shut on.2).long);
+        shut = λ is_open. at.plain.shut is_open.gate;
         synced = synced files told;
       }
 
@@ -216,7 +205,7 @@ module _ (moment : ℕ) (before mid after : Device) (recovered : ForSome before.
   made_so text none told made = λ was there.
       let now = is_told mid.contents (told (subst IsSome (sym there) refl)) in
       record {
-        outcome = (none, refl);
+        outcome = λ found. (none, refl);
         record_found = (recovered was there).record_found;
         replayed = replayed_none was there;
         now = made now.files now.is;

@@ -1,13 +1,12 @@
 -- The change that makes a base, and the files beside it.
-use Rattle.std.proofs.Common.{◌≡◌, ◌≢◌, ℕ, ◌<◌, ◌≤◌, length, ap, ◌∙◌, arith}
-use Rattle.std.specs.Prelude.{slice_index}
+use Rattle.std.proofs.Common.{◌≡◌, ◌≢◌, ℕ, ◌<◌, ap, ◌∙◌, arith}
 use Rattle.jb_decide.proofs.AgreeLemmas.{loads_agree}
 use Rattle.jb_change.specs.NewBase.{AreEmpty, AreNew, MakesBase, new_loaded}
 use Rattle.jb_disk.specs.RedoView.{RedoView}
 use Rattle.jb_disk.specs.Files.{Files, file_number}
 use Rattle.jb_disk.specs.declared.file.FileId.{FileId}
 use Rattle.jb_disk.specs.declared.file.FileId.TheVariants.{Jhr, Jdt, Jdx, Jlr, Jnl}
-use Rattle.jb_journal.specs.Commit.{AgreeButJournal, IsReady}
+use Rattle.jb_journal.specs.Commit.{AgreeButJournal, IsPlain, IsReady}
 use Rattle.jb_redo.specs.Changes.{IsWritable}
 
 -- a file of a base is not the journal
@@ -34,5 +33,5 @@ module _ (moment : ℕ) (change : RedoView) (makes : MakesBase moment change) wh
   base_writable = record { lengths_are = makes.lengths; short = omega (arith, makes.size) }
 
   -- empty files are ready for it, behind a closed gate
-  pub base_ready : (files : Files) → AreEmpty files → 16 ≤ length (files Jnl) → (slice_index (files Jnl) 0 ≢ 1) → IsReady change files
-  base_ready files empty long shut = record { legal = makes.brings.legal files empty; grown = makes.brings.grown files empty; long = long; shut = shut }
+  pub base_ready : (files : Files) → AreEmpty files → IsPlain files → IsReady 1 change files
+  base_ready files empty plain = record { numbered = omega arith; legal = makes.brings.legal files empty; grown = makes.brings.grown files empty; plain = plain }

@@ -5,7 +5,6 @@ use Rattle.std.specs.Option.{ForSome}
 use Rattle.jb_limits.specs.declared.limits.TheConstants.{MOST_SLOTS}
 use Rattle.jb_disk.specs.Device.{CountsFaults, Device, OnlyReads, RoseIf}
 use Rattle.jb_disk.specs.Files.{Files}
-use Rattle.jb_disk.specs.Gate.{IsGateOpen}
 use Rattle.jb_disk.specs.Images.{Images}
 use Rattle.jb_disk.specs.Runs.{LeavesNow, Runs, IsAllSynced}
 use Rattle.jb_disk.specs.declared.file.FileId.TheVariants.{Jdt}
@@ -15,11 +14,9 @@ use Rattle.jb_image.specs.Stands.{StandsFor}
 use Rattle.jb_journal.specs.declared.error.JournalError.{JournalError}
 use Rattle.jb_journal.specs.declared.error.JournalError.TheVariants.{BadRecord, StoreFault}
 use Rattle.jb_journal.specs.declared.error.Recovered.{Recovered}
-use Rattle.jb_journal.specs.declared.error.Recovered.TheVariants.{Closed, Replayed}
 use Rattle.jb_journal.specs.Recover.{IsFound, IsGrowthSafe, IsRefusedOver, ReplaysAsAtStart}
 use Rattle.jb_state.specs.State.{state_of}
 use Rattle.jb_state.specs.declared.loaded.Loaded.{Loaded}
-use Rattle.jb_redo.specs.Reading.{HasRecord}
 use Rattle.jb_redo.specs.Replay.{Replays}
 use Rattle.jb_tool.specs.Recovered.{IsRecoveredTo, KeepsReplay, RefusesReading, tool_of_journal}
 use Rattle.jb_tool.specs.declared.error.ToolError.TheVariants.{Open}

@@ -5,6 +5,8 @@ use Rattle.jb_limits.specs.declared.limits.TheConstants.{MOST_SLOTS}
 use Rattle.jb_disk.specs.Device.{CountsFaults, Device}
 use Rattle.jb_disk.specs.Files.{Files}
 use Rattle.jb_image.specs.Stands.{StandsFor}
+use Rattle.jb_journal.specs.Recover.{IsFound}
+use Rattle.jb_journal.specs.declared.error.Recovered.{Recovered}
 use Rattle.jb_state.specs.State.{AreaState}
 use Rattle.jb_model.specs.declared.command.Command.TheVariants as command
 use Rattle.jb_tool.specs.Making.{AnswersMake, KeepsOrMakes}
@@ -14,15 +16,15 @@ use Rattle.jb_tool.specs.Tending.{ToolAnswer, KeepsOrTends, Tends}
 use Rattle.jb_tool.specs.declared.tool.Tool.{Tool}
 use Rattle.jb_tool.specs.declared.tool.Tool.TheVariants as tool
 
--- the files stand for an area of which a tool that looks prints this, at whatever moment
-pub record IsShown (shown : Tool) (text : List ℕ) (files : Files) : Type 0 where
+-- the files stand for an area of which a tool that looks prints this, at whatever moment, once recovery has found this
+pub record IsShown (shown : Tool) (found : Recovered) (text : List ℕ) (files : Files) : Type 0 where
   pub area : AreaState
   pub stands : StandsFor MOST_SLOTS files area
-  pub outcome : (moment : ℕ) → tool_outcome shown moment (Some area) text area
+  pub outcome : (moment : ℕ) → tool_outcome shown moment found (Some area) text area
 
--- a tool that looks: the files are those to which the base replayed, and it prints what they stand for; or they are refused
+-- a tool that looks: it prints what recovery has found and what the files stand for, which are those to which the base replayed; or they are refused
 abbrev pub LooksAt : Tool → Device → Device → ToolAnswer → Type 0
-LooksAt shown before after (Ok text) = ForSome before.contents (λ was. IsRecoveredTo (IsShown shown text) was after)
+LooksAt shown before after (Ok text) = ForSome before.contents (λ was. (found : Recovered) × IsFound found was × IsRecoveredTo (IsShown shown found text) was after)
 LooksAt shown before after (Err error) = RefusesReading before after error
 
 -- what a tool answers at a moment over the disk of the base, before it and after it

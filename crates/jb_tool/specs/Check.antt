@@ -1,6 +1,8 @@
--- What a check says of an area: seven lines, each a name, a space and what was found.
+-- What a check says of an area: eight lines, each a name, a space and what was found.
 use Rattle.std.specs.Prelude.{◌≡◌, ◌⊎◌, ◌↔◌, ℕ, suc, Bool, true, false, Result, Ok, Err, Some, List, [], ◌∷◌, ◌++◌, ◌+◌, codes, decimal, count_by, if◌then◌else◌}
 use Rattle.jb_bytes.specs.declared.subfield.Subfield.{Subfield}
+use Rattle.jb_journal.specs.declared.error.Recovered.{Recovered}
+use Rattle.jb_journal.specs.declared.error.Recovered.TheVariants.{Closed, Replayed}
 use Rattle.jb_state.specs.Links.{IsLinked}
 use Rattle.jb_state.specs.Live.{Numbered, killed_count, live_count, live_from, live_in}
 use Rattle.jb_state.specs.Message.{msgid_of}
@@ -57,17 +59,22 @@ count_line name count = name ++ codes " " ++ decimal count ++ 10 ∷ []
 abbrev pub linked_line : Bool → List ℕ
 linked_line linked = (if linked then codes "linked yes" else codes "linked no") ++ 10 ∷ []
 
--- the seven lines of an area with so many readable ids
-abbrev pub check_lines : AreaState → ℕ → Bool → List ℕ
-check_lines area msgids linked =
+-- `recovered closed`, or of an open gate the version of the journal and the number of the change that was done
+abbrev pub recovered_line : Recovered → List ℕ
+recovered_line Closed = codes "recovered closed" ++ 10 ∷ []
+recovered_line (Replayed version change) = codes "recovered " ++ decimal version ++ codes " " ++ decimal change ++ 10 ∷ []
+
+-- the eight lines of an area with so many readable ids, behind a gate that was found so
+abbrev pub check_lines : AreaState → ℕ → Bool → Recovered → List ℕ
+check_lines area msgids linked found =
     count_line (codes "base") area.base ++ count_line (codes "next") (next_number area) ++ count_line (codes "live") (live_count area.slots)
     ++ count_line (codes "killed") (killed_count area.slots) ++ count_line (codes "empty") (empty_count area.slots)
-    ++ count_line (codes "msgids") msgids ++ linked_line linked
+    ++ count_line (codes "msgids") msgids ++ linked_line linked ++ recovered_line found
 
--- this text is what a check says of the area
-pub record IsCheck (area : AreaState) (text : List ℕ) : Type 0 where
+-- this text is what a check says of the area, once recovery has found this
+pub record IsCheck (area : AreaState) (found : Recovered) (text : List ℕ) : Type 0 where
   pub msgids : ℕ
   pub counted : HaveReadableIds (live_in area) msgids
   pub linked : Bool
   pub linked_is : (linked ≡ true) ↔ IsLinked area
-  pub same : text ≡ check_lines area msgids linked
+  pub same : text ≡ check_lines area msgids linked found

@@ -1,10 +1,11 @@
 -- The files of an empty base.
-use Rattle.std.specs.Prelude.{◌≡◌, ◌≢◌, [], replicate}
+use Rattle.std.specs.Prelude.{◌≡◌, ◌≢◌, []}
 use Rattle.jb_disk.specs.declared.file.FileId.{FileId}
 use Rattle.jb_disk.specs.declared.file.FileId.TheVariants.{Jhr, Jdt, Jdx, Jlr, Jnl}
 use Rattle.jb_disk.specs.Files.{Files}
 use Rattle.jb_change.specs.NewBase.{new_loaded}
 use Rattle.jb_image.specs.Stands.{fixed_of}
+use Rattle.jb_journal.specs.Prepare.{plain_head}
 use Rattle.jb_record.specs.Fixed.{fixed_header_bytes}
 use Rattle.jb_record.specs.declared.fixed.FixedHeader.{FixedHeader}
 
@@ -22,7 +23,7 @@ pub record IsEmptyBase (files : Files) : Type 0 where
   pub texts : files Jdt ≡ []
   pub index : files Jdx ≡ []
   pub marks : files Jlr ≡ []
-  pub journal : files Jnl ≡ replicate 16 0
+  pub journal : files Jnl ≡ plain_head
 
 -- all files but .JHR are as they were
 abbrev pub AgreeButHeaders : Files → Files → Type 0

@@ -11,6 +11,8 @@ use Rattle.jb_disk.specs.Runs.{LeavesNow, LeavesOnly}
 use Rattle.jb_image.specs.declared.error.OpenError.{OpenError}
 use Rattle.jb_image.specs.declared.error.OpenError.TheVariants.{OutOfMemory as no_memory, StoreFault}
 use Rattle.jb_journal.specs.declared.error.JournalError.TheVariants.{BadRecord}
+use Rattle.jb_journal.specs.declared.error.Recovered.{Recovered}
+use Rattle.jb_area.specs.Commits.{IsNumbered}
 use Rattle.jb_journal.specs.Recover.{IsGrowthSafe, IsRefusedOver, ReplaysAsAtStart}
 use Rattle.jb_record.specs.declared.fixed.TheConstants.{FIXED_HEADER_BYTES}
 use Rattle.jb_redo.specs.Reading.{HasRecord}
@@ -34,17 +36,18 @@ pub record ReplayInto (property : Files → Type 0) (files : Files) : Type 0 whe
   pub replays : Replays files after
   pub has : property after
 
--- the disk has the new base now, behind a closed gate and with nothing unsynced
+-- the disk has the new base now, behind a closed gate and with nothing unsynced; the record that made it has the number 1
 pub record HasNewBase (moment : ℕ) (after : Device) : Type 0 where
   pub files : Files
   pub told : after.contents ≡ Some files
   pub new : AreNew moment files
+  pub numbered : IsNumbered 1 files
   pub shut : IsGateOpen files → ⊥
   pub synced : LeavesNow (λ left. left ≡ files) after.moments
 
 -- the base was made: behind an open gate stood a record; where that writes each byte past an old end, the files replayed to empty ones
 pub record IsMade (moment : ℕ) (text : List ℕ) (was : Files) (after : Device) : Type 0 where
-  pub outcome : tool_outcome tool.Make moment None text (new_area moment)
+  pub outcome : (found : Recovered) → tool_outcome tool.Make moment found None text (new_area moment)
   pub record_found : IsGateOpen was → HasRecord was
   pub replayed : IsGrowthSafe was → ReplayInto AreEmpty was
   pub now : HasNewBase moment after

@@ -2,7 +2,6 @@
 use Rattle.std.specs.Prelude.{ℕ, zero, suc, ◌+◌, ◌-◌, ◌*◌, ◌/◌, ◌%◌, ◌==◌, false, List, [], ◌∷◌, ◌++◌, codes, replicate, if◌then◌else◌}
 use Rattle.jb_base.specs.declared.area.AreaRules.{AreaRules}
 use Rattle.jb_base.specs.declared.area.Kind.TheVariants.{Local}
-use Rattle.jb_limits.specs.declared.limits.TheConstants.{MOST_SLOTS}
 use Rattle.jb_base.specs.declared.user.User.{User}
 use Rattle.jb_change.specs.NewBase.{new_area}
 use Rattle.jb_model.specs.Answered.{Answered}
@@ -15,7 +14,7 @@ use Rattle.jb_model.specs.declared.reply.Reply.TheVariants.{Killed, Posted, Text
 
 -- the rules of the area
 abbrev pub load_rules : AreaRules
-load_rules = record { ordinal = 1; address = codes "1:1/1"; kind = Local; read = 0; post = 0; sysop = 255; slots = MOST_SLOTS }
+load_rules = record { ordinal = 1; address = codes "1:1/1"; kind = Local; read = 0; post = 0; sysop = 255; slots = 65000 }
 
 -- the user who asks
 abbrev pub loader : User

@@ -69,8 +69,8 @@ fn list_base<D: Disk>(alloc: Global, disk: &mut D) -> Result<Bytes, ToolError>
     ensures crash { KeepsReplay (D.device disk.old) (D.device disk.new) }
     ensures faults { CountsFaults is_tool_fault (D.device disk.old) (D.device disk.new) result }
 {
-    let loaded = read_base(alloc, disk)?;
-    Ok(listing(alloc, &loaded)?)
+    let base = read_base(alloc, disk)?;
+    Ok(listing(alloc, &base.loaded)?)
 }
 
 /// Lists the live messages of the base on a disk, once the change is done that waits in its journal: a line each, in the order

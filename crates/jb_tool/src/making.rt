@@ -80,7 +80,7 @@ fn write_base<D: Disk>(disk: &mut D, redo: &mut Redo, moment: u32) -> Result<(),
 {
     put_base(redo, moment);
     prepare(disk)?;
-    commit(disk, redo)
+    commit(disk, redo, 1)
 }
 
 /// Makes an empty base of the files that the disk has.

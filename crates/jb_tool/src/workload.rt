@@ -2,9 +2,12 @@
 ghost use Rattle.std.specs.Prelude.{◌≡◌, ◌+◌, ◌%◌, ◌<◌, ◌≤◌, IfOk};
 ghost use Rattle.jb_tool.specs.Workload.{answered_in_step, first_of_ten, load_rules, loader, post_of_step, text_of_step};
 
-use jb_base::{AreaRules, Bytes, Kind, MOST_SLOTS, Name, OutOfMemory, User};
+use jb_base::{AreaRules, Bytes, Kind, Name, OutOfMemory, User};
 use jb_model::Command;
 use std::alloc::Global;
+
+/// The slots of the area.
+const LOAD_SLOTS: u32 = 65_000;
 
 /// The rules of the area.
 pub(crate) fn load_rules(alloc: Global) -> Result<AreaRules, OutOfMemory>
@@ -18,7 +21,7 @@ pub(crate) fn load_rules(alloc: Global) -> Result<AreaRules, OutOfMemory>
         read: 0,
         post: 0,
         sysop: 255,
-        slots: MOST_SLOTS,
+        slots: LOAD_SLOTS,
     })
 }
 

@@ -1,7 +1,7 @@
 //! The base on which the trials work.
 
 use crate::quiet::{Holes, NO_HOLES, Quiet};
-use jb_base::{Bytes, OutOfMemory};
+use jb_base::{Bytes, MOST_SLOTS, OutOfMemory};
 use jb_disk::FileId;
 use std::alloc::Global;
 use trial_rows::{Files, Row, Words, file_of};
@@ -13,6 +13,9 @@ pub(crate) struct Base {
     pub slots: u32,
     holes: Holes,
 }
+
+// The head of a journal of version 2, with the gate closed.
+const JOURNAL_HEAD: &[u8] = b"\0\x02\0\0\0\0\0\0\0\0\0\0\0\0\0\0";
 
 // The marks of so many users, whose numbers go from 1,000,000 on.
 fn marks(alloc: Global, count: u32) -> Result<Bytes, OutOfMemory> {
@@ -30,17 +33,17 @@ impl Base {
     pub(crate) fn new(alloc: Global) -> Base {
         Base {
             files: Files::new(alloc),
-            slots: 65_000,
+            slots: MOST_SLOTS,
             holes: NO_HOLES,
         }
     }
 
-    /// An empty base with this number, in six empty files, and a closed gate.
+    /// An empty base with this number, in six empty files, and the head of a journal of version 2 with a closed gate.
     pub(crate) fn begin(&mut self, number: u32, words: &mut Words) {
         *self = Base::new(words.alloc);
         let done = self.files.begin(words.alloc, number);
         words.done(done);
-        let done = self.files.append(words.alloc, FileId::Jnl, 16, b"\0");
+        let done = self.files.append(words.alloc, FileId::Jnl, 1, JOURNAL_HEAD);
         words.done(done);
     }
 

@@ -4,7 +4,7 @@ use crate::asking::{TEXT, Way, asked_by, sized_edit, sized_post};
 use crate::base::Base;
 use crate::copied::Copied;
 use jb_area::PACK_STEP_BYTES;
-use jb_base::OutOfMemory;
+use jb_base::{MOST_SLOTS, OutOfMemory};
 use jb_disk::FileId;
 use jb_model::{Asked, Command, Reply};
 use jb_plain::{ReplyList, may_run, run_slow};
@@ -111,7 +111,7 @@ fn put_area(area: &mut Area, new: Area) {
 
 // Asks these of the plain area, and gives its replies.
 fn run_plain(area: &mut Area, list: &[Asked], words: &mut Words) -> Option<ReplyList> {
-    let Ok(rules) = rules_of(words.alloc, 65_000) else {
+    let Ok(rules) = rules_of(words.alloc, MOST_SLOTS) else {
         words.lack();
         return None;
     };

@@ -123,12 +123,11 @@ fn kill(redo: &mut Redo, row: &Row, words: &mut Words) {
 // Sets the lengths, which are small here, and writes the pieces, in order.
 fn apply(disk: &mut MemDisk, redo: &Redo) -> Result<(), DiskFailed> {
     for entry in redo.lengths() {
-        let len = u64::from(entry.len.min(520_000));
-        disk.set_len(entry.file, len)?;
+        disk.set_len(entry.file, entry.len.min(520_000))?;
     }
     for k in 0..redo.pieces() {
         let head = redo.head(k);
-        disk.write_at(head.to, u64::from(head.to_at), redo.bytes(k))?;
+        disk.write_at(head.to, head.to_at, redo.bytes(k))?;
     }
     Ok(())
 }

@@ -7,24 +7,29 @@ use jb_disk::{FileId, MemDisk, Redo, SilentDisk};
 use jb_journal::{Stopped, commit, prepare, settle};
 use trial_rows::Words;
 
-/// Commits a change, and puts whether it is done and how many calls that made.
-pub(crate) fn put_commit(silent: &mut SilentDisk<MemDisk>, redo: &Redo, words: &mut Words)
+/// Commits a change of this number, and puts whether it is done and how many calls that made.
+pub(crate) fn put_commit(
+    silent: &mut SilentDisk<MemDisk>,
+    redo: &Redo,
+    number: u64,
+    words: &mut Words,
+)
     requires { IsWritable redo.now }
 {
     let before = silent.disk.calls();
-    words.truth(commit(silent, redo).is_ok());
+    words.truth(commit(silent, redo, number).is_ok());
     words.number(silent.disk.calls().saturating_sub(before));
 }
 
-/// `commit`: the journal once it is prepared, whether the worked change is committed, the calls of that, the files and the journal
-/// then.
-pub(crate) fn put_committed(silent: &mut SilentDisk<MemDisk>, words: &mut Words) {
+/// `commit NUMBER`: the journal once it is prepared, whether the worked change is committed as that of this number, the calls of
+/// that, the files and the journal then.
+pub(crate) fn put_committed(silent: &mut SilentDisk<MemDisk>, number: u64, words: &mut Words) {
     match prepare(silent) {
         Ok(()) => words.hexed(silent.disk.file(FileId::Jnl)),
         Err(_) => words.word("failed"),
     }
     match change(words.alloc) {
-        Ok(redo) => put_commit(silent, &redo, words),
+        Ok(redo) => put_commit(silent, &redo, number, words),
         Err(_) => words.lack(),
     }
     put_files(words, &silent.disk);
@@ -36,7 +41,7 @@ fn committed(silent: &mut SilentDisk<MemDisk>, redo: &Redo) -> Result<(), Stoppe
     requires { IsWritable redo.now }
 {
     prepare(silent)?;
-    commit(silent, redo)
+    commit(silent, redo, 1)
 }
 
 /// `settled N M`: where a commit was stopped by the failing of these calls, where settling was, what it answers at last, and

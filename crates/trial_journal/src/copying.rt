@@ -11,11 +11,11 @@ use jb_limits::TEXTS_CEILING;
 use std::alloc::Global;
 use trial_rows::{Files, Row, Words};
 
-/// The calls until the gate stands open: four that give the journal its head, and those of a commit's first two stages.
-const CALLS_TO_OPEN: u64 = 9;
+/// The calls until the gate stands open: five that give the journal its head, and those of a commit's first two stages.
+const CALLS_TO_OPEN: u64 = 10;
 
 // So many bytes, the same ones again after 251, which no buffer's size is a multiple of.
-fn numbered(alloc: Global, len: u32, words: &mut Words) -> Vec<u8> {
+fn numbered(alloc: Global, len: u64, words: &mut Words) -> Vec<u8> {
     let mut bytes = Vec::new(alloc);
     for place in 0..len {
         words.done(bytes.push((place % 251) as u8));
@@ -24,8 +24,8 @@ fn numbered(alloc: Global, len: u32, words: &mut Words) -> Vec<u8> {
 }
 
 // .JDT gets so many bytes, those of .NDT from the second on.
-fn change(alloc: Global, len: u32) -> Result<Redo, OutOfMemory>
-    requires { len ≤ 67_108_864 }
+fn change(alloc: Global, len: u64) -> Result<Redo, OutOfMemory>
+    requires { len ≤ 1_073_741_824 }
     ensures { IfOk result (λ redo. IsWritable redo) }
 {
     let mut redo = Redo::new(alloc);
@@ -62,14 +62,14 @@ fn put_recovered(disk: &MemDisk, words: &mut Words) {
 }
 
 // Commits that change on this disk.
-fn put_change(silent: &mut SilentDisk<MemDisk>, len: u32, words: &mut Words)
-    requires { len ≤ 67_108_864 }
+fn put_change(silent: &mut SilentDisk<MemDisk>, len: u64, words: &mut Words)
+    requires { len ≤ 1_073_741_824 }
 {
     if prepare(silent).is_err() {
         return words.word("failed");
     }
     match change(words.alloc, len) {
-        Ok(redo) => put_commit(silent, &redo, words),
+        Ok(redo) => put_commit(silent, &redo, 1, words),
         Err(_) => words.lack(),
     }
     put_equal(words, &silent.disk);
@@ -79,7 +79,7 @@ fn put_change(silent: &mut SilentDisk<MemDisk>, len: u32, words: &mut Words)
 /// `copied N`: whether a copy of so many bytes is committed, how many calls that makes, and whether the bytes are there then; and the
 /// same of the opening after a crash.
 pub(crate) fn put_copied(row: &Row, words: &mut Words) {
-    let len = row.at_most(TEXTS_CEILING, 1, words) as u32;
+    let len = row.at_most(TEXTS_CEILING, 1, words);
     let alloc = words.alloc;
     let bytes = numbered(alloc, len + 1, words);
     let made = Files::new(alloc).disk_with(alloc, FileId::Ndt, bytes.as_slice(), &[]);

@@ -2,11 +2,19 @@
 ghost use Rattle.std.specs.Prelude.{◌≤◌, length};
 
 use crate::showing::{put_files, put_opening};
-use jb_disk::{FileId, MemDisk};
+use jb_disk::{FileId, MemDisk, SilentDisk};
 use jb_journal::recover;
 use trial_rows::{Row, Words};
 
-/// `crash N`: what comes of a crash after so many calls of a commit, for each pick: what opening answers, the files then, and
+/// `opened N..`: what opening answers where these calls fail, how many calls it makes, the files and the journal then.
+pub(crate) fn put_opened(silent: &mut SilentDisk<MemDisk>, words: &mut Words) {
+    put_opening(words, recover(silent));
+    words.number(silent.disk.calls());
+    put_files(words, &silent.disk);
+    words.hexed(silent.disk.file(FileId::Jnl));
+}
+
+/// `crash N`: what comes of a crash after so many calls of what was done last, for each pick: what opening answers, the files then, and
 /// whether an opening that is stopped at any of its calls, by the same pick, and begun again comes to the same.
 pub(crate) fn put_crashes(disk: &MemDisk, row: &Row, words: &mut Words) {
     let after = row.number(1, words);

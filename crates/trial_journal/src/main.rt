@@ -9,8 +9,10 @@ mod crashing;
 mod edge;
 mod entrance;
 mod host;
+mod preparing;
 mod record;
 mod showing;
+mod tearing;
 
 use jb_bytes::Bytes;
 use jb_disk::{FileId, MemDisk, SilentDisk, SteadyDisk};
@@ -19,7 +21,7 @@ use std::alloc::Global;
 use std::io;
 use trial_rows::{Answers, Files, Row, Words, file_of};
 
-/// The files that the rows gave, the disk on which a commit was done last, and what else the rows made.
+/// The files that the rows gave, the disk on which a commit, a preparing or an opening was done last, and what else the rows made.
 #[derive(Drop)]
 struct Trial {
     files: Files,
@@ -138,7 +140,7 @@ impl Trial {
             "stopped" => record::put_stopped(&mut disk, words),
             "recover" => showing::put_opening(words, jb_journal::recover(&mut disk)),
             "settled" => committing::put_settled(&mut SilentDisk::new(disk), words),
-            _ => self.done = Some(committed(disk, words)),
+            _ => self.done = Some(done(disk, row, words)),
         }
     }
 
@@ -163,11 +165,27 @@ impl Trial {
     }
 }
 
-// `commit`: the disk on which the worked change was committed.
-fn committed(disk: MemDisk, words: &mut Words) -> SilentDisk<MemDisk> {
+// The disk on which a change was committed, the journal was prepared, or the files were opened.
+fn done(disk: MemDisk, row: &Row, words: &mut Words) -> SilentDisk<MemDisk> {
     let mut silent = SilentDisk::new(disk);
-    committing::put_committed(&mut silent, words);
+    match row.word(0) {
+        "prepared" => preparing::put_prepared(&mut silent, words),
+        "opened" => crashing::put_opened(&mut silent, words),
+        _ => {
+            let number = row.number(1, words);
+            committing::put_committed(&mut silent, number, words);
+        }
+    }
     silent
+}
+
+// What comes of a crash of what was done last.
+fn put_crash(disk: &MemDisk, row: &Row, words: &mut Words) {
+    match row.word(0) {
+        "crash" => crashing::put_crashes(disk, row, words),
+        "left" => preparing::put_all_left(disk, row, words),
+        _ => tearing::put_torn(disk, row, words),
+    }
 }
 
 impl Answers for Trial {
@@ -177,13 +195,14 @@ impl Answers for Trial {
             "test" => record::put_changed(&self.files, row, words),
             "cuts" => record::put_cuts(&self.files, row, words),
             "copied" => copying::put_copied(row, words),
+            "preparing-faults" | "opening-faults" => tearing::put_faults(&self.files, row, words),
             "apply" | "long" | "commit" | "recover" => self.on_disk(&[], row, words),
-            "failing" | "stopped" | "settled" => {
+            "failing" | "stopped" | "settled" | "prepared" | "opened" => {
                 let failing = row.numbers(1, 0, words);
                 self.on_disk(failing.as_slice(), row, words);
             }
-            "crash" => match &self.done {
-                Some(silent) => crashing::put_crashes(&silent.disk, row, words),
+            "crash" | "left" | "torn" => match &self.done {
+                Some(silent) => put_crash(&silent.disk, row, words),
                 None => words.unknown(0),
             },
             "link" => self.put_link(row, words),

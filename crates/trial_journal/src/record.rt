@@ -1,16 +1,16 @@
 //! The test of the journal's record, and the doing of it.
 ghost use Rattle.std.specs.Prelude.{◌≤◌};
 
-use crate::showing::{put_files, put_record};
+use crate::showing::{put_files, put_record, put_tested};
 use jb_disk::{FileId, MemDisk};
 use jb_redo::{RecordError, apply_record, test_record};
 use trial_rows::{Files, Row, Words, overwritten};
 
 // Puts what the test answers where this is the journal.
-fn put_tested(files: &Files, journal: &[u8], words: &mut Words) {
+fn put_journal(files: &Files, journal: &[u8], words: &mut Words) {
     let made = files.disk_with(words.alloc, FileId::Jnl, journal, &[]);
     if let Some(mut disk) = words.made(made) {
-        put_record(words, test_record(&mut disk));
+        put_tested(words, test_record(&mut disk));
     }
 }
 
@@ -20,7 +20,7 @@ pub(crate) fn put_changed(files: &Files, row: &Row, words: &mut Words) {
     let bytes = row.bytes(2, words);
     let made = overwritten(words.alloc, files.file(FileId::Jnl), at, bytes.as_slice());
     if let Some(journal) = words.made(made) {
-        put_tested(files, journal.as_slice(), words);
+        put_journal(files, journal.as_slice(), words);
     }
 }
 
@@ -30,13 +30,13 @@ pub(crate) fn put_cuts(files: &Files, row: &Row, words: &mut Words) {
     let to = row.u16(2, words) as usize;
     let journal = files.file(FileId::Jnl);
     for len in from..to.min(journal.len()) {
-        put_tested(files, &journal[..len], words);
+        put_journal(files, &journal[..len], words);
     }
 }
 
 /// `failing N`: what is answered where a call fails, and how many calls were made.
 pub(crate) fn put_failing(disk: &mut MemDisk, words: &mut Words) {
-    put_record(words, test_record(disk));
+    put_tested(words, test_record(disk));
     words.number(disk.calls());
 }
 
@@ -56,7 +56,7 @@ fn put_doing(disk: &mut MemDisk, words: &mut Words) {
 pub(crate) fn put_applied(disk: &mut MemDisk, words: &mut Words) {
     put_doing(disk, words);
     words.shown(disk.file(FileId::Ndt));
-    put_record(words, test_record(disk));
+    put_tested(words, test_record(disk));
 }
 
 /// `long BYTE`: what is answered, how long .JLR is then, and whether each of its bytes but the first is that of the row.

@@ -2,7 +2,7 @@
 
 use jb_disk::{FileId, MemDisk};
 use jb_journal::{JournalError, Recovered, Stopped};
-use jb_redo::RecordError;
+use jb_redo::{RecordError, RecordHead};
 use trial_rows::Words;
 
 // Puts the place where a record is refused.
@@ -11,7 +11,7 @@ fn put_bad(words: &mut Words, at: u64) {
     words.put_number(at);
 }
 
-/// Puts what the test or the applying of a record answers.
+/// Puts what the applying of a record answers.
 pub(crate) fn put_record(words: &mut Words, answer: Result<(), RecordError>) {
     match answer {
         Ok(()) => words.word("ok"),
@@ -20,11 +20,31 @@ pub(crate) fn put_record(words: &mut Words, answer: Result<(), RecordError>) {
     }
 }
 
+// Puts the version of a journal, and the number of the change in it.
+fn put_head(words: &mut Words, version: u64, change: u64) {
+    words.number(version);
+    words.number(change);
+}
+
+/// Puts what the test of a record answers, and what its head says.
+pub(crate) fn put_tested(words: &mut Words, answer: Result<RecordHead, RecordError>) {
+    match answer {
+        Ok(head) => {
+            put_record(words, Ok(()));
+            put_head(words, u64::from(head.version.number()), head.change);
+        }
+        Err(error) => put_record(words, Err(error)),
+    }
+}
+
 /// Puts what an opening answers.
 pub(crate) fn put_opening(words: &mut Words, answer: Result<Recovered, JournalError>) {
     match answer {
         Ok(Recovered::Closed) => words.word("closed"),
-        Ok(Recovered::Replayed) => words.word("replayed"),
+        Ok(Recovered::Replayed { version, change }) => {
+            words.word("replayed");
+            put_head(words, u64::from(version), change);
+        }
         Err(JournalError::BadRecord { at }) => put_bad(words, at),
         Err(JournalError::StoreFault) => words.word("fault"),
     }
@@ -35,6 +55,14 @@ pub(crate) fn stop(stopped: Stopped) -> &'static str {
     match stopped {
         Stopped::Early => "early",
         Stopped::Late => "late",
+    }
+}
+
+/// Puts what a preparing answers.
+pub(crate) fn put_preparing(words: &mut Words, answer: Result<(), Stopped>) {
+    match answer {
+        Ok(()) => words.word("ok"),
+        Err(stopped) => words.word(stop(stopped)),
     }
 }
 

@@ -14,7 +14,7 @@ use trial_rows::{Files, Row, RowError, Words, rules_of};
 const TEXT_AT: usize = 60;
 
 /// The most slots of the area.
-pub(crate) const SLOTS: u32 = 65_000;
+pub(crate) const SLOTS: u32 = MOST_SLOTS;
 
 /// A base from number 1 on without a message.
 pub(crate) fn empty(alloc: Global) -> Result<Files, OutOfMemory> {

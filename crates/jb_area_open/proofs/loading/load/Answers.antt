@@ -38,6 +38,9 @@ returns-in_err-loaded-clause-crash g c =
     let mid = g.D.Disk.device c.recover.new.disk in
     reading_keeps before mid (g.D.Disk.device c.decode.new.disk) c.decode.ensures.kept (recovery_keeps before mid c.recover.ensures.crash)
 
+pub prepare-requires : goal.prepare-requires
+prepare-requires g c = λ files is. c.in_ok-recover.ensures.closed files (sym c.decode.ensures.kept.contents ∙ is)
+
 pub returns-in_err-prepare-clause-refused : goal.returns-in_err-prepare-clause-refused
 returns-in_err-prepare-clause-refused g c =
     let before = g.D.Disk.device c.args.disk.now in

@@ -1,4 +1,5 @@
 use Rattle.std.proofs.Common.{◌≡◌, ℕ, ◌+◌, ◌*◌, List, length, ap, refl, subst, sym, ◌∙◌, arith}
+use Rattle.jb_disk.specs.declared.version.Version.TheVariants.{Two}
 use Rattle.jb_disk.specs.declared.file.FileId.TheVariants.{Jdx}
 use Rattle.jb_image.proofs.RecordLemmas.{length-entry}
 use Rattle.jb_image.specs.Records.{entry_for}
@@ -60,6 +61,6 @@ returns-clause-writable c =
     let first = size_of_message from message text (from.base + c.args.place) ends c.put_message.new.redo c.in_ok-put_message.ensures.lengths c.in_ok-put_message.ensures.pieces in
     let entry : length c.entry_bytes.result ≡ 8 = ap length c.entry_bytes.ensures.exact ∙ length-entry (entry_for (Live message)) in
     record {
-      lengths_are = subst AreLegalLengths (sym (c.put_counts.ensures.lengths ∙ c.put_piece.ensures.puts.lengths ∙ c.in_ok-put_message.ensures.lengths)) (legal_message_lengths from message text ends);
+      lengths_are = subst (AreLegalLengths Two) (sym (c.put_counts.ensures.lengths ∙ c.put_piece.ensures.puts.lengths ∙ c.in_ok-put_message.ensures.lengths)) (legal_message_lengths from message text ends);
       short = omega (arith, c.put_counts.ensures.size, c.put_piece.ensures.size, first, entry, ends.few_bytes, ends.short_text);
     }

@@ -15,5 +15,5 @@ invariant-loop-links l = record {
   lengths : l.redo.lengths ≡ l.initial.redo.lengths;
   room : Spends 0 l.links-index (12 * l.links-index) l.initial.redo l.redo;
   kept : KeepsRoom l.initial.redo l.redo;
-  size : record_size l.redo ≤ record_size l.initial.redo + 24 * l.links-index;
+  size : record_size l.redo ≤ record_size l.initial.redo + 32 * l.links-index;
 }

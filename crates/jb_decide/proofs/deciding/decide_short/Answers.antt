@@ -2,7 +2,7 @@ use Rattle.std.proofs.Common.{List, [], ℕ, subst, sym}
 use Rattle.jb_change.proofs.LeavesLemmas.{index_on_kill}
 use Rattle.jb_change.specs.Headers.{Updates}
 use Rattle.jb_change.specs.Put.{IsMoved}
-use Rattle.jb_held.specs.Pending.{HasRoom}
+use Rattle.jb_held.specs.Pending.{BringsRoom}
 use Rattle.jb_held.specs.declared.pending.Room.{Room}
 use Rattle.jb_state.specs.Change.{after}
 use Rattle.jb_state.specs.declared.change.Change.{Change}
@@ -23,4 +23,4 @@ returns-clause-decided c = rw (← c.loaded.ensures) (λ rules user moment comma
       numbered = (short_is c.put_short.new.redo from change [] c.requires.kind).0;
       index = index_on_kill c.put_short.new.redo from change c.put_short.ensures.leaves.index;
       writable = c.put_short.ensures.writable;
-    }) (subst (λ (room : Room). HasRoom change room from) (sym c.none-room.ensures) (short_room change from c.requires.kind)) are.sized)
+    }) (subst (λ (room : Room). BringsRoom change room from) (sym c.none-room.ensures) (short_room change from c.requires.kind)) are.sized)

@@ -1,24 +1,44 @@
-use Rattle.std.proofs.Common.{◌≤◌, List, inl, length, refl, sym, ◌∙◌, subst, arith}
+use Rattle.std.proofs.Common.{◌≡◌, sym, ◌∙◌, true, false}
 use Rattle.std.specs.Option.{ForSome}
-use Rattle.jb_disk.specs.declared.file.FileId.TheVariants.{Jnl}
-use Rattle.jb_disk.specs.Images.{Images}
-use Rattle.jb_journal.specs.Prepare.{AddsNoneUnsynced, FromNewest}
-use Rattle.jb_journal.proofs.Told.{on_ok, on_ok_both}
-use Rattle.jb_journal.proofs.SyncLemmas.{synced_same}
-use Rattle.jb_journal.proofs.PrepareLemmas.{synced_prepared, newest_same}
+use Rattle.jb_disk.proofs.RunLemmas.{keeps-reads, keeps-then, stays_silent}
+use Rattle.jb_journal.specs.Prepare.{IsPreparing, WantsHead}
+use Rattle.jb_journal.proofs.Told.{on_ok_both}
+use Rattle.jb_journal.proofs.PrepareLemmas.{keeps_wanting, synced_again, synced_unwanted}
 use Rattle.jb_journal.proofs.preparing.make_head.Goals as goal
 
-pub returns-then-branch-le16-clause-durable : goal.returns-then-branch-le16-clause-durable
-returns-then-branch-le16-clause-durable g c = on_ok_both c.write_head.result _ _ _ (λ told durable. λ synced.
-    let short : ForSome (g.D.Disk.device c.len.new.self).contents (λ files. length (files Jnl) ≤ 16) = λ files there. let is = c.in_ok-len.ensures.found files (sym c.len.ensures.kept.contents ∙ there) in omega (arith, is, c.if-branch-le16.true) in
-    synced_prepared (g.D.Disk.device c.len.new.self) (g.D.Disk.device c.write_head.new.disk) short told durable c.write_head.ensures.keeps
-    (synced_same (g.D.Disk.device c.args.disk.now) (g.D.Disk.device c.len.new.self) c.len.ensures.kept synced))
-    c.write_head.ensures.told c.write_head.ensures.durable
+-- false is not true
+not_true : false ≡ true → ⊥
+not_true is = cc
 
-pub returns-then-branch-le16-clause-own : goal.returns-then-branch-le16-clause-own
-returns-then-branch-le16-clause-own g c = on_ok c.write_head.result _ _ (λ own files there.
-    subst (λ (l : List Images). FromNewest (AddsNoneUnsynced files) l (g.D.Disk.device c.write_head.new.disk).moments) c.len.ensures.kept.moments (own files there))
-    c.write_head.ensures.own
+pub returns-then-branch-clause-keeps : goal.returns-then-branch-clause-keeps
+returns-then-branch-clause-keeps g c = λ start.
+    let old = g.D.Disk.device c.args.disk.now in
+    let asked = g.D.Disk.device c.wants_head.new.disk in
+    let new = g.D.Disk.device c.give_head.new.disk in
+    let kept = c.wants_head.ensures.kept in
+    let wants : ForSome asked.contents WantsHead = λ files there. (c.in_ok-wants_head.ensures.found files (sym kept.contents ∙ there)).0 c.if-branch.true in
+    keeps-then (IsPreparing start) old asked new (keeps-reads (IsPreparing start) old asked kept)
+    (keeps_wanting start asked new (g.met.D.Disk.told c.wants_head.new.disk) (g.met.D.Disk.told c.give_head.new.disk) wants (stays_silent _ _ c.give_head.ensures.cause.alike) (c.give_head.ensures.keeps start))
 
-pub returns-else-branch-le16-clause-own : goal.returns-else-branch-le16-clause-own
-returns-else-branch-le16-clause-own g c = λ files there. newest_same (AddsNoneUnsynced files) _ _ (λ images file. inl refl) c.len.ensures.kept.moments
+pub returns-then-branch-clause-durable : goal.returns-then-branch-clause-durable
+returns-then-branch-clause-durable g c = on_ok_both c.give_head.result _ _ _ (λ told durable. λ start shows.
+    let old = g.D.Disk.device c.args.disk.now in
+    let asked = g.D.Disk.device c.wants_head.new.disk in
+    let new = g.D.Disk.device c.give_head.new.disk in
+    let kept = c.wants_head.ensures.kept in
+    let wants : ForSome asked.contents WantsHead = λ files there. (c.in_ok-wants_head.ensures.found files (sym kept.contents ∙ there)).0 c.if-branch.true in
+    let keeps = keeps_wanting start asked new (g.met.D.Disk.told c.wants_head.new.disk) (g.met.D.Disk.told c.give_head.new.disk) wants (stays_silent _ _ c.give_head.ensures.cause.alike) (c.give_head.ensures.keeps start) in
+    synced_again start asked new keeps ((keeps-reads (IsPreparing start) old asked kept).shows shows) told durable)
+    c.give_head.ensures.told c.give_head.ensures.durable
+
+pub returns-else-branch-clause-durable : goal.returns-else-branch-clause-durable
+returns-else-branch-clause-durable g c = λ start shows.
+    let old = g.D.Disk.device c.args.disk.now in
+    let asked = g.D.Disk.device c.wants_head.new.disk in
+    let kept = c.wants_head.ensures.kept in
+    let none : ForSome asked.contents (λ files. WantsHead files → ⊥) = λ files there wants.
+    not_true (sym c.if-branch.false ∙ (c.in_ok-wants_head.ensures.found files (sym kept.contents ∙ there)).1 wants) in
+    synced_unwanted start asked none ((keeps-reads (IsPreparing start) old asked kept).shows shows)
+
+pub returns-in_err-wants_head-clause-keeps : goal.returns-in_err-wants_head-clause-keeps
+returns-in_err-wants_head-clause-keeps g c = λ start. keeps-reads (IsPreparing start) _ _ c.wants_head.ensures.kept

@@ -1,4 +1,5 @@
 use Rattle.std.proofs.Common.{arith, refl}
+use Rattle.jb_disk.specs.declared.version.Version.TheVariants.{Two}
 use Rattle.std.specs.List.{flat_map}
 use Rattle.jb_redo.specs.Record.{piece_bytes, record_end}
 use Rattle.jb_journal.specs.Spelling.{back_bytes}
@@ -12,5 +13,5 @@ put-requires-clause-room g c =
 
 pub returns : goal.returns
 returns g c =
-    puts_then c.args.at c.args.end (flat_map piece_bytes c.args.redo.now.pieces) record_end (back_bytes c.args.redo.now.pieces) _ _ _ _ _ _ _ _
+    puts_then c.args.at c.args.end (flat_map (piece_bytes Two) c.args.redo.now.pieces) (record_end Two) (back_bytes c.args.redo.now.pieces) _ _ _ _ _ _ _ _
     (λ files is. omega (arith, c.requires.room files is, c.requires.end, length-back c.args.redo.now.pieces)) c.requires.end refl c.in_ok-put_pieces.ensures c.put.ensures

@@ -1,6 +1,7 @@
 use Rattle.std.proofs.Common.{[], ◌+◌, ◌∙◌, ap, sym, subst, Option}
 use Rattle.jb_disk.specs.declared.file.FileId.TheVariants.{Jnl}
 use Rattle.jb_disk.specs.Files.{Files}
+use Rattle.jb_disk.specs.declared.version.Version.TheVariants.{Two}
 use Rattle.jb_disk.proofs.RunLemmas.{keeps-then}
 use Rattle.jb_redo.specs.Record.{record_bytes}
 use Rattle.jb_journal.specs.Pending.{Pending, told_with}
@@ -19,7 +20,7 @@ put_record-requires-clause-room g c =
 
 pub returns-clause-told : goal.returns-clause-told
 returns-clause-told g c =
-    puts_flushed 16 (record_bytes c.args.redo.now.lengths c.args.redo.now.pieces) c.new-gathering.result _ _ _ _ _ _ c.flush.result (ap (λ (p : Pending). p.bytes) c.new-gathering.ensures) c.in_ok-put_record.ensures c.flush.ensures
+    puts_flushed 16 (record_bytes Two c.args.change c.args.redo.now.lengths c.args.redo.now.pieces) c.new-gathering.result _ _ _ _ _ _ c.flush.result (ap (λ (p : Pending). p.bytes) c.new-gathering.ensures) c.in_ok-put_record.ensures c.flush.ensures
 
 pub returns-clause-keeps : goal.returns-clause-keeps
 returns-clause-keeps g c = λ start. keeps-then (KeepsHead start) _ _ _ (c.put_record.ensures.keeps start) (c.flush.ensures.head c.in_ok-put_record.ensures.bound.head start)

@@ -1,10 +1,11 @@
 use Rattle.std.proofs.Common.{length, drop, ap, sym, arith, refl, length-drop}
+use Rattle.jb_disk.specs.declared.version.Version.TheVariants.{Two}
 use Rattle.std.specs.List.{flat_map}
 use Rattle.std.proofs.lemmas.List.{drop_all}
 use Rattle.jb_redo.specs.Record.{length_bytes}
 use Rattle.jb_journal.proofs.RecordLemmas.{more_lengths}
 use Rattle.jb_journal.proofs.PutsLemmas.{writing_start, writing_on, writing_failed, writing_end}
-use Rattle.jb_redo.proofs.RecordLemmas.{length-lengths}
+use Rattle.jb_redo.proofs.LengthLemmas.{length-lengths}
 use Rattle.jb_journal.proofs.recording.put_lengths.Goals as goal
 
 pub loop-entry-init : goal.loop-entry-init
@@ -26,7 +27,7 @@ overflow_add-place g c =
 pub loop-entry-preserved : goal.loop-entry-preserved
 loop-entry-preserved g c =
     let parts = more_lengths c.args.lengths.now c.loop-entry.entry-index _ _ c.loop-entry-test.true c.length_code.ensures in
-    writing_on _ _ _ _ _ _ _ _ 8 _ _ c.length_code.result _ _ c.loop-entry.invariant (ap length (sym c.length_code.ensures)) parts c.in_ok-put.ensures
+    writing_on _ _ _ _ _ _ _ _ 12 _ _ c.length_code.result _ _ c.loop-entry.invariant (ap length (sym c.length_code.ensures)) parts c.in_ok-put.ensures
 
 pub returns : goal.returns
-returns g c = writing_end _ _ _ _ _ _ _ _ _ c.loop-entry.invariant (ap (flat_map length_bytes) (drop_all c.loop-entry.entry-index c.args.lengths.now (omega arith)))
+returns g c = writing_end _ _ _ _ _ _ _ _ _ c.loop-entry.invariant (ap (flat_map (length_bytes Two)) (drop_all c.loop-entry.entry-index c.args.lengths.now (omega arith)))

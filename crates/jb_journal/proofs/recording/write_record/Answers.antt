@@ -1,10 +1,12 @@
-use Rattle.std.proofs.Common.{[], ◌∷◌, ℕ, subst, ◌+◌, ap, ◌∙◌, arith}
+use Rattle.std.proofs.Common.{[], ◌∷◌, ℕ, subst, ◌+◌, ap, sym, ◌∙◌, arith}
 use Rattle.jb_disk.specs.declared.file.FileId.TheVariants.{Jnl}
+use Rattle.jb_disk.specs.declared.version.Version.TheVariants.{Two}
 use Rattle.jb_disk.proofs.RunLemmas.{keeps-then, keeps-resize, keeps-sync}
 use Rattle.jb_redo.specs.Record.{record_bytes}
 use Rattle.jb_journal.specs.Stages.{KeepsHead, with_record}
 use Rattle.jb_journal.specs.Coming.{ComeBy, journal_length}
 use Rattle.jb_journal.proofs.ComingLemmas.{come_on, come_then, come_resized, come_synced}
+use Rattle.jb_journal.proofs.RecordLemmas.{same_size}
 use Rattle.jb_journal.proofs.Touching.{untouched_cut}
 use Rattle.jb_journal.proofs.Told.{told_ended, durable_at, on_ok}
 use Rattle.jb_journal.proofs.recording.write_record.Goals as goal
@@ -29,13 +31,13 @@ returns-clause-keeps g c = λ start. keeps-then (KeepsHead start) _ _ _
 
 pub returns-clause-told : goal.returns-clause-told
 returns-clause-told g c =
-    let told = told_ended Jnl 16 _ (record_bytes c.args.redo.now.lengths c.args.redo.now.pieces) _ _ _ c.requires.room (ap (λ n. 16 + n) c.record_size-size.ensures) c.in_ok-set_len.ensures.changed.done c.in_ok-put_gathered.ensures.told in
+    let told = told_ended Jnl 16 _ (record_bytes Two c.args.change c.args.redo.now.lengths c.args.redo.now.pieces) _ _ _ c.requires.room (ap (λ n. 16 + n) (c.record_size-size.ensures ∙ sym (same_size c.args.change c.args.redo.now))) c.in_ok-set_len.ensures.changed.done c.in_ok-put_gathered.ensures.told in
     on_ok c.sync.result _ _ (λ kept. kept ∙ told) c.sync.ensures.changed.kept
 
 pub returns-clause-durable : goal.returns-clause-durable
 returns-clause-durable g c =
-    let told = told_ended Jnl 16 _ (record_bytes c.args.redo.now.lengths c.args.redo.now.pieces) _ _ _ c.requires.room (ap (λ n. 16 + n) c.record_size-size.ensures) c.in_ok-set_len.ensures.changed.done c.in_ok-put_gathered.ensures.told in
-    on_ok c.sync.result _ _ (λ done. durable_at Jnl (with_record c.args.redo.now) _ (g.D.Disk.device c.put_gathered.new.disk) (g.D.Disk.device c.sync.new.self) told done) c.sync.ensures.changed.done
+    let told = told_ended Jnl 16 _ (record_bytes Two c.args.change c.args.redo.now.lengths c.args.redo.now.pieces) _ _ _ c.requires.room (ap (λ n. 16 + n) (c.record_size-size.ensures ∙ sym (same_size c.args.change c.args.redo.now))) c.in_ok-set_len.ensures.changed.done c.in_ok-put_gathered.ensures.told in
+    on_ok c.sync.result _ _ (λ done. durable_at Jnl (with_record c.args.change c.args.redo.now) _ (g.D.Disk.device c.put_gathered.new.disk) (g.D.Disk.device c.sync.new.self) told done) c.sync.ensures.changed.done
 
 pub returns-clause-come : goal.returns-clause-come
 returns-clause-come g c =

@@ -7,12 +7,12 @@ use Rattle.jb_journal.proofs.Told.{on_ok_always}
 use Rattle.jb_journal.proofs.settling.sync_gate.Goals as goal
 
 pub returns-in_err-sync-clause-keeps : goal.returns-in_err-sync-clause-keeps
-returns-in_err-sync-clause-keeps g c = λ stopped change start. keeps-sync (IsInDoubt stopped change start) Jnl _ _ _ (g.met.D.Disk.told c.args.disk.now) (g.met.D.Disk.told c.sync.new.self) c.sync.ensures.changed
+returns-in_err-sync-clause-keeps g c = λ stopped number change start. keeps-sync (IsInDoubt stopped number change start) Jnl _ _ _ (g.met.D.Disk.told c.args.disk.now) (g.met.D.Disk.told c.sync.new.self) c.sync.ensures.changed
 
 pub returns-clause-keeps : goal.returns-clause-keeps
-returns-clause-keeps g c = λ stopped change start. keeps-then (IsInDoubt stopped change start) _ _ _
-    (keeps-sync (IsInDoubt stopped change start) Jnl _ _ _ (g.met.D.Disk.told c.args.disk.now) (g.met.D.Disk.told c.sync.new.self) c.sync.ensures.changed)
-    (keeps-reads (IsInDoubt stopped change start) _ _ c.is_gate_open.ensures.kept)
+returns-clause-keeps g c = λ stopped number change start. keeps-then (IsInDoubt stopped number change start) _ _ _
+    (keeps-sync (IsInDoubt stopped number change start) Jnl _ _ _ (g.met.D.Disk.told c.args.disk.now) (g.met.D.Disk.told c.sync.new.self) c.sync.ensures.changed)
+    (keeps-reads (IsInDoubt stopped number change start) _ _ c.is_gate_open.ensures.kept)
 
 pub returns-clause-durable : goal.returns-clause-durable
 returns-clause-durable g c = on_ok_always c.is_gate_open.result _ (λ files there.

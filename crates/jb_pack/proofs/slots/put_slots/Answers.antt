@@ -6,10 +6,11 @@ use Rattle.jb_state.specs.declared.links.Links.{Links}
 use Rattle.jb_state.specs.declared.loaded.LoadedMessage.{LoadedMessage}
 use Rattle.jb_state.specs.declared.loaded.LoadedSlot.{LoadedSlot}
 use Rattle.jb_state.specs.declared.loaded.LoadedSlot.TheVariants.{Live}
-use Rattle.jb_pack.proofs.SlotLemmas.{IsPut, all_put, from_place, links_are, put_live, put_no_message, put_none, has_place, keeps_then}
+use Rattle.jb_pack.proofs.SlotLemmas.{IsPut, all_put, put_all, from_place, links_are, put_live, put_no_message, put_none, has_place, keeps_then}
 use Rattle.jb_image.specs.Records.{IsHeaderReadAgain, message_bytes}
+use Rattle.jb_pack.specs.Bytes.{headers_bytes}
 use Rattle.jb_pack.specs.Laid.{Lays}
-use Rattle.jb_state.specs.Packed.{moved, texts_size}
+use Rattle.jb_state.specs.Packed.{live_slots, moved, new_base, packed, texts_size}
 use Rattle.jb_pack.specs.declared.place.Place.{Place}
 use Rattle.jb_pack.proofs.slots.put_slots.Goals as goal
 
@@ -84,8 +85,10 @@ ended c = all_put c.args.loaded.now c.args.links.now c.args.redo.now c.args.slot
 
 pub returns-clause-lays : goal.returns-clause-lays
 returns-clause-lays c =
+    let all = put_all c.args.loaded.now c.args.links.now c.args.redo.now c.loop-slot.redo c.loop-slot.index c.loop-slot.place (length c.args.slots.now) (ended c) in
     rw c.requires.base
-    (subst (λ (bytes : List ℕ). Lays Jhr (length c.args.slots.now) bytes c.args.redo.now c.loop-slot.redo) (sym (append-nil (ended c).done) ∙ (ended c).whole) (ended c).lays)
+    (subst (λ (n : ℕ). Lays Jhr n (headers_bytes (new_base c.args.loaded.now) (packed c.args.loaded.now).slots) c.args.redo.now c.loop-slot.redo)
+    (sym (ap live_slots c.requires.slots)) all.lays)
 
 pub returns-clause-index : goal.returns-clause-index
 returns-clause-index c = sym (append-nil c.loop-slot.index) ∙ (ended c).indexed

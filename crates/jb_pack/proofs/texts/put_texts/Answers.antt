@@ -19,12 +19,12 @@ loop-slot-preserved-in-Some g c =
     let message : LoadedMessage = c.in-Live.message in
     let contents : Option Files = (g.D.Disk.device c.args.disk.now).contents in
     let was = c.loop-slot.invariant.copied in
-    let here : IsCopied c.args.loaded.now contents c.args.slots.now c.args.redo.now c.loop-slot.redo c.loop-slot.run c.loop-slot.end k (Live message ∷ rest) =
-    subst (IsCopied c.args.loaded.now contents c.args.slots.now c.args.redo.now c.loop-slot.redo c.loop-slot.run c.loop-slot.end k)
+    let here : IsCopied c.args.loaded.now contents c.args.slots.now c.args.redo.now c.loop-slot.redo c.loop-slot.run c.loop-slot.end (Live message ∷ rest) =
+    subst (IsCopied c.args.loaded.now contents c.args.slots.now c.args.redo.now c.loop-slot.redo c.loop-slot.run c.loop-slot.end)
     (from_place c.args.slots.now k c.slot-item.result c.loop-slot-test.true c.slot-item.is ∙ ap (λ (s : LoadedSlot). s ∷ rest) c.in-Live.is) was in
     let within = All-head (IsSlotWithin c.args.loaded.now.headers_len c.args.loaded.now.texts_len) (Live message) rest here.within in
     record {
-      copied = copied_joined c.args.loaded.now contents c.args.slots.now c.args.redo.now c.loop-slot.redo c.loop-slot.run c.in-Some.more c.loop-slot.end k message rest
+      copied = copied_joined c.args.loaded.now contents c.args.slots.now c.args.redo.now c.loop-slot.redo c.loop-slot.run c.in-Some.more c.loop-slot.end message rest
           c.in-Some.ensures.joined (c.in-Some.ensures.run (min c.args.loaded.now.texts_len TEXTS_CEILING) here.run_is (text_placed c.args.loaded.now.texts_len message.text_at message.text_len within.text)) here;
       kept = c.loop-slot.invariant.kept;
       quiet = c.loop-slot.invariant.quiet;
@@ -39,12 +39,12 @@ loop-slot-preserved g c =
     let was = c.loop-slot.invariant.copied in
     let kept = c.loop-slot.invariant.kept in
     let keeps = c.in_ok-end.ensures.kept in
-    let here : IsCopied c.args.loaded.now contents c.args.slots.now c.args.redo.now c.loop-slot.redo c.loop-slot.run c.loop-slot.end k (Live message ∷ rest) =
-    subst (IsCopied c.args.loaded.now contents c.args.slots.now c.args.redo.now c.loop-slot.redo c.loop-slot.run c.loop-slot.end k)
+    let here : IsCopied c.args.loaded.now contents c.args.slots.now c.args.redo.now c.loop-slot.redo c.loop-slot.run c.loop-slot.end (Live message ∷ rest) =
+    subst (IsCopied c.args.loaded.now contents c.args.slots.now c.args.redo.now c.loop-slot.redo c.loop-slot.run c.loop-slot.end)
     (from_place c.args.slots.now k c.slot-item.result c.loop-slot-test.true c.slot-item.is ∙ ap (λ (s : LoadedSlot). s ∷ rest) c.in-Live.is) was in
     let within = All-head (IsSlotWithin c.args.loaded.now.headers_len c.args.loaded.now.texts_len) (Live message) rest here.within in
     record {
-      copied = copied_next c.args.loaded.now contents c.args.slots.now c.args.redo.now c.loop-slot.redo c.put_run.new.redo c.loop-slot.run c.loop-slot.end c.in_ok-end.end k message rest
+      copied = copied_next c.args.loaded.now contents c.args.slots.now c.args.redo.now c.loop-slot.redo c.put_run.new.redo c.loop-slot.run c.loop-slot.end c.in_ok-end.end message rest
           (subst (λ (o : Option Files). PutsRun o c.loop-slot.run c.loop-slot.redo c.put_run.new.redo) kept.contents c.in_ok-end.ensures.puts)
           c.in_ok-end.ensures.next c.in_ok-end.ensures.room (text_run (min c.args.loaded.now.texts_len TEXTS_CEILING) (record { at = message.text_at; len = message.text_len }) c.in_default-joined.ensures.other
           (text_placed c.args.loaded.now.texts_len message.text_at message.text_len within.text)) here;
@@ -65,8 +65,8 @@ loop-slot-preserved-in_default g c =
     let rest : List LoadedSlot = drop (k + 1) c.args.slots.now in
     let contents : Option Files = (g.D.Disk.device c.args.disk.now).contents in
     record {
-      copied = copied_no_message c.args.loaded.now contents c.args.slots.now c.args.redo.now c.loop-slot.redo c.loop-slot.run c.loop-slot.end k c.slot-item.result rest c.in_default.not-Live
-          (subst (IsCopied c.args.loaded.now contents c.args.slots.now c.args.redo.now c.loop-slot.redo c.loop-slot.run c.loop-slot.end k)
+      copied = copied_no_message c.args.loaded.now contents c.args.slots.now c.args.redo.now c.loop-slot.redo c.loop-slot.run c.loop-slot.end c.slot-item.result rest c.in_default.not-Live
+          (subst (IsCopied c.args.loaded.now contents c.args.slots.now c.args.redo.now c.loop-slot.redo c.loop-slot.run c.loop-slot.end)
           (from_place c.args.slots.now k c.slot-item.result c.loop-slot-test.true c.slot-item.is) c.loop-slot.invariant.copied);
       kept = c.loop-slot.invariant.kept;
       quiet = c.loop-slot.invariant.quiet;

@@ -24,14 +24,14 @@ pub returns-then-not-branch-clause-fault : goal.returns-then-not-branch-clause-f
 returns-then-not-branch-clause-fault g c = λ files is.
     let ends = c.args.lengths.now.ends in
     let on = turns_on (λ before after. HasPieced before c.in_ok-at.at ends after) (g.D.Disk.device c.args.disk.now).contents (g.D.Disk.device c.apply_pieces.new.disk).contents files c.in_ok-at.ensures.ok is in
-    pieced_no_end files c.in_ok-at.at ends on.0 (c.requires.sized files is) on.2 (c.in_ok-has_mark.ensures.none c.if-not-branch.true on.0 on.1) (c.requires.record files is)
+    pieced_no_end files c.in_ok-at.at ends on.0 (c.requires.sized files is) on.2 (rw c.end_mark-end.ensures at (c.in_ok-has_mark.ensures.none c.if-not-branch.true on.0 on.1)) (c.requires.record files is)
 
 pub returns-clause-ok : goal.returns-clause-ok
 returns-clause-ok g c =
     let ends = c.args.lengths.now.ends in
     rw (sym c.has_mark.ensures.kept.contents) at
     (turns_weaken_told (λ before after. HasPieced before c.in_ok-at.at ends after) ArePieced (g.D.Disk.device c.args.disk.now).contents (g.D.Disk.device c.apply_pieces.new.disk).contents c.in_ok-at.ensures.ok
-    (λ before after is is_now done. pieced_whole before c.in_ok-at.at ends after (c.requires.sized before is) done (c.in_ok-has_mark.ensures.found c.if-not-branch.false after is_now)))
+    (λ before after is is_now done. pieced_whole before c.in_ok-at.at ends after (c.requires.sized before is) done (rw c.end_mark-end.ensures at (c.in_ok-has_mark.ensures.found c.if-not-branch.false after is_now))))
 
 pub returns-clause-images : goal.returns-clause-images
 returns-clause-images g c =

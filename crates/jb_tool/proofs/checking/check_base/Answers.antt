@@ -19,11 +19,15 @@ returns-in_err-checked-clause-answer g c =
     let p = err_from_is_err_and c.from_residual-in_err-checked.result c.from_residual-in_err-checked.ensures.1 in
     let is = p.1 ∙ ap (λ (f : ToolError). Err f) p.2 in
     subst (λ (a : ToolAnswer). LooksAt Checking before after a) (sym is)
-    (unlisted (λ files. OpensTo MOST_SLOTS files c.in_ok-loaded.loaded) before after c.in_ok-loaded.ensures.opened)
+    (unlisted (λ files. OpensTo MOST_SLOTS files c.in_ok-base.base.loaded) before after c.in_ok-base.ensures.opened)
 
 pub returns-clause-answer : goal.returns-clause-answer
 returns-clause-answer g c = λ was there.
-    let loaded = c.in_ok-loaded.loaded in
-    recovered_has (λ files. OpensTo MOST_SLOTS files loaded) (IsShown Checking c.in_ok-checked.field-0) was (g.D.Disk.device c.read_base.new.disk)
-    (λ files opens. record { area = state_of (files Jdt) loaded; stands = opens_stands files loaded opens; outcome = λ moment. (c.in_ok-checked.ensures (files Jdt), refl) })
-    (c.in_ok-loaded.ensures.opened was there)
+    let found = c.in_ok-base.base.found in
+    let loaded = c.in_ok-base.base.loaded in (
+      found,
+      c.in_ok-base.ensures.found was there,
+      recovered_has (λ files. OpensTo MOST_SLOTS files loaded) (IsShown Checking found c.in_ok-checked.field-0) was (g.D.Disk.device c.read_base.new.disk)
+          (λ files opens. record { area = state_of (files Jdt) loaded; stands = opens_stands files loaded opens; outcome = λ moment. (c.in_ok-checked.ensures (files Jdt), refl) })
+          (c.in_ok-base.ensures.opened was there),
+    )

@@ -4,6 +4,9 @@ use Rattle.jb_tool.proofs.NewBaseLemmas.{base_writable}
 use Rattle.jb_tool.specs.Making.{HasNewBase}
 use Rattle.jb_tool.proofs.making.write_base.Goals as goal
 
+pub prepare-requires : goal.prepare-requires
+prepare-requires g c = λ files is. (c.requires.empty files is).shut
+
 pub returns-in_err-prepare-clause-crash : goal.returns-in_err-prepare-clause-crash
 returns-in_err-prepare-clause-crash g c =
     left_preparing c.args.moment c.put_base.new.redo c.put_base.ensures (g.D.Disk.device c.args.disk.now) (g.D.Disk.device c.prepare.new.disk) (g.D.Disk.device c.prepare.new.disk)

@@ -11,6 +11,8 @@ returns-in-Ok g c = record {
   doubt = tt;
   opens = tt;
   loaded = tt;
+  counted = c.in-Ok.ensures.ends.counted;
+  spent = tt;
   faults = record { quiet = c.in-Ok.ensures.ends.faults.quiet; later = c.finish.ensures.ends.faults.later; cause = tt };
   alike = c.finish.ensures.ends.alike;
   crash = c.finish.ensures.ends.crash;
@@ -30,6 +32,8 @@ returns-in-Err g c = record {
   doubt = c.in-Err.ensures.ends.doubt;
   opens = c.in-Err.ensures.ends.opens;
   loaded = c.in-Err.ensures.ends.loaded;
+  counted = tt;
+  spent = c.in-Err.ensures.ends.spent;
   faults = record { quiet = tt; later = c.finish.ensures.ends.faults.later; cause = c.in-Err.ensures.ends.faults.cause };
   alike = c.finish.ensures.ends.alike;
   crash = c.finish.ensures.ends.crash;

@@ -9,7 +9,7 @@ use Rattle.jb_area.specs.Commits.{StandsLate}
 use Rattle.jb_area.proofs.CommitLemmas.{idle_opens}
 use Rattle.jb_area.proofs.DoubtLemmas.{doubt_reads, doubt_stands}
 use Rattle.jb_area.proofs.PackedLemmas.{copies_drop}
-use Rattle.jb_area.proofs.StageLemmas.{between, kept_by, made_change, made_nothing, may_apply, may_commit, packing_is, rests_changed, rests_unchanged, settled_with, short_after, some_change, some_in}
+use Rattle.jb_area.proofs.StageLemmas.{between, counted_change, counted_nothing, kept_by, made_change, made_nothing, may_apply, may_commit, packing_is, rests_changed, rests_unchanged, settled_with, short_after, some_change, some_in}
 use Rattle.jb_area.proofs.area.OpenArea.finish.Goals as goal
 
 pub returns-in-Nothing-clause-ends : goal.returns-in-Nothing-clause-ends
@@ -25,6 +25,8 @@ returns-in-Nothing-clause-ends g c =
       doubt = tt;
       opens = tt;
       loaded = tt;
+      counted = counted_nothing g.D.Disk.device area c.in-Begun.reply c.in-Begun.pending is (g.D.Disk.device area.disk).contents c.in-Nothing.is;
+      spent = tt;
       faults = record { quiet = refl; later = omega arith; cause = tt };
       alike = refl;
       crash = λ texts decided coming begun was there.
@@ -44,16 +46,19 @@ returns-in-Ok-clause-ends g c =
     let is = sym c.replace-stage.ensures.value ∙ c.in-Begun.is in
     record {
       done = λ texts decided coming begun.
-          rests_changed g.D.Disk.device area texts decided coming begun c.in-Begun.reply c.in-Begun.pending c.commit_change.new.disk c.apply.new.self c.put_redo-in-Ok.new.place c.keep_after.new.kept c.replace-stage.new.dest c.in_use.result.now
+          rests_changed g.D.Disk.device area texts decided coming begun c.in-Begun.reply c.in-Begun.pending c.commit_change.new.disk c.saturating_add-self.result c.apply.new.self c.put_redo-in-Ok.new.place c.keep_after.new.kept c.replace-stage.new.dest c.in_use.result.now
           c.in_use.ensures is c.in_default-change.not-Nothing c.put_redo-in-Ok.ensures c.keep_after.ensures c.replace-stage.ensures.after c.apply.ensures
           c.commit_change.ensures.alike c.in-Ok.ensures.made c.in-Ok.ensures.done;
-      made = made_change g.D.Disk.device area c.in-Begun.reply c.in-Begun.pending is c.commit_change.new.disk c.apply.new.self c.put_redo-in-Ok.new.place c.keep_after.new.kept c.replace-stage.new.dest c.in_use.result.now
+      made = made_change g.D.Disk.device area c.in-Begun.reply c.in-Begun.pending is c.commit_change.new.disk c.saturating_add-self.result c.apply.new.self c.put_redo-in-Ok.new.place c.keep_after.new.kept c.replace-stage.new.dest c.in_use.result.now
           c.in_use.ensures c.in_default-change.not-Nothing c.in-Ok.ensures.made;
       idle = λ none. absurd (some_change area c.in-Begun.reply c.in-Begun.pending is c.in_default-change.not-Nothing none);
       fault = tt;
       doubt = tt;
       opens = tt;
       loaded = tt;
+      counted = counted_change g.D.Disk.device area c.in-Begun.reply c.in-Begun.pending is c.saturating_add-self.result c.in_use.result.now (g.D.Disk.device c.commit_change.new.disk).contents
+          c.in_default-change.not-Nothing c.saturating_add-self.ensures c.in-Ok.ensures.recorded;
+      spent = tt;
       faults = record { quiet = c.in-Ok.ensures.faults.quiet; later = c.commit_change.ensures.faults.later; cause = tt };
       alike = c.commit_change.ensures.alike;
       crash = λ texts decided coming begun was there.
@@ -68,8 +73,8 @@ returns-in-Ok-clause-ends g c =
           let packing = packing_is g.D.Disk.device area has.texts has.reply has.coming has.begun c.in-Begun.reply c.in-Begun.pending is packed in
           record {
             dropped = c.keep_after.ensures ∙ copies_drop c.in-Begun.pending.change area.packer packing;
-            short = short_after g.D.Disk.device area has.texts has.reply has.coming has.begun c.in-Begun.reply c.in-Begun.pending c.commit_change.new.disk c.in_use.result.now
-                c.in_use.ensures is c.in_default-change.not-Nothing packing c.in-Ok.ensures.done c.in-Ok.ensures.size;
+            short = short_after g.D.Disk.device area has.texts has.reply has.coming has.begun c.in-Begun.reply c.in-Begun.pending c.commit_change.new.disk c.saturating_add-self.result c.in_use.result.now
+                c.in_use.ensures is c.in_default-change.not-Nothing packing c.in-Ok.ensures.done c.in-Ok.ensures.recorded;
           };
     }
 
@@ -77,10 +82,10 @@ pub returns-in-Err-clause-ends : goal.returns-in-Err-clause-ends
 returns-in-Err-clause-ends g c =
     let area = c.args.self.now in
     let is = sym c.replace-stage.ensures.value ∙ c.in-Begun.is in
-    let new = record area { disk = c.commit_change.new.disk; stage = c.put_stage.new.place } in
+    let new = record area { disk = c.commit_change.new.disk; commits = c.saturating_add-self.result; stage = c.put_stage.new.place } in
     let doubt : (texts : List ℕ) (decided : Reply) (coming : Coming) → IsBegun g.D.Disk.device area texts decided coming → IsBetween g.D.Disk.device new texts coming =
     λ texts decided coming begun.
-    between g.D.Disk.device area texts decided coming begun c.in-Begun.reply c.in-Begun.pending c.commit_change.new.disk area.large c.put_stage.new.place c.in_use.result.now c.in-Err.stopped
+    between g.D.Disk.device area texts decided coming begun c.in-Begun.reply c.in-Begun.pending c.commit_change.new.disk c.saturating_add-self.result area.large c.put_stage.new.place c.in_use.result.now c.in-Err.stopped
     c.put_stage.ensures c.in_use.ensures c.in_use.ensures is c.in_default-change.not-Nothing c.commit_change.ensures.alike c.in-Err.ensures.doubt in
     record {
       done = tt;
@@ -90,6 +95,8 @@ returns-in-Err-clause-ends g c =
       doubt = doubt;
       opens = λ texts decided coming begun. doubt_reads g.D.Disk.device new texts (Some coming) (doubt texts decided coming begun);
       loaded = refl;
+      counted = tt;
+      spent = c.saturating_add-self.ensures;
       faults = record { quiet = tt; later = c.commit_change.ensures.faults.later; cause = c.in-Err.ensures.faults.cause };
       alike = c.commit_change.ensures.alike;
       crash = λ texts decided coming begun was there.

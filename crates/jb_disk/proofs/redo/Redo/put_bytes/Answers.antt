@@ -12,7 +12,7 @@ invariant_of-self c =
     let spare = ap (λ (x : RedoView). x.spare_pieces) c.self.view_is in
     let few : length c.push.new.self.items < 2 ^ 32 = grind (arith, common_steps) in
     record {
-      fits = rw (c.in-Ok.ensures.items, c.in-Ok-push.ensures.items) (put-fits c.self.inside.buffer.items c.args.bytes.now c.self.inside.kept.items c.args.file c.args.at _ _ starts refl c.self.invariant.fits);
+      fits = rw (c.in-Ok.ensures.items, c.in-Ok-push.ensures.items) (put-fits c.self.inside.buffer.items c.args.bytes.now c.self.inside.kept.items c.args.file c.args.at _ _ starts refl c.self.invariant.fits c.requires.low);
       total = rw (c.in-Ok.ensures.items, c.in-Ok-push.ensures.items) (put-total c.self.inside.buffer.items c.args.bytes.now c.self.inside.kept.items c.args.file c.args.at _ _ starts refl c.self.invariant.fits c.self.invariant.total);
       few = few;
     }

@@ -12,7 +12,7 @@ invariant_of-self c =
     let spare = ap (λ (x : RedoView). x.spare_pieces) c.self.view_is in
     let few : length c.push.new.self.items < 2 ^ 32 = grind (arith, common_steps) in
     record {
-      fits = rw c.in-Ok.ensures.items (copy-fits c.self.inside.buffer.items c.self.inside.kept.items c.args.from c.args.from_at c.args.to c.args.to_at c.args.len _ starts c.self.invariant.fits);
+      fits = rw c.in-Ok.ensures.items (copy-fits c.self.inside.buffer.items c.self.inside.kept.items c.args.from c.args.from_at c.args.to c.args.to_at c.args.len _ starts c.self.invariant.fits c.requires.source c.requires.target);
       total = rw c.in-Ok.ensures.items (copy-total c.self.inside.buffer.items c.self.inside.kept.items c.args.from c.args.from_at c.args.to c.args.to_at c.args.len _ starts c.self.invariant.fits c.self.invariant.total);
       few = few;
     }
