@@ -109,6 +109,18 @@ picked_none p xs start place x old new from within read fails kept before =
     ∙ ap (λ b. filter p (take (place - start) (drop start xs)) ++ cond b (x ∷ []) []) (sym fails)
     ∙ sym (picked_more p xs start place x from within read)
 
+-- the count of what passes, with one element more, from a place on
+pub counted_more : {X : Type 0} (p : X → Bool) (xs : List X) (start place : ℕ) (x : X) → start ≤ place → place < length xs → x ≡ get_or xs place x
+    → length (filter p (take (place + 1 - start) (drop start xs))) ≡ length (filter p (take (place - start) (drop start xs))) + cond (p x) 1 0
+counted_more p xs start place x from within read =
+    ap length (picked_more p xs start place x from within read)
+    ∙ length-append (filter p (take (place - start) (drop start xs))) (cond (p x) (x ∷ []) [])
+    ∙ ap (λ n. length (filter p (take (place - start) (drop start xs))) + n) (by (p x))
+  where
+    by : (b : Bool) → length (cond b (x ∷ []) []) ≡ cond b 1 0
+    by true = refl
+    by false = refl
+
 -- as many as are asked for are the first
 pub picked_enough : {X : Type 0} (p : X → Bool) (xs : List X) (i most : ℕ) (found : List X) → length found ≡ most → found ≡ filter p (take i xs) → found ≡ take most (filter p xs)
 picked_enough p xs i most found long is =

@@ -1,11 +1,14 @@
 -- Where numbers stand in a list in which they rise.
-use Rattle.std.proofs.Common.{◌≡◌, inl, inr, ℕ, zero, suc, ◌<◌, ◌≤◌, Bool, true, false, ◌&&◌, ◌==◌, cond, List, [], ◌∷◌, Option, Some, None, filter, find, length, get_or, slice_get, refl, sym, ◌∙◌, ap, arith, eq-eqb, ne_eqb}
-use Rattle.std.specs.Prelude.{All, is_some}
-use Rattle.std.proofs.lemmas.Bool.{cases_order, cond_both}
+use Rattle.std.proofs.Common.{◌≡◌, inl, inr, ℕ, zero, suc, ◌<◌, ◌≤◌, Bool, true, false, ◌&&◌, ◌==◌, cond, List, [], ◌∷◌, Option, Some, None, filter, find, length, drop, get_or, nat_le, slice_get, refl, sym, ◌∙◌, ap, arith, eq-eqb, ne_eqb}
+use Rattle.std.specs.Prelude.{All, is_some, max}
+use Rattle.std.proofs.lemmas.Bool.{cases_order, cond_both, le-leb, lt-leb}
+use Rattle.std.proofs.lemmas.Bool.Decides.{nat_tests}
 use Rattle.std.proofs.lemmas.Option.{get_or_from_slice_get}
 use Rattle.std.proofs.lemmas.List.{get_or_default}
+use Rattle.std.proofs.lemmas.List.Elements.{filter_agree}
 use Rattle.jb_state.specs.declared.summary.Summary.{Summary}
 use Rattle.jb_index.specs.Cut.{IsSplitAt, IsSummaryPlace, NumbersRise}
+use Rattle.jb_index.proofs.ListLemmas.{filter_behind, filter_cut, filter_filter}
 
 -- where another number stands at the place of this one, none has it
 pub not_at : (xs : List Summary) (number at : ℕ) (one : Summary) → NumbersRise xs → IsSplitAt xs number at → slice_get xs at ≡ Some one → (one.number ≡ number → ⊥)
@@ -128,3 +131,27 @@ one_hidden listed xs number at one rises within read numbered hidden =
               second_fails (listed (get_or xs k d)) _
               (ne_eqb _ _ (λ e. let more : (get_or xs at d).number < (get_or xs k d).number = rises at k d behind inside in let is : (get_or xs at d).number ≡ number = numbered d in omega arith))
         ]
+
+-- where none of a kind is below the lowest, those of the kind with numbers from one on stand behind the place of the greater of the two
+pub kind_behind : (kind shown : Summary → Bool) (xs : List Summary) (from lowest at : ℕ) → ((one : Summary) → kind one ≡ true → lowest ≤ one.number)
+    → IsSplitAt xs (max from lowest) at
+    → filter (λ one. nat_le from one.number) (filter kind (filter shown xs)) ≡ filter (λ one. shown one && kind one) (drop at xs)
+kind_behind kind shown xs from lowest at low cut =
+    filter_filter above kind (filter shown xs) ∙ filter_agree (λ one. kind one && above one) (λ one. kind one && both one) same (filter shown xs)
+    ∙ sym (filter_filter both kind (filter shown xs)) ∙ filter_behind both kind shown xs at behind
+  where
+    above : Summary → Bool
+    above one = nat_le from one.number
+
+    both : Summary → Bool
+    both one = nat_le (max from lowest) one.number
+
+    behind : filter both xs ≡ drop at xs
+    behind = filter_cut both xs at cut.within (λ k d below. lt-leb _ _ (cut.lower k d below)) (λ k d on within. le-leb _ _ (cut.rest k d on within))
+
+    same : (one : Summary) → (kind one && above one) ≡ (kind one && both one)
+    same one = by (kind one) refl
+      where
+        by : (b : Bool) → kind one ≡ b → (b && above one) ≡ (b && both one)
+        by true is = (let least : lowest ≤ one.number = low one is in grind (arith, nat_tests))
+        by false is = refl

@@ -18,7 +18,9 @@
 //! Cost, in an area of n messages: [`Index::of`] takes one step a message, and sorts the marks; [`Index::copied`] copies
 //! memory. [`Index::listed`],
 //! [`Index::unread`] and [`Index::received`] make one search of log n steps for the first number, and then look at each
-//! message until they have enough; [`Index::figures`] and [`Index::unread_count`] look once at each. A thread is
+//! message from there until they have enough; [`Index::unread`] begins above the number read last, however low the first
+//! number is. [`Index::unread_count`] makes such a search too, and looks once at each message above the number read last;
+//! [`Index::figures`] looks once at each of the area besides. A thread is
 //! found by one walk from the lowest number to the highest, in which each parent is looked up by one search, and takes 4
 //! bytes a message while it lasts. [`Index::absorb`] makes one or two searches of log n steps for each edit: an op of a post,
 //! a reading, an edit, a mark or a pack has one edit, one of a kill has one and one more for each answer to the message. Only a kill

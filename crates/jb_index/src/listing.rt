@@ -4,7 +4,7 @@ ghost use Rattle.jb_index.specs.Answer.{is_listed};
 ghost use Rattle.jb_index.specs.Cut.{IsSplitAt, IsSummaryPlace, NumbersRise};
 ghost use Rattle.jb_index.specs.Wanted.{is_kind};
 
-use crate::shown::{Wanted, is_wanted};
+use crate::shown::{Wanted, is_wanted, lowest};
 use jb_base::{AreaRules, OutOfMemory, User};
 use jb_state::{Summaries, Summary};
 use jb_tiered::Tiered;
@@ -76,7 +76,7 @@ pub(crate) fn first_wanted(
         is_kind user.now wanted one) (filter
         (is_listed rules.now user.now) summaries.now.items)))) }
 {
-    let start = place_of(summaries, from);
+    let start = place_of(summaries, from.max(lowest(wanted)));
     picked(alloc, summaries, rules, user, wanted, start, most)
 }
 
@@ -87,12 +87,14 @@ pub(crate) fn count_wanted(
     user: &User,
     wanted: Wanted,
 ) -> u32
-    requires { length summaries.now.items ≤ 4_294_967_295 }
+    requires rising { NumbersRise summaries.now.items }
+    requires counted { length summaries.now.items ≤ 4_294_967_295 }
     ensures { result ≡ length (filter (λ one.
         is_kind user.now wanted one) (filter (is_listed rules.now user.now) summaries.now.items)) }
 {
+    let start = place_of(summaries, lowest(wanted));
     let mut count = 0;
-    for place in 0..summaries.len() {
+    for place in start..summaries.len() {
         if is_wanted(rules, user, wanted, &summaries[place]) {
             count += 1;
         }

@@ -1,5 +1,5 @@
 //! What a user sees of the summaries, and which of them are asked for.
-ghost use Rattle.std.specs.Prelude.{◌≡◌, ◌&&◌};
+ghost use Rattle.std.specs.Prelude.{◌≡◌, ◌≤◌, ◌&&◌, true};
 ghost use Rattle.jb_access.specs.Parties.{envelope};
 ghost use Rattle.jb_bytes.specs.Name.{same_name};
 ghost use Rattle.jb_index.specs.Answer.{envelope_in, is_listed, name_in};
@@ -64,6 +64,16 @@ fn is_kind(user: &User, wanted: Wanted, summary: &Summary) -> bool
         Wanted::All => true,
         Wanted::Above(last) => last < summary.number,
         Wanted::Received => is_receiver(user, summary),
+    }
+}
+
+/// A number below which no message of this kind is: the one behind that of `Above`, else 0.
+pub(crate) fn lowest(wanted: Wanted) -> u32
+    ensures { (user : User) (one : Summary) → is_kind user wanted one ≡ true → result ≤ one.number }
+{
+    match wanted {
+        Wanted::Above(last) => last.saturating_add(1),
+        Wanted::All | Wanted::Received => 0,
     }
 }
 

@@ -5,7 +5,7 @@ use Rattle.jb_index.proofs.ListLemmas.{filter_true}
 use Rattle.jb_index.proofs.index.Index.figures.Goals as goal
 
 pub count_wanted-requires : goal.count_wanted-requires
-count_wanted-requires c = c.self.invariant.counted
+count_wanted-requires c = record { rising = c.self.invariant.rising; counted = c.self.invariant.counted }
 
 pub returns : goal.returns
 returns c =
