@@ -16,7 +16,7 @@ use Rattle.jb_pack.specs.Advance.{Copies, CopiesAnew, CopiesWithin}
 use Rattle.jb_state.specs.Packed.{slot_text_size, texts_size}
 use Rattle.jb_pack.specs.Shadow.{Shadow, left, left_of, lefts, not_copied, nothing_copied}
 use Rattle.jb_pack.specs.declared.copied.CopiedText.{CopiedText}
-use Rattle.jb_pack.specs.declared.run.TheConstants.{PACK_STEP_BYTES}
+use Rattle.jb_area.specs.declared.calls.TheConstants.{ALL_TEXTS}
 use Rattle.jb_area.specs.Copying.{HasCopiedSome, begun_of}
 
 -- so many bytes, of which so many are left: where there are more than .NDT may have, it begins anew once more
@@ -53,7 +53,7 @@ left_most (copied ∷ copies) (slot ∷ slots) =
 
 module _ (limit : ℕ) (loaded : Loaded) (sound : IsSound limit loaded) where
   -- where a text is left that did not fit, one was copied
-  within_fewer : (old new : Shadow) → CopiesWithin PACK_STEP_BYTES loaded.slots old new → 0 < left new loaded.slots → left new loaded.slots < left old loaded.slots
+  within_fewer : (old new : Shadow) → CopiesWithin ALL_TEXTS loaded.slots old new → 0 < left new loaded.slots → left new loaded.slots < left old loaded.slots
   within_fewer old new is some = elim (cases_lt is.count (length loaded.slots)) [
     | inl low ↦ elim is.stops [
       | inl all ↦ absurd (omega (arith, all, low))
@@ -87,7 +87,7 @@ module _ (limit : ℕ) (loaded : Loaded) (sound : IsSound limit loaded) where
       )
 
   -- where .NDT began anew there was too much in it
-  anew_fewer : texts_size loaded.slots ≤ TEXTS_CEILING → (old new : Shadow) → CopiesAnew PACK_STEP_BYTES loaded.slots old new → to_do loaded.slots new < to_do loaded.slots old
+  anew_fewer : texts_size loaded.slots ≤ TEXTS_CEILING → (old new : Shadow) → CopiesAnew ALL_TEXTS loaded.slots old new → to_do loaded.slots new < to_do loaded.slots old
   anew_fewer fits old new is =
       let same = within_same _ nothing_copied new is.again in
       let whole : new.len + left new loaded.slots ≡ texts_size loaded.slots = omega (arith, same, left-all loaded.slots) in
@@ -99,14 +99,14 @@ module _ (limit : ℕ) (loaded : Loaded) (sound : IsSound limit loaded) where
       omega (arith, now, was, fits, left_most new.texts loaded.slots)
 
   -- each step makes it less, until no text is left
-  step_fewer : texts_size loaded.slots ≤ TEXTS_CEILING → (old new : Shadow) → Copies PACK_STEP_BYTES loaded.slots old new → 0 < left new loaded.slots → to_do loaded.slots new < to_do loaded.slots old
+  step_fewer : texts_size loaded.slots ≤ TEXTS_CEILING → (old new : Shadow) → Copies ALL_TEXTS loaded.slots old new → 0 < left new loaded.slots → to_do loaded.slots new < to_do loaded.slots old
   step_fewer fits old new (inl within) some =
-      subst (λ (n : ℕ). to_do_of n (left new loaded.slots) < to_do loaded.slots old) (sym (within_same PACK_STEP_BYTES old new within))
+      subst (λ (n : ℕ). to_do_of n (left new loaded.slots) < to_do loaded.slots old) (sym (within_same ALL_TEXTS old new within))
       (fewer_of (nat_lt SHADOW_CEILING (old.len + left old loaded.slots)) (left new loaded.slots) (left old loaded.slots) (within_fewer old new within some))
   step_fewer fits old new (inr anew) some = anew_fewer fits old new anew
 
   -- the same, of copies that are kept or begun
-  pub copied_fewer : texts_size loaded.slots ≤ TEXTS_CEILING → (old kept : Option Shadow) (more : Bool) → HasCopiedSome PACK_STEP_BYTES loaded.slots old kept more
+  pub copied_fewer : texts_size loaded.slots ≤ TEXTS_CEILING → (old kept : Option Shadow) (more : Bool) → HasCopiedSome ALL_TEXTS loaded.slots old kept more
       → to_do_with more loaded.slots (begun_of kept) < to_do_with true loaded.slots (begun_of old)
   copied_fewer fits old kept false is = omega arith
   copied_fewer fits old kept true is =

@@ -21,7 +21,7 @@ use Rattle.jb_pack.specs.Shadow.{Shadow, left}
 use Rattle.jb_pack.specs.Touching.{TouchesShadow}
 use Rattle.jb_pack.specs.declared.error.PackError.{PackError}
 use Rattle.jb_pack.specs.declared.error.PackError.TheVariants as pack_error
-use Rattle.jb_pack.specs.declared.run.TheConstants.{PACK_STEP_BYTES}
+use Rattle.jb_area.specs.declared.calls.TheConstants.{ALL_TEXTS}
 use Rattle.jb_area.specs.Area.{HasNoChange, IsDoubtful, IsResting, RestsAt}
 use Rattle.jb_area.specs.Calls.{AnswersAs, BeginsCall, BeginsReading, HasRest, IsNotBegun, StartsAs, StepsPack}
 use Rattle.jb_area.specs.Commits.{IsCopyingAs}
@@ -140,7 +140,7 @@ module _ {D : Type 0} (shown : D → Device) where
   }
 
   -- where a step says that no text is left, none is
-  pub all_then : (old mid : OpenArea D) (copied : Result Bool AreaError) (more : Bool) → StepsPack shown old mid copied → HasCopiedSome PACK_STEP_BYTES old.held.slots old.packer mid.packer more
+  pub all_then : (old mid : OpenArea D) (copied : Result Bool AreaError) (more : Bool) → StepsPack shown old mid copied → HasCopiedSome ALL_TEXTS old.held.slots old.packer mid.packer more
       → more ≡ false → AreAllCopied mid.held.slots mid.packer
   all_then old mid copied more steps some none = record {
     shadow = some.shadow;

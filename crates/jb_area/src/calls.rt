@@ -5,7 +5,7 @@ use crate::OpenArea;
 use crate::copying::copy_some;
 use crate::places::{nothing_pending, put_redo, put_stage};
 use crate::stage::Stage;
-use jb_base::{OutOfMemory, User};
+use jb_base::{OutOfMemory, TEXTS_CEILING, User};
 use jb_decide::{
     AreaError, Decided, LentDraft, LentEdit, decide_edit, decide_kill, decide_mark, decide_pack,
     decide_peek, decide_post, decide_read, decide_relink, refuse_pack,
@@ -15,6 +15,9 @@ use jb_journal::Stopped;
 use jb_model::Reply;
 use jb_pack::{PACK_STEP_BYTES, PackError};
 use std::alloc::Global;
+
+/// A budget for all texts that an area may have.
+const ALL_TEXTS: u32 = TEXTS_CEILING as u32;
 
 impl<D: Disk> OpenArea<D> {
     ghost use Rattle.std.specs.Prelude.{List, IfOk, OnOk, true, false};
@@ -362,7 +365,7 @@ impl<D: Disk> OpenArea<D> {
         }
     }
 
-    /// Copies all texts that are left, in parts. Each part has one text at least, and .NDT begins anew once at most, so this ends.
+    /// Copies all texts that are left, at once, or where .NDT begins anew in two steps.
     fn copy_all(&mut self, alloc: Global) -> Result<bool, AreaError>
         requires rests { HasRest D.device self.old }
         requires fits { texts_size (loaded_of self.old).slots ≤ TEXTS_CEILING }
@@ -371,7 +374,7 @@ impl<D: Disk> OpenArea<D> {
     {
         let mut more = true;
         while more {
-            match self.copy(alloc, PACK_STEP_BYTES) {
+            match self.copy(alloc, ALL_TEXTS) {
                 Ok(left) => more = left,
                 Err(error) => return Err(error),
             }
@@ -426,9 +429,9 @@ impl<D: Disk> OpenArea<D> {
 
     /// Packs the area: killed messages are dropped, the numbers below the lowest live one are cut off, and headers, index and
     /// texts are written anew without a gap, with the reply links computed anew. Every live message keeps its number. The texts
-    /// that [`pack_some`](OpenArea::pack_some) left are copied into .NDT first, in parts of `PACK_STEP_BYTES`, so .JNL is short
-    /// however long they are. The memory that it takes, that of the new headers and index, of one part and of the copies, goes
-    /// with it.
+    /// that [`pack_some`](OpenArea::pack_some) left are copied into .NDT first, in parts of `PACK_STEP_BYTES` with one sync behind
+    /// them, so .JNL is short however long they are. The memory that it takes, that of the new headers and index, of one part and
+    /// of the copies, goes with it.
     pub fn pack(&mut self, alloc: Global, user: &User) -> Result<Reply, AreaError>
         requires rests { HasRest D.device self.old }
         ensures meets { (moment : ℕ) → MeetsCall D.device self.old self.new user.now moment Pack result }
