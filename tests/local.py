@@ -92,6 +92,26 @@ def try_pauses(trial):
     trial.is_so("one line at a time: the status", status, 0)
 
 
+def try_clock(trial):
+    """A caller posts twice in one session, with a pause between: each letter bears the moment at which it was posted."""
+    trial.has_settings(settings())
+    trial.has_letters("general")
+    moments = [int(time.time())]
+    caller = Piped(trial.starts(*LOCAL, stdin=subprocess.PIPE))
+    caller.types(lines(["Hello", "test", "1"]))
+    for number in (2, 3):
+        caller.types(lines(["p", "Test", "hour", "n", "What hour is it?", "."]))
+        caller.takes(lambda seen: b"Posted as %d.\r\n" % number in seen)
+        moments.append(int(time.time()))
+        time.sleep(2.1)
+    caller.types(lines(["q"]))
+    _, status = caller.leaves()
+    trial.is_so("two posts with a pause: the status", status, 0)
+    written = [slot.head["written"] for slot in trial.base().slots[1:]]
+    trial.holds(f"two posts with a pause: {written}, each of the moment at which it was posted, {moments}",
+                len(written) == 2 and moments[0] <= written[0] <= moments[1] < moments[1] + 2 <= written[1] <= moments[2])
+
+
 def try_telnet(trial):
     """The options, the echo with a password under stars, what is erased, and the question whether one is there."""
     trial.has_settings(settings())
@@ -248,7 +268,7 @@ def goes_to_memory(trial):
     trial.folder, trial.areas = trial.memory.name, f"{trial.memory.name}/areas"
 
 
-QUICK = (try_transcripts, try_pauses, try_telnet, try_privacy, try_areas, try_settings, try_faults, try_example)
+QUICK = (try_transcripts, try_pauses, try_clock, try_telnet, try_privacy, try_areas, try_settings, try_faults, try_example)
 LONG = (goes_to_memory, try_limit, try_breaks)
 
 if __name__ == "__main__":

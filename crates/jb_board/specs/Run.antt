@@ -4,6 +4,7 @@ use Rattle.std.specs.Option.{ForSome}
 use Rattle.jb_bytes.specs.Fault.{Rose}
 use Rattle.jb_disk.specs.Device.{Device}
 use Rattle.jb_host.specs.Desk.{Desk, Disks, KeepsRest, has_disk, with_place, asked_disk, and_call}
+use Rattle.jb_host.specs.Readings.{reading_of}
 use Rattle.jb_host.specs.Wire.{Wire, IsFrontOf, Sends}
 use Rattle.jb_tool.specs.LoadSummary.{run_summary}
 use Rattle.jb_tool.specs.Workload.{load_run}
@@ -120,11 +121,11 @@ IsPrinted (Ok (Session end)) status old new = (status ≡ status_behind end) × 
 IsPrinted (Ok (Nodes end)) status old new = (status ≡ status_behind_nodes end) × (new ≡ old)
 IsPrinted (Err fault) status old new = KeepsInput old new × (status ≡ status_of fault) × IsSent old new (fault_line fault)
 
--- a whole run, at one moment: what the host's clocks give, where it tells that
+-- a whole run, at one moment: the first that a clock of the host gives, where it tells that
 pub record HasRun (words : List (List ℕ)) (old new : Desk) (status : ℕ) : Type 0 where
   -- in seconds since 1970
   pub moment : ℕ
-  pub shown : ForSome old.reading (λ reading. moment ≡ reading)
+  pub shown : ForSome old.readings (λ readings. moment ≡ reading_of readings)
   -- what the words are answered, and the host then
   pub answer : RunAnswer
   pub mid : Desk

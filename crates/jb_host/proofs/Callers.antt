@@ -4,14 +4,14 @@ use Rattle.jb_host.specs.Desk.{Desk, KeepsRest}
 
 -- no call
 pub keeps_none : (host : Desk) → KeepsRest host host
-keeps_none host = record { settings = refl; console = refl; reading = refl; faults = refl; waiting = refl; doors = refl; bell = refl }
+keeps_none host = record { settings = refl; console = refl; readings = refl; faults = refl; waiting = refl; doors = refl; bell = refl }
 
 -- one call, and those behind it
 pub keeps_more : (old mid new : Desk) → KeepsRest old mid → KeepsRest mid new → KeepsRest old new
 keeps_more old mid new one more = record {
   settings = more.settings ∙ one.settings;
   console = more.console ∙ one.console;
-  reading = more.reading ∙ one.reading;
+  readings = more.readings ∙ one.readings;
   faults = more.faults ∙ one.faults;
   waiting = more.waiting ∙ one.waiting;
   doors = more.doors ∙ one.doors;
@@ -24,7 +24,7 @@ pub keeps_more_doors : (old mid new : Desk) → KeepsRest old (record mid { wait
 keeps_more_doors old mid new one more = record {
   settings = more.settings ∙ one.settings;
   console = more.console ∙ one.console;
-  reading = more.reading ∙ one.reading;
+  readings = more.readings ∙ one.readings;
   faults = more.faults ∙ one.faults;
   waiting = refl;
   doors = refl;

@@ -88,8 +88,8 @@ pub record Desk : Type 0 where
   pub settings : Option Pages
   -- the console, while it is not out
   pub console : Option Wire
-  -- the one reading that its clocks always give, where it tells it
-  pub reading : Option ℕ
+  -- the readings that each of its clocks will give, where it tells them
+  pub readings : Option (List ℕ)
   -- the doors that it will hand out, in order, where it tells them
   pub waiting : Option (List Gate)
   -- those that it has handed out, where it tells them
@@ -105,7 +105,7 @@ and_call call calls = option_map (λ earlier. earlier ++ call ∷ []) calls
 pub record KeepsRest (old new : Desk) : Type 0 where
   pub settings : new.settings ≡ old.settings
   pub console : new.console ≡ old.console
-  pub reading : new.reading ≡ old.reading
+  pub readings : new.readings ≡ old.readings
   pub faults : new.faults ≡ old.faults
   pub waiting : new.waiting ≡ old.waiting
   pub doors : new.doors ≡ old.doors

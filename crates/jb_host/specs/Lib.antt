@@ -3,6 +3,7 @@ pub mod Entrances
 pub mod Failing
 pub mod Gate
 pub mod Memory
+pub mod Readings
 pub mod Real
 pub mod Rings
 pub mod Shelves

@@ -17,7 +17,7 @@ silent_gate faults is_shut left = record { faults = faults; is_shut = is_shut; l
 abbrev pub silent_rings : Bool → Option ℕ → Rings
 silent_rings is_shut left = record { is_shut = is_shut; left = left; to_come = None }
 
--- a host that tells no calls, no disks, no settings, no reading, no doors and no bell
+-- a host that tells no calls, no disks, no settings, no readings, no doors and no bell
 abbrev pub silent_desk : ℕ → Option Wire → Desk
 silent_desk faults console = record {
   faults = faults;
@@ -25,7 +25,7 @@ silent_desk faults console = record {
   disks = None;
   settings = None;
   console = console;
-  reading = None;
+  readings = None;
   waiting = None;
   doors = None;
   bell = None;

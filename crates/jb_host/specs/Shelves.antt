@@ -66,21 +66,21 @@ memory_desk host = record {
   disks = Some (standing host);
   settings = Some (written_in host);
   console = option_map memory_wire host.console;
-  reading = Some host.reading;
+  readings = Some host.readings.items;
   waiting = Some (waiting_in host.entrances);
   doors = Some (doors_in host.entrances);
   bell = Some (bell_in host.belfry);
 }
 
--- a host with this console, no disk, no settings, no door, no bell and no call, whose clocks give this reading
-abbrev pub empty_desk : Wire → ℕ → Desk
-empty_desk console reading = record {
+-- a host with this console, no disk, no settings, no door, no bell and no call, whose clocks give these readings
+abbrev pub empty_desk : Wire → List ℕ → Desk
+empty_desk console readings = record {
   faults = 0;
   calls = Some [];
   disks = Some (shelved []);
   settings = Some (pages_written []);
   console = Some console;
-  reading = Some reading;
+  readings = Some readings;
   waiting = Some [];
   doors = Some (by_node []);
   bell = Some no_bell;

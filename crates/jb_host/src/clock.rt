@@ -1,37 +1,58 @@
 //! The trait of a clock, and one in memory.
-ghost use Rattle.std.specs.Prelude.{◌≡◌, ℕ, Option, Some};
-ghost use Rattle.std.specs.Option.{ForSome};
+ghost use Rattle.std.specs.Prelude.{◌≡◌, ℕ, List, Option, Some};
+ghost use Rattle.std.specs.Option.{ForSome, option_map};
+ghost use Rattle.jb_host.specs.Readings.{reading_of, readings_after};
+
+use arrayvec::ArrayVec;
 
 /// What gives the moment.
 pub trait Clock {
-    /// The one reading that it always gives, where it has one and tells it.
-    ghost reading: { Self → Option ℕ };
+    /// The readings that it will give, of which the last stays, where it tells them.
+    ghost readings: { Self → Option (List ℕ) };
 
-    /// The seconds since 1970 that it shows.
+    /// The seconds since 1970 that it shows. It moves on to its next reading.
     fn now(&mut self) -> u32
-        ensures told { ForSome (reading self.old) (λ reading. result ≡ reading) }
-        ensures same { reading self.new ≡ reading self.old };
+        ensures told { ForSome (readings self.old) (λ all. result ≡ reading_of all) }
+        ensures moves { readings self.new ≡ option_map readings_after (readings self.old) };
+
+    /// What it shows, and it does not move on: for the lines that an operator is told.
+    fn glance(&self) -> u32
+        ensures { ForSome (readings self.now) (λ all. result ≡ reading_of all) };
 }
 
-/// A clock in memory, which always gives one reading.
+/// So many readings a clock in memory has at most.
+pub const MOST_READINGS: usize = 16;
+
+/// A clock in memory, which gives its readings in order, and its last again and again; 0 where it has none.
 #[derive(Drop)]
 pub struct MemClock {
-    reading: u32,
+    readings: ArrayVec<u32, MOST_READINGS>,
 }
 
 impl MemClock {
-    /// A clock with this reading.
-    pub fn new(reading: u32) -> MemClock
-        ensures { result.reading ≡ reading }
+    /// A clock with these readings.
+    pub fn new(readings: ArrayVec<u32, MOST_READINGS>) -> MemClock
+        ensures { result.readings ≡ readings }
     {
-        MemClock { reading }
+        MemClock { readings }
     }
 }
 
 impl Clock for MemClock {
-    ghost reading = { λ clock. Some clock.reading };
+    ghost readings = { λ clock. Some clock.readings.items };
 
     fn now(&mut self) -> u32 {
-        self.reading
+        let reading = self.glance();
+        if self.readings.len() > 1 {
+            let _ = self.readings.remove(0);
+        }
+        reading
+    }
+
+    fn glance(&self) -> u32 {
+        match self.readings.as_slice().first() {
+            Some(reading) => *reading,
+            None => 0,
+        }
     }
 }

@@ -39,7 +39,7 @@ pub trait Host {
     type Clock: Clock + Drop;
 
     /// Its count of faults, its console while that is not out, and where it tells them its calls, its disks, its settings, its doors,
-    /// its bell and the reading that its clocks give.
+    /// its bell and the readings that its clocks give.
     ghost desk: { Self → Desk };
 
     /// The call for a disk, settings, a door or the bell that comes next is one that it was told to fail, as a host in memory is for a
@@ -105,9 +105,9 @@ pub trait Host {
     fn put_bell(&mut self, bell: Self::Bell)
         ensures { TakesBell (Self.Bell.rings bell) (desk self.old) (desk self.new) };
 
-    /// A clock.
+    /// A clock, which begins with the first of the readings.
     fn clock(&mut self) -> Self::Clock
-        ensures gives { Self.Clock.reading result ≡ (desk self.old).reading }
+        ensures gives { Self.Clock.readings result ≡ (desk self.old).readings }
         ensures same { desk self.new ≡ desk self.old };
 
     /// Tells the operator a line, where there is a way to. It may be lost, and nothing rests on it.

@@ -32,7 +32,7 @@ mod shelf;
 mod telnet;
 
 pub use bell::{Bell, Ring};
-pub use clock::{Clock, MemClock};
+pub use clock::{Clock, MOST_READINGS, MemClock};
 pub use door::{Accepted, Door, DoorFailed};
 pub use host::{Host, HostError};
 pub use link::{Link, LinkFailed};

@@ -6,7 +6,7 @@ ghost use Rattle.jb_host.specs.Desk.{has_bell, has_disk, has_door, with_behind, 
 
 use crate::asking::{Asking, Call, disk_call, settings_call};
 use crate::belfry::{Belfry, put_bell_in, take_bell};
-use crate::clock::MemClock;
+use crate::clock::{MOST_READINGS, MemClock};
 use crate::entrances::Entrances;
 use crate::host::{Host, HostError};
 use crate::memory::MemLink;
@@ -14,6 +14,7 @@ use crate::memory_bell::MemBell;
 use crate::memory_door::MemDoor;
 use crate::page::{Page, copy_at};
 use crate::shelf::{Shelf, put_on, shelf_at, take_from};
+use arrayvec::ArrayVec;
 use jb_bytes::{Bytes, OutOfMemory};
 use jb_disk::MemDisk;
 use std::alloc::Global;
@@ -24,7 +25,7 @@ use std::alloc::Global;
 pub struct MemHost {
     alloc: Global,
     console: Option<MemLink>,
-    reading: u32,
+    readings: ArrayVec<u32, MOST_READINGS>,
     shelves: Vec<Shelf>,
     pages: Vec<Page>,
     entrances: Entrances,
@@ -38,7 +39,7 @@ impl Drop for MemHost {
         let MemHost {
             alloc: _alloc,
             console: _console,
-            reading: _reading,
+            readings: _readings,
             shelves: _shelves,
             pages: _pages,
             entrances: _entrances,
@@ -53,17 +54,22 @@ impl MemHost {
     ghost use Rattle.jb_host.specs.Shelves.{empty_desk, memory_desk, standing, written_in};
     ghost use Rattle.jb_host.specs.Memory.{memory_gate, memory_rings, memory_wire};
 
-    /// A host with this console, no disk, no settings, no door and no bell, whose clocks give this reading, and which fails the calls
-    /// for a disk, settings, a door or the bell with these numbers.
-    pub fn new(alloc: Global, console: MemLink, reading: u32, failing: Vec<u64>) -> MemHost
-        ensures fresh { memory_desk result ≡ empty_desk (memory_wire console) reading }
+    /// A host with this console, no disk, no settings, no door and no bell, whose clocks each give these readings, and which fails the
+    /// calls for a disk, settings, a door or the bell with these numbers.
+    pub fn new(
+        alloc: Global,
+        console: MemLink,
+        readings: ArrayVec<u32, MOST_READINGS>,
+        failing: Vec<u64>,
+    ) -> MemHost
+        ensures fresh { memory_desk result ≡ empty_desk (memory_wire console) readings.items }
         ensures told { result.asking.failing.numbers ≡ failing }
         ensures none { result.asking.failing.calls ≡ 0 }
     {
         MemHost {
             alloc,
             console: Some(console),
-            reading,
+            readings,
             shelves: Vec::new(alloc),
             pages: Vec::new(alloc),
             entrances: Entrances::new(alloc),
@@ -227,7 +233,10 @@ impl Host for MemHost {
     }
 
     fn clock(&mut self) -> MemClock {
-        MemClock::new(self.reading)
+        let Ok(readings) = ArrayVec::try_from(self.readings.as_slice()) else {
+            unreachable!()
+        };
+        MemClock::new(readings)
     }
 
     fn note(&mut self, _line: &str) {}

@@ -20,7 +20,7 @@ use Rattle.jb_server.specs.declared.tally.Tally.{Tally}
 use Rattle.jb_server.specs.declared.worker.PackSlot.{PackSlot}
 use Rattle.jb_server.specs.declared.worker.Worker.{Worker}
 use Rattle.jb_server.specs.declared.worker.Worker.TheVariants.{Node, Packer}
-use Rattle.jb_session.specs.Exchanges.{AreOf}
+use Rattle.jb_session.specs.Exchanges.{AreOf, node_with}
 use Rattle.jb_shared.specs.Passes.{PassView}
 use Rattle.jb_shared.specs.declared.shared.SharedArea.{SharedArea}
 use Rattle.jb_run.specs.Lines.{HandsDoors, PutsDoors}
@@ -29,58 +29,61 @@ use Rattle.jb_run.specs.Working.{AreAllOf, WorkAll, WorkToTheEnd}
 use Rattle.jb_run.proofs.Doors.{hands_more, hands_none, puts_more, puts_none}
 use Rattle.jb_run.proofs.Lists.{any_push, last_of, numbered_as, numbered_more, numbered_none, one_of, rows_given}
 
-module _ {R B C : Type 0} (gate : R → Gate) (reading : C → Option ℕ) (board : Board) (most : Option ℕ) where
+module _ {R B C : Type 0} (gate : R → Gate) (readings : C → Option (List ℕ)) (board : Board) (most : Option ℕ) where
   -- no node is ready
-  pub has_none : (host : Desk) → HasNodes {B = B} gate reading board most [] host host
-  has_none host = record { doors = hands_none board.port most host; ready = numbered_none (IsFreshWorker reading host.reading) }
+  pub has_none : (host : Desk) → HasNodes {B = B} gate readings board most [] host host
+  has_none host = record { doors = hands_none board.port most host; ready = numbered_none (IsFreshWorker readings host.readings) }
 
   -- a node more is ready
-  pub has_more : (fewer more : List (Worker R B C)) (old mid new : Desk) → HasNodes gate reading board most fewer old mid
-      → AddsNode gate reading board most fewer more mid new → HasNodes gate reading board most more old new
+  pub has_more : (fewer more : List (Worker R B C)) (old mid new : Desk) → HasNodes gate readings board most fewer old mid
+      → AddsNode gate readings board most fewer more mid new → HasNodes gate readings board most more old new
   has_more fewer more old mid new has adds =
       let one = adds.worker in
       let gates : gates_of gate more ≡ gates_of gate fewer ++ gate_of gate one ∷ [] = ap (gates_of gate) adds.is ∙ map_push (gate_of gate) fewer one in
       let count : length (gates_of gate fewer) ≡ length fewer = length-map fewer (gate_of gate) in
       let gives : GivesDoor (length (gates_of gate fewer) + 1) board.port most (gate_of gate one) mid new
       = subst (λ (n : ℕ). GivesDoor (n + 1) board.port most (gate_of gate one) mid new) (sym count) adds.gives in
-      let same : mid.reading ≡ old.reading = has.doors.rest.reading in
+      let same : mid.readings ≡ old.readings = has.doors.rest.readings in
       record {
         doors = subst (λ (all : List Gate). HandsDoors board.port most all old new) (sym gates)
             (hands_more board.port most (gates_of gate fewer) (gate_of gate one) old mid new has.doors gives);
-        ready = subst (λ (all : List (Worker R B C)). AreReady reading old.reading all) (sym adds.is)
-            (numbered_more (IsFreshWorker reading old.reading) fewer one has.ready
-            (subst (λ (shown : Option ℕ). IsFreshWorker reading shown (length fewer + 1) one) same adds.ready));
+        ready = subst (λ (all : List (Worker R B C)). AreReady readings old.readings all) (sym adds.is)
+            (numbered_more (IsFreshWorker readings old.readings) fewer one has.ready
+            (subst (λ (told : Option (List ℕ)). IsFreshWorker readings told (length fewer + 1) one) same adds.ready));
       }
 
 -- what is ready is a node
-is_node : {R B C : Type 0} (reading : C → Option ℕ) (shown : Option ℕ) (n : ℕ) (one : Worker R B C) → IsFreshWorker reading shown n one → IsNode n one
-is_node reading shown n (Node slot) ready = ready.0
-is_node reading shown n (Packer slot) ready = ready
+is_node : {R B C : Type 0} (readings : C → Option (List ℕ)) (told : Option (List ℕ)) (n : ℕ) (one : Worker R B C) → IsFreshWorker readings told n one → IsNode n one
+is_node readings told n (Node slot) ready = ready.0
+is_node readings told n (Packer slot) ready = ready
 
-pub are_nodes : {R B C : Type 0} (reading : C → Option ℕ) (shown : Option ℕ) (workers : List (Worker R B C)) → AreReady reading shown workers → AreNodes workers
-are_nodes reading shown workers ready = numbered_as (IsFreshWorker reading shown) IsNode workers (is_node reading shown) ready
+pub are_nodes : {R B C : Type 0} (readings : C → Option (List ℕ)) (told : Option (List ℕ)) (workers : List (Worker R B C)) → AreReady readings told workers → AreNodes workers
+are_nodes readings told workers ready = numbered_as (IsFreshWorker readings told) IsNode workers (is_node readings told) ready
 
 -- of doors, bells and clocks that show themselves so
-module _ {R B C : Type 0} (gate : R → Gate) (rings : B → Rings) (reading : C → Option ℕ) (shown : Option ℕ) (board : Board) where
+module _ {R B C : Type 0} (gate : R → Gate) (rings : B → Rings) (readings : C → Option (List ℕ)) (told : Option (List ℕ)) (board : Board) where
   -- each has worked
   abbrev pub AllHaveWorked : List (Worker R B C) → List (Worker R B C) → Type 0
-  AllHaveWorked before after = (k : ℕ) (absent : Worker R B C) → k < length before → HasWorked gate rings reading board (get_or before k absent) (get_or after k absent)
+  AllHaveWorked before after = (k : ℕ) (absent : Worker R B C) → k < length before → HasWorked gate rings readings board (get_or before k absent) (get_or after k absent)
 
   -- a node that was ready has worked
   pub record NodeIsDone (n : ℕ) (old new : Worker R B C) : Type 0 where
     pub node : IsNode n new
-    pub works : NodeWorks shown board (gate_of gate old) (worker_passes old) no_tally (gate_of gate new) (worker_passes new) (tally_of new)
+    pub left : Option (List ℕ)
+    pub works : NodeWorks board (gate_of gate old) (node_with told (worker_passes old)) no_tally
+        (gate_of gate new) (node_with left (worker_passes new)) (tally_of new)
 
-  node_done : (n : ℕ) (old new : Worker R B C) → IsFreshWorker reading shown n old → HasWorked gate rings reading board old new → NodeIsDone n old new
+  node_done : (n : ℕ) (old new : Worker R B C) → IsFreshWorker readings told n old → HasWorked gate rings readings board old new → NodeIsDone n old new
   node_done n (Node old) (Node new) ready worked =
-      let P : Option ℕ → Type 0 = λ r. NodeWorks r board (gate old.door) old.passes.items no_tally (gate new.door) new.passes.items new.tally in
-      let Q : Tally → Type 0 = λ t. NodeWorks (reading old.clock) board (gate old.door) old.passes.items t (gate new.door) new.passes.items new.tally in
-      record { node = worked.node ∙ ready.0; works = subst P ready.1 (subst Q ready.2 worked.works) }
+      let to = node_with (readings new.clock) new.passes.items in
+      let P : Option (List ℕ) → Type 0 = λ r. NodeWorks board (gate old.door) (node_with r old.passes.items) no_tally (gate new.door) to new.tally in
+      let Q : Tally → Type 0 = λ t. NodeWorks board (gate old.door) (node_with (readings old.clock) old.passes.items) t (gate new.door) to new.tally in
+      record { node = worked.node ∙ ready.0; left = readings new.clock; works = subst P ready.1 (subst Q ready.2 worked.works) }
   node_done n (Node old) (Packer new) ready worked = absurd worked
   node_done n (Packer old) new ready worked = absurd ready
 
-  packer_done : (old : PackSlot B C) (new : Worker R B C) → HasWorked gate rings reading board (Packer old) new
-      → (slot : PackSlot B C) × (new ≡ Packer slot) × PackerHasWorked rings reading old slot
+  packer_done : (old : PackSlot B C) (new : Worker R B C) → HasWorked gate rings readings board (Packer old) new
+      → (slot : PackSlot B C) × (new ≡ Packer slot) × PackerHasWorked rings readings old slot
   packer_done old (Node new) worked = absurd worked
   packer_done old (Packer new) worked = (new, refl, worked)
 
@@ -91,14 +94,14 @@ module _ {R B C : Type 0} (gate : R → Gate) (rings : B → Rings) (reading : C
     pub is : after ≡ front ++ Packer last ∷ []
     pub count : length front ≡ length nodes
     pub nodes_done : (k : ℕ) (absent : Worker R B C) → k < length nodes → NodeIsDone (k + 1) (get_or nodes k absent) (get_or front k absent)
-    pub packer_done : PackerHasWorked rings reading slot last
+    pub packer_done : PackerHasWorked rings readings slot last
 
-  pub are_done : (nodes : List (Worker R B C)) (slot : PackSlot B C) (after : List (Worker R B C)) → AreReady reading shown nodes → length after ≡ length nodes + 1
+  pub are_done : (nodes : List (Worker R B C)) (slot : PackSlot B C) (after : List (Worker R B C)) → AreReady readings told nodes → length after ≡ length nodes + 1
       → AllHaveWorked (nodes ++ Packer slot ∷ []) after → AreDone nodes slot after
   are_done nodes slot after ready many worked =
       let parts = last_of after (length nodes) many in
       let front = parts.0 in
-      let W : Worker R B C → Worker R B C → Type 0 = HasWorked gate rings reading board in
+      let W : Worker R B C → Worker R B C → Type 0 = HasWorked gate rings readings board in
       let all : AllHaveWorked (nodes ++ Packer slot ∷ []) (front ++ parts.1 ∷ []) = subst (λ (l : List (Worker R B C)). AllHaveWorked (nodes ++ Packer slot ∷ []) l) parts.2 worked in
       let at_end : W (get_or (nodes ++ Packer slot ∷ []) (length nodes) parts.1) (get_or (front ++ parts.1 ∷ []) (length nodes) parts.1)
       = all (length nodes) parts.1 (omega (arith, length_push nodes (Packer slot))) in
@@ -125,8 +128,8 @@ module _ {R B C : Type 0} (gate : R → Gate) (rings : B → Rings) (reading : C
 
   -- what they have done together
   pub all_worked : (nodes : List (Worker R B C)) (slot : PackSlot B C) (after : List (Worker R B C)) (done : AreDone nodes slot after) → length nodes ≡ board.nodes
-      → PackerIsReady reading shown slot
-      → WorkAll shown board (gates_of gate nodes) (gates_of gate done.front) (rings slot.bell) (rings done.last.bell)
+      → PackerIsReady readings told slot
+      → WorkAll told board (gates_of gate nodes) (gates_of gate done.front) (rings slot.bell) (rings done.last.bell)
       (map worker_passes nodes ++ slot.passes.items ∷ []) (map worker_passes done.front ++ done.last.passes.items ∷ []) (tallies_of done.front)
   all_worked nodes slot after done many ready =
       let front = done.front in
@@ -152,30 +155,36 @@ module _ {R B C : Type 0} (gate : R → Gate) (rings : B → Rings) (reading : C
             (get_or (gates_of gate front) k other) (gate_of gate (get_or front k absent)) (get_or to k []) (worker_passes (get_or front k absent))
             (get_or (tallies_of front) k tally) (tally_of (get_or front k absent))
             (get_or-map (gate_of gate) nodes k absent one low) mine (get_or-map (gate_of gate) front k absent other low_after) mine_after
-            (get_or-map tally_of front k absent tally low_after) (done.nodes_done k absent low).works;
+            (get_or-map tally_of front k absent tally low_after) (done.nodes_done k absent low).left (done.nodes_done k absent low).works;
         packs = last.packs;
+        left = readings last.clock;
         packed = packs_so slot last (get_or from board.nodes []) (get_or to board.nodes [])
             (get_or_push (map worker_passes nodes) slot.passes.items [] board.nodes (length-map nodes worker_passes ∙ many))
             (get_or_push (map worker_passes front) last.passes.items [] board.nodes (length-map front worker_passes ∙ done.count ∙ many)) ready packs;
       }
     where
       same_work : (a a' : Gate) (b b' : List PassView) (c c' : Gate) (d d' : List PassView) (e e' : Tally) → a ≡ a' → b ≡ b' → c ≡ c' → d ≡ d' → e ≡ e'
-          → NodeWorks shown board a' b' no_tally c' d' e' → NodeWorks shown board a b no_tally c d e
-      same_work a a' b b' c c' d d' e e' p q r s t works =
-          subst (λ (x : Gate). NodeWorks shown board x b no_tally c d e) (sym p)
-          (subst (λ (x : List PassView). NodeWorks shown board a' x no_tally c d e) (sym q)
-          (subst (λ (x : Gate). NodeWorks shown board a' b' no_tally x d e) (sym r)
-          (subst (λ (x : List PassView). NodeWorks shown board a' b' no_tally c' x e) (sym s)
-          (subst (λ (x : Tally). NodeWorks shown board a' b' no_tally c' d' x) (sym t) works))))
+          → (left : Option (List ℕ)) → NodeWorks board a' (node_with told b') no_tally c' (node_with left d') e'
+          → (left : Option (List ℕ)) × NodeWorks board a (node_with told b) no_tally c (node_with left d) e
+      same_work a a' b b' c c' d d' e e' p q r s t left works = (
+        left,
+        subst (λ (x : Gate). NodeWorks board x (node_with told b) no_tally c (node_with left d) e) (sym p)
+            (subst (λ (x : List PassView). NodeWorks board a' (node_with told x) no_tally c (node_with left d) e) (sym q)
+            (subst (λ (x : Gate). NodeWorks board a' (node_with told b') no_tally x (node_with left d) e) (sym r)
+            (subst (λ (x : List PassView). NodeWorks board a' (node_with told b') no_tally c' (node_with left x) e) (sym s)
+            (subst (λ (x : Tally). NodeWorks board a' (node_with told b') no_tally c' (node_with left d') x) (sym t) works)))),
+      )
 
-      packs_so : (one other : PackSlot B C) (b d : List PassView) → b ≡ one.passes.items → d ≡ other.passes.items → PackerIsReady reading shown one
-          → PackerHasWorked rings reading one other → PackerWorks shown packer (rings one.bell) b 0 (rings other.bell) d other.packs
+      packs_so : (one other : PackSlot B C) (b d : List PassView) → b ≡ one.passes.items → d ≡ other.passes.items → PackerIsReady readings told one
+          → PackerHasWorked rings readings one other
+          → PackerWorks packer (rings one.bell) (node_with told b) 0 (rings other.bell) (node_with (readings other.clock) d) other.packs
       packs_so one other b d q s fresh worked =
-          subst (λ (x : List PassView). PackerWorks shown packer (rings one.bell) x 0 (rings other.bell) d other.packs) (sym q)
-          (subst (λ (x : List PassView). PackerWorks shown packer (rings one.bell) one.passes.items 0 (rings other.bell) x other.packs) (sym s)
-          (subst (λ (n : ℕ). PackerWorks shown packer (rings one.bell) one.passes.items n (rings other.bell) other.passes.items other.packs) fresh.none
-          (subst (λ (u : _). PackerWorks shown u (rings one.bell) one.passes.items one.packs (rings other.bell) other.passes.items other.packs) fresh.user
-          (subst (λ (r : Option ℕ). PackerWorks r one.user (rings one.bell) one.passes.items one.packs (rings other.bell) other.passes.items other.packs) fresh.clock
+          let to = node_with (readings other.clock) other.passes.items in
+          subst (λ (x : List PassView). PackerWorks packer (rings one.bell) (node_with told x) 0 (rings other.bell) (node_with (readings other.clock) d) other.packs) (sym q)
+          (subst (λ (x : List PassView). PackerWorks packer (rings one.bell) (node_with told one.passes.items) 0 (rings other.bell) (node_with (readings other.clock) x) other.packs) (sym s)
+          (subst (λ (n : ℕ). PackerWorks packer (rings one.bell) (node_with told one.passes.items) n (rings other.bell) to other.packs) fresh.none
+          (subst (λ (u : _). PackerWorks u (rings one.bell) (node_with told one.passes.items) one.packs (rings other.bell) to other.packs) fresh.user
+          (subst (λ (r : Option (List ℕ)). PackerWorks one.user (rings one.bell) (node_with r one.passes.items) one.packs (rings other.bell) to other.packs) fresh.clock
           worked.works))))
 
 -- workers with these passes are at work on areas of which they have all
@@ -284,16 +293,16 @@ pub short_name : (user : User) → user ≡ packer → length user.name ≤ MOST
 short_name user is = subst (λ (u : User). length u.name ≤ MOST_NAME_BYTES) (sym is) (omega arith)
 
 -- of doors, bells and clocks that show themselves so
-module _ {R B C : Type 0} (gate : R → Gate) (rings : B → Rings) (reading : C → Option ℕ) (shown : Option ℕ) (board : Board) where
+module _ {R B C : Type 0} (gate : R → Gate) (rings : B → Rings) (readings : C → Option (List ℕ)) (told : Option (List ℕ)) (board : Board) where
   same_slot : (one other : PackSlot B C) (p q : Worker R B C) → p ≡ Packer one → q ≡ Packer other → p ≡ q → one ≡ other
   same_slot one other p q one_is other_is is = cc
 
   -- the workers are done and taken apart
   pub ends_work : (nodes : List (Worker R B C)) (slot : PackSlot B C) (after fewer : List (Worker R B C)) (one : PackSlot B C) (rows to : Rows) (old mid new : Desk) (has_failed : Bool)
-      → AreDone gate rings reading shown board nodes slot after → length nodes ≡ board.nodes → PackerIsReady reading shown slot → after ≡ fewer ++ Packer one ∷ []
+      → AreDone gate rings readings told board nodes slot after → length nodes ≡ board.nodes → PackerIsReady readings told slot → after ≡ fewer ++ Packer one ∷ []
       → TakesBell (rings one.bell) old mid → PutsDoors (gates_of gate fewer) mid new → has_failed ≡ any (map (λ tally. tally.door_failed) (tallies_of fewer))
       → to ≡ with_passes after rows → length rows ≡ board.nodes + 1
-      → WorkToTheEnd shown board (gates_of gate nodes) (rings slot.bell) (map worker_passes nodes ++ slot.passes.items ∷ []) to old new has_failed
+      → WorkToTheEnd told board (gates_of gate nodes) (rings slot.bell) (map worker_passes nodes ++ slot.passes.items ∷ []) to old new has_failed
   ends_work nodes slot after fewer one rows to old mid new has_failed done many ready parts bell doors failed all count =
       let same = same_from_push fewer done.front (Packer one) (Packer done.last) (sym parts ∙ done.is) in
       let last : one ≡ done.last = same_slot one done.last (Packer one) (Packer done.last) refl refl same.1 in
@@ -304,9 +313,9 @@ module _ {R B C : Type 0} (gate : R → Gate) (rings : B → Rings) (reading : C
         gates_after = gates_of gate done.front;
         rings_after = rings done.last.bell;
         tallies = tallies_of done.front;
-        works = subst (λ (l : Rows). WorkAll shown board (gates_of gate nodes) (gates_of gate done.front) (rings slot.bell) (rings done.last.bell)
+        works = subst (λ (l : Rows). WorkAll told board (gates_of gate nodes) (gates_of gate done.front) (rings slot.bell) (rings done.last.bell)
             (map worker_passes nodes ++ slot.passes.items ∷ []) l (tallies_of done.front)) (sym rows_are)
-            (all_worked gate rings reading shown board nodes slot after done many ready);
+            (all_worked gate rings readings told board nodes slot after done many ready);
         mid = mid;
         bell = subst (λ (p : PackSlot B C). TakesBell (rings p.bell) old mid) last bell;
         doors = subst (λ (l : List (Worker R B C)). PutsDoors (gates_of gate l) mid new) same.0 doors;
@@ -315,7 +324,7 @@ module _ {R B C : Type 0} (gate : R → Gate) (rings : B → Rings) (reading : C
 
   -- those that are left are nodes
   pub left_nodes : (nodes : List (Worker R B C)) (slot : PackSlot B C) (after fewer : List (Worker R B C)) (one : PackSlot B C)
-      → AreDone gate rings reading shown board nodes slot after → after ≡ fewer ++ Packer one ∷ [] → AreNodes fewer
+      → AreDone gate rings readings told board nodes slot after → after ≡ fewer ++ Packer one ∷ [] → AreNodes fewer
   left_nodes nodes slot after fewer one done parts =
       let same = same_from_push fewer done.front (Packer one) (Packer done.last) (sym parts ∙ done.is) in
-      subst (λ (l : List (Worker R B C)). AreNodes l) (sym same.0) (still_nodes gate rings reading shown board nodes slot after done)
+      subst (λ (l : List (Worker R B C)). AreNodes l) (sym same.0) (still_nodes gate rings readings told board nodes slot after done)

@@ -8,7 +8,7 @@ pub but_faults : (old new : Desk) → KeepsRest old new → KeepsRest old (recor
 but_faults old new rest = record {
   settings = rest.settings;
   console = rest.console;
-  reading = rest.reading;
+  readings = rest.readings;
   faults = refl;
   waiting = rest.waiting;
   doors = rest.doors;
@@ -21,7 +21,7 @@ pub keeps_more_faults : (old mid new : Desk) → KeepsRest old (record mid { fau
 keeps_more_faults old mid new one more = record {
   settings = more.settings ∙ one.settings;
   console = more.console ∙ one.console;
-  reading = more.reading ∙ one.reading;
+  readings = more.readings ∙ one.readings;
   faults = refl;
   waiting = more.waiting ∙ one.waiting;
   doors = more.doors ∙ one.doors;
@@ -34,7 +34,7 @@ pub keeps_around : (old opened served new : Desk) (console : Option Wire) → Ke
 keeps_around old opened served new console before used after = record {
   settings = after.settings ∙ ap (λ (d : Desk). d.settings) used ∙ before.settings;
   console = refl;
-  reading = after.reading ∙ ap (λ (d : Desk). d.reading) used ∙ before.reading;
+  readings = after.readings ∙ ap (λ (d : Desk). d.readings) used ∙ before.readings;
   faults = after.faults ∙ ap (λ (d : Desk). d.faults) used ∙ before.faults;
   waiting = after.waiting ∙ ap (λ (d : Desk). d.waiting) used ∙ before.waiting;
   doors = after.doors ∙ ap (λ (d : Desk). d.doors) used ∙ before.doors;

@@ -22,7 +22,7 @@ use Rattle.jb_disk.specs.Device.{Device}
 use Rattle.jb_host.proofs.Callers.{keeps_more}
 use Rattle.jb_host.specs.Desk.{Desk, Disks, HostCall, asked_settings}
 use Rattle.jb_host.specs.Wire.{Wire}
-use Rattle.jb_session.specs.Exchanges.{AreOf}
+use Rattle.jb_session.specs.Exchanges.{AreOf, node_with}
 use Rattle.jb_session.specs.Served.{Served}
 use Rattle.jb_session.specs.declared.end.SessionEnd.{SessionEnd}
 use Rattle.jb_shared.specs.Areas.{IsOf}
@@ -140,12 +140,12 @@ whole_after {D} shared count node areas from to now whole found same_areas same_
 
 -- a session between the opening and the closing of the areas
 pub serves_one : {D : Type 0} (path : List ℕ) (board : Board) (old read opened served new : Desk) (session : SessionEnd) (is_doubtful : Bool)
-    (shared : SharedAreas D) (to : List PassView) (console console_after : Wire)
+    (shared : SharedAreas D) (to : List PassView) (left : Option (List ℕ)) (console console_after : Wire)
     → HasBoard path board old read → OpensAll board.areas 1 read opened shared
     → opened.console ≡ Some console → served ≡ record opened { console = Some console_after }
-    → Served opened.reading board console (passes_at shared 0) session console_after to → length to ≡ length board.areas
+    → Served board console (node_with opened.readings (passes_at shared 0)) session console_after (node_with left to) → length to ≡ length board.areas
     → ClosesAll board.areas (to ∷ []) served new is_doubtful → ServesOne path old new (record { session = session; is_doubtful = is_doubtful })
-serves_one path board old read opened served new session is_doubtful shared to console console_after has opens out back serves count closes =
+serves_one path board old read opened served new session is_doubtful shared to left console console_after has opens out back serves count closes =
     let gives = has.gives in
     let first = opens.out in
     let last = closes.back in
@@ -155,7 +155,7 @@ serves_one path board old read opened served new session is_doubtful shared to c
     let ends : EndEach to closes.doubts closes.afters = end_each to closes.doubts closes.afters (length board.areas) count closes.count closes.ends in
     let went_on : (k : ℕ) (pass : PassView) (opening : Opening) → k < length board.areas → (slice_index_or to k pass).known.opening ≡ Some (slice_index_or opens.openings k opening)
     = λ k pass opening within.
-    (keeps_starts opened.reading board console console_after from to session serves k pass).opening
+    (keeps_starts board console console_after (node_with opened.readings from) (node_with left to) session serves k pass).opening
     ∙ ap (λ (known : _). known.opening) (start.fresh 0 k pass opening (omega arith) within) in
     let disks_back : served.disks ≡ opened.disks = ap (λ (d : Desk). d.disks) back in
     record {
@@ -177,7 +177,8 @@ serves_one path board old read opened served new session is_doubtful shared to c
       console_after = console_after;
       console_back = last.rest.console ∙ ap (λ (d : Desk). d.console) back;
       to = to;
-      served = subst (λ (r : Option ℕ). Served r board console from session console_after to) (first.rest.reading ∙ gives.rest.reading) serves;
+      left = left;
+      served = subst (λ (r : Option (List ℕ)). Served board console (node_with r from) session console_after (node_with left to)) (first.rest.readings ∙ gives.rest.readings) serves;
       count = record { were = first.count; are = last.count; started = opens.whole.passes 0 (omega arith); ended = count };
       went_on = went_on;
       afters = closes.afters;

@@ -42,9 +42,9 @@ serves_all path most board old read opened new befores openings from end has out
     let closes = runs.closes in
     let back = closes.back in
     let many : length runs.to ≡ length from = works.ended ∙ sym works.started in
-    let same_reading : opened.reading ≡ old.reading = out.rest.reading ∙ gives.rest.reading in
+    let same_readings : opened.readings ≡ old.readings = out.rest.readings ∙ gives.rest.readings in
     let ends = end_all board.areas befores openings from runs.to closes.doubts closes.afters opens (omega (arith, works.started)) many
-    (λ n within. work_keeps opened.reading board runs.gates work.gates_after runs.rings work.rings_after from runs.to work.tallies works n within) closes.ends in
+    (λ n within. work_keeps opened.readings board runs.gates work.gates_after runs.rings work.rings_after from runs.to work.tallies works n within) closes.ends in
     let still_doors : runs.rung.doors ≡ runs.lined.doors = bell.rest.doors in
     let doors_then : work.mid.doors ≡ runs.lined.doors = work.bell.rest.doors ∙ still_doors in
     let doors_now : new.doors ≡ runs.worked.doors = back.rest.doors in
@@ -83,7 +83,7 @@ serves_all path most board old read opened new befores openings from end has out
           back.rest.bell ∙ work.doors.rest.bell ∙ work.bell.back bell_out gone refl;
       to = runs.to;
       tallies = work.tallies;
-      works = subst (λ (r : Option ℕ). WorkAll r board runs.gates work.gates_after runs.rings work.rings_after from runs.to work.tallies) same_reading works;
+      works = subst (λ (r : Option (List ℕ)). WorkAll r board runs.gates work.gates_after runs.rings work.rings_after from runs.to work.tallies) same_readings works;
       afters = closes.afters;
       disks = λ disks told.
           let gone : runs.worked.disks ≡ Some (with_areas_out board.areas disks)
@@ -101,7 +101,7 @@ serves_all path most board old read opened new befores openings from end has out
       rest = record {
         settings = back.rest.settings ∙ work.doors.rest.settings ∙ work.bell.rest.settings ∙ bell.rest.settings ∙ doors.rest.settings ∙ out.rest.settings ∙ gives.rest.settings;
         console = back.rest.console ∙ work.doors.rest.console ∙ work.bell.rest.console ∙ bell.rest.console ∙ doors.rest.console ∙ out.rest.console ∙ gives.rest.console;
-        reading = back.rest.reading ∙ work.doors.rest.reading ∙ work.bell.rest.reading ∙ bell.rest.reading ∙ doors.rest.reading ∙ out.rest.reading ∙ gives.rest.reading;
+        readings = back.rest.readings ∙ work.doors.rest.readings ∙ work.bell.rest.readings ∙ bell.rest.readings ∙ doors.rest.readings ∙ out.rest.readings ∙ gives.rest.readings;
         faults = back.rest.faults ∙ work.doors.rest.faults ∙ work.bell.rest.faults ∙ bell.rest.faults ∙ doors.rest.faults ∙ out.rest.faults ∙ gives.rest.faults;
         waiting = refl;
         doors = refl;
@@ -110,16 +110,16 @@ serves_all path most board old read opened new befores openings from end has out
     }
 
 -- the host's clocks show the same when the doors and the bell are out
-pub reading_kept : {R B C : Type 0} (gate : R → Gate) (reading : C → Option ℕ) (board : Board) (most : Option ℕ) (rings : Rings) (workers : List (Worker R B C)) (old rung : Desk)
-    → OpensLines gate reading board most rings workers old rung → rung.reading ≡ old.reading
-reading_kept gate reading board most rings workers old rung opens = opens.gives.rest.reading ∙ opens.has.doors.rest.reading
+pub readings_kept : {R B C : Type 0} (gate : R → Gate) (readings : C → Option (List ℕ)) (board : Board) (most : Option ℕ) (rings : Rings) (workers : List (Worker R B C)) (old rung : Desk)
+    → OpensLines gate readings board most rings workers old rung → rung.readings ≡ old.readings
+readings_kept gate readings board most rings workers old rung opens = opens.gives.rest.readings ∙ opens.has.doors.rest.readings
 
 -- a run on areas that are open, from its doors to its end
-pub runs_on : {R B C : Type 0} (gate : R → Gate) (reading : C → Option ℕ) (board : Board) (most : Option ℕ) (rings : Rings) (workers : List (Worker R B C)) (old rung worked new : Desk)
-    (taken from to : Rows) (is_doubtful door_failed : Bool) → OpensLines gate reading board most rings workers old rung → taken ≡ from
-    → WorkToTheEnd rung.reading board (gates_of gate workers) rings taken to rung worked door_failed → ClosesAll board.areas to worked new is_doubtful
+pub runs_on : {R B C : Type 0} (gate : R → Gate) (readings : C → Option (List ℕ)) (board : Board) (most : Option ℕ) (rings : Rings) (workers : List (Worker R B C)) (old rung worked new : Desk)
+    (taken from to : Rows) (is_doubtful door_failed : Bool) → OpensLines gate readings board most rings workers old rung → taken ≡ from
+    → WorkToTheEnd rung.readings board (gates_of gate workers) rings taken to rung worked door_failed → ClosesAll board.areas to worked new is_doubtful
     → RunsOn board most from old new (record { is_doubtful = is_doubtful; door_failed = door_failed })
-runs_on gate reading board most rings workers old rung worked new taken from to is_doubtful door_failed opens same works closes = record {
+runs_on gate readings board most rings workers old rung worked new taken from to is_doubtful door_failed opens same works closes = record {
   gates = gates_of gate workers;
   lined = opens.mid;
   doors = opens.has.doors;
@@ -128,7 +128,7 @@ runs_on gate reading board most rings workers old rung worked new taken from to 
   bell = opens.gives;
   to = to;
   worked = worked;
-  works = subst (λ (r : Option ℕ). WorkToTheEnd r board (gates_of gate workers) rings from to rung worked door_failed) (reading_kept gate reading board most rings workers old rung opens)
-      (subst (λ (l : Rows). WorkToTheEnd rung.reading board (gates_of gate workers) rings l to rung worked door_failed) same works);
+  works = subst (λ (r : Option (List ℕ)). WorkToTheEnd r board (gates_of gate workers) rings from to rung worked door_failed) (readings_kept gate readings board most rings workers old rung opens)
+      (subst (λ (l : Rows). WorkToTheEnd rung.readings board (gates_of gate workers) rings l to rung worked door_failed) same works);
   closes = closes;
 }

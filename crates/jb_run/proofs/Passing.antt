@@ -11,7 +11,7 @@ use Rattle.jb_model.specs.declared.command.Command.{Command}
 use Rattle.jb_model.specs.declared.entry.Entry.{Entry}
 use Rattle.jb_state.specs.declared.look.SharedFault.TheVariants as fault
 use Rattle.jb_model.specs.declared.reply.Reply.{Reply}
-use Rattle.jb_session.specs.Exchanges.{Exchange, GivesAnswer, Happens, Passed, PassedLast, Wants}
+use Rattle.jb_session.specs.Exchanges.{Exchange, GivesAnswer, Happens, NodeState, Passed, PassedLast, Wants}
 use Rattle.jb_session.specs.Served.{Served}
 use Rattle.jb_session.specs.declared.end.SessionEnd.{SessionEnd}
 use Rattle.jb_shared.specs.Calls.{Asks, Calls, IsStoppedCall, ending, recording}
@@ -82,8 +82,8 @@ some_of : {A : Type 0} (xs : List A) (n : ℕ) → n < length xs → A
 some_of [] n within = absurd (omega (arith, within))
 some_of (x ∷ xs) n within = x
 
-module _ (reading : Option ℕ) where
-  answered : (user : User) (act : Act) (old new : Known) (what : Given) → GivesAnswer reading user act old new what → KeepsStart old new
+module _ (readings : Option (List ℕ)) where
+  answered : (user : User) (act : Act) (old new : Known) (what : Given) → GivesAnswer readings user act old new what → KeepsStart old new
   answered user (Ask command) old new (given.Reply reply) g = called old new user g.0 command (Ok reply) g.2
   answered user (Ask command) old new (given.Fault fault.StoreFault) g = called old new user g.0 command (Err StoreFault) g.2
   answered user (Ask command) old new (given.Fault (fault.Gap shown held)) g = called old new user g.0 command (Err (Gap shown held)) g.2
@@ -94,44 +94,48 @@ module _ (reading : Option ℕ) where
   answered user Count old new (given.Fault fault.Barred) g = barred old new g
   answered user act old new what g = absurd g
 
-  wanted : (user : User) (act : Act) (old new : Known) → Wants reading user act old new → KeepsStart old new
+  wanted : (user : User) (act : Act) (old new : Known) → Wants readings user act old new → KeepsStart old new
   wanted user (Ask command) old new w = called old new user w.0 command (Err OutOfMemory) w.2
   wanted user (Look question) old new w = looked old new w
   wanted user Count old new w = absurd w
 
-  module _ (board : Board) where
-    happened : (request : Request) (happens : User → Known → Known → Type 0) (old new : List PassView) → Happens reading board request happens old new
-        → ((user : User) (before after : Known) → happens user before after → KeepsStart before after)
-        → (k : ℕ) (pass : PassView) → KeepsStart (slice_index_or old k pass).known (slice_index_or new k pass).known
-    happened request happens old new h each k pass = by (k == request.area) refl
-      where
-        here : k ≡ request.area → KeepsStart (slice_index_or old k pass).known (slice_index_or new k pass).known
-        here is =
-            let P : ℕ → Type 0 = λ n. KeepsStart (slice_index_or old n pass).known (slice_index_or new n pass).known in
-            subst P (sym is) (each _ _ _ (h.does (some_of board.users request.user h.user) pass))
+module _ (board : Board) where
+  happened : (request : Request) (happens : User → Known → Known → Type 0) (old new : NodeState) → Happens board request happens old new
+      → ((user : User) (before after : Known) → happens user before after → KeepsStart before after)
+      → (k : ℕ) (pass : PassView) → KeepsStart (slice_index_or old.passes k pass).known (slice_index_or new.passes k pass).known
+  happened request happens old new h each k pass = by (k == request.area) refl
+    where
+      here : k ≡ request.area → KeepsStart (slice_index_or old.passes k pass).known (slice_index_or new.passes k pass).known
+      here is =
+          let P : ℕ → Type 0 = λ n. KeepsStart (slice_index_or old.passes n pass).known (slice_index_or new.passes n pass).known in
+          subst P (sym is) (each _ _ _ (h.does (some_of board.users request.user h.user) pass))
 
-        by : (b : Bool) → (k == request.area) ≡ b → KeepsStart (slice_index_or old k pass).known (slice_index_or new k pass).known
-        by true is = here ((Decides-eqb k request.area).0 is)
-        by false is =
-            let other : k ≢ request.area = grind (arith, nat_tests) in
-            is_same _ _ (ap (λ (p : PassView). p.known) (h.others k pass other))
+      by : (b : Bool) → (k == request.area) ≡ b → KeepsStart (slice_index_or old.passes k pass).known (slice_index_or new.passes k pass).known
+      by true is = here ((Decides-eqb k request.area).0 is)
+      by false is =
+          let other : k ≢ request.area = grind (arith, nat_tests) in
+          is_same _ _ (ap (λ (p : PassView). p.known) (h.others k pass other))
 
-    passed : (exchanges : List Exchange) (old new : List PassView) → Passed reading board old exchanges new
-        → (k : ℕ) (pass : PassView) → KeepsStart (slice_index_or old k pass).known (slice_index_or new k pass).known
-    passed [] old new is k pass = is_same _ _ (ap (λ (w : List PassView). (slice_index_or w k pass).known) is)
-    passed (exchange ∷ exchanges) old new p k pass =
-        and_then _ _ _
-        (happened exchange.request _ old p.0 p.1 (λ user before after gives. answered user exchange.request.act before after exchange.given gives) k pass)
-        (passed exchanges p.0 new p.2 k pass)
+  same_passes : (old new : NodeState) → new ≡ old → (k : ℕ) (pass : PassView)
+      → KeepsStart (slice_index_or old.passes k pass).known (slice_index_or new.passes k pass).known
+  same_passes old new is k pass = is_same _ _ (ap (λ (w : NodeState). (slice_index_or w.passes k pass).known) is)
 
-    passed_last : (last : Option Request) (old new : List PassView) → PassedLast reading board old last new
-        → (k : ℕ) (pass : PassView) → KeepsStart (slice_index_or old k pass).known (slice_index_or new k pass).known
-    passed_last None old new is k pass = is_same _ _ (ap (λ (w : List PassView). (slice_index_or w k pass).known) is)
-    passed_last (Some request) old new lacks k pass =
-        happened request _ old new lacks (λ user before after wants. wanted user request.act before after wants) k pass
+  passed : (exchanges : List Exchange) (old new : NodeState) → Passed board old exchanges new
+      → (k : ℕ) (pass : PassView) → KeepsStart (slice_index_or old.passes k pass).known (slice_index_or new.passes k pass).known
+  passed [] old new is k pass = same_passes old new is k pass
+  passed (exchange ∷ exchanges) old new p k pass =
+      and_then _ _ _
+      (happened exchange.request _ old p.0 p.1 (λ user before after gives. answered old.readings user exchange.request.act before after exchange.given gives) k pass)
+      (passed exchanges p.0 new p.2 k pass)
 
-    -- through a whole session
-    pub keeps_starts : (one other : Wire) (from to : List PassView) (end : SessionEnd) → Served reading board one from end other to
-        → (k : ℕ) (pass : PassView) → KeepsStart (slice_index_or from k pass).known (slice_index_or to k pass).known
-    keeps_starts one other from to end served k pass =
-        and_then _ _ _ (passed served.exchanges from served.mid served.passed k pass) (passed_last served.last served.mid to served.lacks k pass)
+  passed_last : (last : Option Request) (old new : NodeState) → PassedLast board old last new
+      → (k : ℕ) (pass : PassView) → KeepsStart (slice_index_or old.passes k pass).known (slice_index_or new.passes k pass).known
+  passed_last None old new is k pass = same_passes old new is k pass
+  passed_last (Some request) old new lacks k pass =
+      happened request _ old new lacks (λ user before after wants. wanted old.readings user request.act before after wants) k pass
+
+  -- through a whole session
+  pub keeps_starts : (one other : Wire) (from to : NodeState) (end : SessionEnd) → Served board one from end other to
+      → (k : ℕ) (pass : PassView) → KeepsStart (slice_index_or from.passes k pass).known (slice_index_or to.passes k pass).known
+  keeps_starts one other from to end served k pass =
+      and_then _ _ _ (passed served.exchanges from served.mid served.passed k pass) (passed_last served.last served.mid to served.lacks k pass)

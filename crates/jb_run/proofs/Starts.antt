@@ -13,7 +13,7 @@ use Rattle.jb_server.specs.Rounds.{AnswersRing, Came, OnPass, Rung, RungsRun}
 use Rattle.jb_server.specs.Sessions.{Session, SessionsRun}
 use Rattle.jb_server.specs.Tallies.{no_tally}
 use Rattle.jb_server.specs.declared.tally.Tally.{Tally}
-use Rattle.jb_session.specs.Exchanges.{AsksPass}
+use Rattle.jb_session.specs.Exchanges.{AsksPass, NodeState, node_with}
 use Rattle.jb_shared.specs.Passes.{Known, PassView}
 use Rattle.jb_run.specs.Workers.{Rows, packer}
 use Rattle.jb_run.specs.Working.{WorkAll}
@@ -28,57 +28,57 @@ all_same from to is k pass = is_same _ _ (ap (λ (w : List PassView). (slice_ind
 then_all : (from mid to : List PassView) → KeepStarts from mid → KeepStarts mid to → KeepStarts from to
 then_all from mid to one two k pass = and_then _ _ _ (one k pass) (two k pass)
 
-module _ (reading : Option ℕ) where
-  -- through the sessions of a node
-  pub sessions_keep : (board : Board) (sessions : List Session) (from to : List PassView) → SessionsRun reading board from sessions to → KeepStarts from to
-  sessions_keep board [] from to is = all_same from to is
-  sessions_keep board (session ∷ sessions) from to run =
-      then_all from run.0 to (keeps_starts reading board session.given session.back from run.0 session.end run.1) (sessions_keep board sessions run.0 to run.2)
+-- through the sessions of a node
+pub sessions_keep : (board : Board) (sessions : List Session) (from to : NodeState) → SessionsRun board from sessions to → KeepStarts from.passes to.passes
+sessions_keep board [] from to is = all_same from.passes to.passes (ap (λ (w : NodeState). w.passes) is)
+sessions_keep board (session ∷ sessions) from to run =
+    then_all from.passes run.0.passes to.passes (keeps_starts board session.given session.back from run.0 session.end run.1) (sessions_keep board sessions run.0 to run.2)
 
-  -- what happens on one pass
-  on_pass : (number : ℕ) (happens : Known → Known → Type 0) (from to : List PassView) → OnPass number happens from to
-      → ((before after : Known) → happens before after → KeepsStart before after) → KeepStarts from to
-  on_pass number happens from to on each k pass = by (k + 1 == number) refl
-    where
-      here : k + 1 ≡ number → KeepsStart (slice_index_or from k pass).known (slice_index_or to k pass).known
-      here is =
-          let same : number - 1 ≡ k = omega (arith, is) in
-          let P : ℕ → Type 0 = λ n. KeepsStart (slice_index_or from n pass).known (slice_index_or to n pass).known in
-          subst P same (each _ _ (on.does pass))
+-- what happens on one pass
+on_pass : (number : ℕ) (happens : Known → Known → Type 0) (from to : List PassView) → OnPass number happens from to
+    → ((before after : Known) → happens before after → KeepsStart before after) → KeepStarts from to
+on_pass number happens from to on each k pass = by (k + 1 == number) refl
+  where
+    here : k + 1 ≡ number → KeepsStart (slice_index_or from k pass).known (slice_index_or to k pass).known
+    here is =
+        let same : number - 1 ≡ k = omega (arith, is) in
+        let P : ℕ → Type 0 = λ n. KeepsStart (slice_index_or from n pass).known (slice_index_or to n pass).known in
+        subst P same (each _ _ (on.does pass))
 
-      by : (b : Bool) → (k + 1 == number) ≡ b → KeepsStart (slice_index_or from k pass).known (slice_index_or to k pass).known
-      by true is = here (let at : k + 1 ≡ number = grind (arith, nat_tests) in at)
-      by false is =
-          let other : k + 1 ≢ number = grind (arith, nat_tests) in
-          is_same _ _ (ap (λ (p : PassView). p.known) (on.others k pass other))
+    by : (b : Bool) → (k + 1 == number) ≡ b → KeepsStart (slice_index_or from k pass).known (slice_index_or to k pass).known
+    by true is = here (let at : k + 1 ≡ number = grind (arith, nat_tests) in at)
+    by false is =
+        let other : k + 1 ≢ number = grind (arith, nat_tests) in
+        is_same _ _ (ap (λ (p : PassView). p.known) (on.others k pass other))
 
-  -- through a ring
-  ring_keeps : (user : User) (number : ℕ) (came : Came) (from to : List PassView) → AnswersRing reading user number came from to → KeepStarts from to
-  ring_keeps user number None from to answers = all_same from to answers.1
-  ring_keeps user number (Some answer) from to answers =
-      on_pass number (λ before after. AsksPass reading user Pack before after answer) from to answers
-      (λ before after asks. called before after user asks.0 Pack answer asks.2)
+-- through a ring
+ring_keeps : (user : User) (number : ℕ) (came : Came) (from to : NodeState) → AnswersRing user number came from to → KeepStarts from.passes to.passes
+ring_keeps user number None from to answers = all_same from.passes to.passes (ap (λ (w : NodeState). w.passes) answers.1)
+ring_keeps user number (Some answer) from to answers =
+    on_pass number (λ before after. AsksPass from.readings user Pack before after answer) from.passes to.passes answers.0
+    (λ before after asks. called before after user asks.0 Pack answer asks.2)
 
-  -- through the rings of a packer
-  pub rings_keep : (user : User) (rungs : List Rung) (from to : List PassView) → RungsRun reading user from rungs to → KeepStarts from to
-  rings_keep user [] from to is = all_same from to is
-  rings_keep user (rung ∷ rungs) from to run =
-      then_all from run.0 to (ring_keeps user rung.number rung.came from run.0 run.1) (rings_keep user rungs run.0 to run.2)
+-- through the rings of a packer
+pub rings_keep : (user : User) (rungs : List Rung) (from to : NodeState) → RungsRun user from rungs to → KeepStarts from.passes to.passes
+rings_keep user [] from to is = all_same from.passes to.passes (ap (λ (w : NodeState). w.passes) is)
+rings_keep user (rung ∷ rungs) from to run =
+    then_all from.passes run.0.passes to.passes (ring_keeps user rung.number rung.came from run.0 run.1) (rings_keep user rungs run.0 to run.2)
 
 -- through all work
-pub work_keeps : (reading : Option ℕ) (board : Board) (gates gates_after : List Gate) (rings rings_after : Rings) (from to : Rows) (tallies : List Tally)
-    → WorkAll reading board gates gates_after rings rings_after from to tallies → (n : ℕ) → n < length from
+pub work_keeps : (readings : Option (List ℕ)) (board : Board) (gates gates_after : List Gate) (rings rings_after : Rings) (from to : Rows) (tallies : List Tally)
+    → WorkAll readings board gates gates_after rings rings_after from to tallies → (n : ℕ) → n < length from
     → KeepStarts (slice_index_or from n []) (slice_index_or to n [])
-work_keeps reading board gates gates_after rings rings_after from to tallies works n within = by (n == board.nodes) refl
+work_keeps readings board gates gates_after rings rings_after from to tallies works n within = by (n == board.nodes) refl
   where
     by : (b : Bool) → (n == board.nodes) ≡ b → KeepStarts (slice_index_or from n []) (slice_index_or to n [])
     by true is =
         let here : n ≡ board.nodes = grind (arith, nat_tests) in
         let P : ℕ → Type 0 = λ m. KeepStarts (slice_index_or from m []) (slice_index_or to m []) in
         let packed = works.packed in
-        subst P (sym here) (rings_keep reading packer packed.rungs (slice_index_or from board.nodes []) (slice_index_or to board.nodes []) packed.answers.run)
+        subst P (sym here) (rings_keep packer packed.rungs (node_with readings (slice_index_or from board.nodes [])) (node_with works.left (slice_index_or to board.nodes []))
+        packed.answers.run)
     by false is =
         let other : n ≢ board.nodes = grind (arith, nat_tests) in
         let low : n < board.nodes = omega (arith, within, works.started, other) in
         let node = works.nodes n (silent_gate 0 false None) (silent_gate 0 false None) no_tally low in
-        sessions_keep reading board node.sessions (slice_index_or from n []) (slice_index_or to n []) node.serves.run
+        sessions_keep board node.1.sessions (node_with readings (slice_index_or from n [])) (node_with node.0 (slice_index_or to n [])) node.1.serves.run

@@ -13,6 +13,7 @@ use Rattle.jb_disk.specs.Device.{Device}
 use Rattle.jb_host.specs.Desk.{Desk, Disks, GivesSettings, KeepsRest, Place, RefusesCall, asked_settings, handed_out, has_disk, no_disk}
 use Rattle.jb_host.specs.Wire.{Wire}
 use Rattle.jb_host.specs.declared.host.HostError.{HostError}
+use Rattle.jb_session.specs.Exchanges.{node_with}
 use Rattle.jb_session.specs.Served.{Served}
 use Rattle.jb_shared.specs.Passes.{PassView}
 use Rattle.jb_shared.specs.declared.opening.Opening.{Opening}
@@ -97,13 +98,14 @@ pub record ServesOne (path : List ℕ) (old new : Desk) (end : LocalEnd) : Type 
   pub openings : List Opening
   pub from : List PassView
   pub opens : OpenAs board.areas befores openings (from ∷ [])
-  -- one caller is served on the console, which is back then
+  -- one caller is served on the console, which is back then, with a clock of the host
   pub console : Wire
   pub console_was : old.console ≡ Some console
   pub console_after : Wire
   pub console_back : new.console ≡ Some console_after
   pub to : List PassView
-  pub served : Served old.reading board console from end.session console_after to
+  pub left : Option (List ℕ)
+  pub served : Served board console (node_with old.readings from) end.session console_after (node_with left to)
   -- each area is closed with all that its node knows, from its opening on, and its disk put back
   pub went_on : (k : ℕ) (pass : PassView) (opening : Opening) → k < length board.areas
       → (slice_index_or to k pass).known.opening ≡ Some (slice_index_or openings k opening)

@@ -90,10 +90,10 @@ pub record ServesAll (path : List ℕ) (most : Option ℕ) (old new : Desk) (end
   pub rings_after : Rings
   pub bell_was : ForSome old.bell (λ bell. bell ≡ has_bell rings)
   pub bell : ForSome old.bell (λ _. new.bell ≡ Some (has_bell rings_after))
-  -- all work at once
+  -- all work at once, each with a clock of the host
   pub to : Rows
   pub tallies : List Tally
-  pub works : WorkAll old.reading board gates gates_after rings rings_after from to tallies
+  pub works : WorkAll old.readings board gates gates_after rings rings_after from to tallies
   -- each area is closed with all that its nodes know, from its opening on, and its disk put back
   pub afters : List Device
   pub disks : ForSome old.disks (λ disks. new.disks ≡ Some (with_each board.areas afters disks))

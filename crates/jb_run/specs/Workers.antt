@@ -61,11 +61,11 @@ module _ {R B C : Type 0} (gate : R → Gate) where
   abbrev pub gates_of : List (Worker R B C) → List Gate
   gates_of workers = map gate_of workers
 
--- of clocks that show themselves so, where the host's clocks show this
-module _ {R B C : Type 0} (reading : C → Option ℕ) (shown : Option ℕ) where
+-- of clocks that tell their readings so, where a clock of the host tells these
+module _ {R B C : Type 0} (readings : C → Option (List ℕ)) (told : Option (List ℕ)) where
   -- it is the node with this number, with a clock of the host, and has counted nothing yet
   abbrev pub IsFreshWorker : ℕ → Worker R B C → Type 0
-  IsFreshWorker number (Node slot) = (slot.node ≡ number) × (reading slot.clock ≡ shown) × (slot.tally ≡ no_tally)
+  IsFreshWorker number (Node slot) = (slot.node ≡ number) × (readings slot.clock ≡ told) × (slot.tally ≡ no_tally)
   IsFreshWorker number (Packer slot) = ⊥
 
   -- they are the nodes from 1 on, and ready
@@ -73,24 +73,24 @@ module _ {R B C : Type 0} (reading : C → Option ℕ) (shown : Option ℕ) wher
   AreReady workers = (k : ℕ) (absent : Worker R B C) → k < length workers → IsFreshWorker (k + 1) (slice_index_or workers k absent)
 
 -- the packer is ready: with a clock of the host, as the user who packs, and has packed nothing yet
-pub record PackerIsReady {B C : Type 0} (reading : C → Option ℕ) (shown : Option ℕ) (slot : PackSlot B C) : Type 0 where
-  pub clock : reading slot.clock ≡ shown
+pub record PackerIsReady {B C : Type 0} (readings : C → Option (List ℕ)) (told : Option (List ℕ)) (slot : PackSlot B C) : Type 0 where
+  pub clock : readings slot.clock ≡ told
   pub user : slot.user ≡ packer
   pub none : slot.packs ≡ 0
 
 -- of doors and clocks that show themselves so
-module _ {R B C : Type 0} (gate : R → Gate) (reading : C → Option ℕ) (board : Board) (most : Option ℕ) where
+module _ {R B C : Type 0} (gate : R → Gate) (readings : C → Option (List ℕ)) (board : Board) (most : Option ℕ) where
   -- the next node is ready: its door was handed out
   pub record AddsNode (fewer more : List (Worker R B C)) (old new : Desk) : Type 0 where
     pub worker : Worker R B C
     pub is : more ≡ fewer ++ worker ∷ []
-    pub ready : IsFreshWorker reading old.reading (length fewer + 1) worker
+    pub ready : IsFreshWorker readings old.readings (length fewer + 1) worker
     pub gives : GivesDoor (length fewer + 1) board.port most (gate_of gate worker) old new
 
   -- these nodes are ready: their doors were handed out
   pub record HasNodes (workers : List (Worker R B C)) (old new : Desk) : Type 0 where
     pub doors : HandsDoors board.port most (gates_of gate workers) old new
-    pub ready : AreReady reading old.reading workers
+    pub ready : AreReady readings old.readings workers
 
   -- all nodes are ready, and the bell was handed out
   pub record OpensLines (rings : Rings) (workers : List (Worker R B C)) (old new : Desk) : Type 0 where

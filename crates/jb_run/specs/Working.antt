@@ -11,7 +11,7 @@ use Rattle.jb_server.specs.Rounds.{PackerWorks}
 use Rattle.jb_server.specs.Sessions.{NodeWorks}
 use Rattle.jb_server.specs.Tallies.{no_tally}
 use Rattle.jb_server.specs.declared.tally.Tally.{Tally}
-use Rattle.jb_session.specs.Exchanges.{AreOf}
+use Rattle.jb_session.specs.Exchanges.{AreOf, node_with}
 use Rattle.jb_shared.specs.Passes.{PassView}
 use Rattle.jb_shared.specs.declared.opening.Opening.{Opening}
 use Rattle.jb_shared.specs.declared.shared.SharedArea.{SharedArea}
@@ -23,8 +23,8 @@ use Rattle.jb_run.specs.declared.nodes_end.NodesEnd.{NodesEnd}
 abbrev pub AreAllOf : {D : Type 0} → List (SharedArea D) → Rows → Type 0
 AreAllOf areas rows = (n : ℕ) → n < length rows → AreOf areas (slice_index_or rows n [])
 
--- the nodes and the packer have worked, from these passes, doors and this bell to those
-pub record WorkAll (reading : Option ℕ) (board : Board) (gates gates_after : List Gate) (rings rings_after : Rings) (from to : Rows) (tallies : List Tally) : Type 0 where
+-- the nodes and the packer have worked, from these passes, doors and this bell to those, each with a clock of its own that began with these readings
+pub record WorkAll (readings : Option (List ℕ)) (board : Board) (gates gates_after : List Gate) (rings rings_after : Rings) (from to : Rows) (tallies : List Tally) : Type 0 where
   pub doors : length gates ≡ board.nodes
   pub doors_after : length gates_after ≡ board.nodes
   pub counts : length tallies ≡ board.nodes
@@ -32,18 +32,20 @@ pub record WorkAll (reading : Option ℕ) (board : Board) (gates gates_after : L
   pub ended : length to ≡ board.nodes + 1
   -- node k + 1 has served one caller after another on the links of its door, until that was shut or failed
   pub nodes : (k : ℕ) (gate gate_after : Gate) (tally : Tally) → k < board.nodes
-      → NodeWorks reading board (slice_index_or gates k gate) (slice_index_or from k []) no_tally
-      (slice_index_or gates_after k gate_after) (slice_index_or to k []) (slice_index_or tallies k tally)
+      → (left : Option (List ℕ)) × NodeWorks board (slice_index_or gates k gate) (node_with readings (slice_index_or from k [])) no_tally
+      (slice_index_or gates_after k gate_after) (node_with left (slice_index_or to k [])) (slice_index_or tallies k tally)
   -- the packer has packed at each ring, until its bell was shut
   pub packs : ℕ
-  pub packed : PackerWorks reading packer rings (slice_index_or from board.nodes []) 0 rings_after (slice_index_or to board.nodes []) packs
+  pub left : Option (List ℕ)
+  pub packed : PackerWorks packer rings (node_with readings (slice_index_or from board.nodes [])) 0 rings_after
+      (node_with left (slice_index_or to board.nodes [])) packs
 
 -- they have worked, and their doors and the bell are put back
-pub record WorkToTheEnd (reading : Option ℕ) (board : Board) (gates : List Gate) (rings : Rings) (from to : Rows) (old new : Desk) (door_failed : Bool) : Type 0 where
+pub record WorkToTheEnd (readings : Option (List ℕ)) (board : Board) (gates : List Gate) (rings : Rings) (from to : Rows) (old new : Desk) (door_failed : Bool) : Type 0 where
   pub gates_after : List Gate
   pub rings_after : Rings
   pub tallies : List Tally
-  pub works : WorkAll reading board gates gates_after rings rings_after from to tallies
+  pub works : WorkAll readings board gates gates_after rings rings_after from to tallies
   pub mid : Desk
   pub bell : TakesBell rings_after old mid
   pub doors : PutsDoors gates_after mid new
@@ -59,7 +61,7 @@ pub record RunsOn (board : Board) (most : Option ℕ) (from : Rows) (old new : D
   pub bell : GivesBell (length board.areas) board.pack_minutes most rings lined rung
   pub to : Rows
   pub worked : Desk
-  pub works : WorkToTheEnd old.reading board gates rings from to rung worked end.door_failed
+  pub works : WorkToTheEnd old.readings board gates rings from to rung worked end.door_failed
   pub closes : ClosesAll board.areas to worked new end.is_doubtful
 
 -- a door or the bell was refused; the doors that were handed out are put back, and the areas closed as they were opened

@@ -1,8 +1,9 @@
 //! The run of one session.
-ghost use Rattle.std.specs.Prelude.{◌≡◌, ◌⊎◌, IfErr, IfOk, IsSome, ℕ, List, Some, length};
+ghost use Rattle.std.specs.Prelude.{◌≡◌, ◌⊎◌, IfErr, IfOk, IsSome, ℕ, List, Option, Some, length};
 ghost use Rattle.jb_run.specs.All.{AreShared, passes_at};
 ghost use Rattle.jb_host.specs.Desk.{Desk};
 ghost use Rattle.jb_host.specs.Wire.{Wire};
+ghost use Rattle.jb_session.specs.Exchanges.{node_with};
 ghost use Rattle.jb_session.specs.Served.{Served};
 ghost use Rattle.jb_run.specs.Local.{HasBoard, HasNoSettings, RefusesSettings, RunsLocal};
 
@@ -47,10 +48,10 @@ fn serve<R: Wait, H: Host>(
     requires whole { AreShared shared.old 1 (length board.now.areas) }
     requires console { IsSome (H.desk host.old).console }
     ensures whole { AreShared shared.new 1 (length board.now.areas) }
-    ensures served { (old now : Wire) × ((H.desk host.old).console ≡ Some old)
+    ensures served { (old now : Wire) × (left : Option (List ℕ)) × ((H.desk host.old).console ≡ Some old)
         × (H.desk host.new ≡ record (H.desk host.old) { console = Some now })
-        × Served (H.desk host.old).reading board.now old (passes_at shared.old 0) result now
-        (passes_at shared.new 0) }
+        × Served board.now old (node_with (H.desk host.old).readings (passes_at shared.old 0)) result now
+        (node_with left (passes_at shared.new 0)) }
 {
     let mut clock = host.clock();
     let mut console = host.console();

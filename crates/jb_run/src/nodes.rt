@@ -48,11 +48,11 @@ where
     requires nodes { length crew.nodes.items ≡ board.now.nodes }
     requires lists { length shared.old.nodes.items ≡ board.now.nodes + 1 }
     requires room { vec_len crew.nodes < vec_capacity crew.nodes }
-    requires ready { AreReady H.Clock.reading (H.desk host.old).reading crew.nodes.items }
-    requires packer { PackerIsReady H.Clock.reading (H.desk host.old).reading crew.packer }
+    requires ready { AreReady H.Clock.readings (H.desk host.old).readings crew.nodes.items }
+    requires packer { PackerIsReady H.Clock.readings (H.desk host.old).readings crew.packer }
     requires ours { AreAllOf shared.old.areas.items
         (map worker_passes crew.nodes.items ++ crew.packer.passes.items ∷ []) }
-    ensures worked { WorkToTheEnd (H.desk host.old).reading board.now
+    ensures worked { WorkToTheEnd (H.desk host.old).readings board.now
         (gates_of H.Door.gate crew.nodes.items) (H.Bell.rings crew.packer.bell)
         (map worker_passes crew.nodes.items ++ crew.packer.passes.items ∷ [])
         (lists_of shared.new.nodes.items) (H.desk host.old) (H.desk host.new) result }

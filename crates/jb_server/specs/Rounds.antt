@@ -3,11 +3,12 @@ use Rattle.std.specs.Prelude.{◌≡◌, ◌≢◌, ◌⊎◌, ℕ, ◌+◌, ◌
 use Rattle.std.specs.List.{fold}
 use Rattle.std.specs.Option.{option_map}
 use Rattle.jb_base.specs.declared.user.User.{User}
+use Rattle.jb_host.specs.Readings.{readings_after}
 use Rattle.jb_host.specs.Rings.{Rings}
 use Rattle.jb_model.specs.declared.command.Command.TheVariants.{Pack}
 use Rattle.jb_model.specs.declared.reply.Reply.{Reply}
 use Rattle.jb_model.specs.declared.reply.Reply.TheVariants.{Packed}
-use Rattle.jb_session.specs.Exchanges.{AsksPass}
+use Rattle.jb_session.specs.Exchanges.{AsksPass, NodeState}
 use Rattle.jb_shared.specs.Passes.{Known, PassView}
 use Rattle.jb_shared.specs.declared.error.SharedError.{SharedError}
 use Rattle.jb_server.specs.Tallies.{more_of}
@@ -50,26 +51,29 @@ packs_with packs came = if is_packed came then more_of packs else packs
 abbrev pub packs_after : ℕ → List Came → ℕ
 packs_after packs all = fold packs_with packs all
 
--- a clock that shows this reading, where it tells one, and the user who packs
-module _ (reading : Option ℕ) (user : User) where
-  -- a ring for an area that is not there is passed over; else a pack is asked there, as the packer's next call
-  abbrev pub AnswersRing : ℕ → Came → List PassView → List PassView → Type 0
-  AnswersRing number None old new = ((number ≡ 0) ⊎ (length old < number)) × (new ≡ old)
-  AnswersRing number (Some answer) old new = OnPass number (λ before after. AsksPass reading user Pack before after answer) old new
+-- the user who packs
+module _ (user : User) where
+  -- a ring for an area that is not there is passed over; else a pack is asked there, as the packer's next call, at the moment that its
+  -- clock shows, which moves on
+  abbrev pub AnswersRing : ℕ → Came → NodeState → NodeState → Type 0
+  AnswersRing number None old new = ((number ≡ 0) ⊎ (length old.passes < number)) × (new ≡ old)
+  AnswersRing number (Some answer) old new =
+      OnPass number (λ before after. AsksPass old.readings user Pack before after answer) old.passes new.passes
+      × (new.readings ≡ option_map readings_after old.readings)
 
   -- the rings, one after another
-  abbrev pub RungsRun : List PassView → List Rung → List PassView → Type 0
+  abbrev pub RungsRun : NodeState → List Rung → NodeState → Type 0
   RungsRun from [] to = to ≡ from
-  RungsRun from (rung ∷ rungs) to = (mid : List PassView) × AnswersRing rung.number rung.came from mid × RungsRun mid rungs to
+  RungsRun from (rung ∷ rungs) to = (mid : NodeState) × AnswersRing rung.number rung.came from mid × RungsRun mid rungs to
 
   -- the rings are those that the bell was to give next, each answered
-  pub record AnswersRings (rungs : List Rung) (old : Rings) (from : List PassView) (new : Rings) (to : List PassView) : Type 0 where
+  pub record AnswersRings (rungs : List Rung) (old : Rings) (from : NodeState) (new : Rings) (to : NodeState) : Type 0 where
     pub run : RungsRun from rungs to
     pub rang : old.to_come ≡ option_map (λ rest. ring_numbers rungs ++ rest) new.to_come
     pub left : old.left ≡ option_map (λ n. n + length rungs) new.left
 
   -- what a packer has done once its bell is shut, since no ring was left: it has answered the rings, and counted the packs that were done
-  pub record PackerWorks (old : Rings) (from : List PassView) (before : ℕ) (new : Rings) (to : List PassView) (after : ℕ) : Type 0 where
+  pub record PackerWorks (old : Rings) (from : NodeState) (before : ℕ) (new : Rings) (to : NodeState) (after : ℕ) : Type 0 where
     pub rungs : List Rung
     pub answers : AnswersRings rungs old from new to
     pub shut : new.is_shut ≡ true

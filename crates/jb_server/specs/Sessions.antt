@@ -5,9 +5,9 @@ use Rattle.jb_bytes.specs.Fault.{Rose}
 use Rattle.jb_conf.specs.declared.board.Board.{Board}
 use Rattle.jb_host.specs.Gate.{Gate}
 use Rattle.jb_host.specs.Wire.{Wire}
+use Rattle.jb_session.specs.Exchanges.{NodeState}
 use Rattle.jb_session.specs.Served.{Served}
 use Rattle.jb_session.specs.declared.end.SessionEnd.{SessionEnd}
-use Rattle.jb_shared.specs.Passes.{PassView}
 use Rattle.jb_server.specs.Tallies.{and_failed, counted_all}
 use Rattle.jb_server.specs.declared.tally.Tally.{Tally}
 
@@ -34,23 +34,22 @@ abbrev pub EndsServing : Bool → Gate → Gate → Type 0
 EndsServing true old new = Rose old.faults new.faults × (new.is_shut ≡ old.is_shut)
 EndsServing false old new = (new.is_shut ≡ true) × (new.left ≡ Some 0) × (new.faults ≡ old.faults)
 
--- a clock that shows this reading, where it tells one, and a board
-module _ (reading : Option ℕ) (board : Board) where
-  -- the sessions were served one after another on these passes
-  abbrev pub SessionsRun : List PassView → List Session → List PassView → Type 0
+module _ (board : Board) where
+  -- the sessions were served one after another by this node
+  abbrev pub SessionsRun : NodeState → List Session → NodeState → Type 0
   SessionsRun from [] to = to ≡ from
   SessionsRun from (session ∷ sessions) to =
-      (mid : List PassView) × Served reading board session.given from session.end session.back mid × SessionsRun mid sessions to
+      (mid : NodeState) × Served board session.given from session.end session.back mid × SessionsRun mid sessions to
 
   -- and their links are those that the door gave next, each hung up behind its session
-  pub record Serves (sessions : List Session) (old : Gate) (from : List PassView) (new : Gate) (to : List PassView) : Type 0 where
+  pub record Serves (sessions : List Session) (old : Gate) (from : NodeState) (new : Gate) (to : NodeState) : Type 0 where
     pub run : SessionsRun from sessions to
     pub gave : old.to_come ≡ option_map (λ rest. given_of sessions ++ rest) new.to_come
     pub hung : new.hung ≡ option_map (λ earlier. earlier ++ back_of sessions) old.hung
     pub left : old.left ≡ option_map (λ n. n + length sessions) new.left
 
   -- what a node has done once it serves no more: its sessions, each counted under its end
-  pub record NodeWorks (old : Gate) (from : List PassView) (before : Tally) (new : Gate) (to : List PassView) (after : Tally) : Type 0 where
+  pub record NodeWorks (old : Gate) (from : NodeState) (before : Tally) (new : Gate) (to : NodeState) (after : Tally) : Type 0 where
     pub sessions : List Session
     pub serves : Serves sessions old from new to
     pub has_failed : Bool

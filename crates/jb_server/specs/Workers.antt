@@ -4,7 +4,7 @@ use Rattle.jb_limits.specs.declared.limits.TheConstants.{MOST_NAME_BYTES}
 use Rattle.jb_conf.specs.declared.board.Board.{Board}
 use Rattle.jb_host.specs.Gate.{Gate}
 use Rattle.jb_host.specs.Rings.{Rings}
-use Rattle.jb_session.specs.Exchanges.{AreOf}
+use Rattle.jb_session.specs.Exchanges.{AreOf, node_with}
 use Rattle.jb_shared.specs.declared.shared.SharedArea.{SharedArea}
 use Rattle.jb_server.specs.Rounds.{PackerWorks}
 use Rattle.jb_server.specs.Sessions.{NodeWorks}
@@ -20,25 +20,25 @@ module _ {D R B C : Type 0} (areas : List (SharedArea D)) where
   IsAtWork (Packer slot) = AreOf areas slot.passes.items × (length slot.user.name ≤ MOST_NAME_BYTES)
 
 -- of doors and clocks that show themselves so
-module _ {R C : Type 0} (gate : R → Gate) (reading : C → Option ℕ) (board : Board) where
+module _ {R C : Type 0} (gate : R → Gate) (readings : C → Option (List ℕ)) (board : Board) where
   -- a node has served until its door was shut or failed
   pub record NodeHasWorked (old new : NodeSlot R C) : Type 0 where
     pub node : new.node ≡ old.node
-    pub clock : reading new.clock ≡ reading old.clock
-    pub works : NodeWorks (reading old.clock) board (gate old.door) old.passes.items old.tally (gate new.door) new.passes.items new.tally
+    pub works : NodeWorks board (gate old.door) (node_with (readings old.clock) old.passes.items) old.tally
+        (gate new.door) (node_with (readings new.clock) new.passes.items) new.tally
 
 -- of bells and clocks that show themselves so
-module _ {B C : Type 0} (rings : B → Rings) (reading : C → Option ℕ) where
+module _ {B C : Type 0} (rings : B → Rings) (readings : C → Option (List ℕ)) where
   -- a packer has packed until its bell was shut
   pub record PackerHasWorked (old new : PackSlot B C) : Type 0 where
     pub user : new.user ≡ old.user
-    pub clock : reading new.clock ≡ reading old.clock
-    pub works : PackerWorks (reading old.clock) old.user (rings old.bell) old.passes.items old.packs (rings new.bell) new.passes.items new.packs
+    pub works : PackerWorks old.user (rings old.bell) (node_with (readings old.clock) old.passes.items) old.packs
+        (rings new.bell) (node_with (readings new.clock) new.passes.items) new.packs
 
 -- of doors, bells and clocks that show themselves so
-module _ {R B C : Type 0} (gate : R → Gate) (rings : B → Rings) (reading : C → Option ℕ) (board : Board) where
+module _ {R B C : Type 0} (gate : R → Gate) (rings : B → Rings) (readings : C → Option (List ℕ)) (board : Board) where
   -- a worker has done its work
   abbrev pub HasWorked : Worker R B C → Worker R B C → Type 0
-  HasWorked (Node old) (Node new) = NodeHasWorked gate reading board old new
-  HasWorked (Packer old) (Packer new) = PackerHasWorked rings reading old new
+  HasWorked (Node old) (Node new) = NodeHasWorked gate readings board old new
+  HasWorked (Packer old) (Packer new) = PackerHasWorked rings readings old new
   HasWorked _ _ = ⊥

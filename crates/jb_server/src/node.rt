@@ -23,7 +23,7 @@ pub(crate) fn serve_node<T: Wait, D: Disk, R: Door, C: Clock>(
     requires areas { length areas.now ≡ length board.now.areas }
     requires ours { AreOf areas.now slot.old.passes.items }
     ensures ours { AreOf areas.now slot.new.passes.items }
-    ensures worked { NodeHasWorked R.gate C.reading board.now slot.old slot.new }
+    ensures worked { NodeHasWorked R.gate C.readings board.now slot.old slot.new }
 {
     for _call in rt.forever() {
         match slot.door.accept() {

@@ -1,8 +1,10 @@
 //! The work of a packer.
 ghost use Rattle.std.specs.Prelude.{◌≡◌, ◌≤◌, length};
+ghost use Rattle.std.specs.Option.{option_map};
 ghost use Rattle.jb_limits.specs.declared.limits.TheConstants.{MOST_NAME_BYTES};
+ghost use Rattle.jb_host.specs.Readings.{readings_after};
 ghost use Rattle.jb_model.specs.declared.command.Command.{Command};
-ghost use Rattle.jb_session.specs.Exchanges.{AreOf, AsksPass};
+ghost use Rattle.jb_session.specs.Exchanges.{AreOf, AsksPass, node_with};
 ghost use Rattle.jb_shared.specs.Areas.{IsOf};
 ghost use Rattle.jb_server.specs.Rounds.{AnswersRing, packs_with};
 ghost use Rattle.jb_server.specs.Workers.{PackerHasWorked};
@@ -26,7 +28,7 @@ enum Told<'t> {
     Came(&'t Result<Reply, SharedError>),
 }
 
-/// Asks a pack as the next call of a pass, at the moment that the clock shows. `has_settled` is then whether that has ended a doubt.
+/// Asks a pack as the next call of a pass, at the moment that the clock shows, which is read once. `has_settled` is then whether that has ended a doubt.
 fn ask_pack<T: Wait, D: Disk, C: Clock>(
     rt: &T,
     alloc: Global,
@@ -39,8 +41,8 @@ fn ask_pack<T: Wait, D: Disk, C: Clock>(
     requires ours { IsOf area.now pass.old }
     requires name { length user.now.name ≤ MOST_NAME_BYTES }
     ensures ours { IsOf area.now pass.new }
-    ensures clock { C.reading clock.new ≡ C.reading clock.old }
-    ensures asks { AsksPass (C.reading clock.old) user.now Command.Pack pass.old.known pass.new.known result }
+    ensures clock { C.readings clock.new ≡ option_map readings_after (C.readings clock.old) }
+    ensures asks { AsksPass (C.readings clock.old) user.now Command.Pack pass.old.known pass.new.known result }
 {
     let moment = clock.now();
     let came = area.call(rt, alloc, pass, user, moment, &Command::Pack);
@@ -93,12 +95,12 @@ impl<B: Bell, C: Clock> PackSlot<B, C> {
         requires ours { AreOf areas.now self.old.passes.items }
         requires name { length self.old.user.name ≤ MOST_NAME_BYTES }
         ensures ours { AreOf areas.now self.new.passes.items }
-        ensures answers { AnswersRing
-            (C.reading self.old.clock) self.old.user number result self.old.passes.items self.new.passes.items }
+        ensures answers { AnswersRing self.old.user number result
+            (node_with (C.readings self.old.clock) self.old.passes.items)
+            (node_with (C.readings self.new.clock) self.new.passes.items) }
 
         // All else stays.
         ensures bell { B.rings self.new.bell ≡ B.rings self.old.bell }
-        ensures clock { C.reading self.new.clock ≡ C.reading self.old.clock }
         ensures user { self.new.user ≡ self.old.user }
         ensures packs { self.new.packs ≡ self.old.packs }
     {
@@ -140,7 +142,7 @@ pub(crate) fn serve_bell<T: Wait, D: Disk, B: Bell, C: Clock>(
     requires ours { AreOf areas.now slot.old.passes.items }
     requires name { length slot.old.user.name ≤ MOST_NAME_BYTES }
     ensures ours { AreOf areas.now slot.new.passes.items }
-    ensures worked { PackerHasWorked B.rings C.reading slot.old slot.new }
+    ensures worked { PackerHasWorked B.rings C.readings slot.old slot.new }
 {
     for _ring in rt.forever() {
         match slot.bell.next() {

@@ -25,7 +25,7 @@ fn work<T: Wait, D: Disk, R: Door, B: Bell, C: Clock>(
     requires areas { length areas.now ≡ length board.now.areas }
     requires ours { IsAtWork areas.now worker.old }
     ensures ours { IsAtWork areas.now worker.new }
-    ensures worked { HasWorked R.gate B.rings C.reading board.now worker.old worker.new }
+    ensures worked { HasWorked R.gate B.rings C.readings board.now worker.old worker.new }
 {
     match worker {
         Worker::Node(slot) => serve_node(rt, alloc, board, areas, slot),
@@ -48,7 +48,7 @@ where
     requires ours { All (IsAtWork areas.now) workers.old }
     ensures ours { All (IsAtWork areas.now) workers.new }
     ensures worked { (k : ℕ) (absent : _) → k < length workers.old
-        → HasWorked R.gate B.rings C.reading board.now (slice_index_or workers.old k absent)
+        → HasWorked R.gate B.rings C.readings board.now (slice_index_or workers.old k absent)
         (slice_index_or workers.new k absent) }
 {
     if workers.is_empty() {

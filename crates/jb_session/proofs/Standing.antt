@@ -10,7 +10,6 @@ use Rattle.jb_conf.specs.declared.board.Board.{Board}
 use Rattle.jb_host.specs.Wire.{IsFrontOf, Sends, Takes, Wire}
 use Rattle.jb_host.proofs.Wires.{rose_later, sends_more, sends_none, takes_more, takes_none}
 use Rattle.jb_menu.specs.declared.given.Given.{Given}
-use Rattle.jb_shared.specs.Passes.{PassView}
 use Rattle.jb_talk.specs.Conversations.{Talks, end_of}
 use Rattle.jb_talk.specs.Laws.{EachStands, EachTalks, IsFront, TalksGrow}
 use Rattle.jb_talk.specs.Talking.{HasTalked, Talking}
@@ -18,7 +17,7 @@ use Rattle.jb_talk.specs.declared.request.Request.{Request}
 use Rattle.jb_talk.specs.declared.standing.TalkEnd.{TalkEnd}
 use Rattle.jb_talk.specs.declared.standing.TalkEnd.TheVariants as talk
 use Rattle.jb_session.specs.Ends.{end_as}
-use Rattle.jb_session.specs.Exchanges.{Exchange, Exchanged, Passed, PassedLast, answers_of, asks_of}
+use Rattle.jb_session.specs.Exchanges.{Exchange, Exchanged, NodeState, Passed, PassedLast, answers_of, asks_of}
 use Rattle.jb_session.specs.Served.{Later, SaysAll, SaysSome, EndsAs, Served, Stands, MayLack}
 use Rattle.jb_session.specs.declared.end.SessionEnd.{SessionEnd}
 use Rattle.jb_session.specs.declared.end.SessionEnd.TheVariants.{Quit, Hangup, LoginRefused, LinkFault, Spent, OutOfMemory}
@@ -94,17 +93,17 @@ drop_then n m xs = same_lists _ _ (grind (arith, places)) (λ k d h. grind (arit
 pub drop_all : (n : ℕ) (xs : List ℕ) → length xs ≤ n → drop n xs ≡ []
 drop_all n xs all = same_lists _ _ (grind (arith, places)) (λ k d h. grind (arith, places))
 
-module _ (reading : Option ℕ) (board : Board) where
-  passed_then : (from mid to : List PassView) (xs : List Exchange) (x : Exchange)
-      → Passed reading board from xs mid → Exchanged reading board x mid to → Passed reading board from (xs ++ x ∷ []) to
+module _ (board : Board) where
+  passed_then : (from mid to : NodeState) (xs : List Exchange) (x : Exchange)
+      → Passed board from xs mid → Exchanged board x mid to → Passed board from (xs ++ x ∷ []) to
   passed_then from mid to [] x is last =
-      let P : List PassView → Type 0 = λ w. Exchanged reading board x w to in
+      let P : NodeState → Type 0 = λ w. Exchanged board x w to in
       (to, subst P is last, refl)
   passed_then from mid to (y ∷ ys) x passed last = (passed.0, passed.1, passed_then passed.0 mid to ys x passed.2 last)
 
   -- memory was wanting: what was handed out stays, and the last request has no answer
-  pub ends_short : EachTalks → TalksGrow → EachStands → (old now : Wire) (from mid to : List PassView) (rest : List ℕ) (talking : Talking) (last : Option Request)
-      → Stands reading board old from now rest talking last mid → PassedLast reading board mid last to → Served reading board old from OutOfMemory now to
+  pub ends_short : EachTalks → TalksGrow → EachStands → (old now : Wire) (from mid to : NodeState) (rest : List ℕ) (talking : Talking) (last : Option Request)
+      → Stands board old from now rest talking last mid → PassedLast board mid last to → Served board old from OutOfMemory now to
   ends_short each grow stands old now from mid to rest talking last s lacks = record {
     taken = s.heard ++ rest;
     within = omega (arith, s.within, length-append s.heard rest);
@@ -132,8 +131,8 @@ module _ (reading : Option ℕ) (board : Board) where
   answers_then xs x = map-append (λ (exchange : Exchange). exchange.given) xs (x ∷ [])
 
   -- a request was answered, and the talk wants memory for it
-  pub ends_unheard : EachTalks → TalksGrow → EachStands → (old now : Wire) (from mid to : List PassView) (rest : List ℕ) (talking : Talking) (x : Exchange)
-      → Stands reading board old from now rest talking (Some x.request) mid → Exchanged reading board x mid to → Served reading board old from OutOfMemory now to
+  pub ends_unheard : EachTalks → TalksGrow → EachStands → (old now : Wire) (from mid to : NodeState) (rest : List ℕ) (talking : Talking) (x : Exchange)
+      → Stands board old from now rest talking (Some x.request) mid → Exchanged board x mid to → Served board old from OutOfMemory now to
   ends_unheard each grow stands old now from mid to rest talking x s done = record {
     taken = s.heard ++ rest;
     within = omega (arith, s.within, length-append s.heard rest);
@@ -157,10 +156,10 @@ module _ (reading : Option ℕ) (board : Board) where
   }
 
   -- a request was answered, and the talk has heard it
-  pub responded : (old now : Wire) (from mid to : List PassView) (rest : List ℕ) (talking after : Talking) (x : Exchange) (next : Option Request)
-      → (s : Stands reading board old from now rest talking (Some x.request) mid) → Exchanged reading board x mid to
+  pub responded : (old now : Wire) (from mid to : NodeState) (rest : List ℕ) (talking after : Talking) (x : Exchange) (next : Option Request)
+      → (s : Stands board old from now rest talking (Some x.request) mid) → Exchanged board x mid to
       → HasTalked board after s.heard (answers_of s.exchanges ++ x.given ∷ []) s.out ((asks_of s.exchanges ++ x.request ∷ []) ++ option_to_list next)
-      → Stands reading board old from now rest after next to
+      → Stands board old from now rest after next to
   responded old now from mid to rest talking after x next s done talked = record {
     heard = s.heard;
     within = s.within;
@@ -178,10 +177,10 @@ module _ (reading : Option ℕ) (board : Board) where
   }
 
   -- a part of the rest was heard
-  pub heard_on : (old now : Wire) (from to : List PassView) (part rest : List ℕ) (talking after : Talking) (next : Option Request)
-      → (s : Stands reading board old from now (part ++ rest) talking None to)
+  pub heard_on : (old now : Wire) (from to : NodeState) (part rest : List ℕ) (talking after : Talking) (next : Option Request)
+      → (s : Stands board old from now (part ++ rest) talking None to)
       → HasTalked board after (s.heard ++ part) (answers_of s.exchanges) s.out ((asks_of s.exchanges ++ []) ++ option_to_list next)
-      → Stands reading board old from now rest after next to
+      → Stands board old from now rest after next to
   heard_on old now from to part rest talking after next s talked = record {
     heard = s.heard ++ part;
     within = omega (arith, s.within, length-append s.heard part, length-append part rest);
@@ -200,36 +199,36 @@ module _ (reading : Option ℕ) (board : Board) where
   }
 
   -- so many bytes of a piece were heard
-  pub hear_on : (old now : Wire) (from to : List PassView) (n : ℕ) (piece line : List ℕ) (talking after : Talking) (next : Option Request)
-      → Stands reading board old from now piece talking None to → line ≡ take (length line) piece → n ≤ length line
+  pub hear_on : (old now : Wire) (from to : NodeState) (n : ℕ) (piece line : List ℕ) (talking after : Talking) (next : Option Request)
+      → Stands board old from now piece talking None to → line ≡ take (length line) piece → n ≤ length line
       → ((bytes sent : List ℕ) (answers : List Given) (asked : List Request) → HasTalked board talking bytes answers sent asked
       → HasTalked board after (bytes ++ take n line) answers sent (asked ++ option_to_list next))
-      → Stands reading board old from now (drop n piece) after next to
+      → Stands board old from now (drop n piece) after next to
   hear_on old now from to n piece line talking after next s front within fits =
-      let P : List ℕ → Type 0 = λ w. Stands reading board old from now w talking None to in
-      let t : Stands reading board old from now (take n piece ++ drop n piece) talking None to = subst P (cut_at n piece) s in
+      let P : List ℕ → Type 0 = λ w. Stands board old from now w talking None to in
+      let t : Stands board old from now (take n piece ++ drop n piece) talking None to = subst P (cut_at n piece) s in
       let Q : List ℕ → Type 0 = λ w. HasTalked board after (t.heard ++ w) (answers_of t.exchanges) t.out ((asks_of t.exchanges ++ []) ++ option_to_list next) in
       heard_on old now from to (take n piece) (drop n piece) talking after next t
       (subst Q (ap (take n) front ∙ take-take n (length line) piece within) (fits t.heard t.out (answers_of t.exchanges) (asks_of t.exchanges ++ []) t.talked))
 
   -- what is left of a piece, as a part of it
-  pub rest_on : (old now : Wire) (from to : List PassView) (at : ℕ) (piece : List ℕ) (talking : Talking)
-      → Stands reading board old from now (drop at piece) talking None to → Stands reading board old from now (take (length piece - at) (drop at piece)) talking None to
+  pub rest_on : (old now : Wire) (from to : NodeState) (at : ℕ) (piece : List ℕ) (talking : Talking)
+      → Stands board old from now (drop at piece) talking None to → Stands board old from now (take (length piece - at) (drop at piece)) talking None to
   rest_on old now from to at piece talking s =
-      let P : List ℕ → Type 0 = λ w. Stands reading board old from now w talking None to in
+      let P : List ℕ → Type 0 = λ w. Stands board old from now w talking None to in
       subst P (sym (rest_of at piece)) s
 
   -- and what is left behind more of it
-  pub left_on : (old now : Wire) (from to : List PassView) (at n : ℕ) (piece : List ℕ) (talking : Talking)
-      → Stands reading board old from now (drop n (take (length piece - at) (drop at piece))) talking None to → Stands reading board old from now (drop (at + n) piece) talking None to
+  pub left_on : (old now : Wire) (from to : NodeState) (at n : ℕ) (piece : List ℕ) (talking : Talking)
+      → Stands board old from now (drop n (take (length piece - at) (drop at piece))) talking None to → Stands board old from now (drop (at + n) piece) talking None to
   left_on old now from to at n piece talking s =
-      let P : List ℕ → Type 0 = λ w. Stands reading board old from now w talking None to in
+      let P : List ℕ → Type 0 = λ w. Stands board old from now w talking None to in
       subst P (ap (drop n) (rest_of at piece) ∙ drop_then at n piece) s
 
   -- a piece was read
-  pub read_on : (old now now' : Wire) (from to : List PassView) (piece : List ℕ) (talking : Talking)
-      → Stands reading board old from now [] talking None to → Takes now.to_come piece now'.to_come → now'.sent ≡ now.sent → now'.unsent ≡ now.unsent → Later now now'
-      → talking.taken + length piece ≤ MOST_SESSION_BYTES → Stands reading board old from now' piece talking None to
+  pub read_on : (old now now' : Wire) (from to : NodeState) (piece : List ℕ) (talking : Talking)
+      → Stands board old from now [] talking None to → Takes now.to_come piece now'.to_come → now'.sent ≡ now.sent → now'.unsent ≡ now.unsent → Later now now'
+      → talking.taken + length piece ≤ MOST_SESSION_BYTES → Stands board old from now' piece talking None to
   read_on old now now' from to piece talking s takes sent quiet later room = record {
     heard = s.heard;
     within = omega (arith, room, s.talked.counted);
@@ -246,9 +245,9 @@ module _ (reading : Option ℕ) (board : Board) where
   }
 
   -- all that was owed was sent
-  pub sent_on : (old now now' : Wire) (from to : List PassView) (rest : List ℕ) (talking after : Talking)
-      → (s : Stands reading board old from now rest talking None to) → Sends now.sent talking.owed now'.sent → now'.to_come ≡ now.to_come → now'.unsent ≡ now.unsent → Later now now'
-      → HasTalked board after s.heard (answers_of s.exchanges) (s.out ++ talking.owed) (asks_of s.exchanges ++ []) → Stands reading board old from now' rest after None to
+  pub sent_on : (old now now' : Wire) (from to : NodeState) (rest : List ℕ) (talking after : Talking)
+      → (s : Stands board old from now rest talking None to) → Sends now.sent talking.owed now'.sent → now'.to_come ≡ now.to_come → now'.unsent ≡ now.unsent → Later now now'
+      → HasTalked board after s.heard (answers_of s.exchanges) (s.out ++ talking.owed) (asks_of s.exchanges ++ []) → Stands board old from now' rest after None to
   sent_on old now now' from to rest talking after s sends to_come quiet later talked = record {
     heard = s.heard;
     within = s.within;
@@ -263,9 +262,9 @@ module _ (reading : Option ℕ) (board : Board) where
   }
 
   -- a write failed
-  pub ends_unsent : EachTalks → TalksGrow → EachStands → (old now now' : Wire) (from to : List PassView) (rest : List ℕ) (talking : Talking) (part : List ℕ)
-      → Stands reading board old from now rest talking None to → IsFrontOf part talking.owed → Sends now.sent part now'.sent → now'.to_come ≡ now.to_come → Later now now'
-      → Rose now.faults now'.faults → Rose now.unsent now'.unsent → Served reading board old from LinkFault now' to
+  pub ends_unsent : EachTalks → TalksGrow → EachStands → (old now now' : Wire) (from to : NodeState) (rest : List ℕ) (talking : Talking) (part : List ℕ)
+      → Stands board old from now rest talking None to → IsFrontOf part talking.owed → Sends now.sent part now'.sent → now'.to_come ≡ now.to_come → Later now now'
+      → Rose now.faults now'.faults → Rose now.unsent now'.unsent → Served board old from LinkFault now' to
   ends_unsent each grow stands old now now' from to rest talking part s begins sends to_come later faults unsent = record {
     taken = s.heard ++ rest;
     within = omega (arith, s.within, length-append s.heard rest);
@@ -290,9 +289,9 @@ module _ (reading : Option ℕ) (board : Board) where
   }
 
   -- a session that stands with nothing left to hear ends so
-  ends_so : (old now now' : Wire) (from to : List PassView) (talking : Talking) (end : SessionEnd) (part : List ℕ)
-      → (s : Stands reading board old from now [] talking None to) → MayLack end None → Sends now.sent part now'.sent → now'.to_come ≡ now.to_come → Later now now'
-      → (end ≢ LinkFault → now'.unsent ≡ now.unsent) → EndsAs board end old now' s.heard (answers_of s.exchanges) (s.out ++ part) (asks_of s.exchanges ++ []) → Served reading board old from end now' to
+  ends_so : (old now now' : Wire) (from to : NodeState) (talking : Talking) (end : SessionEnd) (part : List ℕ)
+      → (s : Stands board old from now [] talking None to) → MayLack end None → Sends now.sent part now'.sent → now'.to_come ≡ now.to_come → Later now now'
+      → (end ≢ LinkFault → now'.unsent ≡ now.unsent) → EndsAs board end old now' s.heard (answers_of s.exchanges) (s.out ++ part) (asks_of s.exchanges ++ []) → Served board old from end now' to
   ends_so old now now' from to talking end part s only sends to_come later quiet ends = record {
     taken = s.heard;
     within = omega (arith, s.within);
@@ -313,16 +312,16 @@ module _ (reading : Option ℕ) (board : Board) where
   }
 
   -- what is said over all that was heard
-  said : EachStands → (old now : Wire) (from to : List PassView) (talking : Talking) (s : Stands reading board old from now [] talking None to) (part : List ℕ) → talking.owed ≡ part
+  said : EachStands → (old now : Wire) (from to : NodeState) (talking : Talking) (s : Stands board old from now [] talking None to) (part : List ℕ) → talking.owed ≡ part
       → Talks board s.heard (answers_of s.exchanges) (s.out ++ part) (asks_of s.exchanges ++ []) (end_of talking.place.standing talking.taken)
   said stands old now from to talking s part owed =
       let P : List ℕ → Type 0 = λ w. Talks board s.heard (answers_of s.exchanges) (s.out ++ w) (asks_of s.exchanges ++ []) (end_of talking.place.standing talking.taken) in
       subst P owed (stands board talking s.heard s.out (answers_of s.exchanges) (asks_of s.exchanges ++ []) s.talked)
 
   -- a read failed, with nothing owed
-  pub ends_unread : EachStands → (old now now' : Wire) (from to : List PassView) (talking : Talking)
-      → Stands reading board old from now [] talking None to → talking.owed ≡ [] → now'.sent ≡ now.sent → now'.to_come ≡ now.to_come → Later now now'
-      → Rose now.faults now'.faults → Served reading board old from LinkFault now' to
+  pub ends_unread : EachStands → (old now now' : Wire) (from to : NodeState) (talking : Talking)
+      → Stands board old from now [] talking None to → talking.owed ≡ [] → now'.sent ≡ now.sent → now'.to_come ≡ now.to_come → Later now now'
+      → Rose now.faults now'.faults → Served board old from LinkFault now' to
   ends_unread stands old now now' from to talking s none sent to_come later faults =
       let all : SaysAll board s.heard (answers_of s.exchanges) (s.out ++ []) (asks_of s.exchanges ++ []) = record { end = end_of talking.place.standing talking.taken; talks = said stands old now from to talking s [] none } in
       ends_so old now now' from to talking LinkFault [] s refl (sends_same _ _ _ _ (sends_none now.sent) sent) to_come later (λ other. absurd (other refl)) (
@@ -332,10 +331,10 @@ module _ (reading : Option ℕ) (board : Board) where
       )
 
   -- the input is at its end, with nothing owed
-  pub ends_hangup : EachStands → (old now now' : Wire) (from to : List PassView) (talking : Talking)
-      → Stands reading board old from now [] talking None to → talking.owed ≡ [] → end_of talking.place.standing talking.taken ≡ talk.Hangup
+  pub ends_hangup : EachStands → (old now now' : Wire) (from to : NodeState) (talking : Talking)
+      → Stands board old from now [] talking None to → talking.owed ≡ [] → end_of talking.place.standing talking.taken ≡ talk.Hangup
       → now'.sent ≡ now.sent → now'.to_come ≡ now.to_come → now'.unsent ≡ now.unsent → Later now now' → Rose now.ends now'.ends → ForSome now.to_come (λ bytes. bytes ≡ [])
-      → Served reading board old from Hangup now' to
+      → Served board old from Hangup now' to
   ends_hangup stands old now now' from to talking s none hangup sent to_come quiet later ends gone =
       let P : TalkEnd → Type 0 = λ w. Talks board s.heard (answers_of s.exchanges) (s.out ++ []) (asks_of s.exchanges ++ []) w in
       let Q : Option (List ℕ) → Type 0 = λ w. ForSome w (λ bytes. bytes ≡ []) in
@@ -363,15 +362,15 @@ module _ (reading : Option ℕ) (board : Board) where
   lacks_none OutOfMemory = tt
 
   -- the talk is over
-  pub ends_over : EachStands → (old now : Wire) (from to : List PassView) (talking : Talking)
-      → Stands reading board old from now [] talking None to → talking.owed ≡ [] → (end_of talking.place.standing talking.taken ≡ talk.Hangup → ⊥)
-      → Served reading board old from (end_as (end_of talking.place.standing talking.taken)) now to
+  pub ends_over : EachStands → (old now : Wire) (from to : NodeState) (talking : Talking)
+      → Stands board old from now [] talking None to → talking.owed ≡ [] → (end_of talking.place.standing talking.taken ≡ talk.Hangup → ⊥)
+      → Served board old from (end_as (end_of talking.place.standing talking.taken)) now to
   ends_over stands old now from to talking s none other =
       ends_so old now now from to talking (end_as (end_of talking.place.standing talking.taken)) [] s (lacks_none _) (sends_none now.sent) refl (later_refl now) (λ other. refl)
       (by_talk old now s.heard (s.out ++ []) (answers_of s.exchanges) (asks_of s.exchanges ++ []) (end_of talking.place.standing talking.taken) other (said stands old now from to talking s [] none))
 
   -- at the start
-  pub stands_first : (w : Wire) (from : List PassView) (talking : Talking) → HasTalked board talking [] [] [] [] → Stands reading board w from w [] talking None from
+  pub stands_first : (w : Wire) (from : NodeState) (talking : Talking) → HasTalked board talking [] [] [] [] → Stands board w from w [] talking None from
   stands_first w from talking talked = record {
     heard = [];
     within = omega arith;
@@ -386,7 +385,7 @@ module _ (reading : Option ℕ) (board : Board) where
   }
 
   -- memory was wanting before the greeting
-  pub served_none : EachTalks → (w : Wire) (from : List PassView) → Served reading board w from OutOfMemory w from
+  pub served_none : EachTalks → (w : Wire) (from : NodeState) → Served board w from OutOfMemory w from
   served_none each w from =
       let whole = each board [] [] in
       record {
@@ -413,14 +412,13 @@ module _ (reading : Option ℕ) (board : Board) where
       }
 
 -- a session between two notes, which change nothing of the link
-pub served_by : (reading reading' : Option ℕ) (board : Board) (old old' new new' : Wire) (end end' : SessionEnd) (from to : List PassView)
-    → reading' ≡ reading → old' ≡ old → new ≡ new' → end ≡ end' → Served reading' board old' from end' new' to → Served reading board old from end new to
-served_by reading reading' board old old' new new' end end' from to clock begun ended same s =
-    let E : SessionEnd → Type 0 = λ w. Served reading' board old' from w new' to in
-    let N : Wire → Type 0 = λ w. Served reading' board old' from end w to in
-    let O : Wire → Type 0 = λ w. Served reading' board w from end new to in
-    let R : Option ℕ → Type 0 = λ w. Served w board old from end new to in
-    subst R clock (subst O begun (subst N (sym ended) (subst E (sym same) s)))
+pub served_by : (board : Board) (old old' new new' : Wire) (end end' : SessionEnd) (from to : NodeState)
+    → old' ≡ old → new ≡ new' → end ≡ end' → Served board old' from end' new' to → Served board old from end new to
+served_by board old old' new new' end end' from to begun ended same s =
+    let E : SessionEnd → Type 0 = λ w. Served board old' from w new' to in
+    let N : Wire → Type 0 = λ w. Served board old' from end w to in
+    let O : Wire → Type 0 = λ w. Served board w from end new to in
+    subst O begun (subst N (sym ended) (subst E (sym same) s))
 
 -- what holds of an answer, by what else holds of it
 pub ok_map : {T E : Type 0} (r : Result T E) (P Q : T → Type 0) → ((x : T) → P x → Q x) → IfOk r P → IfOk r Q

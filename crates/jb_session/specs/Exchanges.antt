@@ -1,9 +1,10 @@
--- What a session asks on the passes of its node, and what it is answered.
+-- What a session asks of its node, and what it is answered.
 use Rattle.std.specs.Prelude.{◌≡◌, ◌≢◌, ℕ, ◌<◌, List, [], ◌∷◌, length, map, slice_index_or, Option, Some, None, Result, Ok, Err}
-use Rattle.std.specs.Option.{ForSome}
+use Rattle.std.specs.Option.{ForSome, option_map}
 use Rattle.jb_base.specs.declared.user.User.{User}
 use Rattle.jb_conf.specs.declared.board.Board.{Board}
 use Rattle.jb_conf.specs.declared.board.BoardUser.{BoardUser}
+use Rattle.jb_host.specs.Readings.{reading_of, readings_after}
 use Rattle.jb_index.specs.Answer.{answer_to, unread_to}
 use Rattle.jb_menu.specs.declared.given.Given.{Given}
 use Rattle.jb_menu.specs.declared.given.Given.TheVariants as given
@@ -34,16 +35,31 @@ asks_of exchanges = map (λ exchange. exchange.request) exchanges
 abbrev pub answers_of : List Exchange → List Given
 answers_of exchanges = map (λ exchange. exchange.given) exchanges
 
+-- a node or the packer, with what it asks by: the readings that its clock will give, where it tells them, and a pass of each area, in order
+pub record NodeState : Type 0 where
+  pub readings : Option (List ℕ)
+  pub passes : List PassView
+
+-- one with these
+abbrev pub node_with : Option (List ℕ) → List PassView → NodeState
+node_with readings passes = record { readings = readings; passes = passes }
+
 -- there are as many passes as areas, one of each in order
 pub record AreOf {D : Type 0} (areas : List (SharedArea D)) (passes : List PassView) : Type 0 where
   pub count : length areas ≡ length passes
   pub each : (k : ℕ) (area : SharedArea D) (pass : PassView) → k < length areas → IsOf (slice_index_or areas k area) (slice_index_or passes k pass)
 
--- the clock shows this reading, where it tells one
-module _ (reading : Option ℕ) where
+-- the readings that are left behind an act: a command takes the next, a look and a count take none
+abbrev pub left_by : Act → Option (List ℕ) → Option (List ℕ)
+left_by (Ask command) readings = option_map readings_after readings
+left_by (Look question) readings = readings
+left_by Count readings = readings
+
+-- the readings that the clock tells as the act is done
+module _ (readings : Option (List ℕ)) where
   -- the command is asked on a pass as its node's next call, at the moment that the clock shows
   abbrev pub AsksPass : User → Command → Known → Known → Result Reply SharedError → Type 0
-  AsksPass user command old new result = (moment : ℕ) × ForSome reading (λ shown. moment ≡ shown) × Calls old new user moment command result
+  AsksPass user command old new result = (moment : ℕ) × ForSome readings (λ all. moment ≡ reading_of all) × Calls old new user moment command result
 
   -- how a pass answers an act of the user: a call with its reply or the fault that stopped it, a look and a count by what they show,
   -- or that they were not let in
@@ -64,30 +80,32 @@ module _ (reading : Option ℕ) where
   Wants user (Look question) old new = Looks old new
   Wants user Count old new = ⊥
 
-  module _ (board : Board) where
-    -- on the pass of the area that is asked, for the user of the board who asks; the other passes stay
-    pub record Happens (request : Request) (happens : User → Known → Known → Type 0) (old new : List PassView) : Type 0 where
-      pub user : request.user < length board.users
-      pub area : request.area < length old
-      pub does : (user : BoardUser) (pass : PassView)
-          → happens (slice_index_or board.users request.user user).user (slice_index_or old request.area pass).known (slice_index_or new request.area pass).known
-      pub count : length new ≡ length old
-      pub others : (k : ℕ) (pass : PassView) → k ≢ request.area → slice_index_or new k pass ≡ slice_index_or old k pass
+module _ (board : Board) where
+  -- on the pass of the area that is asked, for the user of the board who asks; the other passes stay. The clock moves on for a command
+  pub record Happens (request : Request) (happens : User → Known → Known → Type 0) (old new : NodeState) : Type 0 where
+    pub user : request.user < length board.users
+    pub area : request.area < length old.passes
+    pub does : (user : BoardUser) (pass : PassView) → happens (slice_index_or board.users request.user user).user
+        (slice_index_or old.passes request.area pass).known (slice_index_or new.passes request.area pass).known
+    pub clock : new.readings ≡ left_by request.act old.readings
+    pub count : length new.passes ≡ length old.passes
+    pub others : (k : ℕ) (pass : PassView) → k ≢ request.area → slice_index_or new.passes k pass ≡ slice_index_or old.passes k pass
 
-    -- a request was answered
-    abbrev pub Exchanged : Exchange → List PassView → List PassView → Type 0
-    Exchanged exchange old new = Happens exchange.request (λ user before after. GivesAnswer user exchange.request.act before after exchange.given) old new
+  -- a request was answered
+  abbrev pub Exchanged : Exchange → NodeState → NodeState → Type 0
+  Exchanged exchange old new =
+      Happens exchange.request (λ user before after. GivesAnswer old.readings user exchange.request.act before after exchange.given) old new
 
-    -- a request was made, and memory was wanting for its answer
-    abbrev pub Lacks : Request → List PassView → List PassView → Type 0
-    Lacks request old new = Happens request (λ user before after. Wants user request.act before after) old new
+  -- a request was made, and memory was wanting for its answer
+  abbrev pub Lacks : Request → NodeState → NodeState → Type 0
+  Lacks request old new = Happens request (λ user before after. Wants old.readings user request.act before after) old new
 
-    -- the requests were made one after the other on these passes, and so answered
-    abbrev pub Passed : List PassView → List Exchange → List PassView → Type 0
-    Passed old [] new = new ≡ old
-    Passed old (exchange ∷ exchanges) new = (mid : List PassView) × Exchanged exchange old mid × Passed mid exchanges new
+  -- the requests were made one after the other of this node, and so answered
+  abbrev pub Passed : NodeState → List Exchange → NodeState → Type 0
+  Passed old [] new = new ≡ old
+  Passed old (exchange ∷ exchanges) new = (mid : NodeState) × Exchanged exchange old mid × Passed mid exchanges new
 
-    -- a last request, where there was one, that memory was wanting for
-    abbrev pub PassedLast : List PassView → Option Request → List PassView → Type 0
-    PassedLast old None new = new ≡ old
-    PassedLast old (Some request) new = Lacks request old new
+  -- a last request, where there was one, that memory was wanting for
+  abbrev pub PassedLast : NodeState → Option Request → NodeState → Type 0
+  PassedLast old None new = new ≡ old
+  PassedLast old (Some request) new = Lacks request old new

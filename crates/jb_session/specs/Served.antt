@@ -6,14 +6,13 @@ use Rattle.jb_limits.specs.declared.limits.TheConstants.{MOST_SESSION_BYTES}
 use Rattle.jb_conf.specs.declared.board.Board.{Board}
 use Rattle.jb_host.specs.Wire.{Wire, Sends, Takes}
 use Rattle.jb_menu.specs.declared.given.Given.{Given}
-use Rattle.jb_shared.specs.Passes.{PassView}
 use Rattle.jb_talk.specs.Conversations.{Talks}
 use Rattle.jb_talk.specs.Laws.{IsFront}
 use Rattle.jb_talk.specs.Talking.{HasTalked, Talking}
 use Rattle.jb_talk.specs.declared.request.Request.{Request}
 use Rattle.jb_talk.specs.declared.standing.TalkEnd.{TalkEnd}
 use Rattle.jb_talk.specs.declared.standing.TalkEnd.TheVariants as talk
-use Rattle.jb_session.specs.Exchanges.{Exchange, Passed, PassedLast, answers_of, asks_of}
+use Rattle.jb_session.specs.Exchanges.{Exchange, NodeState, Passed, PassedLast, answers_of, asks_of}
 use Rattle.jb_session.specs.declared.end.SessionEnd.{SessionEnd}
 use Rattle.jb_session.specs.declared.end.SessionEnd.TheVariants.{Quit, Hangup, LoginRefused, LinkFault, Spent, OutOfMemory}
 
@@ -52,18 +51,18 @@ abbrev pub MayLack : SessionEnd → Option Request → Type 0
 MayLack OutOfMemory last = Unit
 MayLack _ last = last ≡ None
 
-module _ (reading : Option ℕ) (board : Board) where
-  -- a session from its greeting to its end, with a clock that shows this reading: the bytes taken, the requests and their
-  -- answers on the passes, and the bytes sent; no write failed but where the link is said to have
-  pub record Served (old : Wire) (from : List PassView) (end : SessionEnd) (new : Wire) (to : List PassView) : Type 0 where
+module _ (board : Board) where
+  -- a session from its greeting to its end: the bytes taken, the requests that were made of its node and their answers, and the bytes
+  -- sent; no write failed but where the link is said to have
+  pub record Served (old : Wire) (from : NodeState) (end : SessionEnd) (new : Wire) (to : NodeState) : Type 0 where
     pub taken : List ℕ
     pub within : length taken ≤ MOST_SESSION_BYTES
     pub takes : Takes old.to_come taken new.to_come
     pub exchanges : List Exchange
-    pub mid : List PassView
-    pub passed : Passed reading board from exchanges mid
+    pub mid : NodeState
+    pub passed : Passed board from exchanges mid
     pub last : Option Request
-    pub lacks : PassedLast reading board mid last to
+    pub lacks : PassedLast board mid last to
     pub only : MayLack end last
     pub out : List ℕ
     pub sends : Sends old.sent out new.sent
@@ -73,12 +72,12 @@ module _ (reading : Option ℕ) (board : Board) where
 
   -- a session in its middle: of the bytes taken, the talk has heard all but the rest, and what it has handed out was sent and
   -- asked, but for the next request
-  pub record Stands (old : Wire) (from : List PassView) (now : Wire) (rest : List ℕ) (talking : Talking) (next : Option Request) (to : List PassView) : Type 0 where
+  pub record Stands (old : Wire) (from : NodeState) (now : Wire) (rest : List ℕ) (talking : Talking) (next : Option Request) (to : NodeState) : Type 0 where
     pub heard : List ℕ
     pub within : length heard + length rest ≤ MOST_SESSION_BYTES
     pub takes : Takes old.to_come (heard ++ rest) now.to_come
     pub exchanges : List Exchange
-    pub passed : Passed reading board from exchanges to
+    pub passed : Passed board from exchanges to
     pub out : List ℕ
     pub sends : Sends old.sent out now.sent
     pub later : Later old now

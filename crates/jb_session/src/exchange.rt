@@ -1,10 +1,12 @@
 //! One request, done on the area that it asks.
-ghost use Rattle.std.specs.Prelude.{◌≡◌, ◌<◌, ◌≤◌, ℕ, Option, false, length, IfOk, OnErr};
+ghost use Rattle.std.specs.Prelude.{◌≡◌, ◌<◌, ◌≤◌, ℕ, List, Option, false, length, IfOk, OnErr};
 ghost use Rattle.jb_limits.specs.declared.limits.TheConstants.{MOST_NAME_BYTES};
+ghost use Rattle.std.specs.Option.{option_map};
+ghost use Rattle.jb_host.specs.Readings.{readings_after};
 ghost use Rattle.jb_shared.specs.Areas.{IsOf};
 ghost use Rattle.jb_talk.specs.Asking.{is_line};
 ghost use Rattle.jb_talk.specs.declared.request.Act.{Act};
-ghost use Rattle.jb_session.specs.Exchanges.{AreOf, Exchanged, GivesAnswer, Lacks, Wants};
+ghost use Rattle.jb_session.specs.Exchanges.{AreOf, Exchanged, GivesAnswer, Lacks, Wants, left_by, node_with};
 
 use jb_base::{OutOfMemory, User};
 use jb_conf::Board;
@@ -18,7 +20,7 @@ use jb_talk::{Act, Request};
 use std::alloc::Global;
 use std::sync::Wait;
 
-/// Asks a command, at the moment that the clock shows. `has_settled` is then whether that has ended a doubt.
+/// Asks a command, at the moment that the clock shows, which is read once. `has_settled` is then whether that has ended a doubt.
 fn call<R: Wait, D: Disk, C: Clock>(
     rt: &R,
     alloc: Global,
@@ -32,10 +34,10 @@ fn call<R: Wait, D: Disk, C: Clock>(
     requires ours { IsOf area.now pass.old }
     requires name { length user.now.name ≤ MOST_NAME_BYTES }
     ensures ours { IsOf area.now pass.new }
-    ensures clock { C.reading clock.new ≡ C.reading clock.old }
-    ensures ok { IfOk result (λ given. GivesAnswer (C.reading clock.old) user.now
+    ensures clock { C.readings clock.new ≡ option_map readings_after (C.readings clock.old) }
+    ensures ok { IfOk result (λ given. GivesAnswer (C.readings clock.old) user.now
         (Act.Ask command.now) pass.old.known pass.new.known given) }
-    ensures err { OnErr result (Wants (C.reading clock.old) user.now
+    ensures err { OnErr result (Wants (C.readings clock.old) user.now
         (Act.Ask command.now) pass.old.known pass.new.known) }
 {
     let moment = clock.now();
@@ -61,10 +63,10 @@ fn look<D: Disk>(
 ) -> Result<Given, OutOfMemory>
     requires ours { IsOf area.now pass.old }
     ensures ours { IsOf area.now pass.new }
-    ensures ok { (reading : Option ℕ) → IfOk result (λ given.
-        GivesAnswer reading user.now (Act.Look question.now) pass.old.known pass.new.known given) }
-    ensures err { (reading : Option ℕ) → OnErr result
-        (Wants reading user.now (Act.Look question.now) pass.old.known pass.new.known) }
+    ensures ok { (readings : Option (List ℕ)) → IfOk result (λ given.
+        GivesAnswer readings user.now (Act.Look question.now) pass.old.known pass.new.known given) }
+    ensures err { (readings : Option (List ℕ)) → OnErr result
+        (Wants readings user.now (Act.Look question.now) pass.old.known pass.new.known) }
 {
     match area.look(pass, user, question) {
         Ok(answer) => Ok(Given::Answer(answer)),
@@ -77,8 +79,8 @@ fn look<D: Disk>(
 fn count<D: Disk>(area: &SharedArea<D>, pass: &mut Pass, user: &User) -> Given
     requires ours { IsOf area.now pass.old }
     ensures ours { IsOf area.now pass.new }
-    ensures ok { (reading : Option ℕ)
-        → GivesAnswer reading user.now Act.Count pass.old.known pass.new.known result }
+    ensures ok { (readings : Option (List ℕ))
+        → GivesAnswer readings user.now Act.Count pass.old.known pass.new.known result }
 {
     match area.unread_count(pass, user) {
         Ok(unread) => Given::Count(unread),
@@ -100,10 +102,10 @@ fn act<R: Wait, D: Disk, C: Clock>(
     requires ours { IsOf area.now pass.old }
     requires name { length user.now.name ≤ MOST_NAME_BYTES }
     ensures ours { IsOf area.now pass.new }
-    ensures clock { C.reading clock.new ≡ C.reading clock.old }
+    ensures clock { C.readings clock.new ≡ left_by act.now (C.readings clock.old) }
     ensures ok { IfOk result (λ given. GivesAnswer
-        (C.reading clock.old) user.now act.now pass.old.known pass.new.known given) }
-    ensures err { OnErr result (Wants (C.reading clock.old) user.now act.now pass.old.known pass.new.known) }
+        (C.readings clock.old) user.now act.now pass.old.known pass.new.known given) }
+    ensures err { OnErr result (Wants (C.readings clock.old) user.now act.now pass.old.known pass.new.known) }
 {
     match act {
         Act::Ask(command) => call(rt, alloc, area, pass, clock, user, command, has_settled),
@@ -128,11 +130,11 @@ pub(crate) fn exchange<R: Wait, D: Disk, C: Clock>(
     requires area { request.now.area < length areas.now }
     requires ours { AreOf areas.now passes.old }
     ensures ours { AreOf areas.now passes.new }
-    ensures clock { C.reading clock.new ≡ C.reading clock.old }
     ensures answer { IfOk result (λ given. is_line given ≡ false) }
-    ensures ok { IfOk result (λ given. Exchanged (C.reading clock.old) board.now
-        (record { request = request.now; given = given }) passes.old passes.new) }
-    ensures err { OnErr result (Lacks (C.reading clock.old) board.now request.now passes.old passes.new) }
+    ensures ok { IfOk result (λ given. Exchanged board.now (record { request = request.now; given = given })
+        (node_with (C.readings clock.old) passes.old) (node_with (C.readings clock.new) passes.new)) }
+    ensures err { OnErr result (Lacks board.now request.now
+        (node_with (C.readings clock.old) passes.old) (node_with (C.readings clock.new) passes.new)) }
 {
     let user = &board.users.as_slice()[request.user as usize].user;
     let k = request.area as usize;

@@ -152,14 +152,13 @@ impl Log {
     pub(crate) fn end<L: Link, C: Clock>(
         &self,
         link: &mut L,
-        clock: &mut C,
+        clock: &C,
         end: SessionEnd,
     ) -> SessionEnd
         ensures same { result ≡ end }
         ensures wire { L.wire link.new ≡ L.wire link.old }
-        ensures clock { C.reading clock.new ≡ C.reading clock.old }
     {
-        let seconds = clock.now().saturating_sub(self.since);
+        let seconds = clock.glance().saturating_sub(self.since);
         let mut line = Line::new();
         let _ = write!(line, "ended after {seconds} s: {}", words_of(end));
         if let Some(name) = &self.user {

@@ -1,11 +1,11 @@
 //! What a talk owes, sent; and a piece for it, read.
-ghost use Rattle.std.specs.Prelude.{◌≡◌, ◌<◌, ◌≤◌, ℕ, List, [], None, Option, IfOk, OnErr, OnOk, length, take};
+ghost use Rattle.std.specs.Prelude.{◌≡◌, ◌<◌, ◌≤◌, ℕ, List, [], None, IfOk, OnErr, OnOk, length, take};
 ghost use Rattle.std.specs.Option.{ForSome};
 ghost use Rattle.jb_bytes.specs.Fault.{HasCause, Rose};
 ghost use Rattle.jb_conf.specs.declared.board.Board.{Board};
 ghost use Rattle.jb_host.specs.Wire.{Takes, Wire};
-ghost use Rattle.jb_shared.specs.Passes.{PassView};
 ghost use Rattle.jb_talk.specs.Talking.{Hands};
+ghost use Rattle.jb_session.specs.Exchanges.{NodeState};
 ghost use Rattle.jb_session.specs.Served.{Served, Stands};
 ghost use Rattle.jb_session.specs.declared.end.SessionEnd.TheVariants.{LinkFault};
 
@@ -19,14 +19,14 @@ pub(crate) fn send_owed<L: Link>(link: &mut L, talk: &mut Talk) -> Result<(), Li
     ensures hands { OnOk result ((board : Board) → Hands board talk.old None → Hands board talk.new None) }
 
     // What was said, and how the session ends.
-    ensures ok { OnOk result ((reading : Option ℕ) (board : Board) (old : Wire)
-        (from to : List PassView) (rest : List ℕ)
-        → Stands reading board old from (L.wire link.old) rest talk.old None to
-        → Stands reading board old from (L.wire link.new) rest talk.new None to) }
-    ensures err { OnErr result ((reading : Option ℕ) (board : Board) (old : Wire)
-        (from to : List PassView) (rest : List ℕ)
-        → Stands reading board old from (L.wire link.old) rest talk.old None to
-        → Served reading board old from LinkFault (L.wire link.new) to) }
+    ensures ok { OnOk result ((board : Board) (old : Wire)
+        (from to : NodeState) (rest : List ℕ)
+        → Stands board old from (L.wire link.old) rest talk.old None to
+        → Stands board old from (L.wire link.new) rest talk.new None to) }
+    ensures err { OnErr result ((board : Board) (old : Wire)
+        (from to : NodeState) (rest : List ℕ)
+        → Stands board old from (L.wire link.old) rest talk.old None to
+        → Served board old from LinkFault (L.wire link.new) to) }
 {
     conversations_are_one();
     let Ok(()) = send(link, talk.owed()) else {
@@ -46,14 +46,14 @@ pub(crate) fn relieve<L: Link>(link: &mut L, talk: &mut Talk) -> Result<(), Link
     ensures hands { OnOk result ((board : Board) → Hands board talk.old None → Hands board talk.new None) }
 
     // What was said, and how the session ends.
-    ensures ok { OnOk result ((reading : Option ℕ) (board : Board) (old : Wire)
-        (from to : List PassView) (rest : List ℕ)
-        → Stands reading board old from (L.wire link.old) rest talk.old None to
-        → Stands reading board old from (L.wire link.new) rest talk.new None to) }
-    ensures err { OnErr result ((reading : Option ℕ) (board : Board) (old : Wire)
-        (from to : List PassView) (rest : List ℕ)
-        → Stands reading board old from (L.wire link.old) rest talk.old None to
-        → Served reading board old from LinkFault (L.wire link.new) to) }
+    ensures ok { OnOk result ((board : Board) (old : Wire)
+        (from to : NodeState) (rest : List ℕ)
+        → Stands board old from (L.wire link.old) rest talk.old None to
+        → Stands board old from (L.wire link.new) rest talk.new None to) }
+    ensures err { OnErr result ((board : Board) (old : Wire)
+        (from to : NodeState) (rest : List ℕ)
+        → Stands board old from (L.wire link.old) rest talk.old None to
+        → Served board old from LinkFault (L.wire link.new) to) }
 {
     if talk.owed().len() > MOST_OWED {
         return send_owed(link, talk);

@@ -3,11 +3,10 @@ ghost use Rattle.std.specs.Prelude.{◌≡◌, ◌+◌, ◌<◌, ◌≤◌, ℕ,
 ghost use Rattle.std.specs.Option.{is_some};
 ghost use Rattle.jb_limits.specs.declared.limits.TheConstants.{MOST_SESSION_BYTES};
 ghost use Rattle.jb_host.specs.Wire.{Wire};
-ghost use Rattle.jb_shared.specs.Passes.{PassView};
 ghost use Rattle.jb_talk.specs.Asking.{most_asked};
 ghost use Rattle.jb_talk.specs.Talking.{Hands, HasTalked, most_wanted};
 ghost use Rattle.jb_talk.specs.declared.request.Request.{Request};
-ghost use Rattle.jb_session.specs.Exchanges.{AreOf};
+ghost use Rattle.jb_session.specs.Exchanges.{AreOf, NodeState, node_with};
 ghost use Rattle.jb_session.specs.Served.{Served, Stands};
 
 use crate::end::{SessionEnd, ended};
@@ -41,19 +40,18 @@ fn respond<R: Wait, D: Disk, L: Link, C: Clock>(
     requires hands { Hands board.now talk.old (Some request.now) }
     ensures ours { AreOf areas.now passes.new }
     ensures wire { L.wire link.new ≡ L.wire link.old }
-    ensures clock { C.reading clock.new ≡ C.reading clock.old }
     ensures hands { IfOk result (λ next. Hands board.now talk.new next) }
     ensures counted { OnOk result (talk.new.taken ≡ talk.old.taken) }
     ensures fewer { IfOk result (λ next. is_some next ≡ true
         → most_asked board.now talk.new.place.menu < most_asked board.now talk.old.place.menu) }
 
     // What was said and asked, and how the session ends where memory is wanting.
-    ensures ok { IfOk result (λ next. (old now : Wire) (from : List PassView) (rest : List ℕ)
-        → Stands (C.reading clock.old) board.now old from now rest talk.old (Some request.now) passes.old
-        → Stands (C.reading clock.old) board.now old from now rest talk.new next passes.new) }
-    ensures err { OnErr result ((old now : Wire) (from : List PassView) (rest : List ℕ)
-        → Stands (C.reading clock.old) board.now old from now rest talk.old (Some request.now) passes.old
-        → Served (C.reading clock.old) board.now old from SessionEnd.OutOfMemory now passes.new) }
+    ensures ok { IfOk result (λ next. (old now : Wire) (from : NodeState) (rest : List ℕ)
+        → Stands board.now old from now rest talk.old (Some request.now) (node_with (C.readings clock.old) passes.old)
+        → Stands board.now old from now rest talk.new next (node_with (C.readings clock.new) passes.new)) }
+    ensures err { OnErr result ((old now : Wire) (from : NodeState) (rest : List ℕ)
+        → Stands board.now old from now rest talk.old (Some request.now) (node_with (C.readings clock.old) passes.old)
+        → Served board.now old from SessionEnd.OutOfMemory now (node_with (C.readings clock.new) passes.new)) }
 {
     conversations_are_one();
     log.ask(link, request);
@@ -90,17 +88,16 @@ fn respond_all<R: Wait, D: Disk, L: Link, C: Clock>(
     requires hands { Hands board.now talk.old first }
     ensures ours { AreOf areas.now passes.new }
     ensures wire { L.wire link.new ≡ L.wire link.old }
-    ensures clock { C.reading clock.new ≡ C.reading clock.old }
     ensures hands { OnOk result (Hands board.now talk.new None) }
     ensures counted { OnOk result (talk.new.taken ≡ talk.old.taken) }
 
     // What was said and asked, and how the session ends where memory is wanting.
-    ensures ok { OnOk result ((old now : Wire) (from : List PassView) (rest : List ℕ)
-        → Stands (C.reading clock.old) board.now old from now rest talk.old first passes.old
-        → Stands (C.reading clock.old) board.now old from now rest talk.new None passes.new) }
-    ensures err { OnErr result ((old now : Wire) (from : List PassView) (rest : List ℕ)
-        → Stands (C.reading clock.old) board.now old from now rest talk.old first passes.old
-        → Served (C.reading clock.old) board.now old from SessionEnd.OutOfMemory now passes.new) }
+    ensures ok { OnOk result ((old now : Wire) (from : NodeState) (rest : List ℕ)
+        → Stands board.now old from now rest talk.old first (node_with (C.readings clock.old) passes.old)
+        → Stands board.now old from now rest talk.new None (node_with (C.readings clock.new) passes.new)) }
+    ensures err { OnErr result ((old now : Wire) (from : NodeState) (rest : List ℕ)
+        → Stands board.now old from now rest talk.old first (node_with (C.readings clock.old) passes.old)
+        → Served board.now old from SessionEnd.OutOfMemory now (node_with (C.readings clock.new) passes.new)) }
 {
     let mut next = first;
     while let Some(request) = next {
@@ -143,20 +140,19 @@ fn hear<R: Wait, D: Disk, L: Link, C: Clock>(
     requires room { talk.old.taken + length piece.now ≤ MOST_SESSION_BYTES }
     ensures ours { AreOf areas.now passes.new }
     ensures wire { L.wire link.new ≡ L.wire link.old }
-    ensures clock { C.reading clock.new ≡ C.reading clock.old }
     ensures hands { OnOk result (Hands board.now talk.new None) }
     ensures within { IfOk result (λ heard. heard ≤ length piece.now) }
     ensures some { IfOk result (λ heard. 0 < length piece.now → 0 < heard) }
     ensures counted { IfOk result (λ heard. talk.new.taken ≡ talk.old.taken + heard) }
 
     // What was said and asked, and how the session ends where memory is wanting.
-    ensures ok { IfOk result (λ heard. (old now : Wire) (from : List PassView)
-        → Stands (C.reading clock.old) board.now old from now piece.now talk.old None passes.old
-        → Stands (C.reading clock.old) board.now old from now
-        (drop heard piece.now) talk.new None passes.new) }
-    ensures err { OnErr result ((old now : Wire) (from : List PassView)
-        → Stands (C.reading clock.old) board.now old from now piece.now talk.old None passes.old
-        → Served (C.reading clock.old) board.now old from SessionEnd.OutOfMemory now passes.new) }
+    ensures ok { IfOk result (λ heard. (old now : Wire) (from : NodeState)
+        → Stands board.now old from now piece.now talk.old None (node_with (C.readings clock.old) passes.old)
+        → Stands board.now old from now
+        (drop heard piece.now) talk.new None (node_with (C.readings clock.new) passes.new)) }
+    ensures err { OnErr result ((old now : Wire) (from : NodeState)
+        → Stands board.now old from now piece.now talk.old None (node_with (C.readings clock.old) passes.old)
+        → Served board.now old from SessionEnd.OutOfMemory now (node_with (C.readings clock.new) passes.new)) }
 {
     conversations_are_one();
     log.look(talk);
@@ -195,17 +191,16 @@ fn take<R: Wait, D: Disk, L: Link, C: Clock>(
     requires hands { Hands board.now talk.old None }
     requires room { talk.old.taken + length piece.now ≤ MOST_SESSION_BYTES }
     ensures ours { AreOf areas.now passes.new }
-    ensures clock { C.reading clock.new ≡ C.reading clock.old }
     ensures hands { OnOk result (Hands board.now talk.new None) }
     ensures counted { OnOk result (talk.new.taken ≡ talk.old.taken + length piece.now) }
 
     // What was said and asked, and how the session ends.
-    ensures ok { OnOk result ((old : Wire) (from : List PassView)
-        → Stands (C.reading clock.old) board.now old from (L.wire link.old) piece.now talk.old None passes.old
-        → Stands (C.reading clock.old) board.now old from (L.wire link.new) [] talk.new None passes.new) }
-    ensures err { IfErr result (λ end. (old : Wire) (from : List PassView)
-        → Stands (C.reading clock.old) board.now old from (L.wire link.old) piece.now talk.old None passes.old
-        → Served (C.reading clock.old) board.now old from end (L.wire link.new) passes.new) }
+    ensures ok { OnOk result ((old : Wire) (from : NodeState)
+        → Stands board.now old from (L.wire link.old) piece.now talk.old None (node_with (C.readings clock.old) passes.old)
+        → Stands board.now old from (L.wire link.new) [] talk.new None (node_with (C.readings clock.new) passes.new)) }
+    ensures err { IfErr result (λ end. (old : Wire) (from : NodeState)
+        → Stands board.now old from (L.wire link.old) piece.now talk.old None (node_with (C.readings clock.old) passes.old)
+        → Served board.now old from end (L.wire link.new) (node_with (C.readings clock.new) passes.new)) }
 {
     let mut at = 0;
     while at < piece.len() {
@@ -241,18 +236,17 @@ fn turn<R: Wait, D: Disk, L: Link, C: Clock>(
     requires hands { Hands board.now talk.old None }
     requires wants { 0 < most_wanted talk.old }
     ensures ours { AreOf areas.now passes.new }
-    ensures clock { C.reading clock.new ≡ C.reading clock.old }
     ensures hands { OnOk result (Hands board.now talk.new None) }
     ensures taken { OnOk result ((talk.old.taken < talk.new.taken) × (talk.new.taken ≤ MOST_SESSION_BYTES)) }
     ensures owed { OnOk result (talk.new.owed ≡ []) }
 
     // What was said and asked, and how the session ends.
-    ensures ok { OnOk result ((old : Wire) (from : List PassView)
-        → Stands (C.reading clock.old) board.now old from (L.wire link.old) [] talk.old None passes.old
-        → Stands (C.reading clock.old) board.now old from (L.wire link.new) [] talk.new None passes.new) }
-    ensures err { IfErr result (λ end. (old : Wire) (from : List PassView)
-        → Stands (C.reading clock.old) board.now old from (L.wire link.old) [] talk.old None passes.old
-        → Served (C.reading clock.old) board.now old from end (L.wire link.new) passes.new) }
+    ensures ok { OnOk result ((old : Wire) (from : NodeState)
+        → Stands board.now old from (L.wire link.old) [] talk.old None (node_with (C.readings clock.old) passes.old)
+        → Stands board.now old from (L.wire link.new) [] talk.new None (node_with (C.readings clock.new) passes.new)) }
+    ensures err { IfErr result (λ end. (old : Wire) (from : NodeState)
+        → Stands board.now old from (L.wire link.old) [] talk.old None (node_with (C.readings clock.old) passes.old)
+        → Served board.now old from end (L.wire link.new) (node_with (C.readings clock.new) passes.new)) }
 {
     conversations_are_one();
     let mut buffer = [0u8; MOST_PIECE_BYTES];
@@ -292,9 +286,8 @@ fn serve_talk<R: Wait, D: Disk, L: Link, C: Clock>(
     requires hands { Hands board.now talk.old None }
     requires fits { HasTalked board.now talk.old [] [] [] [] }
     ensures ours { AreOf areas.now passes.new }
-    ensures clock { C.reading clock.new ≡ C.reading clock.old }
-    ensures served { Served (C.reading clock.old) board.now (L.wire link.old) passes.old result
-        (L.wire link.new) passes.new }
+    ensures served { Served board.now (L.wire link.old) (node_with (C.readings clock.old) passes.old) result
+        (L.wire link.new) (node_with (C.readings clock.new) passes.new) }
 {
     conversations_are_one();
     let Ok(()) = send_owed(link, talk) else {
@@ -325,12 +318,11 @@ pub fn serve_session<R: Wait, D: Disk, L: Link, C: Clock>(
     requires areas { length areas.now ≡ length board.now.areas }
     requires ours { AreOf areas.now passes.old }
     ensures ours { AreOf areas.now passes.new }
-    ensures clock { C.reading clock.new ≡ C.reading clock.old }
-    ensures served { Served (C.reading clock.old) board.now (L.wire link.old) passes.old result
-        (L.wire link.new) passes.new }
+    ensures served { Served board.now (L.wire link.old) (node_with (C.readings clock.old) passes.old) result
+        (L.wire link.new) (node_with (C.readings clock.new) passes.new) }
 {
     conversations_are_one();
-    let mut log = Log::begin(link, clock.now());
+    let mut log = Log::begin(link, clock.glance());
     let Ok(mut talk) = Talk::start(alloc, board) else {
         return log.end(link, clock, SessionEnd::OutOfMemory);
     };

@@ -1,5 +1,6 @@
 //! What is in memory and what nothing else runs: disks, a link, a console and clocks.
 
+use arrayvec::ArrayVec;
 use jb_bytes::Bytes;
 use jb_disk::{Disk, FileId, MemDisk, SilentDisk, SteadyDisk};
 use jb_host::{Clock, Host, Link, MemHost, MemLink, send};
@@ -22,14 +23,22 @@ pub(crate) fn link_of(row: &Row, place: usize, from: usize, words: &mut Words) -
     MemLink::new(words.alloc, input, failing)
 }
 
-/// `clock READING`: what a clock of a host with this reading gives, and then another.
+/// `clock READING..`: what a clock of a host with these readings gives in three calls, and then what another shows and gives.
 pub(crate) fn put_clock(row: &Row, words: &mut Words) {
     let alloc = words.alloc;
     let link = MemLink::new(alloc, Bytes::new(alloc), Vec::new(alloc));
-    let mut host = MemHost::new(alloc, link, row.u32(1, words), Vec::new(alloc));
-    for _ in 0..2 {
-        words.number(u64::from(host.clock().now()));
+    let mut readings = ArrayVec::new();
+    for place in 1..row.len() {
+        let _ = readings.try_push(row.u32(place, words));
     }
+    let mut host = MemHost::new(alloc, link, readings, Vec::new(alloc));
+    let mut first = host.clock();
+    for _ in 0..3 {
+        words.number(u64::from(first.now()));
+    }
+    let mut second = host.clock();
+    words.number(u64::from(second.glance()));
+    words.number(u64::from(second.now()));
 }
 
 /// `console INPUT OUTPUT`: what a host whose console has this input answers for its console once that is out, whether the output is
@@ -38,7 +47,7 @@ pub(crate) fn put_console(row: &Row, words: &mut Words) {
     let alloc = words.alloc;
     let output = row.bytes(2, words);
     let link = link_of(row, 1, 3, words);
-    let mut host = MemHost::new(alloc, link, 0, Vec::new(alloc));
+    let mut host = MemHost::new(alloc, link, ArrayVec::new(), Vec::new(alloc));
     let mut console = host.console();
     put_at_console(&host, words);
     words.truth(send(&mut console, output.as_slice()).is_ok());

@@ -14,6 +14,7 @@ mod record;
 mod showing;
 mod tearing;
 
+use arrayvec::ArrayVec;
 use jb_bytes::Bytes;
 use jb_disk::{FileId, MemDisk, SilentDisk, SteadyDisk};
 use jb_host::{MemBell, MemDoor, MemHost, MemLink};
@@ -51,7 +52,7 @@ impl Outside {
     // A host that fails the calls with these numbers, without a disk.
     fn new(alloc: Global, failing: Vec<u64>) -> Outside {
         Outside {
-            host: MemHost::new(alloc, no_link(alloc), 0, failing),
+            host: MemHost::new(alloc, no_link(alloc), ArrayVec::new(), failing),
             disks: Vec::new(alloc),
             doors: Vec::new(alloc),
             bells: Vec::new(alloc),

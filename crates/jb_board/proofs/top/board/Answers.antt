@@ -1,8 +1,9 @@
-use Rattle.std.proofs.Common.{◌≡◌, ◌∙◌, ℕ, ap, subst}
+use Rattle.std.proofs.Common.{◌≡◌, ◌∙◌, ℕ, List, ap, subst}
 use Rattle.std.specs.Prelude.{Option, Some, map}
 use Rattle.std.specs.Option.{ForSome}
 use Rattle.std.specs.String.{string_bytes}
 use Rattle.jb_host.specs.Desk.{Desk}
+use Rattle.jb_host.specs.Readings.{reading_of}
 use Rattle.jb_board.specs.Run.{AnswersWords}
 use Rattle.jb_board.specs.Words.{command_line_of}
 use Rattle.jb_board.proofs.top.board.Goals as goal
@@ -16,7 +17,7 @@ returns g c =
     let said = c.answer-answer.result in
     record {
       moment = moment;
-      shown = subst (λ (r : Option ℕ). ForSome r (λ reading. moment ≡ reading)) c.clock-clock.ensures.gives c.now-moment.ensures.told;
+      shown = subst (λ (r : Option (List ℕ)). ForSome r (λ readings. moment ≡ reading_of readings)) c.clock-clock.ensures.gives c.now-moment.ensures.told;
       answer = said;
       mid = mid;
       answers = subst (λ (d : Desk). AnswersWords words moment d mid said) c.clock-clock.ensures.same c.answer-answer.ensures.found;

@@ -53,6 +53,6 @@ returns g c = λ path old has.
     let all = ap (λ (list : List BoardArea). take (length after.areas.items) list) c.as_slice-2.ensures ∙ ap (λ (n : ℕ). take n areas) whole.areas ∙ take-length areas in
     let only : nodes ≡ to ∷ [] = only_list nodes (length-lists_of after.nodes.items ∙ whole.lists) in
     serves_one path c.args.board.now old read opened served new c.serve-session.result doubtful
-    shared to serves.0 serves.1 has opens serves.2 serves.3 serves.4 (whole.passes 0 (omega arith))
+    shared to serves.2 serves.0 serves.1 has opens serves.3 serves.4 serves.5 (whole.passes 0 (omega arith))
     (subst (λ (lists : List (List PassView)). ClosesAll areas lists served new doubtful) only
     (subst (λ (done : List BoardArea). ClosesAll done nodes served new doubtful) all c.close_areas-is_doubtful.ensures))

@@ -13,7 +13,7 @@ returns-clause-ok g c =
     record {
       worker = Node (record { node = c.len-place.result + 1; door = c.in_ok-door.door; clock = c.clock-clock.result; passes = c.take_passes-passes.result; tally = c.new.result });
       is = c.push_reserved.ensures.items;
-      ready = (ap (λ (n : ℕ). n + 1) count, c.clock-clock.ensures.gives ∙ gives.rest.reading, c.new.ensures);
+      ready = (ap (λ (n : ℕ). n + 1) count, c.clock-clock.ensures.gives ∙ gives.rest.readings, c.new.ensures);
       gives = subst (λ (d : Desk). GivesDoor (length c.args.workers.now.items + 1) c.args.board.now.port c.args.calls (g.H.Door.Door.gate c.in_ok-door.door) (g.H.Host.desk c.args.host.now) d) (sym same)
           (subst (λ (n : ℕ). GivesDoor (n + 1) c.args.board.now.port c.args.calls (g.H.Door.Door.gate c.in_ok-door.door) (g.H.Host.desk c.args.host.now) (g.H.Host.desk c.door.new.self)) count gives);
     }

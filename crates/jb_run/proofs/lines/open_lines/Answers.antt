@@ -9,7 +9,7 @@ loop-alloc-preserved g c =
     let now = c.add_node.new.workers.items in
     let added = c.in_ok-add_node.ensures in
     record {
-      has = has_more g.H.Door.Door.gate g.H.Clock.Clock.reading c.args.board.now c.args.calls at.workers.items now
+      has = has_more g.H.Door.Door.gate g.H.Clock.Clock.readings c.args.board.now c.args.calls at.workers.items now
           (g.H.Host.desk c.args.host.now) (g.H.Host.desk at.host) (g.H.Host.desk c.add_node.new.host) at.invariant.has added.ok;
       rows = added.rows ∙ at.invariant.rows;
       lists = added.lists ∙ at.invariant.lists;

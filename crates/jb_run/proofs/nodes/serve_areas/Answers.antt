@@ -61,7 +61,7 @@ close_areas-is_doubtful-requires-clause-whole g c =
     let same_areas : c.work-door_failed.new.shared ≡ record shared { nodes = now } = c.work-door_failed.ensures.areas in
     let keep : AllKeepStarts (lists_of shared.nodes.items) (lists_of now.items)
     = subst (λ (l : Rows). AllKeepStarts l (lists_of now.items)) rows
-    (λ n within. work_keeps (g.H.Host.desk c.tell_open.new.host).reading board (gates_of g.H.Door.Door.gate workers) worked.gates_after (g.H.Bell.Bell.rings c.in-Ok.bell) worked.rings_after
+    (λ n within. work_keeps (g.H.Host.desk c.tell_open.new.host).readings board (gates_of g.H.Door.Door.gate workers) worked.gates_after (g.H.Bell.Bell.rings c.in-Ok.bell) worked.rings_after
     (map worker_passes workers ++ passes ∷ []) (lists_of now.items) worked.tallies worked.works n within) in
     let ours : AreAllOf shared.areas.items (lists_of now.items)
     = subst (λ (s : SharedAreas D). AreAllOf s.areas.items (lists_of now.items)) same_areas c.work-door_failed.ensures.ours in
@@ -105,7 +105,7 @@ returns-in-Ok-clause-ok g c =
     let same_areas : c.work-door_failed.new.shared ≡ record shared { nodes = now } = c.work-door_failed.ensures.areas in
     let keep : AllKeepStarts (lists_of shared.nodes.items) (lists_of now.items)
     = subst (λ (l : Rows). AllKeepStarts l (lists_of now.items)) rows
-    (λ n within. work_keeps (g.H.Host.desk c.tell_open.new.host).reading board (gates_of g.H.Door.Door.gate workers) worked.gates_after (g.H.Bell.Bell.rings c.in-Ok.bell) worked.rings_after
+    (λ n within. work_keeps (g.H.Host.desk c.tell_open.new.host).readings board (gates_of g.H.Door.Door.gate workers) worked.gates_after (g.H.Bell.Bell.rings c.in-Ok.bell) worked.rings_after
     (map worker_passes workers ++ passes ∷ []) (lists_of now.items) worked.tallies worked.works n within) in
     let ours : AreAllOf shared.areas.items (lists_of now.items)
     = subst (λ (s : SharedAreas D). AreAllOf s.areas.items (lists_of now.items)) same_areas c.work-door_failed.ensures.ours in
@@ -117,12 +117,12 @@ returns-in-Ok-clause-ok g c =
     let closed = g.H.Host.desk c.close_areas-is_doubtful.new.host in
     let new = g.H.Host.desk c.note.new.self in
     let doubtful = c.close_areas-is_doubtful.result in
-    let ready = subst (λ (d : Desk). OpensLines g.H.Door.Door.gate g.H.Clock.Clock.reading board c.args.calls (g.H.Bell.Bell.rings c.in-Ok.bell) workers old d)
+    let ready = subst (λ (d : Desk). OpensLines g.H.Door.Door.gate g.H.Clock.Clock.readings board c.args.calls (g.H.Bell.Bell.rings c.in-Ok.bell) workers old d)
     (sym (c.tell_open.ensures ∙ c.clock-clock.ensures.same)) opened in
     let as_many : length c.work-door_failed.new.shared.areas.items ≡ count = ap (λ (s : SharedAreas D). length s.areas.items) same_areas ∙ c.requires.whole.areas in
     let all : take (length c.work-door_failed.new.shared.areas.items) c.as_slice-in-Ok.result.now ≡ board.areas
     = ap (λ (l : List BoardArea). take (length c.work-door_failed.new.shared.areas.items) l) c.as_slice-in-Ok.ensures ∙ ap (λ (n : ℕ). take n board.areas) as_many ∙ take-length board.areas in
-    runs_on g.H.Door.Door.gate g.H.Clock.Clock.reading board c.args.calls (g.H.Bell.Bell.rings c.in-Ok.bell) workers old rung end new
+    runs_on g.H.Door.Door.gate g.H.Clock.Clock.readings board c.args.calls (g.H.Bell.Bell.rings c.in-Ok.bell) workers old rung end new
     (map worker_passes workers ++ passes ∷ []) (lists_of shared.nodes.items) (lists_of now.items) doubtful c.work-door_failed.result ready rows worked
     (subst (λ (d : Desk). ClosesAll board.areas (lists_of now.items) end d doubtful) (sym c.note.ensures)
     (subst (λ (l : List BoardArea). ClosesAll l (lists_of now.items) end closed doubtful) all c.close_areas-is_doubtful.ensures))

@@ -21,7 +21,7 @@ serve-requires-clause-ours g c κs within =
     let areas = c.args.shared.now.areas.items in
     subst (λ (a : List (SharedArea g.row.H-Disk.Denot)). All (IsAtWork a) c.as_mut_slice.result.now) (sym c.as_slice-areas.ensures.value)
     (subst (λ (l : List W). All (IsAtWork areas) l) (sym slice)
-    (all_at_work areas nodes slot (are_nodes g.H.Clock.Clock.reading (g.H.Host.desk c.args.host.now).reading nodes c.requires.ready) c.requires.ours
+    (all_at_work areas nodes slot (are_nodes g.H.Clock.Clock.readings (g.H.Host.desk c.args.host.now).readings nodes c.requires.ready) c.requires.ours
     (short_name slot.user c.requires.packer.user)))
 
 -- the packer is still the last
@@ -31,10 +31,10 @@ part_packer-requires-clause-last g c =
     let nodes = c.args.crew.nodes.items in
     let slot = c.args.crew.packer in
     let slice : c.as_mut_slice.result.now ≡ nodes ++ Packer slot ∷ [] = c.as_mut_slice.ensures.value ∙ c.push_reserved.ensures.items in
-    let shown = (g.H.Host.desk c.args.host.now).reading in
-    let done = are_done g.H.Door.Door.gate g.H.Bell.Bell.rings g.H.Clock.Clock.reading shown c.args.board.now nodes slot c.serve.new.workers c.requires.ready
+    let told = (g.H.Host.desk c.args.host.now).readings in
+    let done = are_done g.H.Door.Door.gate g.H.Bell.Bell.rings g.H.Clock.Clock.readings told c.args.board.now nodes slot c.serve.new.workers c.requires.ready
     (c.serve.auto.workers ∙ ap length slice ∙ length_push nodes (Packer slot))
-    (subst (λ (l : List W). AllHaveWorked g.H.Door.Door.gate g.H.Bell.Bell.rings g.H.Clock.Clock.reading shown c.args.board.now l c.serve.new.workers) slice c.serve.ensures.worked) in
+    (subst (λ (l : List W). AllHaveWorked g.H.Door.Door.gate g.H.Bell.Bell.rings g.H.Clock.Clock.readings told c.args.board.now l c.serve.new.workers) slice c.serve.ensures.worked) in
     let all : take c.push_reserved.new.self.len (c.serve.new.workers ++ drop (length c.serve.new.workers) c.push_reserved.new.self.items) ≡ c.serve.new.workers
     = take_at c.serve.new.workers (drop (length c.serve.new.workers) c.push_reserved.new.self.items) c.push_reserved.new.self.len
     (c.serve.auto.workers ∙ ap length c.as_mut_slice.ensures.value ∙ sym c.push_reserved.new.self.ok.0) in
@@ -46,15 +46,15 @@ part_nodes-requires-clause-nodes g c =
     let nodes = c.args.crew.nodes.items in
     let slot = c.args.crew.packer in
     let slice : c.as_mut_slice.result.now ≡ nodes ++ Packer slot ∷ [] = c.as_mut_slice.ensures.value ∙ c.push_reserved.ensures.items in
-    let shown = (g.H.Host.desk c.args.host.now).reading in
-    let done = are_done g.H.Door.Door.gate g.H.Bell.Bell.rings g.H.Clock.Clock.reading shown c.args.board.now nodes slot c.serve.new.workers c.requires.ready
+    let told = (g.H.Host.desk c.args.host.now).readings in
+    let done = are_done g.H.Door.Door.gate g.H.Bell.Bell.rings g.H.Clock.Clock.readings told c.args.board.now nodes slot c.serve.new.workers c.requires.ready
     (c.serve.auto.workers ∙ ap length slice ∙ length_push nodes (Packer slot))
-    (subst (λ (l : List W). AllHaveWorked g.H.Door.Door.gate g.H.Bell.Bell.rings g.H.Clock.Clock.reading shown c.args.board.now l c.serve.new.workers) slice c.serve.ensures.worked) in
+    (subst (λ (l : List W). AllHaveWorked g.H.Door.Door.gate g.H.Bell.Bell.rings g.H.Clock.Clock.readings told c.args.board.now l c.serve.new.workers) slice c.serve.ensures.worked) in
     let all : take c.push_reserved.new.self.len (c.serve.new.workers ++ drop (length c.serve.new.workers) c.push_reserved.new.self.items) ≡ c.serve.new.workers
     = take_at c.serve.new.workers (drop (length c.serve.new.workers) c.push_reserved.new.self.items) c.push_reserved.new.self.len
     (c.serve.auto.workers ∙ ap length c.as_mut_slice.ensures.value ∙ sym c.push_reserved.new.self.ok.0) in
     let parts = c.part_packer.ensures.bell in
-    left_nodes g.H.Door.Door.gate g.H.Bell.Bell.rings g.H.Clock.Clock.reading shown c.args.board.now nodes slot c.serve.new.workers c.part_packer.new.workers.items parts.slot
+    left_nodes g.H.Door.Door.gate g.H.Bell.Bell.rings g.H.Clock.Clock.readings told c.args.board.now nodes slot c.serve.new.workers c.part_packer.new.workers.items parts.slot
     done (sym all ∙ parts.is)
 
 pub returns-clause-worked : goal.returns-clause-worked
@@ -63,16 +63,16 @@ returns-clause-worked g c =
     let nodes = c.args.crew.nodes.items in
     let slot = c.args.crew.packer in
     let slice : c.as_mut_slice.result.now ≡ nodes ++ Packer slot ∷ [] = c.as_mut_slice.ensures.value ∙ c.push_reserved.ensures.items in
-    let shown = (g.H.Host.desk c.args.host.now).reading in
-    let done = are_done g.H.Door.Door.gate g.H.Bell.Bell.rings g.H.Clock.Clock.reading shown c.args.board.now nodes slot c.serve.new.workers c.requires.ready
+    let told = (g.H.Host.desk c.args.host.now).readings in
+    let done = are_done g.H.Door.Door.gate g.H.Bell.Bell.rings g.H.Clock.Clock.readings told c.args.board.now nodes slot c.serve.new.workers c.requires.ready
     (c.serve.auto.workers ∙ ap length slice ∙ length_push nodes (Packer slot))
-    (subst (λ (l : List W). AllHaveWorked g.H.Door.Door.gate g.H.Bell.Bell.rings g.H.Clock.Clock.reading shown c.args.board.now l c.serve.new.workers) slice c.serve.ensures.worked) in
+    (subst (λ (l : List W). AllHaveWorked g.H.Door.Door.gate g.H.Bell.Bell.rings g.H.Clock.Clock.readings told c.args.board.now l c.serve.new.workers) slice c.serve.ensures.worked) in
     let all : take c.push_reserved.new.self.len (c.serve.new.workers ++ drop (length c.serve.new.workers) c.push_reserved.new.self.items) ≡ c.serve.new.workers
     = take_at c.serve.new.workers (drop (length c.serve.new.workers) c.push_reserved.new.self.items) c.push_reserved.new.self.len
     (c.serve.auto.workers ∙ ap length c.as_mut_slice.ensures.value ∙ sym c.push_reserved.new.self.ok.0) in
     let parts = c.part_packer.ensures.bell in
     let rows = lists_of c.args.shared.now.nodes.items in
-    ends_work g.H.Door.Door.gate g.H.Bell.Bell.rings g.H.Clock.Clock.reading shown c.args.board.now nodes slot c.serve.new.workers c.part_packer.new.workers.items parts.slot
+    ends_work g.H.Door.Door.gate g.H.Bell.Bell.rings g.H.Clock.Clock.readings told c.args.board.now nodes slot c.serve.new.workers c.part_packer.new.workers.items parts.slot
     rows (lists_of c.part_nodes.new.nodes.items) (g.H.Host.desk c.args.host.now) (g.H.Host.desk c.part_packer.new.host) (g.H.Host.desk c.part_nodes.new.host) c.part_nodes.result
     done c.requires.nodes c.requires.packer (sym all ∙ parts.is) parts.back c.part_nodes.ensures.doors c.part_nodes.ensures.failed
     (c.part_nodes.ensures.rows ∙ c.part_packer.ensures.rows ∙ ap (λ (l : List W). with_passes l rows) all)
@@ -84,10 +84,10 @@ returns-clause-ours g c =
     let nodes = c.args.crew.nodes.items in
     let slot = c.args.crew.packer in
     let slice : c.as_mut_slice.result.now ≡ nodes ++ Packer slot ∷ [] = c.as_mut_slice.ensures.value ∙ c.push_reserved.ensures.items in
-    let shown = (g.H.Host.desk c.args.host.now).reading in
-    let done = are_done g.H.Door.Door.gate g.H.Bell.Bell.rings g.H.Clock.Clock.reading shown c.args.board.now nodes slot c.serve.new.workers c.requires.ready
+    let told = (g.H.Host.desk c.args.host.now).readings in
+    let done = are_done g.H.Door.Door.gate g.H.Bell.Bell.rings g.H.Clock.Clock.readings told c.args.board.now nodes slot c.serve.new.workers c.requires.ready
     (c.serve.auto.workers ∙ ap length slice ∙ length_push nodes (Packer slot))
-    (subst (λ (l : List W). AllHaveWorked g.H.Door.Door.gate g.H.Bell.Bell.rings g.H.Clock.Clock.reading shown c.args.board.now l c.serve.new.workers) slice c.serve.ensures.worked) in
+    (subst (λ (l : List W). AllHaveWorked g.H.Door.Door.gate g.H.Bell.Bell.rings g.H.Clock.Clock.readings told c.args.board.now l c.serve.new.workers) slice c.serve.ensures.worked) in
     let all : take c.push_reserved.new.self.len (c.serve.new.workers ++ drop (length c.serve.new.workers) c.push_reserved.new.self.items) ≡ c.serve.new.workers
     = take_at c.serve.new.workers (drop (length c.serve.new.workers) c.push_reserved.new.self.items) c.push_reserved.new.self.len
     (c.serve.auto.workers ∙ ap length c.as_mut_slice.ensures.value ∙ sym c.push_reserved.new.self.ok.0) in

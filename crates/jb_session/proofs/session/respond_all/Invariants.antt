@@ -1,8 +1,7 @@
 use Rattle.std.proofs.Common.{◌≡◌, ℕ, List}
 use Rattle.jb_host.specs.Wire.{Wire}
-use Rattle.jb_shared.specs.Passes.{PassView}
 use Rattle.jb_talk.specs.Talking.{Hands}
-use Rattle.jb_session.specs.Exchanges.{AreOf}
+use Rattle.jb_session.specs.Exchanges.{AreOf, NodeState, node_with}
 use Rattle.jb_session.specs.Served.{Stands}
 use Rattle.jb_session.proofs.Standing.{to_come}
 use Rattle.jb_session.proofs.session.respond_all.Given as goal
@@ -10,12 +9,12 @@ use Rattle.jb_session.proofs.session.respond_all.Given as goal
 abbrev pub invariant-loop-next : goal.invariant-loop-next
 invariant-loop-next g l =
     AreOf l.areas l.passes
-    × (g.C.Clock.reading l.clock ≡ g.C.Clock.reading l.fn.clock)
     × (g.L.Link.wire l.link ≡ g.L.Link.wire l.fn.link)
     × Hands l.board l.talk l.next
     × (l.talk.taken ≡ l.fn.talk.taken)
-    × ((old now : Wire) (from : List PassView) (rest : List ℕ) → Stands (g.C.Clock.reading l.fn.clock) l.board old from now rest l.fn.talk l.fn.first l.fn.passes
-    → Stands (g.C.Clock.reading l.fn.clock) l.board old from now rest l.talk l.next l.passes)
+    × ((old now : Wire) (from : NodeState) (rest : List ℕ)
+    → Stands l.board old from now rest l.fn.talk l.fn.first (node_with (g.C.Clock.readings l.fn.clock) l.fn.passes)
+    → Stands l.board old from now rest l.talk l.next (node_with (g.C.Clock.readings l.clock) l.passes))
 
 abbrev pub decreases-loop-next : goal.decreases-loop-next
 decreases-loop-next g l = to_come l.board l.talk l.next

@@ -1,12 +1,12 @@
-use Rattle.std.proofs.Common.{refl}
+use Rattle.jb_session.specs.Exchanges.{node_with}
 use Rattle.jb_session.proofs.Standing.{served_by, served_none}
 use Rattle.jb_session.proofs.session.serve_session.Goals as goal
 
 pub returns-in_default-clause-served : goal.returns-in_default-clause-served
 returns-in_default-clause-served g c =
-    served_by (g.C.Clock.reading c.args.clock.now) (g.C.Clock.reading c.args.clock.now) c.args.board.now _ _ _ _ _ _ _ _ refl c.begin-log.ensures c.end.ensures.wire c.end.ensures.same
-    (served_none (g.C.Clock.reading c.args.clock.now) c.args.board.now c.conversations_are_one.ensures.some (g.L.Link.wire c.begin-log.new.link) c.args.passes.now)
+    served_by c.args.board.now _ _ _ _ _ _ _ _ c.begin-log.ensures c.end.ensures.wire c.end.ensures.same
+    (served_none c.args.board.now c.conversations_are_one.ensures.some (g.L.Link.wire c.begin-log.new.link) (node_with (g.C.Clock.readings c.args.clock.now) c.args.passes.now))
 
 pub returns-clause-served : goal.returns-clause-served
 returns-clause-served g c =
-    served_by _ _ c.args.board.now _ _ _ _ _ _ _ _ c.now.ensures.same c.begin-log.ensures c.end-2.ensures.wire c.end-2.ensures.same c.serve_talk-end.ensures.served
+    served_by c.args.board.now _ _ _ _ _ _ _ _ c.begin-log.ensures c.end-2.ensures.wire c.end-2.ensures.same c.serve_talk-end.ensures.served

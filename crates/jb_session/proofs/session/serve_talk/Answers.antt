@@ -1,5 +1,6 @@
-use Rattle.std.proofs.Common.{[], refl, sym, ap, subst, ◌∙◌, arith}
+use Rattle.std.proofs.Common.{[], sym, ap, subst, ◌∙◌, arith}
 use Rattle.jb_session.specs.Ends.{end_as}
+use Rattle.jb_session.specs.Exchanges.{node_with}
 use Rattle.jb_session.specs.Served.{Served}
 use Rattle.jb_session.specs.declared.end.SessionEnd.{SessionEnd}
 use Rattle.jb_session.proofs.Standing.{ends_over, stands_first}
@@ -8,26 +9,25 @@ use Rattle.jb_session.proofs.session.serve_talk.Goals as goal
 
 pub returns-in_default-clause-served : goal.returns-in_default-clause-served
 returns-in_default-clause-served g c =
-    c.in_default.ensures.err (g.C.Clock.reading c.args.clock.now) c.args.board.now (g.L.Link.wire c.args.link.now) c.args.passes.now c.args.passes.now []
-    (stands_first (g.C.Clock.reading c.args.clock.now) c.args.board.now (g.L.Link.wire c.args.link.now) c.args.passes.now c.args.talk.now c.requires.fits)
+    c.in_default.ensures.err c.args.board.now (g.L.Link.wire c.args.link.now) (node_with (g.C.Clock.readings c.args.clock.now) c.args.passes.now) (node_with (g.C.Clock.readings c.args.clock.now) c.args.passes.now) []
+    (stands_first c.args.board.now (g.L.Link.wire c.args.link.now) (node_with (g.C.Clock.readings c.args.clock.now) c.args.passes.now) c.args.talk.now c.requires.fits)
 
 pub loop-alloc-init : goal.loop-alloc-init
 loop-alloc-init g c =
     let f = c.in-Ok.ensures in
     let t = c.requires.fits in (
       c.requires.ours,
-      refl,
       f.hands c.args.board.now c.requires.hands,
       f.owed,
       omega (arith, f.counted, t.counted),
-      f.ok (g.C.Clock.reading c.args.clock.now) c.args.board.now (g.L.Link.wire c.args.link.now) c.args.passes.now c.args.passes.now []
-          (stands_first (g.C.Clock.reading c.args.clock.now) c.args.board.now (g.L.Link.wire c.args.link.now) c.args.passes.now c.args.talk.now t),
+      f.ok c.args.board.now (g.L.Link.wire c.args.link.now) (node_with (g.C.Clock.readings c.args.clock.now) c.args.passes.now) (node_with (g.C.Clock.readings c.args.clock.now) c.args.passes.now) []
+          (stands_first c.args.board.now (g.L.Link.wire c.args.link.now) (node_with (g.C.Clock.readings c.args.clock.now) c.args.passes.now) c.args.talk.now t),
     )
 
 pub returns-clause-served : goal.returns-clause-served
 returns-clause-served g c =
     let i = c.loop-alloc.invariant in
-    let P : SessionEnd → Type 0 = λ w. Served (g.C.Clock.reading c.args.clock.now) c.args.board.now (g.L.Link.wire c.args.link.now) c.args.passes.now w (g.L.Link.wire c.loop-alloc.link) c.loop-alloc.passes in
+    let P : SessionEnd → Type 0 = λ w. Served c.args.board.now (g.L.Link.wire c.args.link.now) (node_with (g.C.Clock.readings c.args.clock.now) c.args.passes.now) w (g.L.Link.wire c.loop-alloc.link) (node_with (g.C.Clock.readings c.loop-alloc.clock) c.loop-alloc.passes) in
     subst P (sym (c.ended.ensures ∙ ap end_as c.end.ensures.value))
-    (ends_over (g.C.Clock.reading c.args.clock.now) c.args.board.now c.conversations_are_one.ensures.stands (g.L.Link.wire c.args.link.now) (g.L.Link.wire c.loop-alloc.link) c.args.passes.now c.loop-alloc.passes c.loop-alloc.talk i.5 i.3
-    (is_over c.loop-alloc.talk (λ some. grind (arith, c.loop-alloc-test.false, c.wants.ensures, some)) i.3 i.4))
+    (ends_over c.args.board.now c.conversations_are_one.ensures.stands (g.L.Link.wire c.args.link.now) (g.L.Link.wire c.loop-alloc.link) (node_with (g.C.Clock.readings c.args.clock.now) c.args.passes.now) (node_with (g.C.Clock.readings c.loop-alloc.clock) c.loop-alloc.passes) c.loop-alloc.talk i.4 i.2
+    (is_over c.loop-alloc.talk (λ some. grind (arith, c.loop-alloc-test.false, c.wants.ensures, some)) i.2 i.3))

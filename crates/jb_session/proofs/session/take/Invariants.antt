@@ -1,8 +1,7 @@
 use Rattle.std.proofs.Common.{◌≡◌, ◌+◌, ◌-◌, ◌≤◌, List, None, drop, length}
 use Rattle.jb_host.specs.Wire.{Wire}
-use Rattle.jb_shared.specs.Passes.{PassView}
 use Rattle.jb_talk.specs.Talking.{Hands}
-use Rattle.jb_session.specs.Exchanges.{AreOf}
+use Rattle.jb_session.specs.Exchanges.{AreOf, NodeState, node_with}
 use Rattle.jb_session.specs.Served.{Stands}
 use Rattle.jb_session.proofs.session.take.Given as goal
 
@@ -10,11 +9,11 @@ abbrev pub invariant-loop-at : goal.invariant-loop-at
 invariant-loop-at g l =
     (l.at ≤ length l.piece)
     × AreOf l.areas l.passes
-    × (g.C.Clock.reading l.clock ≡ g.C.Clock.reading l.fn.clock)
     × Hands l.board l.talk None
     × (l.talk.taken ≡ l.fn.talk.taken + l.at)
-    × ((old : Wire) (from : List PassView) → Stands (g.C.Clock.reading l.fn.clock) l.board old from (g.L.Link.wire l.fn.link) l.piece l.fn.talk None l.fn.passes
-    → Stands (g.C.Clock.reading l.fn.clock) l.board old from (g.L.Link.wire l.link) (drop l.at l.piece) l.talk None l.passes)
+    × ((old : Wire) (from : NodeState)
+    → Stands l.board old from (g.L.Link.wire l.fn.link) l.piece l.fn.talk None (node_with (g.C.Clock.readings l.fn.clock) l.fn.passes)
+    → Stands l.board old from (g.L.Link.wire l.link) (drop l.at l.piece) l.talk None (node_with (g.C.Clock.readings l.clock) l.passes))
 
 abbrev pub decreases-loop-at : goal.decreases-loop-at
 decreases-loop-at g l = length l.piece - l.at
