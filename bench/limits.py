@@ -7,13 +7,14 @@ usage: limits.py PROGRAM [DIR]
 The hostile ones are the kinds of tests/reading.py, and more that are made to cost much. Of each run: the bytes that it reads, against those of the
 files, the most that it holds of memory, and its processor time against `cat` of the files. Then a base with 1,000,000 messages, .JHR of nearly
 536,870,912 bytes and .JDT of 1 GB, and one with as much in the longest headers, is opened by a session, packed by its sysop, and packed by the tool.
-Bounds are at the head of this script: where one is passed a line says so, and the status is 1. The files lie in DIR, or where temporary files do,
-and take 4 GB.
+At last a board of 255 areas without a message, of as many slots as the settings give where they say none, is opened. Bounds are at the head of this
+script: where one is passed a line says so, and the status is 1. The files lie in DIR, or where temporary files do, and take 4 GB.
 """
 import hashlib
 import itertools
 import os
 import random
+import re
 import shutil
 import struct
 import subprocess
@@ -36,6 +37,8 @@ WITHIN = 490
 SLOT_BYTES, HELD_TIMES = 300, 1
 # bytes of memory that a pack of a full .JHR holds
 MOST_PACK_BYTES = 2 << 30
+# areas of a board, and bytes of memory that each of them holds while it has no message
+AREAS, EMPTY_BYTES = 255, 400_000
 NAMES = named(b"Test", b"Hello", b"abc")
 PROMPT = b"[general] "
 
@@ -182,11 +185,27 @@ def measure_full(program, folder, bounds):
             print(f"  a check of it then: status {status}, {megabytes(most)}", flush=True)
 
 
+def measure_empty(program, folder, bounds):
+    shutil.rmtree(f"{folder}/areas", ignore_errors=True)
+    os.mkdir(f"{folder}/areas")
+    head, area, user = re.split(r"(?=\[\[)", SETTINGS.format(hashlib.sha256(b"word").hexdigest()))
+    names = ["general", *(f"area{n}" for n in range(1, AREAS))]
+    for name in names:
+        subprocess.run([program, "make", "areas", name], cwd=folder, check=True)
+    with open(f"{folder}/board.toml", "w", encoding="ascii") as file:
+        file.write(head + "".join(area.replace("general", name) for name in names) + user)
+    caller = Caller([program, "local", "board.toml"], folder)
+    line = bounds.holds(f"{AREAS} areas without a message", held(caller), AREAS * EMPTY_BYTES, megabytes)
+    caller.leaves()
+    print(f"{AREAS} areas without a message: {line}", flush=True)
+
+
 def main(program, above=None):
     folder, program, bounds = tempfile.mkdtemp(dir=above), os.path.realpath(program), Bounds()
     try:
         measure_hostile(program, folder, bounds)
         measure_full(program, folder, bounds)
+        measure_empty(program, folder, bounds)
     finally:
         shutil.rmtree(folder)
     if bounds.passed:
