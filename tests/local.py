@@ -93,23 +93,24 @@ def try_pauses(trial):
 
 
 def try_clock(trial):
-    """A caller posts twice in one session, with a pause between: each letter bears the moment at which it was posted."""
+    """A caller posts twice in one session, each time behind a pause: each letter bears the moment at which it was posted."""
     trial.has_settings(settings())
     trial.has_letters("general")
-    moments = [int(time.time())]
+    moments = []
     caller = Piped(trial.starts(*LOCAL, stdin=subprocess.PIPE))
     caller.types(lines(["Hello", "test", "1"]))
     for number in (2, 3):
+        time.sleep(2.1)
+        since = int(time.time())
         caller.types(lines(["p", "Test", "hour", "n", "What hour is it?", "."]))
         caller.takes(lambda seen: b"Posted as %d.\r\n" % number in seen)
-        moments.append(int(time.time()))
-        time.sleep(2.1)
+        moments.append((since, int(time.time())))
     caller.types(lines(["q"]))
     _, status = caller.leaves()
-    trial.is_so("two posts with a pause: the status", status, 0)
+    trial.is_so("two posts, each behind a pause: the status", status, 0)
     written = [slot.head["written"] for slot in trial.base().slots[1:]]
-    trial.holds(f"two posts with a pause: {written}, each of the moment at which it was posted, {moments}",
-                len(written) == 2 and moments[0] <= written[0] <= moments[1] < moments[1] + 2 <= written[1] <= moments[2])
+    trial.holds(f"two posts, each behind a pause: {written}, each of the moment at which it was posted, {moments}",
+                len(written) == 2 and all(low <= it <= high for it, (low, high) in zip(written, moments)))
 
 
 def try_telnet(trial):

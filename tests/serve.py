@@ -83,8 +83,8 @@ def try_clock(trial):
     trial.begins()
     caller, moments = trial.guest(0), []
     for does in [lambda: caller.posts(NAMES[0], b"a post", [b"a line"])] * 2 + [lambda: caller.enters(b"1", b"[general] ")]:
-        # so each has seconds of its own
-        time.sleep(1.1 if moments else 0)
+        # so each has seconds of its own, the first too, which are not those of the log-in
+        time.sleep(1.1)
         since = int(time.time())
         does()
         moments.append((since, int(time.time())))
