@@ -82,6 +82,13 @@ impl MemDisk {
         self.present.file(file)
     }
 
+    /// How often it has failed.
+    pub fn faults(&self) -> u64
+        ensures { result ≡ (memory_device self.now).faults }
+    {
+        self.faults
+    }
+
     /// How many calls have been made.
     pub fn calls(&self) -> u64
         ensures { result ≡ length self.now.calls }

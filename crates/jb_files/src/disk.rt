@@ -25,6 +25,13 @@ impl<R: Files<File = File> + Drop> FolderDisk<R> {
         let folder = Folder::new(rt, alloc, dir, name)?;
         Ok(FolderDisk { folder, faults: 0 })
     }
+
+    /// How often it has failed.
+    pub fn faults(&self) -> u64
+        ensures { result ≡ self.now.faults }
+    {
+        self.faults
+    }
 }
 
 impl<R: Files<File = File> + Drop> Disk for FolderDisk<R> {

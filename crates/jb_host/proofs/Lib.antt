@@ -1,6 +1,6 @@
 pub mod Callers
+pub mod Ringing
 pub mod Entering
 pub mod Paging
 pub mod Shelving
-pub mod Ticking
 pub mod Wires

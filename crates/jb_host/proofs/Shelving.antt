@@ -8,7 +8,7 @@ use Rattle.std.proofs.lemmas.Bool.{and_parts, false≢true}
 use Rattle.std.proofs.lemmas.Slice.Eq.{bytes_eq-Decides}
 use Rattle.jb_disk.specs.Memory.{Recording, memory_device}
 use Rattle.jb_host.specs.declared.shelf.Shelf.{Shelf}
-use Rattle.jb_host.specs.Desk.{Place, has_disk, no_disk, handed_out, or_behind, with_behind, with_place}
+use Rattle.jb_host.specs.Desk.{DiskPlace, has_disk, no_disk, handed_out, or_behind, with_behind, with_place}
 use Rattle.jb_host.specs.Shelves.{is_for, shelved, stands_on}
 
 -- the shelf of a folder and a name has these
@@ -59,7 +59,7 @@ shelved_at dir name (shelf ∷ rest) zero now d other_dir other_name within is b
 shelved_at dir name (shelf ∷ rest) (suc k) now d other_dir other_name within is before same_dir same_name =
     let inner = shelved_at dir name rest k now d other_dir other_name (omega arith) is (λ j low. before (suc j) (omega arith)) same_dir same_name in
     let key = bytes_eq other_dir dir && bytes_eq other_name name in
-    ap (λ (p : Place). if is_for other_dir other_name shelf then stands_on shelf.disk else p) inner
+    ap (λ (p : DiskPlace). if is_for other_dir other_name shelf then stands_on shelf.disk else p) inner
     ∙ swapped key (is_for other_dir other_name shelf) (stands_on now.disk) (stands_on shelf.disk) (shelved rest other_dir other_name)
     (λ asked. let both = and_parts _ _ asked in
     ap (λ (e : List ℕ). bytes_eq e shelf.dir && bytes_eq other_name shelf.name) ((bytes_eq-Decides other_dir dir).0 both.0)
@@ -91,7 +91,7 @@ shelved-none dir name (shelf ∷ rest) d none =
     ap (λ (b : Bool). if b then stands_on shelf.disk else shelved rest dir name) (none 0 (omega arith)) ∙ shelved-none dir name rest d (λ k low. none (suc k) (omega arith))
 
 -- what was taken off a shelf is what stood there
-pub stood_there : (stood taken : Option Recording) (place : Place) → taken ≡ stood → place ≡ stands_on stood → IfSome taken (λ disk. place ≡ has_disk (memory_device disk))
+pub stood_there : (stood taken : Option Recording) (place : DiskPlace) → taken ≡ stood → place ≡ stands_on stood → IfSome taken (λ disk. place ≡ has_disk (memory_device disk))
 stood_there stood None place same is = tt
 stood_there stood (Some disk) place same is = is ∙ ap stands_on (sym same)
 
@@ -101,12 +101,12 @@ if_some None P p = tt
 if_some (Some x) P p = p
 
 -- what is lent is what stands there
-pub lent_there : (place : Place) (stood : Option Recording) (lent : Option (Bor Recording)) → option_copied lent ≡ stood → place ≡ stands_on stood → IfSome lent (λ disk. place ≡ has_disk (memory_device disk.now))
+pub lent_there : (place : DiskPlace) (stood : Option Recording) (lent : Option (Bor Recording)) → option_copied lent ≡ stood → place ≡ stands_on stood → IfSome lent (λ disk. place ≡ has_disk (memory_device disk.now))
 lent_there place stood None same is = tt
 lent_there place stood (Some disk) same is = is ∙ ap stands_on (sym same)
 
 -- and where nothing is lent, no disk stands there
-pub lent_none : (place : Place) (stood : Option Recording) (lent : Option (Bor Recording)) → option_copied lent ≡ stood → place ≡ stands_on stood → IfNone lent ((device : Device) → place ≢ has_disk device)
+pub lent_none : (place : DiskPlace) (stood : Option Recording) (lent : Option (Bor Recording)) → option_copied lent ≡ stood → place ≡ stands_on stood → IfNone lent ((device : Device) → place ≢ has_disk device)
 lent_none place stood (Some disk) same is = tt
 lent_none place stood None same is = λ device there. let out : handed_out ≡ has_disk device = sym (is ∙ ap stands_on (sym same)) ∙ there in absurd (cc)
 
@@ -116,7 +116,7 @@ if_none None P p = p
 if_none (Some x) P p = tt
 
 -- a place with another behind it
-or_further : (first : Bool) (stood : Option Recording) (rest more behind : Place) → more ≡ or_behind rest behind
+or_further : (first : Bool) (stood : Option Recording) (rest more behind : DiskPlace) → more ≡ or_behind rest behind
     → (if first then stands_on stood else more) ≡ or_behind (if first then stands_on stood else rest) behind
 or_further true None rest more behind is = refl
 or_further true (Some disk) rest more behind is = refl

@@ -1,5 +1,5 @@
 -- What is known of a host before and after a call.
-use Rattle.std.specs.Prelude.{◌≡◌, ◌==◌, ℕ, ◌≤◌, bytes_eq, ◌&&◌, List, [], ◌∷◌, ◌++◌, Option, Some, None, if◌then◌else◌}
+use Rattle.std.specs.Prelude.{◌≡◌, ◌==◌, ℕ, ◌<◌, ◌≤◌, bytes_eq, ◌&&◌, List, [], ◌∷◌, ◌++◌, Option, Some, None, if◌then◌else◌}
 use Rattle.std.specs.Option.{ForSome, option_map}
 use Rattle.jb_bytes.specs.Fault.{Rose}
 use Rattle.jb_disk.specs.Device.{Device}
@@ -18,28 +18,28 @@ pub data HostCall : Type 0 where
   asked_bell : ℕ → ℕ → Option ℕ → HostCall
 
 -- what a host has at a folder and a name: no disk, one that it handed out, or this one
-pub data Place : Type 0 where
-  no_disk : Place
-  handed_out : Place
-  has_disk : Device → Place
+pub data DiskPlace : Type 0 where
+  no_disk : DiskPlace
+  handed_out : DiskPlace
+  has_disk : Device → DiskPlace
 
 -- the disks of a host, by folder and name
 abbrev pub Disks : Type 0
-Disks = List ℕ → List ℕ → Place
+Disks = List ℕ → List ℕ → DiskPlace
 
 -- the same disks, but for one place
-abbrev pub with_place : List ℕ → List ℕ → Place → Disks → Disks
+abbrev pub with_place : List ℕ → List ℕ → DiskPlace → Disks → Disks
 with_place dir name place disks other_dir other_name =
     if bytes_eq other_dir dir && bytes_eq other_name name then place else disks other_dir other_name
 
 -- what is found first: this place, or where no disk has it, that one
-abbrev pub or_behind : Place → Place → Place
+abbrev pub or_behind : DiskPlace → DiskPlace → DiskPlace
 or_behind no_disk behind = behind
 or_behind handed_out behind = handed_out
 or_behind (has_disk device) behind = has_disk device
 
 -- the same disks and one more behind them, found at its folder and name where none was
-abbrev pub with_behind : List ℕ → List ℕ → Place → Disks → Disks
+abbrev pub with_behind : List ℕ → List ℕ → DiskPlace → Disks → Disks
 with_behind dir name place disks other_dir other_name =
     or_behind (disks other_dir other_name) (if bytes_eq other_dir dir && bytes_eq other_name name then place else no_disk)
 
@@ -80,6 +80,8 @@ pub data Belfry : Type 0 where
 pub record Desk : Type 0 where
   -- how often it has failed
   pub faults : ℕ
+  -- the count of the disks and doors that it took back and that had failed
+  pub failed : ℕ
   -- the calls for disks, settings, doors and a bell that it answered other than for want of memory, in order, where it tells them
   pub calls : Option (List HostCall)
   -- its disks, where it tells them
@@ -107,6 +109,7 @@ pub record KeepsRest (old new : Desk) : Type 0 where
   pub console : new.console ≡ old.console
   pub readings : new.readings ≡ old.readings
   pub faults : new.faults ≡ old.faults
+  pub failed : new.failed ≡ old.failed
   pub waiting : new.waiting ≡ old.waiting
   pub doors : new.doors ≡ old.doors
   pub bell : new.bell ≡ old.bell
@@ -159,18 +162,26 @@ pub record RefusesCall (call : HostCall) (error : HostError) (old new : Desk) : 
   pub later : old.faults ≤ new.faults
   pub cause : HasHostCause error old.faults new.faults
 
+-- of what came back and had failed so often: the count rises where it had at all, and else stays
+pub record CountsFailed (faults before now : ℕ) : Type 0 where
+  pub rose : 0 < faults → Rose before now
+  pub quiet : faults ≡ 0 → now ≡ before
+  pub later : before ≤ now
+
 -- a disk that was handed out for this place is there again
 pub record TakesBack (dir name : List ℕ) (device : Device) (old new : Desk) : Type 0 where
   pub back : ForSome old.disks (λ disks. disks dir name ≡ handed_out → new.disks ≡ option_map (with_place dir name (has_disk device)) old.disks)
   pub calls : new.calls ≡ old.calls
-  pub rest : KeepsRest old new
+  pub failed : CountsFailed device.faults old.failed new.failed
+  pub rest : KeepsRest old (record new { failed = old.failed })
 
 -- a door that was handed out for this node is back
 pub record TakesDoor (node : ℕ) (gate : Gate) (old new : Desk) : Type 0 where
   pub back : ForSome old.doors (λ doors. doors node ≡ door_out → new.doors ≡ option_map (with_door node (has_door gate)) old.doors)
   pub disks : new.disks ≡ old.disks
   pub calls : new.calls ≡ old.calls
-  pub rest : KeepsRest old (record new { doors = old.doors })
+  pub failed : CountsFailed gate.faults old.failed new.failed
+  pub rest : KeepsRest old (record new { doors = old.doors; failed = old.failed })
 
 -- the bell that was handed out is back
 pub record TakesBell (rings : Rings) (old new : Desk) : Type 0 where

@@ -20,7 +20,7 @@ pub record RingsFor (area : ℕ) (old new : Rings) : Type 0 where
   pub shut : new.is_shut ≡ old.is_shut
 
 -- the bell answered that it is shut, since no ring was left
-pub record IsFoundShut (old new : Rings) : Type 0 where
+pub record RingsNoMore (old new : Rings) : Type 0 where
   pub over : old.left ≡ Some 0
   pub shut : new.is_shut ≡ true
   pub left : new.left ≡ old.left
@@ -29,4 +29,4 @@ pub record IsFoundShut (old new : Rings) : Type 0 where
 -- what the answer of a bell means
 abbrev pub Tolls : Rings → Ring → Rings → Type 0
 Tolls old (Pack area) new = RingsFor area old new
-Tolls old Shut new = IsFoundShut old new
+Tolls old Shut new = RingsNoMore old new

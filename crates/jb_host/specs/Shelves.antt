@@ -8,7 +8,7 @@ use Rattle.jb_host.specs.declared.asking.Call.TheVariants as call
 use Rattle.jb_host.specs.declared.memory_host.MemHost.{MemHost}
 use Rattle.jb_host.specs.declared.page.Page.{Page}
 use Rattle.jb_host.specs.declared.shelf.Shelf.{Shelf}
-use Rattle.jb_host.specs.Desk.{Desk, Disks, HostCall, Pages, Place, asked_bell, asked_disk, asked_door, asked_settings, handed_out, has_disk, no_bell, no_disk}
+use Rattle.jb_host.specs.Desk.{Desk, Disks, HostCall, Pages, DiskPlace, asked_bell, asked_disk, asked_door, asked_settings, handed_out, has_disk, no_bell, no_disk}
 use Rattle.jb_host.specs.Entrances.{bell_in, by_node, doors_in, waiting_in}
 use Rattle.jb_host.specs.Memory.{memory_wire}
 use Rattle.jb_host.specs.Wire.{Wire}
@@ -18,7 +18,7 @@ abbrev pub is_for : List ℕ → List ℕ → Shelf → Bool
 is_for dir name shelf = bytes_eq dir shelf.dir && bytes_eq name shelf.name
 
 -- what stands on a shelf
-abbrev pub stands_on : Option Recording → Place
+abbrev pub stands_on : Option Recording → DiskPlace
 stands_on None = handed_out
 stands_on (Some disk) = has_disk (memory_device disk)
 
@@ -62,6 +62,7 @@ written_in host = pages_written host.pages.items
 abbrev pub memory_desk : MemHost → Desk
 memory_desk host = record {
   faults = host.asking.faults;
+  failed = host.failed;
   calls = Some (asked_of host.asking);
   disks = Some (standing host);
   settings = Some (written_in host);
@@ -76,6 +77,7 @@ memory_desk host = record {
 abbrev pub empty_desk : Wire → List ℕ → Desk
 empty_desk console readings = record {
   faults = 0;
+  failed = 0;
   calls = Some [];
   disks = Some (shelved []);
   settings = Some (pages_written []);

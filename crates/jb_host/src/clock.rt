@@ -15,9 +15,9 @@ pub trait Clock {
         ensures told { ForSome (readings self.old) (λ all. result ≡ reading_of all) }
         ensures moves { readings self.new ≡ option_map readings_after (readings self.old) };
 
-    /// What it shows, and it does not move on: for the lines that an operator is told.
-    fn glance(&self) -> u32
-        ensures { ForSome (readings self.now) (λ all. result ≡ reading_of all) };
+    /// What it shows, and it does not move on: for the lines that an operator is told. No contract knows what that is, so it is no moment
+    /// of a command.
+    fn glance(&self) -> u32;
 }
 
 /// So many readings a clock in memory has at most.
@@ -36,13 +36,23 @@ impl MemClock {
     {
         MemClock { readings }
     }
+
+    /// What it shows.
+    fn shows(&self) -> u32
+        ensures { result ≡ reading_of self.now.readings.items }
+    {
+        match self.readings.as_slice().first() {
+            Some(reading) => *reading,
+            None => 0,
+        }
+    }
 }
 
 impl Clock for MemClock {
     ghost readings = { λ clock. Some clock.readings.items };
 
     fn now(&mut self) -> u32 {
-        let reading = self.glance();
+        let reading = self.shows();
         if self.readings.len() > 1 {
             let _ = self.readings.remove(0);
         }
@@ -50,9 +60,6 @@ impl Clock for MemClock {
     }
 
     fn glance(&self) -> u32 {
-        match self.readings.as_slice().first() {
-            Some(reading) => *reading,
-            None => 0,
-        }
+        self.shows()
     }
 }

@@ -1,8 +1,10 @@
 //! The trait of a host.
-ghost use Rattle.std.specs.Prelude.{◌≡◌, Some, None, IsErr, IsSome, IfOk, IfErr};
+ghost use Rattle.std.specs.Prelude.{◌≡◌, ℕ, Option, Some, None, IsErr, IsSome, IfOk, IfErr};
 ghost use Rattle.jb_disk.specs.Device.{Device};
 ghost use Rattle.jb_host.specs.declared.host.HostError.TheVariants.{OutOfMemory as no_memory};
 ghost use Rattle.jb_host.specs.Desk.{Desk, GivesBell, GivesDisk, GivesDoor, GivesSettings, RefusesCall, TakesBack, TakesBell, TakesDoor};
+ghost use Rattle.jb_host.specs.Gate.{Gate};
+ghost use Rattle.jb_host.specs.Rings.{Rings};
 ghost use Rattle.jb_host.specs.Desk.{asked_bell, asked_disk, asked_door, asked_settings};
 
 use crate::{Bell, Clock, Door, Link};
@@ -38,13 +40,19 @@ pub trait Host {
 
     type Clock: Clock + Drop;
 
-    /// Its count of faults, its console while that is not out, and where it tells them its calls, its disks, its settings, its doors,
-    /// its bell and the readings that its clocks give.
+    /// Its count of faults, that of what it took back and had failed, its console while that is not out, and where it tells them its
+    /// calls, its disks, its settings, its doors, its bell and the readings that its clocks give.
     ghost desk: { Self → Desk };
 
     /// The call for a disk, settings, a door or the bell that comes next is one that it was told to fail, as a host in memory is for a
     /// test.
     ghost fails_next: { Self → Type 0 } = { λ _. ⊥ };
+
+    /// What a door for so many calls is as it is handed out, where the host makes it for them. One in memory was given its doors.
+    ghost door_for: { Option ℕ → Gate → Type 0 } = { λ _ _. Unit };
+
+    /// What a bell over so many areas, after so many minutes or where calls are counted, is as it is handed out.
+    ghost bell_over: { ℕ → ℕ → Option ℕ → Rings → Type 0 } = { λ _ _ _ _. Unit };
 
     /// The disk of the base with this name in this folder.
     fn disk(&mut self, dir: &str, name: &str) -> Result<Self::Disk, HostError>
@@ -80,6 +88,7 @@ pub trait Host {
     fn door(&mut self, node: u32, port: u16, calls: Option<u32>) -> Result<Self::Door, HostError>
         ensures ok { IfOk result (λ door.
             GivesDoor node port calls (Self.Door.gate door) (desk self.old) (desk self.new)) }
+        ensures counts { IfOk result (λ door. door_for calls (Self.Door.gate door)) }
         ensures err { IfErr result (λ error.
             RefusesCall (asked_door node port calls) error (desk self.old) (desk self.new)) }
         ensures listed { fails_next self.old → IsErr result };
@@ -97,6 +106,7 @@ pub trait Host {
     ) -> Result<Self::Bell, HostError>
         ensures ok { IfOk result (λ bell.
             GivesBell areas minutes calls (Self.Bell.rings bell) (desk self.old) (desk self.new)) }
+        ensures rounds { IfOk result (λ bell. bell_over areas minutes calls (Self.Bell.rings bell)) }
         ensures err { IfErr result (λ error.
             RefusesCall (asked_bell areas minutes calls) error (desk self.old) (desk self.new)) }
         ensures listed { fails_next self.old → IsErr result };

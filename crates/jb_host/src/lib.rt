@@ -13,6 +13,7 @@ mod asking;
 mod belfry;
 mod bell;
 mod clock;
+mod counting;
 mod door;
 mod entrances;
 mod failing;

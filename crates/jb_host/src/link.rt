@@ -32,6 +32,7 @@ pub trait Link {
             → (wire self.new).ends ≡ (wire self.old).ends }
         ensures sent { (wire self.new).sent ≡ (wire self.old).sent }
         ensures unsent { (wire self.new).unsent ≡ (wire self.old).unsent }
+        ensures fine { OnOk result ((wire self.new).faults ≡ (wire self.old).faults) }
         ensures listed { fails_next self.old → IsErr result }
         ensures cause { HasCause (wire self.old).faults (wire self.new).faults result };
 
@@ -47,6 +48,7 @@ pub trait Link {
         ensures ends { (wire self.new).ends ≡ (wire self.old).ends }
         ensures unsent { HasCause (wire self.old).unsent (wire self.new).unsent result }
         ensures quiet { OnOk result ((wire self.new).unsent ≡ (wire self.old).unsent) }
+        ensures fine { OnOk result ((wire self.new).faults ≡ (wire self.old).faults) }
         ensures listed { fails_next self.old → IsErr result }
         ensures cause { HasCause (wire self.old).faults (wire self.new).faults result };
 

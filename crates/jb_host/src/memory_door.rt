@@ -55,6 +55,13 @@ impl MemDoor {
         })
     }
 
+    /// How often it has failed.
+    pub fn faults(&self) -> u64
+        ensures { result ≡ (memory_gate self.now).faults }
+    {
+        self.faults
+    }
+
     /// The links that were hung up, in order.
     pub fn hung(&self) -> &[MemLink]
         ensures { (memory_gate self.now).hung ≡ Some (map memory_wire result.now) }

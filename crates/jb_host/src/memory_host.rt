@@ -7,6 +7,7 @@ ghost use Rattle.jb_host.specs.Desk.{has_bell, has_disk, has_door, with_behind, 
 use crate::asking::{Asking, Call, disk_call, settings_call};
 use crate::belfry::{Belfry, put_bell_in, take_bell};
 use crate::clock::{MOST_READINGS, MemClock};
+use crate::counting::count_failed;
 use crate::entrances::Entrances;
 use crate::host::{Host, HostError};
 use crate::memory::MemLink;
@@ -31,6 +32,7 @@ pub struct MemHost {
     entrances: Entrances,
     belfry: Belfry,
     asking: Asking,
+    failed: u64,
 }
 
 // Whoever lets go of one does so in one call.
@@ -45,6 +47,7 @@ impl Drop for MemHost {
             entrances: _entrances,
             belfry: _belfry,
             asking: _asking,
+            failed: _failed,
         } = self;
     }
 }
@@ -75,6 +78,7 @@ impl MemHost {
             entrances: Entrances::new(alloc),
             belfry: Belfry::Empty,
             asking: Asking::new(alloc, failing),
+            failed: 0,
         }
     }
 
@@ -183,6 +187,7 @@ impl Host for MemHost {
     }
 
     fn put_back(&mut self, dir: &str, name: &str, disk: MemDisk) {
+        count_failed(&mut self.failed, disk.faults());
         put_on(&mut self.shelves, dir.as_bytes(), name.as_bytes(), disk);
     }
 
@@ -213,6 +218,7 @@ impl Host for MemHost {
     }
 
     fn put_door(&mut self, node: u32, door: MemDoor) {
+        count_failed(&mut self.failed, door.faults());
         self.entrances.take_back(node, door);
     }
 

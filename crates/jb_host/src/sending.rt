@@ -16,6 +16,7 @@ pub fn send<L: Link>(link: &mut L, bytes: &[u8]) -> Result<(), LinkFailed>
     ensures ends { (L.wire link.new).ends ≡ (L.wire link.old).ends }
     ensures unsent { HasCause (L.wire link.old).unsent (L.wire link.new).unsent result }
     ensures quiet { OnOk result ((L.wire link.new).unsent ≡ (L.wire link.old).unsent) }
+    ensures fine { OnOk result ((L.wire link.new).faults ≡ (L.wire link.old).faults) }
     ensures cause { HasCause (L.wire link.old).faults (L.wire link.new).faults result }
 {
     let mut at = 0;

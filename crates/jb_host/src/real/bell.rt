@@ -1,11 +1,12 @@
 //! Trusted: the bell of a process.
 //!
-//! It lets its thread sleep between two rings, and writes on the error output what an operator is told. A contract knows how many rings are left and whether it is shut, and neither the areas
-//! nor the time.
-ghost use Rattle.jb_host.specs.Real.{silent_rings};
+//! It lets its thread sleep between two rings, and writes on the error output what an operator is told. A contract knows how many rings
+//! are left, whether it is shut, and for which areas it rings where its rings have an end; and not the time.
+ghost use Rattle.std.specs.Prelude.{◌≡◌};
+ghost use Rattle.jb_host.specs.Real.{first_rings, timed_rings};
 
 use crate::bell::{Bell, Ring};
-use crate::rounds::{area_behind, rings_of};
+use crate::rounds::{area_behind, left_behind, rings_of};
 use std::time::Duration;
 use std::{thread, time};
 
@@ -23,7 +24,10 @@ pub struct TimedBell<R: Eprint + time::Clock + Drop> {
 
 impl<R: Eprint + time::Clock + Drop> TimedBell<R> {
     /// A bell over so many areas.
-    pub fn new(rt: R, areas: u32, minutes: u32, calls: Option<u32>) -> TimedBell<R> {
+    pub fn new(rt: R, areas: u32, minutes: u32, calls: Option<u32>) -> TimedBell<R>
+        ensures areas { result.areas ≡ areas }
+        ensures fresh { timed_rings areas result.last result.is_shut result.left ≡ first_rings areas minutes calls }
+    {
         TimedBell {
             rt,
             areas,
@@ -36,17 +40,18 @@ impl<R: Eprint + time::Clock + Drop> TimedBell<R> {
 }
 
 impl<R: Eprint + time::Clock + Drop> Bell for TimedBell<R> {
-    ghost rings = { λ bell. silent_rings bell.is_shut bell.left };
+    ghost rings = { λ bell. timed_rings bell.areas bell.last bell.is_shut bell.left };
 
+    #[tactic(auto, using(crate::proofs::Ringing::rings_next))]
     fn next(&mut self) -> Ring {
-        match self.left {
-            Some(0) => {
-                self.is_shut = true;
-                return Ring::Shut;
-            }
-            Some(left) => self.left = Some(left - 1),
-            None => thread::sleep(&self.rt, Duration::from_secs(u64::from(self.minutes) * 60)),
+        let Some(left) = left_behind(self.left) else {
+            self.is_shut = true;
+            return Ring::Shut;
+        };
+        if left.is_none() {
+            thread::sleep(&self.rt, Duration::from_secs(u64::from(self.minutes) * 60));
         }
+        self.left = left;
         self.last = area_behind(self.last, self.areas);
         Ring::Pack(self.last)
     }

@@ -43,6 +43,13 @@ impl<R: Eprint + time::Clock + Copy + Drop> TcpDoor<R> {
             is_shut: false,
         }
     }
+
+    /// How often it has failed.
+    pub fn faults(&self) -> u64
+        ensures { result ≡ self.now.faults }
+    {
+        self.faults
+    }
 }
 
 /// The next caller, where one comes without a fault of the system; one that has gone before it was let in is passed over.

@@ -2,10 +2,11 @@
 //!
 //! It hands out what the other files of this folder make, and writes on the error output what the system refused and what an operator
 //! is told. A contract knows its count of failures and its console while that is not out, and no disk, settings, door, bell or call.
-ghost use Rattle.std.specs.Prelude.{◌≡◌, IsSome, Some};
+ghost use Rattle.std.specs.Prelude.{◌≡◌, IsSome, Some, false};
 ghost use Rattle.std.specs.Option.{option_map};
-ghost use Rattle.jb_host.specs.Real.{silent_wire, silent_desk};
+ghost use Rattle.jb_host.specs.Real.{first_rings, silent_desk, silent_gate, silent_wire};
 
+use crate::counting::count_failed;
 use crate::host::{Host, HostError};
 use crate::real::bell::TimedBell;
 use crate::real::clock::SystemClock;
@@ -40,6 +41,7 @@ pub struct RealHost<
     ports: Vec<Port>,
     disks_out: u32,
     faults: u64,
+    failed: u64,
 }
 
 impl<
@@ -55,9 +57,9 @@ impl<
     /// The surroundings that this runtime reaches.
     pub fn new(rt: R, console: R, alloc: Global) -> RealHost<R>
         ensures console { IsSome result.console }
-        ensures fresh { silent_desk result.faults (option_map (λ link.
+        ensures fresh { silent_desk result.faults result.failed (option_map (λ link.
             silent_wire link.faults link.ends link.unsent) result.console)
-            ≡ silent_desk 0 (Some (silent_wire 0 0 0)) }
+            ≡ silent_desk 0 0 (Some (silent_wire 0 0 0)) }
     {
         RealHost {
             rt,
@@ -66,6 +68,7 @@ impl<
             ports: Vec::new(alloc),
             disks_out: 0,
             faults: 0,
+            failed: 0,
         }
     }
 }
@@ -90,7 +93,11 @@ impl<
 
     type Clock = SystemClock<R>;
 
-    ghost desk = { λ host. silent_desk host.faults (option_map (λ link. silent_wire link.faults link.ends link.unsent) host.console) };
+    ghost desk = { λ host. silent_desk host.faults host.failed (option_map (λ link. silent_wire link.faults link.ends link.unsent) host.console) };
+
+    ghost door_for = { λ calls gate. gate ≡ silent_gate 0 false calls };
+
+    ghost bell_over = { λ areas minutes calls rings. rings ≡ first_rings areas minutes calls };
 
     fn disk(&mut self, dir: &str, name: &str) -> Result<FolderDisk<R>, HostError> {
         match opened(self.rt, self.alloc, dir, name) {
@@ -113,8 +120,9 @@ impl<
         }
     }
 
-    fn put_back(&mut self, _dir: &str, _name: &str, _disk: FolderDisk<R>) {
+    fn put_back(&mut self, _dir: &str, _name: &str, disk: FolderDisk<R>) {
         self.disks_out = self.disks_out.saturating_sub(1);
+        count_failed(&mut self.failed, disk.faults());
     }
 
     fn settings(&mut self, path: &str) -> Result<Bytes, HostError> {
@@ -151,7 +159,9 @@ impl<
         }
     }
 
-    fn put_door(&mut self, _node: u32, _door: TcpDoor<R>) {}
+    fn put_door(&mut self, _node: u32, door: TcpDoor<R>) {
+        count_failed(&mut self.failed, door.faults());
+    }
 
     fn bell(
         &mut self,

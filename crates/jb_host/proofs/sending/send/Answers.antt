@@ -19,5 +19,5 @@ loop-at-preserved g c =
       c.in_ok-at.ensures.to_come ∙ c.loop-at.invariant.2,
       c.in_ok-at.ensures.ends ∙ c.loop-at.invariant.3,
       c.in_ok-at.ensures.quiet ∙ c.loop-at.invariant.4,
-      omega (arith, c.loop-at.invariant.5, c.in_ok-at.ensures.cause.later),
+      c.in_ok-at.ensures.fine ∙ c.loop-at.invariant.5,
     )

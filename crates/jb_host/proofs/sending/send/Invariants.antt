@@ -9,7 +9,7 @@ invariant-loop-at g l =
     × ((g.L.Link.wire l.link).to_come ≡ (g.L.Link.wire l.initial.link).to_come)
     × ((g.L.Link.wire l.link).ends ≡ (g.L.Link.wire l.initial.link).ends)
     × ((g.L.Link.wire l.link).unsent ≡ (g.L.Link.wire l.initial.link).unsent)
-    × ((g.L.Link.wire l.initial.link).faults ≤ (g.L.Link.wire l.link).faults)
+    × ((g.L.Link.wire l.link).faults ≡ (g.L.Link.wire l.initial.link).faults)
 
 abbrev pub decreases-loop-at : goal.decreases-loop-at
 decreases-loop-at g l = length l.bytes - l.at
