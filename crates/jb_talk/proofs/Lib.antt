@@ -1,4 +1,3 @@
 mod MoveLemmas
-mod Talked
-pub mod Growing
 mod Asking
+mod CallerLemmas

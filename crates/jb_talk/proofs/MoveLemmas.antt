@@ -1,5 +1,5 @@
 -- What a move of the menus hands out.
-use Rattle.std.proofs.Common.{◌≡◌, ℕ, ◌<◌, length, Option, Some, refl, sym, ap, subst, arith}
+use Rattle.std.proofs.Common.{◌≡◌, true, false, ℕ, ◌<◌, length, Option, Some, refl, sym, ap, subst, arith}
 use Rattle.std.specs.Prelude.{unwrap_or, Result, Ok, Err, IfOk}
 use Rattle.jb_conf.specs.declared.board.Board.{Board}
 use Rattle.jb_menu.specs.Awaits.{AsksHere, IsFor, area_in}
@@ -8,10 +8,14 @@ use Rattle.jb_menu.specs.declared.moves.Move.{Move}
 use Rattle.jb_menu.specs.declared.moves.Move.TheVariants as move
 use Rattle.jb_menu.specs.declared.state.State.{State}
 use Rattle.jb_menu.specs.declared.state.State.TheVariants as state
-use Rattle.jb_talk.specs.declared.request.Act.{Act}
-use Rattle.jb_talk.specs.declared.request.Act.TheVariants as act
+use Rattle.jb_speech.specs.declared.request.Act.{Act}
+use Rattle.jb_speech.specs.declared.request.Act.TheVariants as act
 use Rattle.jb_talk.specs.Turns.{Place, move_turn, requests}
-use Rattle.jb_talk.specs.Talking.{Hands, Talking, owing}
+use Rattle.jb_speech.specs.Conversations.{owing}
+use Rattle.jb_talk.specs.Talking.{Hands, Talking}
+use Rattle.jb_talk.specs.Conversations.{is_going, is_waiting}
+use Rattle.jb_talk.specs.declared.standing.Standing.{Standing}
+use Rattle.jb_talk.specs.declared.standing.Standing.TheVariants.{On, Waits, Over, Failed}
 
 -- the user who is logged in, in an area of the board
 record IsThere (board : Board) (at : State) (area : ℕ) : Type 0 where
@@ -54,3 +58,17 @@ hands_moved board talk (move.Count area) of here = hands_request board talk talk
 pub ok_both : {T E : Type 0} (r : Result T E) (P Q R : T → Type 0) → ((x : T) → P x → Q x → R x) → IfOk r P → IfOk r Q → IfOk r R
 ok_both (Ok x) P Q R f p q = f x p q
 ok_both (Err e) P Q R f p q = tt
+
+-- what is not on does not go on
+pub not_on : (s : Standing) → (s ≡ On → ⊥) → is_going s ≡ false
+not_on On off = absurd (off refl)
+not_on Waits off = refl
+not_on (Over end) off = refl
+not_on Failed off = refl
+
+-- what goes on does not wait
+pub not_waiting : (s : Standing) → is_going s ≡ true → is_waiting s ≡ false
+not_waiting On on = refl
+not_waiting Waits on = absurd (grind arith)
+not_waiting (Over end) on = refl
+not_waiting Failed on = refl

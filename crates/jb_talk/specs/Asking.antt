@@ -1,16 +1,9 @@
 -- That what one line asks of the areas comes to an end.
-use Rattle.std.specs.Prelude.{ℕ, ◌-◌, Bool, true, false, length}
+use Rattle.std.specs.Prelude.{ℕ, ◌-◌, length}
 use Rattle.jb_conf.specs.declared.board.Board.{Board}
-use Rattle.jb_menu.specs.declared.given.Given.{Given}
-use Rattle.jb_menu.specs.declared.given.Given.TheVariants.{Line}
 use Rattle.jb_menu.specs.declared.state.MenuStage.TheVariants.{Marking, Reading, Seeking}
 use Rattle.jb_menu.specs.declared.state.State.{State}
 use Rattle.jb_menu.specs.declared.state.State.TheVariants.{Area, Counting}
-
--- it is a line and no answer
-abbrev pub is_line : Given → Bool
-is_line (Line typed) = true
-is_line _ = false
 
 -- how many requests may follow in this state without another line, at most
 abbrev pub most_asked : Board → State → ℕ

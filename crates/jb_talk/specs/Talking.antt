@@ -1,44 +1,34 @@
 -- A talk as it is held: the conversation so far, but for what was handed out of it.
-use Rattle.std.specs.Prelude.{◌≡◌, ℕ, ◌-◌, ◌<◌, ◌==◌, min, ◌&&◌, List, [], ◌++◌, length, Option, Some, IfSome, if◌then◌else◌}
+use Rattle.std.specs.Prelude.{◌≡◌, ℕ, ◌-◌, ◌<◌, ◌==◌, min, ◌&&◌, List, length, Option, option_map, Some, IfSome, if◌then◌else◌}
+use Rattle.std.specs.List.{slice_get}
 use Rattle.std.specs.Option.{is_some}
 use Rattle.jb_limits.specs.declared.limits.TheConstants.{MOST_SESSION_BYTES}
 use Rattle.jb_conf.specs.declared.board.Board.{Board}
-use Rattle.jb_telnet.specs.declared.event.Event.{Event}
 use Rattle.jb_telnet.specs.Reading.{HasRead}
 use Rattle.jb_menu.specs.declared.given.Given.{Given}
 use Rattle.jb_menu.specs.Awaits.{IsFor}
 use Rattle.jb_menu.specs.Menu.{user_in}
-use Rattle.jb_talk.specs.declared.request.Request.{Request}
-use Rattle.jb_talk.specs.declared.standing.Standing.TheVariants.{Failed}
-use Rattle.jb_talk.specs.declared.standing.TheConstants.{MOST_PIECE_BYTES}
-use Rattle.jb_talk.specs.Turns.{Place, Turn}
-use Rattle.jb_talk.specs.Conversations.{Course, answered, conversation, is_going, is_waiting}
+use Rattle.jb_menu.specs.declared.state.State.{State}
+use Rattle.jb_base.specs.declared.user.User.{User}
+use Rattle.jb_speech.specs.Conversations.{HasSaid, Held}
+use Rattle.jb_speech.specs.Posture.{Posture}
+use Rattle.jb_speech.specs.declared.request.Request.{Request}
+use Rattle.jb_speech.specs.declared.speaker.TheConstants.{MOST_PIECE_BYTES}
+use Rattle.jb_talk.specs.Asking.{most_asked}
+use Rattle.jb_talk.specs.Turns.{Place}
+use Rattle.jb_talk.specs.Conversations.{end_of, is_going, is_waiting, manner_of}
 
--- the unit that the decoder is in, how many bytes were taken, where the talk is, and what is to be sent
-pub record Talking : Type 0 where
-  pub kept : List ℕ
-  pub taken : ℕ
-  pub place : Place
-  pub owed : List ℕ
-
--- where the conversation has come to, where these bytes and requests were handed out
-abbrev pub course_of : Talking → List ℕ → List Request → Course
-course_of talk sent asked = record { place = talk.place; out = sent ++ talk.owed; asked = asked }
+-- a talk as it is held: what is kept is the unit that the decoder is in
+abbrev pub Talking : Type 0
+Talking = Held (List ℕ) Place
 
 -- over these bytes and answers, these bytes and requests were handed out, and the rest stands ready: whatever answers come later
-pub record HasTalked (board : Board) (talk : Talking) (bytes : List ℕ) (answers : List Given) (sent : List ℕ) (asked : List Request) : Type 0 where
-  pub counted : talk.taken ≡ length bytes
-  pub events : List Event
-  pub read : HasRead talk.kept bytes events
-  pub is : (later : List Given) → conversation board (answers ++ later) events ≡ answered board (course_of talk sent asked) later
-
--- a turn was taken: its text is owed besides
-abbrev pub owing : Talking → Turn → Talking
-owing talk turn = record talk { place = turn.place; owed = talk.owed ++ turn.text }
+abbrev pub HasTalked : Board → Talking → List ℕ → List Given → List ℕ → List Request → Type 0
+HasTalked board = HasSaid (manner_of board) HasRead
 
 -- the user is the one who is logged in, and the board has the area
-pub record IsOfCaller (board : Board) (talk : Talking) (request : Request) : Type 0 where
-  pub logged_in : user_in talk.place.menu ≡ Some request.user
+pub record IsOfCaller (board : Board) (menu : State) (request : Request) : Type 0 where
+  pub logged_in : user_in menu ≡ Some request.user
   pub user : request.user < length board.users
   pub area : request.area < length board.areas
 
@@ -46,14 +36,23 @@ pub record IsOfCaller (board : Board) (talk : Talking) (request : Request) : Typ
 pub record Hands (board : Board) (talk : Talking) (request : Option Request) : Type 0 where
   pub menu : IsFor board talk.place.menu
   pub waits : is_waiting talk.place.standing ≡ is_some request
-  pub of : IfSome request (IsOfCaller board talk)
-
--- memory was wanting: nothing is owed, and nothing more is heard
-pub record HasFailed (talk : Talking) : Type 0 where
-  pub over : talk.place.standing ≡ Failed
-  pub none : talk.owed ≡ []
+  pub of : IfSome request (IsOfCaller board talk.place.menu)
 
 -- the most bytes that are wanted now: none before all that is owed is sent, none past the limit of a session
 abbrev pub most_wanted : Talking → ℕ
 most_wanted talk =
     if is_going talk.place.standing && (length talk.owed == 0) then min MOST_PIECE_BYTES (MOST_SESSION_BYTES - talk.taken) else 0
+
+-- a talk, as whoever speaks with it sees it
+abbrev pub posture_of : Talking → Posture
+posture_of talk = record {
+  taken = talk.taken;
+  owed = talk.owed;
+  wanted = most_wanted talk;
+  most_asked = λ board. most_asked board talk.place.menu;
+  end = end_of talk.place.standing talk.taken;
+}
+
+-- for whom a request is made, where the board has that user
+abbrev pub asker_of : Board → Request → Option User
+asker_of board request = option_map (λ one. one.user) (slice_get board.users request.user)

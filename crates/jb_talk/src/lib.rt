@@ -1,18 +1,15 @@
 //! What a session says and asks, as one function of the bytes of its caller and of the answers of the areas.
 //!
 //! The layer above may rely on this: whatever the pieces in which the bytes come, what a [`Talk`] has handed out is what the
-//! definition of a conversation in `specs/` says of all of them, with these answers (`HasTalked`). It knows no link and no
-//! area: it is given bytes and answers, and hands out bytes and requests. Telnet is that of RFC 854, 855, 857 and 858.
+//! definition of a conversation in `specs/` says of all of them, with these answers (`HasTalked`). Telnet is that of RFC 854, 855, 857 and 858.
 #![tactic(auto)]
 
 mod keys;
 mod laws;
-mod request;
 mod standing;
 mod talk;
 mod turning;
 
-pub use laws::conversations_are_one;
-pub use request::{Act, Request};
-pub use standing::{MOST_PIECE_BYTES, Standing, TalkEnd};
-pub use talk::{Heard, Talk};
+pub use laws::nobody_asks_before_log_in;
+pub use standing::Standing;
+pub use talk::Talk;

@@ -1,11 +1,8 @@
-//! Whether a talk goes on, and how it ends.
+//! Whether a talk goes on.
 ghost use Rattle.std.specs.Prelude.{◌≡◌};
 ghost use Rattle.jb_talk.specs.Conversations.{is_going};
 
 use jb_menu::MenuEnd;
-
-/// Bytes that are wanted at a time, at most.
-pub const MOST_PIECE_BYTES: usize = 4_096;
 
 /// Whether a talk goes on.
 #[derive(Clone, Copy, PartialEq, Eq)]
@@ -27,21 +24,4 @@ impl Standing {
     {
         matches!(self, Standing::On)
     }
-}
-
-/// How a talk ends, where no more bytes and answers come.
-#[derive(Clone, Copy, PartialEq, Eq)]
-pub enum TalkEnd {
-    /// The caller hangs up.
-    Hangup,
-    /// An area's answer is missing.
-    Unanswered,
-    /// The user leaves.
-    Quit,
-    /// Three log-ins were refused.
-    LoginRefused,
-    /// As many bytes came as one session takes.
-    Spent,
-    /// Memory was wanting.
-    OutOfMemory,
 }

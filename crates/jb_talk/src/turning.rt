@@ -10,24 +10,26 @@ ghost use Rattle.jb_option.specs.Table.{option_answer, sides_after};
 ghost use Rattle.jb_telnet.specs.Units.{doubled};
 ghost use Rattle.jb_talk.specs.Conversations.{is_waiting};
 ghost use Rattle.jb_talk.specs.Keys.{yes_of};
-ghost use Rattle.jb_talk.specs.Talking.{Hands, HasFailed, HasTalked, owing};
+ghost use Rattle.jb_speech.specs.Conversations.{owing};
+ghost use Rattle.jb_speech.specs.Posture.{HasFailed};
+ghost use Rattle.jb_talk.specs.Talking.{Hands, HasTalked, posture_of};
 ghost use Rattle.jb_talk.specs.Turns.{event_turn, given_turn, key_turn, key_echo, line_turn, move_turn, pressed_turn, requests, says};
 
 use crate::keys::{append_echo, key_of, yes_of};
-use crate::request::{Act, Request};
 use crate::standing::Standing;
 use crate::talk::Talk;
 use jb_base::{Bytes, OutOfMemory};
 use jb_conf::Board;
 use jb_line::{Key, Line};
 use jb_menu::{Given, Move};
+use jb_speech::{Act, Request};
 use jb_telnet::{Event, encode};
 use std::alloc::Global;
 
 impl Talk {
     /// Nothing more is sent or heard.
     pub(crate) fn fail(&mut self)
-        ensures { HasFailed self.new }
+        ensures { HasFailed (posture_of self.new) }
     {
         self.standing = Standing::Failed;
         self.owed.clear();

@@ -1,5 +1,6 @@
 use Rattle.std.proofs.Common.{◌≡◌}
-use Rattle.jb_talk.specs.Talking.{Hands, Talking, owing}
+use Rattle.jb_speech.specs.Conversations.{owing}
+use Rattle.jb_talk.specs.Talking.{Hands, Talking}
 use Rattle.jb_talk.specs.Turns.{move_turn}
 use Rattle.jb_talk.proofs.MoveLemmas.{hands_moved, ok_both}
 use Rattle.jb_talk.proofs.talk.Talk.give.Goals as goal

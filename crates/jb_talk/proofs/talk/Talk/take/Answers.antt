@@ -1,15 +1,17 @@
-use Rattle.std.proofs.Common.{◌≡◌, ℕ, ◌+◌, false, List, [], ◌∷◌, ◌++◌, Option, refl, sym, subst}
+use Rattle.std.proofs.Common.{◌≡◌, ℕ, ◌+◌, false, List, [], ◌∷◌, ◌++◌, Option, refl, sym, ap, subst}
 use Rattle.jb_telnet.specs.declared.event.Event.{Event}
 use Rattle.jb_telnet.specs.Reading.{HasRead, events_given}
 use Rattle.jb_menu.specs.Awaits.{IsFor}
 use Rattle.jb_talk.specs.Conversations.{is_waiting}
 use Rattle.std.specs.Option.{option_to_list}
 use Rattle.jb_menu.specs.declared.given.Given.{Given}
-use Rattle.jb_talk.specs.declared.request.Request.{Request}
-use Rattle.jb_talk.specs.Talking.{HasTalked, Talking, owing}
+use Rattle.jb_speech.specs.declared.request.Request.{Request}
+use Rattle.jb_speech.specs.Conversations.{owing}
+use Rattle.jb_speech.proofs.Talked.{talked_event, talked_over}
+use Rattle.jb_talk.specs.Conversations.{is_going, manner_of}
+use Rattle.jb_talk.specs.Talking.{HasTalked, Talking}
 use Rattle.jb_talk.specs.Turns.{event_turn}
-use Rattle.jb_talk.proofs.MoveLemmas.{ok_both}
-use Rattle.jb_talk.proofs.Talked.{not_on, talked_event, talked_over}
+use Rattle.jb_talk.proofs.MoveLemmas.{not_on, ok_both}
 use Rattle.jb_talk.proofs.talk.Talk.take.Goals as goal
 
 pub returns-in-On-clause-fits : goal.returns-in-On-clause-fits
@@ -28,7 +30,8 @@ returns-in-On-clause-fits c =
     (λ request turned is. λ bytes sent answers asked talked.
     let h : HasTalked board talk bytes answers sent asked = subst (λ (w : Talking). HasTalked board w bytes answers sent asked) (sym c.self.view_is) talked in
     let read = subst (λ (w : Option Event). HasRead c.push.new.self (bytes ++ c.args.byte ∷ []) (h.events ++ events_given w)) c.in-Some.is (c.push.ensures.fits bytes h.events h.read) in
-    rw (turned, is) (talked_event board talk c.push.new.self bytes sent c.args.byte (c.self.inside.taken + 1) c.in-Some.event answers asked h refl read c.in-On.is))
+    rw (turned, is) (talked_event (manner_of board) HasRead talk bytes sent answers asked h c.push.new.self c.args.byte (c.self.inside.taken + 1) refl c.in-Some.event read
+    (ap is_going c.in-On.is) (ap is_waiting c.in-On.is)))
     c.turn.ensures.turn c.turn.ensures.request
 
 pub returns-in_default-standing : goal.returns-in_default-standing
@@ -45,7 +48,7 @@ returns-in_default-standing c =
       fits = λ bytes sent answers asked talked.
           let h : HasTalked board talk bytes answers sent asked = subst (λ (w : Talking). HasTalked board w bytes answers sent asked) (sym c.self.view_is) talked in
           let read = subst (λ (w : Option Event). HasRead c.push.new.self (bytes ++ c.args.byte ∷ []) (h.events ++ events_given w)) c.in-Some.is (c.push.ensures.fits bytes h.events h.read) in
-          talked_over board talk c.push.new.self bytes sent c.args.byte (c.self.inside.taken + 1) c.in-Some.event answers asked h refl read
+          talked_over (manner_of board) HasRead talk bytes sent answers asked h c.push.new.self c.args.byte (c.self.inside.taken + 1) refl c.in-Some.event read
           (not_on c.self.inside.standing c.in_default-standing.not-On) idle;
       hands = record { menu = subst (λ (w : Talking). IsFor board w.place.menu) (sym c.self.view_is) c.requires.of; waits = idle; of = tt };
       counted = subst (λ (w : Talking). c.self.inside.taken + 1 ≡ w.taken + 1) c.self.view_is refl;

@@ -1,10 +1,10 @@
 use Rattle.std.proofs.Common.{◌≡◌, ◌+◌, ◌-◌, ◌≤◌, ◌++◌, ℕ, List, false, length, take}
 use Rattle.jb_menu.specs.Awaits.{IsFor}
 use Rattle.jb_menu.specs.declared.given.Given.{Given}
-use Rattle.jb_talk.specs.declared.request.Request.{Request}
+use Rattle.jb_speech.specs.declared.request.Request.{Request}
 use Rattle.jb_talk.specs.Conversations.{is_waiting}
 use Rattle.jb_talk.specs.Talking.{HasTalked}
-use Rattle.jb_talk.proofs.talk.Talk.hear.Given as goal
+use Rattle.jb_talk.proofs.talk.TalkSpeaker.hear.Given as goal
 
 abbrev pub invariant-loop-taken : goal.invariant-loop-taken
 invariant-loop-taken l =

@@ -1,0 +1,3 @@
+pub mod Posture
+pub mod Laws
+pub mod Conversations

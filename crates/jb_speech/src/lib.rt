@@ -1,0 +1,13 @@
+//! One side of a conversation: what it sends and asks is a function of the bytes of the other side and of the answers of the areas.
+//!
+//! The loop above is generic over [`Speaker`] and proved once. A speaker knows no link and no area: it is given bytes and answers,
+//! and hands out bytes and requests ([`Request`]).
+#![tactic(auto)]
+
+mod end;
+mod request;
+mod speaker;
+
+pub use end::TalkEnd;
+pub use request::{Act, Request};
+pub use speaker::{Heard, MOST_PIECE_BYTES, Speaker};
