@@ -1,8 +1,10 @@
 -- A command that is begun, and finished or abandoned.
-use Rattle.std.proofs.Common.{◌≡◌, ℕ, List, Result, Ok, Err, sym, ◌∙◌, ap, subst}
-use Rattle.std.specs.Prelude.{is_some}
+use Rattle.std.proofs.Common.{◌≡◌, ℕ, List, Result, Ok, Err, true, sym, ◌∙◌, ap, subst}
+use Rattle.std.specs.Option.{ForSome}
+use Rattle.std.specs.Prelude.{IfErr, is_some}
 use Rattle.jb_area.specs.Area.{IsBegun, IsResting, RestsAt, commits_of, copied_of, device_of, loaded_of, rules_of}
 use Rattle.jb_area.specs.Calls.{BeginsCall, MeetsCall, OnlyReadsOrCopies}
+use Rattle.jb_area.specs.Holds.{Opens}
 use Rattle.jb_area.specs.declared.area.OpenArea.{OpenArea}
 use Rattle.jb_base.specs.declared.area.AreaRules.{AreaRules}
 use Rattle.jb_base.specs.declared.user.User.{User}
@@ -11,6 +13,7 @@ use Rattle.jb_decide.specs.Errors.{is_area_fault}
 use Rattle.jb_decide.specs.declared.error.AreaError.{AreaError}
 use Rattle.jb_decide.specs.declared.error.AreaError.TheVariants as area
 use Rattle.jb_disk.specs.Device.{CountsFaults, Device}
+use Rattle.jb_disk.specs.Runs.{LeavesOnly}
 use Rattle.jb_index.specs.Edit.{absorbed}
 use Rattle.jb_index.specs.Index.{index_of}
 use Rattle.jb_index.specs.declared.op.OpEdit.{OpEdit}
@@ -21,8 +24,13 @@ use Rattle.jb_model.specs.declared.command.Command.{Command}
 use Rattle.jb_state.specs.declared.loaded.Loaded.{Loaded}
 use Rattle.jb_model.specs.declared.reply.Reply.{Reply}
 use Rattle.jb_shared.specs.Begun.{IsFollowed}
-use Rattle.jb_shared.specs.Keeping.{FollowsCommand, HasChange}
+use Rattle.jb_shared.specs.Keeping.{FollowsCommand, HasChange, LeavesAsIs}
 use Rattle.jb_shared.proofs.IndexLemmas.{rests_no_change}
+use Rattle.jb_state.proofs.LinkLaws.{true_not_false}
+
+-- want of memory is no fault
+pub no_want : (result : Result Reply AreaError) → result ≡ Err area.OutOfMemory → IfErr result (λ error. is_area_fault error ≡ true) → ⊥
+no_want result wanting fault = true_not_false (sym (subst (λ (r : Result Reply AreaError). IfErr r (λ error. is_area_fault error ≡ true)) wanting fault))
 
 module _ {D : Type 0} (shown : D → Device) where
   -- the edits that follow what is begun follow the command
@@ -56,6 +64,12 @@ module _ {D : Type 0} (shown : D → Device) where
         packed = tt;
         unspent = λ wanting. commits ∙ begins.commits;
       }
+
+  -- whatever a crash leaves meanwhile
+  pub leaves_abandoned : (old mid new : OpenArea D) (user : User) (moment : ℕ) (command : Command) (result : Result (Unit {0}) AreaError) → BeginsCall shown old mid user moment command result → device_of shown new ≡ device_of shown mid
+      → LeavesAsIs shown old new
+  leaves_abandoned old mid new user moment command result begins device = λ texts resting.
+      subst (λ (d : Device). ForSome (device_of shown old).contents (λ files. LeavesOnly (device_of shown old) d (Opens (loaded_of old) texts))) (sym device) (begins.crash texts resting)
 
   -- and leaves no change in doubt
   pub abandoned_no_change : (old mid new : OpenArea D) (texts : List ℕ) (user : User) (moment : ℕ) (command : Command) (value : Unit {0}) → BeginsCall shown old mid user moment command (Ok value) → IsResting shown old texts

@@ -1,5 +1,6 @@
 pub mod SettledLemmas
 pub mod HistoryLemmas
+pub mod StopLemmas
 pub mod StandingLemmas
 pub mod PassLemmas
 pub mod IndexLemmas

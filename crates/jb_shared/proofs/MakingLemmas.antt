@@ -10,6 +10,7 @@ use Rattle.jb_area.specs.Holds.{IsAtRest}
 use Rattle.jb_area.specs.declared.area.OpenArea.{OpenArea}
 use Rattle.jb_disk.specs.Device.{Device}
 use Rattle.jb_disk.specs.Files.{Files}
+use Rattle.jb_disk.specs.Runs.{Shows}
 use Rattle.jb_disk.specs.declared.file.FileId.TheVariants.{Jdt}
 use Rattle.jb_index.specs.Index.{AreaIndex, index_of}
 use Rattle.jb_model.specs.Standing.{Settled}
@@ -30,7 +31,7 @@ use Rattle.jb_turn.specs.Seats.{AreNewSeats, IsNew, TurnId, id_of, row_of}
 use Rattle.jb_turn.specs.declared.seat.Seat.{Seat}
 use Rattle.logbook.specs.Pages.{Book}
 use Rattle.jb_shared.specs.Areas.{IsShared, passes_of}
-use Rattle.jb_shared.specs.Histories.{settled_of}
+use Rattle.jb_shared.specs.Histories.{IsHistory, Tells, leads_to, settled_of}
 use Rattle.jb_shared.specs.InTurn.{SeatRow}
 use Rattle.jb_shared.specs.Inside.{known_by_both}
 use Rattle.jb_shared.specs.Making.{AreFresh, fresh_pass}
@@ -38,7 +39,9 @@ use Rattle.jb_shared.specs.Passes.{PassView, first_known}
 use Rattle.jb_shared.specs.declared.refusal.Refusal.{Refusal}
 use Rattle.jb_shared.specs.declared.shared.SharedArea.{SharedArea}
 use Rattle.jb_shared.specs.Shows.{IsShownAs}
-use Rattle.jb_shared.specs.Standing.{StandsForHistory, opening_of}
+use Rattle.jb_shared.specs.Standing.{IsAt, StandsForHistory, opening_of}
+use Rattle.jb_shared.specs.Stops.{OpensAtLast}
+use Rattle.jb_shared.proofs.StopLemmas.{comes_by_none, settled_shows}
 use Rattle.jb_shared.specs.declared.opening.Opening.{Opening}
 use Rattle.jb_shared.specs.declared.shown.ShownArea.{ShownArea}
 
@@ -56,18 +59,28 @@ told_texts (Some files) loaded texts told rests = sym (rests files refl).holds.t
 module _ {D : Type 0} (shown : D → Device) where
   -- an area at rest stands for the empty history from how it stands
   pub stands_new : (area : OpenArea D) → HasRest shown area → StandsForHistory shown area (opening_of shown area) []
-  stands_new area rest = (
-    Settled (state_of rest.texts (loaded_of area)),
-    record {
-      rules = refl;
-      history = record { numbered = λ node. refl; risen = tt; allowed = λ t. tt };
-      faults = refl;
-      told = same_told (device_of shown area).contents;
-      at = (rest.texts, rest.rests, refl);
-      kind = refl;
-      leads = λ t. ap (λ (texts : List ℕ). Settled (state_of texts (loaded_of area))) (told_texts (device_of shown area).contents (loaded_of area) rest.texts t rest.rests.kept.settled.rests);
-    },
-  )
+  stands_new area rest =
+      let device = device_of shown area in
+      let opening = opening_of shown area in
+      let legal : IsHistory opening [] = record { numbered = λ node. refl; risen = tt; allowed = λ t. tt } in
+      let at : IsAt shown area (Settled (state_of rest.texts (loaded_of area))) = (rest.texts, rest.rests, refl) in
+      let leads : Tells opening → Settled (state_of rest.texts (loaded_of area)) ≡ leads_to opening []
+      = λ t. ap (λ (texts : List ℕ). Settled (state_of texts (loaded_of area))) (told_texts device.contents (loaded_of area) rest.texts t rest.rests.kept.settled.rests) in
+      let shows : Tells opening → Shows (OpensAtLast opening []) device
+      = λ t. settled_shows shown area opening [] (state_of rest.texts (loaded_of area)) at (same_told device.contents ∙ t) legal (sym (leads t)) in (
+        Settled (state_of rest.texts (loaded_of area)),
+        record {
+          rules = refl;
+          history = legal;
+          faults = refl;
+          told = same_told device.contents;
+          at = at;
+          kind = refl;
+          leads = leads;
+          opens = shows;
+          crash = λ t. comes_by_none opening device refl (shows t).left;
+        },
+      )
 
   -- its index stands for no entries yet
   pub shows_new : (area : OpenArea D) (index : AreaIndex) → HasRest shown area → ((texts : List ℕ) → index ≡ index_of (rules_of area) (state_of texts (loaded_of area))) → IsShownAs index (opening_of shown area) []

@@ -1,8 +1,10 @@
 -- What each answer of an area makes of the history for which it stands.
 use Rattle.std.proofs.Common.{◌≡◌, ℕ, ◌+◌, Bool, true, false, cond, List, [], ◌∷◌, ◌++◌, length, Ok, Err, Option, Some, None, inl, refl, sym, ◌∙◌, ap, subst, arith}
 use Rattle.std.specs.Prelude.{is_some, not, IfSome}
-use Rattle.jb_area.specs.Area.{device_of, loaded_of, rules_of, HasDoubt, IsDoubtful, IsResting, SettlesAt}
+use Rattle.std.specs.Option.{ForSome}
+use Rattle.jb_area.specs.Area.{device_of, loaded_of, rules_of, DoubtOpens, HasDoubt, IsDoubtful, IsResting, SettlesAt}
 use Rattle.jb_area.specs.Calls.{HasRest, IsChangeOf, MeetsCall}
+use Rattle.jb_area.specs.Holds.{Opens, OpensToEither}
 use Rattle.jb_area.specs.declared.area.OpenArea.{OpenArea}
 use Rattle.jb_bytes.specs.Fault.{Rose}
 use Rattle.jb_base.specs.declared.area.AreaRules.{AreaRules}
@@ -10,6 +12,9 @@ use Rattle.jb_base.specs.declared.user.User.{User}
 use Rattle.jb_decide.specs.Coming.{Coming}
 use Rattle.jb_decide.specs.declared.error.AreaError.TheVariants as area
 use Rattle.jb_disk.specs.Device.{Device, TellsAlike}
+use Rattle.jb_disk.specs.Files.{Files}
+use Rattle.jb_disk.specs.Runs.{LeavesOnly, Shows}
+use Rattle.jb_disk.proofs.FileLemmas.{leaves_map}
 use Rattle.jb_model.specs.Answered.{Answered}
 use Rattle.jb_model.specs.History.{IsNextCall, calls_of, faults_of, last_faults}
 use Rattle.jb_model.specs.Standing.{Standing, Settled, InDoubt, Allows, StandsWithin, after_entry, change_of, is_refusal, is_settled}
@@ -22,10 +27,13 @@ use Rattle.jb_model.specs.declared.entry.Outcome.TheVariants.{Replied, InDoubt a
 use Rattle.jb_state.specs.declared.loaded.Loaded.{Loaded}
 use Rattle.jb_model.specs.declared.reply.Reply.{Reply}
 use Rattle.jb_model.proofs.HistoryLaws.{standing_after_push}
-use Rattle.jb_shared.specs.Histories.{Tells, first_state}
-use Rattle.jb_shared.specs.Standing.{IsAt, StandsAt, StandsForHistory, StandsInDoubt, StandsSettled, doubt_between, state_to}
+use Rattle.jb_shared.specs.Histories.{IsHistory, Tells, first_state, leads_to}
+use Rattle.jb_shared.specs.Keeping.{LeavesAsIs}
+use Rattle.jb_shared.specs.Standing.{IsAt, LeavesBetween, StandsAt, StandsForHistory, StandsInDoubt, StandsSettled, doubt_between, state_to}
+use Rattle.jb_shared.specs.Stops.{OpensBetween, OpensAtLast}
 use Rattle.jb_shared.specs.declared.opening.Opening.{Opening}
 use Rattle.jb_shared.proofs.HistoryLemmas.{history_push, last_new, last_same, rose_from, stopped_push}
+use Rattle.jb_shared.proofs.StopLemmas.{comes_by_more, comes_by_still, leaves_newest, only_weaken, opens_doubt, opens_either, opens_first, opens_last, opens_same, opens_settled, settled_shows, told_gives}
 
 -- the reply of an area is that of the state for which it stands
 stepped : (opening : Opening) (state its : AreaState) (user : User) (moment : ℕ) (command : Command) (reply : Reply) (after : AreaState) (rules : AreaRules) → rules ≡ opening.rules → its ≡ state
@@ -38,37 +46,84 @@ changed : (answered : Answered) (reply : Reply) (state : AreaState) (b : Bool) �
 changed answered reply state true is other same = absurd (other refl)
 changed answered reply state false is other same = ap change_of same ∙ ap (λ (b : Bool). cond b None (Some state)) is
 
+-- of a disk that shows itself so
 module _ {D : Type 0} (shown : D → Device) where
+  -- where the disk tells, a crash meanwhile leaves what opens to either end of the doubt in which the area was
+  abbrev pub LeavesDoubt : OpenArea D → OpenArea D → Type 0
+  LeavesDoubt old new = (texts : List ℕ) (coming : Option Coming) → IsDoubtful shown old texts coming
+      → ForSome (device_of shown old).contents (λ files. LeavesOnly (device_of shown old) (device_of shown new) (DoubtOpens (loaded_of old) texts coming))
+
+  -- and so does what is read then
+  abbrev pub ReadsDoubt : OpenArea D → OpenArea D → Type 0
+  ReadsDoubt old new = (texts : List ℕ) (coming : Option Coming) → IsDoubtful shown old texts coming → ForSome (device_of shown new).contents (DoubtOpens (loaded_of old) texts coming)
+
+  -- a crash meanwhile leaves what opens to the area after a history between these two, and at the end to it after the second one
+  abbrev Stops : OpenArea D → OpenArea D → Opening → List Entry → List Entry → Type 0
+  Stops old new opening first last = LeavesOnly (device_of shown old) (device_of shown new) (OpensBetween opening first last) × Shows (OpensAtLast opening last) (device_of shown new)
+
   -- the area stands for one entry more
   stands_push : (old new : OpenArea D) (opening : Opening) (history : List Entry) (entry : Entry) (standing standing' : Standing) → StandsAt shown old opening history standing
       → rules_of new ≡ rules_of old → TellsAlike (device_of shown old) (device_of shown new) → IsNextCall history entry → last_faults opening.faults (history ++ entry ∷ []) ≡ (device_of shown new).faults
       → IfSome (faults_of entry) (λ told. Rose (last_faults opening.faults history) told) → (Tells opening → Allows opening.rules standing entry)
       → is_settled standing' ≡ not (is_some (faults_of entry))
-      → IsAt shown new standing' → (Tells opening → standing' ≡ after_entry opening.rules standing entry) → StandsAt shown new opening (history ++ entry ∷ []) standing'
-  stands_push old new opening history entry standing standing' stands rules alike next last risen allow kind at leads = record {
-    rules = rules ∙ stands.rules;
-    history = history_push opening history entry stands.history next risen (λ t. subst (λ (s : Standing). Allows opening.rules s entry) (stands.leads t) (allow t));
-    faults = last;
-    told = alike ∙ stands.told;
-    at = at;
-    kind = kind ∙ ap not (sym (stopped_push false history entry));
-    leads = λ t. leads t ∙ ap (λ (s : Standing). after_entry opening.rules s entry) (stands.leads t) ∙ sym (standing_after_push opening.rules (first_state opening) history entry);
-  }
+      → IsAt shown new standing' → (Tells opening → standing' ≡ after_entry opening.rules standing entry)
+      → (Tells opening → IsHistory opening (history ++ entry ∷ []) → leads_to opening (history ++ entry ∷ []) ≡ standing' → Stops old new opening history (history ++ entry ∷ []))
+      → StandsAt shown new opening (history ++ entry ∷ []) standing' × LeavesBetween shown old new opening history (history ++ entry ∷ [])
+  stands_push old new opening history entry standing standing' stands rules alike next last risen allow kind at leads stops =
+      let legal : IsHistory opening (history ++ entry ∷ []) = history_push opening history entry stands.history next risen (λ t. subst (λ (s : Standing). Allows opening.rules s entry) (stands.leads t) (allow t)) in
+      let goes : Tells opening → standing' ≡ leads_to opening (history ++ entry ∷ [])
+      = λ t. leads t ∙ ap (λ (s : Standing). after_entry opening.rules s entry) (stands.leads t) ∙ sym (standing_after_push opening.rules (first_state opening) history entry) in
+      let stopped : Tells opening → Stops old new opening history (history ++ entry ∷ []) = λ t. stops t legal (sym (goes t)) in (
+        record {
+          rules = rules ∙ stands.rules;
+          history = legal;
+          faults = last;
+          told = alike ∙ stands.told;
+          at = at;
+          kind = kind ∙ ap not (sym (stopped_push false history entry));
+          leads = goes;
+          opens = λ t. (stopped t).1;
+          crash = λ t. comes_by_more opening (device_of shown old) (device_of shown new) history entry (stands.crash t) (stopped t).0 (stopped t).1.left;
+        },
+        λ t. (stopped t).0,
+      )
 
   -- a call that was answered: the area is settled
   pub stands_replied : (old new : OpenArea D) (opening : Opening) (history : List Entry) (node call : ℕ) (user : User) (moment : ℕ) (command : Command) (reply : Reply)
       → StandsSettled shown old opening history → MeetsCall shown old new user moment command (Ok reply) → call ≡ length (calls_of node history) + 1
-      → StandsSettled shown new opening (history ++ Called node call user moment command (Replied reply) ∷ [])
+      → StandsSettled shown new opening (history ++ Called node call user moment command (Replied reply) ∷ []) × LeavesBetween shown old new opening history (history ++ Called node call user moment command (Replied reply) ∷ [])
   stands_replied old new opening history node call user moment command reply (state, stands) meets next =
       let at = stands.at in
       let done = meets.answered at.0 at.1 in
       let is : Tells opening → step opening.rules state user moment command ≡ record { reply = reply; state = state_to done.coming }
       = λ t. stepped opening state (state_of at.0 (loaded_of old)) user moment command reply (state_to done.coming) (rules_of old) stands.rules at.2 (done.step (λ letter text. stands.told ∙ t)) in
       let entry : Entry = Called node call user moment command (Replied reply) in
-      let same : last_faults opening.faults (history ++ entry ∷ []) ≡ last_faults opening.faults history = last_same opening.faults history entry refl in (
-        state_to done.coming,
-        stands_push old new opening history entry (Settled state) (Settled (state_to done.coming)) stands meets.rules meets.alike next (same ∙ stands.faults ∙ sym meets.faults.quiet) tt
-            (λ t. ap (λ (a : Answered). a.reply) (is t)) refl (done.coming.texts, done.rests.rests, ap (state_of done.coming.texts) done.rests.is) (λ t. ap (λ (a : Answered). Settled a.state) (sym (is t))),
+      let same : last_faults opening.faults (history ++ entry ∷ []) ≡ last_faults opening.faults history = last_same opening.faults history entry refl in
+      let after : IsAt shown new (Settled (state_to done.coming)) = (done.coming.texts, done.rests.rests, ap (state_of done.coming.texts) done.rests.is) in
+      let pushed =
+      stands_push old new opening history entry (Settled state) (Settled (state_to done.coming)) stands meets.rules meets.alike next (same ∙ stands.faults ∙ sym meets.faults.quiet) tt
+      (λ t. ap (λ (a : Answered). a.reply) (is t)) refl after (λ t. ap (λ (a : Answered). Settled a.state) (sym (is t)))
+      (λ t legal ends. (
+        only_weaken (OpensToEither (loaded_of old) at.0 done.coming) (OpensBetween opening history (history ++ entry ∷ [])) (device_of shown old) (device_of shown new)
+            (λ files opens. opens_either opening history entry state (state_to done.coming) (loaded_of old) at.0 done.coming files stands.history (sym (stands.leads t)) at.2 legal ends refl opens)
+            (told_gives (device_of shown old).contents _ (stands.told ∙ t) done.crash),
+        settled_shows shown new opening (history ++ entry ∷ []) (state_to done.coming) after (meets.alike ∙ stands.told ∙ t) legal ends,
+      )) in
+      ((state_to done.coming, pushed.0), pushed.1)
+
+  -- where the area is in doubt at the end, whichever way it will end
+  in_doubt : (old new : OpenArea D) (opening : Opening) (history : List Entry) (entry : Entry) (before : AreaState) (after : Option AreaState) (loaded : Loaded) (texts : List ℕ) (coming : Option Coming)
+      → StandsWithin (doubt_between texts loaded coming) (InDoubt before after) → IsHistory opening (history ++ entry ∷ []) → leads_to opening (history ++ entry ∷ []) ≡ InDoubt before after
+      → LeavesOnly (device_of shown old) (device_of shown new) (DoubtOpens loaded texts coming) → ForSome (device_of shown new).contents (DoubtOpens loaded texts coming) → Stops old new opening history (history ++ entry ∷ [])
+  in_doubt old new opening history entry before after loaded texts coming within legal ends crash opens =
+      let device = device_of shown new in
+      let more = history ++ entry ∷ [] in
+      let to : (files : Files) → DoubtOpens loaded texts coming files → OpensAtLast opening more files = λ files is. opens_doubt opening more before after loaded texts coming files legal ends within is in (
+        only_weaken (DoubtOpens loaded texts coming) (OpensBetween opening history more) (device_of shown old) device (λ files is. opens_last opening history entry files (to files is)) crash,
+        record {
+          read = λ files there. to files (opens files there);
+          left = leaves_map (DoubtOpens loaded texts coming) (OpensAtLast opening more) device.moments to (leaves_newest (DoubtOpens loaded texts coming) (device_of shown old) device crash);
+        },
       )
 
   -- the doubt of a call that was stopped
@@ -76,47 +131,64 @@ module _ {D : Type 0} (shown : D → Device) where
       → rules_of old ≡ opening.rules → state_of texts (loaded_of old) ≡ state → (Tells opening → is_some (device_of shown old).contents ≡ true)
       → IsChangeOf shown old texts user moment command coming → IsDoubtful shown new texts coming → loaded_of new ≡ loaded_of old
       → (after : Option AreaState) × IsAt shown new (InDoubt state after) × (Tells opening → after ≡ change_of (step opening.rules state user moment command))
+      × StandsWithin (doubt_between texts (loaded_of old) coming) (InDoubt state after)
   doubt_at old new opening state texts user moment command None rules is told change doubt loaded =
-      (change_of (step opening.rules state user moment command), (texts, None, doubt, ap (state_of texts) loaded ∙ is), λ t. refl)
+      (change_of (step opening.rules state user moment command), (texts, None, doubt, ap (state_of texts) loaded ∙ is), λ t. refl, is)
   doubt_at old new opening state texts user moment command (Some coming) rules is told (reply, change, other, fits, becomes, somewhere, answered) doubt loaded = (
     Some (state_to coming),
     (texts, Some coming, doubt, (ap (state_of texts) loaded ∙ is, refl)),
     λ t. sym (changed (step opening.rules state user moment command) reply (state_to coming) (is_refusal reply) refl (λ refuses. other (inl refuses))
         (stepped opening state (state_of texts (loaded_of old)) user moment command reply (state_to coming) (rules_of old) rules is (answered (λ letter text. told t)))),
+    (is, refl),
   )
 
   -- a call that the device stopped
   pub stands_stopped : (old new : OpenArea D) (opening : Opening) (history : List Entry) (node call : ℕ) (user : User) (moment : ℕ) (command : Command)
       → StandsSettled shown old opening history → MeetsCall shown old new user moment command (Err area.StoreFault) → call ≡ length (calls_of node history) + 1
       → StandsForHistory shown new opening (history ++ Called node call user moment command (LeftInDoubt (device_of shown new).faults) ∷ [])
+      × LeavesBetween shown old new opening history (history ++ Called node call user moment command (LeftInDoubt (device_of shown new).faults) ∷ [])
   stands_stopped old new opening history node call user moment command (state, stands) meets next =
       let at = stands.at in
       let stopped = meets.failed at.0 at.1 in
       let doubt = doubt_at old new opening state at.0 user moment command stopped.coming stands.rules at.2 (λ t. stands.told ∙ t) stopped.change stopped.doubt stopped.loaded in
       let entry : Entry = Called node call user moment command (LeftInDoubt (device_of shown new).faults) in
       let last : last_faults opening.faults (history ++ entry ∷ []) ≡ (device_of shown new).faults = last_new opening.faults history entry (device_of shown new).faults refl in
-      let rose = rose_from (last_faults opening.faults history) (device_of shown old).faults (device_of shown new).faults (omega (arith, stands.faults)) meets.faults.cause in (
-        InDoubt state doubt.0,
-        stands_push old new opening history entry (Settled state) (InDoubt state doubt.0) stands meets.rules meets.alike next last rose (λ t. tt)
-            refl doubt.1 (λ t. ap (InDoubt state) (doubt.2 t)),
-      )
+      let rose = rose_from (last_faults opening.faults history) (device_of shown old).faults (device_of shown new).faults (omega (arith, stands.faults)) meets.faults.cause in
+      let within : StandsWithin (doubt_between at.0 (loaded_of old) stopped.coming) (InDoubt state doubt.0) = doubt.3 in
+      let pushed =
+      stands_push old new opening history entry (Settled state) (InDoubt state doubt.0) stands meets.rules meets.alike next last rose (λ t. tt)
+      refl doubt.1 (λ t. ap (InDoubt state) (doubt.2 t))
+      (λ t legal ends. in_doubt old new opening history entry state doubt.0 (loaded_of old) at.0 stopped.coming within legal ends
+      (told_gives (device_of shown old).contents _ (stands.told ∙ t) stopped.crash) stopped.opens) in
+      ((InDoubt state doubt.0, pushed.0), pushed.1)
 
   -- a call that wanted memory
   pub stands_still : (old new : OpenArea D) (opening : Opening) (history : List Entry) (user : User) (moment : ℕ) (command : Command)
-      → StandsSettled shown old opening history → MeetsCall shown old new user moment command (Err area.OutOfMemory) → StandsForHistory shown new opening history
-  stands_still old new opening history user moment command (state, stands) meets =
+      → StandsSettled shown old opening history → MeetsCall shown old new user moment command (Err area.OutOfMemory) → LeavesAsIs shown old new
+      → StandsForHistory shown new opening history × LeavesBetween shown old new opening history history
+  stands_still old new opening history user moment command (state, stands) meets still =
       let at = stands.at in
-      let failed = meets.failed at.0 at.1 in (
-        Settled state,
-        record {
-          rules = meets.rules ∙ stands.rules;
-          history = stands.history;
-          faults = stands.faults ∙ sym meets.faults.cause;
-          told = meets.alike ∙ stands.told;
-          at = (at.0, failed.0.rests, ap (state_of at.0) failed.0.is ∙ at.2);
-          kind = stands.kind;
-          leads = stands.leads;
-        },
+      let failed = meets.failed at.0 at.1 in
+      let now : IsAt shown new (Settled state) = (at.0, failed.0.rests, ap (state_of at.0) failed.0.is ∙ at.2) in
+      let leaves : LeavesBetween shown old new opening history history
+      = λ t. only_weaken (Opens (loaded_of old) at.0) (OpensBetween opening history history) (device_of shown old) (device_of shown new)
+      (λ files opens. opens_same opening history files (opens_settled opening history state (loaded_of old) at.0 files stands.history (sym (stands.leads t)) at.2 opens))
+      (told_gives (device_of shown old).contents _ (stands.told ∙ t) (still at.0 at.1)) in (
+        (
+          Settled state,
+          record {
+            rules = meets.rules ∙ stands.rules;
+            history = stands.history;
+            faults = stands.faults ∙ sym meets.faults.cause;
+            told = meets.alike ∙ stands.told;
+            at = now;
+            kind = stands.kind;
+            leads = stands.leads;
+            opens = λ t. settled_shows shown new opening history state now (meets.alike ∙ stands.told ∙ t) stands.history (sym (stands.leads t));
+            crash = λ t. comes_by_still opening (device_of shown old) (device_of shown new) history (stands.crash t) (leaves t);
+          },
+        ),
+        leaves,
       )
 
   -- the state in which a doubt ends
@@ -137,29 +209,40 @@ module _ {D : Type 0} (shown : D → Device) where
   -- a doubt that is ended
   pub stands_reopened : (old new : OpenArea D) (opening : Opening) (history : List Entry) (stands : Bool) → StandsInDoubt shown old opening history
       → ((texts : List ℕ) (coming : Option Coming) → IsDoubtful shown old texts coming → SettlesAt shown stands (loaded_of old) texts coming new)
-      → rules_of new ≡ rules_of old → TellsAlike (device_of shown old) (device_of shown new) → (device_of shown new).faults ≡ (device_of shown old).faults
-      → StandsSettled shown new opening (history ++ Reopened stands ∷ [])
-  stands_reopened old new opening history stands (before, after, was) settled rules alike quiet =
+      → LeavesDoubt old new → rules_of new ≡ rules_of old → TellsAlike (device_of shown old) (device_of shown new) → (device_of shown new).faults ≡ (device_of shown old).faults
+      → StandsSettled shown new opening (history ++ Reopened stands ∷ []) × LeavesBetween shown old new opening history (history ++ Reopened stands ∷ [])
+  stands_reopened old new opening history stands (before, after, was) settled crash rules alike quiet =
       let at = was.at in
       let end = ends_at old new opening before after stands at.0 at.1 at.3 (settled at.0 at.1 at.2) in
       let same : last_faults opening.faults (history ++ Reopened stands ∷ []) ≡ last_faults opening.faults history = last_same opening.faults history (Reopened stands) refl in
-      (end.0, stands_push old new opening history (Reopened stands) (InDoubt before after) (Settled end.0) was rules alike tt (same ∙ was.faults ∙ sym quiet) tt (λ t. end.3) refl end.1 (λ t. end.2))
+      let pushed =
+      stands_push old new opening history (Reopened stands) (InDoubt before after) (Settled end.0) was rules alike tt (same ∙ was.faults ∙ sym quiet) tt (λ t. end.3) refl end.1 (λ t. end.2)
+      (λ t legal ends. (
+        only_weaken (DoubtOpens (loaded_of old) at.0 at.1) (OpensBetween opening history (history ++ Reopened stands ∷ [])) (device_of shown old) (device_of shown new)
+            (λ files opens. opens_first opening history (Reopened stands) files (opens_doubt opening history before after (loaded_of old) at.0 at.1 files was.history (sym (was.leads t)) at.3 opens))
+            (told_gives (device_of shown old).contents _ (was.told ∙ t) (crash at.0 at.1 at.2)),
+        settled_shows shown new opening (history ++ Reopened stands ∷ []) end.0 end.1 (alike ∙ was.told ∙ t) legal ends,
+      )) in
+      ((end.0, pushed.0), pushed.1)
 
   -- a doubt that could not be ended
   pub stands_not_begun : (old new : OpenArea D) (opening : Opening) (history : List Entry) (node call : ℕ) (user : User) (moment : ℕ) (command : Command) → StandsInDoubt shown old opening history
-      → ((texts : List ℕ) (coming : Option Coming) → IsDoubtful shown old texts coming → IsDoubtful shown new texts coming) → loaded_of new ≡ loaded_of old
+      → ((texts : List ℕ) (coming : Option Coming) → IsDoubtful shown old texts coming → IsDoubtful shown new texts coming) → loaded_of new ≡ loaded_of old → LeavesDoubt old new → ReadsDoubt old new
       → rules_of new ≡ rules_of old → TellsAlike (device_of shown old) (device_of shown new) → Rose (device_of shown old).faults (device_of shown new).faults → call ≡ length (calls_of node history) + 1
       → StandsForHistory shown new opening (history ++ Called node call user moment command (NotBegun (device_of shown new).faults) ∷ [])
-  stands_not_begun old new opening history node call user moment command (before, after, was) still loaded rules alike rose next =
+      × LeavesBetween shown old new opening history (history ++ Called node call user moment command (NotBegun (device_of shown new).faults) ∷ [])
+  stands_not_begun old new opening history node call user moment command (before, after, was) still loaded crash reads rules alike rose next =
       let at = was.at in
       let entry : Entry = Called node call user moment command (NotBegun (device_of shown new).faults) in
       let last : last_faults opening.faults (history ++ entry ∷ []) ≡ (device_of shown new).faults = last_new opening.faults history entry (device_of shown new).faults refl in
-      let risen = rose_from (last_faults opening.faults history) (device_of shown old).faults (device_of shown new).faults (omega (arith, was.faults)) rose in (
-        InDoubt before after,
-        stands_push old new opening history entry (InDoubt before after) (InDoubt before after) was rules alike next last risen (λ t. tt)
-            refl
-            (at.0, at.1, still at.0 at.1 at.2, subst (λ (l : Loaded). StandsWithin (doubt_between at.0 l at.1) (InDoubt before after)) (sym loaded) at.3) (λ t. refl),
-      )
+      let risen = rose_from (last_faults opening.faults history) (device_of shown old).faults (device_of shown new).faults (omega (arith, was.faults)) rose in
+      let pushed =
+      stands_push old new opening history entry (InDoubt before after) (InDoubt before after) was rules alike next last risen (λ t. tt)
+      refl
+      (at.0, at.1, still at.0 at.1 at.2, subst (λ (l : Loaded). StandsWithin (doubt_between at.0 l at.1) (InDoubt before after)) (sym loaded) at.3) (λ t. refl)
+      (λ t legal ends. in_doubt old new opening history entry before after (loaded_of old) at.0 at.1 at.3 legal ends
+      (told_gives (device_of shown old).contents _ (was.told ∙ t) (crash at.0 at.1 at.2)) (reads at.0 at.1 at.2)) in
+      ((InDoubt before after, pushed.0), pushed.1)
 
   -- an area that is not in doubt is settled
   pub stands_settled : (area : OpenArea D) (opening : Opening) (history : List Entry) → StandsForHistory shown area opening history → (HasDoubt shown area → ⊥) → StandsSettled shown area opening history

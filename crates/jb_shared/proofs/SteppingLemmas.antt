@@ -25,9 +25,9 @@ use Rattle.jb_state.specs.declared.loaded.Loaded.{Loaded}
 use Rattle.jb_turn.specs.Rows.{Begins, StandsFrom}
 use Rattle.jb_turn.specs.Steps.{given, sighted as took_in}
 use Rattle.jb_turn.specs.declared.seat.Held.{Held}
-use Rattle.jb_shared.specs.Calls.{AreLast, AreLeft, AreSteps, Asks, Calls, HasSteps, Runs}
+use Rattle.jb_shared.specs.Calls.{AreLast, AreLeft, AreSteps, Asks, Calls, HasSteps}
 use Rattle.jb_shared.specs.Histories.{settled_of}
-use Rattle.jb_shared.specs.InTurn.{SeatRow}
+use Rattle.jb_shared.specs.InTurn.{Knows, LeavesInTurn, SeatRow}
 use Rattle.jb_shared.specs.Inside.{known_by_both}
 use Rattle.jb_shared.specs.Keeping.{HasChange, IsKept, IsKeptSettled}
 use Rattle.jb_shared.specs.Passes.{Known, refusing, seen, stepping}
@@ -39,7 +39,7 @@ use Rattle.jb_shared.specs.declared.refusal.Refusal.TheVariants.{Gap, Spent, Ste
 use Rattle.jb_shared.specs.declared.shown.ShownArea.{ShownArea}
 use Rattle.jb_shared.proofs.CallLemmas.{calls_through, leads_behind, leads_still}
 use Rattle.jb_shared.proofs.IndexLemmas.{unchanged_no_change}
-use Rattle.jb_shared.proofs.KeepingLemmas.{kept_wanting}
+use Rattle.jb_shared.proofs.KeepingLemmas.{kept_wanting, leaves_wanting}
 use Rattle.jb_shared.proofs.SettledLemmas.{begins_itself, begins_on}
 
 module _ {D : Type 0} (shown : D → Device) where
@@ -82,12 +82,21 @@ module _ {D : Type 0} (shown : D → Device) where
   pub kept_without : (old new : ShownArea D) (area : OpenArea D) (mark : PairMark Opening) (history : List Entry) (user : User) (moment : ℕ) → IsKeptSettled shown old mark history → StepsPack shown old.area area (Err failing.OutOfMemory)
       → new ≡ record { area = area; shower = old.shower; doubted = old.doubted } → IsKept shown new mark history
   kept_without old new area mark history user moment kept steps same =
-      kept_wanting shown old new area old.doubted mark history user moment Pack kept (meets_step old.area area user moment failing.OutOfMemory steps) same
+      kept_wanting shown old new area old.doubted mark history user moment Pack kept (meets_step old.area area user moment failing.OutOfMemory steps) steps.crash same
 
   -- and behind one that was done
   pub kept_step : (old new : ShownArea D) (area : OpenArea D) (mark : PairMark Opening) (history : List Entry) (user : User) (moment : ℕ) (more : Bool) → IsKeptSettled shown old mark history → StepsPack shown old.area area (Ok more)
       → new ≡ record { area = area; shower = old.shower; doubted = old.doubted } → IsKept shown new mark history
   kept_step old new area mark history user moment more kept steps same = kept_without old new area mark history user moment kept (step_wanting old.area area more steps) same
+
+  -- whatever a crash leaves meanwhile
+  pub step_leaves : (known : SeatRow) (old : ShownArea D) (area : OpenArea D) (user : User) (moment : ℕ) (more : Bool) → Knows (IsKeptSettled shown) old known → StepsPack shown old.area area (Ok more) → LeavesInTurn shown old.area area known known
+  step_leaves known old area user moment more knows steps =
+      leaves_wanting shown known old area user moment Pack knows (meets_step old.area area user moment failing.OutOfMemory (step_wanting old.area area more steps)) steps.crash
+
+  -- a step by its answer
+  pub steps_as : (old new : OpenArea D) (result answer : Result Bool AreaError) → result ≡ answer → StepsPack shown old new result → StepsPack shown old new answer
+  steps_as old new result answer is steps = subst (λ (r : Result Bool AreaError). StepsPack shown old new r) is steps
 
   -- one that the device stopped leaves no change in doubt
   pub step_no_change : (old new : OpenArea D) (texts : List ℕ) → IsResting shown old texts → StepsPack shown old new (Err failing.StoreFault) → HasChange shown new → ⊥

@@ -6,12 +6,13 @@ use Rattle.jb_base.specs.declared.user.User.{User}
 use Rattle.jb_model.specs.declared.command.Command.{Command}
 use Rattle.jb_model.specs.declared.command.Command.TheVariants.{Pack}
 use Rattle.jb_model.specs.declared.entry.Entry.{Entry}
-use Rattle.jb_model.specs.declared.entry.Entry.TheVariants.{Called, Reopened}
+use Rattle.jb_model.specs.declared.entry.Entry.TheVariants.{Called}
 use Rattle.jb_model.specs.declared.entry.Outcome.{Outcome}
 use Rattle.jb_model.specs.declared.entry.Outcome.TheVariants.{Replied, InDoubt, NotBegun}
 use Rattle.jb_model.specs.declared.reply.Reply.{Reply}
 use Rattle.jb_turn.specs.Rows.{Begins}
 use Rattle.jb_shared.specs.Histories.{IsHistory, settled_of}
+use Rattle.jb_shared.specs.Stops.{ended}
 use Rattle.jb_shared.specs.Passes.{Known, refusing, seen, stepping}
 use Rattle.jb_shared.specs.declared.error.SharedError.{SharedError}
 use Rattle.jb_shared.specs.declared.error.SharedError.TheVariants.{StoreFault, Gap, RunSpent, OutOfMemory}
@@ -25,8 +26,7 @@ call_of node mine user moment command outcome = Called node (length mine + 1) us
 
 -- what is known once a doubt has ended so, where there was one
 abbrev pub ending : Known → Option Bool → Known
-ending known None = known
-ending known (Some stands) = record known { front = known.front ++ Reopened stands ∷ [] }
+ending known end = record known { front = ended known.front end }
 
 -- what is known once the node's call is recorded, as the last entry
 abbrev pub recording : Known → Entry → Known

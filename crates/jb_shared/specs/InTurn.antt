@@ -1,5 +1,7 @@
 -- What a call makes of what its seat knows, while the area is out with the seat.
-use Rattle.std.specs.Prelude.{◌≡◌, List}
+use Rattle.std.specs.Prelude.{◌≡◌, List, Some}
+use Rattle.jb_area.specs.declared.area.OpenArea.{OpenArea}
+use Rattle.jb_disk.specs.Device.{Device}
 use Rattle.jb_model.specs.declared.entry.Entry.{Entry}
 use Rattle.jb_model.specs.declared.entry.Outcome.{Outcome}
 use Rattle.jb_publish.specs.Accounts.{Account}
@@ -14,7 +16,7 @@ use Rattle.jb_shared.specs.Calls.{call_of}
 use Rattle.jb_shared.specs.Histories.{settled_of}
 use Rattle.jb_shared.specs.Inside.{known_by_both}
 use Rattle.jb_shared.specs.Passes.{Known}
-use Rattle.jb_shared.specs.Standing.{caller_of}
+use Rattle.jb_shared.specs.Standing.{LeavesBetween, caller_of}
 use Rattle.jb_shared.specs.declared.call.Call.{Call}
 use Rattle.jb_shared.specs.declared.opening.Opening.{Opening}
 use Rattle.jb_shared.specs.declared.refusal.Refusal.{Refusal}
@@ -41,6 +43,11 @@ pub record Leads (holds : Known → Known → Type 0) (old new : SeatRow) : Type
   pub mark : new.opening ≡ old.opening
   pub grows : Begins old.front new.front
   pub known : (account : Account Opening Entry) → holds (known_by_both old account) (known_by_both new account)
+
+-- a crash at any moment meanwhile leaves what opens to the area after a history that begins with all that the seat had seen, and so with all
+-- that looks were shown, and that begins what the seat has seen then; the disk shows itself so
+abbrev pub LeavesInTurn : {D : Type 0} → (D → Device) → OpenArea D → OpenArea D → SeatRow → SeatRow → Type 0
+LeavesInTurn shown old new known known' = (first : PairMark Opening) → known.opening ≡ Some first → LeavesBetween shown old new first.opening known.front known'.front
 
 module _ {D : Type 0} (stands : ShownArea D → PairMark Opening → List Entry → Type 0) where
   -- the state stands so for all that is known, in which there are just those calls of the node that it knows as its own

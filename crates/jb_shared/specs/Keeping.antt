@@ -1,10 +1,13 @@
 -- When what lies behind the turn stands for a history: the open area does, and looks see all that is settled of it.
 use Rattle.std.specs.Prelude.{◌≡◌, ℕ, List, [], Some, None, IsSome, unwrap_or}
+use Rattle.std.specs.Option.{ForSome}
 use Rattle.jb_area.specs.Area.{IsDoubtful, IsResting, device_of, loaded_of, rules_of}
+use Rattle.jb_area.specs.Holds.{Opens}
 use Rattle.jb_area.specs.declared.area.OpenArea.{OpenArea}
 use Rattle.jb_base.specs.declared.user.User.{User}
 use Rattle.jb_decide.specs.Coming.{Coming}
 use Rattle.jb_disk.specs.Device.{Device}
+use Rattle.jb_disk.specs.Runs.{LeavesOnly}
 use Rattle.jb_index.specs.Edit.{absorbed}
 use Rattle.jb_index.specs.Index.{AreaIndex, index_of}
 use Rattle.jb_index.specs.declared.op.OpEdit.{OpEdit}
@@ -32,6 +35,11 @@ module _ {D : Type 0} (shown : D → Device) where
   FollowsCommand area user moment command edits = (texts : List ℕ) → IsResting shown area texts → IsSome (device_of shown area).contents
       → absorbed (index_of (rules_of area) (state_of texts (loaded_of area))) edits
       ≡ index_of (rules_of area) (step (rules_of area) (state_of texts (loaded_of area)) user moment command).state
+
+  -- of an area at rest whose disk tells its files, a crash meanwhile leaves what opens to it as it was
+  abbrev pub LeavesAsIs : OpenArea D → OpenArea D → Type 0
+  LeavesAsIs old new = (texts : List ℕ) → IsResting shown old texts
+      → ForSome (device_of shown old).contents (λ files. LeavesOnly (device_of shown old) (device_of shown new) (Opens (loaded_of old) texts))
 
   -- where the disk tells its files: if the change that is in doubt stands, the edits make of the index that of the area after it
   abbrev pub IsDoubted : OpenArea D → Opening → List Entry → AreaIndex → List OpEdit → Type 0

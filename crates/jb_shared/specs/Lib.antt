@@ -1,6 +1,7 @@
 pub mod Histories
 pub mod Standing
 pub mod Shows
+pub mod Stops
 pub mod Passes
 pub mod Inside
 pub mod Begun

@@ -1,9 +1,10 @@
 -- When an open area stands for a history.
-use Rattle.std.specs.Prelude.{◌≡◌, ℕ, not, List, Option, Some, None, is_some, option_map}
+use Rattle.std.specs.Prelude.{◌≡◌, ℕ, not, List, length, Option, Some, None, is_some, option_map}
 use Rattle.jb_area.specs.Area.{device_of, loaded_of, rules_of, IsDoubtful, IsResting}
 use Rattle.jb_area.specs.declared.area.OpenArea.{OpenArea}
 use Rattle.jb_decide.specs.Coming.{Coming}
 use Rattle.jb_disk.specs.Device.{Device}
+use Rattle.jb_disk.specs.Runs.{LeavesOnly, Shows}
 use Rattle.jb_disk.specs.declared.file.FileId.TheVariants.{Jdt}
 use Rattle.jb_model.specs.History.{last_faults}
 use Rattle.jb_model.specs.Standing.{Standing, Settled, InDoubt, StandsWithin, is_settled}
@@ -11,7 +12,9 @@ use Rattle.jb_state.specs.State.{AreaState, state_of}
 use Rattle.jb_model.specs.declared.entry.Entry.{Entry}
 use Rattle.jb_model.specs.declared.entry.Entry.TheVariants.{Called, Reopened}
 use Rattle.jb_state.specs.declared.loaded.Loaded.{Loaded}
+use Rattle.jb_turn.specs.Rows.{Begins}
 use Rattle.jb_shared.specs.Histories.{IsHistory, Tells, leads_to, stopped_last}
+use Rattle.jb_shared.specs.Stops.{ComesBy, OpensBetween, OpensAtLast}
 use Rattle.jb_shared.specs.declared.opening.Opening.{Opening}
 
 -- the node whose call an entry is; a reopening is nobody's
@@ -36,6 +39,7 @@ module _ {D : Type 0} (shown : D → Device) where
     loaded = loaded_of area;
     texts = option_map (λ files. files Jdt) (device_of shown area).contents;
     faults = (device_of shown area).faults;
+    moments = length (device_of shown area).moments;
   }
 
   -- the area rests, settled at this state; or a call was stopped, which left it between these two
@@ -50,7 +54,8 @@ module _ {D : Type 0} (shown : D → Device) where
 
   -- the area stands so after the history: by the same rules, with a disk that tells as it did and has failed as often as the
   -- history says; in doubt just where the device stopped the last call; and where the disk tells its files, just there where the
-  -- history leads
+  -- history leads. Then what is read, and what a crash leaves now, opens to the area after the history, and since the sharing the
+  -- disk has come by each part of it
   pub record StandsAt (area : OpenArea D) (opening : Opening) (entries : List Entry) (standing : Standing) : Type 0 where
     pub rules : rules_of area ≡ opening.rules
     pub history : IsHistory opening entries
@@ -59,6 +64,13 @@ module _ {D : Type 0} (shown : D → Device) where
     pub at : IsAt area standing
     pub kind : is_settled standing ≡ not (stopped_last entries)
     pub leads : Tells opening → standing ≡ leads_to opening entries
+    pub opens : Tells opening → Shows (OpensAtLast opening entries) (device_of shown area)
+    pub crash : Tells opening → (part : List Entry) → Begins part entries → ComesBy opening part entries (device_of shown area)
+
+  -- where the disk tells its files, a crash at any moment from the old area to the new one leaves what opens to the area after a
+  -- history that begins with the first one and begins the second one
+  abbrev pub LeavesBetween : OpenArea D → OpenArea D → Opening → List Entry → List Entry → Type 0
+  LeavesBetween old new opening first last = Tells opening → LeavesOnly (device_of shown old) (device_of shown new) (OpensBetween opening first last)
 
   -- the area stands for the history, at rest or in doubt
   abbrev pub StandsForHistory : OpenArea D → Opening → List Entry → Type 0

@@ -3,7 +3,7 @@ ghost use Rattle.std.specs.Prelude.{◌≡◌, ◌<◌, ◌≤◌, Bool, Option,
 ghost use Rattle.jb_limits.specs.declared.limits.TheConstants.{MOST_ENTRIES, MOST_NAME_BYTES};
 ghost use Rattle.jb_turn.specs.Seats.{row_of};
 ghost use Rattle.jb_shared.specs.Calls.{IsStoppedCall, Performs, Runs, ending};
-ghost use Rattle.jb_shared.specs.InTurn.{IsOut, Leads, next_call};
+ghost use Rattle.jb_shared.specs.InTurn.{IsOut, Leads, LeavesInTurn, next_call};
 ghost use Rattle.jb_shared.specs.Keeping.{IsKept, IsKeptInDoubt, IsKeptSettled};
 
 use crate::call::Call;
@@ -38,6 +38,7 @@ fn end_doubt<D: Disk, R: Wait>(
     ensures err { IfErr result.1 (λ error. (error ≡ SharedError.StoreFault)
         × Leads (λ old new. IsStoppedCall old new call.entry.user.now call.entry.moment
         call.entry.command.now) (row_of seat.old) (row_of seat.new)) }
+    ensures crash { LeavesInTurn D.device held.state.area result.0.state.area (row_of seat.old) (row_of seat.new) }
 {
     match held.state.area.reopen() {
         Ok(stands) => {
@@ -69,6 +70,7 @@ fn settle<D: Disk, R: Wait>(
     ensures err { IfErr result.1 (λ error. (error ≡ SharedError.StoreFault)
         × Leads (λ old new. IsStoppedCall old new call.entry.user.now call.entry.moment
         call.entry.command.now) (row_of seat.old) (row_of seat.new)) }
+    ensures crash { LeavesInTurn D.device held.state.area result.0.state.area (row_of seat.old) (row_of seat.new) }
 {
     if held.state.area.in_doubt() {
         end_doubt(rt, alloc, turn, seat, held, call)
@@ -91,6 +93,7 @@ fn run<D: Disk, R: Wait>(
     ensures out { IsOut (IsKept D.device) turn.now seat.new result.0 }
     ensures runs { Leads (λ old new. Runs old new (next_call (row_of seat.old) call.entry) result.1)
         (row_of seat.old) (row_of seat.new) }
+    ensures crash { LeavesInTurn D.device held.state.area result.0.state.area (row_of seat.old) (row_of seat.new) }
 {
     let mut held = held;
     let state = &mut held.state;
@@ -125,6 +128,7 @@ pub(crate) fn perform<D: Disk, R: Wait>(
     ensures out { IsOut (IsKept D.device) turn.now seat.new result.0 }
     ensures performs { Leads (λ old new. Performs old new call.entry.user.now call.entry.moment
         call.entry.command.now result.1) (row_of seat.old) (row_of seat.new) }
+    ensures crash { LeavesInTurn D.device held.state.area result.0.state.area (row_of seat.old) (row_of seat.new) }
 {
     let (held, settled) = settle(rt, alloc, turn, seat, held, call);
     match settled {

@@ -1,10 +1,10 @@
 //! A command on the area, with what it changes in the index.
-ghost use Rattle.std.specs.Prelude.{◌≤◌, length, OnErr, OnOk};
+ghost use Rattle.std.specs.Prelude.{◌≡◌, ◌≤◌, Err, length, OnErr, OnOk};
 ghost use Rattle.jb_area.specs.Area.{HasBegun};
 ghost use Rattle.jb_area.specs.Calls.{EndsCall, HasRest, MeetsCall};
 ghost use Rattle.jb_decide.specs.Errors.{is_area_fault};
 ghost use Rattle.jb_limits.specs.declared.limits.TheConstants.{MOST_NAME_BYTES};
-ghost use Rattle.jb_shared.specs.Keeping.{FollowsCommand, HasChange};
+ghost use Rattle.jb_shared.specs.Keeping.{FollowsCommand, HasChange, LeavesAsIs};
 
 use crate::call::Call;
 use crate::change::IndexChange;
@@ -42,6 +42,7 @@ pub(crate) fn run<D: Disk>(
     ensures doubted { OnErr result (HasChange D.device area.new
         → FollowsCommand D.device area.old call.entry.user.now call.entry.moment call.entry.command.now
         change.new.op) }
+    ensures wanting { result ≡ Err AreaError.OutOfMemory → LeavesAsIs D.device area.old area.new }
 {
     match area.begin(alloc, call.user, call.moment, call.command) {
         Ok(()) => {

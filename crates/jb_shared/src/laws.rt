@@ -1,9 +1,19 @@
-//! What is settled of a history, in the words of the area's definition.
-ghost use Rattle.jb_shared.specs.Laws.{SettledIsLongest};
+//! What is settled of a history, in the words of the area's definition, and what no stop takes back.
+ghost use Rattle.jb_shared.specs.Laws.{SettledIsLongest, ShownSurvivesStops};
+
+use jb_disk::Disk;
 
 /// Of a legal history, where the disk tells its files, all that is settled is the longest beginning after which the area is settled.
 ///
 /// It computes nothing: its contract is the law.
 pub fn settled_is_longest()
     ensures { SettledIsLongest }
+{}
+
+/// Whatever lies in the turn for a history, where the disk tells its files: what looks see is all that is settled of the history, and
+/// what is read of the files, and whatever a crash leaves of them, opens to the area after the history, which begins with that.
+///
+/// It computes nothing: its contract is the law.
+pub fn shown_survives_stops<D: Disk>()
+    ensures { ShownSurvivesStops D.device }
 {}

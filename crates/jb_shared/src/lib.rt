@@ -6,8 +6,9 @@
 //! it copies a part of the texts, and the calls of others go in between. [`SharedArea::look`] and
 //! [`SharedArea::unread_count`] take no turn: they see an index in two copies, of which each call that is done shows one anew, and so
 //! all that is settled of the history that the node has seen, or more. [`SharedArea::close`] takes all passes and
-//! gives the area back, with one history of which each pass has seen a beginning. What the disk holds is said where it tells
-//! its files; that calls are numbered and that counts of faults rise is said always.
+//! gives the area back, with one history of which each pass has seen a beginning. Whenever the machine stops, the files open to the area
+//! after a beginning of that history. What the disk holds is said where it tells its files; that
+//! calls are numbered and that counts of faults rise is said always.
 #![tactic(auto)]
 
 mod asking;
@@ -34,7 +35,7 @@ mod shown;
 mod stepping;
 
 pub use error::{CloseError, SharedError};
-pub use laws::settled_is_longest;
+pub use laws::{settled_is_longest, shown_survives_stops};
 pub use opening::Opening;
 pub use pass::Pass;
 pub use refusal::Refusal;

@@ -3,11 +3,12 @@
 use jb_base::{AreaRules, Bytes};
 use jb_state::Loaded;
 
-/// How an area stood when it was shared: its rules, what was loaded, its texts where the disk tells its files, and how often
-/// its device had failed. No value of it is made: it exists in proofs alone.
+/// How an area stood when it was shared: its rules, what was loaded, its texts where the disk tells its files, how often its
+/// device had failed, and at how many moments so far it tells what a crash leaves. No value of it is made: it exists in proofs alone.
 pub struct Opening {
     pub rules: AreaRules,
     pub loaded: Loaded,
     pub texts: Option<Bytes>,
     pub faults: u64,
+    pub moments: u64,
 }

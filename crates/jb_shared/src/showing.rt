@@ -5,7 +5,7 @@ ghost use Rattle.jb_publish.specs.Accounts.{account_of, told_with};
 ghost use Rattle.jb_publish.specs.Marks.{ValueStandsFrom, opening_at};
 ghost use Rattle.jb_publish.specs.Publications.{publication_of, shown_with};
 ghost use Rattle.jb_turn.specs.Seats.{front};
-ghost use Rattle.jb_shared.specs.Showing.{CanShow, HasShown};
+ghost use Rattle.jb_shared.specs.Showing.{CanShow, HasShown, IsFirm};
 ghost use Rattle.jb_shared.specs.Shows.{IsShownAs, index_changed};
 
 use crate::change::IndexChange;
@@ -46,7 +46,8 @@ fn show_front<D: Disk, J: NamesList<Entry>, R: Wait>(
     shower.show::<J, R>(rt, count)
 }
 
-/// Shows the whole history that the seat has seen, with the change that is kept where it is done; it is then kept no longer.
+/// Shows the whole history that the seat has seen, with the change that is kept where it is done; it is then kept no longer. The area is
+/// settled then, so that no crash takes back what is shown.
 pub(crate) fn show<D: Disk, R: Wait>(
     rt: &R,
     alloc: Global,
@@ -55,6 +56,7 @@ pub(crate) fn show<D: Disk, R: Wait>(
     done: bool,
 ) -> Held<ShownArea<D>>
     requires can { CanShow held.state done (front seat.now) }
+    requires firm { IsFirm D.device held.state (front seat.now) }
     requires count { held.count ≡ length (front seat.now) }
     ensures shown { HasShown held.state result.state done (front seat.now) }
     ensures count { result.count ≡ held.count }

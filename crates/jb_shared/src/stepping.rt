@@ -10,7 +10,7 @@ ghost use Rattle.jb_publish.specs.Accounts.{account_of};
 ghost use Rattle.jb_publish.specs.Publications.{publication_of};
 ghost use Rattle.jb_state.specs.Packed.{slot_text_size, texts_size};
 ghost use Rattle.jb_turn.specs.Seats.{id_of, resting_row, resting_turn, row_of};
-ghost use Rattle.jb_shared.specs.InTurn.{IsOut};
+ghost use Rattle.jb_shared.specs.InTurn.{IsOut, LeavesInTurn};
 ghost use Rattle.jb_shared.specs.Inside.{known_in};
 ghost use Rattle.jb_shared.specs.Keeping.{IsKept, IsKeptSettled};
 ghost use Rattle.jb_shared.specs.Calls.{AreLast, AreSteps};
@@ -120,6 +120,7 @@ fn copy_part<D: Disk>(
     // It is answered what is left, whatever the pass was shown.
     ensures left { IfOk result.1 (λ left. (list : List Entry)
         → LeavesAs D.device result.0 list user.now left) }
+    ensures crash { LeavesInTurn D.device held.state.area result.0.state.area (row_of seat.old) (row_of seat.new) }
 {
     let mut held = held;
     match held.state.area.pack_some(alloc, user, PACK_STEP_BYTES) {

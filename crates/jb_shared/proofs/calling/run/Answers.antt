@@ -1,19 +1,19 @@
-use Rattle.std.proofs.Common.{◌+◌, ◌∷◌, ◌++◌, [], length, Result, Ok, Err, true, refl, sym, ◌∙◌, ap, subst}
+use Rattle.std.proofs.Common.{◌+◌, ◌∷◌, ◌++◌, [], length, Ok, Err, true, refl, sym, ◌∙◌, ap, subst}
 use Rattle.jb_area.specs.Area.{device_of}
-use Rattle.jb_area.specs.Calls.{MeetsCall}
 use Rattle.jb_decide.specs.declared.error.AreaError.{AreaError}
 use Rattle.jb_decide.specs.declared.error.AreaError.TheVariants as failing
 use Rattle.jb_index.specs.Edit.{absorbed}
 use Rattle.jb_model.specs.declared.entry.Entry.{Entry}
 use Rattle.jb_model.specs.declared.entry.Outcome.TheVariants.{InDoubt, Replied}
-use Rattle.jb_model.specs.declared.reply.Reply.{Reply}
 use Rattle.jb_publish.specs.Publications.{publication_of}
 use Rattle.jb_turn.specs.Seats.{HoldsTurn, front, row_of}
 use Rattle.jb_shared.specs.InTurn.{SeatRow, next_call}
 use Rattle.jb_shared.specs.Keeping.{IsKept, IsKeptSettled}
 use Rattle.jb_shared.specs.Showing.{value_with}
+use Rattle.jb_shared.specs.Standing.{StandsSettled}
 use Rattle.jb_shared.proofs.CallLemmas.{leads_called, leads_still}
-use Rattle.jb_shared.proofs.KeepingLemmas.{can_show, kept_replied, kept_stopped, kept_wanting, out_rests, shown_as, shows_replied}
+use Rattle.jb_shared.proofs.KeepingLemmas.{can_show, is_firm, kept_replied, kept_stopped, kept_wanting, leaves_replied, leaves_stopped, leaves_wanting, meets_as, out_rests, shown_as, shows_replied}
+use Rattle.jb_shared.proofs.StandingLemmas.{stands_replied}
 use Rattle.jb_shared.proofs.KnowingLemmas.{knows_noted, knows_still, next_number}
 use Rattle.jb_shared.proofs.calling.run.Goals as goal
 
@@ -28,8 +28,7 @@ show-requires-clause-can g c =
     let knows = c.requires.out.0.knows in
     let old = c.args.held.state in
     let entry : Entry = next_call known call (Replied c.in-Ok.reply) in
-    let meets : MeetsCall shown old.area c.run.new.area call.user.now call.moment call.command.now (Ok c.in-Ok.reply)
-    = subst (λ (r : Result Reply AreaError). MeetsCall shown old.area c.run.new.area call.user.now call.moment call.command.now r) c.in-Ok.is c.run.ensures.meets in
+    let meets = meets_as shown old.area c.run.new.area call.user.now call.moment call.command.now c.run.result (Ok c.in-Ok.reply) c.in-Ok.is c.run.ensures.meets in
     can_show shown (IsKeptSettled shown) known (row_of c.note.new.seat) old c.note.new.held.state true entry (absorbed (publication_of old.shower).value c.run.new.change.op)
     knows.stands_for (ap (λ s. s.shower) c.note.ensures.kept) (ap (λ s. value_with s true) c.note.ensures.kept) (ap (λ (r : SeatRow). r.front) c.note.ensures.row)
     (λ first was. (
@@ -47,8 +46,7 @@ returns-in-Ok-clause-out g c =
     let old = c.args.held.state in
     let kept = c.note.ensures.kept in
     let entry : Entry = next_call known call (Replied c.in-Ok.reply) in
-    let meets : MeetsCall shown old.area c.run.new.area call.user.now call.moment call.command.now (Ok c.in-Ok.reply)
-    = subst (λ (r : Result Reply AreaError). MeetsCall shown old.area c.run.new.area call.user.now call.moment call.command.now r) c.in-Ok.is c.run.ensures.meets in
+    let meets = meets_as shown old.area c.run.new.area call.user.now call.moment call.command.now c.run.result (Ok c.in-Ok.reply) c.in-Ok.is c.run.ensures.meets in
     record {
       holds = subst (HoldsTurn c.args.turn.now c.note.new.seat) (sym c.show.ensures.count) c.note.ensures.seat;
       knows =
@@ -68,9 +66,7 @@ returns-in-Err-StoreFault-clause-out g c =
     let knows = c.requires.out.0.knows in
     let old = c.args.held.state in
     let faults = (device_of shown c.run.new.area).faults in
-    let meets : MeetsCall shown old.area c.run.new.area call.user.now call.moment call.command.now (Err failing.StoreFault)
-    = subst (λ (r : Result Reply AreaError). MeetsCall shown old.area c.run.new.area call.user.now call.moment call.command.now r)
-    (c.in-Err-StoreFault.is ∙ ap (λ (e : AreaError). Err e) c.in-Err-StoreFault.field-0-is) c.run.ensures.meets in
+    let meets = meets_as shown old.area c.run.new.area call.user.now call.moment call.command.now c.run.result (Err failing.StoreFault) (c.in-Err-StoreFault.is ∙ ap (λ (e : AreaError). Err e) c.in-Err-StoreFault.field-0-is) c.run.ensures.meets in
     record {
       holds = c.note-in-Err-StoreFault.ensures.seat;
       knows =
@@ -85,14 +81,12 @@ returns-in-Err-OutOfMemory-clause-out g c =
     let known = row_of c.args.seat.now in
     let call = c.args.call in
     let old = c.args.held.state in
-    let meets : MeetsCall shown old.area c.run.new.area call.user.now call.moment call.command.now (Err failing.OutOfMemory)
-    = subst (λ (r : Result Reply AreaError). MeetsCall shown old.area c.run.new.area call.user.now call.moment call.command.now r)
-    (c.in-Err-OutOfMemory.is ∙ ap (λ (e : AreaError). Err e) c.in-Err-OutOfMemory.field-0-is) c.run.ensures.meets in
+    let meets = meets_as shown old.area c.run.new.area call.user.now call.moment call.command.now c.run.result (Err failing.OutOfMemory) (c.in-Err-OutOfMemory.is ∙ ap (λ (e : AreaError). Err e) c.in-Err-OutOfMemory.field-0-is) c.run.ensures.meets in
     record {
       holds = c.requires.out.0.holds;
       knows =
           knows_still (IsKeptSettled shown) (IsKept shown) old (record { area = c.run.new.area; shower = old.shower; doubted = c.run.new.change }) known c.requires.out.0.knows
-          (λ first was. kept_wanting shown old (record { area = c.run.new.area; shower = old.shower; doubted = c.run.new.change }) c.run.new.area c.run.new.change first known.front call.user.now call.moment call.command.now was meets refl);
+          (λ first was. kept_wanting shown old (record { area = c.run.new.area; shower = old.shower; doubted = c.run.new.change }) c.run.new.area c.run.new.change first known.front call.user.now call.moment call.command.now was meets (c.run.ensures.wanting (c.in-Err-OutOfMemory.is ∙ ap (λ (e : AreaError). Err e) c.in-Err-OutOfMemory.field-0-is)) refl);
     }
 
 pub returns-in-Ok-clause-runs : goal.returns-in-Ok-clause-runs
@@ -107,3 +101,49 @@ returns-in-Err-StoreFault-clause-runs g c =
 
 pub returns-in-Err-OutOfMemory-clause-runs : goal.returns-in-Err-OutOfMemory-clause-runs
 returns-in-Err-OutOfMemory-clause-runs g c = leads_still _ (row_of c.args.seat.now) (λ account. refl)
+
+pub show-requires-clause-firm : goal.show-requires-clause-firm
+show-requires-clause-firm g c =
+    let shown = g.D.Disk.device in
+    let known = row_of c.args.seat.now in
+    let call = c.args.call in
+    let knows = c.requires.out.0.knows in
+    let old = c.args.held.state in
+    let kept = c.note.ensures.kept in
+    let entry : Entry = next_call known call (Replied c.in-Ok.reply) in
+    let meets = meets_as shown old.area c.run.new.area call.user.now call.moment call.command.now c.run.result (Ok c.in-Ok.reply) c.in-Ok.is c.run.ensures.meets in
+    is_firm shown (IsKeptSettled shown) known (row_of c.note.new.seat) old c.note.new.held.state entry knows.stands_for (ap (λ s. s.shower) kept) (ap (λ (r : SeatRow). r.front) c.note.ensures.row)
+    (λ first was. (
+      was.index,
+      subst (λ a. StandsSettled shown a first.opening (known.front ++ entry ∷ [])) (sym (ap (λ s. s.area) kept))
+          (stands_replied shown old.area c.run.new.area first.opening known.front known.node (length known.mine + 1) call.user.now call.moment call.command.now c.in-Ok.reply was.area meets
+          (next_number (IsKeptSettled shown) (IsKeptSettled shown) old known knows)).0,
+    ))
+
+pub returns-in-Ok-clause-crash : goal.returns-in-Ok-clause-crash
+returns-in-Ok-clause-crash g c =
+    let shown = g.D.Disk.device in
+    let call = c.args.call in
+    let old = c.args.held.state in
+    leaves_replied shown (row_of c.args.seat.now) (row_of c.note.new.seat) old c.run.new.area c.show.result.state.area call.user.now call.moment call.command.now c.in-Ok.reply c.requires.out.0.knows
+    (meets_as shown old.area c.run.new.area call.user.now call.moment call.command.now c.run.result (Ok c.in-Ok.reply) c.in-Ok.is c.run.ensures.meets)
+    (ap (λ (r : SeatRow). r.front) c.note.ensures.row) (c.show.ensures.shown.area ∙ ap (λ s. s.area) c.note.ensures.kept)
+
+pub returns-in-Err-StoreFault-clause-crash : goal.returns-in-Err-StoreFault-clause-crash
+returns-in-Err-StoreFault-clause-crash g c =
+    let shown = g.D.Disk.device in
+    let call = c.args.call in
+    let old = c.args.held.state in
+    let note = c.note-in-Err-StoreFault in
+    leaves_stopped shown (row_of c.args.seat.now) (row_of note.new.seat) old c.run.new.area note.new.held.state.area call.user.now call.moment call.command.now c.requires.out.0.knows
+    (meets_as shown old.area c.run.new.area call.user.now call.moment call.command.now c.run.result (Err failing.StoreFault) (c.in-Err-StoreFault.is ∙ ap (λ (e : AreaError). Err e) c.in-Err-StoreFault.field-0-is) c.run.ensures.meets)
+    (ap (λ (r : SeatRow). r.front) note.ensures.row) (ap (λ s. s.area) note.ensures.kept)
+
+pub returns-in-Err-OutOfMemory-clause-crash : goal.returns-in-Err-OutOfMemory-clause-crash
+returns-in-Err-OutOfMemory-clause-crash g c =
+    let shown = g.D.Disk.device in
+    let call = c.args.call in
+    let old = c.args.held.state in
+    let is = c.in-Err-OutOfMemory.is ∙ ap (λ (e : AreaError). Err e) c.in-Err-OutOfMemory.field-0-is in
+    leaves_wanting shown (row_of c.args.seat.now) old c.run.new.area call.user.now call.moment call.command.now c.requires.out.0.knows
+    (meets_as shown old.area c.run.new.area call.user.now call.moment call.command.now c.run.result (Err failing.OutOfMemory) is c.run.ensures.meets) (c.run.ensures.wanting is)

@@ -2,7 +2,7 @@ use Rattle.std.proofs.Common.{None, Some, refl, sym, ◌∙◌, arith}
 use Rattle.jb_state.proofs.LinkLaws.{true_not_false}
 use Rattle.jb_turn.specs.Seats.{row_of}
 use Rattle.jb_shared.proofs.CallLemmas.{leads_still}
-use Rattle.jb_shared.proofs.KeepingLemmas.{out_in_doubt, out_settled}
+use Rattle.jb_shared.proofs.KeepingLemmas.{leaves_idle, out_in_doubt, out_settled}
 use Rattle.jb_shared.proofs.KnowingLemmas.{on_ok_then}
 use Rattle.jb_shared.proofs.calling.settle.Goals as goal
 
@@ -35,3 +35,6 @@ returns-else-in_doubt-clause-ok g c =
       },
       omega (arith, out.1),
     )
+
+pub returns-else-in_doubt-clause-crash : goal.returns-else-in_doubt-clause-crash
+returns-else-in_doubt-clause-crash g c = leaves_idle g.D.Disk.device (row_of c.args.seat.now) c.args.held.state c.requires.out.0.knows

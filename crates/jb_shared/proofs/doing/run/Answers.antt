@@ -1,6 +1,6 @@
 use Rattle.jb_area.proofs.CallLemmas.{meets, meets_not}
 use Rattle.jb_shared.specs.Keeping.{FollowsCommand, HasChange}
-use Rattle.jb_shared.proofs.DoingLemmas.{abandoned_no_change, follows_begun, meets_abandoned}
+use Rattle.jb_shared.proofs.DoingLemmas.{abandoned_no_change, follows_begun, leaves_abandoned, meets_abandoned, no_want}
 use Rattle.jb_shared.proofs.KnowingLemmas.{on_err, on_ok}
 use Rattle.jb_shared.proofs.doing.run.Goals as goal
 
@@ -31,3 +31,12 @@ returns-in-Ok-change_of-clause-doubted g c =
 pub returns-in-Err-clause-meets : goal.returns-in-Err-clause-meets
 returns-in-Err-clause-meets g c =
     meets_not g.D.Disk.device c.args.area.now c.begin.new.self c.args.call.user.now c.args.call.moment c.args.call.command.now c.begin.result c.in-Err.error c.begin.ensures.begins c.in-Err.is
+
+pub returns-in_default-clause-wanting : goal.returns-in_default-clause-wanting
+returns-in_default-clause-wanting g c = λ wanting. leaves_abandoned g.D.Disk.device c.args.area.now c.begin.new.self c.abandon.new.self c.args.call.user.now c.args.call.moment c.args.call.command.now c.begin.result c.begin.ensures.begins c.abandon.ensures.device
+
+pub returns-in-Ok-change_of-clause-wanting : goal.returns-in-Ok-change_of-clause-wanting
+returns-in-Ok-change_of-clause-wanting g c = λ wanting. absurd (no_want c.finish.result wanting c.finish.ensures.fault)
+
+pub returns-in-Err-clause-wanting : goal.returns-in-Err-clause-wanting
+returns-in-Err-clause-wanting g c = λ wanting. c.begin.ensures.begins.crash

@@ -1,6 +1,5 @@
-use Rattle.std.proofs.Common.{◌+◌, length, Bool, Result, Ok, Err, refl, sym, ◌∙◌, ap, subst}
+use Rattle.std.proofs.Common.{◌+◌, length, Ok, Err, refl, sym, ◌∙◌, ap, subst}
 use Rattle.jb_area.specs.Area.{device_of, loaded_of, rules_of}
-use Rattle.jb_area.specs.Calls.{StepsPack}
 use Rattle.jb_decide.specs.Packs.{is_pack_refused}
 use Rattle.jb_decide.specs.declared.error.AreaError.{AreaError}
 use Rattle.jb_decide.specs.declared.error.AreaError.TheVariants as failing
@@ -8,12 +7,13 @@ use Rattle.jb_model.specs.declared.command.Command.TheVariants.{Pack}
 use Rattle.jb_model.specs.declared.entry.Outcome.TheVariants.{InDoubt}
 use Rattle.jb_turn.specs.Seats.{row_of}
 use Rattle.jb_shared.specs.Calls.{call_of}
+use Rattle.jb_shared.specs.InTurn.{SeatRow}
 use Rattle.jb_shared.specs.Keeping.{IsKept, IsKeptSettled}
 use Rattle.jb_shared.specs.Stepping.{CopiesOnePart}
 use Rattle.jb_shared.proofs.CallLemmas.{leads_called, leads_still}
-use Rattle.jb_shared.proofs.KeepingLemmas.{kept_stopped, out_rests}
+use Rattle.jb_shared.proofs.KeepingLemmas.{kept_stopped, leaves_stopped, leaves_wanting, out_rests}
 use Rattle.jb_shared.proofs.KnowingLemmas.{knows_noted, knows_still, next_number}
-use Rattle.jb_shared.proofs.SteppingLemmas.{copies_by, kept_step, kept_without, leaves_as, meets_step, none_more, step_no_change, texts_few}
+use Rattle.jb_shared.proofs.SteppingLemmas.{copies_by, kept_step, kept_without, leaves_as, meets_step, none_more, step_leaves, step_no_change, steps_as, texts_few}
 use Rattle.jb_shared.proofs.stepping.copy_part.Goals as goal
 
 pub pack_some-requires-clause-rests : goal.pack_some-requires-clause-rests
@@ -24,7 +24,7 @@ returns-in-Ok-clause-out g c =
     let shown = g.D.Disk.device in
     let known = row_of c.args.seat.now in
     let old = c.args.held.state in
-    let steps : StepsPack shown old.area c.pack_some.new.self (Ok c.in-Ok.more) = subst (λ (r : Result Bool AreaError). StepsPack shown old.area c.pack_some.new.self r) c.in-Ok.is c.pack_some.ensures.steps in
+    let steps = steps_as shown old.area c.pack_some.new.self c.pack_some.result (Ok c.in-Ok.more) c.in-Ok.is c.pack_some.ensures.steps in
     record {
       holds = c.requires.out.0.holds;
       knows =
@@ -66,8 +66,7 @@ returns-in-Err-StoreFault-clause-out g c =
     let area = c.pack_some.new.self in
     let faults = (device_of shown area).faults in
     let rest = out_rests shown old known knows in
-    let steps : StepsPack shown old.area area (Err failing.StoreFault)
-    = subst (λ (r : Result Bool AreaError). StepsPack shown old.area area r) (c.in-Err-StoreFault.is ∙ ap (λ (e : AreaError). Err e) c.in-Err-StoreFault.field-0-is) c.pack_some.ensures.steps in
+    let steps = steps_as shown old.area area c.pack_some.result (Err failing.StoreFault) (c.in-Err-StoreFault.is ∙ ap (λ (e : AreaError). Err e) c.in-Err-StoreFault.field-0-is) c.pack_some.ensures.steps in
     let meets = meets_step shown old.area area c.args.user.now c.args.moment failing.StoreFault steps in
     record {
       holds = c.note.ensures.seat;
@@ -91,11 +90,33 @@ returns-in-Err-OutOfMemory-clause-out g c =
     let known = row_of c.args.seat.now in
     let old = c.args.held.state in
     let area = c.pack_some.new.self in
-    let steps : StepsPack shown old.area area (Err failing.OutOfMemory)
-    = subst (λ (r : Result Bool AreaError). StepsPack shown old.area area r) (c.in-Err-OutOfMemory.is ∙ ap (λ (e : AreaError). Err e) c.in-Err-OutOfMemory.field-0-is) c.pack_some.ensures.steps in
+    let steps = steps_as shown old.area area c.pack_some.result (Err failing.OutOfMemory) (c.in-Err-OutOfMemory.is ∙ ap (λ (e : AreaError). Err e) c.in-Err-OutOfMemory.field-0-is) c.pack_some.ensures.steps in
     record {
       holds = c.requires.out.0.holds;
       knows =
           knows_still (IsKeptSettled shown) (IsKept shown) old (record { area = area; shower = old.shower; doubted = old.doubted }) known c.requires.out.0.knows
           (λ first was. kept_without shown old (record { area = area; shower = old.shower; doubted = old.doubted }) area first known.front c.args.user.now c.args.moment was steps refl);
     }
+
+pub returns-in-Ok-clause-crash : goal.returns-in-Ok-clause-crash
+returns-in-Ok-clause-crash g c =
+    let shown = g.D.Disk.device in
+    let old = c.args.held.state in
+    step_leaves shown (row_of c.args.seat.now) old c.pack_some.new.self c.args.user.now c.args.moment c.in-Ok.more c.requires.out.0.knows (steps_as shown old.area c.pack_some.new.self c.pack_some.result (Ok c.in-Ok.more) c.in-Ok.is c.pack_some.ensures.steps)
+
+pub returns-in-Err-StoreFault-clause-crash : goal.returns-in-Err-StoreFault-clause-crash
+returns-in-Err-StoreFault-clause-crash g c =
+    let shown = g.D.Disk.device in
+    let old = c.args.held.state in
+    let area = c.pack_some.new.self in
+    let steps = steps_as shown old.area area c.pack_some.result (Err failing.StoreFault) (c.in-Err-StoreFault.is ∙ ap (λ (e : AreaError). Err e) c.in-Err-StoreFault.field-0-is) c.pack_some.ensures.steps in
+    leaves_stopped shown (row_of c.args.seat.now) (row_of c.note.new.seat) old area c.note.new.held.state.area c.args.user.now c.args.moment Pack c.requires.out.0.knows
+    (meets_step shown old.area area c.args.user.now c.args.moment failing.StoreFault steps) (ap (λ (r : SeatRow). r.front) c.note.ensures.row) (ap (λ s. s.area) c.note.ensures.kept)
+
+pub returns-in-Err-OutOfMemory-clause-crash : goal.returns-in-Err-OutOfMemory-clause-crash
+returns-in-Err-OutOfMemory-clause-crash g c =
+    let shown = g.D.Disk.device in
+    let old = c.args.held.state in
+    let area = c.pack_some.new.self in
+    let steps = steps_as shown old.area area c.pack_some.result (Err failing.OutOfMemory) (c.in-Err-OutOfMemory.is ∙ ap (λ (e : AreaError). Err e) c.in-Err-OutOfMemory.field-0-is) c.pack_some.ensures.steps in
+    leaves_wanting shown (row_of c.args.seat.now) old area c.args.user.now c.args.moment Pack c.requires.out.0.knows (meets_step shown old.area area c.args.user.now c.args.moment failing.OutOfMemory steps) steps.crash

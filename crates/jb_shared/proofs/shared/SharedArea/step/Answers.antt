@@ -3,7 +3,6 @@ use mathlib.Core.List.{IsPrefix}
 use Rattle.jb_model.specs.declared.command.Command.TheVariants.{Pack}
 use Rattle.jb_model.specs.declared.entry.Entry.{Entry}
 use Rattle.jb_publish.specs.Accounts.{Account, account_of}
-use Rattle.jb_turn.specs.Rows.{Begins}
 use Rattle.jb_turn.specs.Seats.{front, resting_row, row_of}
 use Rattle.jb_turn.specs.Steps.{given}
 use Rattle.jb_shared.specs.Calls.{Asks}
