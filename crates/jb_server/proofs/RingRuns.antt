@@ -5,7 +5,7 @@ use Rattle.std.specs.Option.{option_map}
 use Rattle.std.proofs.lemmas.List.{get_or-set_other, get_or-set_same, get_or_default, length-set, map-append}
 use Rattle.std.proofs.lemmas.List.Sums.{fold-append}
 use Rattle.jb_base.specs.declared.user.User.{User}
-use Rattle.jb_host.specs.Rings.{IsFoundShut, Rings, RingsFor}
+use Rattle.jb_host.specs.Rings.{RingsNoMore, Rings, RingsFor}
 use Rattle.jb_session.specs.Exchanges.{NodeState}
 use Rattle.jb_shared.specs.Passes.{Known, PassView}
 use Rattle.jb_server.specs.Rounds.{AnswersRing, AnswersRings, Came, OnPass, PackerWorks, Rung, RungsRun, came_of, ring_numbers, packs_after, packs_with}
@@ -75,7 +75,7 @@ module _ (user : User) where
       }
 
   -- the bell is found shut
-  pub works_shut : (old now new : Rings) (from to : NodeState) (before packs : ℕ) → IsPacking old from before now to packs → IsFoundShut now new
+  pub works_shut : (old now new : Rings) (from to : NodeState) (before packs : ℕ) → IsPacking old from before now to packs → RingsNoMore now new
       → PackerWorks user old from before new to packs
   works_shut old now new from to before packs so_far found =
       let P : Option (List ℕ) → Type 0 = λ w. old.to_come ≡ option_map (λ rest. ring_numbers so_far.rungs ++ rest) w in

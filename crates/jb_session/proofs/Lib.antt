@@ -1,2 +1,2 @@
+pub mod Passing
 mod Standing
-mod Wanting

@@ -1,6 +1,6 @@
 -- The end of a session by that of its talk.
-use Rattle.jb_talk.specs.declared.standing.TalkEnd.{TalkEnd}
-use Rattle.jb_talk.specs.declared.standing.TalkEnd.TheVariants as talk
+use Rattle.jb_speech.specs.declared.end.TalkEnd.{TalkEnd}
+use Rattle.jb_speech.specs.declared.end.TalkEnd.TheVariants as talk
 use Rattle.jb_session.specs.declared.end.SessionEnd.{SessionEnd}
 use Rattle.jb_session.specs.declared.end.SessionEnd.TheVariants.{Quit, Hangup, LoginRefused, Spent, OutOfMemory}
 

@@ -2,8 +2,6 @@
 use Rattle.std.specs.Prelude.{◌≡◌, ◌≢◌, ℕ, ◌<◌, List, [], ◌∷◌, length, map, slice_index_or, Option, Some, None, Result, Ok, Err}
 use Rattle.std.specs.Option.{ForSome, option_map}
 use Rattle.jb_base.specs.declared.user.User.{User}
-use Rattle.jb_conf.specs.declared.board.Board.{Board}
-use Rattle.jb_conf.specs.declared.board.BoardUser.{BoardUser}
 use Rattle.jb_host.specs.Readings.{reading_of, readings_after}
 use Rattle.jb_index.specs.Answer.{answer_to, unread_to}
 use Rattle.jb_menu.specs.declared.given.Given.{Given}
@@ -18,9 +16,9 @@ use Rattle.jb_shared.specs.Passes.{Known, PassView, turned_away}
 use Rattle.jb_shared.specs.declared.error.SharedError.{SharedError}
 use Rattle.jb_shared.specs.declared.error.SharedError.TheVariants.{StoreFault, Gap, RunSpent, OutOfMemory}
 use Rattle.jb_shared.specs.declared.shared.SharedArea.{SharedArea}
-use Rattle.jb_talk.specs.declared.request.Act.{Act}
-use Rattle.jb_talk.specs.declared.request.Act.TheVariants.{Ask, Look, Count}
-use Rattle.jb_talk.specs.declared.request.Request.{Request}
+use Rattle.jb_speech.specs.declared.request.Act.{Act}
+use Rattle.jb_speech.specs.declared.request.Act.TheVariants.{Ask, Look, Count}
+use Rattle.jb_speech.specs.declared.request.Request.{Request}
 
 -- a request, and what was answered to it
 pub record Exchange : Type 0 where
@@ -80,13 +78,14 @@ module _ (readings : Option (List ℕ)) where
   Wants user (Look question) old new = Looks old new
   Wants user Count old new = ⊥
 
-module _ (board : Board) where
-  -- on the pass of the area that is asked, for the user of the board who asks; the other passes stay. The clock moves on for a command
+-- for whom each request is made, where there is such a user
+module _ (user_of : Request → Option User) where
+  -- on the pass of the area that is asked, for the user for whom it is; the other passes stay. The clock moves on for a command
   pub record Happens (request : Request) (happens : User → Known → Known → Type 0) (old new : NodeState) : Type 0 where
-    pub user : request.user < length board.users
+    pub user : User
+    pub of : user_of request ≡ Some user
     pub area : request.area < length old.passes
-    pub does : (user : BoardUser) (pass : PassView) → happens (slice_index_or board.users request.user user).user
-        (slice_index_or old.passes request.area pass).known (slice_index_or new.passes request.area pass).known
+    pub does : (pass : PassView) → happens user (slice_index_or old.passes request.area pass).known (slice_index_or new.passes request.area pass).known
     pub clock : new.readings ≡ left_by request.act old.readings
     pub count : length new.passes ≡ length old.passes
     pub others : (k : ℕ) (pass : PassView) → k ≢ request.area → slice_index_or new.passes k pass ≡ slice_index_or old.passes k pass

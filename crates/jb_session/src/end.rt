@@ -2,7 +2,7 @@
 ghost use Rattle.std.specs.Prelude.{◌≡◌, ◌≢◌};
 ghost use Rattle.jb_session.specs.Ends.{end_as};
 
-use jb_talk::TalkEnd;
+use jb_speech::TalkEnd;
 
 /// How a session ends.
 #[derive(Clone, Copy, PartialEq, Eq)]

@@ -4,8 +4,8 @@ ghost use Rattle.jb_limits.specs.declared.limits.TheConstants.{MOST_NAME_BYTES};
 ghost use Rattle.std.specs.Option.{option_map};
 ghost use Rattle.jb_host.specs.Readings.{readings_after};
 ghost use Rattle.jb_shared.specs.Areas.{IsOf};
-ghost use Rattle.jb_talk.specs.Asking.{is_line};
-ghost use Rattle.jb_talk.specs.declared.request.Act.{Act};
+ghost use Rattle.jb_speech.specs.Posture.{is_line};
+ghost use Rattle.jb_speech.specs.declared.request.Act.{Act};
 ghost use Rattle.jb_session.specs.Exchanges.{AreOf, Exchanged, GivesAnswer, Lacks, Wants, left_by, node_with};
 
 use jb_base::{OutOfMemory, User};
@@ -15,8 +15,8 @@ use jb_host::Clock;
 use jb_menu::Given;
 use jb_model::Command;
 use jb_shared::{Pass, SharedArea, SharedError};
+use jb_speech::{Act, Request, Speaker};
 use jb_state::{Barred, LookError, Question, SharedFault};
-use jb_talk::{Act, Request};
 use std::alloc::Global;
 use std::sync::Wait;
 
@@ -114,29 +114,30 @@ fn act<R: Wait, D: Disk, C: Clock>(
     }
 }
 
-/// Does a request on the area that it asks, on its pass. A fault of the area is an answer too; without memory there is none. A command
-/// says in `has_settled` whether it has ended a doubt.
-pub(crate) fn exchange<R: Wait, D: Disk, C: Clock>(
+/// Does a request of a speaker on the area that it asks, on its pass. A fault of the area is an answer too; without memory there is none.
+/// A command says in `has_settled` whether it has ended a doubt.
+pub(crate) fn exchange<T: Speaker, R: Wait, D: Disk, C: Clock>(
     rt: &R,
     alloc: Global,
     board: &Board,
     areas: &[SharedArea<D>],
     passes: &mut [Pass],
     clock: &mut C,
+    talk: &T,
     request: &Request,
     has_settled: &mut bool,
 ) -> Result<Given, OutOfMemory>
-    requires user { request.now.user < length board.now.users }
-    requires area { request.now.area < length areas.now }
+    requires areas { length areas.now ≡ length board.now.areas }
     requires ours { AreOf areas.now passes.old }
+    requires hands { T.hands_out board.now talk.now (Some request.now) }
     ensures ours { AreOf areas.now passes.new }
     ensures answer { IfOk result (λ given. is_line given ≡ false) }
-    ensures ok { IfOk result (λ given. Exchanged board.now (record { request = request.now; given = given })
+    ensures ok { IfOk result (λ given. Exchanged (T.user_of board.now) (record { request = request.now; given = given })
         (node_with (C.readings clock.old) passes.old) (node_with (C.readings clock.new) passes.new)) }
-    ensures err { OnErr result (Lacks board.now request.now
+    ensures err { OnErr result (Lacks (T.user_of board.now) request.now
         (node_with (C.readings clock.old) passes.old) (node_with (C.readings clock.new) passes.new)) }
 {
-    let user = &board.users.as_slice()[request.user as usize].user;
+    let user = talk.user_of(board, request);
     let k = request.area as usize;
     act(
         rt,

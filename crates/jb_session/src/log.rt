@@ -6,8 +6,8 @@ use arrayvec::ArrayString;
 use jb_host::{Clock, Link};
 use jb_menu::Given;
 use jb_model::{Command, Reply};
+use jb_speech::{Act, Request, Speaker};
 use jb_state::SharedFault;
-use jb_talk::{Act, Request, Talk};
 use std::fmt::Write;
 
 /// A line takes no memory. What does not fit is left out.
@@ -73,7 +73,7 @@ impl Log {
     }
 
     /// Looks whose password is awaited, before more is heard.
-    pub(crate) fn look(&mut self, talk: &Talk) {
+    pub(crate) fn look<T: Speaker>(&mut self, talk: &T) {
         self.tried = talk.name_tried().map(shown);
     }
 
@@ -109,7 +109,7 @@ impl Log {
     }
 
     /// Tells what came of the bytes that were heard since the look.
-    pub(crate) fn tell<L: Link>(&mut self, link: &mut L, talk: &Talk)
+    pub(crate) fn tell<T: Speaker, L: Link>(&mut self, link: &mut L, talk: &T)
         ensures { L.wire link.new ≡ L.wire link.old }
     {
         if let Some(area) = self.settled.take() {

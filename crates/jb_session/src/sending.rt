@@ -1,34 +1,43 @@
-//! What a talk owes, sent; and a piece for it, read.
+//! What a speaker owes, sent; and a piece for it, read.
 ghost use Rattle.std.specs.Prelude.{◌≡◌, ◌<◌, ◌≤◌, ℕ, List, [], None, IfOk, OnErr, OnOk, length, take};
 ghost use Rattle.std.specs.Option.{ForSome};
 ghost use Rattle.jb_bytes.specs.Fault.{HasCause, Rose};
 ghost use Rattle.jb_conf.specs.declared.board.Board.{Board};
 ghost use Rattle.jb_host.specs.Wire.{Takes, Wire};
-ghost use Rattle.jb_talk.specs.Talking.{Hands};
 ghost use Rattle.jb_session.specs.Exchanges.{NodeState};
-ghost use Rattle.jb_session.specs.Served.{Served, Stands};
+ghost use Rattle.jb_session.specs.Served.{ServedBy, Stands};
+ghost use Rattle.jb_session.specs.Speakers.{IsLawful};
 ghost use Rattle.jb_session.specs.declared.end.SessionEnd.TheVariants.{LinkFault};
 
 use jb_host::{Link, LinkFailed, send};
-use jb_talk::{Talk, conversations_are_one};
+use jb_speech::Speaker;
+
+/// What holds of every speaker.
+///
+/// It computes nothing: its contract is the laws.
+pub(crate) fn laws<T: Speaker>()
+    ensures { IsLawful T.talks T.posture T.has_talked }
+{
+    T::laws();
+}
 
 /// Sends all that is owed, in one write where the link takes it so. A refusal ends the session.
-pub(crate) fn send_owed<L: Link>(link: &mut L, talk: &mut Talk) -> Result<(), LinkFailed>
-    ensures owed { OnOk result (talk.new.owed ≡ []) }
-    ensures counted { OnOk result (talk.new.taken ≡ talk.old.taken) }
-    ensures hands { OnOk result ((board : Board) → Hands board talk.old None → Hands board talk.new None) }
+pub(crate) fn send_owed<T: Speaker, L: Link>(link: &mut L, talk: &mut T) -> Result<(), LinkFailed>
+    ensures owed { OnOk result ((T.posture talk.new).owed ≡ []) }
+    ensures counted { OnOk result ((T.posture talk.new).taken ≡ (T.posture talk.old).taken) }
+    ensures hands { OnOk result ((board : Board) → T.hands_out board talk.old None → T.hands_out board talk.new None) }
 
     // What was said, and how the session ends.
     ensures ok { OnOk result ((board : Board) (old : Wire)
         (from to : NodeState) (rest : List ℕ)
-        → Stands board old from (L.wire link.old) rest talk.old None to
-        → Stands board old from (L.wire link.new) rest talk.new None to) }
+        → Stands T.user_of T.has_talked board old from (L.wire link.old) rest talk.old None to
+        → Stands T.user_of T.has_talked board old from (L.wire link.new) rest talk.new None to) }
     ensures err { OnErr result ((board : Board) (old : Wire)
         (from to : NodeState) (rest : List ℕ)
-        → Stands board old from (L.wire link.old) rest talk.old None to
-        → Served board old from LinkFault (L.wire link.new) to) }
+        → Stands T.user_of T.has_talked board old from (L.wire link.old) rest talk.old None to
+        → ServedBy T.talks T.user_of board old from LinkFault (L.wire link.new) to) }
 {
-    conversations_are_one();
+    laws::<T>();
     let Ok(()) = send(link, talk.owed()) else {
         return Err(LinkFailed);
     };
@@ -41,19 +50,19 @@ const MOST_OWED: usize = 65_536;
 
 /// Sends all that is owed where it is long, so that no more is held than this and what one line leads to. A
 /// refusal ends the session.
-pub(crate) fn relieve<L: Link>(link: &mut L, talk: &mut Talk) -> Result<(), LinkFailed>
-    ensures counted { OnOk result (talk.new.taken ≡ talk.old.taken) }
-    ensures hands { OnOk result ((board : Board) → Hands board talk.old None → Hands board talk.new None) }
+pub(crate) fn relieve<T: Speaker, L: Link>(link: &mut L, talk: &mut T) -> Result<(), LinkFailed>
+    ensures counted { OnOk result ((T.posture talk.new).taken ≡ (T.posture talk.old).taken) }
+    ensures hands { OnOk result ((board : Board) → T.hands_out board talk.old None → T.hands_out board talk.new None) }
 
     // What was said, and how the session ends.
     ensures ok { OnOk result ((board : Board) (old : Wire)
         (from to : NodeState) (rest : List ℕ)
-        → Stands board old from (L.wire link.old) rest talk.old None to
-        → Stands board old from (L.wire link.new) rest talk.new None to) }
+        → Stands T.user_of T.has_talked board old from (L.wire link.old) rest talk.old None to
+        → Stands T.user_of T.has_talked board old from (L.wire link.new) rest talk.new None to) }
     ensures err { OnErr result ((board : Board) (old : Wire)
         (from to : NodeState) (rest : List ℕ)
-        → Stands board old from (L.wire link.old) rest talk.old None to
-        → Served board old from LinkFault (L.wire link.new) to) }
+        → Stands T.user_of T.has_talked board old from (L.wire link.old) rest talk.old None to
+        → ServedBy T.talks T.user_of board old from LinkFault (L.wire link.new) to) }
 {
     if talk.owed().len() > MOST_OWED {
         return send_owed(link, talk);
@@ -80,6 +89,7 @@ pub(crate) fn read_piece<L: Link>(
     ensures ends { (L.wire link.old).ends ≤ (L.wire link.new).ends }
     ensures sent { (L.wire link.new).sent ≡ (L.wire link.old).sent }
     ensures unsent { (L.wire link.new).unsent ≡ (L.wire link.old).unsent }
+    ensures fine { OnOk result ((L.wire link.new).faults ≡ (L.wire link.old).faults) }
     ensures cause { HasCause (L.wire link.old).faults (L.wire link.new).faults result }
 {
     link.read(&mut buffer[..most])

@@ -3,27 +3,26 @@ ghost use Rattle.std.specs.Prelude.{◌≡◌, ◌+◌, ◌<◌, ◌≤◌, ℕ,
 ghost use Rattle.std.specs.Option.{is_some};
 ghost use Rattle.jb_limits.specs.declared.limits.TheConstants.{MOST_SESSION_BYTES};
 ghost use Rattle.jb_host.specs.Wire.{Wire};
-ghost use Rattle.jb_talk.specs.Asking.{most_asked};
-ghost use Rattle.jb_talk.specs.Talking.{Hands, HasTalked, most_wanted};
-ghost use Rattle.jb_talk.specs.declared.request.Request.{Request};
+ghost use Rattle.jb_speech.specs.declared.request.Request.{Request};
 ghost use Rattle.jb_session.specs.Exchanges.{AreOf, NodeState, node_with};
-ghost use Rattle.jb_session.specs.Served.{Served, Stands};
+ghost use Rattle.jb_session.specs.Served.{Served, ServedBy, Stands};
 
 use crate::end::{SessionEnd, ended};
 use crate::exchange::exchange;
 use crate::log::Log;
-use crate::sending::{read_piece, relieve, send_owed};
+use crate::sending::{laws, read_piece, relieve, send_owed};
 use jb_base::OutOfMemory;
 use jb_conf::Board;
 use jb_disk::Disk;
 use jb_host::{Clock, Link};
 use jb_shared::{Pass, SharedArea};
-use jb_talk::{MOST_PIECE_BYTES, Request, Talk, conversations_are_one};
+use jb_speech::{MOST_PIECE_BYTES, Request, Speaker};
+use jb_talk::Talk;
 use std::alloc::Global;
 use std::sync::Wait;
 
-/// Does a request, and tells the talk the answer. Gives the request that follows.
-fn respond<R: Wait, D: Disk, L: Link, C: Clock>(
+/// Does a request, and tells the speaker the answer. Gives the request that follows.
+fn respond<T: Speaker, R: Wait, D: Disk, L: Link, C: Clock>(
     rt: &R,
     alloc: Global,
     board: &Board,
@@ -32,28 +31,28 @@ fn respond<R: Wait, D: Disk, L: Link, C: Clock>(
     link: &mut L,
     clock: &mut C,
     log: &mut Log,
-    talk: &mut Talk,
+    talk: &mut T,
     request: &Request,
 ) -> Result<Option<Request>, OutOfMemory>
     requires areas { length areas.now ≡ length board.now.areas }
     requires ours { AreOf areas.now passes.old }
-    requires hands { Hands board.now talk.old (Some request.now) }
+    requires hands { T.hands_out board.now talk.old (Some request.now) }
     ensures ours { AreOf areas.now passes.new }
     ensures wire { L.wire link.new ≡ L.wire link.old }
-    ensures hands { IfOk result (λ next. Hands board.now talk.new next) }
-    ensures counted { OnOk result (talk.new.taken ≡ talk.old.taken) }
+    ensures hands { IfOk result (λ next. T.hands_out board.now talk.new next) }
+    ensures counted { OnOk result ((T.posture talk.new).taken ≡ (T.posture talk.old).taken) }
     ensures fewer { IfOk result (λ next. is_some next ≡ true
-        → most_asked board.now talk.new.place.menu < most_asked board.now talk.old.place.menu) }
+        → (T.posture talk.new).most_asked board.now < (T.posture talk.old).most_asked board.now) }
 
     // What was said and asked, and how the session ends where memory is wanting.
     ensures ok { IfOk result (λ next. (old now : Wire) (from : NodeState) (rest : List ℕ)
-        → Stands board.now old from now rest talk.old (Some request.now) (node_with (C.readings clock.old) passes.old)
-        → Stands board.now old from now rest talk.new next (node_with (C.readings clock.new) passes.new)) }
+        → Stands T.user_of T.has_talked board.now old from now rest talk.old (Some request.now) (node_with (C.readings clock.old) passes.old)
+        → Stands T.user_of T.has_talked board.now old from now rest talk.new next (node_with (C.readings clock.new) passes.new)) }
     ensures err { OnErr result ((old now : Wire) (from : NodeState) (rest : List ℕ)
-        → Stands board.now old from now rest talk.old (Some request.now) (node_with (C.readings clock.old) passes.old)
-        → Served board.now old from SessionEnd.OutOfMemory now (node_with (C.readings clock.new) passes.new)) }
+        → Stands T.user_of T.has_talked board.now old from now rest talk.old (Some request.now) (node_with (C.readings clock.old) passes.old)
+        → ServedBy T.talks T.user_of board.now old from SessionEnd.OutOfMemory now (node_with (C.readings clock.new) passes.new)) }
 {
-    conversations_are_one();
+    laws::<T>();
     log.ask(link, request);
     let mut has_settled = false;
     let given = exchange(
@@ -63,6 +62,7 @@ fn respond<R: Wait, D: Disk, L: Link, C: Clock>(
         areas,
         passes,
         clock,
+        talk,
         request,
         &mut has_settled,
     )?;
@@ -71,7 +71,7 @@ fn respond<R: Wait, D: Disk, L: Link, C: Clock>(
 }
 
 /// Does a request, where there is one, and all that follow.
-fn respond_all<R: Wait, D: Disk, L: Link, C: Clock>(
+fn respond_all<T: Speaker, R: Wait, D: Disk, L: Link, C: Clock>(
     rt: &R,
     alloc: Global,
     board: &Board,
@@ -80,24 +80,24 @@ fn respond_all<R: Wait, D: Disk, L: Link, C: Clock>(
     link: &mut L,
     clock: &mut C,
     log: &mut Log,
-    talk: &mut Talk,
+    talk: &mut T,
     first: Option<Request>,
 ) -> Result<(), OutOfMemory>
     requires areas { length areas.now ≡ length board.now.areas }
     requires ours { AreOf areas.now passes.old }
-    requires hands { Hands board.now talk.old first }
+    requires hands { T.hands_out board.now talk.old first }
     ensures ours { AreOf areas.now passes.new }
     ensures wire { L.wire link.new ≡ L.wire link.old }
-    ensures hands { OnOk result (Hands board.now talk.new None) }
-    ensures counted { OnOk result (talk.new.taken ≡ talk.old.taken) }
+    ensures hands { OnOk result (T.hands_out board.now talk.new None) }
+    ensures counted { OnOk result ((T.posture talk.new).taken ≡ (T.posture talk.old).taken) }
 
     // What was said and asked, and how the session ends where memory is wanting.
     ensures ok { OnOk result ((old now : Wire) (from : NodeState) (rest : List ℕ)
-        → Stands board.now old from now rest talk.old first (node_with (C.readings clock.old) passes.old)
-        → Stands board.now old from now rest talk.new None (node_with (C.readings clock.new) passes.new)) }
+        → Stands T.user_of T.has_talked board.now old from now rest talk.old first (node_with (C.readings clock.old) passes.old)
+        → Stands T.user_of T.has_talked board.now old from now rest talk.new None (node_with (C.readings clock.new) passes.new)) }
     ensures err { OnErr result ((old now : Wire) (from : NodeState) (rest : List ℕ)
-        → Stands board.now old from now rest talk.old first (node_with (C.readings clock.old) passes.old)
-        → Served board.now old from SessionEnd.OutOfMemory now (node_with (C.readings clock.new) passes.new)) }
+        → Stands T.user_of T.has_talked board.now old from now rest talk.old first (node_with (C.readings clock.old) passes.old)
+        → ServedBy T.talks T.user_of board.now old from SessionEnd.OutOfMemory now (node_with (C.readings clock.new) passes.new)) }
 {
     let mut next = first;
     while let Some(request) = next {
@@ -122,7 +122,7 @@ fn first_line(piece: &[u8]) -> &[u8]
 
 /// Hears a piece, as far as the byte at which a line ends or an area is asked something, and does all that is asked then.
 /// Gives how many bytes were heard.
-fn hear<R: Wait, D: Disk, L: Link, C: Clock>(
+fn hear<T: Speaker, R: Wait, D: Disk, L: Link, C: Clock>(
     rt: &R,
     alloc: Global,
     board: &Board,
@@ -131,30 +131,30 @@ fn hear<R: Wait, D: Disk, L: Link, C: Clock>(
     link: &mut L,
     clock: &mut C,
     log: &mut Log,
-    talk: &mut Talk,
+    talk: &mut T,
     piece: &[u8],
 ) -> Result<usize, OutOfMemory>
     requires areas { length areas.now ≡ length board.now.areas }
     requires ours { AreOf areas.now passes.old }
-    requires hands { Hands board.now talk.old None }
-    requires room { talk.old.taken + length piece.now ≤ MOST_SESSION_BYTES }
+    requires hands { T.hands_out board.now talk.old None }
+    requires room { (T.posture talk.old).taken + length piece.now ≤ MOST_SESSION_BYTES }
     ensures ours { AreOf areas.now passes.new }
     ensures wire { L.wire link.new ≡ L.wire link.old }
-    ensures hands { OnOk result (Hands board.now talk.new None) }
+    ensures hands { OnOk result (T.hands_out board.now talk.new None) }
     ensures within { IfOk result (λ heard. heard ≤ length piece.now) }
     ensures some { IfOk result (λ heard. 0 < length piece.now → 0 < heard) }
-    ensures counted { IfOk result (λ heard. talk.new.taken ≡ talk.old.taken + heard) }
+    ensures counted { IfOk result (λ heard. (T.posture talk.new).taken ≡ (T.posture talk.old).taken + heard) }
 
     // What was said and asked, and how the session ends where memory is wanting.
     ensures ok { IfOk result (λ heard. (old now : Wire) (from : NodeState)
-        → Stands board.now old from now piece.now talk.old None (node_with (C.readings clock.old) passes.old)
-        → Stands board.now old from now
+        → Stands T.user_of T.has_talked board.now old from now piece.now talk.old None (node_with (C.readings clock.old) passes.old)
+        → Stands T.user_of T.has_talked board.now old from now
         (drop heard piece.now) talk.new None (node_with (C.readings clock.new) passes.new)) }
     ensures err { OnErr result ((old now : Wire) (from : NodeState)
-        → Stands board.now old from now piece.now talk.old None (node_with (C.readings clock.old) passes.old)
-        → Served board.now old from SessionEnd.OutOfMemory now (node_with (C.readings clock.new) passes.new)) }
+        → Stands T.user_of T.has_talked board.now old from now piece.now talk.old None (node_with (C.readings clock.old) passes.old)
+        → ServedBy T.talks T.user_of board.now old from SessionEnd.OutOfMemory now (node_with (C.readings clock.new) passes.new)) }
 {
-    conversations_are_one();
+    laws::<T>();
     log.look(talk);
     let heard = talk.hear(alloc, board, first_line(piece))?;
     respond_all(
@@ -174,7 +174,7 @@ fn hear<R: Wait, D: Disk, L: Link, C: Clock>(
 
 /// Hears a piece, and does all that it asks of the areas; or ends the session. Between two requests it sends what is owed
 /// where that is long.
-fn take<R: Wait, D: Disk, L: Link, C: Clock>(
+fn take<T: Speaker, R: Wait, D: Disk, L: Link, C: Clock>(
     rt: &R,
     alloc: Global,
     board: &Board,
@@ -183,24 +183,24 @@ fn take<R: Wait, D: Disk, L: Link, C: Clock>(
     link: &mut L,
     clock: &mut C,
     log: &mut Log,
-    talk: &mut Talk,
+    talk: &mut T,
     piece: &[u8],
 ) -> Result<(), SessionEnd>
     requires areas { length areas.now ≡ length board.now.areas }
     requires ours { AreOf areas.now passes.old }
-    requires hands { Hands board.now talk.old None }
-    requires room { talk.old.taken + length piece.now ≤ MOST_SESSION_BYTES }
+    requires hands { T.hands_out board.now talk.old None }
+    requires room { (T.posture talk.old).taken + length piece.now ≤ MOST_SESSION_BYTES }
     ensures ours { AreOf areas.now passes.new }
-    ensures hands { OnOk result (Hands board.now talk.new None) }
-    ensures counted { OnOk result (talk.new.taken ≡ talk.old.taken + length piece.now) }
+    ensures hands { OnOk result (T.hands_out board.now talk.new None) }
+    ensures counted { OnOk result ((T.posture talk.new).taken ≡ (T.posture talk.old).taken + length piece.now) }
 
     // What was said and asked, and how the session ends.
     ensures ok { OnOk result ((old : Wire) (from : NodeState)
-        → Stands board.now old from (L.wire link.old) piece.now talk.old None (node_with (C.readings clock.old) passes.old)
-        → Stands board.now old from (L.wire link.new) [] talk.new None (node_with (C.readings clock.new) passes.new)) }
+        → Stands T.user_of T.has_talked board.now old from (L.wire link.old) piece.now talk.old None (node_with (C.readings clock.old) passes.old)
+        → Stands T.user_of T.has_talked board.now old from (L.wire link.new) [] talk.new None (node_with (C.readings clock.new) passes.new)) }
     ensures err { IfErr result (λ end. (old : Wire) (from : NodeState)
-        → Stands board.now old from (L.wire link.old) piece.now talk.old None (node_with (C.readings clock.old) passes.old)
-        → Served board.now old from end (L.wire link.new) (node_with (C.readings clock.new) passes.new)) }
+        → Stands T.user_of T.has_talked board.now old from (L.wire link.old) piece.now talk.old None (node_with (C.readings clock.old) passes.old)
+        → ServedBy T.talks T.user_of board.now old from end (L.wire link.new) (node_with (C.readings clock.new) passes.new)) }
 {
     let mut at = 0;
     while at < piece.len() {
@@ -220,7 +220,7 @@ fn take<R: Wait, D: Disk, L: Link, C: Clock>(
 }
 
 /// Reads a piece, does what it leads to, and sends what is owed then; or ends the session.
-fn turn<R: Wait, D: Disk, L: Link, C: Clock>(
+fn turn<T: Speaker, R: Wait, D: Disk, L: Link, C: Clock>(
     rt: &R,
     alloc: Global,
     board: &Board,
@@ -229,26 +229,26 @@ fn turn<R: Wait, D: Disk, L: Link, C: Clock>(
     link: &mut L,
     clock: &mut C,
     log: &mut Log,
-    talk: &mut Talk,
+    talk: &mut T,
 ) -> Result<(), SessionEnd>
     requires areas { length areas.now ≡ length board.now.areas }
     requires ours { AreOf areas.now passes.old }
-    requires hands { Hands board.now talk.old None }
-    requires wants { 0 < most_wanted talk.old }
+    requires hands { T.hands_out board.now talk.old None }
+    requires wants { 0 < (T.posture talk.old).wanted }
     ensures ours { AreOf areas.now passes.new }
-    ensures hands { OnOk result (Hands board.now talk.new None) }
-    ensures taken { OnOk result ((talk.old.taken < talk.new.taken) × (talk.new.taken ≤ MOST_SESSION_BYTES)) }
-    ensures owed { OnOk result (talk.new.owed ≡ []) }
+    ensures hands { OnOk result (T.hands_out board.now talk.new None) }
+    ensures taken { OnOk result (((T.posture talk.old).taken < (T.posture talk.new).taken) × ((T.posture talk.new).taken ≤ MOST_SESSION_BYTES)) }
+    ensures owed { OnOk result ((T.posture talk.new).owed ≡ []) }
 
     // What was said and asked, and how the session ends.
     ensures ok { OnOk result ((old : Wire) (from : NodeState)
-        → Stands board.now old from (L.wire link.old) [] talk.old None (node_with (C.readings clock.old) passes.old)
-        → Stands board.now old from (L.wire link.new) [] talk.new None (node_with (C.readings clock.new) passes.new)) }
+        → Stands T.user_of T.has_talked board.now old from (L.wire link.old) [] talk.old None (node_with (C.readings clock.old) passes.old)
+        → Stands T.user_of T.has_talked board.now old from (L.wire link.new) [] talk.new None (node_with (C.readings clock.new) passes.new)) }
     ensures err { IfErr result (λ end. (old : Wire) (from : NodeState)
-        → Stands board.now old from (L.wire link.old) [] talk.old None (node_with (C.readings clock.old) passes.old)
-        → Served board.now old from end (L.wire link.new) (node_with (C.readings clock.new) passes.new)) }
+        → Stands T.user_of T.has_talked board.now old from (L.wire link.old) [] talk.old None (node_with (C.readings clock.old) passes.old)
+        → ServedBy T.talks T.user_of board.now old from end (L.wire link.new) (node_with (C.readings clock.new) passes.new)) }
 {
-    conversations_are_one();
+    laws::<T>();
     let mut buffer = [0u8; MOST_PIECE_BYTES];
     let Ok(n) = read_piece(link, &mut buffer, talk.wants()) else {
         return Err(SessionEnd::LinkFault);
@@ -269,8 +269,8 @@ fn turn<R: Wait, D: Disk, L: Link, C: Clock>(
     Ok(())
 }
 
-/// Serves one caller with a talk that has begun, from the greeting to the end.
-fn serve_talk<R: Wait, D: Disk, L: Link, C: Clock>(
+/// Serves one caller with a speaker that has begun, from the greeting to the end.
+fn serve_talk<T: Speaker, R: Wait, D: Disk, L: Link, C: Clock>(
     rt: &R,
     alloc: Global,
     board: &Board,
@@ -279,17 +279,17 @@ fn serve_talk<R: Wait, D: Disk, L: Link, C: Clock>(
     link: &mut L,
     clock: &mut C,
     log: &mut Log,
-    talk: &mut Talk,
+    talk: &mut T,
 ) -> SessionEnd
     requires areas { length areas.now ≡ length board.now.areas }
     requires ours { AreOf areas.now passes.old }
-    requires hands { Hands board.now talk.old None }
-    requires fits { HasTalked board.now talk.old [] [] [] [] }
+    requires hands { T.hands_out board.now talk.old None }
+    requires fits { T.has_talked board.now talk.old [] [] [] [] }
     ensures ours { AreOf areas.now passes.new }
-    ensures served { Served board.now (L.wire link.old) (node_with (C.readings clock.old) passes.old) result
+    ensures served { ServedBy T.talks T.user_of board.now (L.wire link.old) (node_with (C.readings clock.old) passes.old) result
         (L.wire link.new) (node_with (C.readings clock.new) passes.new) }
 {
-    conversations_are_one();
+    laws::<T>();
     let Ok(()) = send_owed(link, talk) else {
         return SessionEnd::LinkFault;
     };
@@ -301,11 +301,39 @@ fn serve_talk<R: Wait, D: Disk, L: Link, C: Clock>(
     ended(talk.end())
 }
 
-/// Serves one caller, from the greeting to the end, on the passes of a node: one for each area of the board, in order.
+/// Serves one caller with a speaker of this kind, from the greeting to the end, on the passes of a node: one for each area of the board, in
+/// order.
 ///
 /// All that is owed is sent before more is read, and no more is read than one session takes. Of what is owed a session holds
 /// at most 65,536 bytes and what one line leads to. A fault of an area is said, and the session goes on; after a fault of the
 /// link or without memory nothing more is sent.
+pub fn serve_as<T: Speaker + Drop, R: Wait, D: Disk, L: Link, C: Clock>(
+    rt: &R,
+    alloc: Global,
+    board: &Board,
+    areas: &[SharedArea<D>],
+    passes: &mut [Pass],
+    link: &mut L,
+    clock: &mut C,
+) -> SessionEnd
+    requires areas { length areas.now ≡ length board.now.areas }
+    requires ours { AreOf areas.now passes.old }
+    ensures ours { AreOf areas.now passes.new }
+    ensures served { ServedBy T.talks T.user_of board.now (L.wire link.old) (node_with (C.readings clock.old) passes.old) result
+        (L.wire link.new) (node_with (C.readings clock.new) passes.new) }
+{
+    laws::<T>();
+    let mut log = Log::begin(link, clock.glance());
+    let Ok(mut talk) = T::start(alloc, board) else {
+        return log.end(link, clock, SessionEnd::OutOfMemory);
+    };
+    let end = serve_talk(
+        rt, alloc, board, areas, passes, link, clock, &mut log, &mut talk,
+    );
+    log.end(link, clock, end)
+}
+
+/// Serves one caller by Telnet, as [`serve_as`] does.
 pub fn serve_session<R: Wait, D: Disk, L: Link, C: Clock>(
     rt: &R,
     alloc: Global,
@@ -321,13 +349,5 @@ pub fn serve_session<R: Wait, D: Disk, L: Link, C: Clock>(
     ensures served { Served board.now (L.wire link.old) (node_with (C.readings clock.old) passes.old) result
         (L.wire link.new) (node_with (C.readings clock.new) passes.new) }
 {
-    conversations_are_one();
-    let mut log = Log::begin(link, clock.glance());
-    let Ok(mut talk) = Talk::start(alloc, board) else {
-        return log.end(link, clock, SessionEnd::OutOfMemory);
-    };
-    let end = serve_talk(
-        rt, alloc, board, areas, passes, link, clock, &mut log, &mut talk,
-    );
-    log.end(link, clock, end)
+    serve_as::<Talk, R, D, L, C>(rt, alloc, board, areas, passes, link, clock)
 }

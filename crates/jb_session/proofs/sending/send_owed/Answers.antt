@@ -1,26 +1,20 @@
-use Rattle.std.proofs.Common.{ℕ, List, [], ◌++◌, None, subst, sym}
+use Rattle.std.proofs.Common.{ℕ, List, [], ◌++◌, subst}
 use Rattle.jb_host.specs.Wire.{IsFrontOf, Sends}
-use Rattle.jb_talk.specs.Talking.{Hands, Talking}
 use Rattle.jb_session.specs.Exchanges.{answers_of, asks_of}
 use Rattle.jb_session.proofs.Standing.{ends_unsent, sent_on, wrote}
 use Rattle.jb_session.proofs.sending.send_owed.Goals as goal
 
 pub returns-in_default-clause-err : goal.returns-in_default-clause-err
 returns-in_default-clause-err g c = λ board old from to rest s.
-    let laws = c.conversations_are_one.ensures in
     let f = c.in_default.ensures in
     let P : List ℕ → Type 0 = λ w. IsFrontOf f.err.0 w in
-    ends_unsent board laws.some laws.grows laws.stands old (g.L.Link.wire c.args.link.now) (g.L.Link.wire c.send.new.link) from to rest c.args.talk.now f.err.0 s (subst P c.owed.ensures f.err.1) f.err.2
+    ends_unsent c.laws.ensures old (g.L.Link.wire c.args.link.now) (g.L.Link.wire c.send.new.link) from to rest c.args.talk.now f.err.0 s (subst P c.owed.ensures f.err.1) f.err.2
     f.to_come (wrote _ _ f.ends f.unsent.later f.cause.later) f.cause.failed f.unsent.failed
-
-pub returns-clause-hands : goal.returns-clause-hands
-returns-clause-hands g c = λ board h.
-    let P : Talking → Type 0 = λ w. Hands board w None in
-    subst P (sym c.was_sent.ensures.exact) (record { menu = h.menu; waits = h.waits; of = h.of })
 
 pub returns-clause-ok : goal.returns-clause-ok
 returns-clause-ok g c = λ board old from to rest s.
     let f = c.in-Ok.ensures in
     let P : List ℕ → Type 0 = λ w. Sends (g.L.Link.wire c.args.link.now).sent w (g.L.Link.wire c.send.new.link).sent in
-    sent_on board old (g.L.Link.wire c.args.link.now) (g.L.Link.wire c.send.new.link) from to rest c.args.talk.now c.was_sent.new.self s (subst P c.owed.ensures f.ok) f.to_come f.quiet (wrote _ _ f.ends f.unsent.later f.cause.later)
+    sent_on old (g.L.Link.wire c.args.link.now) (g.L.Link.wire c.send.new.link) from to rest (g.T.Speaker.posture c.args.talk.now).owed c.args.talk.now c.was_sent.new.self s (subst P c.owed.ensures f.ok) f.to_come
+    (record { faults = f.fine; unsent = f.quiet }) (wrote _ _ f.ends f.unsent.later f.cause.later)
     (c.was_sent.ensures.fits board s.heard s.out (answers_of s.exchanges) (asks_of s.exchanges ++ []) s.talked)

@@ -1,6 +1,5 @@
 use Rattle.std.proofs.Common.{◌≡◌, ℕ, List}
 use Rattle.jb_host.specs.Wire.{Wire}
-use Rattle.jb_talk.specs.Talking.{Hands}
 use Rattle.jb_session.specs.Exchanges.{AreOf, NodeState, node_with}
 use Rattle.jb_session.specs.Served.{Stands}
 use Rattle.jb_session.proofs.Standing.{to_come}
@@ -10,11 +9,11 @@ abbrev pub invariant-loop-next : goal.invariant-loop-next
 invariant-loop-next g l =
     AreOf l.areas l.passes
     × (g.L.Link.wire l.link ≡ g.L.Link.wire l.fn.link)
-    × Hands l.board l.talk l.next
-    × (l.talk.taken ≡ l.fn.talk.taken)
+    × g.T.Speaker.hands_out l.board l.talk l.next
+    × ((g.T.Speaker.posture l.talk).taken ≡ (g.T.Speaker.posture l.fn.talk).taken)
     × ((old now : Wire) (from : NodeState) (rest : List ℕ)
-    → Stands l.board old from now rest l.fn.talk l.fn.first (node_with (g.C.Clock.readings l.fn.clock) l.fn.passes)
-    → Stands l.board old from now rest l.talk l.next (node_with (g.C.Clock.readings l.clock) l.passes))
+    → Stands g.T.Speaker.user_of g.T.Speaker.has_talked l.board old from now rest l.fn.talk l.fn.first (node_with (g.C.Clock.readings l.fn.clock) l.fn.passes)
+    → Stands g.T.Speaker.user_of g.T.Speaker.has_talked l.board old from now rest l.talk l.next (node_with (g.C.Clock.readings l.clock) l.passes))
 
 abbrev pub decreases-loop-next : goal.decreases-loop-next
-decreases-loop-next g l = to_come l.board l.talk l.next
+decreases-loop-next g l = to_come (g.T.Speaker.posture l.talk) l.board l.next

@@ -1,16 +1,15 @@
 use Rattle.std.proofs.Common.{[], sym, ap, subst, ◌∙◌, arith}
 use Rattle.jb_session.specs.Ends.{end_as}
 use Rattle.jb_session.specs.Exchanges.{node_with}
-use Rattle.jb_session.specs.Served.{Served}
+use Rattle.jb_session.specs.Served.{ServedBy}
 use Rattle.jb_session.specs.declared.end.SessionEnd.{SessionEnd}
 use Rattle.jb_session.proofs.Standing.{ends_over, stands_first}
-use Rattle.jb_session.proofs.Wanting.{is_over}
 use Rattle.jb_session.proofs.session.serve_talk.Goals as goal
 
 pub returns-in_default-clause-served : goal.returns-in_default-clause-served
 returns-in_default-clause-served g c =
     c.in_default.ensures.err c.args.board.now (g.L.Link.wire c.args.link.now) (node_with (g.C.Clock.readings c.args.clock.now) c.args.passes.now) (node_with (g.C.Clock.readings c.args.clock.now) c.args.passes.now) []
-    (stands_first c.args.board.now (g.L.Link.wire c.args.link.now) (node_with (g.C.Clock.readings c.args.clock.now) c.args.passes.now) c.args.talk.now c.requires.fits)
+    (stands_first (g.L.Link.wire c.args.link.now) (node_with (g.C.Clock.readings c.args.clock.now) c.args.passes.now) c.args.talk.now c.requires.fits)
 
 pub loop-alloc-init : goal.loop-alloc-init
 loop-alloc-init g c =
@@ -19,15 +18,15 @@ loop-alloc-init g c =
       c.requires.ours,
       f.hands c.args.board.now c.requires.hands,
       f.owed,
-      omega (arith, f.counted, t.counted),
+      omega (arith, f.counted, c.laws.ensures.counts c.args.board.now c.args.talk.now [] [] [] [] t),
       f.ok c.args.board.now (g.L.Link.wire c.args.link.now) (node_with (g.C.Clock.readings c.args.clock.now) c.args.passes.now) (node_with (g.C.Clock.readings c.args.clock.now) c.args.passes.now) []
-          (stands_first c.args.board.now (g.L.Link.wire c.args.link.now) (node_with (g.C.Clock.readings c.args.clock.now) c.args.passes.now) c.args.talk.now t),
+          (stands_first (g.L.Link.wire c.args.link.now) (node_with (g.C.Clock.readings c.args.clock.now) c.args.passes.now) c.args.talk.now t),
     )
 
 pub returns-clause-served : goal.returns-clause-served
 returns-clause-served g c =
     let i = c.loop-alloc.invariant in
-    let P : SessionEnd → Type 0 = λ w. Served c.args.board.now (g.L.Link.wire c.args.link.now) (node_with (g.C.Clock.readings c.args.clock.now) c.args.passes.now) w (g.L.Link.wire c.loop-alloc.link) (node_with (g.C.Clock.readings c.loop-alloc.clock) c.loop-alloc.passes) in
-    subst P (sym (c.ended.ensures ∙ ap end_as c.end.ensures.value))
-    (ends_over c.args.board.now c.conversations_are_one.ensures.stands (g.L.Link.wire c.args.link.now) (g.L.Link.wire c.loop-alloc.link) (node_with (g.C.Clock.readings c.args.clock.now) c.args.passes.now) (node_with (g.C.Clock.readings c.loop-alloc.clock) c.loop-alloc.passes) c.loop-alloc.talk i.4 i.2
-    (is_over c.loop-alloc.talk (λ some. grind (arith, c.loop-alloc-test.false, c.wants.ensures, some)) i.2 i.3))
+    let P : SessionEnd → Type 0 = λ w. ServedBy g.T.Speaker.talks g.T.Speaker.user_of c.args.board.now (g.L.Link.wire c.args.link.now) (node_with (g.C.Clock.readings c.args.clock.now) c.args.passes.now) w (g.L.Link.wire c.loop-alloc.link) (node_with (g.C.Clock.readings c.loop-alloc.clock) c.loop-alloc.passes) in
+    subst P (sym (c.ended.ensures ∙ ap end_as c.end.ensures))
+    (ends_over c.laws.ensures (g.L.Link.wire c.args.link.now) (g.L.Link.wire c.loop-alloc.link) (node_with (g.C.Clock.readings c.args.clock.now) c.args.passes.now) (node_with (g.C.Clock.readings c.loop-alloc.clock) c.loop-alloc.passes) c.loop-alloc.talk i.4 i.2
+    (c.wants.ensures.over (omega (arith, c.loop-alloc-test.false)) i.2))

@@ -1,6 +1,5 @@
 use Rattle.std.proofs.Common.{◌≡◌, ◌-◌, ◌≤◌, [], None}
 use Rattle.jb_limits.specs.declared.limits.TheConstants.{MOST_SESSION_BYTES}
-use Rattle.jb_talk.specs.Talking.{Hands}
 use Rattle.jb_session.specs.Exchanges.{AreOf, node_with}
 use Rattle.jb_session.specs.Served.{Stands}
 use Rattle.jb_session.proofs.session.serve_talk.Given as goal
@@ -8,11 +7,11 @@ use Rattle.jb_session.proofs.session.serve_talk.Given as goal
 abbrev pub invariant-loop-alloc : goal.invariant-loop-alloc
 invariant-loop-alloc g l =
     AreOf l.areas l.passes
-    × Hands l.board l.talk None
-    × (l.talk.owed ≡ [])
-    × (l.talk.taken ≤ MOST_SESSION_BYTES)
-    × Stands l.board (g.L.Link.wire l.fn.link) (node_with (g.C.Clock.readings l.fn.clock) l.fn.passes) (g.L.Link.wire l.link) [] l.talk None
+    × g.T.Speaker.hands_out l.board l.talk None
+    × ((g.T.Speaker.posture l.talk).owed ≡ [])
+    × ((g.T.Speaker.posture l.talk).taken ≤ MOST_SESSION_BYTES)
+    × Stands g.T.Speaker.user_of g.T.Speaker.has_talked l.board (g.L.Link.wire l.fn.link) (node_with (g.C.Clock.readings l.fn.clock) l.fn.passes) (g.L.Link.wire l.link) [] l.talk None
     (node_with (g.C.Clock.readings l.clock) l.passes)
 
 abbrev pub decreases-loop-alloc : goal.decreases-loop-alloc
-decreases-loop-alloc g l = MOST_SESSION_BYTES - l.talk.taken
+decreases-loop-alloc g l = MOST_SESSION_BYTES - (g.T.Speaker.posture l.talk).taken

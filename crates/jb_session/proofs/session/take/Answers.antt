@@ -1,7 +1,7 @@
-use Rattle.std.proofs.Common.{ℕ, List, None, drop, length, ◌+◌, subst, sym, ◌∙◌, arith, length-take, length-drop}
+use Rattle.std.proofs.Common.{ℕ, List, None, drop, ◌+◌, subst, sym, ◌∙◌, arith, length-take, length-drop}
 use Rattle.jb_host.specs.Wire.{Wire}
-use Rattle.jb_session.specs.Exchanges.{NodeState, node_with}
-use Rattle.jb_session.specs.Served.{Served, Stands}
+use Rattle.jb_session.specs.Exchanges.{node_with}
+use Rattle.jb_session.specs.Served.{ServedBy, Stands}
 use Rattle.jb_session.specs.declared.end.SessionEnd.TheVariants.{OutOfMemory}
 use Rattle.jb_session.proofs.Standing.{drop_all, left_on, rest_on}
 use Rattle.jb_session.proofs.session.take.Goals as goal
@@ -17,10 +17,10 @@ returns-in_default-hear-clause-err g c = λ old from s.
     let now = g.L.Link.wire c.relieve.new.link in
     let before = node_with (g.C.Clock.readings c.loop-at.clock) c.loop-at.passes in
     let after = node_with (g.C.Clock.readings c.hear.new.clock) c.hear.new.passes in
-    let P : Wire → Type 0 = λ w. Served c.args.board.now old from OutOfMemory w after in
+    let P : Wire → Type 0 = λ w. ServedBy g.T.Speaker.talks g.T.Speaker.user_of c.args.board.now old from OutOfMemory w after in
     subst P (sym c.hear.ensures.wire)
     (c.in_default-hear.ensures.err old now from
-    (rest_on c.args.board.now old now from before c.loop-at.at c.args.piece.now c.relieve.new.talk
+    (rest_on old now from before c.loop-at.at c.args.piece.now c.relieve.new.talk
     (c.in-Ok.ensures.ok c.args.board.now old from before rest (c.loop-at.invariant.4 old from s))))
 
 pub loop-at-preserved : goal.loop-at-preserved
@@ -35,14 +35,14 @@ loop-at-preserved g c =
           let now = g.L.Link.wire c.relieve.new.link in
           let before = node_with (g.C.Clock.readings c.loop-at.clock) c.loop-at.passes in
           let after = node_with (g.C.Clock.readings c.hear.new.clock) c.hear.new.passes in
-          let P : Wire → Type 0 = λ w. Stands c.args.board.now old from w (drop (c.loop-at.at + n) c.args.piece.now) c.hear.new.talk None after in
-          subst P (sym (c.tell.ensures ∙ c.hear.ensures.wire)) (left_on c.args.board.now old now from after c.loop-at.at n c.args.piece.now c.hear.new.talk
+          let P : Wire → Type 0 = λ w. Stands g.T.Speaker.user_of g.T.Speaker.has_talked c.args.board.now old from w (drop (c.loop-at.at + n) c.args.piece.now) c.hear.new.talk None after in
+          subst P (sym (c.tell.ensures ∙ c.hear.ensures.wire)) (left_on old now from after c.loop-at.at n c.args.piece.now c.hear.new.talk
           (c.in-Ok-hear.ensures.ok old now from
-          (rest_on c.args.board.now old now from before c.loop-at.at c.args.piece.now c.relieve.new.talk
+          (rest_on old now from before c.loop-at.at c.args.piece.now c.relieve.new.talk
           (c.in-Ok.ensures.ok c.args.board.now old from before rest (c.loop-at.invariant.4 old from s))))),
     )
 
 pub returns-clause-ok : goal.returns-clause-ok
 returns-clause-ok g c = λ old from s.
-    let P : List ℕ → Type 0 = λ w. Stands c.args.board.now old from (g.L.Link.wire c.loop-at.link) w c.loop-at.talk None (node_with (g.C.Clock.readings c.loop-at.clock) c.loop-at.passes) in
+    let P : List ℕ → Type 0 = λ w. Stands g.T.Speaker.user_of g.T.Speaker.has_talked c.args.board.now old from (g.L.Link.wire c.loop-at.link) w c.loop-at.talk None (node_with (g.C.Clock.readings c.loop-at.clock) c.loop-at.passes) in
     subst P (drop_all c.loop-at.at c.args.piece.now (omega (arith, c.loop-at-test.false))) (c.loop-at.invariant.4 old from s)

@@ -1,45 +1,41 @@
 use Rattle.std.proofs.Common.{ℕ, take, [], arith, length-take}
 use Rattle.jb_session.specs.Exchanges.{node_with}
-use Rattle.jb_session.proofs.Standing.{ends_hangup, ends_unread, read, read_on}
-use Rattle.jb_session.proofs.Wanting.{hangs_up, is_wanting, takes_no}
+use Rattle.jb_session.proofs.Standing.{ends_hangup, ends_unread, read, read_on, takes_no}
 use Rattle.jb_session.proofs.session.turn.Goals as goal
 
 pub returns-in_default-clause-err : goal.returns-in_default-clause-err
 returns-in_default-clause-err g c = λ old from s.
     let f = c.in_default.ensures in
-    ends_unread c.args.board.now c.conversations_are_one.ensures.stands old _ _ from (node_with (g.C.Clock.readings c.args.clock.now) c.args.passes.now) c.args.talk.now s
-    (is_wanting c.args.talk.now c.requires.wants).none f.sent f.err (read _ _ f.ends f.unsent f.cause.later) f.cause.failed
+    ends_unread c.laws.ensures old _ _ from (node_with (g.C.Clock.readings c.args.clock.now) c.args.passes.now) c.args.talk.now s
+    (c.wants.ensures.goes_on (omega (arith, c.requires.wants, c.wants.ensures.is))).0 f.sent f.err (read _ _ f.ends f.unsent f.cause.later) f.cause.failed
 
 pub returns-then-n-eq0-clause-err : goal.returns-then-n-eq0-clause-err
 returns-then-n-eq0-clause-err g c = λ old from s.
     let f = c.in-Ok.ensures in
-    let w = is_wanting c.args.talk.now c.requires.wants in
+    let w = c.wants.ensures.goes_on (omega (arith, c.requires.wants, c.wants.ensures.is)) in
     let e = f.end c.if-n-eq0.true in
-    ends_hangup c.args.board.now c.conversations_are_one.ensures.stands old _ _ from (node_with (g.C.Clock.readings c.args.clock.now) c.args.passes.now) c.args.talk.now s
-    w.none (hangs_up c.args.talk.now.place.standing c.args.talk.now.taken w.on w.some) f.sent (takes_no _ _ c.in-Ok.n c.read_piece.new.buffer c.if-n-eq0.true f.found) f.unsent (read _ _ f.ends f.unsent f.cause.later) e.1 e.0
+    ends_hangup c.laws.ensures old _ _ from (node_with (g.C.Clock.readings c.args.clock.now) c.args.passes.now) c.args.talk.now s
+    w.0 w.1 f.sent (takes_no _ _ c.in-Ok.n c.read_piece.new.buffer c.if-n-eq0.true f.found) (record { faults = f.fine; unsent = f.unsent }) (read _ _ f.ends f.unsent f.cause.later) e.1 e.0
 
 pub returns-in-Err-clause-err : goal.returns-in-Err-clause-err
 returns-in-Err-clause-err g c = λ old from s.
     let f = c.in-Ok.ensures in
-    let w = is_wanting c.args.talk.now c.requires.wants in
     c.in-Err.ensures.err old from
-    (read_on c.args.board.now old _ _ from (node_with (g.C.Clock.readings c.args.clock.now) c.args.passes.now) (take c.in-Ok.n c.read_piece.new.buffer) c.args.talk.now s
-    f.found f.sent f.unsent (read _ _ f.ends f.unsent f.cause.later) (omega (arith, f.within, c.wants.ensures, w.room, w.some, length-take {A = ℕ})))
+    (read_on c.laws.ensures old _ _ from (node_with (g.C.Clock.readings c.args.clock.now) c.args.passes.now) (take c.in-Ok.n c.read_piece.new.buffer) c.args.talk.now s
+    f.found f.sent (record { faults = f.fine; unsent = f.unsent }) (read _ _ f.ends f.unsent f.cause.later) (omega (arith, f.within, c.wants.ensures.room, length-take {A = ℕ})))
 
 pub returns-in_default-send_owed-clause-err : goal.returns-in_default-send_owed-clause-err
 returns-in_default-send_owed-clause-err g c = λ old from s.
     let f = c.in-Ok.ensures in
-    let w = is_wanting c.args.talk.now c.requires.wants in
     c.in_default-send_owed.ensures.err c.args.board.now old from (node_with (g.C.Clock.readings c.take.new.clock) c.take.new.passes) []
     (c.in-Ok-take.ensures.ok old from
-    (read_on c.args.board.now old _ _ from (node_with (g.C.Clock.readings c.args.clock.now) c.args.passes.now) (take c.in-Ok.n c.read_piece.new.buffer) c.args.talk.now s
-    f.found f.sent f.unsent (read _ _ f.ends f.unsent f.cause.later) (omega (arith, f.within, c.wants.ensures, w.room, w.some, length-take {A = ℕ}))))
+    (read_on c.laws.ensures old _ _ from (node_with (g.C.Clock.readings c.args.clock.now) c.args.passes.now) (take c.in-Ok.n c.read_piece.new.buffer) c.args.talk.now s
+    f.found f.sent (record { faults = f.fine; unsent = f.unsent }) (read _ _ f.ends f.unsent f.cause.later) (omega (arith, f.within, c.wants.ensures.room, length-take {A = ℕ}))))
 
 pub returns-clause-ok : goal.returns-clause-ok
 returns-clause-ok g c = λ old from s.
     let f = c.in-Ok.ensures in
-    let w = is_wanting c.args.talk.now c.requires.wants in
     c.in-Ok-send_owed.ensures.ok c.args.board.now old from (node_with (g.C.Clock.readings c.take.new.clock) c.take.new.passes) []
     (c.in-Ok-take.ensures.ok old from
-    (read_on c.args.board.now old _ _ from (node_with (g.C.Clock.readings c.args.clock.now) c.args.passes.now) (take c.in-Ok.n c.read_piece.new.buffer) c.args.talk.now s
-    f.found f.sent f.unsent (read _ _ f.ends f.unsent f.cause.later) (omega (arith, f.within, c.wants.ensures, w.room, w.some, length-take {A = ℕ}))))
+    (read_on c.laws.ensures old _ _ from (node_with (g.C.Clock.readings c.args.clock.now) c.args.passes.now) (take c.in-Ok.n c.read_piece.new.buffer) c.args.talk.now s
+    f.found f.sent (record { faults = f.fine; unsent = f.unsent }) (read _ _ f.ends f.unsent f.cause.later) (omega (arith, f.within, c.wants.ensures.room, length-take {A = ℕ}))))

@@ -1,0 +1,13 @@
+//! What holds of all that is asked of a node.
+ghost use Rattle.std.specs.Prelude.{ℕ};
+ghost use Rattle.jb_shared.specs.Passes.{first_known};
+ghost use Rattle.jb_shared.specs.declared.opening.Opening.{Opening};
+ghost use Rattle.jb_session.specs.Laws.{LooksRise, LooksNeverFall};
+
+/// Through whatever is asked of a node, its looks and counts show never less of an area than those before, from a new pass on.
+///
+/// It computes nothing: its contract is the law.
+pub fn looks_never_fall()
+    ensures first { (node : ℕ) (opening : Opening) → LooksRise (first_known node opening) }
+    ensures rise { LooksNeverFall }
+{}
