@@ -1,2 +1,2 @@
 pub mod OpeningLemmas
-mod RefusalLemmas
+pub mod RefusalLemmas

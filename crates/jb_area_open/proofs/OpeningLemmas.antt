@@ -86,10 +86,14 @@ as_others now files same = same_files now (with_file Jnl (now Jnl) files) (λ fi
   | inr other ↦ same file other ∙ sym (with_file-other Jnl file (now Jnl) files other)
 ])
 
--- the journal bears on nothing that the area holds
+-- the journal bears on nothing that is loaded
+pub loads_beside : (now files : Files) (loaded : Loaded) → AgreeButJournal now files → Loads loaded files → Loads loaded now
+loads_beside now files loaded same loads = subst (Loads loaded) (sym (as_others now files same)) (loads_kept (now Jnl) files loaded loads)
+
+-- nor on what the area holds
 holds_beside : (now files : Files) (loaded : Loaded) (texts : List ℕ) → AgreeButJournal now files → Holds loaded texts files → Holds loaded texts now
 holds_beside now files loaded texts same holds =
-    subst (Holds loaded texts) (sym (as_others now files same)) (record { loads = loads_kept (now Jnl) files loaded holds.loads; texts_are = holds.texts_are })
+    record { loads = loads_beside now files loaded same holds.loads; texts_are = same Jdt (λ is. absurd (cc)) ∙ holds.texts_are }
 
 -- files that replay to the same open to the same
 opens_along : (was files : Files) (loaded : Loaded) (texts : List ℕ) → ((base : Files) → ReplaysTo base was → ReplaysTo base files) → Opens loaded texts was → Opens loaded texts files

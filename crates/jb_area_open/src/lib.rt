@@ -11,8 +11,10 @@
 #![tactic(auto)]
 
 mod error;
+mod laws;
 mod loading;
 mod opening;
 
 pub use error::OpeningError;
+pub use laws::what_opens_is_not_refused;
 pub use opening::open_area;

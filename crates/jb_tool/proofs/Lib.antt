@@ -1,5 +1,6 @@
 mod ChangingLemmas
 mod CommandLemmas
+mod CompleteLemmas
 mod CountLemmas
 mod FigureLemmas
 pub mod Recovering

@@ -1,6 +1,7 @@
 pub mod Answers
 pub mod Changing
 pub mod Check
+pub mod Laws
 pub mod Listing
 pub mod Making
 pub mod Outcome

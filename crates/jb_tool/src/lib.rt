@@ -16,6 +16,7 @@ mod checking;
 mod counting;
 mod counts;
 mod error;
+mod laws;
 mod listing;
 mod load_base;
 mod load_counting;
@@ -30,6 +31,7 @@ mod workload;
 
 pub use checking::check;
 pub use error::ToolError;
+pub use laws::tools_are_complete;
 pub use listing::list;
 pub use loading::{load, load_in_memory};
 pub use making::make;
