@@ -1,10 +1,10 @@
 -- A disk that was claimed, which only reads: it is as it was, or it has failed and the area is refused.
-use Rattle.std.proofs.Common.{◌≡◌, ◌∙◌, ℕ, ◌≤◌, List, Option, [], ◌∷◌, Result, Ok, Err, IfErr, IfOk, OnOk, ap, arith, refl, subst, sym}
+use Rattle.std.proofs.Common.{◌≡◌, ◌∙◌, ℕ, ◌≤◌, List, Option, [], ◌∷◌, Result, Ok, Err, IfErr, IfOk, OnOk, ap, arith, refl}
 use Rattle.std.specs.Option.{ForSome}
 use Rattle.jb_area.specs.Area.{device_of, rules_of}
 use Rattle.jb_area.specs.Calls.{HasRest}
 use Rattle.jb_area.specs.declared.area.OpenArea.{OpenArea}
-use Rattle.jb_area_open.specs.Opening.{IsOpenAt, KeepsOpening, OpensAs, OpensAsAtStart, OpensFirmly, Refuses, opened_device, is_opening_fault}
+use Rattle.jb_area_open.specs.Opening.{IsOpenAt, IsRecovered, KeepsOpening, OpensAs, OpensAsAtStart, OpensFirmly, Refuses, opened_device, is_opening_fault}
 use Rattle.jb_area_open.specs.declared.error.OpeningError.{OpeningError}
 use Rattle.jb_area_open.specs.declared.error.OpeningError.TheVariants.{Base}
 use Rattle.jb_base.specs.declared.area.AreaRules.{AreaRules}
@@ -52,12 +52,13 @@ refuses_claim place slots before after reads rose later = record {
 module _ {D : Type 0} (shown : D → Device) (by : AreaRules) (before : Device) where
   -- an area that was opened
   pub opens_over : (result : Result (OpenArea D) (D × OpeningError)) → IfOk result (λ area. rules_of area ≡ by) → IfOk result (HasRest shown)
-      → IfOk result (λ area. ForSome before.contents (λ was. IsGrowthSafe was → IsOpenAt shown was area)) → OnOk result ((opened_device shown result).faults ≡ before.faults)
+      → IfOk result (λ area. ForSome before.contents (λ was. IsGrowthSafe was → IsOpenAt shown was area))
+      → IfOk result (λ area. ForSome before.contents (λ was. IsRecovered was (device_of shown area))) → OnOk result ((opened_device shown result).faults ≡ before.faults)
       → KeepsOpening before (opened_device shown result) → OpensFirmly before (opened_device shown result) → TellsAlike before (opened_device shown result)
       → IfOk result (OpensOver shown by before)
-  opens_over (Ok area) rules rest opens faults crash firm alike =
-      record { rules = rules; rest = rest; opens = opens; faults = faults; crash = crash; firm = firm; alike = alike }
-  opens_over (Err back) rules rest opens faults crash firm alike = tt
+  opens_over (Ok area) rules rest opens recovered faults crash firm alike =
+      record { rules = rules; rest = rest; opens = opens; recovered = recovered; faults = faults; crash = crash; firm = firm; alike = alike }
+  opens_over (Err back) rules rest opens recovered faults crash firm alike = tt
 
   -- and one that was refused
   pub refuses_disk : (result : Result (OpenArea D) (D × OpeningError)) → IfErr result (λ back. Refuses by.slots before (shown back.0) back.1)

@@ -2,12 +2,13 @@
 use Rattle.std.proofs.Common.{◌≡◌, ℕ, zero, suc, ◌+◌, ◌<◌, ◌≤◌, Bool, true, false, ◌||◌, List, [], ◌∷◌, length, take, drop, All, refl, sym, ap, subst, ◌∙◌, arith}
 use Rattle.std.specs.Prelude.{AllPairs, slice_index_or, fold}
 use Rattle.std.proofs.lemmas.List.{drop_all, drop_more, get_or-drop, get_or-take, get_or_default, length-drop, length-take-le, take-take, take_all}
+use Rattle.std.proofs.lemmas.List.Elements.{All-map}
 use Rattle.jb_conf.specs.declared.board.BoardArea.{BoardArea}
 use Rattle.jb_disk.specs.Device.{Device}
 use Rattle.jb_host.specs.Desk.{Desk, TakesBack}
 use Rattle.jb_shared.specs.Passes.{PassView}
 use Rattle.jb_run.specs.All.{ClosesAll, EndsAt, any}
-use Rattle.jb_run.specs.Desks.{PutsBack}
+use Rattle.jb_run.specs.Desks.{PutsBack, place_of, places_of}
 use Rattle.jb_run.specs.Lives.{Ends}
 use Rattle.jb_run.specs.Rows.{IsDealt}
 use Rattle.jb_run.proofs.DeskLemmas.{IsElsewhere, puts_back_first, puts_back_none}
@@ -31,25 +32,29 @@ any_from so_far (bit ∷ bits) = any_from (so_far || bit) bits ∙ or_turned (an
 any_first : (bit : Bool) (bits : List Bool) → any (bit ∷ bits) ≡ (any bits || bit)
 any_first bit bits = any_from bit bits
 
+-- the areas have places of their own
+abbrev IsApart : BoardArea → BoardArea → Type 0
+IsApart one other = IsElsewhere (place_of one) (place_of other)
+
 -- an area is elsewhere than all behind it
-elsewhere_behind : (areas : List BoardArea) (k : ℕ) (area : BoardArea) → k < length areas → AllPairs IsElsewhere areas → All (IsElsewhere (slice_index_or areas k area)) (drop (k + 1) areas)
+elsewhere_behind : (areas : List BoardArea) (k : ℕ) (area : BoardArea) → k < length areas → AllPairs IsApart areas → All (IsApart (slice_index_or areas k area)) (drop (k + 1) areas)
 elsewhere_behind areas k area within places = λ j d low.
     let far : k + 1 + j < length areas = omega (arith, length-drop (k + 1) areas) in
-    subst (λ (a : BoardArea). IsElsewhere a (slice_index_or (drop (k + 1) areas) j d)) (get_or_default areas k d area within)
-    (subst (IsElsewhere (slice_index_or areas k d)) (sym (get_or-drop (k + 1) areas j d)) (places k (k + 1 + j) d (omega arith) far))
+    subst (λ (a : BoardArea). IsApart a (slice_index_or (drop (k + 1) areas) j d)) (get_or_default areas k d area within)
+    (subst (IsApart (slice_index_or areas k d)) (sym (get_or-drop (k + 1) areas j d)) (places k (k + 1 + j) d (omega arith) far))
 
 -- the first areas have places of their own too
-places_take : (areas : List BoardArea) (n : ℕ) → n ≤ length areas → AllPairs IsElsewhere areas → AllPairs IsElsewhere (take n areas)
+places_take : (areas : List BoardArea) (n : ℕ) → n ≤ length areas → AllPairs IsApart areas → AllPairs IsApart (take n areas)
 places_take areas n within places = λ i j d before low.
     let in_j : j < n = omega (arith, length-take-le n areas within) in
-    subst (λ (a : BoardArea). IsElsewhere a (slice_index_or (take n areas) j d)) (sym (get_or-take n areas i d (omega arith)))
-    (subst (IsElsewhere (slice_index_or areas i d)) (sym (get_or-take n areas j d in_j)) (places i j d before (omega arith)))
+    subst (λ (a : BoardArea). IsApart a (slice_index_or (take n areas) j d)) (sym (get_or-take n areas i d (omega arith)))
+    (subst (IsApart (slice_index_or areas i d)) (sym (get_or-take n areas j d in_j)) (places i j d before (omega arith)))
 
 -- the areas from this place on are closed, each with the passes that the nodes had of it
 pub record ClosesFrom (place : ℕ) (areas : List BoardArea) (nodes : List (List PassView)) (old new : Desk) (is_doubtful : Bool) : Type 0 where
   pub afters : List Device
   pub doubts : List Bool
-  pub back : PutsBack (drop place areas) afters old new
+  pub back : PutsBack (places_of (drop place areas)) afters old new
   pub count : length doubts ≡ length (drop place areas)
   pub ends : (k : ℕ) (doubt : Bool) (after : Device) → k < length (drop place areas) → EndsAt nodes (place + k) (slice_index_or doubts k doubt) (slice_index_or afters k after)
   pub doubt : is_doubtful ≡ any doubts
@@ -61,7 +66,7 @@ closes_begin areas nodes n desk same =
     record {
       afters = [];
       doubts = [];
-      back = subst (λ (l : List BoardArea). PutsBack l [] desk desk) (sym none) (puts_back_none desk);
+      back = subst (λ (l : List BoardArea). PutsBack (places_of l) [] desk desk) (sym none) (puts_back_none desk);
       count = sym (ap length none);
       ends = λ k doubt after within. absurd (omega (arith, within, ap length none));
       doubt = refl;
@@ -80,16 +85,17 @@ closes_end areas nodes old new is_doubtful all = record {
 
 -- the area before those is closed too
 closes_first : (area : BoardArea) (rest : List BoardArea) (nodes : List (List PassView)) (k : ℕ) (areas : List BoardArea) (old mid new : Desk) (so_far doubt : Bool) (after : Device)
-    → drop k areas ≡ area ∷ rest → drop (k + 1) areas ≡ rest → All (IsElsewhere area) rest → TakesBack area.dir area.base after mid new → EndsAt nodes k doubt after
+    → drop k areas ≡ area ∷ rest → drop (k + 1) areas ≡ rest → All (IsApart area) rest → TakesBack area.dir area.base after mid new → EndsAt nodes k doubt after
     → ClosesFrom (k + 1) areas nodes old mid so_far → ClosesFrom k areas nodes old new (so_far || doubt)
 closes_first area rest nodes k areas old mid new so_far doubt after here behind apart takes ends all =
-    let first : PutsBack rest all.afters old mid = subst (λ (l : List BoardArea). PutsBack l all.afters old mid) behind all.back in
+    let first : PutsBack (places_of rest) all.afters old mid = subst (λ (l : List BoardArea). PutsBack (places_of l) all.afters old mid) behind all.back in
     let later : (j : ℕ) (d : Bool) (a : Device) → j < length rest → EndsAt nodes (k + 1 + j) (slice_index_or all.doubts j d) (slice_index_or all.afters j a)
     = λ j d a within. all.ends j d a (omega (arith, within, ap length behind)) in
     record {
       afters = after ∷ all.afters;
       doubts = doubt ∷ all.doubts;
-      back = subst (λ (l : List BoardArea). PutsBack l (after ∷ all.afters) old new) (sym here) (puts_back_first area after rest all.afters old mid new apart first takes);
+      back = subst (λ (l : List BoardArea). PutsBack (places_of l) (after ∷ all.afters) old new) (sym here)
+          (puts_back_first (place_of area) after (places_of rest) all.afters old mid new (All-map (IsElsewhere (place_of area)) place_of rest apart) first takes);
       count = ap suc (all.count ∙ ap length behind) ∙ sym (ap length here);
       ends = λ j d a within. ends_each nodes k doubt after all.doubts all.afters (length rest) ends later j d a (omega (arith, within, ap length here));
       doubt = ap (λ (b : Bool). b || doubt) all.doubt ∙ sym (any_first doubt all.doubts);
@@ -103,7 +109,7 @@ closes_first area rest nodes k areas old mid new so_far doubt after here behind 
         subst (λ (n : ℕ). EndsAt nodes n (slice_index_or doubts j d) (slice_index_or afters j a)) (omega arith) (later j d a (omega (arith, within)))
 
 -- the area at a place is closed, as those behind it are
-closes_at : (areas : List BoardArea) (nodes : List (List PassView)) (k : ℕ) (old mid new : Desk) (so_far doubt : Bool) (after : Device) → k < length areas → AllPairs IsElsewhere areas
+closes_at : (areas : List BoardArea) (nodes : List (List PassView)) (k : ℕ) (old mid new : Desk) (so_far doubt : Bool) (after : Device) → k < length areas → AllPairs IsApart areas
     → ((area : BoardArea) → TakesBack (slice_index_or areas k area).dir (slice_index_or areas k area).base after mid new) → EndsAt nodes k doubt after
     → ClosesFrom (k + 1) areas nodes old mid so_far → ClosesFrom k areas nodes old new (so_far || doubt)
 closes_at areas nodes k old mid new so_far doubt after within places takes ends all =
@@ -112,7 +118,7 @@ closes_at areas nodes k old mid new so_far doubt after within places takes ends 
     (elsewhere_behind areas k area within places) (takes area) ends all
 
 -- of the first areas the last that is open is closed
-pub closes_next : (areas : List BoardArea) (nodes : List (List PassView)) (n k : ℕ) (old mid new : Desk) (so_far doubt : Bool) (after : Device) → n ≤ length areas → k < n → AllPairs IsElsewhere areas
+pub closes_next : (areas : List BoardArea) (nodes : List (List PassView)) (n k : ℕ) (old mid new : Desk) (so_far doubt : Bool) (after : Device) → n ≤ length areas → k < n → AllPairs IsApart areas
     → ((area : BoardArea) → TakesBack (slice_index_or areas k area).dir (slice_index_or areas k area).base after mid new) → EndsAt nodes k doubt after
     → ClosesFrom (k + 1) (take n areas) nodes old mid so_far → ClosesFrom k (take n areas) nodes old new (so_far || doubt)
 closes_next areas nodes n k old mid new so_far doubt after within low places takes ends all =

@@ -5,17 +5,18 @@ use Rattle.std.specs.Prelude.{All, Option}
 use Rattle.jb_base.specs.declared.user.User.{User}
 use Rattle.jb_limits.specs.declared.limits.TheConstants.{MOST_NAME_BYTES}
 use Rattle.std.proofs.lemmas.List.{append-nil, drop_all, drop_more, get_or-map, get_or_append_left, get_or_push, length-map, length_push, map-set, map_push, same_from_push}
+use Rattle.std.proofs.lemmas.List.Elements.{All-push}
 use Rattle.jb_conf.specs.declared.board.Board.{Board}
 use Rattle.jb_run.proofs.RowLemmas.{length-lists_of}
 use Rattle.jb_run.specs.All.{any}
 use Rattle.jb_run.specs.Rows.{lists_of}
-use Rattle.jb_host.specs.Desk.{Desk, GivesDoor, TakesBell, TakesDoor}
+use Rattle.jb_host.specs.Desk.{Desk, TakesBell}
 use Rattle.jb_host.specs.Gate.{Gate}
 use Rattle.jb_host.specs.Rings.{Rings}
 use Rattle.jb_server.specs.Rounds.{PackerWorks}
 use Rattle.jb_server.specs.Sessions.{NodeWorks}
 use Rattle.jb_server.specs.Tallies.{no_tally}
-use Rattle.jb_server.specs.Workers.{HasWorked, IsAtWork, NodeHasWorked, PackerHasWorked}
+use Rattle.jb_server.specs.Workers.{HasWorked, IsAtWork, PackerHasWorked}
 use Rattle.jb_server.specs.declared.tally.Tally.{Tally}
 use Rattle.jb_server.specs.declared.worker.PackSlot.{PackSlot}
 use Rattle.jb_server.specs.declared.worker.Worker.{Worker}
@@ -23,30 +24,31 @@ use Rattle.jb_server.specs.declared.worker.Worker.TheVariants.{Node, Packer}
 use Rattle.jb_session.specs.Exchanges.{AreOf, node_with}
 use Rattle.jb_shared.specs.Passes.{PassView}
 use Rattle.jb_shared.specs.declared.shared.SharedArea.{SharedArea}
-use Rattle.jb_run.specs.Lines.{HandsDoors, PutsDoors}
+use Rattle.jb_run.specs.Lines.{HandsDoors, Line, PutsDoors, first_lines, first_nodes, line_for}
 use Rattle.jb_run.specs.Workers.{AddsNode, AreNodes, AreReady, HasNodes, IsNode, IsFreshWorker, PackerIsReady, PartsLast, Rows, gate_of, gates_of, packer, worker_passes, tallies_of, tally_of, with_passes}
 use Rattle.jb_run.specs.Working.{AreAllOf, WorkAll, WorkToTheEnd}
-use Rattle.jb_run.proofs.Doors.{hands_more, hands_none, puts_more, puts_none}
+use Rattle.jb_run.proofs.Doors.{hands_more, hands_none, lines_more, nodes_apart, nodes_more, puts_more, puts_none}
 use Rattle.jb_run.proofs.Lists.{any_push, last_of, numbered_as, numbered_more, numbered_none, one_of, rows_given}
 
-module _ {R B C : Type 0} (gate : R → Gate) (readings : C → Option (List ℕ)) (board : Board) (most : Option ℕ) where
+module _ {R B C : Type 0} (gate : R → Gate) (readings : C → Option (List ℕ)) (door_for : Option ℕ → Gate → Type 0) (board : Board) (most : Option ℕ) where
   -- no node is ready
-  pub has_none : (host : Desk) → HasNodes {B = B} gate readings board most [] host host
-  has_none host = record { doors = hands_none board.port most host; ready = numbered_none (IsFreshWorker readings host.readings) }
+  pub has_none : (host : Desk) → HasNodes {B = B} gate readings door_for board most [] host host
+  has_none host = record { doors = hands_none host; made = λ k absent within. absurd (omega (arith, within)); ready = numbered_none (IsFreshWorker readings host.readings) }
 
   -- a node more is ready
-  pub has_more : (fewer more : List (Worker R B C)) (old mid new : Desk) → HasNodes gate readings board most fewer old mid
-      → AddsNode gate readings board most fewer more mid new → HasNodes gate readings board most more old new
+  pub has_more : (fewer more : List (Worker R B C)) (old mid new : Desk) → HasNodes gate readings door_for board most fewer old mid
+      → AddsNode gate readings door_for board most fewer more mid new → HasNodes gate readings door_for board most more old new
   has_more fewer more old mid new has adds =
       let one = adds.worker in
       let gates : gates_of gate more ≡ gates_of gate fewer ++ gate_of gate one ∷ [] = ap (gates_of gate) adds.is ∙ map_push (gate_of gate) fewer one in
-      let count : length (gates_of gate fewer) ≡ length fewer = length-map fewer (gate_of gate) in
-      let gives : GivesDoor (length (gates_of gate fewer) + 1) board.port most (gate_of gate one) mid new
-      = subst (λ (n : ℕ). GivesDoor (n + 1) board.port most (gate_of gate one) mid new) (sym count) adds.gives in
+      let lines : first_lines board most (length more) ≡ first_lines board most (length fewer) ++ line_for board most (length fewer + 1) ∷ []
+      = ap (first_lines board most) (ap length adds.is ∙ length_push fewer one) ∙ lines_more board most (length fewer) in
       let same : mid.readings ≡ old.readings = has.doors.rest.readings in
       record {
-        doors = subst (λ (all : List Gate). HandsDoors board.port most all old new) (sym gates)
-            (hands_more board.port most (gates_of gate fewer) (gate_of gate one) old mid new has.doors gives);
+        doors = subst (λ (all : List Gate). HandsDoors (first_lines board most (length more)) all old new) (sym gates)
+            (subst (λ (all : List Line). HandsDoors all (gates_of gate fewer ++ gate_of gate one ∷ []) old new) (sym lines)
+            (hands_more (first_lines board most (length fewer)) (line_for board most (length fewer + 1)) (gates_of gate fewer) (gate_of gate one) old mid new has.doors adds.gives));
+        made = subst (All (door_for most)) (sym gates) (All-push (door_for most) (gates_of gate fewer) (gate_of gate one) has.made adds.made);
         ready = subst (λ (all : List (Worker R B C)). AreReady readings old.readings all) (sym adds.is)
             (numbered_more (IsFreshWorker readings old.readings) fewer one has.ready
             (subst (λ (told : Option (List ℕ)). IsFreshWorker readings told (length fewer + 1) one) same adds.ready));
@@ -96,13 +98,14 @@ module _ {R B C : Type 0} (gate : R → Gate) (rings : B → Rings) (readings : 
     pub nodes_done : (k : ℕ) (absent : Worker R B C) → k < length nodes → NodeIsDone (k + 1) (get_or nodes k absent) (get_or front k absent)
     pub packer_done : PackerHasWorked rings readings slot last
 
-  pub are_done : (nodes : List (Worker R B C)) (slot : PackSlot B C) (after : List (Worker R B C)) → AreReady readings told nodes → length after ≡ length nodes + 1
-      → AllHaveWorked (nodes ++ Packer slot ∷ []) after → AreDone nodes slot after
-  are_done nodes slot after ready many worked =
-      let parts = last_of after (length nodes) many in
+  pub are_done : (nodes : List (Worker R B C)) (slot : PackSlot B C) (slice after : List (Worker R B C)) → slice ≡ nodes ++ Packer slot ∷ [] → length after ≡ length slice
+      → AreReady readings told nodes → AllHaveWorked slice after → AreDone nodes slot after
+  are_done nodes slot slice after is many ready worked =
+      let parts = last_of after (length nodes) (many ∙ ap length is ∙ length_push nodes (Packer slot)) in
       let front = parts.0 in
       let W : Worker R B C → Worker R B C → Type 0 = HasWorked gate rings readings board in
-      let all : AllHaveWorked (nodes ++ Packer slot ∷ []) (front ++ parts.1 ∷ []) = subst (λ (l : List (Worker R B C)). AllHaveWorked (nodes ++ Packer slot ∷ []) l) parts.2 worked in
+      let all : AllHaveWorked (nodes ++ Packer slot ∷ []) (front ++ parts.1 ∷ [])
+      = subst (λ (l : List (Worker R B C)). AllHaveWorked (nodes ++ Packer slot ∷ []) l) parts.2 (subst (λ (l : List (Worker R B C)). AllHaveWorked l after) is worked) in
       let at_end : W (get_or (nodes ++ Packer slot ∷ []) (length nodes) parts.1) (get_or (front ++ parts.1 ∷ []) (length nodes) parts.1)
       = all (length nodes) parts.1 (omega (arith, length_push nodes (Packer slot))) in
       let ended : W (Packer slot) parts.1
@@ -240,18 +243,20 @@ module _ {R B C : Type 0} where
   module _ (gate : R → Gate) where
     -- the door of the last is back, and those of the others are put back behind it
     pub gates_put : (more fewer : List (Worker R B C)) (old mid new : Desk) (has_failed : Bool) → PartsLast gate more fewer old mid has_failed
-        → PutsDoors (gates_of gate fewer) mid new → PutsDoors (gates_of gate more) old new
+        → PutsDoors (first_nodes (length fewer)) (gates_of gate fewer) mid new → PutsDoors (first_nodes (length more)) (gates_of gate more) old new
     gates_put more fewer old mid new has_failed parts puts =
         let one = parts.worker in
         let gates : gates_of gate more ≡ gates_of gate fewer ++ gate_of gate one ∷ [] = ap (gates_of gate) parts.is ∙ map_push (gate_of gate) fewer one in
-        subst (λ (all : List Gate). PutsDoors all old new) (sym gates)
-        (puts_more (gates_of gate fewer) (gate_of gate one) old mid new
-        (subst (λ (n : ℕ). TakesDoor (n + 1) (gate_of gate one) old mid) (sym (length-map fewer (gate_of gate))) parts.back) puts)
+        let n : ℕ = length fewer in
+        let nodes : first_nodes (length more) ≡ first_nodes n ++ (n + 1) ∷ [] = ap first_nodes (ap length parts.is ∙ length_push fewer one) ∙ nodes_more n in
+        subst (λ (all : List Gate). PutsDoors (first_nodes (length more)) all old new) (sym gates)
+        (subst (λ (all : List ℕ). PutsDoors all (gates_of gate fewer ++ gate_of gate one ∷ []) old new) (sym nodes)
+        (puts_more (first_nodes n) (n + 1) (gates_of gate fewer) (gate_of gate one) old mid new (nodes_apart n) parts.back puts))
 
     -- where no node is left nothing is put back
-    pub gates_put_none : (workers : List (Worker R B C)) (old new : Desk) → workers ≡ [] → new ≡ old → PutsDoors (gates_of gate workers) old new
+    pub gates_put_none : (workers : List (Worker R B C)) (old new : Desk) → workers ≡ [] → new ≡ old → PutsDoors (first_nodes (length workers)) (gates_of gate workers) old new
     gates_put_none workers old new none same =
-        subst (λ (all : List (Worker R B C)). PutsDoors (gates_of gate all) old new) (sym none) (subst (PutsDoors [] old) (sym same) (puts_none old))
+        subst (λ (all : List (Worker R B C)). PutsDoors (first_nodes (length all)) (gates_of gate all) old new) (sym none) (subst (PutsDoors [] [] old) (sym same) (puts_none old))
 
     -- what the tally of the last says is told
     pub failed_more : (more fewer : List (Worker R B C)) (old mid : Desk) (so_far has_failed : Bool) → PartsLast gate more fewer old mid has_failed
@@ -275,9 +280,12 @@ module _ {R B C : Type 0} where
             or_false false = refl
 
   -- nodes that have taken theirs, and the packer that takes the last, have the passes of all
-  pub rows_of_crew : (workers : List (Worker R B C)) (rows all : Rows) (passes : List PassView) (n : ℕ) → with_passes workers rows ≡ all → length workers ≡ n → length rows ≡ n + 1
-      → passes ≡ get_or rows n [] → map worker_passes workers ++ passes ∷ [] ≡ all
-  rows_of_crew workers rows all passes n is count many last =
+  pub rows_of_crew : (workers : List (Worker R B C)) (vectors : List (Vec PassView Global)) (all : Rows) (passes : List PassView) (n m : ℕ) → with_passes workers (lists_of vectors) ≡ all
+      → length workers ≡ n → length vectors ≡ n + 1 → m ≡ length workers → passes ≡ get_or (lists_of vectors) m [] → map worker_passes workers ++ passes ∷ [] ≡ all
+  rows_of_crew workers vectors all passes n m is count lists at taken =
+      let rows : Rows = lists_of vectors in
+      let many : length rows ≡ n + 1 = length-lists_of vectors ∙ lists in
+      let last : passes ≡ get_or rows n [] = taken ∙ ap (λ (k : ℕ). get_or rows k []) (at ∙ count) in
       ap (λ (p : List PassView). map worker_passes workers ++ p ∷ []) last
       ∙ ap (λ (l : Rows). map worker_passes workers ++ get_or rows n [] ∷ l) (sym (drop_all (n + 1) rows (omega (arith, many))))
       ∙ ap (λ (l : Rows). map worker_passes workers ++ l) (sym (drop_more rows n [] (omega (arith, many))))
@@ -300,7 +308,7 @@ module _ {R B C : Type 0} (gate : R → Gate) (rings : B → Rings) (readings : 
   -- the workers are done and taken apart
   pub ends_work : (nodes : List (Worker R B C)) (slot : PackSlot B C) (after fewer : List (Worker R B C)) (one : PackSlot B C) (rows to : Rows) (old mid new : Desk) (has_failed : Bool)
       → AreDone gate rings readings told board nodes slot after → length nodes ≡ board.nodes → PackerIsReady readings told slot → after ≡ fewer ++ Packer one ∷ []
-      → TakesBell (rings one.bell) old mid → PutsDoors (gates_of gate fewer) mid new → has_failed ≡ any (map (λ tally. tally.door_failed) (tallies_of fewer))
+      → TakesBell (rings one.bell) old mid → PutsDoors (first_nodes (length fewer)) (gates_of gate fewer) mid new → has_failed ≡ any (map (λ tally. tally.door_failed) (tallies_of fewer))
       → to ≡ with_passes after rows → length rows ≡ board.nodes + 1
       → WorkToTheEnd told board (gates_of gate nodes) (rings slot.bell) (map worker_passes nodes ++ slot.passes.items ∷ []) to old new has_failed
   ends_work nodes slot after fewer one rows to old mid new has_failed done many ready parts bell doors failed all count =
@@ -318,7 +326,8 @@ module _ {R B C : Type 0} (gate : R → Gate) (rings : B → Rings) (readings : 
             (all_worked gate rings readings told board nodes slot after done many ready);
         mid = mid;
         bell = subst (λ (p : PackSlot B C). TakesBell (rings p.bell) old mid) last bell;
-        doors = subst (λ (l : List (Worker R B C)). PutsDoors (gates_of gate l) mid new) same.0 doors;
+        doors = subst (λ (n : ℕ). PutsDoors (first_nodes n) (gates_of gate done.front) mid new) (done.count ∙ many)
+            (subst (λ (l : List (Worker R B C)). PutsDoors (first_nodes (length l)) (gates_of gate l) mid new) same.0 doors);
         failed = failed ∙ ap (λ (l : List (Worker R B C)). any (map (λ (t : Tally). t.door_failed) (tallies_of l))) same.0;
       }
 

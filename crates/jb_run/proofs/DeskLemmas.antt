@@ -1,20 +1,21 @@
--- The disks of a list of areas grow by one as they are handed out, and as they are put back, the last first.
-use Rattle.std.proofs.Common.{◌≡◌, ℕ, suc, ◌+◌, Bool, true, false, ◌&&◌, List, [], ◌∷◌, ◌++◌, All, refl, sym, ap, ◌∙◌, arith}
+-- The disks at a list of places grow by one as they are handed out, and as they are put back, the last first.
+use Rattle.std.proofs.Common.{◌≡◌, ℕ, suc, ◌+◌, Bool, true, false, ◌&&◌, List, [], ◌∷◌, ◌++◌, All, refl, sym, ap, subst, ◌∙◌, arith}
 use Rattle.std.specs.Prelude.{bytes_eq, if◌then◌else◌, Option, Some, None}
 use Rattle.std.specs.Option.{option_map}
 use Rattle.std.proofs.lemmas.Bool.{and_parts}
 use Rattle.std.proofs.lemmas.List.{append-nil, append_assoc, length_push, map_push}
 use Rattle.std.proofs.lemmas.List.Elements.{All-head, All-tail}
+use Rattle.std.proofs.lemmas.List.Sums.{sum_by-cons}
 use Rattle.std.proofs.lemmas.Slice.Eq.{bytes_eq-Decides}
-use Rattle.jb_conf.specs.declared.board.BoardArea.{BoardArea}
 use Rattle.jb_disk.specs.Device.{Device}
-use Rattle.jb_host.proofs.Callers.{keeps_more, keeps_none}
-use Rattle.jb_host.specs.Desk.{Desk, Disks, GivesDisk, HostCall, Place, TakesBack, and_call, asked_disk, handed_out, has_disk, with_place}
+use Rattle.jb_host.proofs.Callers.{keeps_more, keeps_more_back, keeps_none}
+use Rattle.jb_host.specs.Desk.{CountsFailed, Desk, Disks, GivesDisk, HostCall, DiskPlace, TakesBack, and_call, asked_disk, handed_out, has_disk, with_place}
+use Rattle.jb_run.proofs.Counting.{counts_more, counts_none}
 use Rattle.jb_run.proofs.EachLemmas.{each_pair_last}
-use Rattle.jb_run.specs.Desks.{HandsOut, PutsBack, asked_for, with_each, with_areas_out}
+use Rattle.jb_run.specs.Desks.{BasePlace, HandsOut, PutsBack, asked_for, disk_faults, with_each, with_places_out}
 
--- the areas have places of their own
-abbrev pub IsElsewhere : BoardArea → BoardArea → Type 0
+-- the one place is not the other
+abbrev pub IsElsewhere : BasePlace → BasePlace → Type 0
 IsElsewhere one other = (one.dir ≡ other.dir) × (one.base ≡ other.base) → ⊥
 
 -- the test for a place is met by that place alone
@@ -33,12 +34,12 @@ not_chosen true x z not = absurd (not refl)
 not_chosen false x z not = refl
 
 -- a disk that a choice with no disk gives is the other one
-chosen_disk : (b : Bool) (z : Place) (device : Device) → (if b then handed_out else z) ≡ has_disk device → z ≡ has_disk device
+chosen_disk : (b : Bool) (z : DiskPlace) (device : Device) → (if b then handed_out else z) ≡ has_disk device → z ≡ has_disk device
 chosen_disk true z device is = absurd (cc)
 chosen_disk false z device is = is
 
 -- two places are changed in either order
-with_place-swap : (dir name dir' name' : List ℕ) (p q : Place) (disks : Disks) → ((dir ≡ dir') × (name ≡ name') → ⊥)
+with_place-swap : (dir name dir' name' : List ℕ) (p q : DiskPlace) (disks : Disks) → ((dir ≡ dir') × (name ≡ name') → ⊥)
     → with_place dir name p (with_place dir' name' q disks) ≡ with_place dir' name' q (with_place dir name p disks)
 with_place-swap dir name dir' name' p q disks apart = λ i. λ other_dir other_name.
     either_first (bytes_eq other_dir dir && bytes_eq other_name name) (bytes_eq other_dir dir' && bytes_eq other_name name') p q (disks other_dir other_name)
@@ -48,51 +49,51 @@ with_place-swap dir name dir' name' p q disks apart = λ i. λ other_dir other_n
     apart (sym one.0 ∙ two.0, sym one.1 ∙ two.1)) i
 
 -- another place is as it was
-with_place-other : (dir name dir' name' : List ℕ) (q : Place) (disks : Disks) → ((dir ≡ dir') × (name ≡ name') → ⊥) → with_place dir' name' q disks dir name ≡ disks dir name
+with_place-other : (dir name dir' name' : List ℕ) (q : DiskPlace) (disks : Disks) → ((dir ≡ dir') × (name ≡ name') → ⊥) → with_place dir' name' q disks dir name ≡ disks dir name
 with_place-other dir name dir' name' q disks apart =
     not_chosen (bytes_eq dir dir' && bytes_eq name name') q (disks dir name) (λ here. apart (key_parts dir name dir' name' here))
 
 -- the last disk is handed out last
-without-push : (areas : List BoardArea) (area : BoardArea) (disks : Disks) → with_areas_out (areas ++ area ∷ []) disks ≡ with_place area.dir area.base handed_out (with_areas_out areas disks)
-without-push [] area disks = refl
-without-push (first ∷ areas) area disks = without-push areas area (with_place first.dir first.base handed_out disks)
+without-push : (places : List BasePlace) (place : BasePlace) (disks : Disks) → with_places_out (places ++ place ∷ []) disks ≡ with_place place.dir place.base handed_out (with_places_out places disks)
+without-push [] place disks = refl
+without-push (first ∷ places) place disks = without-push places place (with_place first.dir first.base handed_out disks)
 
 -- a disk that is there still was there
-was_there : (areas : List BoardArea) (dir name : List ℕ) (device : Device) (disks : Disks) → with_areas_out areas disks dir name ≡ has_disk device → disks dir name ≡ has_disk device
+was_there : (places : List BasePlace) (dir name : List ℕ) (device : Device) (disks : Disks) → with_places_out places disks dir name ≡ has_disk device → disks dir name ≡ has_disk device
 was_there [] dir name device disks is = is
-was_there (area ∷ areas) dir name device disks is =
-    chosen_disk (bytes_eq dir area.dir && bytes_eq name area.base) (disks dir name) device (was_there areas dir name device (with_place area.dir area.base handed_out disks) is)
+was_there (place ∷ places) dir name device disks is =
+    chosen_disk (bytes_eq dir place.dir && bytes_eq name place.base) (disks dir name) device (was_there places dir name device (with_place place.dir place.base handed_out disks) is)
 
 -- the first disk may be put back last
-with_each-first : (area : BoardArea) (device : Device) (areas : List BoardArea) (devices : List Device) (disks : Disks) → All (IsElsewhere area) areas
-    → with_each (area ∷ areas) (device ∷ devices) disks ≡ with_place area.dir area.base (has_disk device) (with_each areas devices disks)
-with_each-first area device [] devices disks apart = refl
-with_each-first area device (other ∷ areas) [] disks apart = refl
-with_each-first area device (other ∷ areas) (there ∷ devices) disks apart =
-    ap (λ (d : Disks). with_each areas devices d)
-    (sym (with_place-swap area.dir area.base other.dir other.base (has_disk device) (has_disk there) disks (All-head (IsElsewhere area) other areas apart)))
-    ∙ with_each-first area device areas devices (with_place other.dir other.base (has_disk there) disks) (All-tail (IsElsewhere area) other areas apart)
+with_each-first : (place : BasePlace) (device : Device) (places : List BasePlace) (devices : List Device) (disks : Disks) → All (IsElsewhere place) places
+    → with_each (place ∷ places) (device ∷ devices) disks ≡ with_place place.dir place.base (has_disk device) (with_each places devices disks)
+with_each-first place device [] devices disks apart = refl
+with_each-first place device (other ∷ places) [] disks apart = refl
+with_each-first place device (other ∷ places) (there ∷ devices) disks apart =
+    ap (λ (d : Disks). with_each places devices d)
+    (sym (with_place-swap place.dir place.base other.dir other.base (has_disk device) (has_disk there) disks (All-head (IsElsewhere place) other places apart)))
+    ∙ with_each-first place device places devices (with_place other.dir other.base (has_disk there) disks) (All-tail (IsElsewhere place) other places apart)
 
 -- the others leave its place as it was
-with_each-other : (area : BoardArea) (areas : List BoardArea) (devices : List Device) (disks : Disks) → All (IsElsewhere area) areas
-    → with_each areas devices disks area.dir area.base ≡ disks area.dir area.base
-with_each-other area [] devices disks apart = refl
-with_each-other area (other ∷ areas) [] disks apart = refl
-with_each-other area (other ∷ areas) (there ∷ devices) disks apart =
-    with_each-other area areas devices (with_place other.dir other.base (has_disk there) disks) (All-tail (IsElsewhere area) other areas apart)
-    ∙ with_place-other area.dir area.base other.dir other.base (has_disk there) disks (All-head (IsElsewhere area) other areas apart)
+with_each-other : (place : BasePlace) (places : List BasePlace) (devices : List Device) (disks : Disks) → All (IsElsewhere place) places
+    → with_each places devices disks place.dir place.base ≡ disks place.dir place.base
+with_each-other place [] devices disks apart = refl
+with_each-other place (other ∷ places) [] disks apart = refl
+with_each-other place (other ∷ places) (there ∷ devices) disks apart =
+    with_each-other place places devices (with_place other.dir other.base (has_disk there) disks) (All-tail (IsElsewhere place) other places apart)
+    ∙ with_place-other place.dir place.base other.dir other.base (has_disk there) disks (All-head (IsElsewhere place) other places apart)
 
 -- a change of what may be told, told
-told-map : {A : Type 0} (f : A → A) (o : Option A) (x : A) → o ≡ Some x → option_map f o ≡ Some (f x)
+pub told-map : {A : Type 0} (f : A → A) (o : Option A) (x : A) → o ≡ Some x → option_map f o ≡ Some (f x)
 told-map f o x there = ap (λ (p : Option _). option_map f p) there
 
 -- two changes of what may be told
-map-map : {A : Type 0} (f g h : A → A) (o : Option A) → ((x : A) → h x ≡ g (f x)) → option_map g (option_map f o) ≡ option_map h o
+pub map-map : {A : Type 0} (f g h : A → A) (o : Option A) → ((x : A) → h x ≡ g (f x)) → option_map g (option_map f o) ≡ option_map h o
 map-map f g h None same = refl
 map-map f g h (Some x) same = ap (λ y. Some y) (sym (same x))
 
 -- no change of what may be told
-map-same : {A : Type 0} (f : A → A) (o : Option A) → ((x : A) → f x ≡ x) → option_map f o ≡ o
+pub map-same : {A : Type 0} (f : A → A) (o : Option A) → ((x : A) → f x ≡ x) → option_map f o ≡ o
 map-same f None same = refl
 map-same f (Some x) same = ap (λ y. Some y) (same x)
 
@@ -100,26 +101,26 @@ map-same f (Some x) same = ap (λ y. Some y) (same x)
 pub hands_out_none : (desk : Desk) → HandsOut [] [] desk desk
 hands_out_none desk = record {
   count = refl;
-  were = λ disks there k area device within. absurd (omega arith);
-  disks = sym (map-same (with_areas_out []) desk.disks (λ disks. refl));
+  were = λ disks there k place device within. absurd (omega arith);
+  disks = sym (map-same (with_places_out []) desk.disks (λ disks. refl));
   calls = sym (map-same (λ (earlier : List HostCall). earlier ++ []) desk.calls (λ earlier. append-nil earlier));
   rest = keeps_none desk;
 }
 
 -- one disk more was handed out
-pub hands_out_more : (areas : List BoardArea) (devices : List Device) (area : BoardArea) (device : Device) (old mid new : Desk)
-    → HandsOut areas devices old mid → GivesDisk area.dir area.base device mid new → HandsOut (areas ++ area ∷ []) (devices ++ device ∷ []) old new
-hands_out_more areas devices area device old mid new hands gives = record {
-  count = length_push devices device ∙ ap (λ (n : ℕ). n + 1) hands.count ∙ sym (length_push areas area);
+pub hands_out_more : (places : List BasePlace) (devices : List Device) (place : BasePlace) (device : Device) (old mid new : Desk)
+    → HandsOut places devices old mid → GivesDisk place.dir place.base device mid new → HandsOut (places ++ place ∷ []) (devices ++ device ∷ []) old new
+hands_out_more places devices place device old mid new hands gives = record {
+  count = length_push devices device ∙ ap (λ (n : ℕ). n + 1) hands.count ∙ sym (length_push places place);
   were = λ disks there.
-      let out : mid.disks ≡ Some (with_areas_out areas disks) = hands.disks ∙ told-map (with_areas_out areas) old.disks disks there in
-      each_pair_last (λ (a : BoardArea) (d : Device). disks a.dir a.base ≡ has_disk d) areas area devices device hands.count (hands.were disks there)
-      (was_there areas area.dir area.base device disks (gives.was (with_areas_out areas disks) out));
-  disks = gives.out ∙ ap (option_map (with_place area.dir area.base handed_out)) hands.disks
-      ∙ map-map (with_areas_out areas) (with_place area.dir area.base handed_out) (with_areas_out (areas ++ area ∷ [])) old.disks (without-push areas area);
-  calls = gives.calls ∙ ap (and_call (asked_disk area.dir area.base)) hands.calls
-      ∙ map-map (λ (earlier : List HostCall). earlier ++ asked_for areas) (λ (earlier : List HostCall). earlier ++ asked_disk area.dir area.base ∷ []) (λ (earlier : List HostCall). earlier ++ asked_for (areas ++ area ∷ []))
-      old.calls (λ earlier. ap (λ (more : List HostCall). earlier ++ more) (map_push (λ (a : BoardArea). asked_disk a.dir a.base) areas area) ∙ sym (append_assoc earlier (asked_for areas) (asked_disk area.dir area.base ∷ [])));
+      let out : mid.disks ≡ Some (with_places_out places disks) = hands.disks ∙ told-map (with_places_out places) old.disks disks there in
+      each_pair_last (λ (a : BasePlace) (d : Device). disks a.dir a.base ≡ has_disk d) places place devices device hands.count (hands.were disks there)
+      (was_there places place.dir place.base device disks (gives.was (with_places_out places disks) out));
+  disks = gives.out ∙ ap (option_map (with_place place.dir place.base handed_out)) hands.disks
+      ∙ map-map (with_places_out places) (with_place place.dir place.base handed_out) (with_places_out (places ++ place ∷ [])) old.disks (without-push places place);
+  calls = gives.calls ∙ ap (and_call (asked_disk place.dir place.base)) hands.calls
+      ∙ map-map (λ (earlier : List HostCall). earlier ++ asked_for places) (λ (earlier : List HostCall). earlier ++ asked_disk place.dir place.base ∷ []) (λ (earlier : List HostCall). earlier ++ asked_for (places ++ place ∷ []))
+      old.calls (λ earlier. ap (λ (more : List HostCall). earlier ++ more) (map_push (λ (a : BasePlace). asked_disk a.dir a.base) places place) ∙ sym (append_assoc earlier (asked_for places) (asked_disk place.dir place.base ∷ [])));
   rest = keeps_more old mid new hands.rest gives.rest;
 }
 
@@ -129,21 +130,24 @@ puts_back_none desk = record {
   count = refl;
   disks = λ disks there out. sym (map-same (with_each [] []) desk.disks (λ disks. refl));
   calls = refl;
+  failed = counts_none desk.failed;
   rest = keeps_none desk;
 }
 
--- the disk of the area before these is put back behind theirs
-pub puts_back_first : (area : BoardArea) (device : Device) (areas : List BoardArea) (devices : List Device) (old mid new : Desk) → All (IsElsewhere area) areas
-    → PutsBack areas devices old mid → TakesBack area.dir area.base device mid new → PutsBack (area ∷ areas) (device ∷ devices) old new
-puts_back_first area device areas devices old mid new apart back takes = record {
+-- the disk at the place before these is put back behind theirs
+pub puts_back_first : (place : BasePlace) (device : Device) (places : List BasePlace) (devices : List Device) (old mid new : Desk) → All (IsElsewhere place) places
+    → PutsBack places devices old mid → TakesBack place.dir place.base device mid new → PutsBack (place ∷ places) (device ∷ devices) old new
+puts_back_first place device places devices old mid new apart back takes = record {
   count = ap suc back.count;
   disks = λ disks there out.
-      let earlier = back.disks disks there (λ k other within. out (suc k) other (omega arith)) ∙ told-map (with_each areas devices) old.disks disks there in
-      let is_out = with_each-other area areas devices disks apart ∙ out 0 area (omega arith) in
-      takes.back (with_each areas devices disks) earlier is_out
-      ∙ told-map (with_place area.dir area.base (has_disk device)) mid.disks (with_each areas devices disks) earlier
-      ∙ ap (λ (d : Disks). Some d) (sym (with_each-first area device areas devices disks apart))
-      ∙ sym (told-map (with_each (area ∷ areas) (device ∷ devices)) old.disks disks there);
+      let earlier = back.disks disks there (λ k other within. out (suc k) other (omega arith)) ∙ told-map (with_each places devices) old.disks disks there in
+      let is_out = with_each-other place places devices disks apart ∙ out 0 place (omega arith) in
+      takes.back (with_each places devices disks) earlier is_out
+      ∙ told-map (with_place place.dir place.base (has_disk device)) mid.disks (with_each places devices disks) earlier
+      ∙ ap (λ (d : Disks). Some d) (sym (with_each-first place device places devices disks apart))
+      ∙ sym (told-map (with_each (place ∷ places) (device ∷ devices)) old.disks disks there);
   calls = takes.calls ∙ back.calls;
-  rest = keeps_more old mid new back.rest takes.rest;
+  failed = subst (λ (n : ℕ). CountsFailed n old.failed new.failed) (sym (sum_by-cons (λ (d : Device). d.faults) device devices))
+      (counts_more (disk_faults devices) device.faults old.failed mid.failed new.failed back.failed takes.failed);
+  rest = keeps_more_back old mid new back.rest takes.rest;
 }

@@ -1,22 +1,22 @@
--- The doors of nodes, as one more is handed out behind the others, and as the last is put back before the others.
-use Rattle.std.proofs.Common.{◌≡◌, ◌≢◌, ◌⊎◌, inl, inr, ℕ, zero, suc, ◌+◌, ◌<◌, ◌==◌, Bool, true, false, List, [], ◌∷◌, ◌++◌, length, refl, sym, ap, subst, ◌∙◌, add-one, append_assoc, arith}
-use Rattle.std.specs.Prelude.{Option, Some, None, if◌then◌else◌, slice_index_or}
+-- The doors of lines, as one more is handed out behind the others, and as the last is put back before the others.
+use Rattle.std.proofs.Common.{◌≡◌, ◌≢◌, ℕ, zero, suc, ◌+◌, ◌<◌, ◌≤◌, ◌==◌, ◌||◌, Bool, true, false, List, [], ◌∷◌, ◌++◌, drop, get_or, length, map, take, All, refl, sym, ap, subst, ◌∙◌, add-one, append_assoc, arith}
+use Rattle.std.specs.Prelude.{Option, Some, None, Result, Ok, Err, IfErr, if◌then◌else◌, slice_index_or}
 use Rattle.std.specs.Option.{ForSome, option_map}
 use Rattle.std.proofs.lemmas.Bool.Decides.{nat_tests}
-use Rattle.std.proofs.lemmas.List.{append-nil, get_or_append_left, get_or_push, length_push}
+use Rattle.std.specs.List.{range_with_len}
+use Rattle.std.proofs.lemmas.List.{append-nil, drop_more, length-append, length_push, map_push, take-append-drop, take_at}
+use Rattle.std.proofs.lemmas.List.FromFn.{get_or-map-range_with_len, get_or-range_with_len, length-map-range_with_len, length-range_with_len, map-range_with_len_more, take-map-range_with_len}
+use Rattle.std.proofs.lemmas.List.Sums.{sum_by_push}
+use Rattle.jb_conf.specs.declared.board.Board.{Board}
+use Rattle.jb_host.specs.declared.host.HostError.{HostError}
 use Rattle.jb_host.proofs.Callers.{keeps_more_doors, keeps_none}
-use Rattle.jb_host.specs.Desk.{Desk, Doors, Entrance, GivesDoor, HostCall, KeepsRest, TakesDoor, and_call, asked_door, door_out, has_door, with_door}
+use Rattle.jb_host.specs.Desk.{CountsFailed, Desk, Doors, Entrance, GivesDoor, HostCall, RefusesCall, TakesDoor, and_call, asked_bell, asked_door, door_out, has_door, with_door}
 use Rattle.jb_host.specs.Gate.{Gate}
-use Rattle.jb_run.specs.Lines.{AreBack, AreOut, AreSet, HandsDoors, PutsDoors, asked_doors}
-
--- one call more
-asked_doors-push : (port : ℕ) (most : Option ℕ) (node count : ℕ)
-    → asked_doors port most node (suc count) ≡ asked_doors port most node count ++ asked_door (node + count) port most ∷ []
-asked_doors-push port most node zero = ap (λ (n : ℕ). asked_door n port most ∷ []) (omega arith)
-asked_doors-push port most node (suc count) =
-    ap (λ (calls : List HostCall). asked_door node port most ∷ calls)
-    (asked_doors-push port most (node + 1) count
-    ∙ ap (λ (n : ℕ). asked_doors port most (node + 1) count ++ asked_door n port most ∷ []) (omega arith))
+use Rattle.jb_run.specs.Lines.{DoorsAreOut, HandsDoors, Line, PutsDoors, RefusesLine, StopsLines, asked_doors, asked_line, door_faults, first_lines, first_nodes, line_for, lines_for, nodes_of, with_doors, with_doors_out}
+use Rattle.jb_run.proofs.DeskLemmas.{map-map, map-same, told-map}
+use Rattle.jb_run.proofs.EachLemmas.{all_end, all_most}
+use Rattle.jb_run.proofs.Places.{neither, not_chosen, not_first, not_second, same_choice}
+use Rattle.jb_run.proofs.Counting.{counts_more, counts_none}
 
 -- the door of the node itself, and that of another
 door_itself : (node : ℕ) (is : Entrance) (doors : Doors) → with_door node is doors node ≡ is
@@ -33,29 +33,12 @@ door_other node other is doors differs = by (other == node) (grind (arith, nat_t
     by true same = absurd (let no : ⊥ = cc in no)
     by false same = refl
 
--- the doors of one node more are set, last
-set_more : (count : ℕ) (is now : ℕ → Entrance) (before mid : Doors) (last : Entrance) → AreSet count is before mid
-    → ((k : ℕ) → k < count → now k ≡ is k) → now count ≡ last → AreSet (count + 1) now before (with_door (count + 1) last mid)
-set_more count is now before mid last set same at = record {
-  each = λ k within. by k within (k == count) refl;
-  others = λ node outside. door_other (count + 1) node last mid (elim outside [ inl none ↦ omega (arith, none) | inr above ↦ omega (arith, above) ])
-      ∙ set.others node (elim outside [ inl none ↦ inl none | inr above ↦ inr (omega (arith, above)) ]);
-}
-  where
-    by : (k : ℕ) → k < count + 1 → (b : Bool) → (k == count) ≡ b → with_door (count + 1) last mid (k + 1) ≡ now k
-    by k within true is_last =
-        let here : k ≡ count = grind (arith, nat_tests) in
-        ap (λ (n : ℕ). with_door (count + 1) last mid (n + 1)) here ∙ door_itself (count + 1) last mid ∙ sym at ∙ ap now (sym here)
-    by k within false not_last =
-        let low : k < count = grind (arith, nat_tests) in
-        door_other (count + 1) (k + 1) last mid (omega arith) ∙ set.each k low ∙ sym (same k low)
-
 gates_then : (gates : List Gate) (gate : Gate) (waiting : Option (List Gate))
     → option_map (λ rest. gates ++ rest) (option_map (λ rest. gate ∷ rest) waiting) ≡ option_map (λ rest. (gates ++ gate ∷ []) ++ rest) waiting
 gates_then gates gate None = refl
 gates_then gates gate (Some rest) = ap (λ (all : List Gate). Some all) (sym (append_assoc gates (gate ∷ []) rest))
 
-calls_then : (asked more : List HostCall) (call : HostCall) (calls : Option (List HostCall)) → more ≡ asked ++ call ∷ []
+pub calls_then : (asked more : List HostCall) (call : HostCall) (calls : Option (List HostCall)) → more ≡ asked ++ call ∷ []
     → and_call call (option_map (λ earlier. earlier ++ asked) calls) ≡ option_map (λ earlier. earlier ++ more) calls
 calls_then asked more call None is = refl
 calls_then asked more call (Some earlier) is =
@@ -65,111 +48,199 @@ none_first : (waiting : Option (List Gate)) → waiting ≡ option_map (λ rest.
 none_first None = refl
 none_first (Some rest) = refl
 
-no_call : (calls : Option (List HostCall)) → calls ≡ option_map (λ earlier. earlier ++ []) calls
+pub no_call : (calls : Option (List HostCall)) → calls ≡ option_map (λ earlier. earlier ++ []) calls
 no_call None = refl
 no_call (Some earlier) = ap (λ (all : List HostCall). Some all) (sym (append-nil earlier))
 
+-- one node more
+nodes_on : (node count : ℕ) → range_with_len node (suc count) ≡ range_with_len node count ++ (node + count) ∷ []
+nodes_on node zero = ap (λ (n : ℕ). n ∷ []) (omega arith)
+nodes_on node (suc count) =
+    ap (λ (l : List ℕ). node ∷ l) (nodes_on (node + 1) count ∙ ap (λ (n : ℕ). range_with_len (node + 1) count ++ n ∷ []) (omega arith))
+
+pub nodes_more : (count : ℕ) → first_nodes (count + 1) ≡ first_nodes count ++ (count + 1) ∷ []
+nodes_more count = ap first_nodes (add-one count) ∙ nodes_on 1 count ∙ ap (λ (n : ℕ). first_nodes count ++ n ∷ []) (omega arith)
+
+-- which is none of those
+pub nodes_apart : (count : ℕ) → All (λ node. node ≢ count + 1) (first_nodes count)
+nodes_apart count = λ k absent within same.
+    let low : k < count = omega (arith, within, length-range_with_len 1 count) in
+    omega (arith, same, get_or-range_with_len 1 count k absent low, low)
+
+-- its line
+pub lines_more : (board : Board) (most : Option ℕ) (count : ℕ) → first_lines board most (count + 1) ≡ first_lines board most count ++ line_for board most (count + 1) ∷ []
+lines_more board most count = map-range_with_len_more (line_for board most) 1 count (count + 1) (omega arith)
+
+-- the nodes of lines are theirs
+pub nodes_of_lines : (board : Board) (most : Option ℕ) (nodes : List ℕ) → nodes_of (map (line_for board most) nodes) ≡ nodes
+nodes_of_lines board most [] = refl
+nodes_of_lines board most (node ∷ nodes) = ap (λ (l : List ℕ). node ∷ l) (nodes_of_lines board most nodes)
+
+-- the node is one of these
+abbrev is_one_of : List ℕ → ℕ → Bool
+is_one_of [] other = false
+is_one_of (node ∷ nodes) other = (other == node) || is_one_of nodes other
+
+-- the last door is handed out last
+out-push : (nodes : List ℕ) (node : ℕ) (doors : Doors) → with_doors_out (nodes ++ node ∷ []) doors ≡ with_door node door_out (with_doors_out nodes doors)
+out-push [] node doors = refl
+out-push (first ∷ nodes) node doors = out-push nodes node (with_door first door_out doors)
+
+-- and put back first
+with_doors-push : (nodes : List ℕ) (node : ℕ) (gates : List Gate) (gate : Gate) (doors : Doors) → length gates ≡ length nodes
+    → with_doors (nodes ++ node ∷ []) (gates ++ gate ∷ []) doors ≡ with_doors nodes gates (with_door node (has_door gate) doors)
+with_doors-push [] node [] gate doors count = refl
+with_doors-push [] node (other ∷ gates) gate doors count = absurd (omega (arith, count))
+with_doors-push (first ∷ nodes) node [] gate doors count = absurd (omega (arith, count))
+with_doors-push (first ∷ nodes) node (other ∷ gates) gate doors count =
+    ap (λ (d : Doors). with_door first (has_door other) d) (with_doors-push nodes node gates gate doors (omega (arith, count)))
+
+-- a door that is out stays out
+stays_out : (nodes : List ℕ) (doors : Doors) (other : ℕ) → doors other ≡ door_out → with_doors_out nodes doors other ≡ door_out
+stays_out [] doors other out = out
+stays_out (node ∷ nodes) doors other out = stays_out nodes (with_door node door_out doors) other (by (other == node))
+  where
+    by : (b : Bool) → (if b then door_out else doors other) ≡ door_out
+    by true = refl
+    by false = out
+
+-- the doors of the nodes are out
+are_out : (nodes : List ℕ) (doors : Doors) → DoorsAreOut nodes (with_doors_out nodes doors)
+are_out [] doors k absent within = absurd (omega (arith, within))
+are_out (node ∷ nodes) doors zero absent within = stays_out nodes (with_door node door_out doors) node (door_itself node door_out doors)
+are_out (node ∷ nodes) doors (suc k) absent within = are_out nodes (with_door node door_out doors) k absent (omega (arith, within))
+
+-- and no other is
+is_left : (nodes : List ℕ) (doors : Doors) (other : ℕ) → is_one_of nodes other ≡ false → with_doors_out nodes doors other ≡ doors other
+is_left [] doors other off = refl
+is_left (node ∷ nodes) doors other off =
+    is_left nodes (with_door node door_out doors) other (not_second (other == node) (is_one_of nodes other) off)
+    ∙ not_chosen (other == node) door_out (doors other) (not_first (other == node) (is_one_of nodes other) off)
+
+-- what stands then does not hang on what the doors of the nodes were
+same_set : (nodes : List ℕ) (gates : List Gate) (one two : Doors) (other : ℕ) → length gates ≡ length nodes → (is_one_of nodes other ≡ false → one other ≡ two other)
+    → with_doors nodes gates one other ≡ with_doors nodes gates two other
+same_set [] gates one two other count same = same refl
+same_set (node ∷ nodes) [] one two other count same = absurd (omega (arith, count))
+same_set (node ∷ nodes) (gate ∷ gates) one two other count same =
+    same_choice (other == node) (has_door gate) (with_doors nodes gates one other) (with_doors nodes gates two other)
+    (λ off. same_set nodes gates one two other (omega (arith, count)) (λ off_behind. same (neither (other == node) (is_one_of nodes other) off off_behind)))
+
 -- no door
-pub hands_none : (port : ℕ) (most : Option ℕ) (host : Desk) → HandsDoors port most [] host host
-hands_none port most host = record {
+pub hands_none : (host : Desk) → HandsDoors [] [] host host
+hands_none host = record {
+  count = refl;
   first = none_first host.waiting;
-  out = λ before told. (before, told, record { each = λ k within. absurd (omega (arith, within)); others = λ node outside. refl });
+  out = sym (map-same (with_doors_out []) host.doors (λ doors. refl));
   disks = refl;
   calls = no_call host.calls;
   rest = keeps_none host;
 }
 
 -- a door more is handed out
-pub hands_more : (port : ℕ) (most : Option ℕ) (gates : List Gate) (gate : Gate) (old mid new : Desk) → HandsDoors port most gates old mid
-    → GivesDoor (length gates + 1) port most gate mid new → HandsDoors port most (gates ++ gate ∷ []) old new
-hands_more port most gates gate old mid new hands gives = record {
+pub hands_more : (lines : List Line) (line : Line) (gates : List Gate) (gate : Gate) (old mid new : Desk) → HandsDoors lines gates old mid
+    → GivesDoor line.node line.port line.calls gate mid new → HandsDoors (lines ++ line ∷ []) (gates ++ gate ∷ []) old new
+hands_more lines line gates gate old mid new hands gives = record {
+  count = length_push gates gate ∙ ap (λ (n : ℕ). n + 1) hands.count ∙ sym (length_push lines line);
   first = hands.first ∙ ap (option_map (λ (rest : List Gate). gates ++ rest)) gives.first ∙ gates_then gates gate new.waiting;
-  out = λ before told.
-      let at = hands.out before told in
-      let set = set_more (length gates) (λ k. door_out) (λ k. door_out) before at.0 door_out at.2 (λ k within. refl) refl in (
-        with_door (length gates + 1) door_out at.0,
-        gives.out ∙ ap (option_map (with_door (length gates + 1) door_out)) at.1,
-        subst (λ (n : ℕ). AreSet n (λ k. door_out) before (with_door (length gates + 1) door_out at.0)) (sym (length_push gates gate)) set,
-      );
+  out = gives.out ∙ ap (option_map (with_door line.node door_out)) hands.out
+      ∙ map-map (with_doors_out (nodes_of lines)) (with_door line.node door_out) (with_doors_out (nodes_of (lines ++ line ∷ []))) old.doors
+      (λ doors. ap (λ (nodes : List ℕ). with_doors_out nodes doors) (map_push (λ (l : Line). l.node) lines line) ∙ out-push (nodes_of lines) line.node doors);
   disks = gives.disks ∙ hands.disks;
-  calls =
-      gives.calls ∙ ap (and_call (asked_door (length gates + 1) port most)) hands.calls
-      ∙ calls_then (asked_doors port most 1 (length gates)) (asked_doors port most 1 (length (gates ++ gate ∷ []))) (asked_door (length gates + 1) port most) old.calls
-      (ap (asked_doors port most 1) (length_push gates gate ∙ add-one (length gates)) ∙ asked_doors-push port most 1 (length gates)
-      ∙ ap (λ (n : ℕ). asked_doors port most 1 (length gates) ++ asked_door n port most ∷ []) (omega arith));
+  calls = gives.calls ∙ ap (and_call (asked_line line)) hands.calls
+      ∙ calls_then (asked_doors lines) (asked_doors (lines ++ line ∷ [])) (asked_line line) old.calls (map_push asked_line lines line);
   rest = keeps_more_doors old mid new hands.rest gives.rest;
 }
 
 -- no door is put back
-pub puts_none : (host : Desk) → PutsDoors [] host host
+pub puts_none : (host : Desk) → PutsDoors [] [] host host
 puts_none host = record {
-  back = λ before told out. (before, told, λ absent. record { each = λ k within. absurd (omega (arith, within)); others = λ node outside. refl });
+  count = refl;
+  back = λ doors told out. sym (map-same (with_doors [] []) host.doors (λ doors. refl));
   disks = refl;
   calls = refl;
+  failed = counts_none host.failed;
   rest = keeps_none host;
 }
 
--- of the doors that are back, the last was put back before
-back_more : (gates : List Gate) (gate : Gate) (before after : Doors) → AreBack gates (with_door (length gates + 1) (has_door gate) before) after
-    → AreBack (gates ++ gate ∷ []) before after
-back_more gates gate before after back = λ absent.
-    subst (λ (n : ℕ). AreSet n (λ k. has_door (slice_index_or (gates ++ gate ∷ []) k absent)) before after) (sym (length_push gates gate)) (record {
-      each = λ k within. by absent k within (k == length gates) refl;
-      others = λ node outside.
-          (back absent).others node (elim outside [ inl none ↦ inl none | inr above ↦ inr (omega (arith, above)) ])
-          ∙ door_other (length gates + 1) node (has_door gate) before (elim outside [ inl none ↦ omega (arith, none) | inr above ↦ omega (arith, above) ]);
-    })
-  where
-    by : (absent : Gate) (k : ℕ) → k < length gates + 1 → (b : Bool) → (k == length gates) ≡ b
-        → after (k + 1) ≡ has_door (slice_index_or (gates ++ gate ∷ []) k absent)
-    by absent k within true is_last =
-        let here : k ≡ length gates = grind (arith, nat_tests) in
-        (back absent).others (k + 1) (inr (omega arith)) ∙ ap (λ (n : ℕ). with_door (length gates + 1) (has_door gate) before (n + 1)) here
-        ∙ door_itself (length gates + 1) (has_door gate) before ∙ ap has_door (sym (get_or_push gates gate absent k (sym here)))
-    by absent k within false not_last =
-        let low : k < length gates = grind (arith, nat_tests) in
-        (back absent).each k low ∙ ap has_door (sym (get_or_append_left gates (gate ∷ []) absent k low))
-
 -- the last door is put back, and the others behind it
-pub puts_more : (gates : List Gate) (gate : Gate) (old mid new : Desk) → TakesDoor (length gates + 1) gate old mid → PutsDoors gates mid new
-    → PutsDoors (gates ++ gate ∷ []) old new
-puts_more gates gate old mid new takes puts = record {
+pub puts_more : (nodes : List ℕ) (node : ℕ) (gates : List Gate) (gate : Gate) (old mid new : Desk) → All (λ other. other ≢ node) nodes
+    → TakesDoor node gate old mid → PutsDoors nodes gates mid new → PutsDoors (nodes ++ node ∷ []) (gates ++ gate ∷ []) old new
+puts_more nodes node gates gate old mid new apart takes puts = record {
+  count = length_push gates gate ∙ ap (λ (n : ℕ). n + 1) puts.count ∙ sym (length_push nodes node);
   back = λ before told out.
-      let all : AreOut (length gates + 1) before = subst (λ (n : ℕ). AreOut n before) (length_push gates gate) out in
-      let here : before (length gates + 1) ≡ door_out = all (length gates) (omega arith) in
-      let mine : Doors = with_door (length gates + 1) (has_door gate) before in
-      let told_mine : mid.doors ≡ Some mine = takes.back before told here ∙ ap (option_map (with_door (length gates + 1) (has_door gate))) told in
-      let still : AreOut (length gates) mine = λ k within. door_other (length gates + 1) (k + 1) (has_door gate) before (omega arith) ∙ all k (omega arith) in
-      let at = puts.back mine told_mine still in
-      (at.0, at.1, back_more gates gate before at.0 at.2);
+      let IsOut : ℕ → Type 0 = λ n. before n ≡ door_out in
+      let mine : Doors = with_door node (has_door gate) before in
+      let told_mine : mid.doors ≡ Some mine
+      = takes.back before told (all_end IsOut nodes node out) ∙ told-map (with_door node (has_door gate)) old.doors before told in
+      let still : DoorsAreOut nodes mine = λ k absent within.
+      door_other node (slice_index_or nodes k absent) (has_door gate) before (apart k absent within) ∙ all_most IsOut nodes node out k absent within in
+      puts.back mine told_mine still ∙ told-map (with_doors nodes gates) mid.doors mine told_mine
+      ∙ ap (λ (d : Doors). Some d) (sym (with_doors-push nodes node gates gate before puts.count))
+      ∙ sym (told-map (with_doors (nodes ++ node ∷ []) (gates ++ gate ∷ [])) old.doors before told);
   disks = puts.disks ∙ takes.disks;
   calls = puts.calls ∙ takes.calls;
+  failed = subst (λ (n : ℕ). CountsFailed n old.failed new.failed) (sym (sum_by_push (λ (g : Gate). g.faults) gates gate))
+      (counts_more gate.faults (door_faults gates) old.failed mid.failed new.failed takes.failed puts.failed);
   rest = record {
     settings = puts.rest.settings ∙ takes.rest.settings;
     console = puts.rest.console ∙ takes.rest.console;
     readings = puts.rest.readings ∙ takes.rest.readings;
     faults = puts.rest.faults ∙ takes.rest.faults;
+    failed = refl;
     waiting = puts.rest.waiting ∙ takes.rest.waiting;
     doors = refl;
     bell = puts.rest.bell ∙ takes.rest.bell;
   };
 }
 
--- the doors of so many nodes were handed out, and as many are put back
-pub doors_return : (count : ℕ) (gates : List Gate) (old lined asked new : Desk)
-    → ForSome old.doors (λ before. (after : Doors) × (lined.doors ≡ Some after) × AreSet count (λ k. door_out) before after)
-    → asked.doors ≡ lined.doors → length gates ≡ count → PutsDoors gates asked new
-    → ForSome old.doors (λ before. (after : Doors) × (new.doors ≡ Some after) × AreBack gates before after)
-doors_return count gates old lined asked new hands same as_many puts = λ before told.
-    let out = hands before told in
-    let gone : AreOut (length gates) out.0 = λ k within. out.2.each k (omega (arith, within, as_many)) in
-    let back = puts.back out.0 (same ∙ out.1) gone in (
-      back.0,
-      back.1,
-      λ absent. record {
-        each = (back.2 absent).each;
-        others = λ node outside.
-            (back.2 absent).others node outside
-            ∙ out.2.others node (elim outside [ inl none ↦ inl none | inr above ↦ inr (omega (arith, above, as_many)) ]);
-      },
-    )
+-- doors that were handed out are put back
+pub doors_return : (nodes : List ℕ) (gates : List Gate) (old lined asked new : Desk) → lined.doors ≡ option_map (with_doors_out nodes) old.doors → asked.doors ≡ lined.doors
+    → PutsDoors nodes gates asked new → ForSome old.doors (λ before. new.doors ≡ Some (with_doors nodes gates before))
+doors_return nodes gates old lined asked new out same puts = λ before told.
+    let gone : asked.doors ≡ Some (with_doors_out nodes before) = same ∙ out ∙ told-map (with_doors_out nodes) old.doors before told in
+    puts.back (with_doors_out nodes before) gone (are_out nodes before) ∙ told-map (with_doors nodes gates) asked.doors (with_doors_out nodes before) gone
+    ∙ ap (λ (d : Doors). Some d) (λ i. λ other. same_set nodes gates (with_doors_out nodes before) before other puts.count (is_left nodes before other) i)
+
+-- the nodes whose doors were handed out, where the next line was refused
+pub done_nodes : (board : Board) (most : Option ℕ) (gates : List Gate) (error : HostError) (old new : Desk) (stops : StopsLines board most gates error old new)
+    → first_nodes (length gates) ≡ nodes_of stops.done
+done_nodes board most gates error old new stops =
+    let n : ℕ = length gates in
+    let within : n ≤ board.nodes
+    = omega (arith, stops.doors.count, ap length stops.parts, length-append stops.done stops.left, length-map-range_with_len (line_for board most) 1 board.nodes) in
+    let first : first_lines board most n ≡ stops.done
+    = sym (take-map-range_with_len (line_for board most) 1 board.nodes n within) ∙ ap (take n) stops.parts ∙ take_at stops.done stops.left n (sym stops.doors.count) in
+    sym (nodes_of_lines board most (first_nodes n)) ∙ ap nodes_of first
+
+-- the door of the next line was refused
+pub stops_door : (board : Board) (most : Option ℕ) (count : ℕ) (gates : List Gate) (error : HostError) (old mid new : Desk) → count < board.nodes
+    → HandsDoors (first_lines board most count) gates old mid → RefusesCall (asked_door (count + 1) board.port most) error mid new → StopsLines board most gates error old new
+stops_door board most count gates error old mid new low hands refuses =
+    let lines : List Line = lines_for board most in
+    let next : get_or lines count (line_for board most 0) ≡ line_for board most (count + 1)
+    = get_or-map-range_with_len (line_for board most) 1 board.nodes count (count + 1) (line_for board most 0) low (omega arith) in
+    let within : count < length lines = omega (arith, low, length-map-range_with_len (line_for board most) 1 board.nodes) in
+    record {
+      done = first_lines board most count;
+      left = drop count lines;
+      parts = sym (take-append-drop count lines) ∙ ap (λ (l : List Line). l ++ drop count lines) (take-map-range_with_len (line_for board most) 1 board.nodes count (omega (arith, low)));
+      lined = mid;
+      doors = hands;
+      refuses = subst (λ (l : List Line). RefusesLine board most l error mid new)
+          (ap (λ (l : Line). l ∷ drop (count + 1) lines) (sym next) ∙ sym (drop_more lines count (line_for board most 0) within)) refuses;
+    }
+
+-- the bell was refused
+pub stops_bell : {B : Type 0} (board : Board) (most : Option ℕ) (areas : ℕ) (gates : List Gate) (result : Result B HostError) (old mid new : Desk) → areas ≡ length board.areas
+    → HandsDoors (lines_for board most) gates old mid → IfErr result (λ error. RefusesCall (asked_bell areas board.pack_minutes most) error mid new)
+    → IfErr result (λ error. StopsLines board most gates error old new)
+stops_bell board most areas gates (Ok bell) old mid new same hands refuses = tt
+stops_bell board most areas gates (Err error) old mid new same hands refuses = record {
+  done = lines_for board most;
+  left = [];
+  parts = sym (append-nil (lines_for board most));
+  lined = mid;
+  doors = hands;
+  refuses = subst (λ (n : ℕ). RefusesCall (asked_bell n board.pack_minutes most) error mid new) same refuses;
+}

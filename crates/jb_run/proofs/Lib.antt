@@ -1,3 +1,4 @@
+pub mod Counting
 pub mod EachLemmas
 pub mod RowLemmas
 pub mod DeskLemmas
@@ -11,17 +12,18 @@ pub mod CloseLemmas
 pub mod AbandonLemmas
 pub mod RefuseLemmas
 pub mod Callers
-pub mod Alone
 pub mod Keeping
 pub mod Places
 pub mod Passing
 pub mod LocalRefusing
-pub mod LocalServing
 mod Lists
 mod Doors
 mod Crew
 mod Starts
+mod OverLemmas
+pub mod LocalServing
 mod NodesClosing
 mod NodesRefusing
 mod NodesServing
 mod Naming
+mod Completing

@@ -18,7 +18,10 @@ use Rattle.jb_model.specs.History.{last_faults}
 use Rattle.jb_model.specs.Standing.{InDoubt, Settled, Standing, is_settled}
 use Rattle.jb_state.specs.declared.loaded.Loaded.{Loaded}
 use Rattle.jb_shared.specs.Closing.{Closes, HasEachNode, IsMissing, known_by}
-use Rattle.jb_shared.specs.Histories.{stopped_last}
+use Rattle.jb_shared.specs.Histories.{Tells, stopped_last}
+use Rattle.jb_shared.specs.Stops.{ComesBy}
+use Rattle.jb_turn.specs.Rows.{Begins}
+use Rattle.jb_model.specs.declared.entry.Entry.{Entry}
 use Rattle.jb_shared.specs.Passes.{PassView}
 use Rattle.jb_shared.specs.Standing.{IsAt, opening_of}
 use Rattle.jb_shared.specs.declared.error.CloseError.{CloseError}
@@ -58,7 +61,7 @@ none_missing passes count (PassMissing node) all missing = missing.2 (all node m
 module _ {D : Type 0} (shown : D → Device) where
   -- what an area goes on from is how it stands as it is shared
   opens_as : (by : AreaRules) (before : Device) (opened : OpenArea D) → OpensOver shown by before opened → GoesOnFrom by before (opening_of shown opened)
-  opens_as by before opened over = record {
+  opens_as by before opened over = let rests = over.rest.rests.kept.settled.rests in record {
     rules = over.rules;
     few = subst (λ (r : AreaRules). length (loaded_of opened).slots ≤ r.slots) over.rules over.rest.rests.kept.ruled.sound.few_slots;
     faults = over.faults;
@@ -66,6 +69,13 @@ module _ {D : Type 0} (shown : D → Device) where
     opens = λ was there safe texts told.
         let at = over.opens was there safe in
         subst (λ (t : List ℕ). Opens (loaded_of opened) t was) (told_texts (device_of shown opened).contents (loaded_of opened) at.texts texts told at.rests.kept.settled.rests) at.opens;
+    now = device_of shown opened;
+    counted = refl;
+    recovered = over.recovered;
+    crash = over.crash;
+    firm = over.firm;
+    holds = λ files there texts told.
+        subst (λ (t : List ℕ). IsAtRest (loaded_of opened) t files) (told_texts (device_of shown opened).contents (loaded_of opened) over.rest.texts texts told rests) (rests files there);
   }
 
   -- an area that is shared with so many nodes
@@ -139,6 +149,8 @@ module _ {D : Type 0} (shown : D → Device) where
           stopped = stopped;
           cause = λ yes. let rose = stopped_rose closes.opening closes.history at.history (sym stopped ∙ yes) in omega (arith, rose, told);
           holds = subst (HoldsAt standing) same (holds_at opened standing at.at opens);
+          crash = let P : Device → Type 0 = λ d. Tells closes.opening → (part : List Entry) → Begins part closes.history → ComesBy closes.opening part closes.history d in
+              subst P same at.crash;
         };
         each = closes.each;
         others = closes.others;

@@ -1,8 +1,7 @@
 -- Lists that grow or shrink at their end, counted from 1, and rows of which the first are taken.
-use Rattle.std.proofs.Common.{◌≡◌, ℕ, zero, suc, ◌+◌, ◌<◌, ◌≤◌, ◌==◌, Bool, true, false, ◌||◌, List, [], ◌∷◌, ◌++◌, drop, get_or, length, map, set, refl, sym, ap, subst, ◌∙◌, append_assoc, arith}
-use Rattle.std.specs.List.{fold}
+use Rattle.std.proofs.Common.{◌≡◌, ℕ, ◌+◌, ◌<◌, ◌==◌, Bool, true, false, ◌||◌, List, [], ◌∷◌, ◌++◌, drop, get_or, length, map, set, take, refl, sym, ap, subst, ◌∙◌, append_assoc, arith}
 use Rattle.std.proofs.lemmas.Bool.Decides.{nat_tests}
-use Rattle.std.proofs.lemmas.List.{drop-set, drop-set-lt, drop_more, get_or_append_left, get_or_push, length_push, map_push}
+use Rattle.std.proofs.lemmas.List.{drop-set, drop-set-lt, drop_more, get_or_append_left, get_or_push, length_push, map_push, take_at}
 use Rattle.std.proofs.lemmas.List.Sums.{fold-append}
 use Rattle.jb_run.specs.All.{any}
 
@@ -87,3 +86,7 @@ rows_given {A} {P} of fewer one rows within =
 -- one bit more
 pub any_push : {A : Type 0} (of : A → Bool) (xs : List A) (x : A) → any (map of (xs ++ x ∷ [])) ≡ (any (map of xs) || of x)
 any_push of xs x = ap any (map_push of xs x) ∙ fold-append (λ so_far bit. so_far || bit) false (map of xs) (of x ∷ [])
+
+-- what was lent as a slice is back
+pub lent_back : {A : Type 0} (items slice after : List A) (len : ℕ) → slice ≡ items → length after ≡ length slice → len ≡ length items → take len (after ++ drop (length after) items) ≡ after
+lent_back items slice after len lent many is = take_at after (drop (length after) items) len (many ∙ ap length lent ∙ sym is)

@@ -1,36 +1,31 @@
--- What is left of the areas when all have worked: each goes on from its opening to one history of all of its nodes.
+-- What is left of the areas and of the doors when all have worked.
 use Rattle.std.specs.declared.alloc.Global.{Global}
-use Rattle.std.proofs.Common.{Vec, ◌≡◌, ℕ, zero, suc, ◌+◌, ◌<◌, ◌≤◌, Bool, true, List, [], ◌∷◌, length, refl, sym, ap, subst, ◌∙◌, arith}
-use Rattle.std.specs.Prelude.{Option, Some, slice_index_or}
+use Rattle.std.proofs.Common.{Vec, ◌≡◌, ℕ, ◌<◌, ◌≤◌, Bool, true, false, List, [], ◌∷◌, length, refl, sym, ap, subst, ◌∙◌, arith}
+use Rattle.std.specs.Prelude.{Option, None, map, slice_index_or}
+use Rattle.std.proofs.lemmas.List.{get_or-map, length-map}
+use Rattle.std.proofs.lemmas.List.Sums.{get_or-le-sum_by}
 use Rattle.jb_run.proofs.Callers.{still_whole}
 use Rattle.jb_run.proofs.RowLemmas.{length-lists_of}
-use Rattle.jb_run.proofs.WholeLemmas.{nobody}
-use Rattle.jb_run.specs.All.{AreOpenable, AreShared, EndsAt, OpenAs, any, passes_at}
-use Rattle.jb_run.specs.Lives.{Ends, GoesOnFrom}
-use Rattle.jb_run.specs.Rows.{IsColumn, lists_of}
+use Rattle.jb_run.specs.All.{AreOpenable, AreShared, any}
+use Rattle.jb_run.specs.Rows.{lists_of}
 use Rattle.jb_run.specs.declared.opening.SharedAreas.{SharedAreas}
 use Rattle.jb_bytes.specs.Fault.{Rose}
 use Rattle.jb_limits.specs.declared.limits.TheConstants.{MOST_ADDRESS_BYTES}
 use Rattle.jb_conf.specs.declared.board.Board.{Board}
-use Rattle.jb_conf.specs.declared.board.BoardArea.{BoardArea}
-use Rattle.jb_disk.specs.Device.{Device}
-use Rattle.jb_run.proofs.LocalServing.{one_is_set}
-use Rattle.jb_run.specs.Local.{OneFailed}
-use Rattle.jb_session.specs.Exchanges.{AreOf}
-use Rattle.jb_shared.specs.Closing.{known_by}
-use Rattle.jb_shared.specs.Passes.{Known, PassView}
-use Rattle.jb_shared.specs.declared.opening.Opening.{Opening}
-use Rattle.jb_shared.specs.declared.shared.SharedArea.{SharedArea}
-use Rattle.jb_turn.specs.Rows.{Has}
-use Rattle.jb_run.specs.Nodes.{EndAll, EndsFrom}
+use Rattle.jb_run.proofs.OverLemmas.{AllKeepStarts, one_is_set}
+use Rattle.jb_host.specs.Gate.{Gate}
+use Rattle.jb_host.specs.Real.{silent_gate}
+use Rattle.jb_host.specs.Rings.{Rings}
+use Rattle.jb_run.specs.Lines.{door_faults}
+use Rattle.jb_server.specs.Sessions.{EndsServing, ends_of}
+use Rattle.jb_server.specs.Tallies.{and_failed, counted_all, no_tally, tallied}
+use Rattle.jb_server.specs.declared.tally.Tally.{Tally}
+use Rattle.jb_session.specs.declared.end.SessionEnd.{SessionEnd}
+use Rattle.jb_session.specs.declared.end.SessionEnd.TheVariants.{Quit, Hangup, LoginRefused, LinkFault, Spent, OutOfMemory}
+use Rattle.jb_state.proofs.LinkLaws.{true_not_false}
+use Rattle.jb_shared.specs.Passes.{PassView}
 use Rattle.jb_run.specs.Workers.{Rows}
-use Rattle.jb_run.specs.Working.{AreAllOf}
-use Rattle.jb_run.proofs.Lists.{one_of}
-use Rattle.jb_run.proofs.Starts.{KeepStarts}
-
--- all still are of their nodes and go on from their openings
-abbrev pub AllKeepStarts : Rows → Rows → Type 0
-AllKeepStarts from to = (n : ℕ) → n < length from → KeepStarts (slice_index_or from n []) (slice_index_or to n [])
+use Rattle.jb_run.specs.Working.{AreAllOf, WorkAll}
 
 -- the areas are whole when all have worked
 pub whole_after : {D : Type 0} (shared : SharedAreas D) (now : Vec (Vec PassView Global) Global) (nodes count : ℕ) → AreShared shared nodes count
@@ -69,56 +64,37 @@ are_openable board = let areas = board.in_range.area_values in record {
   places = areas.places;
 }
 
--- the first of the passes
-some_known : (passes : List PassView) → 0 < length passes → (known : Known) × Has (known_by passes) known × (known ≡ (slice_index_or passes 0 nobody).known)
-some_known [] some = absurd (omega (arith, some))
-some_known (pass ∷ passes) some = (pass.known, (zero, refl), refl)
+-- a session that is tallied says nothing of the door
+door_tallied : (tally : Tally) (end : SessionEnd) → (tallied tally end).door_failed ≡ tally.door_failed
+door_tallied tally Quit = refl
+door_tallied tally Hangup = refl
+door_tallied tally LoginRefused = refl
+door_tallied tally LinkFault = refl
+door_tallied tally Spent = refl
+door_tallied tally OutOfMemory = refl
 
-same_opening : (one other : Opening) → Some one ≡ Some other → one ≡ other
-same_opening one other is = cc
+doors_tallied : (tally : Tally) (ends : List SessionEnd) → (counted_all tally ends).door_failed ≡ tally.door_failed
+doors_tallied tally [] = refl
+doors_tallied tally (end ∷ ends) = doors_tallied (tallied tally end) ends ∙ door_tallied tally end
 
--- an area goes on from its opening
-ends_from : (areas : List BoardArea) (befores : List Device) (openings : List Opening) (from to : Rows) (k : ℕ) (opening : Opening) (doubt : Bool) (after : Device)
-    → OpenAs areas befores openings from → 0 < length from → length to ≡ length from → AllKeepStarts from to → k < length areas → EndsAt to k doubt after
-    → EndsFrom to k (slice_index_or openings k opening) doubt after
-ends_from areas befores openings from to k opening doubt after opens some many keep within ends =
-    let passes = ends.0 in
-    let column = ends.1 in
-    let one = some_known passes (omega (arith, some, many, column.count)) in
-    let starts = keep 0 some k nobody in
-    let known : one.0.opening ≡ Some (slice_index_or openings k opening)
-    = ap (λ (w : Known). w.opening) (one.2 ∙ ap (λ (p : PassView). p.known) (column.each 0 nobody (omega (arith, some, many)))) ∙ starts.opening
-    ∙ ap (λ (w : Known). w.opening) (opens.fresh 0 k nobody opening some within) in
-    record {
-      passes = passes;
-      column = column;
-      ends = ends.2;
-      from = same_opening ends.2.opening (slice_index_or openings k opening) (sym (ends.2.each one.0 one.1).from ∙ known);
-    }
+-- a node that tallies its door has seen it fail
+door_rose : (has_failed : Bool) (old new : Gate) (tally after : Tally) → tally.door_failed ≡ false → after ≡ and_failed has_failed tally → after.door_failed ≡ true
+    → EndsServing has_failed old new → Rose old.faults new.faults
+door_rose true old new tally after none says is ends = ends.0
+door_rose false old new tally after none says is ends = absurd (true_not_false (sym is ∙ ap (λ (t : Tally). t.door_failed) says ∙ none))
 
--- each area does
-pub end_all : (areas : List BoardArea) (befores : List Device) (openings : List Opening) (from to : Rows) (doubts : List Bool) (afters : List Device)
-    → OpenAs areas befores openings from → 0 < length from → length to ≡ length from → AllKeepStarts from to
-    → ((k : ℕ) (doubt : Bool) (after : Device) → k < length areas → EndsAt to k (slice_index_or doubts k doubt) (slice_index_or afters k after))
-    → EndAll openings to doubts afters
-end_all areas befores openings from to doubts afters opens some many keep ends = λ k opening doubt after within.
-    let low : k < length areas = omega (arith, within, opens.count) in
-    ends_from areas befores openings from to k opening (slice_index_or doubts k doubt) (slice_index_or afters k after) opens some many keep low (ends k doubt after low)
-
--- one of the areas is in doubt, and so its disk failed
-pub one_has_failed : (areas : List BoardArea) (befores afters : List Device) (openings : List Opening) (from to : Rows) (doubts : List Bool)
-    → OpenAs areas befores openings from → length doubts ≡ length areas → EndAll openings to doubts afters → any doubts ≡ true → OneFailed areas befores afters
-one_has_failed areas befores afters openings from to doubts opens count ends doubtful =
-    let one = one_is_set doubts doubtful in
-    let within : one.0 < length areas = omega (arith, one.1, count) in
-    let low : one.0 < length openings = omega (arith, within, opens.count) in
-    let area = one_of areas one.0 within in
-    let opening = one_of openings one.0 low in (
-      one.0,
-      within,
-      λ before after.
-          let ended = ends one.0 opening true after low in
-          let same : ended.ends.opening.faults ≡ (slice_index_or befores one.0 before).faults
-          = ap (λ (o : Opening). o.faults) ended.from ∙ (opens.opens one.0 area before opening within).faults in
-          subst (λ (n : ℕ). Rose n (slice_index_or afters one.0 after).faults) same (ended.ends.leaves.cause (one.2 true)),
-    )
+-- one of the doors has failed, where a node says so
+pub a_door_failed : (readings : Option (List ℕ)) (board : Board) (gates gates_after : List Gate) (rings rings_after : Rings) (from to : Rows) (tallies : List Tally)
+    → WorkAll readings board gates gates_after rings rings_after from to tallies → any (map (λ tally. tally.door_failed) tallies) ≡ true → 0 < door_faults gates_after
+a_door_failed readings board gates gates_after rings rings_after from to tallies works failed =
+    let absent : Gate = silent_gate 0 false None in
+    let bit : Tally → Bool = λ tally. tally.door_failed in
+    let one = one_is_set (map bit tallies) failed in
+    let low : one.0 < length tallies = omega (arith, one.1, length-map tallies bit) in
+    let within : one.0 < board.nodes = omega (arith, low, works.counts) in
+    let node = (works.nodes one.0 absent absent no_tally within).1 in
+    let is : (slice_index_or tallies one.0 no_tally).door_failed ≡ true = sym (get_or-map bit tallies one.0 no_tally true low) ∙ one.2 true in
+    let rose : Rose (slice_index_or gates one.0 absent).faults (slice_index_or gates_after one.0 absent).faults
+    = door_rose node.has_failed (slice_index_or gates one.0 absent) (slice_index_or gates_after one.0 absent) (counted_all no_tally (ends_of node.sessions))
+    (slice_index_or tallies one.0 no_tally) (doors_tallied no_tally (ends_of node.sessions)) node.tally is node.stops in
+    omega (arith, rose, get_or-le-sum_by (λ (g : Gate). g.faults) gates_after one.0 absent (omega (arith, within, works.doors_after)))

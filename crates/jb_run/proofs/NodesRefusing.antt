@@ -1,71 +1,37 @@
--- What is left of the host where nobody is served.
-use Rattle.std.proofs.Common.{◌≡◌, ◌⊎◌, inl, inr, ℕ, List, length, refl, sym, ap, subst, ◌∙◌}
+-- What is left of the host where nobody is served of open areas, or memory was wanting to open them.
+use Rattle.std.proofs.Common.{◌≡◌, inr, ℕ, List, [], ◌∷◌, refl, sym, ap, subst, ◌∙◌, arith}
 use Rattle.std.specs.Prelude.{Option, Some}
 use Rattle.std.specs.Option.{option_map}
 use Rattle.jb_run.proofs.RefuseLemmas.{refuses_none}
 use Rattle.jb_run.specs.All.{OpenAs}
-use Rattle.jb_run.specs.Desks.{HandsOut, with_each, with_areas_out}
+use Rattle.jb_run.specs.Desks.{BasePlace, HandsOut, places_of, with_each, with_places_out}
 use Rattle.jb_run.specs.declared.areas_error.AreasError.TheVariants as areas
-use Rattle.jb_bytes.specs.Fault.{Rose}
 use Rattle.jb_conf.specs.declared.board.Board.{Board}
-use Rattle.jb_conf.specs.declared.board.BoardArea.{BoardArea}
 use Rattle.jb_disk.specs.Device.{Device}
-use Rattle.jb_host.specs.Desk.{Desk, Disks, HasHostCause, KeepsRest, RefusesCall}
+use Rattle.jb_host.specs.Desk.{Desk, Disks, HasHostCause, KeepsRest}
 use Rattle.jb_host.specs.Gate.{Gate}
 use Rattle.jb_host.specs.declared.host.HostError.{HostError}
 use Rattle.jb_run.proofs.Places.{are_out}
-use Rattle.jb_run.proofs.LocalRefusing.{all_back, by_setting, is_as_it_was, no_areas, no_board}
+use Rattle.jb_run.proofs.LocalRefusing.{all_back, by_setting, is_as_it_was, no_areas, no_setting_store}
 use Rattle.jb_run.specs.LocalEnding.{of_host}
-use Rattle.jb_run.specs.Local.{AllBack, BeginsNone as BeginsNoSession, HasBoard, HasNoSettings, RefusesAreas, RefusesSettings}
+use Rattle.jb_run.specs.Begins.{BeginsNone, HasBoard, RefusesLines}
 use Rattle.jb_run.specs.declared.error.RunError.{RunError}
-use Rattle.jb_run.specs.declared.error.RunError.TheVariants.{HostFault, OutOfMemory}
+use Rattle.jb_run.specs.declared.error.RunError.TheVariants.{OutOfMemory}
 use Rattle.jb_shared.specs.declared.opening.Opening.{Opening}
-use Rattle.jb_run.specs.Lines.{RefusesLine, StopsLines}
-use Rattle.jb_run.specs.Nodes.{BeginsNone, RefusesLines}
+use Rattle.jb_run.specs.Lines.{Line, RefusesLine, StopsLines}
 use Rattle.jb_run.specs.Workers.{Rows}
 use Rattle.jb_run.specs.Working.{GivesUp}
 
--- a refusal as of a session, with its reason
-of_session : (path : List ℕ) (most : Option ℕ) (old new : Desk) (error : RunError) → BeginsNoSession path old new error
-    → HasNoSettings path old new error ⊎ (RefusesSettings path old new error ⊎ (RefusesAreas path old new error ⊎ RefusesLines path most old new error))
-    → BeginsNone path most old new error
-of_session path most old new error none why = record {
-  why = why;
-  disks = none.disks;
-  rest = record {
-    settings = none.rest.settings;
-    console = none.rest.console;
-    readings = none.rest.readings;
-    faults = refl;
-    waiting = refl;
-    doors = refl;
-    bell = none.rest.bell;
-  };
-  cause = none.cause;
-  steady = none.steady;
-}
-
--- no board was read
-pub begins_no_board : (path : List ℕ) (most : Option ℕ) (old new : Desk) (error : RunError) → HasNoSettings path old new error ⊎ RefusesSettings path old new error
-    → BeginsNone path most old new error
-begins_no_board path most old new error (inl none) = of_session path most old new error (no_board path old new error (inl none)) (inl none)
-begins_no_board path most old new error (inr refuses) = of_session path most old new error (no_board path old new error (inr refuses)) (inr (inl refuses))
-
--- the areas were not opened
-pub begins_no_areas : (path : List ℕ) (most : Option ℕ) (old new : Desk) (error : RunError) → RefusesAreas path old new error → BeginsNone path most old new error
-begins_no_areas path most old new error refuses = of_session path most old new error (no_areas path old new error refuses) (inr (inr (inl refuses)))
-
--- memory was wanting before they were opened
-pub begins_no_room : (path : List ℕ) (most : Option ℕ) (board : Board) (old new : Desk) → HasBoard path board old new → BeginsNone path most old new OutOfMemory
-begins_no_room path most board old new has =
-    begins_no_areas path most old new OutOfMemory (record {
-      board = board;
-      mid = new;
-      has = has;
-      why = areas.OutOfMemory;
-      is = refl;
-      refuses = refuses_none board.areas new areas.OutOfMemory refl;
-    })
+-- memory was wanting before the areas were opened
+pub no_room : (Lines : Type 0) (path : List ℕ) (board : Board) (old new : Desk) → HasBoard path board old new → BeginsNone Lines path old new OutOfMemory
+no_room Lines path board old new has = no_areas Lines path old new OutOfMemory (record {
+  board = board;
+  mid = new;
+  has = has;
+  why = areas.OutOfMemory;
+  is = refl;
+  refuses = refuses_none board.areas new areas.OutOfMemory refl;
+})
 
 -- what the refusal of a door or the bell leaves
 record Leaves (why : HostError) (old new : Desk) : Type 0 where
@@ -73,10 +39,10 @@ record Leaves (why : HostError) (old new : Desk) : Type 0 where
   rest : KeepsRest old (record new { faults = old.faults; waiting = old.waiting; doors = old.doors })
   cause : HasHostCause why old.faults new.faults
 
-line_refused : (board : Board) (most : Option ℕ) (given : ℕ) (why : HostError) (old new : Desk) → RefusesLine board most given why old new
+line_refused : (board : Board) (most : Option ℕ) (left : List Line) (why : HostError) (old new : Desk) → RefusesLine board most left why old new
     → (new.disks ≡ old.disks) × KeepsRest old (record new { faults = old.faults }) × HasHostCause why old.faults new.faults
-line_refused board most given why old new (inl door) = (door.1.disks, door.1.rest, door.1.cause)
-line_refused board most given why old new (inr bell) = (bell.1.disks, bell.1.rest, bell.1.cause)
+line_refused board most [] why old new bell = (bell.disks, bell.rest, bell.cause)
+line_refused board most (line ∷ left) why old new door = (door.disks, door.rest, door.cause)
 
 same_cause : (why : HostError) (old mid new : ℕ) → mid ≡ old → HasHostCause why mid new → HasHostCause why old new
 same_cause why old mid new is cause = subst (λ (n : ℕ). HasHostCause why n new) is cause
@@ -86,7 +52,7 @@ later_cause why old mid new is cause = subst (λ (n : ℕ). HasHostCause why old
 
 lines_stopped : (board : Board) (most : Option ℕ) (gates : List Gate) (why : HostError) (old new : Desk) → StopsLines board most gates why old new → Leaves why old new
 lines_stopped board most gates why old new stops =
-    let last = line_refused board most (length gates) why stops.lined new stops.refuses in
+    let last = line_refused board most stops.left why stops.lined new stops.refuses in
     let doors = stops.doors in
     record {
       disks = last.0 ∙ doors.disks;
@@ -95,6 +61,7 @@ lines_stopped board most gates why old new stops =
         console = last.1.console ∙ doors.rest.console;
         readings = last.1.readings ∙ doors.rest.readings;
         faults = refl;
+        failed = last.1.failed ∙ doors.rest.failed;
         waiting = refl;
         doors = refl;
         bell = last.1.bell ∙ doors.rest.bell;
@@ -103,8 +70,9 @@ lines_stopped board most gates why old new stops =
     }
 
 -- a door or the bell was refused
-pub begins_no_lines : (path : List ℕ) (most : Option ℕ) (old new : Desk) (error : RunError) → RefusesLines path most old new error → BeginsNone path most old new error
-begins_no_lines path most old new error r =
+pub no_lines : (path : List ℕ) (most : Option ℕ) (old new : Desk) (error : RunError) → RefusesLines path most old new error
+    → BeginsNone (RefusesLines path most old new error) path old new error
+no_lines path most old new error r =
     let gives = r.has.gives in
     let stopped = lines_stopped r.board most r.gates r.why r.opened r.asked r.stops in
     let back = r.abandons.back in
@@ -117,32 +85,36 @@ begins_no_lines path most old new error r =
     record {
       why = inr (inr (inr r));
       disks = λ was told.
-          let gone : r.shut.disks ≡ Some (with_areas_out r.board.areas was)
-          = doors.disks ∙ stopped.disks ∙ r.out.disks ∙ ap (option_map (with_areas_out r.board.areas)) (gives.disks ∙ told) in (
-            with_each r.board.areas r.abandons.afters (with_areas_out r.board.areas was),
-            back.disks (with_areas_out r.board.areas was) gone (are_out r.board.areas was) ∙ ap (option_map (with_each r.board.areas r.abandons.afters)) gone,
-            all_back r.board.areas r.befores r.abandons.afters was (with_areas_out r.board.areas was) (r.out.were was (gives.disks ∙ told))
-                (λ dir name. is_as_it_was (with_areas_out r.board.areas was dir name)) back.count,
+          let places : List BasePlace = places_of r.board.areas in
+          let out : Disks = with_places_out places was in
+          let gone : r.shut.disks ≡ Some out = doors.disks ∙ stopped.disks ∙ r.out.disks ∙ ap (option_map (with_places_out places)) (gives.disks ∙ told) in (
+            with_each places r.abandons.afters out,
+            back.disks out gone (are_out places was) ∙ ap (option_map (with_each places r.abandons.afters)) gone,
+            all_back places r.befores r.abandons.afters was out (r.out.were was (gives.disks ∙ told)) (λ dir name. is_as_it_was (out dir name)) back.count,
           );
       rest = record {
         settings = back.rest.settings ∙ doors.rest.settings ∙ stopped.rest.settings ∙ r.out.rest.settings ∙ gives.rest.settings;
         console = back.rest.console ∙ doors.rest.console ∙ stopped.rest.console ∙ r.out.rest.console ∙ gives.rest.console;
         readings = back.rest.readings ∙ doors.rest.readings ∙ stopped.rest.readings ∙ r.out.rest.readings ∙ gives.rest.readings;
         faults = refl;
+        failed = refl;
         waiting = refl;
         doors = refl;
         bell = back.rest.bell ∙ doors.rest.bell ∙ stopped.rest.bell ∙ r.out.rest.bell ∙ gives.rest.bell;
       };
+      doors = λ other. absurd (other r);
       cause = causes.0;
       steady = causes.1;
+      no_fewer = omega (arith, back.failed.later, doors.failed.later, stopped.rest.failed, r.out.rest.failed, gives.rest.failed);
+      store = λ place is. absurd (no_setting_store r.why place (sym r.is ∙ is));
     }
 
 -- the same, behind the opening of the areas
 pub gives_up : (path : List ℕ) (most : Option ℕ) (board : Board) (old read opened new : Desk) (befores : List Device) (openings : List Opening) (from : Rows) (why : HostError)
-    → HasBoard path board old read → HandsOut board.areas befores read opened → OpenAs board.areas befores openings from → GivesUp board most from opened new why
-    → BeginsNone path most old new (of_host why)
+    → HasBoard path board old read → HandsOut (places_of board.areas) befores read opened → OpenAs board.areas befores openings from → GivesUp board most from opened new why
+    → BeginsNone (RefusesLines path most old new (of_host why)) path old new (of_host why)
 gives_up path most board old read opened new befores openings from why has out opens up =
-    begins_no_lines path most old new (of_host why) (record {
+    no_lines path most old new (of_host why) (record {
       board = board;
       read = read;
       has = has;

@@ -2,7 +2,7 @@
 use Rattle.std.specs.declared.alloc.Global.{Global}
 use Rattle.std.proofs.Common.{Vec, vec_capacity, ◌≡◌, ℕ, ◌+◌, ◌<◌, ◌≤◌, List, [], ◌∷◌, ◌++◌, length, take, All, refl, sym, ap, subst, ◌∙◌, arith}
 use Rattle.std.specs.Prelude.{slice_index_or}
-use Rattle.std.proofs.lemmas.List.{length-take-le, length_push, take_more}
+use Rattle.std.proofs.lemmas.List.{length-map, length-take-le, length_push, map_push, take_more}
 use Rattle.jb_conf.specs.declared.board.BoardArea.{BoardArea}
 use Rattle.jb_disk.specs.Device.{Device}
 use Rattle.jb_host.specs.Desk.{Desk, GivesDisk}
@@ -11,6 +11,7 @@ use Rattle.jb_shared.specs.Passes.{Known, PassView, first_known}
 use Rattle.jb_shared.specs.declared.opening.Opening.{Opening}
 use Rattle.jb_shared.specs.declared.shared.SharedArea.{SharedArea}
 use Rattle.jb_run.specs.All.{AreLive, AreShared, OpenAs, OpensAll}
+use Rattle.jb_run.specs.Desks.{BasePlace, HandsOut, place_of, places_of}
 use Rattle.jb_run.specs.Lives.{HasLive, GoesOnFrom}
 use Rattle.jb_run.specs.Rows.{IsDealt, lists_of}
 use Rattle.jb_run.specs.declared.opening.SharedAreas.{SharedAreas}
@@ -82,8 +83,9 @@ module _ {D : Type 0} where
       record {
         befores = all.befores ++ before ∷ [];
         openings = all.openings ++ opening ∷ [];
-        out = hands_out_more areas all.befores area before old mid new all.out gives;
-        start = open_more areas all.befores all.openings (lists_of fewer.nodes.items) area before opening row (lists_of more.nodes.items) all.out.count
+        out = subst (λ (l : List BasePlace). HandsOut l (all.befores ++ before ∷ []) old new) (sym (map_push place_of areas area))
+            (hands_out_more (places_of areas) all.befores (place_of area) before old mid new all.out gives);
+        start = open_more areas all.befores all.openings (lists_of fewer.nodes.items) area before opening row (lists_of more.nodes.items) (all.out.count ∙ length-map areas place_of)
             (λ n here. all.whole.passes n (omega (arith, here, as_many))) opens (λ n here. fresh n (omega (arith, here, as_many))) dealt all.start;
         live = subst (AreLive (all.openings ++ opening ∷ [])) (sym counts.behind) (live_more all.openings opening fewer.live.items counts.live counts.has all.live);
         whole = subst (AreShared more nodes) (sym (length_push areas area)) whole;

@@ -8,7 +8,7 @@ use Rattle.jb_host.specs.Desk.{Desk, TakesBack}
 use Rattle.jb_shared.specs.Areas.{IsOf, passes_of}
 use Rattle.jb_shared.specs.Passes.{PassView, first_known}
 use Rattle.jb_shared.specs.declared.opening.Opening.{Opening}
-use Rattle.jb_run.specs.Desks.{HandsOut, PutsBack}
+use Rattle.jb_run.specs.Desks.{HandsOut, PutsBack, places_of}
 use Rattle.jb_run.specs.AreasErrors.{AsksNothing, RefusesArea}
 use Rattle.jb_run.specs.Lives.{Ends, HasLive, KeepsArea, GoesOnFrom}
 use Rattle.jb_run.specs.Rows.{HaveRoom, IsColumn, IsDealt, lists_of}
@@ -64,7 +64,7 @@ pub record AreLive (openings : List Opening) (live : List ℕ) : Type 0 where
 pub record OpensAll {D : Type 0} (areas : List BoardArea) (nodes : ℕ) (old new : Desk) (shared : SharedAreas D) : Type 0 where
   pub befores : List Device
   pub openings : List Opening
-  pub out : HandsOut areas befores old new
+  pub out : HandsOut (places_of areas) befores old new
   pub start : OpenAs areas befores openings (lists_of shared.nodes.items)
   pub live : AreLive openings shared.live.items
   pub whole : AreShared shared nodes (length areas)
@@ -91,7 +91,7 @@ any bits = fold (λ so_far bit. so_far || bit) false bits
 pub record ClosesAll (areas : List BoardArea) (nodes : List (List PassView)) (old new : Desk) (is_doubtful : Bool) : Type 0 where
   pub afters : List Device
   pub doubts : List Bool
-  pub back : PutsBack areas afters old new
+  pub back : PutsBack (places_of areas) afters old new
   pub count : length doubts ≡ length areas
   pub ends : (k : ℕ) (doubt : Bool) (after : Device) → k < length areas → EndsAt nodes k (slice_index_or doubts k doubt) (slice_index_or afters k after)
   pub doubt : is_doubtful ≡ any doubts
@@ -104,7 +104,7 @@ KeepEach areas befores afters = (k : ℕ) (area : BoardArea) (before after : Dev
 -- all disks are put back, each left as its files opened over these disks
 pub record Abandons (areas : List BoardArea) (befores : List Device) (old new : Desk) : Type 0 where
   pub afters : List Device
-  pub back : PutsBack areas afters old new
+  pub back : PutsBack (places_of areas) afters old new
   pub kept : KeepEach areas befores afters
 
 -- the next area is refused, or memory was wanting before
@@ -130,7 +130,7 @@ pub record RefusesAll (areas : List BoardArea) (old new : Desk) (error : AreasEr
   pub afters : List Device
   pub mid : Desk
   pub last : Desk
-  pub out : HandsOut done befores old mid
+  pub out : HandsOut (places_of done) befores old mid
   pub refuses : RefusesNext (length done + 1) left mid last error
-  pub back : PutsBack done afters last new
+  pub back : PutsBack (places_of done) afters last new
   pub kept : KeepEach done befores afters

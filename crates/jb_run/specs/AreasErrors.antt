@@ -13,9 +13,9 @@ use Rattle.jb_run.specs.declared.areas_error.AreasError.{AreasError}
 use Rattle.jb_run.specs.declared.areas_error.AreasError.TheVariants.{Area, HostFault, OutOfMemory}
 
 -- a refusal of the host, as one of the areas
-abbrev pub of_host : HostError → AreasError
-of_host Failed = HostFault
-of_host no_host_memory = OutOfMemory
+abbrev pub refused_by_host : HostError → AreasError
+refused_by_host Failed = HostFault
+refused_by_host no_host_memory = OutOfMemory
 
 -- the refusal of the area at this place
 abbrev pub refused_at : ℕ → OpeningError → AreasError
@@ -52,7 +52,7 @@ pub record ReturnsDisk (place : ℕ) (area : BoardArea) (old new : Desk) (error 
 -- the host refused the disk
 pub record HasNoDisk (area : BoardArea) (old new : Desk) (error : AreasError) : Type 0 where
   pub why : HostError
-  pub is : error ≡ of_host why
+  pub is : error ≡ refused_by_host why
   pub refuses : RefusesCall (asked_disk area.dir area.base) why old new
 
 -- memory was wanting before the host was asked

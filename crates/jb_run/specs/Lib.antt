@@ -3,12 +3,14 @@ pub mod Rows
 pub mod Lives
 pub mod AreasErrors
 pub mod All
-pub mod Alone
 pub mod LocalEnding
-pub mod Local
 pub mod Lines
+pub mod Begins
 pub mod NodesEnding
 pub mod Workers
 pub mod Working
+pub mod Over
+pub mod Local
 pub mod Telling
 pub mod Nodes
+pub mod Laws

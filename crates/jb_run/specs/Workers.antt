@@ -1,5 +1,5 @@
 -- The workers of a run: made ready as their doors are handed out, and taken apart when they are done.
-use Rattle.std.specs.Prelude.{◌≡◌, ℕ, ◌+◌, ◌<◌, Bool, false, List, [], ◌∷◌, ◌++◌, codes, drop, length, map, slice_index_or, Option, Some, None}
+use Rattle.std.specs.Prelude.{◌≡◌, ℕ, ◌+◌, ◌<◌, All, Bool, false, List, [], ◌∷◌, ◌++◌, codes, drop, length, map, slice_index_or, Option, None}
 use Rattle.jb_base.specs.declared.user.User.{User}
 use Rattle.jb_conf.specs.declared.board.Board.{Board}
 use Rattle.jb_host.specs.Desk.{Desk, GivesBell, GivesDoor, TakesBell, TakesDoor}
@@ -12,7 +12,7 @@ use Rattle.jb_server.specs.declared.worker.PackSlot.{PackSlot}
 use Rattle.jb_server.specs.declared.worker.Worker.{Worker}
 use Rattle.jb_server.specs.declared.worker.Worker.TheVariants.{Node, Packer}
 use Rattle.jb_shared.specs.Passes.{PassView}
-use Rattle.jb_run.specs.Lines.{HandsDoors}
+use Rattle.jb_run.specs.Lines.{HandsDoors, first_lines}
 
 -- the user as whom areas are packed
 abbrev pub packer : User
@@ -78,26 +78,29 @@ pub record PackerIsReady {B C : Type 0} (readings : C → Option (List ℕ)) (to
   pub user : slot.user ≡ packer
   pub none : slot.packs ≡ 0
 
--- of doors and clocks that show themselves so
-module _ {R B C : Type 0} (gate : R → Gate) (readings : C → Option (List ℕ)) (board : Board) (most : Option ℕ) where
+-- of doors and clocks that show themselves so, where what a door for so many calls is as it is handed out is this
+module _ {R B C : Type 0} (gate : R → Gate) (readings : C → Option (List ℕ)) (door_for : Option ℕ → Gate → Type 0) (board : Board) (most : Option ℕ) where
   -- the next node is ready: its door was handed out
   pub record AddsNode (fewer more : List (Worker R B C)) (old new : Desk) : Type 0 where
     pub worker : Worker R B C
     pub is : more ≡ fewer ++ worker ∷ []
     pub ready : IsFreshWorker readings old.readings (length fewer + 1) worker
     pub gives : GivesDoor (length fewer + 1) board.port most (gate_of gate worker) old new
+    pub made : door_for most (gate_of gate worker)
 
   -- these nodes are ready: their doors were handed out
   pub record HasNodes (workers : List (Worker R B C)) (old new : Desk) : Type 0 where
-    pub doors : HandsDoors board.port most (gates_of gate workers) old new
+    pub doors : HandsDoors (first_lines board most (length workers)) (gates_of gate workers) old new
+    pub made : All (door_for most) (gates_of gate workers)
     pub ready : AreReady readings old.readings workers
 
-  -- all nodes are ready, and the bell was handed out
-  pub record OpensLines (rings : Rings) (workers : List (Worker R B C)) (old new : Desk) : Type 0 where
+  -- all nodes are ready, and the bell was handed out, which is what one over so many areas is then
+  pub record OpensLines (bell_over : ℕ → ℕ → Option ℕ → Rings → Type 0) (rings : Rings) (workers : List (Worker R B C)) (old new : Desk) : Type 0 where
     pub mid : Desk
     pub has : HasNodes workers old mid
     pub all : length workers ≡ board.nodes
     pub gives : GivesBell (length board.areas) board.pack_minutes most rings mid new
+    pub rounds : bell_over (length board.areas) board.pack_minutes most rings
 
 -- the last of these nodes is taken apart, and its door put back
 pub record PartsLast {R B C : Type 0} (gate : R → Gate) (more fewer : List (Worker R B C)) (old new : Desk) (has_failed : Bool) : Type 0 where

@@ -1,5 +1,5 @@
 -- What the nodes and the packer of a run do, on areas that are open.
-use Rattle.std.specs.Prelude.{◌≡◌, ℕ, ◌+◌, ◌<◌, Bool, List, [], ◌∷◌, length, map, slice_index_or, Option}
+use Rattle.std.specs.Prelude.{◌≡◌, ℕ, ◌+◌, ◌<◌, All, Bool, List, [], length, map, slice_index_or, Option}
 use Rattle.jb_run.specs.All.{Abandons, ClosesAll, OpenAs, any}
 use Rattle.jb_conf.specs.declared.board.Board.{Board}
 use Rattle.jb_disk.specs.Device.{Device}
@@ -12,10 +12,9 @@ use Rattle.jb_server.specs.Sessions.{NodeWorks}
 use Rattle.jb_server.specs.Tallies.{no_tally}
 use Rattle.jb_server.specs.declared.tally.Tally.{Tally}
 use Rattle.jb_session.specs.Exchanges.{AreOf, node_with}
-use Rattle.jb_shared.specs.Passes.{PassView}
 use Rattle.jb_shared.specs.declared.opening.Opening.{Opening}
 use Rattle.jb_shared.specs.declared.shared.SharedArea.{SharedArea}
-use Rattle.jb_run.specs.Lines.{HandsDoors, PutsDoors, StopsLines}
+use Rattle.jb_run.specs.Lines.{HandsDoors, PutsDoors, StopsLines, first_nodes, lines_for, nodes_of}
 use Rattle.jb_run.specs.Workers.{Rows, packer}
 use Rattle.jb_run.specs.declared.nodes_end.NodesEnd.{NodesEnd}
 
@@ -48,17 +47,19 @@ pub record WorkToTheEnd (readings : Option (List ℕ)) (board : Board) (gates : 
   pub works : WorkAll readings board gates gates_after rings rings_after from to tallies
   pub mid : Desk
   pub bell : TakesBell rings_after old mid
-  pub doors : PutsDoors gates_after mid new
+  pub doors : PutsDoors (first_nodes board.nodes) gates_after mid new
   pub failed : door_failed ≡ any (map (λ tally. tally.door_failed) tallies)
 
 -- a run on areas that are open, with these passes: doors and the bell are handed out, all work, and everything is closed and put back
-pub record RunsOn (board : Board) (most : Option ℕ) (from : Rows) (old new : Desk) (end : NodesEnd) : Type 0 where
+pub record RunsOn (door_for : Option ℕ → Gate → Type 0) (bell_over : ℕ → ℕ → Option ℕ → Rings → Type 0) (board : Board) (most : Option ℕ) (from : Rows) (old new : Desk) (end : NodesEnd) : Type 0 where
   pub gates : List Gate
   pub lined : Desk
-  pub doors : HandsDoors board.port most gates old lined
+  pub doors : HandsDoors (lines_for board most) gates old lined
+  pub made : All (door_for most) gates
   pub rings : Rings
   pub rung : Desk
   pub bell : GivesBell (length board.areas) board.pack_minutes most rings lined rung
+  pub rounds : bell_over (length board.areas) board.pack_minutes most rings
   pub to : Rows
   pub worked : Desk
   pub works : WorkToTheEnd old.readings board gates rings from to rung worked end.door_failed
@@ -70,5 +71,5 @@ pub record GivesUp (board : Board) (most : Option ℕ) (from : Rows) (old new : 
   pub asked : Desk
   pub stops : StopsLines board most gates error old asked
   pub shut : Desk
-  pub doors : PutsDoors gates asked shut
+  pub doors : PutsDoors (nodes_of stops.done) gates asked shut
   pub abandons : (befores : List Device) (openings : List Opening) → OpenAs board.areas befores openings from → Abandons board.areas befores shut new

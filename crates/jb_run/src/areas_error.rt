@@ -1,6 +1,6 @@
 //! Why the areas of a board are not opened.
 ghost use Rattle.std.specs.Prelude.{◌≡◌};
-ghost use Rattle.jb_run.specs.AreasErrors.{of_host, refused_at};
+ghost use Rattle.jb_run.specs.AreasErrors.{refused_by_host, refused_at};
 ghost use Rattle.jb_run.specs.declared.areas_error.AreasError.TheVariants.{OutOfMemory as no_memory};
 
 use jb_area_open::OpeningError;
@@ -28,7 +28,7 @@ impl From<OutOfMemory> for AreasError {
 }
 
 impl From<HostError> for AreasError {
-    ghost from_gives = { λ error refusal. refusal ≡ of_host error };
+    ghost from_gives = { λ error refusal. refusal ≡ refused_by_host error };
 
     fn from(error: HostError) -> AreasError {
         match error {

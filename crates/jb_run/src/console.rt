@@ -5,7 +5,8 @@ ghost use Rattle.jb_host.specs.Desk.{Desk};
 ghost use Rattle.jb_host.specs.Wire.{Wire};
 ghost use Rattle.jb_session.specs.Exchanges.{node_with};
 ghost use Rattle.jb_session.specs.Served.{Served};
-ghost use Rattle.jb_run.specs.Local.{HasBoard, HasNoSettings, RefusesSettings, RunsLocal};
+ghost use Rattle.jb_run.specs.Begins.{HasBoard, HasNoSettings, RefusesSettings};
+ghost use Rattle.jb_run.specs.Local.{RunsLocal};
 
 use crate::closing::close_areas;
 use crate::error::RunError;

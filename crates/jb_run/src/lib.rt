@@ -14,6 +14,7 @@ mod closing;
 mod console;
 mod dealing;
 mod error;
+mod laws;
 mod lines;
 mod local_end;
 mod meanings;
@@ -27,6 +28,7 @@ mod telling;
 
 pub use console::local;
 pub use error::RunError;
+pub use laws::open_boards_are_served;
 pub use local_end::LocalEnd;
 pub use meanings::meaning;
 pub use nodes::serve_nodes;

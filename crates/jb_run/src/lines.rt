@@ -68,7 +68,7 @@ fn add_node<H: Host>(
     requires list { length workers.old.items < length nodes.old.items }
     requires room { vec_len workers.old < vec_capacity workers.old }
     ensures ok { OnOk result
-        (AddsNode H.Door.gate H.Clock.readings board.now calls workers.old.items workers.new.items
+        (AddsNode H.Door.gate H.Clock.readings H.door_for board.now calls workers.old.items workers.new.items
         (H.desk host.old) (H.desk host.new)) }
     ensures rows { OnOk result (with_passes workers.new.items (lists_of nodes.new.items)
         ≡ with_passes workers.old.items (lists_of nodes.old.items)) }
@@ -109,8 +109,8 @@ pub(crate) fn open_lines<H: Host>(
     requires none { workers.old.items ≡ [] }
     requires lists { board.now.nodes < length nodes.old.items }
     requires room { board.now.nodes < vec_capacity workers.old }
-    ensures ok { IfOk result (λ bell. OpensLines H.Door.gate H.Clock.readings board.now calls
-        (H.Bell.rings bell) workers.new.items (H.desk host.old) (H.desk host.new)) }
+    ensures ok { IfOk result (λ bell. OpensLines H.Door.gate H.Clock.readings H.door_for board.now
+        calls H.bell_over (H.Bell.rings bell) workers.new.items (H.desk host.old) (H.desk host.new)) }
     ensures err { IfErr result (λ error. StopsLines board.now calls
         (gates_of H.Door.gate workers.new.items) error (H.desk host.old) (H.desk host.new)) }
 

@@ -3,7 +3,7 @@ ghost use Rattle.std.specs.Prelude.{◌≡◌, ◌+◌, ◌<◌, ◌≤◌, ◌+
 ghost use Rattle.jb_run.specs.All.{AreShared};
 ghost use Rattle.jb_run.specs.Rows.{lists_of};
 ghost use Rattle.jb_host.specs.Desk.{Desk};
-ghost use Rattle.jb_run.specs.Local.{HasBoard};
+ghost use Rattle.jb_run.specs.Begins.{HasBoard};
 ghost use Rattle.jb_run.specs.Nodes.{RunsNodes};
 ghost use Rattle.jb_run.specs.Workers.{AreReady, PackerIsReady, gates_of, packer, worker_passes};
 ghost use Rattle.jb_run.specs.Working.{AreAllOf, GivesUp, RunsOn, WorkToTheEnd};
@@ -90,7 +90,7 @@ where
     requires room { board.now.nodes + 1 ≤ vec_capacity room.workers }
     requires packer { room.packer ≡ packer }
     requires whole { AreShared shared (board.now.nodes + 1) (length board.now.areas) }
-    ensures ok { IfOk result (λ end. RunsOn board.now calls (lists_of shared.nodes.items)
+    ensures ok { IfOk result (λ end. RunsOn H.door_for H.bell_over board.now calls (lists_of shared.nodes.items)
         (H.desk host.old) (H.desk host.new) end) }
     ensures err { IfErr result (λ error. GivesUp board.now calls (lists_of shared.nodes.items)
         (H.desk host.old) (H.desk host.new) error) }
@@ -147,7 +147,7 @@ where
     H::Bell: Send,
     H::Clock: Send,
     ensures { (path : List ℕ) (old : Desk) → HasBoard path board.now old (H.desk host.old)
-        → RunsNodes path calls old (H.desk host.new) result }
+        → RunsNodes H.door_for H.bell_over path calls old (H.desk host.new) result }
 {
     let Ok(room) = room_for(alloc, board.nodes) else {
         return Err(RunError::OutOfMemory);
@@ -172,7 +172,7 @@ where
     <H::Door as Door>::Link: Send,
     H::Bell: Send,
     H::Clock: Send,
-    ensures { RunsNodes path.now calls (H.desk host.old) (H.desk host.new) result }
+    ensures { RunsNodes H.door_for H.bell_over path.now calls (H.desk host.old) (H.desk host.new) result }
 {
     let board = board_at(alloc, host, path)?;
     serve_board(rt, alloc, host, &board, calls)

@@ -2,7 +2,7 @@
 ghost use Rattle.std.specs.Prelude.{◌≡◌, ◌≤◌, [], IfNone, IfSome, length, map};
 ghost use Rattle.jb_run.specs.All.{any};
 ghost use Rattle.jb_run.specs.Rows.{lists_of};
-ghost use Rattle.jb_run.specs.Lines.{PutsDoors};
+ghost use Rattle.jb_run.specs.Lines.{PutsDoors, first_nodes};
 ghost use Rattle.jb_run.specs.Workers.{AreNodes, EndsWithPacker, PartsLast, PartsPacker, gates_of, tallies_of, with_passes};
 
 use jb_host::Host;
@@ -52,7 +52,8 @@ pub(crate) fn part_nodes<H: Host>(
 ) -> bool
     requires nodes { AreNodes workers.items }
     requires lists { length workers.items ≤ length nodes.old.items }
-    ensures doors { PutsDoors (gates_of H.Door.gate workers.items) (H.desk host.old) (H.desk host.new) }
+    ensures doors { PutsDoors (first_nodes (length workers.items)) (gates_of H.Door.gate workers.items)
+        (H.desk host.old) (H.desk host.new) }
     ensures failed { result ≡ any (map (λ tally. tally.door_failed) (tallies_of workers.items)) }
     ensures rows { lists_of nodes.new.items ≡ with_passes workers.items (lists_of nodes.old.items) }
 {

@@ -12,7 +12,7 @@ returns-in-Ok-clause-ok g c =
     let opening = c.open_area.ensures in
     subst (λ (d : Device). IfOk c.open_area.result (OpensOver shown c.args.rules d))
     (claimed (shown c.args.disk) mid c.claim.ensures.kept c.in-Ok.ensures.cause.kept)
-    (opens_over shown c.args.rules mid c.open_area.result opening.rules opening.rest opening.opened opening.faults.quiet opening.crash opening.firm opening.alike)
+    (opens_over shown c.args.rules mid c.open_area.result opening.rules opening.rest opening.opened opening.recovered opening.faults.quiet opening.crash opening.firm opening.alike)
 
 pub returns-in-Ok-clause-err : goal.returns-in-Ok-clause-err
 returns-in-Ok-clause-err g c =

@@ -1,6 +1,6 @@
 use Rattle.std.proofs.Common.{ℕ, List, Ok, subst, sym}
 use Rattle.jb_conf.specs.Settings.{ReadsSettings}
-use Rattle.jb_run.specs.Local.{HasBoard}
+use Rattle.jb_run.specs.Begins.{HasBoard}
 use Rattle.jb_run.proofs.console.board_at.Goals as goal
 
 pub returns-in-Ok-clause-ok : goal.returns-in-Ok-clause-ok

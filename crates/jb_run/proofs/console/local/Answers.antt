@@ -13,7 +13,7 @@ returns-in_err-board g c =
     let new = g.H.Host.desk c.board_at.new.host in
     let p = err_from_is_err_and c.from_residual.result c.from_residual.ensures.1 in
     subst (λ (r : Result LocalEnd RunError). RunsLocal c.args.path.now old new r) (sym (p.1 ∙ ap (λ (e : RunError). Err e) p.2))
-    (no_board c.args.path.now old new c.in_err-board.field-0.0 c.in_err-board.ensures.err)
+    (no_board ⊥ c.args.path.now old new c.in_err-board.field-0.0 c.in_err-board.ensures.err)
 
 pub returns : goal.returns
 returns g c = c.run_board.ensures c.args.path.now (g.H.Host.desk c.args.host.now) c.in_ok-board.ensures.ok

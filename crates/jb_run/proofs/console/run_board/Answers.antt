@@ -23,7 +23,7 @@ returns-in_err-shared g c = λ path old has.
     let why = c.in_err-shared.field-0.0 in
     let p = err_from_is_err_and c.from_residual.result c.from_residual.ensures.1 in
     subst (λ (r : Result LocalEnd RunError). RunsLocal path old new r) (sym (p.1 ∙ ap (λ (e : RunError). Err e) p.2))
-    (no_areas path old new (of_areas why) (record {
+    (no_areas ⊥ path old new (of_areas why) (record {
       board = c.args.board.now;
       mid = g.H.Host.desk c.args.host.now;
       has = has;

@@ -16,4 +16,5 @@ returns-clause-ok g c =
       ready = (ap (λ (n : ℕ). n + 1) count, c.clock-clock.ensures.gives ∙ gives.rest.readings, c.new.ensures);
       gives = subst (λ (d : Desk). GivesDoor (length c.args.workers.now.items + 1) c.args.board.now.port c.args.calls (g.H.Door.Door.gate c.in_ok-door.door) (g.H.Host.desk c.args.host.now) d) (sym same)
           (subst (λ (n : ℕ). GivesDoor (n + 1) c.args.board.now.port c.args.calls (g.H.Door.Door.gate c.in_ok-door.door) (g.H.Host.desk c.args.host.now) (g.H.Host.desk c.door.new.self)) count gives);
+      made = c.in_ok-door.ensures.counts;
     }

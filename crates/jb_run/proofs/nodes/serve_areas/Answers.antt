@@ -1,6 +1,6 @@
-use Rattle.std.proofs.Common.{◌≡◌, ℕ, ◌+◌, ◌++◌, ◌∷◌, [], List, ap, arith, get_or, length, map, subst, sym, take, ◌∙◌}
+use Rattle.std.proofs.Common.{◌≡◌, ℕ, ◌+◌, ◌++◌, ◌∷◌, [], List, ap, arith, length, map, subst, sym, take, ◌∙◌}
 use Rattle.std.proofs.Math.Seq.{take-length}
-use Rattle.std.proofs.lemmas.List.{length-set}
+use Rattle.std.proofs.lemmas.List.{length-map, length-set}
 use Rattle.jb_run.proofs.RowLemmas.{length-lists_of}
 use Rattle.jb_run.proofs.WholeLemmas.{whole_own}
 use Rattle.jb_run.specs.All.{Abandons, AreOpenable, AreShared, ClosesAll, OpenAs}
@@ -8,9 +8,12 @@ use Rattle.jb_run.specs.Rows.{lists_of}
 use Rattle.jb_run.specs.declared.opening.SharedAreas.{SharedAreas}
 use Rattle.jb_conf.specs.declared.board.BoardArea.{BoardArea}
 use Rattle.jb_host.specs.Desk.{Desk}
-use Rattle.jb_run.specs.Workers.{OpensLines, Rows, gates_of, worker_passes}
+use Rattle.jb_run.specs.Lines.{PutsDoors, first_nodes}
+use Rattle.jb_run.specs.Workers.{OpensLines, Rows, gate_of, gates_of, worker_passes}
+use Rattle.jb_run.proofs.Doors.{done_nodes}
 use Rattle.jb_run.specs.Working.{AreAllOf}
-use Rattle.jb_run.proofs.NodesClosing.{AllKeepStarts, all_of_whole, are_openable, whole_after, whole_same}
+use Rattle.jb_run.proofs.OverLemmas.{AllKeepStarts}
+use Rattle.jb_run.proofs.NodesClosing.{all_of_whole, are_openable, whole_after, whole_same}
 use Rattle.jb_run.proofs.Crew.{rows_of_crew}
 use Rattle.jb_run.proofs.NodesServing.{runs_on}
 use Rattle.jb_run.proofs.Starts.{work_keeps}
@@ -28,14 +31,11 @@ work-door_failed-requires-clause-ours g c κs within =
     let shared = c.args.shared in
     let count : ℕ = length board.areas in
     let workers = c.open_lines.new.workers.items in
-    let left = lists_of c.open_lines.new.nodes.items in
     let passes = c.take_passes-passes.result.items in
     let opened = c.in-Ok.ensures.ok in
-    let at : c.len.result ≡ board.nodes = c.len.ensures ∙ c.open_lines.new.workers.ok.0 ∙ opened.all in
-    let many : length left ≡ board.nodes + 1 = length-lists_of c.open_lines.new.nodes.items ∙ c.in-Ok.ensures.lists ∙ c.requires.whole.lists in
     let rows : map worker_passes workers ++ passes ∷ [] ≡ lists_of shared.nodes.items
-    = rows_of_crew workers left (lists_of shared.nodes.items) passes board.nodes c.in-Ok.ensures.rows opened.all many
-    (c.take_passes-passes.ensures.taken ∙ ap (λ (n : ℕ). get_or left n []) at) in
+    = rows_of_crew workers c.open_lines.new.nodes.items (lists_of shared.nodes.items) passes board.nodes c.len.result c.in-Ok.ensures.rows opened.all
+    (c.in-Ok.ensures.lists ∙ c.requires.whole.lists) (c.len.ensures ∙ c.open_lines.new.workers.ok.0) c.take_passes-passes.ensures.taken in
     subst (AreAllOf shared.areas.items) (sym rows) (all_of_whole shared (board.nodes + 1) count c.requires.whole)
 
 pub close_areas-is_doubtful-requires-clause-areas : goal.close_areas-is_doubtful-requires-clause-areas
@@ -48,14 +48,11 @@ close_areas-is_doubtful-requires-clause-whole g c =
     let shared = c.args.shared in
     let count : ℕ = length board.areas in
     let workers = c.open_lines.new.workers.items in
-    let left = lists_of c.open_lines.new.nodes.items in
     let passes = c.take_passes-passes.result.items in
     let opened = c.in-Ok.ensures.ok in
-    let at : c.len.result ≡ board.nodes = c.len.ensures ∙ c.open_lines.new.workers.ok.0 ∙ opened.all in
-    let many : length left ≡ board.nodes + 1 = length-lists_of c.open_lines.new.nodes.items ∙ c.in-Ok.ensures.lists ∙ c.requires.whole.lists in
     let rows : map worker_passes workers ++ passes ∷ [] ≡ lists_of shared.nodes.items
-    = rows_of_crew workers left (lists_of shared.nodes.items) passes board.nodes c.in-Ok.ensures.rows opened.all many
-    (c.take_passes-passes.ensures.taken ∙ ap (λ (n : ℕ). get_or left n []) at) in
+    = rows_of_crew workers c.open_lines.new.nodes.items (lists_of shared.nodes.items) passes board.nodes c.len.result c.in-Ok.ensures.rows opened.all
+    (c.in-Ok.ensures.lists ∙ c.requires.whole.lists) (c.len.ensures ∙ c.open_lines.new.workers.ok.0) c.take_passes-passes.ensures.taken in
     let now = c.work-door_failed.new.shared.nodes in
     let worked = c.work-door_failed.ensures.worked in
     let same_areas : c.work-door_failed.new.shared ≡ record shared { nodes = now } = c.work-door_failed.ensures.areas in
@@ -92,37 +89,26 @@ returns-in-Ok-clause-ok g c =
     let shared = c.args.shared in
     let count : ℕ = length board.areas in
     let workers = c.open_lines.new.workers.items in
-    let left = lists_of c.open_lines.new.nodes.items in
     let passes = c.take_passes-passes.result.items in
     let opened = c.in-Ok.ensures.ok in
-    let at : c.len.result ≡ board.nodes = c.len.ensures ∙ c.open_lines.new.workers.ok.0 ∙ opened.all in
-    let many : length left ≡ board.nodes + 1 = length-lists_of c.open_lines.new.nodes.items ∙ c.in-Ok.ensures.lists ∙ c.requires.whole.lists in
     let rows : map worker_passes workers ++ passes ∷ [] ≡ lists_of shared.nodes.items
-    = rows_of_crew workers left (lists_of shared.nodes.items) passes board.nodes c.in-Ok.ensures.rows opened.all many
-    (c.take_passes-passes.ensures.taken ∙ ap (λ (n : ℕ). get_or left n []) at) in
+    = rows_of_crew workers c.open_lines.new.nodes.items (lists_of shared.nodes.items) passes board.nodes c.len.result c.in-Ok.ensures.rows opened.all
+    (c.in-Ok.ensures.lists ∙ c.requires.whole.lists) (c.len.ensures ∙ c.open_lines.new.workers.ok.0) c.take_passes-passes.ensures.taken in
     let now = c.work-door_failed.new.shared.nodes in
     let worked = c.work-door_failed.ensures.worked in
     let same_areas : c.work-door_failed.new.shared ≡ record shared { nodes = now } = c.work-door_failed.ensures.areas in
-    let keep : AllKeepStarts (lists_of shared.nodes.items) (lists_of now.items)
-    = subst (λ (l : Rows). AllKeepStarts l (lists_of now.items)) rows
-    (λ n within. work_keeps (g.H.Host.desk c.tell_open.new.host).readings board (gates_of g.H.Door.Door.gate workers) worked.gates_after (g.H.Bell.Bell.rings c.in-Ok.bell) worked.rings_after
-    (map worker_passes workers ++ passes ∷ []) (lists_of now.items) worked.tallies worked.works n within) in
-    let ours : AreAllOf shared.areas.items (lists_of now.items)
-    = subst (λ (s : SharedAreas D). AreAllOf s.areas.items (lists_of now.items)) same_areas c.work-door_failed.ensures.ours in
-    let whole : AreShared (record shared { nodes = now }) (board.nodes + 1) count
-    = whole_after shared now (board.nodes + 1) count c.requires.whole worked.works.ended ours keep in
     let old = g.H.Host.desk c.args.host.now in
     let rung = g.H.Host.desk c.tell_open.new.host in
     let end = g.H.Host.desk c.work-door_failed.new.host in
     let closed = g.H.Host.desk c.close_areas-is_doubtful.new.host in
     let new = g.H.Host.desk c.note.new.self in
     let doubtful = c.close_areas-is_doubtful.result in
-    let ready = subst (λ (d : Desk). OpensLines g.H.Door.Door.gate g.H.Clock.Clock.readings board c.args.calls (g.H.Bell.Bell.rings c.in-Ok.bell) workers old d)
+    let ready = subst (λ (d : Desk). OpensLines g.H.Door.Door.gate g.H.Clock.Clock.readings g.H.Host.door_for board c.args.calls g.H.Host.bell_over (g.H.Bell.Bell.rings c.in-Ok.bell) workers old d)
     (sym (c.tell_open.ensures ∙ c.clock-clock.ensures.same)) opened in
     let as_many : length c.work-door_failed.new.shared.areas.items ≡ count = ap (λ (s : SharedAreas D). length s.areas.items) same_areas ∙ c.requires.whole.areas in
     let all : take (length c.work-door_failed.new.shared.areas.items) c.as_slice-in-Ok.result.now ≡ board.areas
     = ap (λ (l : List BoardArea). take (length c.work-door_failed.new.shared.areas.items) l) c.as_slice-in-Ok.ensures ∙ ap (λ (n : ℕ). take n board.areas) as_many ∙ take-length board.areas in
-    runs_on g.H.Door.Door.gate g.H.Clock.Clock.readings board c.args.calls (g.H.Bell.Bell.rings c.in-Ok.bell) workers old rung end new
+    runs_on g.H.Door.Door.gate g.H.Clock.Clock.readings g.H.Host.door_for g.H.Host.bell_over board c.args.calls (g.H.Bell.Bell.rings c.in-Ok.bell) workers old rung end new
     (map worker_passes workers ++ passes ∷ []) (lists_of shared.nodes.items) (lists_of now.items) doubtful c.work-door_failed.result ready rows worked
     (subst (λ (d : Desk). ClosesAll board.areas (lists_of now.items) end d doubtful) (sym c.note.ensures)
     (subst (λ (l : List BoardArea). ClosesAll l (lists_of now.items) end closed doubtful) all c.close_areas-is_doubtful.ensures))
@@ -132,17 +118,22 @@ returns-in-Err-clause-err g c =
     let board = c.args.board.now in
     let shared = c.args.shared in
     let now = c.part_nodes.new.nodes in
+    let workers = c.open_lines.new.workers.items in
+    let gates = gates_of g.H.Door.Door.gate workers in
+    let old = g.H.Host.desk c.args.host.now in
+    let asked = g.H.Host.desk c.open_lines.new.host in
     let shut = g.H.Host.desk c.part_nodes.new.host in
     let new = g.H.Host.desk c.abandon_areas.new.host in
     let all : take (length shared.areas.items) c.as_slice-in-Err.result.now ≡ board.areas
     = ap (λ (l : List BoardArea). take (length shared.areas.items) l) c.as_slice-in-Err.ensures ∙ ap (λ (n : ℕ). take n board.areas) c.requires.whole.areas ∙ take-length board.areas in
     let same : lists_of now.items ≡ lists_of shared.nodes.items = c.part_nodes.ensures.rows ∙ c.in-Err.ensures.rows in
     record {
-      gates = gates_of g.H.Door.Door.gate c.open_lines.new.workers.items;
-      asked = g.H.Host.desk c.open_lines.new.host;
+      gates = gates;
+      asked = asked;
       stops = c.in-Err.ensures.err;
       shut = shut;
-      doors = c.part_nodes.ensures.doors;
+      doors = subst (λ (nodes : List ℕ). PutsDoors nodes gates asked shut) (ap first_nodes (sym (length-map workers (gate_of g.H.Door.Door.gate))) ∙ done_nodes board c.args.calls gates c.in-Err.error old asked c.in-Err.ensures.err)
+          c.part_nodes.ensures.doors;
       abandons = λ befores openings opens.
           subst (λ (l : List BoardArea). Abandons l befores shut new) all
           (c.abandon_areas.ensures befores openings

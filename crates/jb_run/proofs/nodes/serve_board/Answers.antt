@@ -6,17 +6,20 @@ use Rattle.jb_run.specs.Rows.{lists_of}
 use Rattle.jb_conf.specs.declared.board.BoardArea.{BoardArea}
 use Rattle.jb_run.specs.LocalEnding.{of_areas}
 use Rattle.jb_run.specs.declared.error.RunError.{RunError}
+use Rattle.jb_run.specs.declared.error.RunError.TheVariants.{OutOfMemory}
 use Rattle.jb_run.specs.Nodes.{RunsNodes}
 use Rattle.jb_run.specs.declared.nodes_end.NodesEnd.{NodesEnd}
 use Rattle.jb_run.proofs.NodesClosing.{are_openable}
-use Rattle.jb_run.proofs.NodesRefusing.{begins_no_areas, begins_no_room, gives_up}
+use Rattle.jb_run.specs.Begins.{RefusesLines}
+use Rattle.jb_run.proofs.LocalRefusing.{no_areas}
+use Rattle.jb_run.proofs.NodesRefusing.{gives_up, no_room}
 use Rattle.jb_run.proofs.NodesServing.{serves_all}
 use Rattle.jb_run.proofs.nodes.serve_board.Goals as goal
 
 -- memory was wanting before the areas were opened
 pub returns-in_default : goal.returns-in_default
 returns-in_default g c = λ path old has.
-    begins_no_room path c.args.calls c.args.board.now old (g.H.Host.desk c.args.host.now) has
+    no_room (RefusesLines path c.args.calls old (g.H.Host.desk c.args.host.now) OutOfMemory) path c.args.board.now old (g.H.Host.desk c.args.host.now) has
 
 pub open_areas-requires-clause-areas : goal.open_areas-requires-clause-areas
 open_areas-requires-clause-areas g c = subst AreOpenable (sym c.as_slice.ensures) (are_openable c.args.board.now)
@@ -26,8 +29,8 @@ returns-in_err-shared g c = λ path old has.
     let new = g.H.Host.desk c.open_areas.new.host in
     let why = c.in_err-shared.field-0.0 in
     let p = err_from_is_err_and c.from_residual.result c.from_residual.ensures.1 in
-    subst (λ (r : Result NodesEnd RunError). RunsNodes path c.args.calls old new r) (sym (p.1 ∙ ap (λ (e : RunError). Err e) p.2))
-    (begins_no_areas path c.args.calls old new (of_areas why) (record {
+    subst (λ (r : Result NodesEnd RunError). RunsNodes g.H.Host.door_for g.H.Host.bell_over path c.args.calls old new r) (sym (p.1 ∙ ap (λ (e : RunError). Err e) p.2))
+    (no_areas (RefusesLines path c.args.calls old new (of_areas why)) path old new (of_areas why) (record {
       board = c.args.board.now;
       mid = g.H.Host.desk c.args.host.now;
       has = has;
@@ -46,7 +49,7 @@ returns-in_err-serve_areas g c = λ path old has.
     let shared = c.in_ok-shared.shared in
     let opens = subst (λ (list : List BoardArea). OpensAll list (board.nodes + 1) read opened shared) c.as_slice.ensures c.in_ok-shared.ensures.ok in
     let p = err_from_is_err_and c.from_residual-in_err-serve_areas.result c.from_residual-in_err-serve_areas.ensures.1 in
-    subst (λ (r : Result NodesEnd RunError). RunsNodes path c.args.calls old new r) (sym (p.1 ∙ ap (λ (e : RunError). Err e) p.2))
+    subst (λ (r : Result NodesEnd RunError). RunsNodes g.H.Host.door_for g.H.Host.bell_over path c.args.calls old new r) (sym (p.1 ∙ ap (λ (e : RunError). Err e) p.2))
     (gives_up path c.args.calls board old read opened new opens.befores opens.openings (lists_of shared.nodes.items) why has opens.out opens.start
     c.in_err-serve_areas.ensures.err)
 
@@ -57,5 +60,5 @@ returns g c = λ path old has.
     let opened = g.H.Host.desk c.open_areas.new.host in
     let shared = c.in_ok-shared.shared in
     let opens = subst (λ (list : List BoardArea). OpensAll list (board.nodes + 1) read opened shared) c.as_slice.ensures c.in_ok-shared.ensures.ok in
-    serves_all path c.args.calls board old read opened (g.H.Host.desk c.serve_areas.new.host) opens.befores opens.openings
+    serves_all g.H.Host.door_for g.H.Host.bell_over path c.args.calls board old read opened (g.H.Host.desk c.serve_areas.new.host) opens.befores opens.openings
     (lists_of shared.nodes.items) c.in_ok-serve_areas.field-0 has opens.out opens.start c.in_ok-serve_areas.ensures.ok

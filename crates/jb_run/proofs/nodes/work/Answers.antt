@@ -1,5 +1,5 @@
-use Rattle.std.proofs.Common.{◌≡◌, ◌++◌, ◌∷◌, [], List, All, ap, drop, length, subst, sym, take, ◌∙◌, arith}
-use Rattle.std.proofs.lemmas.List.{length_push, take_at}
+use Rattle.std.proofs.Common.{◌≡◌, ◌++◌, ◌∷◌, [], List, All, ap, length, subst, sym, ◌∙◌, arith}
+use Rattle.std.proofs.lemmas.List.{length_push}
 use Rattle.jb_run.proofs.RowLemmas.{length-lists_of}
 use Rattle.jb_run.specs.Rows.{lists_of}
 use Rattle.jb_server.specs.Workers.{IsAtWork}
@@ -8,7 +8,8 @@ use Rattle.jb_server.specs.declared.worker.Worker.TheVariants.{Packer}
 use Rattle.jb_shared.specs.declared.shared.SharedArea.{SharedArea}
 use Rattle.jb_run.specs.Workers.{with_passes}
 use Rattle.jb_run.specs.Working.{AreAllOf}
-use Rattle.jb_run.proofs.Crew.{AllHaveWorked, all_at_work, all_of_still, all_rows, are_done, are_nodes, ends_work, left_nodes, short_name}
+use Rattle.jb_run.proofs.Lists.{lent_back}
+use Rattle.jb_run.proofs.Crew.{all_at_work, all_of_still, all_rows, are_done, are_nodes, ends_work, left_nodes, short_name}
 use Rattle.jb_run.proofs.nodes.work.Goals as goal
 
 -- each has its passes
@@ -32,12 +33,11 @@ part_packer-requires-clause-last g c =
     let slot = c.args.crew.packer in
     let slice : c.as_mut_slice.result.now ≡ nodes ++ Packer slot ∷ [] = c.as_mut_slice.ensures.value ∙ c.push_reserved.ensures.items in
     let told = (g.H.Host.desk c.args.host.now).readings in
-    let done = are_done g.H.Door.Door.gate g.H.Bell.Bell.rings g.H.Clock.Clock.readings told c.args.board.now nodes slot c.serve.new.workers c.requires.ready
-    (c.serve.auto.workers ∙ ap length slice ∙ length_push nodes (Packer slot))
-    (subst (λ (l : List W). AllHaveWorked g.H.Door.Door.gate g.H.Bell.Bell.rings g.H.Clock.Clock.readings told c.args.board.now l c.serve.new.workers) slice c.serve.ensures.worked) in
-    let all : take c.push_reserved.new.self.len (c.serve.new.workers ++ drop (length c.serve.new.workers) c.push_reserved.new.self.items) ≡ c.serve.new.workers
-    = take_at c.serve.new.workers (drop (length c.serve.new.workers) c.push_reserved.new.self.items) c.push_reserved.new.self.len
-    (c.serve.auto.workers ∙ ap length c.as_mut_slice.ensures.value ∙ sym c.push_reserved.new.self.ok.0) in
+    let lent = c.push_reserved.new.self in
+    let after = c.serve.new.workers in
+    let all = lent_back lent.items c.as_mut_slice.result.now after lent.len c.as_mut_slice.ensures.value c.serve.auto.workers lent.ok.0 in
+    let done = are_done g.H.Door.Door.gate g.H.Bell.Bell.rings g.H.Clock.Clock.readings told c.args.board.now nodes slot c.as_mut_slice.result.now after slice c.serve.auto.workers c.requires.ready
+    c.serve.ensures.worked in
     record { front = done.front; slot = done.last; is = all ∙ done.is }
 
 pub part_nodes-requires-clause-nodes : goal.part_nodes-requires-clause-nodes
@@ -47,12 +47,11 @@ part_nodes-requires-clause-nodes g c =
     let slot = c.args.crew.packer in
     let slice : c.as_mut_slice.result.now ≡ nodes ++ Packer slot ∷ [] = c.as_mut_slice.ensures.value ∙ c.push_reserved.ensures.items in
     let told = (g.H.Host.desk c.args.host.now).readings in
-    let done = are_done g.H.Door.Door.gate g.H.Bell.Bell.rings g.H.Clock.Clock.readings told c.args.board.now nodes slot c.serve.new.workers c.requires.ready
-    (c.serve.auto.workers ∙ ap length slice ∙ length_push nodes (Packer slot))
-    (subst (λ (l : List W). AllHaveWorked g.H.Door.Door.gate g.H.Bell.Bell.rings g.H.Clock.Clock.readings told c.args.board.now l c.serve.new.workers) slice c.serve.ensures.worked) in
-    let all : take c.push_reserved.new.self.len (c.serve.new.workers ++ drop (length c.serve.new.workers) c.push_reserved.new.self.items) ≡ c.serve.new.workers
-    = take_at c.serve.new.workers (drop (length c.serve.new.workers) c.push_reserved.new.self.items) c.push_reserved.new.self.len
-    (c.serve.auto.workers ∙ ap length c.as_mut_slice.ensures.value ∙ sym c.push_reserved.new.self.ok.0) in
+    let lent = c.push_reserved.new.self in
+    let after = c.serve.new.workers in
+    let all = lent_back lent.items c.as_mut_slice.result.now after lent.len c.as_mut_slice.ensures.value c.serve.auto.workers lent.ok.0 in
+    let done = are_done g.H.Door.Door.gate g.H.Bell.Bell.rings g.H.Clock.Clock.readings told c.args.board.now nodes slot c.as_mut_slice.result.now after slice c.serve.auto.workers c.requires.ready
+    c.serve.ensures.worked in
     let parts = c.part_packer.ensures.bell in
     left_nodes g.H.Door.Door.gate g.H.Bell.Bell.rings g.H.Clock.Clock.readings told c.args.board.now nodes slot c.serve.new.workers c.part_packer.new.workers.items parts.slot
     done (sym all ∙ parts.is)
@@ -64,12 +63,11 @@ returns-clause-worked g c =
     let slot = c.args.crew.packer in
     let slice : c.as_mut_slice.result.now ≡ nodes ++ Packer slot ∷ [] = c.as_mut_slice.ensures.value ∙ c.push_reserved.ensures.items in
     let told = (g.H.Host.desk c.args.host.now).readings in
-    let done = are_done g.H.Door.Door.gate g.H.Bell.Bell.rings g.H.Clock.Clock.readings told c.args.board.now nodes slot c.serve.new.workers c.requires.ready
-    (c.serve.auto.workers ∙ ap length slice ∙ length_push nodes (Packer slot))
-    (subst (λ (l : List W). AllHaveWorked g.H.Door.Door.gate g.H.Bell.Bell.rings g.H.Clock.Clock.readings told c.args.board.now l c.serve.new.workers) slice c.serve.ensures.worked) in
-    let all : take c.push_reserved.new.self.len (c.serve.new.workers ++ drop (length c.serve.new.workers) c.push_reserved.new.self.items) ≡ c.serve.new.workers
-    = take_at c.serve.new.workers (drop (length c.serve.new.workers) c.push_reserved.new.self.items) c.push_reserved.new.self.len
-    (c.serve.auto.workers ∙ ap length c.as_mut_slice.ensures.value ∙ sym c.push_reserved.new.self.ok.0) in
+    let lent = c.push_reserved.new.self in
+    let after = c.serve.new.workers in
+    let all = lent_back lent.items c.as_mut_slice.result.now after lent.len c.as_mut_slice.ensures.value c.serve.auto.workers lent.ok.0 in
+    let done = are_done g.H.Door.Door.gate g.H.Bell.Bell.rings g.H.Clock.Clock.readings told c.args.board.now nodes slot c.as_mut_slice.result.now after slice c.serve.auto.workers c.requires.ready
+    c.serve.ensures.worked in
     let parts = c.part_packer.ensures.bell in
     let rows = lists_of c.args.shared.now.nodes.items in
     ends_work g.H.Door.Door.gate g.H.Bell.Bell.rings g.H.Clock.Clock.readings told c.args.board.now nodes slot c.serve.new.workers c.part_packer.new.workers.items parts.slot
@@ -84,13 +82,9 @@ returns-clause-ours g c =
     let nodes = c.args.crew.nodes.items in
     let slot = c.args.crew.packer in
     let slice : c.as_mut_slice.result.now ≡ nodes ++ Packer slot ∷ [] = c.as_mut_slice.ensures.value ∙ c.push_reserved.ensures.items in
-    let told = (g.H.Host.desk c.args.host.now).readings in
-    let done = are_done g.H.Door.Door.gate g.H.Bell.Bell.rings g.H.Clock.Clock.readings told c.args.board.now nodes slot c.serve.new.workers c.requires.ready
-    (c.serve.auto.workers ∙ ap length slice ∙ length_push nodes (Packer slot))
-    (subst (λ (l : List W). AllHaveWorked g.H.Door.Door.gate g.H.Bell.Bell.rings g.H.Clock.Clock.readings told c.args.board.now l c.serve.new.workers) slice c.serve.ensures.worked) in
-    let all : take c.push_reserved.new.self.len (c.serve.new.workers ++ drop (length c.serve.new.workers) c.push_reserved.new.self.items) ≡ c.serve.new.workers
-    = take_at c.serve.new.workers (drop (length c.serve.new.workers) c.push_reserved.new.self.items) c.push_reserved.new.self.len
-    (c.serve.auto.workers ∙ ap length c.as_mut_slice.ensures.value ∙ sym c.push_reserved.new.self.ok.0) in
+    let lent = c.push_reserved.new.self in
+    let after = c.serve.new.workers in
+    let all = lent_back lent.items c.as_mut_slice.result.now after lent.len c.as_mut_slice.ensures.value c.serve.auto.workers lent.ok.0 in
     let rows = lists_of c.args.shared.now.nodes.items in
     let areas = c.args.shared.now.areas.items in
     let many : length rows ≡ length c.serve.new.workers

@@ -2,7 +2,7 @@ use Rattle.std.proofs.Common.{◌≡◌, ◌≤◌, ◌||◌, length, map}
 use Rattle.jb_run.specs.All.{any}
 use Rattle.jb_run.specs.Rows.{lists_of}
 use Rattle.jb_host.specs.Desk.{Desk}
-use Rattle.jb_run.specs.Lines.{PutsDoors}
+use Rattle.jb_run.specs.Lines.{PutsDoors, first_nodes}
 use Rattle.jb_run.specs.Workers.{AreNodes, gates_of, tallies_of, with_passes}
 use Rattle.jb_run.proofs.parting.part_nodes.Given as goal
 
@@ -11,8 +11,8 @@ abbrev pub invariant-loop-failed : goal.invariant-loop-failed
 invariant-loop-failed g l = record {
   nodes : AreNodes l.workers.items;
   lists : length l.workers.items ≤ length l.nodes.items;
-  doors : (new : Desk) → PutsDoors (gates_of g.H.Door.Door.gate l.workers.items) (g.H.Host.desk l.host) new
-      → PutsDoors (gates_of g.H.Door.Door.gate l.initial.workers.items) (g.H.Host.desk l.initial.host) new;
+  doors : (new : Desk) → PutsDoors (first_nodes (length l.workers.items)) (gates_of g.H.Door.Door.gate l.workers.items) (g.H.Host.desk l.host) new
+      → PutsDoors (first_nodes (length l.initial.workers.items)) (gates_of g.H.Door.Door.gate l.initial.workers.items) (g.H.Host.desk l.initial.host) new;
   failed : (any (map (λ tally. tally.door_failed) (tallies_of l.workers.items)) || l.has_failed) ≡ any (map (λ tally. tally.door_failed) (tallies_of l.initial.workers.items));
   rows : with_passes l.workers.items (lists_of l.nodes.items) ≡ with_passes l.initial.workers.items (lists_of l.initial.nodes.items);
 }
