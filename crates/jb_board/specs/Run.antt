@@ -3,8 +3,10 @@ use Rattle.std.specs.Prelude.{◌≡◌, ◌⊎◌, ℕ, ◌≤◌, List, Option
 use Rattle.std.specs.Option.{ForSome}
 use Rattle.jb_bytes.specs.Fault.{Rose}
 use Rattle.jb_disk.specs.Device.{Device}
-use Rattle.jb_host.specs.Desk.{Desk, Disks, KeepsRest, has_disk, with_place, asked_disk, and_call}
+use Rattle.jb_host.specs.Desk.{CountsFailed, Desk, KeepsRest, has_disk, with_place, asked_disk, and_call}
+use Rattle.jb_host.specs.Gate.{Gate}
 use Rattle.jb_host.specs.Readings.{reading_of}
+use Rattle.jb_host.specs.Rings.{Rings}
 use Rattle.jb_host.specs.Wire.{Wire, IsFrontOf, Sends}
 use Rattle.jb_tool.specs.LoadSummary.{run_summary}
 use Rattle.jb_tool.specs.Workload.{load_run}
@@ -41,11 +43,12 @@ AnswersOver tool moment before after (Err (Tool error)) = AnswersTool tool momen
 AnswersOver tool moment before after _ = ⊥
 
 -- the disk was handed out, the tool used on it, and the disk put back; which disk that is, where the host tells its disks
-pub record UsesDisk (tool : ToolName) (moment : ℕ) (dir name : List ℕ) (old new : Option Disks) (answer : RunAnswer) : Type 0 where
+pub record UsesDisk (tool : ToolName) (moment : ℕ) (dir name : List ℕ) (old new : Desk) (answer : RunAnswer) : Type 0 where
   pub before : Device
   pub then : Device
-  pub was : ForSome old (λ disks. disks dir name ≡ has_disk before)
-  pub back : ForSome old (λ disks. new ≡ Some (with_place dir name (has_disk then) disks))
+  pub was : ForSome old.disks (λ disks. disks dir name ≡ has_disk before)
+  pub back : ForSome old.disks (λ disks. new.disks ≡ Some (with_place dir name (has_disk then) disks))
+  pub failed : CountsFailed then.faults old.failed new.failed
   pub answers : AnswersOver tool moment before then answer
   pub crash : KeepsUnderTool tool moment before then
   pub later : before.faults ≤ then.faults
@@ -53,18 +56,18 @@ pub record UsesDisk (tool : ToolName) (moment : ℕ) (dir name : List ℕ) (old 
 -- no disk was handed out, and why
 abbrev pub GetsNoDisk : Desk → Desk → RunAnswer → Type 0
 GetsNoDisk old new answer =
-    (new.disks ≡ old.disks) × (((answer ≡ Err HostFault) × Rose old.faults new.faults) ⊎ ((answer ≡ Err OutOfMemory) × (new.faults ≡ old.faults)))
+    (new.disks ≡ old.disks) × (new.failed ≡ old.failed) × (((answer ≡ Err HostFault) × Rose old.faults new.faults) ⊎ ((answer ≡ Err OutOfMemory) × (new.faults ≡ old.faults)))
 
 -- the run of a tool: one call of the host, for that disk alone; want of memory hides no fault of the host
 pub record UsesTool (tool : ToolName) (moment : ℕ) (dir name : List ℕ) (old new : Desk) (answer : RunAnswer) : Type 0 where
   pub calls : (new.calls ≡ and_call (asked_disk dir name) old.calls) ⊎ ((answer ≡ Err OutOfMemory) × (new.calls ≡ old.calls))
-  pub disk : GetsNoDisk old new answer ⊎ UsesDisk tool moment dir name old.disks new.disks answer
-  pub rest : KeepsRest old (record new { faults = old.faults })
+  pub disk : GetsNoDisk old new answer ⊎ UsesDisk tool moment dir name old new answer
+  pub rest : KeepsRest old (record new { faults = old.faults; failed = old.failed })
   pub later : old.faults ≤ new.faults
 
 -- this text is answered, or that there was no memory
-abbrev pub Says : List ℕ → RunAnswer → Type 0
-Says text answer = (answer ≡ Ok (Text text)) ⊎ (answer ≡ Err OutOfMemory)
+abbrev pub SaysText : List ℕ → RunAnswer → Type 0
+SaysText text answer = (answer ≡ Ok (Text text)) ⊎ (answer ≡ Err OutOfMemory)
 
 -- what a session came to, as what the run answers
 abbrev pub answer_behind : Result LocalEnd RunError → RunAnswer
@@ -82,20 +85,22 @@ abbrev pub answer_behind_nodes : Result NodesEnd RunError → RunAnswer
 answer_behind_nodes (Ok end) = Ok (Nodes end)
 answer_behind_nodes (Err error) = Err (fault_of error)
 
--- all nodes serve, or why none does
-pub record ServesNodes (path : List ℕ) (calls : Option ℕ) (old new : Desk) (answer : RunAnswer) : Type 0 where
-  pub came : Result NodesEnd RunError
-  pub runs : RunsNodes path calls old new came
-  pub is : answer ≡ answer_behind_nodes came
+-- of doors and bells that are as their host says of the calls, areas and minutes that they were asked for
+module _ (door_for : Option ℕ → Gate → Type 0) (bell_over : ℕ → ℕ → Option ℕ → Rings → Type 0) where
+  -- all nodes serve, or why none does
+  pub record ServesNodes (path : List ℕ) (calls : Option ℕ) (old new : Desk) (answer : RunAnswer) : Type 0 where
+    pub came : Result NodesEnd RunError
+    pub runs : RunsNodes door_for bell_over path calls old new came
+    pub is : answer ≡ answer_behind_nodes came
 
--- the run of these words, if they are a command line; where no tool is used and nobody is served, the host is asked for nothing
-abbrev pub AnswersWords : Option Words → ℕ → Desk → Desk → RunAnswer → Type 0
-AnswersWords None moment old new answer = (answer ≡ Err NoWords) × (new ≡ old)
-AnswersWords (Some (use_tool tool dir name)) moment old new answer = UsesTool tool moment dir name old new answer
-AnswersWords (Some (run_load seed count)) moment old new answer = Says (run_summary (load_run seed count)) answer × (new ≡ old)
-AnswersWords (Some (serve_one path)) moment old new answer = ServesLocal path old new answer
-AnswersWords (Some (serve_all path calls)) moment old new answer = ServesNodes path calls old new answer
-AnswersWords (Some show_help) moment old new answer = Says help_text answer × (new ≡ old)
+  -- the run of these words, if they are a command line; where no tool is used and nobody is served, the host is asked for nothing
+  abbrev pub AnswersWords : Option Words → ℕ → Desk → Desk → RunAnswer → Type 0
+  AnswersWords None moment old new answer = (answer ≡ Err NoWords) × (new ≡ old)
+  AnswersWords (Some (use_tool tool dir name)) moment old new answer = UsesTool tool moment dir name old new answer
+  AnswersWords (Some (run_load seed count)) moment old new answer = SaysText (run_summary (load_run seed count)) answer × (new ≡ old)
+  AnswersWords (Some (serve_one path)) moment old new answer = ServesLocal path old new answer
+  AnswersWords (Some (serve_all path calls)) moment old new answer = ServesNodes path calls old new answer
+  AnswersWords (Some show_help) moment old new answer = SaysText help_text answer × (new ≡ old)
 
 -- a write of the console failed, and only a beginning of these bytes was sent
 pub record StopsConsole (old new : Wire) (bytes : List ℕ) : Type 0 where
@@ -110,26 +115,32 @@ pub record KeepsInput (old new : Wire) : Type 0 where
   pub to_come : new.to_come ≡ old.to_come
   pub ends : new.ends ≡ old.ends
 
+-- all of these bytes were sent, and no write failed
+pub record SendsAll (old new : Wire) (bytes : List ℕ) : Type 0 where
+  pub sent : Sends old.sent bytes new.sent
+  pub unsent : new.unsent ≡ old.unsent
+  pub faults : new.faults ≡ old.faults
+
 -- these bytes were sent, or a beginning of them where the console failed
 abbrev pub IsSent : Wire → Wire → List ℕ → Type 0
-IsSent old new bytes = Sends old.sent bytes new.sent ⊎ StopsConsole old new bytes
+IsSent old new bytes = SendsAll old new bytes ⊎ StopsConsole old new bytes
 
 -- the answer is printed, and this is the status; behind a session and a run with many nodes nothing is
 abbrev pub IsPrinted : RunAnswer → ℕ → Wire → Wire → Type 0
-IsPrinted (Ok (Text text)) status old new = KeepsInput old new × (((status ≡ 0) × Sends old.sent text new.sent) ⊎ ((status ≡ 5) × StopsConsole old new text))
+IsPrinted (Ok (Text text)) status old new = KeepsInput old new × (((status ≡ 0) × SendsAll old new text) ⊎ ((status ≡ 5) × StopsConsole old new text))
 IsPrinted (Ok (Session end)) status old new = (status ≡ status_behind end) × (new ≡ old)
 IsPrinted (Ok (Nodes end)) status old new = (status ≡ status_behind_nodes end) × (new ≡ old)
 IsPrinted (Err fault) status old new = KeepsInput old new × (status ≡ status_of fault) × IsSent old new (fault_line fault)
 
 -- a whole run, at one moment: the first that a clock of the host gives, where it tells that
-pub record HasRun (words : List (List ℕ)) (old new : Desk) (status : ℕ) : Type 0 where
+pub record HasRun (door_for : Option ℕ → Gate → Type 0) (bell_over : ℕ → ℕ → Option ℕ → Rings → Type 0) (words : List (List ℕ)) (old new : Desk) (status : ℕ) : Type 0 where
   -- in seconds since 1970
   pub moment : ℕ
   pub shown : ForSome old.readings (λ readings. moment ≡ reading_of readings)
   -- what the words are answered, and the host then
   pub answer : RunAnswer
   pub mid : Desk
-  pub answers : AnswersWords (command_line_of words) moment old mid answer
+  pub answers : AnswersWords door_for bell_over (command_line_of words) moment old mid answer
   -- the answer is printed on the console, and nothing else of the host changes any more
   pub console : Wire
   pub console_is : mid.console ≡ Some console

@@ -7,8 +7,10 @@
 
 mod command;
 mod fault;
+mod laws;
 mod meaning;
 mod top;
 
 pub use fault::{Fault, Line};
+pub use laws::runs_are_complete;
 pub use top::board;

@@ -101,7 +101,7 @@ where
     <H::Door as Door>::Link: Send,
     H::Bell: Send,
     H::Clock: Send,
-    ensures { ServesNodes path.now calls (H.desk host.old) (H.desk host.new) result }
+    ensures { ServesNodes H.door_for H.bell_over path.now calls (H.desk host.old) (H.desk host.new) result }
 {
     Ok(Outcome::Nodes(serve_nodes(rt, alloc, host, path, calls)?))
 }
@@ -121,7 +121,7 @@ where
     H::Bell: Send,
     H::Clock: Send,
     requires { IsSome (H.desk host.old).console }
-    ensures found { AnswersWords (command_line_of (map string_bytes words.now)) moment
+    ensures found { AnswersWords H.door_for H.bell_over (command_line_of (map string_bytes words.now)) moment
         (H.desk host.old) (H.desk host.new) result }
     ensures console { IsSome (H.desk host.new).console }
 {
@@ -177,8 +177,8 @@ fn tell_refusal<H: Host>(
 /// command line. 2: the settings are refused. 3: the base is refused. 4: its disk failed, or an area is in doubt behind a session or a
 /// run with many nodes. 5: the host, the console or a door failed. 6: want of memory. 7: a session that was ended by three refused
 /// log-ins, or took all that it may take. Under a status other than 0 the console has one line that begins with `fault`, or, where the
-/// console itself failed, a beginning of what was to be printed; but nothing is printed behind a session or a run with many nodes. What the refusal means is told the operator where the host has
-/// a way to (`Host::note`).
+/// console itself failed, a beginning of what was to be printed; but nothing is printed behind a session or a run with many nodes. What
+/// the refusal means is told the operator where the host has a way to (`Host::note`).
 /// Nothing is read from the console but by a session. The host is asked for the disk of the base alone, at most once, or for the
 /// settings and then for the disk of each area, in order, and then for the doors of all nodes and the bell where many are served, and
 /// has all back when the call returns.
@@ -195,7 +195,7 @@ where
     H::Bell: Send,
     H::Clock: Send,
     requires { IsSome (H.desk host.old).console }
-    ensures { HasRun (map string_bytes words.now) (H.desk host.old) (H.desk host.new) result }
+    ensures { HasRun H.door_for H.bell_over (map string_bytes words.now) (H.desk host.old) (H.desk host.new) result }
 {
     let mut clock = host.clock();
     let moment = clock.now();
