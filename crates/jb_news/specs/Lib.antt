@@ -1,0 +1,17 @@
+pub mod Lines
+pub mod Reading
+pub mod Laws
+pub mod Words
+pub mod FirstWords
+pub mod Numbers
+pub mod Names
+pub mod NameLaws
+pub mod Verbs
+pub mod Commands
+pub mod Responses
+pub mod Groups
+pub mod Body
+pub mod Charsets
+pub mod Dates
+pub mod Headers
+pub mod Overview
