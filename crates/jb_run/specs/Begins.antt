@@ -86,6 +86,6 @@ pub record BeginsNone (Lines : Type 0) (path : List ℕ) (old new : Desk) (error
   -- the host has failed just where that is the refusal
   pub cause : error ≡ HostFault → Rose old.faults new.faults
   pub steady : (error ≡ HostFault → ⊥) → new.faults ≡ old.faults
-  -- and a disk that came back where the store of an area is
+  -- and a disk that came back had failed where the refusal is a fault of the store of an area
   pub no_fewer : old.failed ≤ new.failed
   pub store : (place : ℕ) → error ≡ Area place (Base StoreFault) → Rose old.failed new.failed

@@ -30,8 +30,8 @@ use Rattle.jb_shared.specs.Standing.{doubt_between}
 use Rattle.jb_shared.specs.declared.opening.Opening.{Opening}
 use Rattle.jb_shared.specs.declared.shared.SharedArea.{SharedArea}
 
--- what an area goes on from is just what its files open to, by the rules of the board, with no more slots than they allow; the opening
--- raised no count of faults; and whatever stood in the journal, the disk was recovered and then had files that hold the area at rest
+-- what an area goes on from is just what its files open to, where a record behind an open gate is growth safe, by the rules of the board,
+-- with no more slots than they allow; the opening raised no count of faults; and whatever stood in the journal, the disk was recovered and then had files that hold the area at rest
 pub record GoesOnFrom (by : AreaRules) (before : Device) (opening : Opening) : Type 0 where
   pub rules : opening.rules ≡ by
   pub few : length opening.loaded.slots ≤ by.slots
@@ -80,7 +80,7 @@ HoldsAt (InDoubt before after) device = ForSome device.contents (λ files. (load
 
 -- the disk is left as the history says: it has failed as often as the history tells, and the area is in doubt just where the
 -- device stopped the last call, which then has raised its count of faults. At each moment since the area was shared a crash left what opens
--- to the area after a beginning of the history, never of a shorter one than before
+-- to the area after a beginning of the history: up to some moment no more than each beginning, and from then on no less
 pub record LeavesArea (opening : Opening) (entries : List Entry) (is_doubtful : Bool) (after : Device) : Type 0 where
   pub history : IsHistory opening entries
   pub faults : last_faults opening.faults entries ≡ after.faults

@@ -30,7 +30,7 @@ pub record ServesOne (path : List ℕ) (old new : Desk) (end : LocalEnd) : Type 
   pub console_back : new.console ≡ Some console_after
   pub left : Option (List ℕ)
   pub served : Served board console (node_with old.readings from) end.session console_after (node_with left to)
-  -- the host counts each disk that came back and had failed; nothing else of it has changed
+  -- the host's count rises where a disk that came back had failed; nothing else of it has changed
   pub counted : CountsFailed (disk_faults afters) old.failed new.failed
   pub rest : KeepsRest old (record new { console = old.console; failed = old.failed })
 

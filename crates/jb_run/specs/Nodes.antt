@@ -44,7 +44,7 @@ module _ (door_for : Option ℕ → Gate → Type 0) (bell_over : ℕ → ℕ �
     -- a door has failed just where its node counts that, and so the host
     pub failed : end.door_failed ≡ any (map (λ tally. tally.door_failed) tallies)
     pub door : end.door_failed ≡ true → Rose old.failed new.failed
-    -- which counts each disk and door that came back and had failed; nothing else of it has changed
+    -- whose count rises where a disk or a door that came back had failed; nothing else of it has changed
     pub counted : CountsFailed (disk_faults afters + door_faults gates_after) old.failed new.failed
     pub rest : KeepsRest old (record new { waiting = old.waiting; doors = old.doors; bell = old.bell; failed = old.failed })
 
