@@ -1,7 +1,12 @@
 -- Worked lines and answers.
 use Rattle.std.proofs.Common.{◌≡◌, [], ◌∷◌, ◌++◌, refl, replicate, Some}
+use Rattle.std.proofs.Math.Utf8.{encode}
 use Rattle.std.specs.Fmt.{digits}
+use Rattle.std.specs.List.{concat}
 use Rattle.std.specs.Prelude.{codes}
+use Rattle.std.specs.Str.{chars, is_utf8}
+use Rattle.std.specs.Str.Lossy.{utf8_valid_len}
+use Rattle.base64.specs.Rfc4648.{encode_symbols}
 use Rattle.jb_text.specs.Date.{clock_of, date_text, month_and_day, year_and_day}
 use Rattle.jb_text.specs.Letter.{line}
 use Rattle.jb_news.specs.declared.command.NewsCommand.TheVariants as command
@@ -14,7 +19,9 @@ use Rattle.jb_news.specs.Body.{body_text}
 use Rattle.jb_news.specs.Commands.{command_of}
 use Rattle.jb_news.specs.Dates.{clock_line, mail_date}
 use Rattle.jb_news.specs.Groups.{article_line, chosen_line}
+use Rattle.jb_news.specs.Headers.{headers_text}
 use Rattle.jb_news.specs.Lines.{line_of}
+use Rattle.jb_news.specs.Overview.{first_fields, tab}
 use Rattle.jb_news.specs.Words.{words_of}
 
 -- a session of a reader
@@ -65,3 +72,32 @@ dates : (mail_date 1_000_000_000 ≡ codes "Sun, 09 Sep 2001 01:46:40 +0000") ×
     × (mail_date 1_709_210_096 ≡ codes "Thu, 29 Feb 2024 12:34:56 +0000") × (clock_line 1_000_000_000 ≡ line (codes "111 20010909014640"))
 unfolding date_text clock_of year_and_day month_and_day
 dates = (refl, refl, refl, refl)
+
+-- a subject with 35 letters `ü` that was cut in the next
+cut_subject : first_fields 5 (codes "a" ++ concat (replicate 35 (195 ∷ 188 ∷ [])) ++ 195 ∷ []) (codes "Ann")
+    ≡ codes "5" ++ tab ++ codes "=?UTF-8?B?YcO8w7zDvMO8w7zDvMO8w7zDvMO8w7zDvMO8w7zDvMO8w7zDvMO8?= "
+    ++ codes "=?UTF-8?B?w7zDvMO8w7zDvMO8w7zDvMO8w7zDvMO8w7zDvMO8w7w=?=" ++ tab ++ codes "\"Ann\" <board@jam.invalid>"
+unfolding digits utf8_valid_len is_utf8 chars encode encode_symbols
+cut_subject = refl
+
+-- an article of ASCII with the name `Jörg` of a terminal
+name_of_a_terminal : headers_text 1 (record {
+  number = 2;
+  from = 74 ∷ 148 ∷ codes "rg";
+  to = codes "Ann";
+  subject = codes "Hi";
+  msgid = [];
+  reply = [];
+  written = 1_000_000_000;
+  attribute = 0;
+  reply_to = 0;
+  reply_first = 0;
+  reply_next = 0;
+  text = codes "Good";
+})
+    ≡ line (codes "Path: jam.invalid!not-for-mail") ++ line (codes "From: =?IBM437?B?SpRyZw==?=") ++ line (codes " <board@jam.invalid>") ++ line (codes "Subject: Hi")
+    ++ line (codes "Date: Sun, 09 Sep 2001 01:46:40 +0000") ++ line (codes "Newsgroups: jam.1") ++ line (codes "Message-ID: <1.2@jam.invalid>")
+    ++ line (codes "X-JAM-To: Ann") ++ line (codes "MIME-Version: 1.0") ++ line (codes "Content-Type: text/plain; charset=UTF-8")
+    ++ line (codes "Content-Transfer-Encoding: 8bit")
+unfolding digits utf8_valid_len is_utf8 chars encode encode_symbols date_text clock_of year_and_day month_and_day
+name_of_a_terminal = refl

@@ -1,5 +1,5 @@
--- Bytes above 127 in a header (RFC 2047 sections 2, 4.1 and 5): words of base64 in the charset of the body.
-use Rattle.std.specs.Prelude.{ℕ, zero, suc, nat_le, nat_lt, ◌==◌, ◌&&◌, ◌||◌, Bool, not, List, [], ◌∷◌, ◌++◌, length, take, drop, map, codes, if◌then◌else◌}
+-- Bytes above 127 in a header (RFC 2047 sections 2, 4.1 and 5): words of base64 in the charset of the field.
+use Rattle.std.specs.Prelude.{ℕ, zero, suc, ◌+◌, nat_le, nat_lt, ◌==◌, ◌&&◌, ◌||◌, Bool, not, List, [], ◌∷◌, ◌++◌, length, take, drop, map, codes, if◌then◌else◌}
 use Rattle.std.specs.List.{list_any, slice_index}
 use Rattle.std.specs.Str.Lossy.{utf8_valid_len}
 use Rattle.base64.specs.Engines.{standard}
@@ -9,14 +9,28 @@ use Rattle.jb_text.specs.Shown.{shown, shown_byte}
 use Rattle.jb_news.specs.declared.charset.Charset.{Charset}
 use Rattle.jb_news.specs.declared.charset.Charset.TheVariants.{Utf8, Ibm437}
 
--- the charset of a body: UTF-8 where the bytes are, and else that of the terminals
+-- the charset of bytes: UTF-8 where they are, and else that of the terminals
 abbrev pub charset_of : List ℕ → Charset
-charset_of body = if utf8_valid_len body == length body then Utf8 else Ibm437
+charset_of bytes = if utf8_valid_len bytes == length bytes then Utf8 else Ibm437
 
 -- the name of a charset
 abbrev pub charset_name : Charset → List ℕ
 charset_name Utf8 = codes "UTF-8"
 charset_name Ibm437 = codes "IBM437"
+
+-- bytes that are as many as are kept, without a character of UTF-8 that they may have been cut in
+abbrev pub whole_characters : ℕ → List ℕ → List ℕ
+whole_characters most bytes =
+    let valid = utf8_valid_len bytes in
+    if (length bytes == most) && nat_le most (valid + 3) then take valid bytes else bytes
+
+-- a subject, of which 72 bytes may be kept
+abbrev pub whole_subject : List ℕ → List ℕ
+whole_subject subject = whole_characters 72 subject
+
+-- a name, of which 36 bytes may be kept
+abbrev pub whole_name : List ℕ → List ℕ
+whole_name name = whole_characters 36 name
 
 -- the byte is above 127
 abbrev pub is_high : ℕ → Bool
@@ -59,15 +73,15 @@ abbrev pub encoded : List ℕ → Charset → List ℕ → List ℕ
 encoded fold charset bytes = encoded_up_to (length bytes) fold charset bytes
 
 -- a field of a header: as it is shown, and in encoded words where a byte is above 127
-abbrev pub field_text : List ℕ → Charset → List ℕ → List ℕ
-field_text fold charset bytes = if list_any is_high bytes then encoded fold charset (shown bytes) else shown bytes
+abbrev pub field_text : List ℕ → List ℕ → List ℕ
+field_text fold bytes = if list_any is_high bytes then encoded fold (charset_of bytes) (shown bytes) else shown bytes
 
 -- a byte of a name: no quote and no backslash
 abbrev pub quoted_byte : ℕ → ℕ
 quoted_byte byte = if (byte == 34) || (byte == 92) then 63 else shown_byte byte
 
 -- the sender of an article: the name in quotes, or in encoded words where a byte is above 127
-abbrev pub sender_text : List ℕ → Charset → List ℕ → List ℕ
-sender_text fold charset name =
-    if list_any is_high name then encoded fold charset (map quoted_byte name) ++ fold ++ codes "<board@jam.invalid>"
+abbrev pub sender_text : List ℕ → List ℕ → List ℕ
+sender_text fold name =
+    if list_any is_high name then encoded fold (charset_of name) (map quoted_byte name) ++ fold ++ codes "<board@jam.invalid>"
     else codes "\"" ++ map quoted_byte name ++ codes "\" <board@jam.invalid>"

@@ -65,9 +65,9 @@ list_of [] = command.ListActive None
 list_of (word ∷ words) = list_by (list_kind word) words
 
 -- `GROUP` and what follows
-abbrev pub group_of : List (List ℕ) → NewsCommand
-group_of [] = command.Syntax
-group_of (word ∷ words) = alone (command.Group (group_name word)) words
+abbrev pub group_command : List (List ℕ) → NewsCommand
+group_command [] = command.Syntax
+group_command (word ∷ words) = alone (command.Group (group_name word)) words
 
 -- each number of an article
 abbrev pub all_numbers : NumberRange
@@ -108,14 +108,14 @@ target_of [] = None
 target_of (first ∷ rest) = if first == 60 then named_target rest else by_number (article_number (first ∷ rest))
 
 -- a part of an article, where a word names one
-abbrev pub shown : Part → Option Target → NewsCommand
-shown part None = command.Syntax
-shown part (Some article) = command.Show part article
+abbrev pub shown_part : Part → Option Target → NewsCommand
+shown_part part None = command.Syntax
+shown_part part (Some article) = command.Show part article
 
 -- a command that shows a part of an article, and what follows
 abbrev pub show_of : Part → List (List ℕ) → NewsCommand
 show_of part [] = command.Show part target.Current
-show_of part (word ∷ words) = alone (shown part (target_of word)) words
+show_of part (word ∷ words) = alone (shown_part part (target_of word)) words
 
 -- an overview of a range, where there is one
 abbrev pub over_range : Option NumberRange → NewsCommand
@@ -162,7 +162,7 @@ by_verb verb.Mode words = mode_of words
 by_verb verb.Help words = alone command.Help words
 by_verb verb.Quit words = alone command.Quit words
 by_verb verb.List words = list_of words
-by_verb verb.Group words = group_of words
+by_verb verb.Group words = group_command words
 by_verb verb.Listgroup words = listgroup_of words
 by_verb verb.Article words = show_of Article words
 by_verb verb.Head words = show_of Head words

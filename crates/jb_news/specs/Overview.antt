@@ -3,7 +3,7 @@ use Rattle.std.specs.Prelude.{ℕ, ◌==◌, List, [], ◌∷◌, ◌++◌, code
 use Rattle.jb_state.specs.declared.summary.Summary.{Summary}
 use Rattle.jb_state.specs.Short.{kept_of}
 use Rattle.jb_text.specs.Lines.{line_end}
-use Rattle.jb_news.specs.Charsets.{charset_of, field_text, sender_text}
+use Rattle.jb_news.specs.Charsets.{field_text, sender_text, whole_name, whole_subject}
 use Rattle.jb_news.specs.Dates.{mail_date}
 use Rattle.jb_news.specs.Names.{message_id}
 
@@ -14,7 +14,7 @@ tab = 9 ∷ []
 -- number, subject and sender, on one line
 abbrev pub first_fields : ℕ → List ℕ → List ℕ → List ℕ
 first_fields number subject from =
-    decimal number ++ tab ++ field_text (codes " ") (charset_of subject) subject ++ tab ++ sender_text (codes " ") (charset_of from) from
+    decimal number ++ tab ++ field_text (codes " ") (whole_subject subject) ++ tab ++ sender_text (codes " ") (whole_name from)
 
 -- the id of the article that it answers, where it answers one
 abbrev pub answered_id : ℕ → ℕ → List ℕ

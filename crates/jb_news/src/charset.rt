@@ -1,28 +1,67 @@
 //! Bytes above 127 in a header.
-ghost use Rattle.std.specs.Prelude.{◌≡◌, ◌≤◌, ◌++◌, take, drop, map, codes, IfOk, OnOk};
+ghost use Rattle.std.specs.Prelude.{◌≡◌, ◌≤◌, ◌++◌, length, take, drop, map, codes, IfOk, OnOk};
 ghost use Rattle.std.specs.List.{list_any};
-ghost use Rattle.jb_news.specs.Charsets.{begins_at, charset_name, charset_of, encoded, encoded_word, field_text, is_high, parting, piece_length, quoted_byte, sender_text};
+ghost use Rattle.std.specs.Str.Lossy.{utf8_valid_len};
+ghost use Rattle.jb_news.specs.Charsets.{begins_at, charset_name, charset_of, encoded, encoded_word, field_text, is_high, parting, piece_length, quoted_byte, sender_text, whole_characters, whole_name, whole_subject};
 
 use crate::writing::{append_shown, show};
 use base64::engine::general_purpose::STANDARD;
-use jb_base::{Bytes, OutOfMemory};
+use jb_base::{Bytes, MOST_NAME_BYTES, MOST_SUBJECT_BYTES, OutOfMemory};
 use std::alloc::Global;
 
-/// The charset of an article.
+/// The charset of a body, or of a field of a header.
 #[derive(Clone, Copy, PartialEq, Eq)]
 pub enum Charset {
     Utf8,
     Ibm437,
 }
 
-/// The charset of a body: UTF-8 where the bytes are, and else that of the terminals.
-pub(crate) fn charset_of(body: &[u8]) -> Charset
-    ensures { result ≡ charset_of body.now }
+/// How long the longest front is that is UTF-8.
+fn valid_length(bytes: &[u8]) -> usize
+    ensures value { result ≡ utf8_valid_len bytes.now }
+    ensures within { result ≤ length bytes.now }
 {
-    match str::from_utf8(body) {
-        Ok(_) => Charset::Utf8,
-        Err(_) => Charset::Ibm437,
+    match str::from_utf8(bytes) {
+        Ok(_) => bytes.len(),
+        Err(fault) => fault.valid_up_to(),
     }
+}
+
+/// The charset of bytes: UTF-8 where they are, and else that of the terminals.
+pub(crate) fn charset_of(bytes: &[u8]) -> Charset
+    ensures { result ≡ charset_of bytes.now }
+{
+    if valid_length(bytes) == bytes.len() {
+        Charset::Utf8
+    } else {
+        Charset::Ibm437
+    }
+}
+
+/// Bytes without a character of UTF-8 that they may have been cut in, where they are as many as lists and menus keep.
+fn whole_characters(most: usize, bytes: &[u8]) -> &[u8]
+    ensures { result.now ≡ whole_characters most bytes.now }
+{
+    let valid = valid_length(bytes);
+    if bytes.len() == most && most <= valid + 3 {
+        &bytes[..valid]
+    } else {
+        bytes
+    }
+}
+
+/// A subject without a character that it may have been cut in.
+pub(crate) fn whole_subject(subject: &[u8]) -> &[u8]
+    ensures { result.now ≡ whole_subject subject.now }
+{
+    whole_characters(MOST_SUBJECT_BYTES, subject)
+}
+
+/// A name without a character that it may have been cut in.
+pub(crate) fn whole_name(name: &[u8]) -> &[u8]
+    ensures { result.now ≡ whole_name name.now }
+{
+    whole_characters(MOST_NAME_BYTES, name)
 }
 
 /// The name of a charset.
@@ -138,17 +177,16 @@ pub(crate) fn append_field(
     alloc: Global,
     text: &mut Bytes,
     fold: &[u8],
-    charset: Charset,
     bytes: &[u8],
 ) -> Result<(), OutOfMemory>
-    ensures { OnOk result (text.new ≡ text.old ++ field_text fold.now charset bytes.now) }
+    ensures { OnOk result (text.new ≡ text.old ++ field_text fold.now bytes.now) }
 {
     if !has_high(bytes) {
         return append_shown(text, bytes);
     }
     let mut field = Bytes::new(alloc);
     append_shown(&mut field, bytes)?;
-    append_encoded(alloc, text, fold, charset, field.as_slice())
+    append_encoded(alloc, text, fold, charset_of(bytes), field.as_slice())
 }
 
 /// A byte of a name: no quote and no backslash.
@@ -206,14 +244,13 @@ pub(crate) fn append_sender(
     alloc: Global,
     text: &mut Bytes,
     fold: &[u8],
-    charset: Charset,
     name: &[u8],
 ) -> Result<(), OutOfMemory>
-    ensures { OnOk result (text.new ≡ text.old ++ sender_text fold.now charset name.now) }
+    ensures { OnOk result (text.new ≡ text.old ++ sender_text fold.now name.now) }
 {
     let bytes = quoted(alloc, name)?;
     if has_high(name) {
-        return append_encoded_sender(alloc, text, fold, charset, bytes.as_slice());
+        return append_encoded_sender(alloc, text, fold, charset_of(name), bytes.as_slice());
     }
     append_quoted_sender(text, bytes.as_slice())
 }

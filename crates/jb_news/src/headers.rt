@@ -1,12 +1,14 @@
 //! The headers of an article.
 ghost use Rattle.std.specs.Prelude.{◌≡◌, ◌++◌, OnOk, codes};
 ghost use Rattle.jb_text.specs.Letter.{heading};
-ghost use Rattle.jb_news.specs.Charsets.{charset_name, field_text, folded, sender_text};
+ghost use Rattle.jb_news.specs.Charsets.{charset_name, field_text, folded, sender_text, whole_name};
 ghost use Rattle.jb_news.specs.Dates.{mail_date};
 ghost use Rattle.jb_news.specs.Names.{group_text, message_id};
 ghost use Rattle.jb_news.specs.Headers.{first_headers, headers_text, mime_headers, names_text, references_text};
 
-use crate::charset::{Charset, append_field, append_sender, charset_name, charset_of};
+use crate::charset::{
+    Charset, append_field, append_sender, charset_name, charset_of, whole_name, whole_subject,
+};
 use crate::dates::append_mail_date;
 use crate::writing::{append_group, append_id};
 use jb_base::{Bytes, OutOfMemory};
@@ -19,43 +21,32 @@ fn append_heading(
     alloc: Global,
     text: &mut Bytes,
     label: &[u8],
-    charset: Charset,
     bytes: &[u8],
 ) -> Result<(), OutOfMemory>
-    ensures { OnOk result (text.new ≡ text.old ++ heading label.now (field_text folded charset bytes.now)) }
+    ensures { OnOk result (text.new ≡ text.old ++ heading label.now (field_text folded bytes.now)) }
 {
     text.append(label)?;
-    append_field(alloc, text, b"\r\n ", charset, bytes)?;
+    append_field(alloc, text, b"\r\n ", bytes)?;
     append_line_end(text)?;
     Ok(())
 }
 
 /// Puts the sender behind a text.
-fn append_from(
-    alloc: Global,
-    text: &mut Bytes,
-    charset: Charset,
-    from: &[u8],
-) -> Result<(), OutOfMemory>
-    ensures { OnOk result (text.new ≡ text.old ++ heading (codes "From: ") (sender_text folded charset from.now)) }
+fn append_from(alloc: Global, text: &mut Bytes, from: &[u8]) -> Result<(), OutOfMemory>
+    ensures { OnOk result (text.new ≡ text.old ++ heading (codes "From: ") (sender_text folded (whole_name from.now))) }
 {
     text.append(b"From: ")?;
-    append_sender(alloc, text, b"\r\n ", charset, from)?;
+    append_sender(alloc, text, b"\r\n ", whole_name(from))?;
     append_line_end(text)?;
     Ok(())
 }
 
 /// Puts the way and the sender behind a text.
-fn append_first(
-    alloc: Global,
-    text: &mut Bytes,
-    charset: Charset,
-    from: &[u8],
-) -> Result<(), OutOfMemory>
-    ensures { OnOk result (text.new ≡ text.old ++ first_headers charset from.now) }
+fn append_first(alloc: Global, text: &mut Bytes, from: &[u8]) -> Result<(), OutOfMemory>
+    ensures { OnOk result (text.new ≡ text.old ++ first_headers from.now) }
 {
     text.append(b"Path: jam.invalid!not-for-mail\r\n")?;
-    append_from(alloc, text, charset, from)?;
+    append_from(alloc, text, from)?;
     Ok(())
 }
 
@@ -142,19 +133,17 @@ pub fn append_headers(
 ) -> Result<(), OutOfMemory>
     ensures { OnOk result (text.new ≡ text.old ++ headers_text area letter.now) }
 {
-    let charset = charset_of(letter.text.as_slice());
-    append_first(alloc, text, charset, letter.from.as_slice())?;
+    append_first(alloc, text, letter.from.as_slice())?;
     append_heading(
         alloc,
         text,
         b"Subject: ",
-        charset,
-        letter.subject.as_slice(),
+        whole_subject(letter.subject.as_slice()),
     )?;
     append_date(text, letter.written)?;
     append_names(text, area, letter.number)?;
     append_references(text, area, letter.reply_to)?;
-    append_heading(alloc, text, b"X-JAM-To: ", charset, letter.to.as_slice())?;
-    append_mime(text, charset)?;
+    append_heading(alloc, text, b"X-JAM-To: ", whole_name(letter.to.as_slice()))?;
+    append_mime(text, charset_of(letter.text.as_slice()))?;
     Ok(())
 }

@@ -10,7 +10,7 @@ use itoa::Buffer;
 use jb_text::number_up_to;
 
 /// The greatest number of an article (RFC 3977 section 6).
-pub(crate) const MOST_ARTICLE: u32 = 2_147_483_647;
+pub const MOST_ARTICLE: u32 = 2_147_483_647;
 
 /// Article numbers from one to another: none where the last is below the first.
 #[derive(Clone, Copy)]

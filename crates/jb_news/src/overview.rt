@@ -2,7 +2,7 @@
 ghost use Rattle.std.specs.Prelude.{◌≡◌, ◌++◌, OnOk};
 ghost use Rattle.jb_news.specs.Overview.{answered_id, first_fields, last_fields, overview_line};
 
-use crate::charset::{append_field, append_sender, charset_of};
+use crate::charset::{append_field, append_sender, whole_name, whole_subject};
 use crate::dates::append_mail_date;
 use crate::writing::{append_id, append_number};
 use jb_base::{Bytes, OutOfMemory};
@@ -21,9 +21,9 @@ fn append_first_fields(
 {
     append_number(text, number)?;
     text.append(b"\t")?;
-    append_field(alloc, text, b" ", charset_of(subject), subject)?;
+    append_field(alloc, text, b" ", whole_subject(subject))?;
     text.append(b"\t")?;
-    append_sender(alloc, text, b" ", charset_of(from), from)?;
+    append_sender(alloc, text, b" ", whole_name(from))?;
     Ok(())
 }
 

@@ -1,6 +1,6 @@
 //! From a line to what it asks for.
 ghost use Rattle.std.specs.Prelude.{◌≡◌, ◌≤◌, length};
-ghost use Rattle.jb_news.specs.Commands.{all_numbers, alone, by_verb, by_words, command_of, group_of, in_range, is_date, is_time, list_by, list_of, listgroup_in, listgroup_of, mode_of, named_target, newgroups_of, newgroups_since, one_wildmat, over_of, over_target, show_of, shown, target_of, with_one, with_wildmat, zone_of};
+ghost use Rattle.jb_news.specs.Commands.{all_numbers, alone, by_verb, by_words, command_of, group_command, in_range, is_date, is_time, list_by, list_of, listgroup_in, listgroup_of, mode_of, named_target, newgroups_of, newgroups_since, one_wildmat, over_of, over_target, show_of, shown_part, target_of, with_one, with_wildmat, zone_of};
 ghost use Rattle.jb_news.specs.Words.{words_of};
 
 use crate::command::{NewsCommand, OverTarget, Part, Target};
@@ -95,8 +95,8 @@ fn list_of(rest: &[u8]) -> NewsCommand
 }
 
 /// What `GROUP` asks for.
-fn group_of(rest: &[u8]) -> NewsCommand
-    ensures { result ≡ group_of (words_of rest.now) }
+fn group_command(rest: &[u8]) -> NewsCommand
+    ensures { result ≡ group_command (words_of rest.now) }
 {
     match first_word(rest) {
         None => NewsCommand::Syntax,
@@ -174,8 +174,8 @@ fn target_of(word: &[u8]) -> Option<Target>
 }
 
 /// A part of an article, where a word names one.
-fn shown(part: Part, target: Option<Target>) -> NewsCommand
-    ensures { result ≡ shown part target }
+fn shown_part(part: Part, target: Option<Target>) -> NewsCommand
+    ensures { result ≡ shown_part part target }
 {
     match target {
         None => NewsCommand::Syntax,
@@ -189,7 +189,7 @@ fn show_of(part: Part, rest: &[u8]) -> NewsCommand
 {
     match first_word(rest) {
         None => NewsCommand::Show(part, Target::Current),
-        Some(first) => alone(shown(part, target_of(first.word)), first.behind),
+        Some(first) => alone(shown_part(part, target_of(first.word)), first.behind),
     }
 }
 
@@ -292,7 +292,7 @@ fn by_verb(verb: Verb, rest: &[u8]) -> NewsCommand
         Verb::Help => alone(NewsCommand::Help, rest),
         Verb::Quit => alone(NewsCommand::Quit, rest),
         Verb::List => list_of(rest),
-        Verb::Group => group_of(rest),
+        Verb::Group => group_command(rest),
         Verb::Listgroup => listgroup_of(rest),
         Verb::Article => show_of(Part::Article, rest),
         Verb::Head => show_of(Part::Head, rest),

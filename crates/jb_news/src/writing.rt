@@ -32,7 +32,7 @@ pub(crate) fn append_number(text: &mut Bytes, number: u32) -> Result<(), OutOfMe
 }
 
 /// Puts the name of a group behind a text.
-pub(crate) fn append_group(text: &mut Bytes, area: u32) -> Result<(), OutOfMemory>
+pub fn append_group(text: &mut Bytes, area: u32) -> Result<(), OutOfMemory>
     ensures { OnOk result (text.new ≡ text.old ++ group_text area) }
 {
     text.append(b"jam.")?;

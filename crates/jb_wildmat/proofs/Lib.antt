@@ -1,0 +1,4 @@
+pub mod AlongLemmas
+pub mod EndLemmas
+pub mod LastWord
+mod Rows
