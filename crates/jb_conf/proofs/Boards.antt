@@ -15,7 +15,7 @@ use Rattle.jb_conf.specs.Areas.{area_fault, area_of, areas_fault, areas_of, rule
 use Rattle.jb_conf.specs.Users.{user_fault, user_of, users_fault, users_of}
 use Rattle.jb_conf.specs.Faults.{fault_if, tables_at, text_at, whole_at}
 use Rattle.jb_conf.specs.InRange.{AreAreasInRange, AreUsersInRange, HasCount, IsAreaInRange, IsInRange, IsUserInRange}
-use Rattle.jb_conf.specs.Rows.{area_kind_fault, number_at, number_fault}
+use Rattle.jb_conf.specs.Rows.{area_kind_fault, given_number, number_at, number_fault}
 use Rattle.jb_conf.specs.Settings.{board_fault}
 use Rattle.jb_conf.specs.declared.board.BoardArea.{BoardArea}
 use Rattle.jb_conf.specs.declared.board.BoardUser.{BoardUser}
@@ -24,7 +24,7 @@ use Rattle.jb_conf.specs.declared.field.AreaKey.TheVariants as area_key
 use Rattle.jb_conf.specs.declared.field.UserKey.TheVariants as user_key
 use Rattle.jb_conf.specs.declared.field.BoardKey.TheVariants as board_key
 use Rattle.jb_conf.specs.declared.error.ConfError.TheVariants.{OutOfRange}
-use Rattle.jb_conf.proofs.Bounds.{address_bounds, from_not, minutes_bounds, none_each, none_if, none_of, number_bounds, other_name, other_number, other_place, printable_bounds, short_bounds, sized_bounds, tables_bounds}
+use Rattle.jb_conf.proofs.Bounds.{address_bounds, from_not, minutes_bounds, news_bounds, none_each, none_if, none_of, number_bounds, other_name, other_number, other_place, printable_bounds, short_bounds, sized_bounds, tables_bounds}
 
 -- what an area that passes is, beside those before it
 record AreaPasses (address : List ℕ) (before : List BoardArea) (area : BoardArea) (place : ℕ) : Type 0 where
@@ -193,6 +193,8 @@ pub values_in_range : (entries : Members) → board_fault entries ≡ None → I
     (number_at (OfBoard board_key.Nodes) (Some 1) entries)
     (whole_at (OfBoard board_key.Offset) (pos 0) entries)
     (number_at (OfBoard board_key.PackMinutes) (Some 60) entries)
+    (given_number (OfBoard board_key.NewsPort) entries)
+    (number_at (OfBoard board_key.NewsLevel) (Some 0) entries)
     (areas_of (text_at (OfBoard board_key.Address) [] entries) [] (tables_at (OfBoard board_key.Areas) entries))
     (users_of [] (tables_at (OfBoard board_key.Users) entries))
 unfolding board_fault
@@ -203,7 +205,9 @@ values_in_range entries e =
     let nodes = none_each _ _ port.1 in
     let offset = none_each _ _ nodes.1 in
     let pack = none_each _ _ offset.1 in
-    let area_tables = none_each _ _ pack.1 in
+    let news = none_each _ _ pack.1 in
+    let level = none_each _ _ news.1 in
+    let area_tables = none_each _ _ level.1 in
     let user_tables = none_each _ _ area_tables.1 in
     let areas = none_each _ _ user_tables.1 in
     let users = none_each _ _ areas.1 in
@@ -222,6 +226,8 @@ values_in_range entries e =
       offset_least = minutes.0;
       offset_most = minutes.1;
       pack_most = (number_bounds (OfBoard board_key.PackMinutes) (Some 60) 0 10080 entries pack.0).1;
+      news_most = news_bounds (number_at (OfBoard board_key.Port) (Some 2323) entries) (number_at (OfBoard board_key.Nodes) (Some 1) entries) entries news.0;
+      news_level_most = (number_bounds (OfBoard board_key.NewsLevel) (Some 0) 0 255 entries level.0).1;
       area_count = same_count 1 MOST_AREAS _ (tables_at (OfBoard board_key.Areas) entries) (length-areas_of at [] (tables_at (OfBoard board_key.Areas) entries)) (tables_bounds (OfBoard board_key.Areas) MOST_AREAS entries area_tables.0);
       area_values = areas_in_range at [] (tables_at (OfBoard board_key.Areas) entries) (no_areas at) areas.0;
       user_count = same_count 1 MOST_USERS _ (tables_at (OfBoard board_key.Users) entries) (length-users_of [] (tables_at (OfBoard board_key.Users) entries)) (tables_bounds (OfBoard board_key.Users) MOST_USERS entries user_tables.0);

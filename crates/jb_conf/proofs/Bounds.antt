@@ -1,20 +1,23 @@
 -- What a field that is not refused tells of its value.
-use Rattle.std.proofs.Common.{◌≡◌, ◌≤◌, ◌<◌, ◌≤ℤ◌, ◌&&◌, ◌||◌, ◌==◌, ℕ, ℤ, pos, negsuc, suc, zero, Bool, true, false, not, List, [], ◌∷◌, Option, Some, None, length, get_or, refl, sym, ◌∙◌, arith}
-use Rattle.std.specs.Prelude.{bytes_eq, int_le, nat_abs, unwrap_or}
+use Rattle.std.proofs.Common.{◌≡◌, ◌≤◌, ◌<◌, ◌≤ℤ◌, ◌&&◌, ◌||◌, ◌==◌, ℕ, ℤ, pos, negsuc, suc, zero, Bool, true, false, not, List, [], ◌∷◌, Option, Some, None, length, get_or, is_some, ap, refl, sym, ◌∙◌, arith}
+use Rattle.std.specs.Prelude.{bytes_eq, int_le, nat_abs, nat_lt, option_and_then, unwrap_or}
 use Rattle.std.specs.List.{list_all, list_any}
-use Rattle.std.specs.Option.{option_or}
+use Rattle.std.specs.Option.{ForSome, option_map, option_or}
 use Rattle.std.proofs.lemmas.Bool.{and_parts, false≢true}
 use Rattle.std.proofs.lemmas.Bool.Decides.{nat_tests}
 use Rattle.std.proofs.lemmas.Int.{ints}
 use Rattle.std.proofs.lemmas.Slice.Eq.{bytes_eq-Decides}
-use Rattle.toml.specs.Data.{Data, Members}
+use Rattle.toml.specs.Data.{Data, Members, as_integer}
 use Rattle.jb_bytes.specs.Name.{SameName, same_name}
 use Rattle.jb_base.proofs.Access.{same_name-decides}
-use Rattle.jb_conf.specs.Faults.{fault_if, field_fault, text_at, whole_at, tables_at}
+use Rattle.jb_limits.specs.declared.limits.TheConstants.{MOST_NODES}
+use Rattle.jb_conf.specs.Faults.{at_field, fault_if, field_fault, text_at, whole_at, tables_at}
 use Rattle.jb_conf.specs.InRange.{HasCount}
 use Rattle.jb_conf.specs.Ranges.{is_address_byte, is_between, is_printed, is_sized}
-use Rattle.jb_conf.specs.Rows.{address_fault, number_at, number_fault, printable_fault, short_fault, sized_fault, tables_fault, whole_fault}
+use Rattle.jb_conf.specs.Rows.{address_fault, given_number, news_port_fault, number_at, number_fault, printable_fault, short_fault, sized_fault, tables_fault, whole_fault}
 use Rattle.jb_conf.specs.declared.field.Field.{Field}
+use Rattle.jb_conf.specs.declared.field.Field.TheVariants.{Board}
+use Rattle.jb_conf.specs.declared.field.BoardKey.TheVariants.{NewsPort}
 use Rattle.jb_conf.specs.declared.error.ConfError.{ConfError}
 use Rattle.jb_conf.specs.declared.error.ConfError.TheVariants.{OutOfRange}
 
@@ -85,6 +88,21 @@ pub number_bounds : (field : Field) (absent : Option ℕ) (least most : ℕ) (en
 unfolding number_fault whole_fault number_at
 number_bounds field absent least most entries e =
     between_bounds least most (whole_at field (pos (unwrap_or absent 0)) entries) (fits field _ _ _ entries e)
+
+-- a port of news in its range, beside nodes that leave it a pass
+news_between : (port : Option ℤ) (nodes : ℕ) → nat_abs (unwrap_or port (pos 0)) ≤ 65535 → (is_some (option_map nat_abs port) && not (nat_lt nodes MOST_NODES)) ≡ false
+    → ForSome (option_map nat_abs port) (λ number. (number ≤ 65535) × (nodes < MOST_NODES))
+news_between None nodes few room number e = absurd cc
+news_between (Some port) nodes few room number e = (omega (arith, ap (λ o. unwrap_or o 0) e, few), grind (arith, nat_tests))
+
+-- a port of news that is not refused
+pub news_bounds : (port nodes : ℕ) (entries : Members) → news_port_fault port nodes entries ≡ None
+    → ForSome (given_number (Board NewsPort) entries) (λ port. (port ≤ 65535) × (nodes < MOST_NODES))
+unfolding news_port_fault given_number number_at
+news_bounds port nodes entries e =
+    let parts = none_each _ _ e in
+    let fits = number_bounds (Board NewsPort) (Some 0) 0 65535 entries parts.0 in
+    news_between (option_and_then as_integer (at_field (Board NewsPort) entries)) nodes fits.1 (none_if _ _ (none_each _ _ parts.1).0)
 
 -- minutes from -840 to 840
 minutes_between : (value : ℤ) → is_between (negsuc 839) (pos 840) value ≡ true → (negsuc 839 ≤ℤ value) × (value ≤ℤ pos 840)

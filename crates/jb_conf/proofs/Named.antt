@@ -5,7 +5,7 @@ use Rattle.std.proofs.lemmas.Bool.{false≢true}
 use Rattle.toml.specs.Data.{Data, Members}
 use Rattle.jb_conf.specs.Areas.{area_fault, area_of, areas_fault, rules_fault}
 use Rattle.jb_conf.specs.Faults.{fault_if, field_fault, kind_fault}
-use Rattle.jb_conf.specs.Rows.{address_fault, area_kind_fault, digest_fault, number_fault, printable_fault, short_fault, sized_fault, tables_fault, whole_fault}
+use Rattle.jb_conf.specs.Rows.{address_fault, area_kind_fault, digest_fault, news_port_fault, number_fault, printable_fault, short_fault, sized_fault, tables_fault, whole_fault}
 use Rattle.jb_conf.specs.Settings.{board_fault}
 use Rattle.jb_conf.specs.Users.{user_fault, user_of, users_fault}
 use Rattle.jb_conf.specs.declared.board.BoardArea.{BoardArea}
@@ -77,6 +77,10 @@ number_named : (field : Field) (absent : Option ℕ) (least most : ℕ) (entries
 unfolding number_fault
 number_named field absent least most entries = whole_named field _ _ _ _ entries
 
+news_named : (port nodes : ℕ) (entries : Members) → is_named (news_port_fault port nodes entries) ≡ true
+unfolding news_port_fault
+news_named port nodes entries = search (rules, named_or, named_if, number_named)
+
 digest_named : (place : ℕ) (entries : Members) → is_named (digest_fault place entries) ≡ true
 unfolding digest_fault
 digest_named place entries = search (rules, named_or, named_if, kind_named)
@@ -107,7 +111,7 @@ users_named before (entries ∷ rest) =
 
 board_named : (entries : Members) → is_named (board_fault entries) ≡ true
 unfolding board_fault
-board_named entries = search (rules, named_or, printable_named, address_named, number_named, whole_named, tables_named, areas_named, users_named)
+board_named entries = search (rules, named_or, printable_named, address_named, number_named, whole_named, news_named, tables_named, areas_named, users_named)
 
 -- no document is refused as none
 pub never_not_toml : (entries : Members) → board_fault entries ≡ Some NotToml → ⊥

@@ -1,10 +1,10 @@
 -- What the tests of a whole number tell.
-use Rattle.std.proofs.Common.{◌≡◌, ◌≤◌, ℕ, ℤ, pos, Bool, true, false, Some, None, refl, arith}
+use Rattle.std.proofs.Common.{◌≡◌, ◌≤◌, ℕ, ℤ, pos, Bool, true, false, Option, Some, None, refl, arith}
 use Rattle.std.proofs.lemmas.Bool.Decides.{nat_tests}
 use Rattle.toml.specs.Data.{Data, Members, as_integer}
 use Rattle.jb_conf.specs.Faults.{at_field, is_whole, whole_at}
 use Rattle.jb_conf.specs.Ranges.{is_between}
-use Rattle.jb_conf.specs.Rows.{whole_fault}
+use Rattle.jb_conf.specs.Rows.{given_number, number_at, number_fault, whole_fault}
 use Rattle.jb_conf.specs.declared.field.Field.{Field}
 use Rattle.jb_conf.specs.declared.error.ConfError.TheVariants.{Missing, OutOfRange, WrongKind}
 use Rattle.jb_conf.proofs.FieldFaults.{field_passes, kind_refused, range_refused}
@@ -45,6 +45,16 @@ unfolding whole_fault
 number_outside field must absent least most number entries found e is fits =
     let kind = whole_found field must absent number entries found e is in
     range_refused field must is_whole (is_between least most) number (whole_at field absent entries) entries (OutOfRange field) kind.0 kind.1 (rw fits refl)
+
+-- a number that is there and not refused
+pub number_given : (field : Field) (least most : ℕ) (entries : Members) (found : Data) → Some found ≡ at_field field entries → number_fault field (Some 0) least most entries ≡ None
+    → Some (number_at field (Some 0) entries) ≡ given_number field entries
+unfolding number_fault number_at given_number
+number_given field least most entries found e passes = told (as_integer found) refl
+  where
+    told : (whole : Option ℤ) → whole ≡ as_integer found → Some (number_at field (Some 0) entries) ≡ given_number field entries
+    told None is = absurd (let refused = number_other field false (pos 0) (pos least) (pos most) entries found e is in cc)
+    told (Some whole) is = rw (← e, ← is) refl
 
 -- the test of a number between two others
 pub between : (least most n : ℕ) → least ≤ n → n ≤ most → is_between (pos least) (pos most) (pos n) ≡ true

@@ -1,6 +1,7 @@
 -- What holds of each board.
-use Rattle.std.specs.Prelude.{◌≡◌, ℕ, ℤ, pos, negsuc, ◌+◌, ◌<◌, ◌≤◌, ◌≤ℤ◌, IsTrue, List, length, slice_index_or, All, AllPairs}
+use Rattle.std.specs.Prelude.{◌≡◌, ℕ, ℤ, pos, negsuc, ◌+◌, ◌<◌, ◌≤◌, ◌≤ℤ◌, IsTrue, List, length, Option, slice_index_or, All, AllPairs}
 use Rattle.std.specs.List.{list_all}
+use Rattle.std.specs.Option.{ForSome}
 use Rattle.jb_bytes.specs.Name.{SameName}
 use Rattle.jb_limits.specs.declared.limits.TheConstants.{MOST_AREAS, MOST_NODES, MOST_SLOTS, MOST_SLOTS_TOGETHER, MOST_USERS}
 use Rattle.jb_conf.specs.Areas.{slots_of}
@@ -45,7 +46,7 @@ pub record AreUsersInRange (users : List BoardUser) : Type 0 where
   pub ids : AllPairs (λ one other. one.user.id ≡ other.user.id → ⊥) users
 
 -- all values of a board are in their ranges
-pub record IsInRange (name address : List ℕ) (nodes : ℕ) (offset : ℤ) (pack_minutes : ℕ) (areas : List BoardArea) (users : List BoardUser) : Type 0 where
+pub record IsInRange (name address : List ℕ) (nodes : ℕ) (offset : ℤ) (pack_minutes : ℕ) (news_port : Option ℕ) (news_level : ℕ) (areas : List BoardArea) (users : List BoardUser) : Type 0 where
   pub name_count : HasCount 1 36 name
   pub name_bytes : IsTrue (list_all is_printed name)
   pub address_count : HasCount 1 24 address
@@ -55,6 +56,8 @@ pub record IsInRange (name address : List ℕ) (nodes : ℕ) (offset : ℤ) (pac
   pub offset_least : negsuc 839 ≤ℤ offset
   pub offset_most : offset ≤ℤ pos 840
   pub pack_most : pack_minutes ≤ 10080
+  pub news_most : ForSome news_port (λ port. (port ≤ 65535) × (nodes < MOST_NODES))
+  pub news_level_most : news_level ≤ 255
   pub area_count : HasCount 1 MOST_AREAS areas
   pub area_values : AreAreasInRange address areas
   pub user_count : HasCount 1 MOST_USERS users

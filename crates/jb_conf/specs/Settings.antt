@@ -7,10 +7,10 @@ use Rattle.jb_conf.specs.Areas.{areas_fault, areas_of}
 use Rattle.jb_conf.specs.Unknown.{unknown_of}
 use Rattle.jb_conf.specs.Users.{users_fault, users_of}
 use Rattle.jb_conf.specs.Faults.{ValueOrFault, AnswersOrMemory, first_fault, tables_at, text_at, whole_at}
-use Rattle.jb_conf.specs.Rows.{address_fault, number_at, number_fault, printable_fault, tables_fault, whole_fault}
+use Rattle.jb_conf.specs.Rows.{address_fault, given_number, news_port_fault, number_at, number_fault, printable_fault, tables_fault, whole_fault}
 use Rattle.jb_conf.specs.declared.board.Board.{Board}
 use Rattle.jb_conf.specs.declared.field.Field.TheVariants.{Board as OfBoard}
-use Rattle.jb_conf.specs.declared.field.BoardKey.TheVariants.{Name, Address, Port, Nodes, Offset, PackMinutes, Areas, Users}
+use Rattle.jb_conf.specs.declared.field.BoardKey.TheVariants.{Name, Address, Port, Nodes, Offset, PackMinutes, NewsPort, NewsLevel, Areas, Users}
 use Rattle.jb_conf.specs.declared.error.ConfError.{ConfError}
 use Rattle.jb_conf.specs.declared.error.ConfError.TheVariants.{NotToml, OutOfMemory}
 
@@ -22,6 +22,8 @@ pub record IsBoardOf (entries : Members) (board : Board) : Type 0 where
   pub nodes : board.nodes ≡ number_at (OfBoard Nodes) (Some 1) entries
   pub offset : board.offset ≡ whole_at (OfBoard Offset) (pos 0) entries
   pub pack_minutes : board.pack_minutes ≡ number_at (OfBoard PackMinutes) (Some 60) entries
+  pub news_port : board.news_port ≡ given_number (OfBoard NewsPort) entries
+  pub news_level : board.news_level ≡ number_at (OfBoard NewsLevel) (Some 0) entries
   pub areas : board.areas ≡ areas_of (text_at (OfBoard Address) [] entries) [] (tables_at (OfBoard Areas) entries)
   pub users : board.users ≡ users_of [] (tables_at (OfBoard Users) entries)
   pub unknown : board.unknown ≡ unknown_of entries
@@ -35,6 +37,8 @@ board_fault entries = first_fault (
     ∷ number_fault (OfBoard Nodes) (Some 1) 1 MOST_NODES entries
     ∷ whole_fault (OfBoard Offset) false (pos 0) (negsuc 839) (pos 840) entries
     ∷ number_fault (OfBoard PackMinutes) (Some 60) 0 10080 entries
+    ∷ news_port_fault (number_at (OfBoard Port) (Some 2323) entries) (number_at (OfBoard Nodes) (Some 1) entries) entries
+    ∷ number_fault (OfBoard NewsLevel) (Some 0) 0 255 entries
     ∷ tables_fault (OfBoard Areas) MOST_AREAS entries
     ∷ tables_fault (OfBoard Users) MOST_USERS entries
     ∷ areas_fault (text_at (OfBoard Address) [] entries) [] (tables_at (OfBoard Areas) entries)

@@ -15,7 +15,7 @@ use Rattle.jb_conf.specs.declared.unknown.Sort.TheVariants.{OfBoard, OfArea, OfU
 -- the fields of a table of this sort
 abbrev pub fields_of : Sort → List Field
 fields_of OfBoard =
-    map Board (board.Name ∷ board.Address ∷ board.Port ∷ board.Nodes ∷ board.Offset ∷ board.PackMinutes ∷ board.Areas ∷ board.Users ∷ [])
+    map Board (board.Name ∷ board.Address ∷ board.Port ∷ board.Nodes ∷ board.Offset ∷ board.PackMinutes ∷ board.NewsPort ∷ board.NewsLevel ∷ board.Areas ∷ board.Users ∷ [])
 fields_of OfArea = map (Area 1) (area.Name ∷ area.Dir ∷ area.Base ∷ area.Kind ∷ area.Read ∷ area.Post ∷ area.Sysop ∷ area.Slots ∷ [])
 fields_of OfUser = map (User 1) (user.Name ∷ user.Id ∷ user.Level ∷ user.Salt ∷ user.Digest ∷ [])
 

@@ -1,14 +1,13 @@
 //! One area of the settings file, read behind those before it.
-ghost use Rattle.std.specs.Prelude.{◌≡◌, ◌+◌, ◌≤◌, Some, IfOk};
+ghost use Rattle.std.specs.Prelude.{◌≡◌, ◌+◌, ◌≤◌, IfOk};
 ghost use Rattle.toml.specs.View.{table_view};
 ghost use Rattle.jb_bytes.specs.Name.{same_name};
 ghost use Rattle.jb_limits.specs.declared.limits.TheConstants.{MOST_SLOTS_TOGETHER};
 ghost use Rattle.jb_conf.specs.Areas.{area_fault, area_of, has_area_name, has_place, rules_fault, rules_of, slots_of};
-ghost use Rattle.jb_conf.specs.Faults.{ValueOrFault, AnswersOrMemory};
-ghost use Rattle.jb_conf.specs.Rows.{number_at, number_fault};
+ghost use Rattle.jb_conf.specs.Faults.{AnswersOrMemory};
 
 use crate::document::{unrepeated, within};
-use crate::rows::{area_kind, number, printable, sized};
+use crate::rows::{area_kind, level, number, printable, sized};
 use crate::{AreaKey, BoardArea, ConfError, Field, Text};
 use jb_base::{AreaRules, Bytes, MOST_SLOTS, MOST_SLOTS_TOGETHER, Name, OutOfMemory};
 use std::alloc::Global;
@@ -40,15 +39,6 @@ fn has_place(dir: &str, base: &str, areas: &[BoardArea]) -> bool
     ensures { result ≡ has_place dir.now base.now areas.now }
 {
     areas.iter().any(|area| area.dir.as_str() == dir && area.base.as_str() == base)
-}
-
-/// A level, or the one that stands for it where it is absent.
-fn level(table: &Table, field: Field, absent: u8) -> Result<u8, ConfError>
-    ensures { ValueOrFault (number_fault field (Some absent) 0 255 (table_view table.now))
-        (λ n. n ≡ number_at field (Some absent) (table_view table.now)) result }
-{
-    let level = number(table, field, Some(u32::from(absent)), 0, 255)?;
-    Ok(level as u8)
 }
 
 /// The rules of the area at this place, where those before it have so many slots together.

@@ -18,6 +18,10 @@ pub struct Board {
     pub offset: i32,
     /// Minutes between two packs, at most 10,080; 0 for none.
     pub pack_minutes: u32,
+    /// Where news readers reach it; nothing for no news. Beside it there are at most 31 nodes.
+    pub news_port: Option<u16>,
+    /// The level of news readers.
+    pub news_level: u8,
     /// Its areas: 1 to 255.
     pub areas: BoardAreas,
     /// Those who may log in: 1 to 1,024.
@@ -25,7 +29,7 @@ pub struct Board {
     /// The names of the keys that stand in the file and are no field's, as `area.3.raed`.
     pub unknown: Texts,
     /// Each value is in its range. Whoever makes a board shows it.
-    pub ghost in_range: { IsInRange name address nodes offset pack_minutes areas users },
+    pub ghost in_range: { IsInRange name address nodes offset pack_minutes news_port news_level areas users },
 }
 
 // Whoever lets go of one does so in one call.
@@ -38,6 +42,8 @@ impl Drop for Board {
             nodes: _nodes,
             offset: _offset,
             pack_minutes: _pack_minutes,
+            news_port: _news_port,
+            news_level: _news_level,
             areas: _areas,
             users: _users,
             unknown: _unknown,

@@ -15,6 +15,8 @@ fn range_of(field: Field) -> &'static str {
         Field::Board(BoardKey::Nodes) => "1 to 32",
         Field::Board(BoardKey::Offset) => "-840 to 840",
         Field::Board(BoardKey::PackMinutes) => "0 to 10,080",
+        Field::Board(BoardKey::NewsPort) => "0 to 65,535; only where nodes is at most 31",
+        Field::Board(BoardKey::NewsLevel) => "0 to 255",
         Field::Board(BoardKey::Areas) => "1 to 255 tables",
         Field::Board(BoardKey::Users) => "1 to 1,024 tables",
         Field::Area(_, AreaKey::Name) => "1 to 24 printable bytes",

@@ -24,6 +24,10 @@ pub enum BoardKey {
     Offset,
     /// `pack_minutes`: minutes between two packs; 0 for none.
     PackMinutes,
+    /// `news_port`: where news readers reach it; absent for no news.
+    NewsPort,
+    /// `news_level`: the level of news readers.
+    NewsLevel,
     /// `area`: the areas, as an array of tables.
     Areas,
     /// `user`: the users, as an array of tables.
@@ -84,6 +88,8 @@ fn board_key(key: BoardKey) -> &'static str
         BoardKey::Nodes => "nodes",
         BoardKey::Offset => "offset",
         BoardKey::PackMinutes => "pack_minutes",
+        BoardKey::NewsPort => "news_port",
+        BoardKey::NewsLevel => "news_level",
         BoardKey::Areas => "area",
         BoardKey::Users => "user",
     }

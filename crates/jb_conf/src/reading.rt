@@ -4,13 +4,15 @@ ghost use Rattle.toml.specs.Data.{Members};
 ghost use Rattle.toml.specs.Errors.{IsMemory};
 ghost use Rattle.toml.specs.View.{table_view};
 ghost use Rattle.jb_conf.specs.Areas.{areas_fault, areas_of};
-ghost use Rattle.jb_conf.specs.Faults.{AnswersOrMemory};
+ghost use Rattle.jb_conf.specs.Faults.{AnswersOrMemory, ValueOrFault};
+ghost use Rattle.jb_conf.specs.Rows.{given_number, news_port_fault};
 ghost use Rattle.jb_conf.specs.Settings.{AreSettingsUnlessMemory, IsDocument, IsNoDocument, ReadsSettings};
 ghost use Rattle.jb_conf.specs.Tables.{are_all_tables, tables_view};
 ghost use Rattle.jb_conf.specs.Users.{users_fault, users_of};
 
 use crate::area::area_of;
-use crate::rows::{address, minutes, number, printable};
+use crate::document::{found, unrepeated, within};
+use crate::rows::{address, level, minutes, number, printable};
 use crate::tables::{entries_of, tables};
 use crate::unknown::unknown_of;
 use crate::user::user_of;
@@ -68,6 +70,23 @@ fn users_of(alloc: Global, values: &[Value]) -> Result<BoardUsers, ConfError>
     Ok(users)
 }
 
+/// Where news readers reach a board with this port and so many nodes; nothing where the document does not say it.
+fn news_port(table: &Table, callers: u32, nodes: u32) -> Result<Option<u16>, ConfError>
+    ensures { ValueOrFault (news_port_fault callers nodes (table_view table.now))
+        (λ port. port ≡ given_number (Field.Board BoardKey.NewsPort) (table_view table.now)) result }
+{
+    let field = Field::Board(BoardKey::NewsPort);
+    let port = number(table, field, Some(0), 0, LAST_PORT)?;
+    match found(table, field) {
+        None => Ok(None),
+        Some(_) => {
+            within(nodes < MOST_NODES, field)?;
+            unrepeated(port == callers, field)?;
+            Ok(Some(port as u16))
+        }
+    }
+}
+
 /// The board that a document says.
 fn board_of(alloc: Global, table: &Table) -> Result<Board, ConfError>
     ensures { AreSettingsUnlessMemory (table_view table.now) result }
@@ -90,6 +109,8 @@ fn board_of(alloc: Global, table: &Table) -> Result<Board, ConfError>
         0,
         MOST_PACK_MINUTES,
     )?;
+    let news_port = news_port(table, port, nodes)?;
+    let news_level = level(table, Field::Board(BoardKey::NewsLevel), 0)?;
     let area_tables = tables(table, Field::Board(BoardKey::Areas), MOST_AREAS as usize)?;
     let user_tables = tables(table, Field::Board(BoardKey::Users), MOST_USERS as usize)?;
     let areas = areas_of(alloc, area_tables, address.as_bytes())?;
@@ -102,6 +123,8 @@ fn board_of(alloc: Global, table: &Table) -> Result<Board, ConfError>
         nodes,
         offset,
         pack_minutes,
+        news_port,
+        news_level,
         areas,
         users,
         unknown,

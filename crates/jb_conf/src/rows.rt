@@ -1,5 +1,5 @@
 //! The sorts of fields: each is there where it has to be, is of its kind, and lies in its range.
-ghost use Rattle.std.specs.Prelude.{◌≡◌, ◌≤◌, [], true, false, pos, negsuc, codes, IfOk, MatchOption};
+ghost use Rattle.std.specs.Prelude.{◌≡◌, ◌≤◌, [], true, false, pos, negsuc, codes, Some, IfOk, MatchOption};
 ghost use Rattle.std.specs.List.{list_all};
 ghost use Rattle.std.specs.Option.{ForSome};
 ghost use Rattle.toml.specs.View.{table_view};
@@ -171,6 +171,15 @@ pub fn number(
         Some(number) => Ok(number),
         None => Err(ConfError::OutOfRange { field }),
     }
+}
+
+/// A level, or the one that stands for it where it is absent.
+pub fn level(table: &Table, field: Field, absent: u8) -> Result<u8, ConfError>
+    ensures { ValueOrFault (number_fault field (Some absent) 0 255 (table_view table.now))
+        (λ n. n ≡ number_at field (Some absent) (table_view table.now)) result }
+{
+    let level = number(table, field, Some(u32::from(absent)), 0, 255)?;
+    Ok(level as u8)
 }
 
 /// Minutes from -840 to 840, 0 where they are absent.

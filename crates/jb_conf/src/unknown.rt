@@ -42,6 +42,8 @@ fn has_key(sort: Sort, key: &str) -> bool
                 Field::Board(BoardKey::Nodes),
                 Field::Board(BoardKey::Offset),
                 Field::Board(BoardKey::PackMinutes),
+                Field::Board(BoardKey::NewsPort),
+                Field::Board(BoardKey::NewsLevel),
                 Field::Board(BoardKey::Areas),
                 Field::Board(BoardKey::Users),
             ],

@@ -1,4 +1,5 @@
 pub mod Keeping
+mod Moments
 mod Rows
 mod StandardFacts
 pub mod Spaces

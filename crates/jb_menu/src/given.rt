@@ -14,6 +14,8 @@ pub enum Given {
     Answer(Answer),
     /// The answer to [`crate::Move::Count`]: how many messages of the area the user has not read.
     Count(u32),
+    /// The answer to a request of the clock: seconds since 1970. No move of a menu asks for it.
+    Moment(u32),
     /// In place of each of these answers, why there is none.
     Fault(SharedFault),
 }
@@ -26,6 +28,7 @@ impl Drop for Given {
             Given::Reply(_held) => {}
             Given::Answer(_held) => {}
             Given::Count(_held) => {}
+            Given::Moment(_held) => {}
             Given::Fault(_held) => {}
         }
     }

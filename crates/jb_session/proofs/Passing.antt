@@ -16,7 +16,7 @@ use Rattle.jb_shared.specs.declared.error.SharedError.{SharedError}
 use Rattle.jb_shared.specs.declared.refusal.Refusal.{Refusal}
 use Rattle.jb_shared.specs.declared.error.SharedError.TheVariants.{StoreFault, Gap, RunSpent, OutOfMemory}
 use Rattle.jb_speech.specs.declared.request.Act.{Act}
-use Rattle.jb_speech.specs.declared.request.Act.TheVariants.{Ask, Look, Count}
+use Rattle.jb_speech.specs.declared.request.Act.TheVariants.{Ask, Look, Count, Clock}
 use Rattle.jb_speech.specs.declared.request.Request.{Request}
 use Rattle.jb_session.specs.Exchanges.{Exchange, GivesAnswer, Happens, NodeState, Passed, PassedLast, Wants}
 
@@ -74,6 +74,9 @@ module _ (Keeps : Known → Known → Type 0) (same : (known : Known) → Keeps 
   abbrev OnEach : NodeState → NodeState → Type 0
   OnEach old new = (k : ℕ) (pass : PassView) → Keeps (slice_index_or old.passes k pass).known (slice_index_or new.passes k pass).known
 
+  stays : (old new : Known) → new ≡ old → Keeps old new
+  stays old new is = let P : Known → Type 0 = λ w. Keeps old w in subst P (sym is) (same old)
+
   answered : (readings : Option (List ℕ)) (user : User) (act : Act) (old new : Known) (what : Given) → GivesAnswer readings user act old new what → Keeps old new
   answered readings user (Ask command) old new (given.Reply reply) g = by_call old new (called old new user g.0 command (Ok reply) g.2)
   answered readings user (Ask command) old new (given.Fault fault.StoreFault) g = by_call old new (called old new user g.0 command (Err StoreFault) g.2)
@@ -83,15 +86,14 @@ module _ (Keeps : Known → Known → Type 0) (same : (known : Known) → Keeps 
   answered readings user (Look question) old new (given.Fault fault.Barred) g = by_bar old new g
   answered readings user Count old new (given.Count unread) g = by_look old new g.0
   answered readings user Count old new (given.Fault fault.Barred) g = by_bar old new g
+  answered readings user Clock old new (given.Moment moment) g = stays old new g.0
   answered readings user act old new what g = absurd g
 
   wanted : (readings : Option (List ℕ)) (user : User) (act : Act) (old new : Known) → Wants readings user act old new → Keeps old new
   wanted readings user (Ask command) old new w = by_call old new (called old new user w.0 command (Err OutOfMemory) w.2)
   wanted readings user (Look question) old new w = by_look old new w
   wanted readings user Count old new w = absurd w
-
-  stays : (old new : Known) → new ≡ old → Keeps old new
-  stays old new is = let P : Known → Type 0 = λ w. Keeps old w in subst P (sym is) (same old)
+  wanted readings user Clock old new w = absurd w
 
   happened : (user_of : Request → Option User) (request : Request) (happens : User → Known → Known → Type 0) (old new : NodeState)
       → Happens user_of request happens old new → ((user : User) (before after : Known) → happens user before after → Keeps before after) → OnEach old new

@@ -1,7 +1,8 @@
 -- A session in its middle, and how it goes on or ends.
 use Rattle.std.proofs.Common.{◌≡◌, ◌≢◌, ℕ, ◌+◌, ◌-◌, ◌≤◌, length, take, drop, List, [], ◌∷◌, ◌++◌, Option, Some, None, inl, inr, refl, sym, ◌∙◌, ap, subst, append_assoc, append-nil, length-append, arith}
 use Rattle.std.specs.Option.{option_to_list, ForSome}
-use Rattle.std.specs.Prelude.{Result, Ok, Err, IfOk, OnErr}
+use Rattle.std.specs.Prelude.{Result, Ok, Err, IfErr, IfOk, OnErr}
+use Rattle.std.specs.Result.{IsErrAnd}
 use Rattle.std.proofs.lemmas.List.{map-append, same_lists, places, take-take}
 use Rattle.jb_bytes.specs.Fault.{Rose}
 use Rattle.jb_limits.specs.declared.limits.TheConstants.{MOST_SESSION_BYTES}
@@ -98,6 +99,22 @@ module _ {talks : Talk} {board : Board} where
   some_of_all : (taken out : List ℕ) (answers : List Given) (asked : List Request) → SaysAll talks board taken answers out asked → SaysSome talks board taken answers out asked
   some_of_all taken out answers asked all = record { all = out; every = asked; says = all; sent = front_refl out; made = front_refl asked }
 
+  -- a request that is not made stands in what would be asked
+  unmade : (taken out : List ℕ) (answers : List Given) (asked : List Request) (next : Option Request)
+      → SaysSome talks board taken answers out (asked ++ option_to_list next) → SaysSome talks board taken answers out (asked ++ [])
+  unmade taken out answers asked next some = record {
+    all = some.all;
+    every = some.every;
+    says = some.says;
+    sent = some.sent;
+    made = record {
+      rest = option_to_list next ++ some.made.rest;
+      is = some.made.is
+          ∙ append_assoc asked (option_to_list next) some.made.rest
+          ∙ ap (λ w. w ++ (option_to_list next ++ some.made.rest)) (sym (append-nil asked));
+    };
+  }
+
 by_talk : (talks : Talk) (board : Board) (old now : Wire) (taken out : List ℕ) (answers : List Given) (asked : List Request) (end : TalkEnd) → (end ≡ talk.Hangup → ⊥)
     → talks board taken answers out asked end → EndsAs talks board (end_as end) old now taken answers out asked
 by_talk talks board old now taken out answers asked talk.Quit other says = says
@@ -180,10 +197,10 @@ module _ {S : Type 0} {user_of : Board → Request → Option User} {has_talked 
       subst P (ap (drop n) (rest_of at piece) ∙ drop_then at n piece) s
 
   -- all that was owed was sent
-  pub sent_on : (old now now' : Wire) (from to : NodeState) (rest owed : List ℕ) (talking after : S)
-      → (s : Stands user_of has_talked board old from now rest talking None to) → Sends now.sent owed now'.sent → now'.to_come ≡ now.to_come → NeverFails now now' → Later now now'
-      → has_talked board after s.heard (answers_of s.exchanges) (s.out ++ owed) (asks_of s.exchanges ++ []) → Stands user_of has_talked board old from now' rest after None to
-  sent_on old now now' from to rest owed talking after s sends to_come quiet later talked = record {
+  pub sent_on : (old now now' : Wire) (from to : NodeState) (rest owed : List ℕ) (talking after : S) (next : Option Request)
+      → (s : Stands user_of has_talked board old from now rest talking next to) → Sends now.sent owed now'.sent → now'.to_come ≡ now.to_come → NeverFails now now' → Later now now'
+      → has_talked board after s.heard (answers_of s.exchanges) (s.out ++ owed) (asks_of s.exchanges ++ option_to_list next) → Stands user_of has_talked board old from now' rest after next to
+  sent_on old now now' from to rest owed talking after next s sends to_come quiet later talked = record {
     heard = s.heard;
     within = s.within;
     takes = takes_same _ _ _ _ s.takes to_come;
@@ -335,11 +352,11 @@ module _ {S : Type 0} {talks : Talk} {user_of : Board → Request → Option Use
     talked = s.talked;
   }
 
-  -- a write failed
-  pub ends_unsent : IsLawful talks posture has_talked → (old now now' : Wire) (from to : NodeState) (rest : List ℕ) (talking : S) (part : List ℕ)
-      → Stands user_of has_talked board old from now rest talking None to → IsFrontOf part (posture talking).owed → Sends now.sent part now'.sent → now'.to_come ≡ now.to_come → Later now now'
+  -- a write failed: a request that was to be made is not
+  pub ends_unsent : IsLawful talks posture has_talked → (old now now' : Wire) (from to : NodeState) (rest : List ℕ) (talking : S) (next : Option Request) (part : List ℕ)
+      → Stands user_of has_talked board old from now rest talking next to → IsFrontOf part (posture talking).owed → Sends now.sent part now'.sent → now'.to_come ≡ now.to_come → Later now now'
       → Rose now.faults now'.faults → Rose now.unsent now'.unsent → ServedBy talks user_of board old from LinkFault now' to
-  ends_unsent laws old now now' from to rest talking part s begins sends to_come later faults unsent = record {
+  ends_unsent laws old now now' from to rest talking next part s begins sends to_come later faults unsent = record {
     taken = s.heard ++ rest;
     within = omega (arith, s.within, length-append s.heard rest);
     takes = takes_same _ _ _ _ s.takes to_come;
@@ -356,7 +373,8 @@ module _ {S : Type 0} {talks : Talk} {user_of : Board → Request → Option Use
     ends =
         let P : List Given → Type 0 = λ w. SaysSome talks board (s.heard ++ rest) w (s.out ++ part) (asks_of s.exchanges ++ []) in (
           subst P (append-nil (answers_of s.exchanges))
-              (says_part laws talking s.heard rest s.out part (answers_of s.exchanges) [] (asks_of s.exchanges ++ []) s.talked (record { rest = begins.rest; is = begins.is })),
+              (unmade (s.heard ++ rest) (s.out ++ part) (answers_of s.exchanges ++ []) (asks_of s.exchanges) next
+              (says_part laws talking s.heard rest s.out part (answers_of s.exchanges) [] (asks_of s.exchanges ++ option_to_list next) s.talked (record { rest = begins.rest; is = begins.is }))),
           rose_later old.faults now.faults now'.faults now'.faults s.later.faults faults (omega arith),
           inl (rose_later old.unsent now.unsent now'.unsent now'.unsent s.later.unsent unsent (omega arith)),
         );
@@ -448,6 +466,11 @@ ok_map (Err e) P Q f p = tt
 pub on_err : {T E : Type 0} (r : Result T E) (X : Type 0) → X → OnErr r X
 on_err (Ok x) X it = tt
 on_err (Err e) X it = it
+
+-- a `?` that returns this error
+pub if_err : {T E : Type 0} (r : Result T E) (end : E) (P : E → Type 0) → IsErrAnd r (λ error. error ≡ end) → P end → IfErr r P
+if_err (Ok x) end P is it = tt
+if_err (Err e) end P is it = subst P (sym is) it
 
 -- how many requests are still to come, at most
 abbrev pub to_come : Posture → Board → Option Request → ℕ

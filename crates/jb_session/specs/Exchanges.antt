@@ -17,7 +17,7 @@ use Rattle.jb_shared.specs.declared.error.SharedError.{SharedError}
 use Rattle.jb_shared.specs.declared.error.SharedError.TheVariants.{StoreFault, Gap, RunSpent, OutOfMemory}
 use Rattle.jb_shared.specs.declared.shared.SharedArea.{SharedArea}
 use Rattle.jb_speech.specs.declared.request.Act.{Act}
-use Rattle.jb_speech.specs.declared.request.Act.TheVariants.{Ask, Look, Count}
+use Rattle.jb_speech.specs.declared.request.Act.TheVariants.{Ask, Look, Count, Clock}
 use Rattle.jb_speech.specs.declared.request.Request.{Request}
 
 -- a request, and what was answered to it
@@ -47,11 +47,12 @@ pub record AreOf {D : Type 0} (areas : List (SharedArea D)) (passes : List PassV
   pub count : length areas ≡ length passes
   pub each : (k : ℕ) (area : SharedArea D) (pass : PassView) → k < length areas → IsOf (slice_index_or areas k area) (slice_index_or passes k pass)
 
--- the readings that are left behind an act: a command takes the next, a look and a count take none
+-- the readings that are left behind an act: a command and a request of the clock take the next, a look and a count take none
 abbrev pub left_by : Act → Option (List ℕ) → Option (List ℕ)
 left_by (Ask command) readings = option_map readings_after readings
 left_by (Look question) readings = readings
 left_by Count readings = readings
+left_by Clock readings = option_map readings_after readings
 
 -- the readings that the clock tells as the act is done
 module _ (readings : Option (List ℕ)) where
@@ -60,7 +61,7 @@ module _ (readings : Option (List ℕ)) where
   AsksPass user command old new result = (moment : ℕ) × ForSome readings (λ all. moment ≡ reading_of all) × Calls old new user moment command result
 
   -- how a pass answers an act of the user: a call with its reply or the fault that stopped it, a look and a count by what they show,
-  -- or that they were not let in
+  -- or that they were not let in; a request of the clock leaves it, and is answered by what the clock shows
   abbrev pub GivesAnswer : User → Act → Known → Known → Given → Type 0
   GivesAnswer user (Ask command) old new (given.Reply reply) = AsksPass user command old new (Ok reply)
   GivesAnswer user (Ask command) old new (given.Fault fault.StoreFault) = AsksPass user command old new (Err StoreFault)
@@ -70,6 +71,7 @@ module _ (readings : Option (List ℕ)) where
   GivesAnswer user (Look question) old new (given.Fault fault.Barred) = new ≡ turned_away old
   GivesAnswer user Count old new (given.Count unread) = Looks old new × OfShown new (λ index. unread ≡ length (unread_to index user))
   GivesAnswer user Count old new (given.Fault fault.Barred) = new ≡ turned_away old
+  GivesAnswer user Clock old new (given.Moment moment) = (new ≡ old) × ForSome readings (λ all. moment ≡ reading_of all)
   GivesAnswer user act old new what = ⊥
 
   -- how a pass stands where memory was wanting for the answer
@@ -77,10 +79,12 @@ module _ (readings : Option (List ℕ)) where
   Wants user (Ask command) old new = AsksPass user command old new (Err OutOfMemory)
   Wants user (Look question) old new = Looks old new
   Wants user Count old new = ⊥
+  Wants user Clock old new = ⊥
 
 -- for whom each request is made, where there is such a user
 module _ (user_of : Request → Option User) where
-  -- on the pass of the area that is asked, for the user for whom it is; the other passes stay. The clock moves on for a command
+  -- on the pass of the area that is asked, for the user for whom it is; the other passes stay. The clock moves on for a
+  -- command and where it is asked
   pub record Happens (request : Request) (happens : User → Known → Known → Type 0) (old new : NodeState) : Type 0 where
     pub user : User
     pub of : user_of request ≡ Some user

@@ -11,6 +11,7 @@ use Rattle.jb_speech.specs.Laws.{IsFront, Talk}
 use Rattle.jb_speech.specs.declared.request.Request.{Request}
 use Rattle.jb_speech.specs.declared.end.TalkEnd.{TalkEnd}
 use Rattle.jb_speech.specs.declared.end.TalkEnd.TheVariants as talk
+use Rattle.jb_news_talk.specs.Conversations.{NewsTalks, reader_of}
 use Rattle.jb_talk.specs.Conversations.{Talks}
 use Rattle.jb_talk.specs.Talking.{asker_of}
 use Rattle.jb_session.specs.Exchanges.{Exchange, NodeState, Passed, PassedLast, answers_of, asks_of}
@@ -98,3 +99,7 @@ module _ {S : Type 0} (asker_of : Board → Request → Option User) (has_talked
 -- a session of a caller by Telnet
 abbrev pub Served : Board → Wire → NodeState → SessionEnd → Wire → NodeState → Type 0
 Served = ServedBy Talks asker_of
+
+-- a session of a news reader
+abbrev pub ServedNews : Board → Wire → NodeState → SessionEnd → Wire → NodeState → Type 0
+ServedNews = ServedBy NewsTalks reader_of

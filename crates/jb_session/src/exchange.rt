@@ -88,7 +88,7 @@ fn count<D: Disk>(area: &SharedArea<D>, pass: &mut Pass, user: &User) -> Given
     }
 }
 
-/// Does on an area what the user asks.
+/// Does what the user asks: on the area, or of the clock, which is read once.
 fn act<R: Wait, D: Disk, C: Clock>(
     rt: &R,
     alloc: Global,
@@ -111,6 +111,7 @@ fn act<R: Wait, D: Disk, C: Clock>(
         Act::Ask(command) => call(rt, alloc, area, pass, clock, user, command, has_settled),
         Act::Look(question) => look(area, pass, user, question),
         Act::Count => Ok(count(area, pass, user)),
+        Act::Clock => Ok(Given::Moment(clock.now())),
     }
 }
 

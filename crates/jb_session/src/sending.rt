@@ -1,9 +1,10 @@
 //! What a speaker owes, sent; and a piece for it, read.
-ghost use Rattle.std.specs.Prelude.{◌≡◌, ◌<◌, ◌≤◌, ℕ, List, [], None, IfOk, OnErr, OnOk, length, take};
+ghost use Rattle.std.specs.Prelude.{◌≡◌, ◌<◌, ◌≤◌, ℕ, List, [], Option, IfOk, OnErr, OnOk, length, take};
 ghost use Rattle.std.specs.Option.{ForSome};
 ghost use Rattle.jb_bytes.specs.Fault.{HasCause, Rose};
 ghost use Rattle.jb_conf.specs.declared.board.Board.{Board};
 ghost use Rattle.jb_host.specs.Wire.{Takes, Wire};
+ghost use Rattle.jb_speech.specs.declared.request.Request.{Request};
 ghost use Rattle.jb_session.specs.Exchanges.{NodeState};
 ghost use Rattle.jb_session.specs.Served.{ServedBy, Stands};
 ghost use Rattle.jb_session.specs.Speakers.{IsLawful};
@@ -21,51 +22,35 @@ pub(crate) fn laws<T: Speaker>()
     T::laws();
 }
 
-/// Sends all that is owed, in one write where the link takes it so. A refusal ends the session.
-pub(crate) fn send_owed<T: Speaker, L: Link>(link: &mut L, talk: &mut T) -> Result<(), LinkFailed>
-    ensures owed { OnOk result ((T.posture talk.new).owed ≡ []) }
+/// So many bytes may be owed while more of a piece is heard, or another request is made.
+pub(crate) const MOST_OWED: usize = 65_536;
+
+/// Sends all that is owed where it is more than so many bytes, in one write where the link takes it so. A refusal ends the session.
+pub(crate) fn send_owed<T: Speaker, L: Link>(
+    link: &mut L,
+    talk: &mut T,
+    most: usize,
+) -> Result<(), LinkFailed>
+    ensures owed { OnOk result (length (T.posture talk.new).owed ≤ most) }
     ensures counted { OnOk result ((T.posture talk.new).taken ≡ (T.posture talk.old).taken) }
-    ensures hands { OnOk result ((board : Board) → T.hands_out board talk.old None → T.hands_out board talk.new None) }
+    ensures asked { OnOk result ((T.posture talk.new).most_asked ≡ (T.posture talk.old).most_asked) }
+    ensures hands { OnOk result ((board : Board) (next : Option Request)
+        → T.hands_out board talk.old next → T.hands_out board talk.new next) }
 
     // What was said, and how the session ends.
     ensures ok { OnOk result ((board : Board) (old : Wire)
-        (from to : NodeState) (rest : List ℕ)
-        → Stands T.user_of T.has_talked board old from (L.wire link.old) rest talk.old None to
-        → Stands T.user_of T.has_talked board old from (L.wire link.new) rest talk.new None to) }
+        (from to : NodeState) (rest : List ℕ) (next : Option Request)
+        → Stands T.user_of T.has_talked board old from (L.wire link.old) rest talk.old next to
+        → Stands T.user_of T.has_talked board old from (L.wire link.new) rest talk.new next to) }
     ensures err { OnErr result ((board : Board) (old : Wire)
-        (from to : NodeState) (rest : List ℕ)
-        → Stands T.user_of T.has_talked board old from (L.wire link.old) rest talk.old None to
+        (from to : NodeState) (rest : List ℕ) (next : Option Request)
+        → Stands T.user_of T.has_talked board old from (L.wire link.old) rest talk.old next to
         → ServedBy T.talks T.user_of board old from LinkFault (L.wire link.new) to) }
 {
     laws::<T>();
-    let Ok(()) = send(link, talk.owed()) else {
-        return Err(LinkFailed);
-    };
-    talk.was_sent();
-    Ok(())
-}
-
-/// So many bytes may be owed while more of a piece is heard.
-const MOST_OWED: usize = 65_536;
-
-/// Sends all that is owed where it is long, so that no more is held than this and what one line leads to. A
-/// refusal ends the session.
-pub(crate) fn relieve<T: Speaker, L: Link>(link: &mut L, talk: &mut T) -> Result<(), LinkFailed>
-    ensures counted { OnOk result ((T.posture talk.new).taken ≡ (T.posture talk.old).taken) }
-    ensures hands { OnOk result ((board : Board) → T.hands_out board talk.old None → T.hands_out board talk.new None) }
-
-    // What was said, and how the session ends.
-    ensures ok { OnOk result ((board : Board) (old : Wire)
-        (from to : NodeState) (rest : List ℕ)
-        → Stands T.user_of T.has_talked board old from (L.wire link.old) rest talk.old None to
-        → Stands T.user_of T.has_talked board old from (L.wire link.new) rest talk.new None to) }
-    ensures err { OnErr result ((board : Board) (old : Wire)
-        (from to : NodeState) (rest : List ℕ)
-        → Stands T.user_of T.has_talked board old from (L.wire link.old) rest talk.old None to
-        → ServedBy T.talks T.user_of board old from LinkFault (L.wire link.new) to) }
-{
-    if talk.owed().len() > MOST_OWED {
-        return send_owed(link, talk);
+    if talk.owed().len() > most {
+        send(link, talk.owed())?;
+        talk.was_sent();
     }
     Ok(())
 }

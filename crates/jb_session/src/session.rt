@@ -6,11 +6,12 @@ ghost use Rattle.jb_host.specs.Wire.{Wire};
 ghost use Rattle.jb_speech.specs.declared.request.Request.{Request};
 ghost use Rattle.jb_session.specs.Exchanges.{AreOf, NodeState, node_with};
 ghost use Rattle.jb_session.specs.Served.{Served, ServedBy, Stands};
+ghost use Rattle.jb_session.specs.declared.sending.TheConstants.{MOST_OWED};
 
 use crate::end::{SessionEnd, ended};
 use crate::exchange::exchange;
 use crate::log::Log;
-use crate::sending::{laws, read_piece, relieve, send_owed};
+use crate::sending::{MOST_OWED, laws, read_piece, send_owed};
 use jb_base::OutOfMemory;
 use jb_conf::Board;
 use jb_disk::Disk;
@@ -21,7 +22,7 @@ use jb_talk::Talk;
 use std::alloc::Global;
 use std::sync::Wait;
 
-/// Does a request, and tells the speaker the answer. Gives the request that follows.
+/// Does a request while no more is owed than may be, and tells the speaker the answer. Gives the request that follows.
 fn respond<T: Speaker, R: Wait, D: Disk, L: Link, C: Clock>(
     rt: &R,
     alloc: Global,
@@ -37,6 +38,7 @@ fn respond<T: Speaker, R: Wait, D: Disk, L: Link, C: Clock>(
     requires areas { length areas.now ≡ length board.now.areas }
     requires ours { AreOf areas.now passes.old }
     requires hands { T.hands_out board.now talk.old (Some request.now) }
+    requires few { length (T.posture talk.old).owed ≤ MOST_OWED }
     ensures ours { AreOf areas.now passes.new }
     ensures wire { L.wire link.new ≡ L.wire link.old }
     ensures hands { IfOk result (λ next. T.hands_out board.now talk.new next) }
@@ -70,7 +72,7 @@ fn respond<T: Speaker, R: Wait, D: Disk, L: Link, C: Clock>(
     talk.answer(alloc, board, &given)
 }
 
-/// Does a request, where there is one, and all that follow.
+/// Does a request, where there is one, and all that follow; or ends the session. Before each it sends what is owed where that is long.
 fn respond_all<T: Speaker, R: Wait, D: Disk, L: Link, C: Clock>(
     rt: &R,
     alloc: Global,
@@ -82,25 +84,25 @@ fn respond_all<T: Speaker, R: Wait, D: Disk, L: Link, C: Clock>(
     log: &mut Log,
     talk: &mut T,
     first: Option<Request>,
-) -> Result<(), OutOfMemory>
+) -> Result<(), SessionEnd>
     requires areas { length areas.now ≡ length board.now.areas }
     requires ours { AreOf areas.now passes.old }
     requires hands { T.hands_out board.now talk.old first }
     ensures ours { AreOf areas.now passes.new }
-    ensures wire { L.wire link.new ≡ L.wire link.old }
     ensures hands { OnOk result (T.hands_out board.now talk.new None) }
     ensures counted { OnOk result ((T.posture talk.new).taken ≡ (T.posture talk.old).taken) }
 
-    // What was said and asked, and how the session ends where memory is wanting.
-    ensures ok { OnOk result ((old now : Wire) (from : NodeState) (rest : List ℕ)
-        → Stands T.user_of T.has_talked board.now old from now rest talk.old first (node_with (C.readings clock.old) passes.old)
-        → Stands T.user_of T.has_talked board.now old from now rest talk.new None (node_with (C.readings clock.new) passes.new)) }
-    ensures err { OnErr result ((old now : Wire) (from : NodeState) (rest : List ℕ)
-        → Stands T.user_of T.has_talked board.now old from now rest talk.old first (node_with (C.readings clock.old) passes.old)
-        → ServedBy T.talks T.user_of board.now old from SessionEnd.OutOfMemory now (node_with (C.readings clock.new) passes.new)) }
+    // What was said and asked, and how the session ends.
+    ensures ok { OnOk result ((old : Wire) (from : NodeState) (rest : List ℕ)
+        → Stands T.user_of T.has_talked board.now old from (L.wire link.old) rest talk.old first (node_with (C.readings clock.old) passes.old)
+        → Stands T.user_of T.has_talked board.now old from (L.wire link.new) rest talk.new None (node_with (C.readings clock.new) passes.new)) }
+    ensures err { IfErr result (λ end. (old : Wire) (from : NodeState) (rest : List ℕ)
+        → Stands T.user_of T.has_talked board.now old from (L.wire link.old) rest talk.old first (node_with (C.readings clock.old) passes.old)
+        → ServedBy T.talks T.user_of board.now old from end (L.wire link.new) (node_with (C.readings clock.new) passes.new)) }
 {
     let mut next = first;
     while let Some(request) = next {
+        send_owed(link, talk, MOST_OWED)?;
         next = respond(
             rt, alloc, board, areas, passes, link, clock, log, talk, &request,
         )?;
@@ -120,8 +122,8 @@ fn first_line(piece: &[u8]) -> &[u8]
     }
 }
 
-/// Hears a piece, as far as the byte at which a line ends or an area is asked something, and does all that is asked then.
-/// Gives how many bytes were heard.
+/// Hears a piece while no more is owed than may be, as far as the byte at which a line ends or an area is asked something, and does
+/// all that is asked then; or ends the session. Gives how many bytes were heard.
 fn hear<T: Speaker, R: Wait, D: Disk, L: Link, C: Clock>(
     rt: &R,
     alloc: Global,
@@ -133,26 +135,26 @@ fn hear<T: Speaker, R: Wait, D: Disk, L: Link, C: Clock>(
     log: &mut Log,
     talk: &mut T,
     piece: &[u8],
-) -> Result<usize, OutOfMemory>
+) -> Result<usize, SessionEnd>
     requires areas { length areas.now ≡ length board.now.areas }
     requires ours { AreOf areas.now passes.old }
     requires hands { T.hands_out board.now talk.old None }
     requires room { (T.posture talk.old).taken + length piece.now ≤ MOST_SESSION_BYTES }
+    requires few { length (T.posture talk.old).owed ≤ MOST_OWED }
     ensures ours { AreOf areas.now passes.new }
-    ensures wire { L.wire link.new ≡ L.wire link.old }
     ensures hands { OnOk result (T.hands_out board.now talk.new None) }
     ensures within { IfOk result (λ heard. heard ≤ length piece.now) }
     ensures some { IfOk result (λ heard. 0 < length piece.now → 0 < heard) }
     ensures counted { IfOk result (λ heard. (T.posture talk.new).taken ≡ (T.posture talk.old).taken + heard) }
 
-    // What was said and asked, and how the session ends where memory is wanting.
-    ensures ok { IfOk result (λ heard. (old now : Wire) (from : NodeState)
-        → Stands T.user_of T.has_talked board.now old from now piece.now talk.old None (node_with (C.readings clock.old) passes.old)
-        → Stands T.user_of T.has_talked board.now old from now
+    // What was said and asked, and how the session ends.
+    ensures ok { IfOk result (λ heard. (old : Wire) (from : NodeState)
+        → Stands T.user_of T.has_talked board.now old from (L.wire link.old) piece.now talk.old None (node_with (C.readings clock.old) passes.old)
+        → Stands T.user_of T.has_talked board.now old from (L.wire link.new)
         (drop heard piece.now) talk.new None (node_with (C.readings clock.new) passes.new)) }
-    ensures err { OnErr result ((old now : Wire) (from : NodeState)
-        → Stands T.user_of T.has_talked board.now old from now piece.now talk.old None (node_with (C.readings clock.old) passes.old)
-        → ServedBy T.talks T.user_of board.now old from SessionEnd.OutOfMemory now (node_with (C.readings clock.new) passes.new)) }
+    ensures err { IfErr result (λ end. (old : Wire) (from : NodeState)
+        → Stands T.user_of T.has_talked board.now old from (L.wire link.old) piece.now talk.old None (node_with (C.readings clock.old) passes.old)
+        → ServedBy T.talks T.user_of board.now old from end (L.wire link.new) (node_with (C.readings clock.new) passes.new)) }
 {
     laws::<T>();
     log.look(talk);
@@ -172,8 +174,7 @@ fn hear<T: Speaker, R: Wait, D: Disk, L: Link, C: Clock>(
     Ok(heard.taken)
 }
 
-/// Hears a piece, and does all that it asks of the areas; or ends the session. Between two requests it sends what is owed
-/// where that is long.
+/// Hears a piece, and does all that it asks of the areas; or ends the session. Before each line it sends what is owed where that is long.
 fn take<T: Speaker, R: Wait, D: Disk, L: Link, C: Clock>(
     rt: &R,
     alloc: Global,
@@ -204,17 +205,12 @@ fn take<T: Speaker, R: Wait, D: Disk, L: Link, C: Clock>(
 {
     let mut at = 0;
     while at < piece.len() {
-        let Ok(()) = relieve(link, talk) else {
-            return Err(SessionEnd::LinkFault);
-        };
+        send_owed(link, talk, MOST_OWED)?;
         let rest = &piece[at..];
-        let Ok(heard) = hear(
+        at += hear(
             rt, alloc, board, areas, passes, link, clock, log, talk, rest,
-        ) else {
-            return Err(SessionEnd::OutOfMemory);
-        };
+        )?;
         log.tell(link, talk);
-        at += heard;
     }
     Ok(())
 }
@@ -257,15 +253,10 @@ fn turn<T: Speaker, R: Wait, D: Disk, L: Link, C: Clock>(
         return Err(SessionEnd::Hangup);
     }
     let piece = &buffer[..n];
-    match take(
+    take(
         rt, alloc, board, areas, passes, link, clock, log, talk, piece,
-    ) {
-        Ok(()) => {}
-        Err(end) => return Err(end),
-    }
-    let Ok(()) = send_owed(link, talk) else {
-        return Err(SessionEnd::LinkFault);
-    };
+    )?;
+    send_owed(link, talk, 0)?;
     Ok(())
 }
 
@@ -290,7 +281,7 @@ fn serve_talk<T: Speaker, R: Wait, D: Disk, L: Link, C: Clock>(
         (L.wire link.new) (node_with (C.readings clock.new) passes.new) }
 {
     laws::<T>();
-    let Ok(()) = send_owed(link, talk) else {
+    let Ok(()) = send_owed(link, talk, 0) else {
         return SessionEnd::LinkFault;
     };
     while talk.wants() > 0 {
@@ -305,8 +296,8 @@ fn serve_talk<T: Speaker, R: Wait, D: Disk, L: Link, C: Clock>(
 /// order.
 ///
 /// All that is owed is sent before more is read, and no more is read than one session takes. Of what is owed a session holds
-/// at most 65,536 bytes and what one line leads to. A fault of an area is said, and the session goes on; after a fault of the
-/// link or without memory nothing more is sent.
+/// at most 65,536 bytes and what one line or one answer leads to: what is more is sent before the next line or request. A fault
+/// of an area is said, and the session goes on; after a fault of the link or without memory nothing more is sent.
 pub fn serve_as<T: Speaker + Drop, R: Wait, D: Disk, L: Link, C: Clock>(
     rt: &R,
     alloc: Global,

@@ -11,6 +11,8 @@ pub enum Act {
     Look(Question),
     /// How many of its messages the user has not read.
     Count,
+    /// What the node's clock shows; the area that is named is not asked.
+    Clock,
 }
 
 // Whoever lets go of one does so in one call.
@@ -20,6 +22,7 @@ impl Drop for Act {
             Act::Ask(_held) => {}
             Act::Look(_held) => {}
             Act::Count => {}
+            Act::Clock => {}
         }
     }
 }

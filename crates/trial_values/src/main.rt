@@ -38,7 +38,7 @@ impl Answers for Trial {
             "file" => self.file = Bytes::new(words.alloc),
             "toml" => self.add_line(row, words),
             "broken" => settings::broken(file, row, words),
-            "board" | "area" | "user" | "login" => settings::answer(file, row, words),
+            "board" | "area" | "user" | "unknown" | "login" => settings::answer(file, row, words),
             _ => words.unknown(0),
         }
     }

@@ -1,7 +1,7 @@
 //! The rows on the settings file.
 
 use jb_base::{AreaRules, Bytes, Kind, OutOfMemory};
-use jb_conf::{Board, BoardArea, BoardUser, ConfError, check_login, read};
+use jb_conf::{Board, BoardArea, BoardUser, ConfError, Text, check_login, read};
 use trial_rows::{Row, Words};
 
 fn is_line_feed(byte: &u8) -> bool {
@@ -76,6 +76,7 @@ fn put_part(board: &Board, row: &Row, words: &mut Words) {
         "board" => put_board(words, board),
         "area" => put_area(words, board.areas.as_slice(), row),
         "user" => put_user(words, board.users.as_slice(), row),
+        "unknown" => put_unknown(words, board.unknown.as_slice()),
         _ => login(board, row, words),
     }
 }
@@ -88,8 +89,19 @@ fn put_board(words: &mut Words, board: &Board) {
     words.named("nodes", u64::from(board.nodes));
     put_offset(words, board.offset);
     words.named("pack", u64::from(board.pack_minutes));
+    put_news(words, board);
     words.named("areas", board.areas.as_slice().len() as u64);
     words.named("users", board.users.as_slice().len() as u64);
+}
+
+// Puts where news readers reach the board, or `none`, and their level.
+fn put_news(words: &mut Words, board: &Board) {
+    words.word("news");
+    match board.news_port {
+        Some(port) => words.number(u64::from(port)),
+        None => words.word("none"),
+    }
+    words.named("level", u64::from(board.news_level));
 }
 
 fn put_address(words: &mut Words, address: &[u8]) {
@@ -142,6 +154,16 @@ fn put_user(words: &mut Words, users: &[BoardUser], row: &Row) {
     words.named("level", u64::from(user.user.level));
     words.word("salt");
     words.shown(user.salt.as_slice());
+}
+
+// `unknown`: the names of the keys that are no field's.
+fn put_unknown(words: &mut Words, names: &[Text]) {
+    if names.is_empty() {
+        words.word("none");
+    }
+    for name in names {
+        words.shown(name.as_str().as_bytes());
+    }
 }
 
 // `login NAME PASSWORD`: the place of the user who logs in, from 0.

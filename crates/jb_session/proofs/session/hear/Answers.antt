@@ -1,22 +1,24 @@
 use Rattle.std.proofs.Common.{drop, None, refl}
 use Rattle.jb_session.specs.Exchanges.{node_with}
-use Rattle.jb_session.proofs.Standing.{ends_short, hear_on, on_err}
+use Rattle.jb_session.specs.declared.end.SessionEnd.TheVariants.{OutOfMemory}
+use Rattle.jb_session.proofs.Standing.{ends_short, hear_on, if_err}
 use Rattle.jb_session.proofs.session.hear.Goals as goal
 
 pub returns-in_err-heard-clause-err : goal.returns-in_err-heard-clause-err
 returns-in_err-heard-clause-err g c =
-    on_err c.from_residual.result _ (λ old now from s.
-    ends_short c.laws.ensures old now from (node_with (g.C.Clock.readings c.args.clock.now) c.args.passes.now) (node_with (g.C.Clock.readings c.args.clock.now) c.args.passes.now) c.args.piece.now c.args.talk.now None s refl)
+    if_err c.from_residual.result OutOfMemory _ c.from_residual.ensures.1 (λ old from s.
+    let node = node_with (g.C.Clock.readings c.args.clock.now) c.args.passes.now in
+    ends_short c.laws.ensures old (g.L.Link.wire c.args.link.now) from node node c.args.piece.now c.args.talk.now None s refl)
 
 pub returns-in_err-respond_all-clause-err : goal.returns-in_err-respond_all-clause-err
 returns-in_err-respond_all-clause-err g c =
     let n = c.in_ok-heard.heard.taken in
-    on_err c.from_residual-in_err-respond_all.result _ (λ old now from s.
-    c.in_err-respond_all.ensures.err old now from (drop n c.args.piece.now)
-    (hear_on old now from (node_with (g.C.Clock.readings c.args.clock.now) c.args.passes.now) n c.args.piece.now c.first_line.result.now c.args.talk.now c.hear.new.self c.in_ok-heard.heard.request s c.first_line.ensures.front c.in_ok-heard.ensures.within c.in_ok-heard.ensures.fits))
+    if_err c.from_residual-in_err-respond_all.result c.in_err-respond_all.field-0.0 _ c.from_residual-in_err-respond_all.ensures.1 (λ old from s.
+    c.in_err-respond_all.ensures.err old from (drop n c.args.piece.now)
+    (hear_on old (g.L.Link.wire c.args.link.now) from (node_with (g.C.Clock.readings c.args.clock.now) c.args.passes.now) n c.args.piece.now c.first_line.result.now c.args.talk.now c.hear.new.self c.in_ok-heard.heard.request s c.first_line.ensures.front c.in_ok-heard.ensures.within c.in_ok-heard.ensures.fits))
 
 pub returns-clause-ok : goal.returns-clause-ok
-returns-clause-ok g c = λ old now from s.
+returns-clause-ok g c = λ old from s.
     let n = c.in_ok-heard.heard.taken in
-    c.in_ok-respond_all.ensures.ok old now from (drop n c.args.piece.now)
-    (hear_on old now from (node_with (g.C.Clock.readings c.args.clock.now) c.args.passes.now) n c.args.piece.now c.first_line.result.now c.args.talk.now c.hear.new.self c.in_ok-heard.heard.request s c.first_line.ensures.front c.in_ok-heard.ensures.within c.in_ok-heard.ensures.fits)
+    c.in_ok-respond_all.ensures.ok old from (drop n c.args.piece.now)
+    (hear_on old (g.L.Link.wire c.args.link.now) from (node_with (g.C.Clock.readings c.args.clock.now) c.args.passes.now) n c.args.piece.now c.first_line.result.now c.args.talk.now c.hear.new.self c.in_ok-heard.heard.request s c.first_line.ensures.front c.in_ok-heard.ensures.within c.in_ok-heard.ensures.fits)

@@ -8,12 +8,11 @@ use Rattle.jb_session.proofs.session.respond_all.Given as goal
 abbrev pub invariant-loop-next : goal.invariant-loop-next
 invariant-loop-next g l =
     AreOf l.areas l.passes
-    × (g.L.Link.wire l.link ≡ g.L.Link.wire l.fn.link)
     × g.T.Speaker.hands_out l.board l.talk l.next
     × ((g.T.Speaker.posture l.talk).taken ≡ (g.T.Speaker.posture l.fn.talk).taken)
-    × ((old now : Wire) (from : NodeState) (rest : List ℕ)
-    → Stands g.T.Speaker.user_of g.T.Speaker.has_talked l.board old from now rest l.fn.talk l.fn.first (node_with (g.C.Clock.readings l.fn.clock) l.fn.passes)
-    → Stands g.T.Speaker.user_of g.T.Speaker.has_talked l.board old from now rest l.talk l.next (node_with (g.C.Clock.readings l.clock) l.passes))
+    × ((old : Wire) (from : NodeState) (rest : List ℕ)
+    → Stands g.T.Speaker.user_of g.T.Speaker.has_talked l.board old from (g.L.Link.wire l.fn.link) rest l.fn.talk l.fn.first (node_with (g.C.Clock.readings l.fn.clock) l.fn.passes)
+    → Stands g.T.Speaker.user_of g.T.Speaker.has_talked l.board old from (g.L.Link.wire l.link) rest l.talk l.next (node_with (g.C.Clock.readings l.clock) l.passes))
 
 abbrev pub decreases-loop-next : goal.decreases-loop-next
 decreases-loop-next g l = to_come (g.T.Speaker.posture l.talk) l.board l.next

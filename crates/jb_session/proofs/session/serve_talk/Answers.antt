@@ -1,4 +1,5 @@
-use Rattle.std.proofs.Common.{[], sym, ap, subst, ◌∙◌, arith}
+use Rattle.std.proofs.Common.{[], None, sym, ap, subst, ◌∙◌, arith}
+use Rattle.std.proofs.lemmas.List.{nil_from_length}
 use Rattle.jb_session.specs.Ends.{end_as}
 use Rattle.jb_session.specs.Exchanges.{node_with}
 use Rattle.jb_session.specs.Served.{ServedBy}
@@ -8,7 +9,7 @@ use Rattle.jb_session.proofs.session.serve_talk.Goals as goal
 
 pub returns-in_default-clause-served : goal.returns-in_default-clause-served
 returns-in_default-clause-served g c =
-    c.in_default.ensures.err c.args.board.now (g.L.Link.wire c.args.link.now) (node_with (g.C.Clock.readings c.args.clock.now) c.args.passes.now) (node_with (g.C.Clock.readings c.args.clock.now) c.args.passes.now) []
+    c.in_default.ensures.err c.args.board.now (g.L.Link.wire c.args.link.now) (node_with (g.C.Clock.readings c.args.clock.now) c.args.passes.now) (node_with (g.C.Clock.readings c.args.clock.now) c.args.passes.now) [] None
     (stands_first (g.L.Link.wire c.args.link.now) (node_with (g.C.Clock.readings c.args.clock.now) c.args.passes.now) c.args.talk.now c.requires.fits)
 
 pub loop-alloc-init : goal.loop-alloc-init
@@ -16,10 +17,10 @@ loop-alloc-init g c =
     let f = c.in-Ok.ensures in
     let t = c.requires.fits in (
       c.requires.ours,
-      f.hands c.args.board.now c.requires.hands,
-      f.owed,
+      f.hands c.args.board.now None c.requires.hands,
+      nil_from_length _ (omega (arith, f.owed)),
       omega (arith, f.counted, c.laws.ensures.counts c.args.board.now c.args.talk.now [] [] [] [] t),
-      f.ok c.args.board.now (g.L.Link.wire c.args.link.now) (node_with (g.C.Clock.readings c.args.clock.now) c.args.passes.now) (node_with (g.C.Clock.readings c.args.clock.now) c.args.passes.now) []
+      f.ok c.args.board.now (g.L.Link.wire c.args.link.now) (node_with (g.C.Clock.readings c.args.clock.now) c.args.passes.now) (node_with (g.C.Clock.readings c.args.clock.now) c.args.passes.now) [] None
           (stands_first (g.L.Link.wire c.args.link.now) (node_with (g.C.Clock.readings c.args.clock.now) c.args.passes.now) c.args.talk.now t),
     )
 

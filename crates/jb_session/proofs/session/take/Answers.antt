@@ -1,45 +1,41 @@
-use Rattle.std.proofs.Common.{ℕ, List, None, drop, ◌+◌, subst, sym, ◌∙◌, arith, length-take, length-drop}
+use Rattle.std.proofs.Common.{ℕ, List, None, drop, ◌+◌, subst, sym, arith, length-take, length-drop}
 use Rattle.jb_host.specs.Wire.{Wire}
 use Rattle.jb_session.specs.Exchanges.{node_with}
-use Rattle.jb_session.specs.Served.{ServedBy, Stands}
-use Rattle.jb_session.specs.declared.end.SessionEnd.TheVariants.{OutOfMemory}
-use Rattle.jb_session.proofs.Standing.{drop_all, left_on, rest_on}
+use Rattle.jb_session.specs.Served.{Stands}
+use Rattle.jb_session.specs.declared.end.SessionEnd.TheVariants.{LinkFault}
+use Rattle.jb_session.proofs.Standing.{drop_all, if_err, left_on, rest_on}
 use Rattle.jb_session.proofs.session.take.Goals as goal
 
-pub returns-in_default-clause-err : goal.returns-in_default-clause-err
-returns-in_default-clause-err g c = λ old from s.
-    c.in_default.ensures.err c.args.board.now old from (node_with (g.C.Clock.readings c.loop-at.clock) c.loop-at.passes) (drop c.loop-at.at c.args.piece.now)
-    (c.loop-at.invariant.4 old from s)
+pub returns-in_err-send_owed-clause-err : goal.returns-in_err-send_owed-clause-err
+returns-in_err-send_owed-clause-err g c =
+    if_err c.from_residual.result LinkFault _ c.from_residual.ensures.1 (λ old from s.
+    c.in_err-send_owed.ensures.err c.args.board.now old from (node_with (g.C.Clock.readings c.loop-at.clock) c.loop-at.passes) (drop c.loop-at.at c.args.piece.now) None
+    (c.loop-at.invariant.4 old from s))
 
-pub returns-in_default-hear-clause-err : goal.returns-in_default-hear-clause-err
-returns-in_default-hear-clause-err g c = λ old from s.
-    let rest = drop c.loop-at.at c.args.piece.now in
-    let now = g.L.Link.wire c.relieve.new.link in
+pub returns-in_err-at-clause-err : goal.returns-in_err-at-clause-err
+returns-in_err-at-clause-err g c =
+    if_err c.from_residual-in_err-at.result c.in_err-at.field-0.0 _ c.from_residual-in_err-at.ensures.1 (λ old from s.
     let before = node_with (g.C.Clock.readings c.loop-at.clock) c.loop-at.passes in
-    let after = node_with (g.C.Clock.readings c.hear.new.clock) c.hear.new.passes in
-    let P : Wire → Type 0 = λ w. ServedBy g.T.Speaker.talks g.T.Speaker.user_of c.args.board.now old from OutOfMemory w after in
-    subst P (sym c.hear.ensures.wire)
-    (c.in_default-hear.ensures.err old now from
-    (rest_on old now from before c.loop-at.at c.args.piece.now c.relieve.new.talk
-    (c.in-Ok.ensures.ok c.args.board.now old from before rest (c.loop-at.invariant.4 old from s))))
+    c.in_err-at.ensures.err old from
+    (rest_on old (g.L.Link.wire c.send_owed.new.link) from before c.loop-at.at c.args.piece.now c.send_owed.new.talk
+    (c.in_ok-send_owed.ensures.ok c.args.board.now old from before (drop c.loop-at.at c.args.piece.now) None (c.loop-at.invariant.4 old from s))))
 
 pub loop-at-preserved : goal.loop-at-preserved
 loop-at-preserved g c =
-    let n = c.in-Ok-hear.heard in (
-      omega (arith, c.in-Ok-hear.ensures.within, length-take {A = ℕ}, length-drop {A = ℕ}, c.loop-at.invariant.0),
-      c.in-Ok-hear.ensures.ours,
-      c.in-Ok-hear.ensures.hands,
-      omega (arith, c.in-Ok-hear.ensures.counted, c.in-Ok.ensures.counted, c.loop-at.invariant.3),
+    let n = c.in_ok-at.field-0 in
+    let f = c.in_ok-at.ensures in (
+      omega (arith, f.within, length-take {A = ℕ}, length-drop {A = ℕ}, c.loop-at.invariant.0),
+      f.ours,
+      f.hands,
+      omega (arith, f.counted, c.in_ok-send_owed.ensures.counted, c.loop-at.invariant.3),
       λ old from s.
-          let rest = drop c.loop-at.at c.args.piece.now in
-          let now = g.L.Link.wire c.relieve.new.link in
           let before = node_with (g.C.Clock.readings c.loop-at.clock) c.loop-at.passes in
           let after = node_with (g.C.Clock.readings c.hear.new.clock) c.hear.new.passes in
           let P : Wire → Type 0 = λ w. Stands g.T.Speaker.user_of g.T.Speaker.has_talked c.args.board.now old from w (drop (c.loop-at.at + n) c.args.piece.now) c.hear.new.talk None after in
-          subst P (sym (c.tell.ensures ∙ c.hear.ensures.wire)) (left_on old now from after c.loop-at.at n c.args.piece.now c.hear.new.talk
-          (c.in-Ok-hear.ensures.ok old now from
-          (rest_on old now from before c.loop-at.at c.args.piece.now c.relieve.new.talk
-          (c.in-Ok.ensures.ok c.args.board.now old from before rest (c.loop-at.invariant.4 old from s))))),
+          subst P (sym c.tell.ensures) (left_on old (g.L.Link.wire c.hear.new.link) from after c.loop-at.at n c.args.piece.now c.hear.new.talk
+          (f.ok old from
+          (rest_on old (g.L.Link.wire c.send_owed.new.link) from before c.loop-at.at c.args.piece.now c.send_owed.new.talk
+          (c.in_ok-send_owed.ensures.ok c.args.board.now old from before (drop c.loop-at.at c.args.piece.now) None (c.loop-at.invariant.4 old from s))))),
     )
 
 pub returns-clause-ok : goal.returns-clause-ok

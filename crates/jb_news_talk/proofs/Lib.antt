@@ -1,0 +1,6 @@
+mod Asking
+mod Found
+mod Hands
+mod OpenOnly
+mod StandardFacts
+mod Turning

@@ -1,0 +1,11 @@
+pub mod Newsgroups
+pub mod Turns
+pub mod Listing
+pub mod Telling
+pub mod Choosing
+pub mod Moving
+pub mod Articles
+pub mod Commands
+pub mod Conversations
+pub mod Reading
+pub mod Laws
