@@ -180,8 +180,8 @@ fn tell_refusal<H: Host>(
 /// console itself failed, a beginning of what was to be printed; but nothing is printed behind a session or a run with many nodes. What
 /// the refusal means is told the operator where the host has a way to (`Host::note`).
 /// Nothing is read from the console but by a session. The host is asked for the disk of the base alone, at most once, or for the
-/// settings and then for the disk of each area, in order, and then for the doors of all nodes and the bell where many are served, and
-/// has all back when the call returns.
+/// settings and then for the disk of each area, in order, and then for the doors of all nodes, that of news where the settings have a
+/// port for it, and the bell, where many are served, and has all back when the call returns.
 pub fn board<R: Threads + Wait + Sync, H: Host>(
     rt: &R,
     alloc: Global,

@@ -1,18 +1,16 @@
 -- The doors of lines, as one more is handed out behind the others, and as the last is put back before the others.
-use Rattle.std.proofs.Common.{◌≡◌, ◌≢◌, ℕ, zero, suc, ◌+◌, ◌<◌, ◌≤◌, ◌==◌, ◌||◌, Bool, true, false, List, [], ◌∷◌, ◌++◌, drop, get_or, length, map, take, All, refl, sym, ap, subst, ◌∙◌, add-one, append_assoc, arith}
-use Rattle.std.specs.Prelude.{Option, Some, None, Result, Ok, Err, IfErr, if◌then◌else◌, slice_index_or}
+use Rattle.std.proofs.Common.{◌≡◌, ◌≢◌, ℕ, zero, suc, ◌+◌, ◌<◌, ◌==◌, ◌||◌, Bool, true, false, List, [], ◌∷◌, ◌++◌, drop, get_or, length, All, refl, sym, ap, subst, ◌∙◌, append_assoc, arith}
+use Rattle.std.specs.Prelude.{Option, Some, None, if◌then◌else◌, slice_index_or}
 use Rattle.std.specs.Option.{ForSome, option_map}
 use Rattle.std.proofs.lemmas.Bool.Decides.{nat_tests}
-use Rattle.std.specs.List.{range_with_len}
-use Rattle.std.proofs.lemmas.List.{append-nil, drop_more, length-append, length_push, map_push, take-append-drop, take_at}
-use Rattle.std.proofs.lemmas.List.FromFn.{get_or-map-range_with_len, get_or-range_with_len, length-map-range_with_len, length-range_with_len, map-range_with_len_more, take-map-range_with_len}
+use Rattle.std.proofs.lemmas.List.{append-nil, drop_more, length_push, map_push, take-append-drop}
+use Rattle.std.proofs.lemmas.List.FromFn.{get_or-map-range_with_len, length-map-range_with_len, map-range_with_len_more, take-map-range_with_len}
 use Rattle.std.proofs.lemmas.List.Sums.{sum_by_push}
 use Rattle.jb_conf.specs.declared.board.Board.{Board}
-use Rattle.jb_host.specs.declared.host.HostError.{HostError}
 use Rattle.jb_host.proofs.Callers.{keeps_more_doors, keeps_none}
-use Rattle.jb_host.specs.Desk.{CountsFailed, Desk, Doors, Entrance, GivesDoor, HostCall, RefusesCall, TakesDoor, and_call, asked_bell, asked_door, door_out, has_door, with_door}
+use Rattle.jb_host.specs.Desk.{CountsFailed, Desk, Doors, Entrance, GivesDoor, HostCall, TakesDoor, and_call, door_out, has_door, with_door}
 use Rattle.jb_host.specs.Gate.{Gate}
-use Rattle.jb_run.specs.Lines.{DoorsAreOut, HandsDoors, Line, PutsDoors, RefusesLine, StopsLines, asked_doors, asked_line, door_faults, first_lines, first_nodes, line_for, lines_for, nodes_of, with_doors, with_doors_out}
+use Rattle.jb_run.specs.Lines.{DoorsAreOut, HandsDoors, Line, PutsDoors, asked_doors, asked_line, door_faults, first_lines, line_for, lines_for, news_lines, nodes_of, with_doors, with_doors_out}
 use Rattle.jb_run.proofs.DeskLemmas.{map-map, map-same, told-map}
 use Rattle.jb_run.proofs.EachLemmas.{all_end, all_most}
 use Rattle.jb_run.proofs.Places.{neither, not_chosen, not_first, not_second, same_choice}
@@ -53,28 +51,8 @@ no_call None = refl
 no_call (Some earlier) = ap (λ (all : List HostCall). Some all) (sym (append-nil earlier))
 
 -- one node more
-nodes_on : (node count : ℕ) → range_with_len node (suc count) ≡ range_with_len node count ++ (node + count) ∷ []
-nodes_on node zero = ap (λ (n : ℕ). n ∷ []) (omega arith)
-nodes_on node (suc count) =
-    ap (λ (l : List ℕ). node ∷ l) (nodes_on (node + 1) count ∙ ap (λ (n : ℕ). range_with_len (node + 1) count ++ n ∷ []) (omega arith))
-
-pub nodes_more : (count : ℕ) → first_nodes (count + 1) ≡ first_nodes count ++ (count + 1) ∷ []
-nodes_more count = ap first_nodes (add-one count) ∙ nodes_on 1 count ∙ ap (λ (n : ℕ). first_nodes count ++ n ∷ []) (omega arith)
-
--- which is none of those
-pub nodes_apart : (count : ℕ) → All (λ node. node ≢ count + 1) (first_nodes count)
-nodes_apart count = λ k absent within same.
-    let low : k < count = omega (arith, within, length-range_with_len 1 count) in
-    omega (arith, same, get_or-range_with_len 1 count k absent low, low)
-
--- its line
 pub lines_more : (board : Board) (most : Option ℕ) (count : ℕ) → first_lines board most (count + 1) ≡ first_lines board most count ++ line_for board most (count + 1) ∷ []
 lines_more board most count = map-range_with_len_more (line_for board most) 1 count (count + 1) (omega arith)
-
--- the nodes of lines are theirs
-pub nodes_of_lines : (board : Board) (most : Option ℕ) (nodes : List ℕ) → nodes_of (map (line_for board most) nodes) ≡ nodes
-nodes_of_lines board most [] = refl
-nodes_of_lines board most (node ∷ nodes) = ap (λ (l : List ℕ). node ∷ l) (nodes_of_lines board most nodes)
 
 -- the node is one of these
 abbrev is_one_of : List ℕ → ℕ → Bool
@@ -202,45 +180,19 @@ doors_return nodes gates old lined asked new out same puts = λ before told.
     puts.back (with_doors_out nodes before) gone (are_out nodes before) ∙ told-map (with_doors nodes gates) asked.doors (with_doors_out nodes before) gone
     ∙ ap (λ (d : Doors). Some d) (λ i. λ other. same_set nodes gates (with_doors_out nodes before) before other puts.count (is_left nodes before other) i)
 
--- the nodes whose doors were handed out, where the next line was refused
-pub done_nodes : (board : Board) (most : Option ℕ) (gates : List Gate) (error : HostError) (old new : Desk) (stops : StopsLines board most gates error old new)
-    → first_nodes (length gates) ≡ nodes_of stops.done
-done_nodes board most gates error old new stops =
-    let n : ℕ = length gates in
-    let within : n ≤ board.nodes
-    = omega (arith, stops.doors.count, ap length stops.parts, length-append stops.done stops.left, length-map-range_with_len (line_for board most) 1 board.nodes) in
-    let first : first_lines board most n ≡ stops.done
-    = sym (take-map-range_with_len (line_for board most) 1 board.nodes n within) ∙ ap (take n) stops.parts ∙ take_at stops.done stops.left n (sym stops.doors.count) in
-    sym (nodes_of_lines board most (first_nodes n)) ∙ ap nodes_of first
-
--- the door of the next line was refused
-pub stops_door : (board : Board) (most : Option ℕ) (count : ℕ) (gates : List Gate) (error : HostError) (old mid new : Desk) → count < board.nodes
-    → HandsDoors (first_lines board most count) gates old mid → RefusesCall (asked_door (count + 1) board.port most) error mid new → StopsLines board most gates error old new
-stops_door board most count gates error old mid new low hands refuses =
-    let lines : List Line = lines_for board most in
-    let next : get_or lines count (line_for board most 0) ≡ line_for board most (count + 1)
-    = get_or-map-range_with_len (line_for board most) 1 board.nodes count (count + 1) (line_for board most 0) low (omega arith) in
-    let within : count < length lines = omega (arith, low, length-map-range_with_len (line_for board most) 1 board.nodes) in
-    record {
-      done = first_lines board most count;
-      left = drop count lines;
-      parts = sym (take-append-drop count lines) ∙ ap (λ (l : List Line). l ++ drop count lines) (take-map-range_with_len (line_for board most) 1 board.nodes count (omega (arith, low)));
-      lined = mid;
-      doors = hands;
-      refuses = subst (λ (l : List Line). RefusesLine board most l error mid new)
-          (ap (λ (l : Line). l ∷ drop (count + 1) lines) (sym next) ∙ sym (drop_more lines count (line_for board most 0) within)) refuses;
-    }
-
--- the bell was refused
-pub stops_bell : {B : Type 0} (board : Board) (most : Option ℕ) (areas : ℕ) (gates : List Gate) (result : Result B HostError) (old mid new : Desk) → areas ≡ length board.areas
-    → HandsDoors (lines_for board most) gates old mid → IfErr result (λ error. RefusesCall (asked_bell areas board.pack_minutes most) error mid new)
-    → IfErr result (λ error. StopsLines board most gates error old new)
-stops_bell board most areas gates (Ok bell) old mid new same hands refuses = tt
-stops_bell board most areas gates (Err error) old mid new same hands refuses = record {
-  done = lines_for board most;
-  left = [];
-  parts = sym (append-nil (lines_for board most));
-  lined = mid;
-  doors = hands;
-  refuses = subst (λ (n : ℕ). RefusesCall (asked_bell n board.pack_minutes most) error mid new) same refuses;
-}
+-- behind the lines of the first nodes comes that of the next
+pub next_node : (board : Board) (most : Option ℕ) (count : ℕ) → count < board.nodes → (left : List Line) × (lines_for board most ≡ first_lines board most count ++ line_for board most (count + 1) ∷ left)
+next_node board most count low =
+    let nodes : List Line = first_lines board most board.nodes in
+    let news : List Line = news_lines board.nodes board.news_port most in
+    let f = line_for board most in
+    let none : Line = f 0 in
+    let next : get_or nodes count none ≡ f (count + 1) = get_or-map-range_with_len f 1 board.nodes count (count + 1) none low (omega arith) in
+    let within : count < length nodes = omega (arith, low, length-map-range_with_len f 1 board.nodes) in
+    let parts : nodes ≡ first_lines board most count ++ f (count + 1) ∷ drop (count + 1) nodes
+    = sym (take-append-drop count nodes)
+    ∙ ap (λ (l : List Line). l ++ drop count nodes) (take-map-range_with_len f 1 board.nodes count (omega (arith, low)))
+    ∙ ap (λ (l : List Line). first_lines board most count ++ l) (drop_more nodes count none within ∙ ap (λ (l : Line). l ∷ drop (count + 1) nodes) next) in (
+      drop (count + 1) nodes ++ news,
+      ap (λ (l : List Line). l ++ news) parts ∙ append_assoc (first_lines board most count) (f (count + 1) ∷ drop (count + 1) nodes) news,
+    )

@@ -17,6 +17,9 @@ pub mod Places
 pub mod Passing
 pub mod LocalRefusing
 mod Lists
+mod Zips
+mod Numbers
+mod Own
 mod Doors
 mod Crew
 mod Starts

@@ -16,7 +16,8 @@ use Rattle.jb_run.proofs.OverLemmas.{AllKeepStarts, one_is_set}
 use Rattle.jb_host.specs.Gate.{Gate}
 use Rattle.jb_host.specs.Real.{silent_gate}
 use Rattle.jb_host.specs.Rings.{Rings}
-use Rattle.jb_run.specs.Lines.{door_faults}
+use Rattle.jb_run.proofs.Lists.{one_of}
+use Rattle.jb_run.specs.Lines.{Line, door_faults}
 use Rattle.jb_server.specs.Sessions.{EndsServing, ends_of}
 use Rattle.jb_server.specs.Tallies.{and_failed, counted_all, no_tally, tallied}
 use Rattle.jb_server.specs.declared.tally.Tally.{Tally}
@@ -77,24 +78,24 @@ doors_tallied : (tally : Tally) (ends : List SessionEnd) → (counted_all tally 
 doors_tallied tally [] = refl
 doors_tallied tally (end ∷ ends) = doors_tallied (tallied tally end) ends ∙ door_tallied tally end
 
--- a node that tallies its door has seen it fail
+-- who tallies a door has seen it fail
 door_rose : (has_failed : Bool) (old new : Gate) (tally after : Tally) → tally.door_failed ≡ false → after ≡ and_failed has_failed tally → after.door_failed ≡ true
     → EndsServing has_failed old new → Rose old.faults new.faults
 door_rose true old new tally after none says is ends = ends.0
 door_rose false old new tally after none says is ends = absurd (true_not_false (sym is ∙ ap (λ (t : Tally). t.door_failed) says ∙ none))
 
--- one of the doors has failed, where a node says so
-pub a_door_failed : (readings : Option (List ℕ)) (board : Board) (gates gates_after : List Gate) (rings rings_after : Rings) (from to : Rows) (tallies : List Tally)
-    → WorkAll readings board gates gates_after rings rings_after from to tallies → any (map (λ tally. tally.door_failed) tallies) ≡ true → 0 < door_faults gates_after
-a_door_failed readings board gates gates_after rings rings_after from to tallies works failed =
+-- one of the doors has failed, where one with a door says so
+pub a_door_failed : (readings : Option (List ℕ)) (board : Board) (lines : List Line) (gates gates_after : List Gate) (rings rings_after : Rings) (from to : Rows) (tallies : List Tally)
+    → WorkAll readings board lines gates gates_after rings rings_after from to tallies → any (map (λ tally. tally.door_failed) tallies) ≡ true → 0 < door_faults gates_after
+a_door_failed readings board lines gates gates_after rings rings_after from to tallies works failed =
     let absent : Gate = silent_gate 0 false None in
     let bit : Tally → Bool = λ tally. tally.door_failed in
     let one = one_is_set (map bit tallies) failed in
     let low : one.0 < length tallies = omega (arith, one.1, length-map tallies bit) in
-    let within : one.0 < board.nodes = omega (arith, low, works.counts) in
-    let node = (works.nodes one.0 absent absent no_tally within).1 in
+    let within : one.0 < length lines = omega (arith, low, works.counts) in
+    let served = (works.served one.0 (one_of lines one.0 within) absent absent no_tally within).1 in
     let is : (slice_index_or tallies one.0 no_tally).door_failed ≡ true = sym (get_or-map bit tallies one.0 no_tally true low) ∙ one.2 true in
     let rose : Rose (slice_index_or gates one.0 absent).faults (slice_index_or gates_after one.0 absent).faults
-    = door_rose node.has_failed (slice_index_or gates one.0 absent) (slice_index_or gates_after one.0 absent) (counted_all no_tally (ends_of node.sessions))
-    (slice_index_or tallies one.0 no_tally) (doors_tallied no_tally (ends_of node.sessions)) node.tally is node.stops in
+    = door_rose served.has_failed (slice_index_or gates one.0 absent) (slice_index_or gates_after one.0 absent) (counted_all no_tally (ends_of served.sessions))
+    (slice_index_or tallies one.0 no_tally) (doors_tallied no_tally (ends_of served.sessions)) served.tally is served.stops in
     omega (arith, rose, get_or-le-sum_by (λ (g : Gate). g.faults) gates_after one.0 absent (omega (arith, within, works.doors_after)))

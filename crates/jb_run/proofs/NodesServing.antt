@@ -11,13 +11,13 @@ use Rattle.jb_host.specs.Gate.{Gate}
 use Rattle.jb_host.specs.Rings.{Rings}
 use Rattle.jb_server.specs.declared.worker.Worker.{Worker}
 use Rattle.jb_shared.specs.declared.opening.Opening.{Opening}
-use Rattle.jb_run.specs.Lines.{HandsDoors, asked_doors, door_faults, first_lines, first_nodes, lines_for, with_doors_out}
+use Rattle.jb_run.specs.Lines.{asked_doors, door_faults, lines_for, nodes_of}
 use Rattle.jb_run.specs.Nodes.{ServesAll}
 use Rattle.jb_run.specs.Workers.{OpensLines, Rows, gates_of}
 use Rattle.jb_run.specs.Working.{RunsOn, WorkAll, WorkToTheEnd}
 use Rattle.jb_run.specs.declared.nodes_end.NodesEnd.{NodesEnd}
 use Rattle.jb_run.proofs.Counting.{counts_more}
-use Rattle.jb_run.proofs.Doors.{calls_then, doors_return, nodes_of_lines}
+use Rattle.jb_run.proofs.Doors.{calls_then, doors_return}
 use Rattle.jb_run.proofs.NodesClosing.{a_door_failed}
 use Rattle.jb_run.proofs.OverLemmas.{over_areas}
 use Rattle.jb_run.proofs.Starts.{work_keeps}
@@ -37,7 +37,7 @@ serves_all door_for bell_over path most board old read opened new befores openin
     let many : length runs.to ≡ length from = works.ended ∙ sym works.started in
     let same_readings : opened.readings ≡ old.readings = out.rest.readings ∙ gives.rest.readings in
     let lines : List HostCall = asked_doors (lines_for board most) in
-    let nodes : List ℕ = first_nodes board.nodes in
+    let nodes : List ℕ = nodes_of (lines_for board most) in
     let last : HostCall = asked_bell (length board.areas) board.pack_minutes most in
     let still_doors : runs.rung.doors ≡ runs.lined.doors = bell.rest.doors in
     let doors_then : work.mid.doors ≡ runs.lined.doors = work.bell.rest.doors ∙ still_doors in
@@ -53,7 +53,7 @@ serves_all door_for bell_over path most board old read opened new befores openin
       afters = closes.afters;
       over = over_areas path board (lines ++ last ∷ []) old read opened runs.worked new befores openings from runs.to
           end.is_doubtful has out opens (omega (arith, works.started)) many
-          (λ n within. work_keeps opened.readings board runs.gates work.gates_after runs.rings work.rings_after from runs.to work.tallies works n within)
+          (λ n within. work_keeps opened.readings board most runs.gates work.gates_after runs.rings work.rings_after from runs.to work.tallies works n within)
           (work.doors.disks ∙ work.bell.disks ∙ bell.disks ∙ doors.disks)
           (work.doors.calls ∙ work.bell.calls ∙ bell.calls
           ∙ ap (and_call last) doors.calls ∙ calls_then lines (lines ++ last ∷ []) last opened.calls refl)
@@ -65,9 +65,7 @@ serves_all door_for bell_over path most board old read opened new befores openin
           sym (gives.rest.waiting) ∙ sym (out.rest.waiting) ∙ doors.first
           ∙ ap (option_map (λ (rest : List Gate). runs.gates ++ rest)) (sym (back.rest.waiting ∙ work.doors.rest.waiting ∙ work.bell.rest.waiting ∙ bell.rest.waiting));
       doors = λ before told.
-          let gone : runs.lined.doors ≡ option_map (with_doors_out nodes) opened.doors
-          = doors.out ∙ ap (λ (l : List ℕ). option_map (with_doors_out l) opened.doors) (nodes_of_lines board most nodes) in
-          doors_now ∙ doors_return nodes work.gates_after opened runs.lined work.mid runs.worked gone doors_then work.doors before (out.rest.doors ∙ gives.rest.doors ∙ told);
+          doors_now ∙ doors_return nodes work.gates_after opened runs.lined work.mid runs.worked doors.out doors_then work.doors before (out.rest.doors ∙ gives.rest.doors ∙ told);
       rings = runs.rings;
       rounds = runs.rounds;
       rings_after = work.rings_after;
@@ -77,10 +75,10 @@ serves_all door_for bell_over path most board old read opened new befores openin
           let gone : runs.rung.bell ≡ Some bell_out = bell.out ∙ ap (option_map (λ (_ : Belfry). bell_out)) stood in
           back.rest.bell ∙ work.doors.rest.bell ∙ work.bell.back bell_out gone refl;
       tallies = work.tallies;
-      works = subst (λ (r : Option (List ℕ)). WorkAll r board runs.gates work.gates_after runs.rings work.rings_after from runs.to work.tallies) same_readings works;
+      works = subst (λ (r : Option (List ℕ)). WorkAll r board (lines_for board most) runs.gates work.gates_after runs.rings work.rings_after from runs.to work.tallies) same_readings works;
       failed = work.failed;
       door = λ failed. counted.rose
-          (omega (arith, a_door_failed opened.readings board runs.gates work.gates_after runs.rings work.rings_after from runs.to work.tallies works (sym work.failed ∙ failed)));
+          (omega (arith, a_door_failed opened.readings board (lines_for board most) runs.gates work.gates_after runs.rings work.rings_after from runs.to work.tallies works (sym work.failed ∙ failed)));
       counted = counted;
       rest = record {
         settings = back.rest.settings ∙ work.doors.rest.settings ∙ work.bell.rest.settings ∙ bell.rest.settings ∙ doors.rest.settings ∙ out.rest.settings ∙ gives.rest.settings;
@@ -96,18 +94,18 @@ serves_all door_for bell_over path most board old read opened new befores openin
 
 -- the host's clocks show the same when the doors and the bell are out
 pub readings_kept : {R B C : Type 0} (gate : R → Gate) (readings : C → Option (List ℕ)) (door_for : Option ℕ → Gate → Type 0) (bell_over : ℕ → ℕ → Option ℕ → Rings → Type 0) (board : Board) (most : Option ℕ) (rings : Rings) (workers : List (Worker R B C)) (old rung : Desk)
-    → OpensLines gate readings door_for board most bell_over rings workers old rung → rung.readings ≡ old.readings
+    → OpensLines gate readings door_for most board bell_over rings workers old rung → rung.readings ≡ old.readings
 readings_kept gate readings door_for bell_over board most rings workers old rung opens = opens.gives.rest.readings ∙ opens.has.doors.rest.readings
 
 -- a run on areas that are open, from its doors to its end
 pub runs_on : {R B C : Type 0} (gate : R → Gate) (readings : C → Option (List ℕ)) (door_for : Option ℕ → Gate → Type 0) (bell_over : ℕ → ℕ → Option ℕ → Rings → Type 0) (board : Board) (most : Option ℕ) (rings : Rings) (workers : List (Worker R B C)) (old rung worked new : Desk)
-    (taken from to : Rows) (is_doubtful door_failed : Bool) → OpensLines gate readings door_for board most bell_over rings workers old rung → taken ≡ from
-    → WorkToTheEnd rung.readings board (gates_of gate workers) rings taken to rung worked door_failed → ClosesAll board.areas to worked new is_doubtful
+    (taken from to : Rows) (is_doubtful door_failed : Bool) → OpensLines gate readings door_for most board bell_over rings workers old rung → taken ≡ from
+    → WorkToTheEnd rung.readings board (lines_for board most) (gates_of gate workers) rings taken to rung worked door_failed → ClosesAll board.areas to worked new is_doubtful
     → RunsOn door_for bell_over board most from old new (record { is_doubtful = is_doubtful; door_failed = door_failed })
 runs_on gate readings door_for bell_over board most rings workers old rung worked new taken from to is_doubtful door_failed opens same works closes = record {
   gates = gates_of gate workers;
   lined = opens.mid;
-  doors = subst (λ (n : ℕ). HandsDoors (first_lines board most n) (gates_of gate workers) old opens.mid) opens.all opens.has.doors;
+  doors = opens.has.doors;
   made = opens.has.made;
   rings = rings;
   rung = rung;
@@ -115,7 +113,7 @@ runs_on gate readings door_for bell_over board most rings workers old rung worke
   rounds = opens.rounds;
   to = to;
   worked = worked;
-  works = subst (λ (r : Option (List ℕ)). WorkToTheEnd r board (gates_of gate workers) rings from to rung worked door_failed) (readings_kept gate readings door_for bell_over board most rings workers old rung opens)
-      (subst (λ (l : Rows). WorkToTheEnd rung.readings board (gates_of gate workers) rings l to rung worked door_failed) same works);
+  works = subst (λ (r : Option (List ℕ)). WorkToTheEnd r board (lines_for board most) (gates_of gate workers) rings from to rung worked door_failed) (readings_kept gate readings door_for bell_over board most rings workers old rung opens)
+      (subst (λ (l : Rows). WorkToTheEnd rung.readings board (lines_for board most) (gates_of gate workers) rings l to rung worked door_failed) same works);
   closes = closes;
 }

@@ -7,14 +7,16 @@ use Rattle.jb_host.specs.Wire.{Wire}
 use Rattle.jb_model.specs.declared.command.Command.{Command}
 use Rattle.jb_model.specs.declared.reply.Reply.{Reply}
 use Rattle.jb_session.specs.Exchanges.{NodeState}
-use Rattle.jb_session.specs.Served.{Served}
+use Rattle.jb_server.specs.Sessions.{ServedAs}
+use Rattle.jb_server.specs.declared.service.Service.{Service}
+use Rattle.jb_server.specs.declared.service.Service.TheVariants.{Menus, News}
+use Rattle.jb_session.specs.Served.{Served, ServedBy}
 use Rattle.jb_session.specs.declared.end.SessionEnd.{SessionEnd}
 use Rattle.jb_session.proofs.Passing as session
 use Rattle.jb_shared.specs.Calls.{Calls}
 use Rattle.jb_shared.specs.Looks.{Looks}
 use Rattle.jb_shared.specs.Passes.{Known, PassView, turned_away}
 use Rattle.jb_shared.specs.declared.error.SharedError.{SharedError}
-use Rattle.jb_talk.specs.Talking.{asker_of}
 
 -- the pass is still of this node, and goes on from this opening
 pub record KeepsStart (old new : Known) : Type 0 where
@@ -40,9 +42,19 @@ looked old new l = record { node = ap (λ (k : Known). k.node) l.same; opening =
 barred : (old new : Known) → new ≡ turned_away old → KeepsStart old new
 barred old new is = record { node = ap (λ (k : Known). k.node) is; opening = ap (λ (k : Known). k.opening) is }
 
--- through a whole session
-pub keeps_starts : (board : Board) (one other : Wire) (from to : NodeState) (end : SessionEnd) → Served board one from end other to
+-- through a whole session, whatever is said in it
+through : (talks : _) (asker_of : _) (board : Board) (one other : Wire) (from to : NodeState) (end : SessionEnd) → ServedBy talks asker_of board one from end other to
     → (k : ℕ) (pass : PassView) → KeepsStart (slice_index_or from.passes k pass).known (slice_index_or to.passes k pass).known
-keeps_starts board one other from to end served =
+through talks asker_of board one other from to end served =
     session.keeps_through KeepsStart (λ known. is_same known known refl) and_then by_call looked barred (asker_of board) served.exchanges served.last from served.mid to
     served.passed served.lacks
+
+pub keeps_starts : (board : Board) (one other : Wire) (from to : NodeState) (end : SessionEnd) → Served board one from end other to
+    → (k : ℕ) (pass : PassView) → KeepsStart (slice_index_or from.passes k pass).known (slice_index_or to.passes k pass).known
+keeps_starts board one other from to end served = through _ _ board one other from to end served
+
+-- in whatever way the caller is served
+pub served_keeps : (service : Service) (board : Board) (one other : Wire) (from to : NodeState) (end : SessionEnd) → ServedAs service board one from end other to
+    → (k : ℕ) (pass : PassView) → KeepsStart (slice_index_or from.passes k pass).known (slice_index_or to.passes k pass).known
+served_keeps Menus board one other from to end served = through _ _ board one other from to end served
+served_keeps News board one other from to end served = through _ _ board one other from to end served

@@ -1,4 +1,4 @@
--- What the nodes and the packer leave of what their passes know: whose they are, and the opening from which they went on.
+-- What workers leave of what their passes know: whose they are, and the opening from which they went on.
 use Rattle.std.proofs.Common.{◌≡◌, ◌≢◌, ℕ, ◌+◌, ◌-◌, ◌<◌, ◌==◌, Bool, true, false, List, [], ◌∷◌, length, refl, sym, ap, subst, arith}
 use Rattle.std.specs.Prelude.{Option, Some, None, slice_index_or}
 use Rattle.std.proofs.lemmas.Bool.Decides.{nat_tests}
@@ -7,16 +7,20 @@ use Rattle.jb_conf.specs.declared.board.Board.{Board}
 use Rattle.jb_host.specs.Gate.{Gate}
 use Rattle.jb_host.specs.Real.{silent_gate}
 use Rattle.jb_host.specs.Rings.{Rings}
-use Rattle.jb_run.proofs.Passing.{KeepsStart, and_then, called, is_same, keeps_starts}
+use Rattle.jb_run.proofs.Lists.{one_of}
+use Rattle.jb_run.proofs.Numbers.{line_with}
+use Rattle.jb_run.proofs.Passing.{KeepsStart, and_then, called, is_same, served_keeps}
 use Rattle.jb_model.specs.declared.command.Command.TheVariants.{Pack}
 use Rattle.jb_server.specs.Rounds.{AnswersRing, Came, OnPass, Rung, RungsRun}
-use Rattle.jb_server.specs.Sessions.{Session, SessionsRun}
+use Rattle.jb_server.specs.Sessions.{ServedAs, Session, SessionsRun}
 use Rattle.jb_server.specs.Tallies.{no_tally}
+use Rattle.jb_server.specs.declared.service.Service.{Service}
 use Rattle.jb_server.specs.declared.tally.Tally.{Tally}
 use Rattle.jb_session.specs.Exchanges.{AsksPass, NodeState, node_with}
 use Rattle.jb_shared.specs.Passes.{Known, PassView}
 use Rattle.jb_run.specs.Workers.{Rows, packer}
-use Rattle.jb_run.specs.Working.{WorkAll}
+use Rattle.jb_run.specs.Lines.{Line, lines_for}
+use Rattle.jb_run.specs.Working.{WorkAll, row_of}
 
 -- each of these passes is still of its node, and goes on from its opening
 abbrev pub KeepStarts : List PassView → List PassView → Type 0
@@ -28,11 +32,12 @@ all_same from to is k pass = is_same _ _ (ap (λ (w : List PassView). (slice_ind
 then_all : (from mid to : List PassView) → KeepStarts from mid → KeepStarts mid to → KeepStarts from to
 then_all from mid to one two k pass = and_then _ _ _ (one k pass) (two k pass)
 
--- through the sessions of a node
-pub sessions_keep : (board : Board) (sessions : List Session) (from to : NodeState) → SessionsRun board from sessions to → KeepStarts from.passes to.passes
-sessions_keep board [] from to is = all_same from.passes to.passes (ap (λ (w : NodeState). w.passes) is)
-sessions_keep board (session ∷ sessions) from to run =
-    then_all from.passes run.0.passes to.passes (keeps_starts board session.given session.back from run.0 session.end run.1) (sessions_keep board sessions run.0 to run.2)
+-- through sessions
+pub sessions_keep : (service : Service) (board : Board) (sessions : List Session) (from to : NodeState) → SessionsRun (ServedAs service board) from sessions to → KeepStarts from.passes to.passes
+sessions_keep service board [] from to is = all_same from.passes to.passes (ap (λ (w : NodeState). w.passes) is)
+sessions_keep service board (session ∷ sessions) from to run =
+    then_all from.passes run.0.passes to.passes (served_keeps service board session.given session.back from run.0 session.end run.1)
+    (sessions_keep service board sessions run.0 to run.2)
 
 -- what happens on one pass
 on_pass : (number : ℕ) (happens : Known → Known → Type 0) (from to : List PassView) → OnPass number happens from to
@@ -65,10 +70,10 @@ rings_keep user (rung ∷ rungs) from to run =
     then_all from.passes run.0.passes to.passes (ring_keeps user rung.number rung.came from run.0 run.1) (rings_keep user rungs run.0 to run.2)
 
 -- through all work
-pub work_keeps : (readings : Option (List ℕ)) (board : Board) (gates gates_after : List Gate) (rings rings_after : Rings) (from to : Rows) (tallies : List Tally)
-    → WorkAll readings board gates gates_after rings rings_after from to tallies → (n : ℕ) → n < length from
+pub work_keeps : (readings : Option (List ℕ)) (board : Board) (most : Option ℕ) (gates gates_after : List Gate) (rings rings_after : Rings) (from to : Rows) (tallies : List Tally)
+    → WorkAll readings board (lines_for board most) gates gates_after rings rings_after from to tallies → (n : ℕ) → n < length from
     → KeepStarts (slice_index_or from n []) (slice_index_or to n [])
-work_keeps readings board gates gates_after rings rings_after from to tallies works n within = by (n == board.nodes) refl
+work_keeps readings board most gates gates_after rings rings_after from to tallies works n within = by (n == board.nodes) refl
   where
     by : (b : Bool) → (n == board.nodes) ≡ b → KeepStarts (slice_index_or from n []) (slice_index_or to n [])
     by true is =
@@ -79,6 +84,11 @@ work_keeps readings board gates gates_after rings rings_after from to tallies wo
         packed.answers.run)
     by false is =
         let other : n ≢ board.nodes = grind (arith, nat_tests) in
-        let low : n < board.nodes = omega (arith, within, works.started, other) in
-        let node = works.nodes n (silent_gate 0 false None) (silent_gate 0 false None) no_tally low in
-        sessions_keep board node.1.sessions (node_with readings (slice_index_or from n [])) (node_with node.0 (slice_index_or to n [])) node.1.serves.run
+        let lines : List Line = lines_for board most in
+        let one = line_with board most n (omega (arith, within, works.started)) other in
+        let absent : Line = one_of lines one.0 one.1 in
+        let line : Line = slice_index_or lines one.0 absent in
+        let served = works.served one.0 absent (silent_gate 0 false None) (silent_gate 0 false None) no_tally one.1 in
+        let place : line.node - 1 ≡ n = omega (arith, one.2 absent) in
+        subst (λ (m : ℕ). KeepStarts (slice_index_or from m []) (slice_index_or to m [])) place
+        (sessions_keep line.service board served.1.sessions (node_with readings (row_of from line)) (node_with served.0 (row_of to line)) served.1.serves.run)

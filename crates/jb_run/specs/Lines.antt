@@ -1,37 +1,45 @@
--- The doors of a host's nodes and its bell, as they are handed out and taken back.
-use Rattle.std.specs.Prelude.{◌≡◌, ℕ, All, List, [], ◌∷◌, ◌++◌, length, map, Option}
+-- The doors of a run and its bell, as they are handed out and taken back.
+use Rattle.std.specs.Prelude.{◌≡◌, ℕ, ◌+◌, All, List, [], ◌∷◌, ◌++◌, length, map, Option, Some, None}
 use Rattle.std.specs.List.{range_with_len, sum_by}
 use Rattle.std.specs.Option.{ForSome, option_map}
 use Rattle.jb_conf.specs.declared.board.Board.{Board}
 use Rattle.jb_host.specs.Desk.{CountsFailed, Desk, Doors, HostCall, KeepsRest, RefusesCall, asked_bell, asked_door, door_out, has_door, with_door}
 use Rattle.jb_host.specs.Gate.{Gate}
 use Rattle.jb_host.specs.declared.host.HostError.{HostError}
+use Rattle.jb_server.specs.declared.service.Service.{Service}
+use Rattle.jb_server.specs.declared.service.Service.TheVariants.{Menus, News}
 
 -- the nodes from 1 on, so many
 abbrev pub first_nodes : ℕ → List ℕ
 first_nodes count = range_with_len 1 count
 
--- a line: the door of a node, at a port and for so many calls
+-- a line: how its callers are served, on which passes, counted from 1, and its door, at a port and for so many calls
 pub record Line : Type 0 where
+  pub service : Service
   pub node : ℕ
   pub port : ℕ
   pub calls : Option ℕ
 
--- the nodes of lines
+-- whose passes lines are on
 abbrev pub nodes_of : List Line → List ℕ
 nodes_of lines = map (λ line. line.node) lines
 
 -- the line of a node of a board
 abbrev pub line_for : Board → Option ℕ → ℕ → Line
-line_for board most node = record { node = node; port = board.port; calls = most }
+line_for board most node = record { service = Menus; node = node; port = board.port; calls = most }
 
--- the lines of its first nodes
+-- those of its first nodes
 abbrev pub first_lines : Board → Option ℕ → ℕ → List Line
 first_lines board most count = map (line_for board most) (first_nodes count)
 
--- the lines of all its nodes
+-- the line of news, where there is a port for it, on passes behind those of so many nodes and of the packer
+abbrev pub news_lines : ℕ → Option ℕ → Option ℕ → List Line
+news_lines nodes None most = []
+news_lines nodes (Some port) most = record { service = News; node = nodes + 2; port = port; calls = most } ∷ []
+
+-- all lines of a board: those of its nodes, and then that of news
 abbrev pub lines_for : Board → Option ℕ → List Line
-lines_for board most = first_lines board most board.nodes
+lines_for board most = first_lines board most board.nodes ++ news_lines board.nodes board.news_port most
 
 -- the call for the door of a line
 abbrev pub asked_line : Line → HostCall

@@ -1,4 +1,4 @@
--- A run with many nodes: what each node and the packer do, and what is left.
+-- A run with many nodes: what each worker does, and what is left.
 use Rattle.std.specs.Prelude.{◌≡◌, ℕ, ◌+◌, All, true, List, [], ◌∷◌, ◌++◌, length, map, Option, Some, Result, Ok, Err}
 use Rattle.std.specs.Option.{ForSome, option_map}
 use Rattle.jb_bytes.specs.Fault.{Rose}
@@ -11,7 +11,7 @@ use Rattle.jb_server.specs.declared.tally.Tally.{Tally}
 use Rattle.jb_run.specs.All.{any}
 use Rattle.jb_run.specs.Begins.{BeginsNone, RefusesLines}
 use Rattle.jb_run.specs.Desks.{disk_faults}
-use Rattle.jb_run.specs.Lines.{asked_doors, door_faults, first_nodes, lines_for, with_doors}
+use Rattle.jb_run.specs.Lines.{asked_doors, door_faults, lines_for, nodes_of, with_doors}
 use Rattle.jb_run.specs.Over.{OverAreas}
 use Rattle.jb_run.specs.Workers.{Rows}
 use Rattle.jb_run.specs.Working.{WorkAll}
@@ -20,7 +20,7 @@ use Rattle.jb_run.specs.declared.nodes_end.NodesEnd.{NodesEnd}
 
 -- where what a door for so many calls is as it is handed out, and a bell over so many areas, is this
 module _ (door_for : Option ℕ → Gate → Type 0) (bell_over : ℕ → ℕ → Option ℕ → Rings → Type 0) where
-  -- all nodes are served, and the packer, of the board that the settings say; the doors were asked for in order, and then the bell
+  -- all lines are served, and the packer packs, of the board that the settings say; the doors were asked for in order, and then the bell
   pub record ServesAll (path : List ℕ) (most : Option ℕ) (old new : Desk) (end : NodesEnd) : Type 0 where
     pub board : Board
     pub from : Rows
@@ -32,7 +32,7 @@ module _ (door_for : Option ℕ → Gate → Type 0) (bell_over : ℕ → ℕ �
     pub made : All (door_for most) gates
     pub gates_after : List Gate
     pub doors_were : old.waiting ≡ option_map (λ rest. gates ++ rest) new.waiting
-    pub doors : ForSome old.doors (λ before. new.doors ≡ Some (with_doors (first_nodes board.nodes) gates_after before))
+    pub doors : ForSome old.doors (λ before. new.doors ≡ Some (with_doors (nodes_of (lines_for board most)) gates_after before))
     pub rings : Rings
     pub rounds : bell_over (length board.areas) board.pack_minutes most rings
     pub rings_after : Rings
@@ -40,8 +40,8 @@ module _ (door_for : Option ℕ → Gate → Type 0) (bell_over : ℕ → ℕ �
     pub bell : ForSome old.bell (λ _. new.bell ≡ Some (has_bell rings_after))
     -- all work at once, each with a clock of the host
     pub tallies : List Tally
-    pub works : WorkAll old.readings board gates gates_after rings rings_after from to tallies
-    -- a door has failed just where its node counts that, and so the host
+    pub works : WorkAll old.readings board (lines_for board most) gates gates_after rings rings_after from to tallies
+    -- a door has failed just where the count of its line says that, and so the host
     pub failed : end.door_failed ≡ any (map (λ tally. tally.door_failed) tallies)
     pub door : end.door_failed ≡ true → Rose old.failed new.failed
     -- whose count rises where a disk or a door that came back had failed; nothing else of it has changed

@@ -8,6 +8,10 @@ use Rattle.jb_conf.specs.declared.board.BoardArea.{BoardArea}
 abbrev pub listening_line : ℕ → ℕ → List ℕ
 listening_line port nodes = codes "listening port " ++ decimal port ++ codes " nodes " ++ decimal nodes
 
+-- the line of the port of news, without its end
+abbrev pub news_line : ℕ → List ℕ
+news_line port = codes "news on port " ++ decimal port
+
 -- the line of an area and of how many of its messages are live, without its end
 abbrev pub area_line : List ℕ → ℕ → List ℕ
 area_line name live = codes "area " ++ name ++ codes " live " ++ decimal live

@@ -1,24 +1,28 @@
 -- The workers of a run: made ready as their doors are handed out, and taken apart when they are done.
-use Rattle.std.specs.Prelude.{◌≡◌, ℕ, ◌+◌, ◌<◌, All, Bool, false, List, [], ◌∷◌, ◌++◌, codes, drop, length, map, slice_index_or, Option, None}
+use Rattle.std.specs.Prelude.{◌≡◌, ◌≢◌, ℕ, ◌+◌, ◌-◌, ◌<◌, ◌≤◌, All, AllPairs, Bool, false, List, [], ◌∷◌, ◌++◌, codes, length, map, set, Option, None}
+use Rattle.std.specs.List.{AllZip}
 use Rattle.jb_base.specs.declared.user.User.{User}
 use Rattle.jb_conf.specs.declared.board.Board.{Board}
 use Rattle.jb_host.specs.Desk.{Desk, GivesBell, GivesDoor, TakesBell, TakesDoor}
 use Rattle.jb_host.specs.Gate.{Gate}
 use Rattle.jb_host.specs.Real.{silent_gate}
 use Rattle.jb_host.specs.Rings.{Rings}
+use Rattle.jb_host.specs.declared.host.HostError.{HostError}
 use Rattle.jb_server.specs.Tallies.{no_tally}
 use Rattle.jb_server.specs.declared.tally.Tally.{Tally}
+use Rattle.jb_server.specs.declared.service.Service.TheVariants as service
+use Rattle.jb_server.specs.declared.worker.NodeSlot.{NodeSlot}
 use Rattle.jb_server.specs.declared.worker.PackSlot.{PackSlot}
 use Rattle.jb_server.specs.declared.worker.Worker.{Worker}
-use Rattle.jb_server.specs.declared.worker.Worker.TheVariants.{Node, Packer}
+use Rattle.jb_server.specs.declared.worker.Worker.TheVariants.{News, Node, Packer}
 use Rattle.jb_shared.specs.Passes.{PassView}
-use Rattle.jb_run.specs.Lines.{HandsDoors, first_lines}
+use Rattle.jb_run.specs.Lines.{HandsDoors, Line, StopsLines, lines_for}
 
 -- the user as whom areas are packed
 abbrev pub packer : User
 packer = record { name = codes "Packer"; id = 0; level = 255 }
 
--- the passes of the nodes of a run: of each node from 1 on, and behind them of the packer, one of each area in order
+-- the passes of a run: of each node from 1 on, behind them of the packer, and then of news where it is served, one of each area in order
 abbrev pub Rows : Type 0
 Rows = List (List PassView)
 
@@ -27,28 +31,48 @@ module _ {R B C : Type 0} where
   abbrev pub worker_passes : Worker R B C → List PassView
   worker_passes (Node slot) = slot.passes.items
   worker_passes (Packer slot) = slot.passes.items
+  worker_passes (News slot) = slot.passes.items
+
+  -- and their number, from 1
+  abbrev pub number_of : Worker R B C → ℕ
+  number_of (Node slot) = slot.node
+  number_of (Packer slot) = slot.node
+  number_of (News slot) = slot.node
+
+  -- the numbers of theirs
+  abbrev pub numbers_of : List (Worker R B C) → List ℕ
+  numbers_of workers = map number_of workers
 
   -- what it has counted; a packer counts no callers
   abbrev pub tally_of : Worker R B C → Tally
   tally_of (Node slot) = slot.tally
   tally_of (Packer slot) = no_tally
+  tally_of (News slot) = slot.tally
 
   -- what each has counted
   abbrev pub tallies_of : List (Worker R B C) → List Tally
   tallies_of workers = map tally_of workers
 
-  -- the passes of all, with those of these workers in front
+  -- the passes of all, with those of these workers at their places
   abbrev pub with_passes : List (Worker R B C) → Rows → Rows
-  with_passes workers rows = map worker_passes workers ++ drop (length workers) rows
+  with_passes [] rows = rows
+  with_passes (worker ∷ workers) rows = set (with_passes workers rows) (number_of worker - 1) (worker_passes worker)
 
-  -- it is the node with this number
-  abbrev pub IsNode : ℕ → Worker R B C → Type 0
-  IsNode number (Node slot) = slot.node ≡ number
-  IsNode number (Packer slot) = ⊥
+  -- the passes of each are its own, among so many
+  pub record HaveOwn (count : ℕ) (workers : List (Worker R B C)) : Type 0 where
+    pub within : All (λ worker. (0 < number_of worker) × (number_of worker ≤ count)) workers
+    pub apart : AllPairs (λ one other. number_of one ≢ number_of other) workers
 
-  -- they are the nodes from 1 on
-  abbrev pub AreNodes : List (Worker R B C) → Type 0
-  AreNodes workers = (k : ℕ) (absent : Worker R B C) → k < length workers → IsNode (k + 1) (slice_index_or workers k absent)
+  -- it has a door
+  abbrev pub HasDoor : Worker R B C → Type 0
+  HasDoor (Packer slot) = ⊥
+  HasDoor _ = Unit {0}
+
+  -- it serves the callers of the line
+  abbrev pub HasLine : Line → Worker R B C → Type 0
+  HasLine line (Node slot) = (line.service ≡ service.Menus) × (slot.node ≡ line.node)
+  HasLine line (Packer slot) = ⊥
+  HasLine line (News slot) = (line.service ≡ service.News) × (slot.node ≡ line.node)
 
 -- of doors that show themselves so
 module _ {R B C : Type 0} (gate : R → Gate) where
@@ -56,57 +80,64 @@ module _ {R B C : Type 0} (gate : R → Gate) where
   abbrev pub gate_of : Worker R B C → Gate
   gate_of (Node slot) = gate slot.door
   gate_of (Packer slot) = silent_gate 0 false None
+  gate_of (News slot) = gate slot.door
 
   -- the door of each
   abbrev pub gates_of : List (Worker R B C) → List Gate
   gates_of workers = map gate_of workers
 
--- of clocks that tell their readings so, where a clock of the host tells these
+-- of clocks that tell their readings so, where a clock of the host tells these: it has one, and has counted nothing yet
+pub record IsFreshSlot {R C : Type 0} (readings : C → Option (List ℕ)) (told : Option (List ℕ)) (slot : NodeSlot R C) : Type 0 where
+  pub clock : readings slot.clock ≡ told
+  pub none : slot.tally ≡ no_tally
+
 module _ {R B C : Type 0} (readings : C → Option (List ℕ)) (told : Option (List ℕ)) where
-  -- it is the node with this number, with a clock of the host, and has counted nothing yet
-  abbrev pub IsFreshWorker : ℕ → Worker R B C → Type 0
-  IsFreshWorker number (Node slot) = (slot.node ≡ number) × (readings slot.clock ≡ told) × (slot.tally ≡ no_tally)
-  IsFreshWorker number (Packer slot) = ⊥
+  -- who is ready is one with a door
+  abbrev pub IsFresh : Worker R B C → Type 0
+  IsFresh (Node slot) = IsFreshSlot readings told slot
+  IsFresh (Packer slot) = ⊥
+  IsFresh (News slot) = IsFreshSlot readings told slot
 
-  -- they are the nodes from 1 on, and ready
-  abbrev pub AreReady : List (Worker R B C) → Type 0
-  AreReady workers = (k : ℕ) (absent : Worker R B C) → k < length workers → IsFreshWorker (k + 1) (slice_index_or workers k absent)
-
--- the packer is ready: with a clock of the host, as the user who packs, and has packed nothing yet
-pub record PackerIsReady {B C : Type 0} (readings : C → Option (List ℕ)) (told : Option (List ℕ)) (slot : PackSlot B C) : Type 0 where
+-- the packer is ready: on the passes behind those of the nodes, with a clock of the host, as the user who packs, and has packed nothing yet
+pub record PackerIsReady {B C : Type 0} (readings : C → Option (List ℕ)) (told : Option (List ℕ)) (board : Board) (slot : PackSlot B C) : Type 0 where
+  pub number : slot.node ≡ board.nodes + 1
   pub clock : readings slot.clock ≡ told
   pub user : slot.user ≡ packer
   pub none : slot.packs ≡ 0
 
--- of doors and clocks that show themselves so, where what a door for so many calls is as it is handed out is this
-module _ {R B C : Type 0} (gate : R → Gate) (readings : C → Option (List ℕ)) (door_for : Option ℕ → Gate → Type 0) (board : Board) (most : Option ℕ) where
-  -- the next node is ready: its door was handed out
-  pub record AddsNode (fewer more : List (Worker R B C)) (old new : Desk) : Type 0 where
-    pub worker : Worker R B C
-    pub is : more ≡ fewer ++ worker ∷ []
-    pub ready : IsFreshWorker readings old.readings (length fewer + 1) worker
-    pub gives : GivesDoor (length fewer + 1) board.port most (gate_of gate worker) old new
-    pub made : door_for most (gate_of gate worker)
+-- of doors and clocks that show themselves so, where what a door for so many calls is as it is handed out is this: one was, for these passes
+-- and at this port, and who serves there is ready
+pub record OpensLine {R C : Type 0} (gate : R → Gate) (readings : C → Option (List ℕ)) (door_for : Option ℕ → Gate → Type 0) (most : Option ℕ) (node port : ℕ) (slot : NodeSlot R C) (old new : Desk) : Type 0 where
+  pub number : slot.node ≡ node
+  pub ready : IsFreshSlot readings old.readings slot
+  pub gives : GivesDoor node port most (gate slot.door) old new
+  pub made : door_for most (gate slot.door)
 
-  -- these nodes are ready: their doors were handed out
-  pub record HasNodes (workers : List (Worker R B C)) (old new : Desk) : Type 0 where
-    pub doors : HandsDoors (first_lines board most (length workers)) (gates_of gate workers) old new
+module _ {R B C : Type 0} (gate : R → Gate) (readings : C → Option (List ℕ)) (door_for : Option ℕ → Gate → Type 0) (most : Option ℕ) where
+  -- the doors of these lines were handed out, and those who serve there are ready
+  pub record HasWorkers (lines : List Line) (workers : List (Worker R B C)) (old new : Desk) : Type 0 where
+    pub each : AllZip HasLine lines workers
+    pub doors : HandsDoors lines (gates_of gate workers) old new
     pub made : All (door_for most) (gates_of gate workers)
-    pub ready : AreReady readings old.readings workers
+    pub ready : All (IsFresh readings old.readings) workers
 
-  -- all nodes are ready, and the bell was handed out, which is what one over so many areas is then
-  pub record OpensLines (bell_over : ℕ → ℕ → Option ℕ → Rings → Type 0) (rings : Rings) (workers : List (Worker R B C)) (old new : Desk) : Type 0 where
+  -- all lines are open, and the bell was handed out, which is what one over so many areas is then
+  pub record OpensLines (board : Board) (bell_over : ℕ → ℕ → Option ℕ → Rings → Type 0) (rings : Rings) (workers : List (Worker R B C)) (old new : Desk) : Type 0 where
     pub mid : Desk
-    pub has : HasNodes workers old mid
-    pub all : length workers ≡ board.nodes
+    pub has : HasWorkers (lines_for board most) workers old mid
     pub gives : GivesBell (length board.areas) board.pack_minutes most rings mid new
     pub rounds : bell_over (length board.areas) board.pack_minutes most rings
 
--- the last of these nodes is taken apart, and its door put back
+-- the doors of the first lines were handed out to these workers, and the next door or the bell was refused
+pub record StopsAt {R B C : Type 0} (gate : R → Gate) (board : Board) (most : Option ℕ) (workers : List (Worker R B C)) (error : HostError) (old new : Desk) : Type 0 where
+  pub stops : StopsLines board most (gates_of gate workers) error old new
+  pub each : AllZip HasLine stops.done workers
+
+-- the last of these workers is taken apart, and its door put back
 pub record PartsLast {R B C : Type 0} (gate : R → Gate) (more fewer : List (Worker R B C)) (old new : Desk) (has_failed : Bool) : Type 0 where
   pub worker : Worker R B C
   pub is : more ≡ fewer ++ worker ∷ []
-  pub back : TakesDoor (length fewer + 1) (gate_of gate worker) old new
+  pub back : TakesDoor (number_of worker) (gate_of gate worker) old new
   pub failed : has_failed ≡ (tally_of worker).door_failed
 
 -- the last of these workers is the packer

@@ -1,5 +1,5 @@
--- What the nodes and the packer of a run do, on areas that are open.
-use Rattle.std.specs.Prelude.{◌≡◌, ℕ, ◌+◌, ◌<◌, All, Bool, List, [], length, map, slice_index_or, Option}
+-- What the workers of a run do, on areas that are open.
+use Rattle.std.specs.Prelude.{◌≡◌, ℕ, ◌+◌, ◌-◌, ◌<◌, All, Bool, List, [], length, map, slice_index_or, Option}
 use Rattle.jb_run.specs.All.{Abandons, ClosesAll, OpenAs, any}
 use Rattle.jb_conf.specs.declared.board.Board.{Board}
 use Rattle.jb_disk.specs.Device.{Device}
@@ -8,13 +8,14 @@ use Rattle.jb_host.specs.Gate.{Gate}
 use Rattle.jb_host.specs.Rings.{Rings}
 use Rattle.jb_host.specs.declared.host.HostError.{HostError}
 use Rattle.jb_server.specs.Rounds.{PackerWorks}
-use Rattle.jb_server.specs.Sessions.{NodeWorks}
+use Rattle.jb_server.specs.Sessions.{ServedAs, Works}
 use Rattle.jb_server.specs.Tallies.{no_tally}
 use Rattle.jb_server.specs.declared.tally.Tally.{Tally}
 use Rattle.jb_session.specs.Exchanges.{AreOf, node_with}
+use Rattle.jb_shared.specs.Passes.{PassView}
 use Rattle.jb_shared.specs.declared.opening.Opening.{Opening}
 use Rattle.jb_shared.specs.declared.shared.SharedArea.{SharedArea}
-use Rattle.jb_run.specs.Lines.{HandsDoors, PutsDoors, StopsLines, first_nodes, lines_for, nodes_of}
+use Rattle.jb_run.specs.Lines.{HandsDoors, Line, PutsDoors, StopsLines, lines_for, nodes_of}
 use Rattle.jb_run.specs.Workers.{Rows, packer}
 use Rattle.jb_run.specs.declared.nodes_end.NodesEnd.{NodesEnd}
 
@@ -22,32 +23,38 @@ use Rattle.jb_run.specs.declared.nodes_end.NodesEnd.{NodesEnd}
 abbrev pub AreAllOf : {D : Type 0} → List (SharedArea D) → Rows → Type 0
 AreAllOf areas rows = (n : ℕ) → n < length rows → AreOf areas (slice_index_or rows n [])
 
--- the nodes and the packer have worked, from these passes, doors and this bell to those, each with a clock of its own that began with these readings
-pub record WorkAll (readings : Option (List ℕ)) (board : Board) (gates gates_after : List Gate) (rings rings_after : Rings) (from to : Rows) (tallies : List Tally) : Type 0 where
-  pub doors : length gates ≡ board.nodes
-  pub doors_after : length gates_after ≡ board.nodes
-  pub counts : length tallies ≡ board.nodes
-  pub started : length from ≡ board.nodes + 1
-  pub ended : length to ≡ board.nodes + 1
-  -- node k + 1 has served one caller after another on the links of its door, until that was shut or failed
-  pub nodes : (k : ℕ) (gate gate_after : Gate) (tally : Tally) → k < board.nodes
-      → (left : Option (List ℕ)) × NodeWorks board (slice_index_or gates k gate) (node_with readings (slice_index_or from k [])) no_tally
-      (slice_index_or gates_after k gate_after) (node_with left (slice_index_or to k [])) (slice_index_or tallies k tally)
-  -- the packer has packed at each ring, until its bell was shut
+-- the passes that a line is on
+abbrev pub row_of : Rows → Line → List PassView
+row_of rows line = slice_index_or rows (line.node - 1) []
+
+-- the workers of these lines and the packer have worked, from these passes, doors and this bell to those, each with a clock of its own that
+-- began with these readings
+pub record WorkAll (readings : Option (List ℕ)) (board : Board) (lines : List Line) (gates gates_after : List Gate) (rings rings_after : Rings) (from to : Rows) (tallies : List Tally) : Type 0 where
+  pub doors : length gates ≡ length lines
+  pub doors_after : length gates_after ≡ length lines
+  pub counts : length tallies ≡ length lines
+  pub started : length from ≡ length lines + 1
+  pub ended : length to ≡ length lines + 1
+  -- on each line one caller after another was served as it says, on the links of its door, until that was shut or failed
+  pub served : (k : ℕ) (line : Line) (gate gate_after : Gate) (tally : Tally) → k < length lines
+      → (left : Option (List ℕ)) × Works (ServedAs (slice_index_or lines k line).service board)
+      (slice_index_or gates k gate) (node_with readings (row_of from (slice_index_or lines k line))) no_tally
+      (slice_index_or gates_after k gate_after) (node_with left (row_of to (slice_index_or lines k line))) (slice_index_or tallies k tally)
+  -- the packer, whose passes come behind those of the nodes, has packed at each ring, until its bell was shut
   pub packs : ℕ
   pub left : Option (List ℕ)
   pub packed : PackerWorks packer rings (node_with readings (slice_index_or from board.nodes [])) 0 rings_after
       (node_with left (slice_index_or to board.nodes [])) packs
 
 -- they have worked, and their doors and the bell are put back
-pub record WorkToTheEnd (readings : Option (List ℕ)) (board : Board) (gates : List Gate) (rings : Rings) (from to : Rows) (old new : Desk) (door_failed : Bool) : Type 0 where
+pub record WorkToTheEnd (readings : Option (List ℕ)) (board : Board) (lines : List Line) (gates : List Gate) (rings : Rings) (from to : Rows) (old new : Desk) (door_failed : Bool) : Type 0 where
   pub gates_after : List Gate
   pub rings_after : Rings
   pub tallies : List Tally
-  pub works : WorkAll readings board gates gates_after rings rings_after from to tallies
+  pub works : WorkAll readings board lines gates gates_after rings rings_after from to tallies
   pub mid : Desk
   pub bell : TakesBell rings_after old mid
-  pub doors : PutsDoors (first_nodes board.nodes) gates_after mid new
+  pub doors : PutsDoors (nodes_of lines) gates_after mid new
   pub failed : door_failed ≡ any (map (λ tally. tally.door_failed) tallies)
 
 -- a run on areas that are open, with these passes: doors and the bell are handed out, all work, and everything is closed and put back
@@ -62,7 +69,7 @@ pub record RunsOn (door_for : Option ℕ → Gate → Type 0) (bell_over : ℕ �
   pub rounds : bell_over (length board.areas) board.pack_minutes most rings
   pub to : Rows
   pub worked : Desk
-  pub works : WorkToTheEnd old.readings board gates rings from to rung worked end.door_failed
+  pub works : WorkToTheEnd old.readings board (lines_for board most) gates rings from to rung worked end.door_failed
   pub closes : ClosesAll board.areas to worked new end.is_doubtful
 
 -- a door or the bell was refused; the doors that were handed out are put back, and the areas closed as they were opened

@@ -1,9 +1,9 @@
 //! A run of the board, from the settings to all disks put back: at the console with one session ([`local`]), or at ports with many
-//! nodes and a packer ([`serve_nodes`]).
+//! nodes, a packer, and a server of news where the settings have a port for it ([`serve_nodes`]).
 //!
 //! The layer above may rely on this: either nobody is served, the first refusal is told ([`RunError`]) and all that was handed out is
-//! back; or the settings are read, each area is opened over the disk that the host has for it and shared among the nodes, in order,
-//! the caller, or each node's callers and the packer, have been served on areas whose histories have all of it, and everything is
+//! back; or the settings are read, each area is opened over the disk that the host has for it and shared among the workers, in order,
+//! the caller, or the callers of each door and the packer, have been served on areas whose histories have all of it, and everything is
 //! closed and put back. An area goes on from just what its files open to, and its disk comes back with what its history has made of
 //! them; where one is refused, those before it are closed.
 #![tactic(auto)]

@@ -1,10 +1,10 @@
-//! The workers of a run: room for them, and each node as the host hands its door out.
-ghost use Rattle.std.specs.Prelude.{◌≡◌, ◌+◌, ◌<◌, ◌≤◌, ◌++◌, ◌∷◌, [], IfErr, IfOk, OnOk, length, set, slice_index_or, vec_capacity, vec_len};
+//! The workers of a run: room for them, and each line as the host hands its door out.
+ghost use Rattle.std.specs.Prelude.{◌≡◌, ◌+◌, ◌-◌, ◌<◌, ◌≤◌, ℕ, Option, [], IfErr, IfOk, OnOk, length, set, slice_index_or, vec_capacity};
 ghost use Rattle.jb_run.specs.Rows.{lists_of};
 ghost use Rattle.jb_limits.specs.declared.limits.TheConstants.{MOST_AREAS, MOST_NODES};
-ghost use Rattle.jb_host.specs.Desk.{RefusesCall, asked_door};
-ghost use Rattle.jb_run.specs.Lines.{StopsLines};
-ghost use Rattle.jb_run.specs.Workers.{AddsNode, AreNodes, OpensLines, gates_of, packer, with_passes};
+ghost use Rattle.jb_host.specs.Desk.{Desk, RefusesCall, asked_door};
+ghost use Rattle.jb_run.specs.Lines.{first_lines, lines_for};
+ghost use Rattle.jb_run.specs.Workers.{HasWorkers, OpensLine, OpensLines, StopsAt, packer, with_passes};
 
 use jb_base::{Name, OutOfMemory, User};
 use jb_conf::Board;
@@ -26,17 +26,28 @@ pub(crate) struct Room<R, B, C> {
     pub packer: User,
 }
 
-/// Room for so many nodes and the packer.
+/// How many workers a board has, each with a pass of each area: its nodes, the packer, and where it has a port for news one more.
+pub(crate) fn workers_of(board: &Board) -> u32
+    ensures count { (most : Option ℕ) → result ≡ length (lines_for board.now most) + 1 }
+    ensures few { result ≤ MOST_NODES + 1 }
+{
+    match board.news_port {
+        Some(_) => board.nodes + 2,
+        None => board.nodes + 1,
+    }
+}
+
+/// Room for so many workers.
 pub(crate) fn room_for<R: Drop, B: Drop, C: Drop>(
     alloc: Global,
-    nodes: u32,
+    workers: u32,
 ) -> Result<Room<R, B, C>, OutOfMemory>
-    requires { nodes ≤ MOST_NODES }
+    requires { workers ≤ MOST_NODES + 1 }
     ensures none { IfOk result (λ room. room.workers.items ≡ []) }
-    ensures room { IfOk result (λ room. nodes + 1 ≤ vec_capacity room.workers) }
+    ensures room { IfOk result (λ room. workers ≤ vec_capacity room.workers) }
     ensures packer { IfOk result (λ room. room.packer ≡ packer) }
 {
-    let workers = Vec::with_capacity(alloc, nodes as usize + 1)?;
+    let workers = Vec::with_capacity(alloc, workers as usize)?;
     let name = Name::copy(alloc, PACKER)?;
     let packer = User {
         name,
@@ -55,8 +66,39 @@ pub(crate) fn take_passes(alloc: Global, nodes: &mut Vec<Vec<Pass>>, place: usiz
     mem::replace(&mut nodes[place], Vec::new(alloc))
 }
 
-/// Makes the next node: its door is handed out, and its passes are taken.
-fn add_node<H: Host>(
+/// Opens a line: the door for these passes is handed out, and they are taken.
+fn open_line<H: Host>(
+    alloc: Global,
+    host: &mut H,
+    node: u32,
+    port: u16,
+    calls: Option<u32>,
+    nodes: &mut Vec<Vec<Pass>>,
+) -> Result<NodeSlot<H::Door, H::Clock>, HostError>
+    requires some { 0 < node }
+    requires within { node ≤ length nodes.old.items }
+    ensures ok { IfOk result (λ slot.
+        OpensLine H.Door.gate H.Clock.readings H.door_for calls node port slot (H.desk host.old) (H.desk host.new)) }
+    ensures taken { IfOk result (λ slot. slot.passes.items ≡ slice_index_or (lists_of nodes.old.items) (node - 1) []) }
+    ensures left { OnOk result (lists_of nodes.new.items ≡ set (lists_of nodes.old.items) (node - 1) []) }
+    ensures err { IfErr result (λ error. (nodes.new ≡ nodes.old)
+        × RefusesCall (asked_door node port calls) error (H.desk host.old) (H.desk host.new)) }
+    ensures lists { length nodes.new.items ≡ length nodes.old.items }
+{
+    let door = host.door(node, port, calls)?;
+    let clock = host.clock();
+    let passes = take_passes(alloc, nodes, node as usize - 1);
+    Ok(NodeSlot {
+        node,
+        door,
+        clock,
+        passes,
+        tally: Tally::new(),
+    })
+}
+
+/// Opens the lines of all nodes, in order.
+fn open_nodes<H: Host>(
     alloc: Global,
     host: &mut H,
     board: &Board,
@@ -64,38 +106,61 @@ fn add_node<H: Host>(
     nodes: &mut Vec<Vec<Pass>>,
     workers: &mut Vec<Worker<H::Door, H::Bell, H::Clock>>,
 ) -> Result<(), HostError>
-    requires few { length workers.old.items < MOST_NODES }
-    requires list { length workers.old.items < length nodes.old.items }
-    requires room { vec_len workers.old < vec_capacity workers.old }
-    ensures ok { OnOk result
-        (AddsNode H.Door.gate H.Clock.readings H.door_for board.now calls workers.old.items workers.new.items
-        (H.desk host.old) (H.desk host.new)) }
-    ensures rows { OnOk result (with_passes workers.new.items (lists_of nodes.new.items)
-        ≡ with_passes workers.old.items (lists_of nodes.old.items)) }
-    ensures err { IfErr result (λ error. (nodes.new ≡ nodes.old) × (workers.new ≡ workers.old)
-        × RefusesCall (asked_door (length workers.old.items + 1) board.now.port calls) error
+    requires none { workers.old.items ≡ [] }
+    requires lists { length (lines_for board.now calls) < length nodes.old.items }
+    requires room { length (lines_for board.now calls) < vec_capacity workers.old }
+    ensures ok { OnOk result (HasWorkers H.Door.gate H.Clock.readings H.door_for calls
+        (first_lines board.now calls board.now.nodes) workers.new.items (H.desk host.old) (H.desk host.new)) }
+    ensures err { IfErr result (λ error. StopsAt H.Door.gate board.now calls workers.new.items error
         (H.desk host.old) (H.desk host.new)) }
 
-    // There are as many lists as before, and as much room.
+    // The workers that were made have their passes.
+    ensures rows { with_passes workers.new.items (lists_of nodes.new.items) ≡ lists_of nodes.old.items }
     ensures lists { length nodes.new.items ≡ length nodes.old.items }
     ensures room { vec_capacity workers.new ≡ vec_capacity workers.old }
 {
-    let place = workers.len();
-    let node = place as u32 + 1;
-    let door = host.door(node, board.port, calls)?;
-    let clock = host.clock();
-    let passes = take_passes(alloc, nodes, place);
-    workers.push_reserved(Worker::Node(NodeSlot {
-        node,
-        door,
-        clock,
-        passes,
-        tally: Tally::new(),
-    }));
+    while workers.len() < board.nodes as usize {
+        let node = workers.len() as u32 + 1;
+        let slot = open_line(alloc, host, node, board.port, calls, nodes)?;
+        workers.push_reserved(Worker::Node(slot));
+    }
     Ok(())
 }
 
-/// Makes all nodes, in order, and hands out the bell.
+/// Opens the line of news, where the board has one, behind those of all nodes.
+fn open_news<H: Host>(
+    alloc: Global,
+    host: &mut H,
+    board: &Board,
+    calls: Option<u32>,
+    nodes: &mut Vec<Vec<Pass>>,
+    workers: &mut Vec<Worker<H::Door, H::Bell, H::Clock>>,
+) -> Result<(), HostError>
+    requires count { length workers.old.items ≡ board.now.nodes }
+    requires lists { length (lines_for board.now calls) < length nodes.old.items }
+    requires room { length (lines_for board.now calls) < vec_capacity workers.old }
+    ensures ok { OnOk result ((old : Desk)
+        → HasWorkers H.Door.gate H.Clock.readings H.door_for calls (first_lines board.now calls board.now.nodes) workers.old.items old (H.desk host.old)
+        → HasWorkers H.Door.gate H.Clock.readings H.door_for calls (lines_for board.now calls) workers.new.items old (H.desk host.new)) }
+    ensures err { IfErr result (λ error. (old : Desk)
+        → HasWorkers H.Door.gate H.Clock.readings H.door_for calls (first_lines board.now calls board.now.nodes) workers.old.items old (H.desk host.old)
+        → StopsAt H.Door.gate board.now calls workers.new.items error old (H.desk host.new)) }
+
+    // The workers that were made have their passes.
+    ensures rows { with_passes workers.new.items (lists_of nodes.new.items)
+        ≡ with_passes workers.old.items (lists_of nodes.old.items) }
+    ensures lists { length nodes.new.items ≡ length nodes.old.items }
+    ensures room { vec_capacity workers.new ≡ vec_capacity workers.old }
+{
+    let Some(port) = board.news_port else {
+        return Ok(());
+    };
+    let slot = open_line(alloc, host, board.nodes + 2, port, calls, nodes)?;
+    workers.push_reserved(Worker::News(slot));
+    Ok(())
+}
+
+/// Opens all lines, in order, and hands out the bell.
 pub(crate) fn open_lines<H: Host>(
     alloc: Global,
     host: &mut H,
@@ -104,26 +169,21 @@ pub(crate) fn open_lines<H: Host>(
     nodes: &mut Vec<Vec<Pass>>,
     workers: &mut Vec<Worker<H::Door, H::Bell, H::Clock>>,
 ) -> Result<H::Bell, HostError>
-    requires nodes { board.now.nodes ≤ MOST_NODES }
-    requires areas { length board.now.areas ≤ MOST_AREAS }
     requires none { workers.old.items ≡ [] }
-    requires lists { board.now.nodes < length nodes.old.items }
-    requires room { board.now.nodes < vec_capacity workers.old }
-    ensures ok { IfOk result (λ bell. OpensLines H.Door.gate H.Clock.readings H.door_for board.now
-        calls H.bell_over (H.Bell.rings bell) workers.new.items (H.desk host.old) (H.desk host.new)) }
-    ensures err { IfErr result (λ error. StopsLines board.now calls
-        (gates_of H.Door.gate workers.new.items) error (H.desk host.old) (H.desk host.new)) }
+    requires lists { length (lines_for board.now calls) < length nodes.old.items }
+    requires room { length (lines_for board.now calls) < vec_capacity workers.old }
+    ensures ok { IfOk result (λ bell. OpensLines H.Door.gate H.Clock.readings H.door_for calls board.now
+        H.bell_over (H.Bell.rings bell) workers.new.items (H.desk host.old) (H.desk host.new)) }
+    ensures err { IfErr result (λ error. StopsAt H.Door.gate board.now calls workers.new.items error
+        (H.desk host.old) (H.desk host.new)) }
 
-    // The nodes that were made have their passes.
-    ensures nodes { AreNodes workers.new.items }
-    ensures few { length workers.new.items ≤ board.now.nodes }
+    // The workers that were made have their passes.
     ensures rows { with_passes workers.new.items (lists_of nodes.new.items) ≡ lists_of nodes.old.items }
     ensures lists { length nodes.new.items ≡ length nodes.old.items }
     ensures room { vec_capacity workers.new ≡ vec_capacity workers.old }
 {
-    while workers.len() < board.nodes as usize {
-        add_node(alloc, host, board, calls, nodes, workers)?;
-    }
+    open_nodes(alloc, host, board, calls, nodes, workers)?;
+    open_news(alloc, host, board, calls, nodes, workers)?;
     let areas = board.areas.as_slice().len() as u32;
     host.bell(areas, board.pack_minutes, calls)
 }

@@ -1,21 +1,24 @@
 //! The run of many nodes.
-ghost use Rattle.std.specs.Prelude.{◌≡◌, ◌+◌, ◌<◌, ◌≤◌, ◌++◌, ◌∷◌, ℕ, List, [], IfErr, IfOk, length, map, vec_capacity, vec_len};
+ghost use Rattle.std.specs.Prelude.{◌≡◌, ◌+◌, ◌<◌, ◌≤◌, ◌++◌, ◌∷◌, ℕ, Option, List, [], All, IfErr, IfOk, length, vec_capacity, vec_len};
+ghost use Rattle.std.specs.List.{AllZip};
+ghost use Rattle.jb_server.specs.declared.worker.Worker.TheVariants.{Packer as is_packer};
 ghost use Rattle.jb_run.specs.All.{AreShared};
 ghost use Rattle.jb_run.specs.Rows.{lists_of};
 ghost use Rattle.jb_host.specs.Desk.{Desk};
 ghost use Rattle.jb_run.specs.Begins.{HasBoard};
+ghost use Rattle.jb_run.specs.Lines.{lines_for};
 ghost use Rattle.jb_run.specs.Nodes.{RunsNodes};
-ghost use Rattle.jb_run.specs.Workers.{AreReady, PackerIsReady, gates_of, packer, worker_passes};
+ghost use Rattle.jb_run.specs.Workers.{HasLine, IsFresh, PackerIsReady, gates_of, packer, with_passes};
 ghost use Rattle.jb_run.specs.Working.{AreAllOf, GivesUp, RunsOn, WorkToTheEnd};
 
 use crate::closing::{abandon_areas, close_areas};
 use crate::console::board_at;
 use crate::error::RunError;
-use crate::lines::{Room, open_lines, room_for, take_passes};
+use crate::lines::{Room, open_lines, room_for, take_passes, workers_of};
 use crate::nodes_end::NodesEnd;
 use crate::opening::{SharedAreas, open_areas};
-use crate::parting::{part_nodes, part_packer};
-use crate::telling::{port_of, tell_open};
+use crate::parting::{part_lines, part_packer};
+use crate::telling::{news_port_of, port_of, tell_open};
 use jb_conf::Board;
 use jb_host::{Door, Host, HostError};
 use jb_server::{PackSlot, Worker, serve};
@@ -23,9 +26,9 @@ use std::alloc::Global;
 use std::sync::Wait;
 use std::thread::Threads;
 
-/// Nodes that are ready, and the packer.
+/// Those who serve the lines, ready, and the packer.
 struct Crew<R, B, C> {
-    nodes: Vec<Worker<R, B, C>>,
+    lines: Vec<Worker<R, B, C>>,
     packer: PackSlot<B, C>,
 }
 
@@ -35,6 +38,7 @@ fn work<T: Threads + Wait + Sync, H: Host>(
     alloc: Global,
     host: &mut H,
     board: &Board,
+    calls: Option<u32>,
     shared: &mut SharedAreas<H::Disk>,
     crew: Crew<H::Door, H::Bell, H::Clock>,
 ) -> bool
@@ -45,29 +49,29 @@ where
     H::Bell: Send,
     H::Clock: Send,
     requires areas { length shared.old.areas.items ≡ length board.now.areas }
-    requires nodes { length crew.nodes.items ≡ board.now.nodes }
-    requires lists { length shared.old.nodes.items ≡ board.now.nodes + 1 }
-    requires room { vec_len crew.nodes < vec_capacity crew.nodes }
-    requires ready { AreReady H.Clock.readings (H.desk host.old).readings crew.nodes.items }
-    requires packer { PackerIsReady H.Clock.readings (H.desk host.old).readings crew.packer }
+    requires lines { AllZip HasLine (lines_for board.now calls) crew.lines.items }
+    requires lists { length shared.old.nodes.items ≡ length (lines_for board.now calls) + 1 }
+    requires room { vec_len crew.lines < vec_capacity crew.lines }
+    requires ready { All (IsFresh H.Clock.readings (H.desk host.old).readings) crew.lines.items }
+    requires packer { PackerIsReady H.Clock.readings (H.desk host.old).readings board.now crew.packer }
     requires ours { AreAllOf shared.old.areas.items
-        (map worker_passes crew.nodes.items ++ crew.packer.passes.items ∷ []) }
-    ensures worked { WorkToTheEnd (H.desk host.old).readings board.now
-        (gates_of H.Door.gate crew.nodes.items) (H.Bell.rings crew.packer.bell)
-        (map worker_passes crew.nodes.items ++ crew.packer.passes.items ∷ [])
+        (with_passes (crew.lines.items ++ is_packer crew.packer ∷ []) (lists_of shared.old.nodes.items)) }
+    ensures worked { WorkToTheEnd (H.desk host.old).readings board.now (lines_for board.now calls)
+        (gates_of H.Door.gate crew.lines.items) (H.Bell.rings crew.packer.bell)
+        (with_passes (crew.lines.items ++ is_packer crew.packer ∷ []) (lists_of shared.old.nodes.items))
         (lists_of shared.new.nodes.items) (H.desk host.old) (H.desk host.new) result }
 
     // The areas are the same, and the passes are still theirs.
     ensures areas { shared.new ≡ record shared.old { nodes = shared.new.nodes } }
     ensures ours { AreAllOf shared.new.areas.items (lists_of shared.new.nodes.items) }
 {
-    let Crew { nodes, packer } = crew;
-    let mut workers = nodes;
+    let Crew { lines, packer } = crew;
+    let mut workers = lines;
     workers.push_reserved(Worker::Packer(packer));
     let areas = shared.areas.as_slice();
     serve(rt, alloc, board, areas, workers.as_mut_slice());
     part_packer(host, &mut shared.nodes, &mut workers);
-    part_nodes(host, &mut shared.nodes, workers)
+    part_lines(host, &mut shared.nodes, workers)
 }
 
 /// The run on areas that are open; they are closed behind it.
@@ -87,9 +91,9 @@ where
     H::Bell: Send,
     H::Clock: Send,
     requires none { room.workers.items ≡ [] }
-    requires room { board.now.nodes + 1 ≤ vec_capacity room.workers }
+    requires room { length (lines_for board.now calls) < vec_capacity room.workers }
     requires packer { room.packer ≡ packer }
-    requires whole { AreShared shared (board.now.nodes + 1) (length board.now.areas) }
+    requires whole { AreShared shared (length (lines_for board.now calls) + 1) (length board.now.areas) }
     ensures ok { IfOk result (λ end. RunsOn H.door_for H.bell_over board.now calls (lists_of shared.nodes.items)
         (H.desk host.old) (H.desk host.new) end) }
     ensures err { IfErr result (λ error. GivesUp board.now calls (lists_of shared.nodes.items)
@@ -102,8 +106,9 @@ where
     match open_lines(alloc, host, board, calls, &mut shared.nodes, &mut workers) {
         Ok(bell) => {
             let clock = host.clock();
-            let passes = take_passes(alloc, &mut shared.nodes, workers.len());
+            let passes = take_passes(alloc, &mut shared.nodes, board.nodes as usize);
             let packer = PackSlot {
+                node: board.nodes + 1,
                 bell,
                 clock,
                 passes,
@@ -111,12 +116,13 @@ where
                 packs: 0,
             };
             let crew = Crew {
-                nodes: workers,
+                lines: workers,
                 packer,
             };
-            let port = port_of(board, &crew.nodes);
-            tell_open(host, board, port, shared.live.as_slice());
-            let door_failed = work(rt, alloc, host, board, &mut shared, crew);
+            let port = port_of(board, &crew.lines);
+            let news = news_port_of(board, &crew.lines);
+            tell_open(host, board, port, news, shared.live.as_slice());
+            let door_failed = work(rt, alloc, host, board, calls, &mut shared, crew);
             let is_doubtful = close_areas(rt, host, board.areas.as_slice(), shared);
             host.note("closed");
             Ok(NodesEnd {
@@ -125,7 +131,7 @@ where
             })
         }
         Err(error) => {
-            part_nodes(host, &mut shared.nodes, workers);
+            part_lines(host, &mut shared.nodes, workers);
             abandon_areas(rt, host, board.areas.as_slice(), shared);
             Err(error)
         }
@@ -149,15 +155,16 @@ where
     ensures { (path : List ℕ) (old : Desk) → HasBoard path board.now old (H.desk host.old)
         → RunsNodes H.door_for H.bell_over path calls old (H.desk host.new) result }
 {
-    let Ok(room) = room_for(alloc, board.nodes) else {
+    let workers = workers_of(board);
+    let Ok(room) = room_for(alloc, workers) else {
         return Err(RunError::OutOfMemory);
     };
-    let shared = open_areas(rt, alloc, host, board.areas.as_slice(), board.nodes + 1)?;
+    let shared = open_areas(rt, alloc, host, board.areas.as_slice(), workers)?;
     Ok(serve_areas(rt, alloc, host, board, calls, room, shared)?)
 }
 
 /// A run with many nodes of the board that the settings file at this path says: each node serves callers at a door of its own, so many
-/// or as many as come, and the areas are packed meanwhile. The operator is told when callers may come, and when all is closed.
+/// or as many as come, and another readers of news, where the settings have a port for them; the areas are packed meanwhile. The operator is told when callers may come, and when all is closed.
 /// Everything that the host handed out is back then.
 pub fn serve_nodes<T: Threads + Wait + Sync, H: Host>(
     rt: &T,

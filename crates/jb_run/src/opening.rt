@@ -22,7 +22,7 @@ use std::sync::Wait;
 /// `abandon_areas`.
 pub(crate) struct SharedAreas<D: Disk> {
     pub areas: Vec<SharedArea<D>>,
-    /// For each node, from 1 on, its passes: one of each area, in order.
+    /// For each worker, from 1 on, its passes: one of each area, in order.
     pub nodes: Vec<Vec<Pass>>,
     /// For each area how many of its messages were live as it was opened.
     pub live: Vec<usize>,

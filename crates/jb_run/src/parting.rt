@@ -1,58 +1,68 @@
 //! Workers that are done: their doors and the bell go back to the host, and their passes to the areas.
-ghost use Rattle.std.specs.Prelude.{◌≡◌, ◌≤◌, [], IfNone, IfSome, length, map};
+ghost use Rattle.std.specs.Prelude.{◌≡◌, ◌⊎◌, [], All, IfNone, IfSome, length, map};
+ghost use Rattle.jb_server.specs.declared.worker.Worker.TheVariants.{News as is_news, Node as is_node};
 ghost use Rattle.jb_run.specs.All.{any};
 ghost use Rattle.jb_run.specs.Rows.{lists_of};
-ghost use Rattle.jb_run.specs.Lines.{PutsDoors, first_nodes};
-ghost use Rattle.jb_run.specs.Workers.{AreNodes, EndsWithPacker, PartsLast, PartsPacker, gates_of, tallies_of, with_passes};
+ghost use Rattle.jb_run.specs.Lines.{PutsDoors};
+ghost use Rattle.jb_run.specs.Workers.{EndsWithPacker, HasDoor, HaveOwn, PartsLast, PartsPacker, gates_of, numbers_of, tallies_of, with_passes};
 
 use jb_host::Host;
 use jb_server::{NodeSlot, PackSlot, Worker};
 use jb_shared::Pass;
 
-/// Takes the last of the nodes apart, where there is one. Says whether its door has failed.
+/// What one with a door works with.
+fn slot_of<R: Drop, B: Drop, C: Drop>(worker: Worker<R, B, C>) -> NodeSlot<R, C>
+    requires { HasDoor worker }
+    ensures { (worker ≡ is_node result) ⊎ (worker ≡ is_news result) }
+{
+    match worker {
+        Worker::Node(slot) => slot,
+        Worker::News(slot) => slot,
+        Worker::Packer(_) => unreachable!(),
+    }
+}
+
+/// Takes the last of the workers with doors apart, where there is one. Says whether its door has failed.
 fn part_last<H: Host>(
     host: &mut H,
     nodes: &mut Vec<Vec<Pass>>,
     workers: &mut Vec<Worker<H::Door, H::Bell, H::Clock>>,
 ) -> Option<bool>
-    requires nodes { AreNodes workers.old.items }
-    requires lists { length workers.old.items ≤ length nodes.old.items }
+    requires doors { All HasDoor workers.old.items }
+    requires own { HaveOwn (length nodes.old.items) workers.old.items }
     ensures some { IfSome result (λ failed.
         PartsLast H.Door.gate workers.old.items workers.new.items (H.desk host.old)
         (H.desk host.new) failed) }
     ensures none { IfNone result ((workers.old.items ≡ []) × (H.desk host.new ≡ H.desk host.old)
         × (nodes.new ≡ nodes.old)) }
 
-    // The nodes that are left have their passes, and the others are back.
-    ensures nodes { AreNodes workers.new.items }
+    // The workers that are left have their passes, and the others are back.
     ensures rows { with_passes workers.new.items (lists_of nodes.new.items)
         ≡ with_passes workers.old.items (lists_of nodes.old.items) }
     ensures lists { length nodes.new.items ≡ length nodes.old.items }
 {
-    let Worker::Node(slot) = workers.pop()? else {
-        unreachable!()
-    };
+    let worker = workers.pop()?;
     let NodeSlot {
         node,
         door,
         passes,
         tally,
         ..
-    } = slot;
+    } = slot_of(worker);
     host.put_door(node, door);
-    nodes[workers.len()] = passes;
+    nodes[node as usize - 1] = passes;
     Some(tally.door_failed)
 }
 
-/// Takes nodes apart. Says whether a door has failed.
-pub(crate) fn part_nodes<H: Host>(
+/// Takes workers with doors apart. Says whether a door has failed.
+pub(crate) fn part_lines<H: Host>(
     host: &mut H,
     nodes: &mut Vec<Vec<Pass>>,
     mut workers: Vec<Worker<H::Door, H::Bell, H::Clock>>,
 ) -> bool
-    requires nodes { AreNodes workers.items }
-    requires lists { length workers.items ≤ length nodes.old.items }
-    ensures doors { PutsDoors (first_nodes (length workers.items)) (gates_of H.Door.gate workers.items)
+    requires doors { All HasDoor workers.items }
+    requires own { HaveOwn (length nodes.old.items) workers.items }
+    ensures doors { PutsDoors (numbers_of workers.items) (gates_of H.Door.gate workers.items)
         (H.desk host.old) (H.desk host.new) }
     ensures failed { result ≡ any (map (λ tally. tally.door_failed) (tallies_of workers.items)) }
     ensures rows { lists_of nodes.new.items ≡ with_passes workers.items (lists_of nodes.old.items) }
@@ -71,7 +81,7 @@ pub(crate) fn part_packer<H: Host>(
     workers: &mut Vec<Worker<H::Door, H::Bell, H::Clock>>,
 )
     requires last { EndsWithPacker workers.old.items }
-    requires lists { length workers.old.items ≤ length nodes.old.items }
+    requires own { HaveOwn (length nodes.old.items) workers.old.items }
     ensures bell { PartsPacker H.Bell.rings workers.old.items workers.new.items (H.desk host.old)
         (H.desk host.new) }
     ensures rows { with_passes workers.new.items (lists_of nodes.new.items)
@@ -81,7 +91,12 @@ pub(crate) fn part_packer<H: Host>(
     let Some(Worker::Packer(slot)) = workers.pop() else {
         unreachable!()
     };
-    let PackSlot { bell, passes, .. } = slot;
+    let PackSlot {
+        node,
+        bell,
+        passes,
+        ..
+    } = slot;
     host.put_bell(bell);
-    nodes[workers.len()] = passes;
+    nodes[node as usize - 1] = passes;
 }

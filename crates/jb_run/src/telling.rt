@@ -2,7 +2,7 @@
 ghost use Rattle.std.specs.Prelude.{◌≡◌, ◌≤◌, IsTrue, length};
 ghost use Rattle.std.specs.List.{list_all};
 ghost use Rattle.jb_conf.specs.Ranges.{is_printed};
-ghost use Rattle.jb_run.specs.Telling.{AreNamed, area_line, listening_line};
+ghost use Rattle.jb_run.specs.Telling.{AreNamed, area_line, listening_line, news_line};
 
 use arrayvec::ArrayString;
 use itoa::Buffer;
@@ -33,6 +33,17 @@ fn listening_line(port: u16, nodes: u32) -> Line
     line
 }
 
+/// The line of the port of news, without its end.
+fn news_line(port: u16) -> Line
+    ensures { result.bytes ≡ news_line port }
+{
+    let mut digits = Buffer::new();
+    let mut line = Line::new();
+    line.push_str("news on port ");
+    line.push_str(digits.format(port));
+    line
+}
+
 /// The line of an area with so many live messages, without its end.
 fn area_line(name: &[u8], live: usize) -> Line
     requires short { length name.now ≤ 24 }
@@ -49,6 +60,16 @@ fn area_line(name: &[u8], live: usize) -> Line
     line.push_str(" live ");
     line.push_str(digits.format(live));
     line
+}
+
+/// Tells at which port readers of news may come, where they may.
+fn tell_news<H: Host>(host: &mut H, port: Option<u16>)
+    ensures { H.desk host.new ≡ H.desk host.old }
+{
+    if let Some(port) = port {
+        let line = news_line(port);
+        host.note(line.as_str());
+    }
 }
 
 /// Tells each area with its number of live messages.
@@ -85,20 +106,38 @@ fn tell_examples<H: Host>(host: &mut H, users: &[BoardUser])
 }
 
 /// The port of the board; where that is 0 the system has picked one, which the doors know.
-pub(crate) fn port_of<D: Door, B, C>(board: &Board, nodes: &Vec<Worker<D, B, C>>) -> u16 {
-    match nodes.as_slice().first() {
+pub(crate) fn port_of<D: Door, B, C>(board: &Board, workers: &Vec<Worker<D, B, C>>) -> u16 {
+    match workers.as_slice().first() {
         Some(Worker::Node(slot)) => slot.door.port().unwrap_or(board.port),
         _ => board.port,
     }
 }
 
-/// Tells at which port callers may come and how many at once, each area with its number of live messages, and each user whose digest is
-/// one of the example.
-pub(crate) fn tell_open<H: Host>(host: &mut H, board: &Board, port: u16, live: &[usize])
+/// The port of news in the same way, where there is one.
+pub(crate) fn news_port_of<D: Door, B, C>(
+    board: &Board,
+    workers: &Vec<Worker<D, B, C>>,
+) -> Option<u16> {
+    match workers.as_slice().last() {
+        Some(Worker::News(slot)) => slot.door.port().or(board.news_port),
+        _ => board.news_port,
+    }
+}
+
+/// Tells at which port callers may come and how many at once, at which readers of news, each area with its number of live messages, and
+/// each user whose digest is one of the example.
+pub(crate) fn tell_open<H: Host>(
+    host: &mut H,
+    board: &Board,
+    port: u16,
+    news: Option<u16>,
+    live: &[usize],
+)
     ensures { H.desk host.new ≡ H.desk host.old }
 {
     let line = listening_line(port, board.nodes);
     host.note(line.as_str());
+    tell_news(host, news);
     tell_areas(host, board.areas.as_slice(), live);
     tell_examples(host, board.users.as_slice());
 }

@@ -1,4 +1,4 @@
--- The sessions of a node, one after another, on the links of its door.
+-- The sessions of callers, one after another, on the links of a door.
 use Rattle.std.specs.Prelude.{◌≡◌, ◌+◌, Bool, true, false, List, [], ◌∷◌, ◌++◌, length, map, Some}
 use Rattle.std.specs.Option.{option_map}
 use Rattle.jb_bytes.specs.Fault.{Rose}
@@ -6,9 +6,11 @@ use Rattle.jb_conf.specs.declared.board.Board.{Board}
 use Rattle.jb_host.specs.Gate.{Gate}
 use Rattle.jb_host.specs.Wire.{Wire}
 use Rattle.jb_session.specs.Exchanges.{NodeState}
-use Rattle.jb_session.specs.Served.{Served}
+use Rattle.jb_session.specs.Served.{Served, ServedNews}
 use Rattle.jb_session.specs.declared.end.SessionEnd.{SessionEnd}
 use Rattle.jb_server.specs.Tallies.{and_failed, counted_all}
+use Rattle.jb_server.specs.declared.service.Service.{Service}
+use Rattle.jb_server.specs.declared.service.Service.TheVariants.{Menus, News}
 use Rattle.jb_server.specs.declared.tally.Tally.{Tally}
 
 -- a session on a link: the link as the door gave it, the end, and the link as it was hung up
@@ -29,17 +31,23 @@ back_of sessions = map (λ session. session.back) sessions
 abbrev pub ends_of : List Session → List SessionEnd
 ends_of sessions = map (λ session. session.end) sessions
 
--- why a node serves no more: its door has failed, or is shut since no call was left
+-- why callers are served no more: the door has failed, or is shut since no call was left
 abbrev pub EndsServing : Bool → Gate → Gate → Type 0
 EndsServing true old new = Rose old.faults new.faults × (new.is_shut ≡ old.is_shut)
 EndsServing false old new = (new.is_shut ≡ true) × (new.left ≡ Some 0) × (new.faults ≡ old.faults)
 
-module _ (board : Board) where
-  -- the sessions were served one after another by this node
+-- a session of a caller who is served so
+abbrev pub ServedAs : Service → Board → Wire → NodeState → SessionEnd → Wire → NodeState → Type 0
+ServedAs Menus = Served
+ServedAs News = ServedNews
+
+-- of callers who are served so
+module _ (served : Wire → NodeState → SessionEnd → Wire → NodeState → Type 0) where
+  -- the sessions came one after another, on these passes
   abbrev pub SessionsRun : NodeState → List Session → NodeState → Type 0
   SessionsRun from [] to = to ≡ from
   SessionsRun from (session ∷ sessions) to =
-      (mid : NodeState) × Served board session.given from session.end session.back mid × SessionsRun mid sessions to
+      (mid : NodeState) × served session.given from session.end session.back mid × SessionsRun mid sessions to
 
   -- and their links are those that the door gave next, each hung up behind its session
   pub record Serves (sessions : List Session) (old : Gate) (from : NodeState) (new : Gate) (to : NodeState) : Type 0 where
@@ -48,8 +56,8 @@ module _ (board : Board) where
     pub hung : new.hung ≡ option_map (λ earlier. earlier ++ back_of sessions) old.hung
     pub left : old.left ≡ option_map (λ n. n + length sessions) new.left
 
-  -- what a node has done once it serves no more: its sessions, each counted under its end
-  pub record NodeWorks (old : Gate) (from : NodeState) (before : Tally) (new : Gate) (to : NodeState) (after : Tally) : Type 0 where
+  -- what one with a door has done once it serves no more: its sessions, each counted under its end
+  pub record Works (old : Gate) (from : NodeState) (before : Tally) (new : Gate) (to : NodeState) (after : Tally) : Type 0 where
     pub sessions : List Session
     pub serves : Serves sessions old from new to
     pub has_failed : Bool

@@ -1,4 +1,4 @@
--- How often a node was called, and how its sessions ended.
+-- How many callers were served, and how their sessions ended.
 use Rattle.std.specs.Prelude.{ℕ, ◌+◌, ◌-◌, ◌^◌, min, Bool, true, false, List}
 use Rattle.std.specs.List.{fold}
 use Rattle.jb_session.specs.declared.end.SessionEnd.{SessionEnd}

@@ -7,30 +7,34 @@ use Rattle.jb_host.specs.Rings.{Rings}
 use Rattle.jb_session.specs.Exchanges.{AreOf, node_with}
 use Rattle.jb_shared.specs.declared.shared.SharedArea.{SharedArea}
 use Rattle.jb_server.specs.Rounds.{PackerWorks}
-use Rattle.jb_server.specs.Sessions.{NodeWorks}
+use Rattle.jb_server.specs.Sessions.{ServedAs, Works}
+use Rattle.jb_server.specs.declared.service.Service.{Service}
+use Rattle.jb_server.specs.declared.service.Service.TheVariants as service
 use Rattle.jb_server.specs.declared.worker.NodeSlot.{NodeSlot}
 use Rattle.jb_server.specs.declared.worker.PackSlot.{PackSlot}
 use Rattle.jb_server.specs.declared.worker.Worker.{Worker}
-use Rattle.jb_server.specs.declared.worker.Worker.TheVariants.{Node, Packer}
+use Rattle.jb_server.specs.declared.worker.Worker.TheVariants.{News, Node, Packer}
 
 module _ {D R B C : Type 0} (areas : List (SharedArea D)) where
   -- a worker has a pass of each area, in order, and a packer a name that an area takes
   abbrev pub IsAtWork : Worker R B C → Type 0
   IsAtWork (Node slot) = AreOf areas slot.passes.items
+  IsAtWork (News slot) = AreOf areas slot.passes.items
   IsAtWork (Packer slot) = AreOf areas slot.passes.items × (length slot.user.name ≤ MOST_NAME_BYTES)
 
 -- of doors and clocks that show themselves so
 module _ {R C : Type 0} (gate : R → Gate) (readings : C → Option (List ℕ)) (board : Board) where
-  -- a node has served until its door was shut or failed
-  pub record NodeHasWorked (old new : NodeSlot R C) : Type 0 where
+  -- one with a door has served its callers so, until that was shut or failed
+  pub record HasServed (service : Service) (old new : NodeSlot R C) : Type 0 where
     pub node : new.node ≡ old.node
-    pub works : NodeWorks board (gate old.door) (node_with (readings old.clock) old.passes.items) old.tally
+    pub works : Works (ServedAs service board) (gate old.door) (node_with (readings old.clock) old.passes.items) old.tally
         (gate new.door) (node_with (readings new.clock) new.passes.items) new.tally
 
 -- of bells and clocks that show themselves so
 module _ {B C : Type 0} (rings : B → Rings) (readings : C → Option (List ℕ)) where
   -- a packer has packed until its bell was shut
   pub record PackerHasWorked (old new : PackSlot B C) : Type 0 where
+    pub node : new.node ≡ old.node
     pub user : new.user ≡ old.user
     pub works : PackerWorks old.user (rings old.bell) (node_with (readings old.clock) old.passes.items) old.packs
         (rings new.bell) (node_with (readings new.clock) new.passes.items) new.packs
@@ -39,6 +43,7 @@ module _ {B C : Type 0} (rings : B → Rings) (readings : C → Option (List ℕ
 module _ {R B C : Type 0} (gate : R → Gate) (rings : B → Rings) (readings : C → Option (List ℕ)) (board : Board) where
   -- a worker has done its work
   abbrev pub HasWorked : Worker R B C → Worker R B C → Type 0
-  HasWorked (Node old) (Node new) = NodeHasWorked gate readings board old new
+  HasWorked (Node old) (Node new) = HasServed gate readings board service.Menus old new
+  HasWorked (News old) (News new) = HasServed gate readings board service.News old new
   HasWorked (Packer old) (Packer new) = PackerHasWorked rings readings old new
   HasWorked _ _ = ⊥

@@ -1,4 +1,4 @@
-//! The workers of a server: a node for each line, which serves one caller after another, and a packer.
+//! The workers of a server: nodes, each of which serves one caller after another, one that serves readers of news, and a packer.
 //!
 //! The layer above may rely on [`serve`]: each worker works on passes of its own; every link that a door gave was served as
 //! `jb_session` says, hung up and counted under its end; each ring of the bell for an area that is there is one pack, asked as the
@@ -7,10 +7,12 @@
 
 mod node;
 mod packer;
+mod service;
 mod serving;
 mod tally;
 mod worker;
 
+pub use service::Service;
 pub use serving::serve;
 pub use tally::Tally;
-pub use worker::{NodeSlot, PackSlot, Worker};
+pub use worker::{NewsSlot, NodeSlot, PackSlot, Worker};

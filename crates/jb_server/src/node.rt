@@ -1,29 +1,30 @@
-//! The work of a node.
+//! The work of one with a door.
 ghost use Rattle.std.specs.Prelude.{◌≡◌, length};
 ghost use Rattle.jb_session.specs.Exchanges.{AreOf};
-ghost use Rattle.jb_server.specs.Workers.{NodeHasWorked};
+ghost use Rattle.jb_server.specs.Workers.{HasServed};
 
+use crate::service::Service;
 use crate::worker::NodeSlot;
 use jb_conf::Board;
 use jb_disk::Disk;
 use jb_host::{Accepted, Clock, Door};
-use jb_session::serve_session;
 use jb_shared::SharedArea;
 use std::alloc::Global;
 use std::sync::Wait;
 
-/// One caller after another, until the door is shut or fails. Each is served on the passes of the node, hung up, and counted.
-pub(crate) fn serve_node<T: Wait, D: Disk, R: Door, C: Clock>(
+/// One caller after another, until the door is shut or fails. Each is served so on the passes, hung up, and counted.
+pub(crate) fn serve_callers<T: Wait, D: Disk, R: Door, C: Clock>(
     rt: &T,
     alloc: Global,
     board: &Board,
     areas: &[SharedArea<D>],
+    service: Service,
     slot: &mut NodeSlot<R, C>,
 )
     requires areas { length areas.now ≡ length board.now.areas }
     requires ours { AreOf areas.now slot.old.passes.items }
     ensures ours { AreOf areas.now slot.new.passes.items }
-    ensures worked { NodeHasWorked R.gate C.readings board.now slot.old slot.new }
+    ensures worked { HasServed R.gate C.readings board.now service slot.old slot.new }
 {
     for _call in rt.forever() {
         match slot.door.accept() {
@@ -33,7 +34,7 @@ pub(crate) fn serve_node<T: Wait, D: Disk, R: Door, C: Clock>(
             }
             Ok(Accepted::Shut) => return,
             Ok(Accepted::Call(mut link)) => {
-                let end = serve_session(
+                let end = service.serve(
                     rt,
                     alloc,
                     board,

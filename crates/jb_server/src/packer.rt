@@ -100,6 +100,7 @@ impl<B: Bell, C: Clock> PackSlot<B, C> {
             (node_with (C.readings self.new.clock) self.new.passes.items) }
 
         // All else stays.
+        ensures node { self.new.node ≡ self.old.node }
         ensures bell { B.rings self.new.bell ≡ B.rings self.old.bell }
         ensures user { self.new.user ≡ self.old.user }
         ensures packs { self.new.packs ≡ self.old.packs }

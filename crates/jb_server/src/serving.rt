@@ -2,8 +2,9 @@
 ghost use Rattle.std.specs.Prelude.{◌≡◌, ◌<◌, All, ℕ, length, slice_index_or};
 ghost use Rattle.jb_server.specs.Workers.{HasWorked, IsAtWork};
 
-use crate::node::serve_node;
+use crate::node::serve_callers;
 use crate::packer::serve_bell;
+use crate::service::Service;
 use crate::worker::Worker;
 use jb_conf::Board;
 use jb_disk::Disk;
@@ -28,8 +29,9 @@ fn work<T: Wait, D: Disk, R: Door, B: Bell, C: Clock>(
     ensures worked { HasWorked R.gate B.rings C.readings board.now worker.old worker.new }
 {
     match worker {
-        Worker::Node(slot) => serve_node(rt, alloc, board, areas, slot),
+        Worker::Node(slot) => serve_callers(rt, alloc, board, areas, Service::Menus, slot),
         Worker::Packer(slot) => serve_bell(rt, alloc, areas, slot),
+        Worker::News(slot) => serve_callers(rt, alloc, board, areas, Service::News, slot),
     }
 }
 

@@ -1,10 +1,10 @@
-//! What a node counts.
+//! What is counted of callers.
 ghost use Rattle.std.specs.Prelude.{◌≡◌, true};
 ghost use Rattle.jb_server.specs.Tallies.{and_failed, tallied, no_tally};
 
 use jb_session::SessionEnd;
 
-/// How many callers a node has served, and how their sessions ended. Counts stop at their greatest value.
+/// How many callers were served, and how their sessions ended. Counts stop at their greatest value.
 #[derive(Clone, Copy, Debug)]
 pub struct Tally {
     /// All sessions.

@@ -4,7 +4,7 @@ use crate::tally::Tally;
 use jb_base::User;
 use jb_shared::Pass;
 
-/// What a node works with: its number, from 1, its door, a clock, a pass of each area in order, and what it has counted.
+/// What a node works with: the number of its passes, from 1, its door, a clock, a pass of each area in order, and what it has counted.
 #[derive(Drop)]
 pub struct NodeSlot<R, C> {
     pub node: u32,
@@ -14,9 +14,14 @@ pub struct NodeSlot<R, C> {
     pub tally: Tally,
 }
 
-/// What a packer works with: its bell, a clock, a pass of each area in order, the user that it is, and how many packs were done.
+/// What a server of news works with: the same, on passes behind those of the packer.
+pub type NewsSlot<R, C> = NodeSlot<R, C>;
+
+/// What a packer works with: the number of its passes, its bell, a clock, a pass of each area in order, the user that it is, and how many
+/// packs were done.
 #[derive(Drop)]
 pub struct PackSlot<B, C> {
+    pub node: u32,
     pub bell: B,
     pub clock: C,
     pub passes: Vec<Pass>,
@@ -28,8 +33,10 @@ pub struct PackSlot<B, C> {
 /// One that works at the same time as others.
 #[derive(Drop)]
 pub enum Worker<R, B, C> {
-    /// It serves callers.
+    /// It serves callers by the menus.
     Node(NodeSlot<R, C>),
     /// It packs areas.
     Packer(PackSlot<B, C>),
+    /// It serves readers of news.
+    News(NewsSlot<R, C>),
 }

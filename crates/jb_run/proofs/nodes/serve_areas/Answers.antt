@@ -1,6 +1,7 @@
-use Rattle.std.proofs.Common.{◌≡◌, ℕ, ◌+◌, ◌++◌, ◌∷◌, [], List, ap, arith, length, map, subst, sym, take, ◌∙◌}
+use Rattle.std.proofs.Common.{◌≡◌, ℕ, ◌+◌, ◌++◌, ◌∷◌, [], List, ap, arith, length, subst, sym, take, ◌∙◌}
+use Rattle.std.specs.Prelude.{All, Option}
 use Rattle.std.proofs.Math.Seq.{take-length}
-use Rattle.std.proofs.lemmas.List.{length-map, length-set}
+use Rattle.std.proofs.lemmas.List.{length-set}
 use Rattle.jb_run.proofs.RowLemmas.{length-lists_of}
 use Rattle.jb_run.proofs.WholeLemmas.{whole_own}
 use Rattle.jb_run.specs.All.{Abandons, AreOpenable, AreShared, ClosesAll, OpenAs}
@@ -8,35 +9,56 @@ use Rattle.jb_run.specs.Rows.{lists_of}
 use Rattle.jb_run.specs.declared.opening.SharedAreas.{SharedAreas}
 use Rattle.jb_conf.specs.declared.board.BoardArea.{BoardArea}
 use Rattle.jb_host.specs.Desk.{Desk}
-use Rattle.jb_run.specs.Lines.{PutsDoors, first_nodes}
-use Rattle.jb_run.specs.Workers.{OpensLines, Rows, gate_of, gates_of, worker_passes}
-use Rattle.jb_run.proofs.Doors.{done_nodes}
+use Rattle.jb_server.specs.declared.worker.PackSlot.{PackSlot}
+use Rattle.jb_server.specs.declared.worker.Worker.TheVariants.{Packer}
+use Rattle.jb_run.specs.Lines.{PutsDoors, lines_for}
+use Rattle.jb_run.specs.Workers.{HasLine, IsFresh, OpensLines, Rows, gates_of, with_passes}
 use Rattle.jb_run.specs.Working.{AreAllOf}
 use Rattle.jb_run.proofs.OverLemmas.{AllKeepStarts}
 use Rattle.jb_run.proofs.NodesClosing.{all_of_whole, are_openable, whole_after, whole_same}
-use Rattle.jb_run.proofs.Crew.{rows_of_crew}
 use Rattle.jb_run.proofs.NodesServing.{runs_on}
+use Rattle.jb_run.proofs.Numbers.{length-lines_for}
+use Rattle.jb_run.proofs.Own.{have_doors, numbers_are, own_lines, rows_taken}
 use Rattle.jb_run.proofs.Starts.{work_keeps}
+use Rattle.jb_run.proofs.Zips.{zip_long}
 use Rattle.jb_run.proofs.nodes.serve_areas.Goals as goal
+
+pub take_passes-passes-requires : goal.take_passes-passes-requires
+take_passes-passes-requires g c = omega (arith, c.in-Ok.ensures.lists, c.requires.whole.lists, length-lines_for c.args.board.now c.args.calls)
 
 pub work-door_failed-requires-clause-lists : goal.work-door_failed-requires-clause-lists
 work-door_failed-requires-clause-lists g c κs within =
     let left = lists_of c.open_lines.new.nodes.items in
-    sym (length-lists_of c.take_passes-passes.new.nodes.items) ∙ ap length c.take_passes-passes.ensures.left ∙ length-set left c.len.result []
+    sym (length-lists_of c.take_passes-passes.new.nodes.items) ∙ ap length c.take_passes-passes.ensures.left ∙ length-set left c.args.board.now.nodes []
     ∙ length-lists_of c.open_lines.new.nodes.items ∙ c.in-Ok.ensures.lists ∙ c.requires.whole.lists
+
+pub work-door_failed-requires-clause-room : goal.work-door_failed-requires-clause-room
+work-door_failed-requires-clause-room g c κs within =
+    omega (arith, zip_long HasLine (lines_for c.args.board.now c.args.calls) c.open_lines.new.workers.items c.in-Ok.ensures.ok.has.each, c.open_lines.new.workers.ok.0, c.in-Ok.ensures.room, c.requires.room)
+
+pub work-door_failed-requires-clause-ready : goal.work-door_failed-requires-clause-ready
+work-door_failed-requires-clause-ready g c κs within =
+    let opened = c.in-Ok.ensures.ok in
+    let same : (g.H.Host.desk c.tell_open.new.host).readings ≡ (g.H.Host.desk c.args.host.now).readings
+    = ap (λ (d : Desk). d.readings) (c.tell_open.ensures ∙ c.clock-clock.ensures.same) ∙ opened.gives.rest.readings ∙ opened.has.doors.rest.readings in
+    subst (λ (told : Option (List ℕ)). All (IsFresh g.H.Clock.Clock.readings told) c.open_lines.new.workers.items) (sym same) opened.has.ready
 
 pub work-door_failed-requires-clause-ours : goal.work-door_failed-requires-clause-ours
 work-door_failed-requires-clause-ours g c κs within =
     let board = c.args.board.now in
     let shared = c.args.shared in
+    let lines = lines_for board c.args.calls in
     let count : ℕ = length board.areas in
     let workers = c.open_lines.new.workers.items in
-    let passes = c.take_passes-passes.result.items in
     let opened = c.in-Ok.ensures.ok in
-    let rows : map worker_passes workers ++ passes ∷ [] ≡ lists_of shared.nodes.items
-    = rows_of_crew workers c.open_lines.new.nodes.items (lists_of shared.nodes.items) passes board.nodes c.len.result c.in-Ok.ensures.rows opened.all
-    (c.in-Ok.ensures.lists ∙ c.requires.whole.lists) (c.len.ensures ∙ c.open_lines.new.workers.ok.0) c.take_passes-passes.ensures.taken in
-    subst (AreAllOf shared.areas.items) (sym rows) (all_of_whole shared (board.nodes + 1) count c.requires.whole)
+    let slot : PackSlot g.row.H-Bell.Denot g.row.H-Clock.Denot
+    = record { node = board.nodes + 1; bell = c.in-Ok.bell; clock = c.clock-clock.result; passes = c.take_passes-passes.result; user = c.args.room.packer; packs = 0 } in
+    let crew = workers ++ Packer slot ∷ [] in
+    let left = lists_of c.take_passes-passes.new.nodes.items in
+    let rows : with_passes crew left ≡ lists_of shared.nodes.items
+    = rows_taken workers (Packer slot) board.nodes (lists_of c.open_lines.new.nodes.items) left (omega arith) c.take_passes-passes.ensures.taken c.take_passes-passes.ensures.left
+    ∙ c.in-Ok.ensures.rows in
+    subst (AreAllOf shared.areas.items) (sym rows) (all_of_whole shared (length lines + 1) count c.requires.whole)
 
 pub close_areas-is_doubtful-requires-clause-areas : goal.close_areas-is_doubtful-requires-clause-areas
 close_areas-is_doubtful-requires-clause-areas g c = subst AreOpenable (sym c.as_slice-in-Ok.ensures) (are_openable c.args.board.now)
@@ -46,29 +68,39 @@ close_areas-is_doubtful-requires-clause-whole g c =
     let D : Type 0 = g.row.H-Disk.Denot in
     let board = c.args.board.now in
     let shared = c.args.shared in
+    let lines = lines_for board c.args.calls in
     let count : ℕ = length board.areas in
     let workers = c.open_lines.new.workers.items in
-    let passes = c.take_passes-passes.result.items in
     let opened = c.in-Ok.ensures.ok in
-    let rows : map worker_passes workers ++ passes ∷ [] ≡ lists_of shared.nodes.items
-    = rows_of_crew workers c.open_lines.new.nodes.items (lists_of shared.nodes.items) passes board.nodes c.len.result c.in-Ok.ensures.rows opened.all
-    (c.in-Ok.ensures.lists ∙ c.requires.whole.lists) (c.len.ensures ∙ c.open_lines.new.workers.ok.0) c.take_passes-passes.ensures.taken in
+    let slot : PackSlot g.row.H-Bell.Denot g.row.H-Clock.Denot
+    = record { node = board.nodes + 1; bell = c.in-Ok.bell; clock = c.clock-clock.result; passes = c.take_passes-passes.result; user = c.args.room.packer; packs = 0 } in
+    let crew = workers ++ Packer slot ∷ [] in
+    let left = lists_of c.take_passes-passes.new.nodes.items in
+    let rows : with_passes crew left ≡ lists_of shared.nodes.items
+    = rows_taken workers (Packer slot) board.nodes (lists_of c.open_lines.new.nodes.items) left (omega arith) c.take_passes-passes.ensures.taken c.take_passes-passes.ensures.left
+    ∙ c.in-Ok.ensures.rows in
     let now = c.work-door_failed.new.shared.nodes in
     let worked = c.work-door_failed.ensures.worked in
     let same_areas : c.work-door_failed.new.shared ≡ record shared { nodes = now } = c.work-door_failed.ensures.areas in
     let keep : AllKeepStarts (lists_of shared.nodes.items) (lists_of now.items)
     = subst (λ (l : Rows). AllKeepStarts l (lists_of now.items)) rows
-    (λ n within. work_keeps (g.H.Host.desk c.tell_open.new.host).readings board (gates_of g.H.Door.Door.gate workers) worked.gates_after (g.H.Bell.Bell.rings c.in-Ok.bell) worked.rings_after
-    (map worker_passes workers ++ passes ∷ []) (lists_of now.items) worked.tallies worked.works n within) in
+    (λ n within. work_keeps (g.H.Host.desk c.tell_open.new.host).readings board c.args.calls (gates_of g.H.Door.Door.gate workers) worked.gates_after (g.H.Bell.Bell.rings c.in-Ok.bell) worked.rings_after
+    (with_passes crew left) (lists_of now.items) worked.tallies worked.works n within) in
     let ours : AreAllOf shared.areas.items (lists_of now.items)
     = subst (λ (s : SharedAreas D). AreAllOf s.areas.items (lists_of now.items)) same_areas c.work-door_failed.ensures.ours in
-    let whole : AreShared (record shared { nodes = now }) (board.nodes + 1) count
-    = whole_after shared now (board.nodes + 1) count c.requires.whole worked.works.ended ours keep in
+    let whole : AreShared (record shared { nodes = now }) (length lines + 1) count
+    = whole_after shared now (length lines + 1) count c.requires.whole worked.works.ended ours keep in
     subst (λ (s : SharedAreas D). AreShared s (length s.nodes.items) (length s.areas.items)) (sym same_areas)
-    (whole_own (record shared { nodes = now }) (board.nodes + 1) count whole)
+    (whole_own (record shared { nodes = now }) (length lines + 1) count whole)
 
-pub part_nodes-requires-clause-lists : goal.part_nodes-requires-clause-lists
-part_nodes-requires-clause-lists g c = omega (arith, c.in-Err.ensures.few, c.in-Err.ensures.lists, c.requires.whole.lists)
+pub part_lines-requires-clause-doors : goal.part_lines-requires-clause-doors
+part_lines-requires-clause-doors g c = have_doors c.in-Err.ensures.err.stops.done c.open_lines.new.workers.items c.in-Err.ensures.err.each
+
+pub part_lines-requires-clause-own : goal.part_lines-requires-clause-own
+part_lines-requires-clause-own g c =
+    let stops = c.in-Err.ensures.err.stops in
+    own_lines c.args.board.now c.args.calls stops.done stops.left stops.parts c.open_lines.new.workers.items c.in-Err.ensures.err.each (length c.open_lines.new.nodes.items)
+    (omega (arith, c.in-Err.ensures.lists, c.requires.whole.lists))
 
 pub abandon_areas-requires-clause-areas : goal.abandon_areas-requires-clause-areas
 abandon_areas-requires-clause-areas g c = subst AreOpenable (sym c.as_slice-in-Err.ensures) (are_openable c.args.board.now)
@@ -77,23 +109,28 @@ abandon_areas-requires-clause-areas g c = subst AreOpenable (sym c.as_slice-in-E
 pub abandon_areas-requires-clause-whole : goal.abandon_areas-requires-clause-whole
 abandon_areas-requires-clause-whole g c =
     let shared = c.args.shared in
-    let now = c.part_nodes.new.nodes in
+    let now = c.part_lines.new.nodes in
+    let many : ℕ = length (lines_for c.args.board.now c.args.calls) + 1 in
     let count : ℕ = length c.args.board.now.areas in
-    whole_own (record shared { nodes = now }) (c.args.board.now.nodes + 1) count
-    (whole_same shared now (c.args.board.now.nodes + 1) count c.requires.whole (c.part_nodes.ensures.rows ∙ c.in-Err.ensures.rows))
+    whole_own (record shared { nodes = now }) many count
+    (whole_same shared now many count c.requires.whole (c.part_lines.ensures.rows ∙ c.in-Err.ensures.rows))
 
 pub returns-in-Ok-clause-ok : goal.returns-in-Ok-clause-ok
 returns-in-Ok-clause-ok g c =
     let D : Type 0 = g.row.H-Disk.Denot in
     let board = c.args.board.now in
     let shared = c.args.shared in
+    let lines = lines_for board c.args.calls in
     let count : ℕ = length board.areas in
     let workers = c.open_lines.new.workers.items in
-    let passes = c.take_passes-passes.result.items in
     let opened = c.in-Ok.ensures.ok in
-    let rows : map worker_passes workers ++ passes ∷ [] ≡ lists_of shared.nodes.items
-    = rows_of_crew workers c.open_lines.new.nodes.items (lists_of shared.nodes.items) passes board.nodes c.len.result c.in-Ok.ensures.rows opened.all
-    (c.in-Ok.ensures.lists ∙ c.requires.whole.lists) (c.len.ensures ∙ c.open_lines.new.workers.ok.0) c.take_passes-passes.ensures.taken in
+    let slot : PackSlot g.row.H-Bell.Denot g.row.H-Clock.Denot
+    = record { node = board.nodes + 1; bell = c.in-Ok.bell; clock = c.clock-clock.result; passes = c.take_passes-passes.result; user = c.args.room.packer; packs = 0 } in
+    let crew = workers ++ Packer slot ∷ [] in
+    let left = lists_of c.take_passes-passes.new.nodes.items in
+    let rows : with_passes crew left ≡ lists_of shared.nodes.items
+    = rows_taken workers (Packer slot) board.nodes (lists_of c.open_lines.new.nodes.items) left (omega arith) c.take_passes-passes.ensures.taken c.take_passes-passes.ensures.left
+    ∙ c.in-Ok.ensures.rows in
     let now = c.work-door_failed.new.shared.nodes in
     let worked = c.work-door_failed.ensures.worked in
     let same_areas : c.work-door_failed.new.shared ≡ record shared { nodes = now } = c.work-door_failed.ensures.areas in
@@ -103,13 +140,13 @@ returns-in-Ok-clause-ok g c =
     let closed = g.H.Host.desk c.close_areas-is_doubtful.new.host in
     let new = g.H.Host.desk c.note.new.self in
     let doubtful = c.close_areas-is_doubtful.result in
-    let ready = subst (λ (d : Desk). OpensLines g.H.Door.Door.gate g.H.Clock.Clock.readings g.H.Host.door_for board c.args.calls g.H.Host.bell_over (g.H.Bell.Bell.rings c.in-Ok.bell) workers old d)
+    let ready = subst (λ (d : Desk). OpensLines g.H.Door.Door.gate g.H.Clock.Clock.readings g.H.Host.door_for c.args.calls board g.H.Host.bell_over (g.H.Bell.Bell.rings c.in-Ok.bell) workers old d)
     (sym (c.tell_open.ensures ∙ c.clock-clock.ensures.same)) opened in
     let as_many : length c.work-door_failed.new.shared.areas.items ≡ count = ap (λ (s : SharedAreas D). length s.areas.items) same_areas ∙ c.requires.whole.areas in
     let all : take (length c.work-door_failed.new.shared.areas.items) c.as_slice-in-Ok.result.now ≡ board.areas
     = ap (λ (l : List BoardArea). take (length c.work-door_failed.new.shared.areas.items) l) c.as_slice-in-Ok.ensures ∙ ap (λ (n : ℕ). take n board.areas) as_many ∙ take-length board.areas in
     runs_on g.H.Door.Door.gate g.H.Clock.Clock.readings g.H.Host.door_for g.H.Host.bell_over board c.args.calls (g.H.Bell.Bell.rings c.in-Ok.bell) workers old rung end new
-    (map worker_passes workers ++ passes ∷ []) (lists_of shared.nodes.items) (lists_of now.items) doubtful c.work-door_failed.result ready rows worked
+    (with_passes crew left) (lists_of shared.nodes.items) (lists_of now.items) doubtful c.work-door_failed.result ready rows worked
     (subst (λ (d : Desk). ClosesAll board.areas (lists_of now.items) end d doubtful) (sym c.note.ensures)
     (subst (λ (l : List BoardArea). ClosesAll l (lists_of now.items) end closed doubtful) all c.close_areas-is_doubtful.ensures))
 
@@ -117,23 +154,23 @@ pub returns-in-Err-clause-err : goal.returns-in-Err-clause-err
 returns-in-Err-clause-err g c =
     let board = c.args.board.now in
     let shared = c.args.shared in
-    let now = c.part_nodes.new.nodes in
+    let now = c.part_lines.new.nodes in
     let workers = c.open_lines.new.workers.items in
     let gates = gates_of g.H.Door.Door.gate workers in
+    let stops = c.in-Err.ensures.err.stops in
     let old = g.H.Host.desk c.args.host.now in
     let asked = g.H.Host.desk c.open_lines.new.host in
-    let shut = g.H.Host.desk c.part_nodes.new.host in
+    let shut = g.H.Host.desk c.part_lines.new.host in
     let new = g.H.Host.desk c.abandon_areas.new.host in
     let all : take (length shared.areas.items) c.as_slice-in-Err.result.now ≡ board.areas
     = ap (λ (l : List BoardArea). take (length shared.areas.items) l) c.as_slice-in-Err.ensures ∙ ap (λ (n : ℕ). take n board.areas) c.requires.whole.areas ∙ take-length board.areas in
-    let same : lists_of now.items ≡ lists_of shared.nodes.items = c.part_nodes.ensures.rows ∙ c.in-Err.ensures.rows in
+    let same : lists_of now.items ≡ lists_of shared.nodes.items = c.part_lines.ensures.rows ∙ c.in-Err.ensures.rows in
     record {
       gates = gates;
       asked = asked;
-      stops = c.in-Err.ensures.err;
+      stops = stops;
       shut = shut;
-      doors = subst (λ (nodes : List ℕ). PutsDoors nodes gates asked shut) (ap first_nodes (sym (length-map workers (gate_of g.H.Door.Door.gate))) ∙ done_nodes board c.args.calls gates c.in-Err.error old asked c.in-Err.ensures.err)
-          c.part_nodes.ensures.doors;
+      doors = subst (λ (nodes : List ℕ). PutsDoors nodes gates asked shut) (numbers_are stops.done workers c.in-Err.ensures.err.each) c.part_lines.ensures.doors;
       abandons = λ befores openings opens.
           subst (λ (l : List BoardArea). Abandons l befores shut new) all
           (c.abandon_areas.ensures befores openings

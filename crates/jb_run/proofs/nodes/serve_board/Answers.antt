@@ -1,7 +1,7 @@
-use Rattle.std.proofs.Common.{◌+◌, ap, refl, subst, sym, ◌∙◌}
+use Rattle.std.proofs.Common.{ℕ, ap, arith, length, refl, subst, sym, ◌∙◌}
 use Rattle.std.specs.Prelude.{List, Result, Err}
 use Rattle.std.proofs.lemmas.Result.{err_from_is_err_and}
-use Rattle.jb_run.specs.All.{AreOpenable, OpensAll, RefusesAll}
+use Rattle.jb_run.specs.All.{AreOpenable, AreShared, OpensAll, RefusesAll}
 use Rattle.jb_run.specs.Rows.{lists_of}
 use Rattle.jb_conf.specs.declared.board.BoardArea.{BoardArea}
 use Rattle.jb_run.specs.LocalEnding.{of_areas}
@@ -23,6 +23,18 @@ returns-in_default g c = λ path old has.
 
 pub open_areas-requires-clause-areas : goal.open_areas-requires-clause-areas
 open_areas-requires-clause-areas g c = subst AreOpenable (sym c.as_slice.ensures) (are_openable c.args.board.now)
+
+-- there is one worker at least
+pub open_areas-requires-clause-nodes : goal.open_areas-requires-clause-nodes
+open_areas-requires-clause-nodes g c = (omega (arith, c.workers_of-workers.ensures.count c.args.calls), c.workers_of-workers.ensures.few)
+
+pub serve_areas-requires-clause-whole : goal.serve_areas-requires-clause-whole
+serve_areas-requires-clause-whole g c κs within =
+    let board = c.args.board.now in
+    let shared = c.in_ok-shared.shared in
+    let opens = subst (λ (list : List BoardArea). OpensAll list c.workers_of-workers.result (g.H.Host.desk c.args.host.now) (g.H.Host.desk c.open_areas.new.host) shared)
+    c.as_slice.ensures c.in_ok-shared.ensures.ok in
+    subst (λ (n : ℕ). AreShared shared n (length board.areas)) (c.workers_of-workers.ensures.count c.args.calls) opens.whole
 
 pub returns-in_err-shared : goal.returns-in_err-shared
 returns-in_err-shared g c = λ path old has.
@@ -47,7 +59,7 @@ returns-in_err-serve_areas g c = λ path old has.
     let new = g.H.Host.desk c.serve_areas.new.host in
     let why = c.in_err-serve_areas.field-0.0 in
     let shared = c.in_ok-shared.shared in
-    let opens = subst (λ (list : List BoardArea). OpensAll list (board.nodes + 1) read opened shared) c.as_slice.ensures c.in_ok-shared.ensures.ok in
+    let opens = subst (λ (list : List BoardArea). OpensAll list c.workers_of-workers.result read opened shared) c.as_slice.ensures c.in_ok-shared.ensures.ok in
     let p = err_from_is_err_and c.from_residual-in_err-serve_areas.result c.from_residual-in_err-serve_areas.ensures.1 in
     subst (λ (r : Result NodesEnd RunError). RunsNodes g.H.Host.door_for g.H.Host.bell_over path c.args.calls old new r) (sym (p.1 ∙ ap (λ (e : RunError). Err e) p.2))
     (gives_up path c.args.calls board old read opened new opens.befores opens.openings (lists_of shared.nodes.items) why has opens.out opens.start
@@ -59,6 +71,6 @@ returns g c = λ path old has.
     let read = g.H.Host.desk c.args.host.now in
     let opened = g.H.Host.desk c.open_areas.new.host in
     let shared = c.in_ok-shared.shared in
-    let opens = subst (λ (list : List BoardArea). OpensAll list (board.nodes + 1) read opened shared) c.as_slice.ensures c.in_ok-shared.ensures.ok in
+    let opens = subst (λ (list : List BoardArea). OpensAll list c.workers_of-workers.result read opened shared) c.as_slice.ensures c.in_ok-shared.ensures.ok in
     serves_all g.H.Host.door_for g.H.Host.bell_over path c.args.calls board old read opened (g.H.Host.desk c.serve_areas.new.host) opens.befores opens.openings
     (lists_of shared.nodes.items) c.in_ok-serve_areas.field-0 has opens.out opens.start c.in_ok-serve_areas.ensures.ok

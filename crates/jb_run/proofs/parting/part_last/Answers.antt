@@ -1,31 +1,38 @@
-use Rattle.std.proofs.Common.{◌≡◌, ◌+◌, ◌++◌, ◌∷◌, [], List, length, ap, refl, subst, ◌∙◌}
-use Rattle.std.specs.Prelude.{ℕ}
+use Rattle.std.proofs.Common.{◌-◌, ℕ, List, ap, subst}
+use Rattle.std.specs.Prelude.{All}
 use Rattle.jb_host.specs.Desk.{TakesDoor}
+use Rattle.jb_host.specs.Gate.{Gate}
+use Rattle.jb_server.specs.declared.tally.Tally.{Tally}
 use Rattle.jb_server.specs.declared.worker.Worker.{Worker}
-use Rattle.jb_server.specs.declared.worker.Worker.TheVariants.{Node}
-use Rattle.jb_run.specs.Workers.{AreNodes, IsNode}
-use Rattle.jb_run.proofs.Crew.{rows_back}
-use Rattle.jb_run.proofs.Lists.{numbered_last}
+use Rattle.jb_run.specs.Workers.{HasDoor, gate_of}
+use Rattle.jb_run.proofs.EachLemmas.{all_end}
+use Rattle.jb_run.proofs.Own.{has_slot, rows_given}
 use Rattle.jb_run.proofs.parting.part_last.Goals as goal
+
+-- the last has a door
+pub slot_of-node-requires : goal.slot_of-node-requires
+slot_of-node-requires g c =
+    let W : Type 0 = Worker g.row.H-Door.Denot g.row.H-Bell.Denot g.row.H-Clock.Denot in
+    all_end HasDoor c.pop.new.self.items c.in_ok-worker.worker (subst (λ (l : List W). All HasDoor l) c.in_ok-worker.ensures.items c.requires.doors)
 
 pub returns-clause-some : goal.returns-clause-some
 returns-clause-some g c =
-    let W : Type 0 = Worker g.row.H-Door.Denot g.row.H-Bell.Denot g.row.H-Clock.Denot in
-    let fewer = c.pop.new.self.items in
-    let slot = c.in-Node.slot in
-    let is : c.args.workers.now.items ≡ fewer ++ Node slot ∷ [] = c.in_ok-slot.ensures.items ∙ ap (λ (w : W). fewer ++ w ∷ []) c.in-Node.is in
-    let number : slot.node ≡ length fewer + 1 = numbered_last IsNode fewer (Node slot) (subst (λ (l : List W). AreNodes l) is c.requires.nodes) in
+    let one = c.in_ok-worker.worker in
+    let slot = c.slot_of-node.result in
+    let has = has_slot one slot c.slot_of-node.ensures in
+    let old = g.H.Host.desk c.args.host.now in
+    let new = g.H.Host.desk c.put_door.new.self in
     record {
-      worker = Node slot;
-      is = is;
-      back = subst (λ (n : ℕ). TakesDoor n (g.H.Door.Door.gate slot.door) (g.H.Host.desk c.args.host.now) (g.H.Host.desk c.put_door.new.self)) number c.put_door.ensures;
-      failed = refl;
+      worker = one;
+      is = c.in_ok-worker.ensures.items;
+      back = subst (λ (n : ℕ). TakesDoor n (gate_of g.H.Door.Door.gate one) old new) has.number (subst (λ (d : Gate). TakesDoor slot.node d old new) (has.door g.H.Door.Door.gate) c.put_door.ensures);
+      failed = ap (λ (t : Tally). t.door_failed) has.tally;
     }
 
 pub returns-clause-rows : goal.returns-clause-rows
 returns-clause-rows g c =
-    let W : Type 0 = Worker g.row.H-Door.Denot g.row.H-Bell.Denot g.row.H-Clock.Denot in
-    let fewer = c.pop.new.self.items in
-    let slot = c.in-Node.slot in
-    let is : c.args.workers.now.items ≡ fewer ++ Node slot ∷ [] = c.in_ok-slot.ensures.items ∙ ap (λ (w : W). fewer ++ w ∷ []) c.in-Node.is in
-    rows_back c.args.workers.now.items fewer (Node slot) c.args.nodes.now.items slot.passes c.len.result is (c.len.ensures ∙ c.pop.new.self.ok.0) refl c.requires.lists
+    let one = c.in_ok-worker.worker in
+    let slot = c.slot_of-node.result in
+    let has = has_slot one slot c.slot_of-node.ensures in
+    rows_given c.args.workers.now.items c.pop.new.self.items one c.args.nodes.now.items slot.passes (slot.node - 1) c.in_ok-worker.ensures.items
+    (ap (λ (n : ℕ). n - 1) has.number) has.passes

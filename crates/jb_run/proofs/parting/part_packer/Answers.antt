@@ -1,6 +1,6 @@
-use Rattle.std.proofs.Common.{refl, ◌∙◌}
+use Rattle.std.proofs.Common.{◌-◌, refl}
 use Rattle.jb_server.specs.declared.worker.Worker.TheVariants.{Packer}
-use Rattle.jb_run.proofs.Crew.{rows_back}
+use Rattle.jb_run.proofs.Own.{rows_given}
 use Rattle.jb_run.proofs.parting.part_packer.Goals as goal
 
 pub returns-clause-bell : goal.returns-clause-bell
@@ -13,5 +13,5 @@ returns-clause-bell g c = record {
 pub returns-clause-rows : goal.returns-clause-rows
 returns-clause-rows g c =
     let slot = c.in-Some-Packer.slot in
-    rows_back c.args.workers.now.items c.pop.new.self.items (Packer slot) c.args.nodes.now.items slot.passes c.len.result
-    (rw c.in-Some-Packer.field-0-is at c.in-Some-Packer.ensures.items) (c.len.ensures ∙ c.pop.new.self.ok.0) refl c.requires.lists
+    rows_given c.args.workers.now.items c.pop.new.self.items (Packer slot) c.args.nodes.now.items slot.passes (slot.node - 1)
+    (rw c.in-Some-Packer.field-0-is at c.in-Some-Packer.ensures.items) refl refl

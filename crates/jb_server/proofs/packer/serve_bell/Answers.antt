@@ -7,7 +7,7 @@ use Rattle.jb_server.proofs.RingRuns.{IsPacking, packing_more, packing_none}
 use Rattle.jb_server.proofs.packer.serve_bell.Goals as goal
 
 pub loop-ring-init : goal.loop-ring-init
-loop-ring-init g c = (tt, tt, c.requires.ours, refl, packing_none _ _ _ _)
+loop-ring-init g c = (tt, tt, c.requires.ours, refl, refl, packing_none _ _ _ _)
 
 -- a ring was answered
 pub loop-ring-preserved : goal.loop-ring-preserved
@@ -25,5 +25,5 @@ loop-ring-preserved g c =
     let N : ℕ → Type 0 = λ w. IsPacking user (rings c.args.slot.now.bell) first c.args.slot.now.packs (rings c.next-in-loop-ring.new.self) to w in
     let counted : c.count_pack-slot.result ≡ packs_with c.loop-ring.slot.packs came = c.count_pack-slot.ensures ∙ ap (λ (w : ℕ). packs_with w came) pack.packs in
     let on = packing_more user (rings c.args.slot.now.bell) (rings c.loop-ring.slot.bell) (rings c.next-in-loop-ring.new.self) first from to
-    c.args.slot.now.packs c.loop-ring.slot.packs c.in-Pack.number came i.4 c.in-Pack.ensures (subst U i.3 pack.answers) in
-    (tt, tt, pack.ours, pack.user ∙ i.3, subst B (sym pack.bell) (subst N (sym counted) on))
+    c.args.slot.now.packs c.loop-ring.slot.packs c.in-Pack.number came i.5 c.in-Pack.ensures (subst U i.4 pack.answers) in
+    (tt, tt, pack.ours, pack.node ∙ i.3, pack.user ∙ i.4, subst B (sym pack.bell) (subst N (sym counted) on))

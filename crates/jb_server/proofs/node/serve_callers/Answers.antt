@@ -1,11 +1,11 @@
 use Rattle.std.proofs.Common.{◌≡◌, List, length, sym, refl, ap, subst, arith}
 use Rattle.jb_session.specs.Exchanges.{AreOf, node_with}
-use Rattle.jb_session.specs.Served.{Served}
 use Rattle.jb_shared.specs.Passes.{PassView}
+use Rattle.jb_server.specs.Sessions.{ServedAs}
 use Rattle.jb_server.specs.declared.tally.Tally.{Tally}
 use Rattle.jb_server.proofs.SessionRuns.{IsServing, serving_more, serving_none}
 use Rattle.jb_server.proofs.Told.{lent}
-use Rattle.jb_server.proofs.node.serve_node.Goals as goal
+use Rattle.jb_server.proofs.node.serve_callers.Goals as goal
 
 pub loop-call-init : goal.loop-call-init
 loop-call-init g c = (tt, tt, c.requires.ours, refl, serving_none _ _ _ _)
@@ -14,25 +14,25 @@ loop-call-init g c = (tt, tt, c.requires.ours, refl, serving_none _ _ _ _)
 pub loop-call-preserved : goal.loop-call-preserved
 loop-call-preserved g c =
     let i = c.loop-call.invariant in
-    let session = c.serve_session-end.ensures in
+    let session = c.serve-end.ensures in
     let gate = g.R.Door.gate in
     let given = g.R.Link.Link.wire c.in-Ok-Call.link in
-    let back = g.R.Link.Link.wire c.serve_session-end.new.link in
+    let back = g.R.Link.Link.wire c.serve-end.new.link in
     let from = c.loop-call.slot.passes.items in
-    let to = c.serve_session-end.new.passes in
+    let to = c.serve-end.new.passes in
     let first = node_with (g.C.Clock.readings c.args.slot.now.clock) c.args.slot.now.passes.items in
     let before = g.C.Clock.readings c.loop-call.slot.clock in
-    let after = g.C.Clock.readings c.serve_session-end.new.clock in
-    let size = c.serve_session-end.auto.passes in
+    let after = g.C.Clock.readings c.serve-end.new.clock in
+    let size = c.serve-end.auto.passes in
     let ok = c.loop-call.slot.passes.ok.0 in
     let lengths : length c.as_mut_slice.result.now ≡ length from = ap (λ (w : List PassView). length w) c.as_mut_slice.ensures.value in
     let kept = lent from to c.loop-call.slot.passes.len (omega (arith, ok)) (omega (arith, size, lengths)) in
-    let F : List PassView → Type 0 = λ w. Served c.args.board.now given (node_with before w) c.serve_session-end.result back (node_with after to) in
+    let F : List PassView → Type 0 = λ w. ServedAs c.args.service c.args.board.now given (node_with before w) c.serve-end.result back (node_with after to) in
     let O : List PassView → Type 0 = λ w. AreOf c.args.areas.now w in
-    let P : List PassView → Type 0 = λ w. IsServing c.args.board.now (gate c.args.slot.now.door) first c.args.slot.now.tally (gate c.hang_up.new.self) (node_with after w) c.count.new.self in
-    let Q : Tally → Type 0 = λ w. IsServing c.args.board.now (gate c.args.slot.now.door) first c.args.slot.now.tally (gate c.hang_up.new.self) (node_with after to) w in
+    let P : List PassView → Type 0 = λ w. IsServing (ServedAs c.args.service c.args.board.now) (gate c.args.slot.now.door) first c.args.slot.now.tally (gate c.hang_up.new.self) (node_with after w) c.count.new.self in
+    let Q : Tally → Type 0 = λ w. IsServing (ServedAs c.args.service c.args.board.now) (gate c.args.slot.now.door) first c.args.slot.now.tally (gate c.hang_up.new.self) (node_with after to) w in
     let served = subst F c.as_mut_slice.ensures.value session.served in
-    let on = serving_more c.args.board.now (gate c.args.slot.now.door) (gate c.loop-call.slot.door) (gate c.accept.new.self) (gate c.hang_up.new.self)
-    first (node_with before from) (node_with after to) c.args.slot.now.tally c.loop-call.slot.tally given back c.serve_session-end.result
+    let on = serving_more (ServedAs c.args.service c.args.board.now) (gate c.args.slot.now.door) (gate c.loop-call.slot.door) (gate c.accept.new.self) (gate c.hang_up.new.self)
+    first (node_with before from) (node_with after to) c.args.slot.now.tally c.loop-call.slot.tally given back c.serve-end.result
     i.4 (rw c.in-Ok-Call.field-0-is at c.in-Ok-Call.ensures.ok) served c.hang_up.ensures in
     (tt, tt, subst O (sym kept) session.ours, i.3, subst P (sym kept) (subst Q (sym c.count.ensures) on))

@@ -1,12 +1,13 @@
 use Rattle.std.proofs.Common.{◌≡◌}
 use Rattle.jb_session.specs.Exchanges.{AreOf, node_with}
+use Rattle.jb_server.specs.Sessions.{ServedAs}
 use Rattle.jb_server.proofs.SessionRuns.{IsServing}
-use Rattle.jb_server.proofs.node.serve_node.Given as goal
+use Rattle.jb_server.proofs.node.serve_callers.Given as goal
 
 abbrev pub invariant-loop-call : goal.invariant-loop-call
 invariant-loop-call g l =
     (goal.iterator-loop-call g).can_next l._call-iterator × (goal.iterator-loop-call g).is_finite l._call-iterator
     × AreOf l.areas l.slot.passes.items
     × (l.slot.node ≡ l.fn.slot.node)
-    × IsServing l.board (g.R.Door.gate l.fn.slot.door) (node_with (g.C.Clock.readings l.fn.slot.clock) l.fn.slot.passes.items) l.fn.slot.tally
+    × IsServing (ServedAs l.service l.board) (g.R.Door.gate l.fn.slot.door) (node_with (g.C.Clock.readings l.fn.slot.clock) l.fn.slot.passes.items) l.fn.slot.tally
     (g.R.Door.gate l.slot.door) (node_with (g.C.Clock.readings l.slot.clock) l.slot.passes.items) l.slot.tally
