@@ -62,7 +62,7 @@ OPENING = 60
 class Server:
     """A run of `serve` over fresh bases, and the processor time that it has spent."""
 
-    def __init__(self, program, folder, before=(), large=0, times=1):
+    def __init__(self, program, folder, before=(), large=0, times=1, settings=SETTINGS):
         shutil.rmtree(f"{folder}/areas", ignore_errors=True)
         os.mkdir(f"{folder}/areas")
         make_base.write(f"{folder}/areas", "general", 60, False)
@@ -72,7 +72,7 @@ class Server:
             self.port = held.getsockname()[1]
         digest = hashlib.sha256(b"word").hexdigest()
         with open(f"{folder}/board.toml", "w") as file:
-            file.write(SETTINGS.format(port=self.port) + "".join(USER.format(n=n, digest=digest) for n in range(1, max(COUNTS) + 1)))
+            file.write(settings.format(port=self.port) + "".join(USER.format(n=n, digest=digest) for n in range(1, max(COUNTS) + 1)))
         os.sync()
         self.child = subprocess.Popen([*before, program, "serve", "board.toml"], cwd=folder, stderr=subprocess.DEVNULL, start_new_session=True)
         atexit.register(self.ends)

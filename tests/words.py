@@ -47,7 +47,7 @@ def try_ranges(trial):
     """A value out of its range is told with the range that the document has."""
     rows = re.findall(r"^\| (`.*?) \| (.*?) \| (.*?) \|", text_of("docs/FORMATS.md").split("## Settings")[1].split("**Order of the tests.**")[0], re.M)
     fields = [(name, kind, bounds) for names, kind, bounds in rows for name in re.findall(r"`([\w.]+)`", names) if not name.endswith("digest")]
-    trial.is_so("how many fields there are", len(fields), 20)
+    trial.is_so("how many fields there are", len(fields), 22)
     for name, kind, bounds in fields:
         table, _, key = name.replace(".K.", ".").rpartition(".")
         value = OTHER.get(key, '""' if kind == "text" else "99999999")
