@@ -29,7 +29,6 @@ use Rattle.jb_news_talk.specs.declared.place.NewsStage.{NewsStage}
 use Rattle.jb_news_talk.specs.declared.place.NewsStage.TheVariants as stage
 use Rattle.jb_news_talk.specs.declared.place.ShownBy.{ShownBy}
 use Rattle.jb_news_talk.specs.declared.place.Told.{Told}
-use Rattle.jb_news_talk.proofs.Found.{both}
 
 -- where the turn asks, fewer requests follow than these
 abbrev Falls : Board → ℕ → Turn NewsPlace → Type 0

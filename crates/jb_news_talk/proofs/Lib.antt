@@ -2,5 +2,7 @@ mod Asking
 mod Found
 mod Hands
 mod OpenOnly
+mod Pieces
 mod StandardFacts
 mod Turning
+mod Whole

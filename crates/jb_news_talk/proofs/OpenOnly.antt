@@ -9,7 +9,6 @@ use Rattle.jb_base.specs.declared.area.Rule.TheVariants.{A1, A2, A3, A4, A5, A6}
 use Rattle.jb_base.specs.declared.attribute.TheConstants.{NODISP, PRIVATE}
 use Rattle.jb_news_talk.specs.Laws.{SeesOpenOnly}
 use Rattle.jb_news_talk.specs.Newsgroups.{news_user}
-use Rattle.jb_news_talk.proofs.Found.{both}
 
 -- where nothing is found, the first test failed
 none_of : {X : Type 0} (b : Bool) (x : X) (rest : Option X) → is_none (cond b (Some x) rest) ≡ true → (b ≡ false) × (is_none rest ≡ true)

@@ -8,4 +8,5 @@ pub mod Articles
 pub mod Commands
 pub mod Conversations
 pub mod Reading
+pub mod Whole
 pub mod Laws

@@ -1,5 +1,6 @@
 //! What makes a reader's conversation safe to rely on.
 ghost use Rattle.jb_news_talk.specs.Laws.{EachOnlyReads, NeverRefused, SeesOpenOnly};
+ghost use Rattle.jb_news_talk.specs.Whole.{ListsAreWhole};
 
 /// Over any lines, with any answers, each request looks at a group or at a message of it, or asks what the clock shows: nothing is marked or
 /// changed, and no other area is asked.
@@ -21,4 +22,11 @@ pub fn news_sees_open_only()
 /// It computes nothing: its contract is the law.
 pub fn news_is_never_refused()
     ensures { NeverRefused }
+{}
+
+/// Over an area whose list stays the same while it is told, `LISTGROUP` and `OVER` tell each message of their range once, in order.
+///
+/// It computes nothing: its contract is the law.
+pub fn lists_are_whole()
+    ensures { ListsAreWhole }
 {}

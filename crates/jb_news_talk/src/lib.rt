@@ -18,6 +18,6 @@ mod talk;
 mod telling;
 mod turn;
 
-pub use laws::{news_is_never_refused, news_only_reads, news_sees_open_only};
+pub use laws::{lists_are_whole, news_is_never_refused, news_only_reads, news_sees_open_only};
 pub use place::{Chosen, NewsPlace, NewsStage, ShownBy, Told};
 pub use talk::NewsTalk;

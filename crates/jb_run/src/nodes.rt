@@ -164,8 +164,8 @@ where
 }
 
 /// A run with many nodes of the board that the settings file at this path says: each node serves callers at a door of its own, so many
-/// or as many as come, and another readers of news, where the settings have a port for them; the areas are packed meanwhile. The operator is told when callers may come, and when all is closed.
-/// Everything that the host handed out is back then.
+/// or as many as come; so are readers of news served, where the settings have a port for them; and the areas are packed meanwhile. The
+/// operator is told when callers may come, and when all is closed. Everything that the host handed out is back then.
 pub fn serve_nodes<T: Threads + Wait + Sync, H: Host>(
     rt: &T,
     alloc: Global,
