@@ -4,10 +4,10 @@ socket; and the posts of 31 callers and the memory of the program while they are
 
 usage: news.py PROGRAM [DIR [JAMNNTPD ..]]
 
-The callers post in an area of 60 messages, each of them a process of its own; the articles are those of another area, of which every third answers one and
-every tenth is killed. Each figure is the median of so many runs, in turns. The files lie in DIR, or where temporary files do. Behind
-DIR stand the words that start JamNNTPd, where its overviews of the same base are to be timed too; of Debian's builds that of i386 reads bases rightly. It wants
-its table of charsets, `-xlat FILE`, where /etc has none.
+The callers post in an area of 60 messages, each of them a process of its own; the articles are those of another area, of which every third answers
+one and every tenth is killed. Each figure is the median of so many runs, in turns. The files lie in DIR, or where temporary files do. Behind DIR
+stand the words that start JamNNTPd, where its overviews of the same base are to be timed too; of Debian's builds that of i386 reads bases rightly. It
+wants its table of charsets, `-xlat FILE`, where /etc has none.
 """
 import os
 import shutil
